@@ -1,0 +1,14 @@
+-- The laws of the crate, a file for each topic. Those marked `pub` are cited by the crates above.
+pub mod AnyFlag
+mod Behind
+pub mod Bits
+pub mod Bytes
+pub mod Combining
+pub mod Counting
+mod Loads
+pub mod Merging
+mod NthLaws
+pub mod Plain
+mod Ranges
+pub mod Windows
+pub mod Writing

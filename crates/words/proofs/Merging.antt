@@ -1,0 +1,110 @@
+-- Two words shifted together: two loads that overlap, and `merge_reversed`. Assumes nothing.
+use mathlib.Core.Path.{_≡_, refl, sym, ap, ap₂, _∙_, subst}
+use mathlib.Core.Bool.{Bool, true, false, _&&_, _||_}
+use mathlib.Core.List.{List, [], _∷_, _++_, zipWith, append-assoc}
+use Prim.Native.Nat.{ℕ, zero, suc, _+_, _-_, _*_, _/_, _%_, _^_, _≤_, _<_}
+use native.Mathlib.Nat.{add-comm, le-of-lt, sub-add-cancel, zero-lt-suc}
+use native.Mathlib.Omega.{arith}
+use lib.ListN.{length, take, drop, getD, length-append}
+use lib.Dec.{ltb}
+use lib.Seq.{take-at, drop-at, take-append-seam}
+use lib.Pow.{shr-lt}
+use lib.Bits.{bitOr}
+use borrow.Author.Tests.{lt-ltb, le-ltb}
+use Rattle.words.specs.Flags.{bits, copies, window}
+use Rattle.words.specs.Merge.{merged}
+use Rattle.words.proofs.Bits.{length-bits, bits-add, bits-take, bits-mod, bits-shl, bits-or, bits-join}
+use Rattle.words.proofs.Windows.{length-copies, length-window, window-add, window-cut, at-window, in-window}
+use Rattle.words.proofs.Loads.{bits-shr}
+
+zip-append : (f : Bool → Bool → Bool) (a b c d : List Bool) → length a ≡ length c → zipWith f (a ++ b) (c ++ d) ≡ zipWith f a c ++ zipWith f b d
+unfolding zipWith
+zip-append f [] b [] d e = refl
+zip-append f [] b (y ∷ c) d e = absurd (omega arith)
+zip-append f (x ∷ a) b [] d e = absurd (omega arith)
+zip-append f (x ∷ a) b (y ∷ c) d e = ap (λ (t : List Bool). f x y ∷ t) (zip-append f a b c d (omega arith))
+
+or-false : (x : Bool) → (x || false) ≡ x
+or-false true = refl
+or-false false = refl
+
+or-part : (t x : Bool) → ((t && x) || x) ≡ x
+or-part true true = refl
+or-part true false = refl
+or-part false x = refl
+
+or-none : (l : List Bool) (k n : ℕ) → zipWith _||_ (window l k n) (copies n false) ≡ window l k n
+unfolding window zipWith copies
+or-none l k zero = refl
+or-none l k (suc n) = ap₂ (λ (x : Bool) (t : List Bool). x ∷ t) (or-false (getD l k false)) (or-none l (suc k) n)
+
+or-same : (l : List Bool) (k d o m : ℕ) → zipWith _||_ (window (window l k d) o m) (window l (k + o) m) ≡ window l (k + o) m
+unfolding window zipWith
+or-same l k d o zero = refl
+or-same l k d o (suc m) =
+    let e : suc (k + o) ≡ k + suc o = omega arith in
+    ap₂ (λ (x : Bool) (t : List Bool). x ∷ t)
+    (ap (λ (x : Bool). x || getD l (k + o) false) (at-window l k d o) ∙ or-part (ltb o d) (getD l (k + o) false))
+    (ap (λ (x : ℕ). zipWith _||_ (window (window l k d) (suc o) m) (window l x m)) e ∙ or-same l k d (suc o) m ∙ ap (λ (x : ℕ). window l x m) (sym e))
+
+bits-up : (d h y k : ℕ) (l : List Bool) → h ≤ d → bits d y ≡ window l k d → bits d (y * 2 ^ h % 2 ^ d) ≡ copies h false ++ window l k (d - h)
+bits-up d h y k l p q =
+    let e : d ≡ h + (d - h) = omega arith in
+    let z : k + 0 ≡ k = omega arith in
+    bits-mod d (y * 2 ^ h) ∙ ap (λ (n : ℕ). bits n (y * 2 ^ h)) e ∙ bits-shl h (d - h) y
+    ∙ ap (λ (t : List Bool). copies h false ++ t)
+    (sym (bits-take d (d - h) y (omega arith)) ∙ ap (take (d - h)) q ∙ window-cut l k d 0 (d - h) (omega arith) ∙ ap (λ (n : ℕ). window l n (d - h)) z)
+
+-- x and y are d flags each of one list, y o flags further on, so that they agree where they overlap
+pub overlap : (d o s k x y : ℕ) (l : List Bool) → s ≤ o → o ≤ d → x < 2 ^ d → bits d x ≡ window l k d → bits d y ≡ window l (k + o) d
+    → bits d (bitOr (x / 2 ^ s) (y * 2 ^ (o - s) % 2 ^ d)) ≡ window l (k + s) d
+overlap d o s k x y l hs ho hx px py =
+    let e : d ≡ (o - s) + (d - (o - s)) = omega arith in
+    let a : s + (o - s) ≡ o = omega arith in
+    let b : k + o ≡ k + s + (o - s) = omega arith in
+    bits-or d (x / 2 ^ s) (y * 2 ^ (o - s) % 2 ^ d)
+    ∙ ap₂ (zipWith _||_)
+    (bits-shr d s x hx ∙ ap (λ (t : List Bool). window t s d) px ∙ ap (λ (n : ℕ). window (window l k d) s n) e ∙ window-add (window l k d) s (o - s) (d - (o - s))
+    ∙ ap₂ (λ (t : List Bool) (n : ℕ). t ++ window (window l k d) n (d - (o - s))) (in-window l k d s (o - s) (omega arith)) a)
+    (bits-up d (o - s) y (k + o) l (omega arith) py)
+    ∙ zip-append _||_ (window l (k + s) (o - s)) (window (window l k d) o (d - (o - s))) (copies (o - s) false) (window l (k + o) (d - (o - s))) (length-window l (k + s) (o - s) ∙ sym (length-copies (o - s) false))
+    ∙ ap₂ (λ (t u : List Bool). t ++ u) (or-none l (k + s) (o - s)) (or-same l k d o (d - (o - s)) ∙ ap (λ (n : ℕ). window l n (d - (o - s))) b)
+    ∙ sym (ap (window l (k + s)) e ∙ window-add l (k + s) (o - s) (d - (o - s)))
+
+-- two loads a byte apart
+pub shifted : (l : List Bool) (at s x y : ℕ) → s ≤ 8 → x < 2 ^ 64 → bits 64 x ≡ window l (8 * at) 64 → bits 64 y ≡ window l (8 * (at + 1)) 64
+    → bits 64 (bitOr (x / 2 ^ s) (y * 2 ^ (8 - s) % 2 ^ 64)) ≡ window l (8 * at + s) 64
+shifted l at s x y h b p q =
+    let e : 8 * (at + 1) ≡ 8 * at + 8 = omega arith in
+    overlap 64 8 s (8 * at) x y l h (omega arith) b p (q ∙ ap (λ (n : ℕ). window l n 64) e)
+
+-- ---- the j high bits of one word and the o low bits of the next
+
+merge-at : (j o c n : ℕ) → c < 2 ^ (j + o) → bits (j + o) (bitOr (c / 2 ^ o) (n * 2 ^ j % 2 ^ (j + o))) ≡ take (j + o) (drop o (bits (j + o) c ++ bits (j + o) n))
+merge-at j o c n h =
+    let cut : (x : ℕ) → bits (j + o) x ≡ bits o x ++ bits j (x / 2 ^ o) = λ x. ap (λ (d : ℕ). bits d x) (add-comm j o) ∙ bits-add o j x in
+    let long : length (bits j (c / 2 ^ o) ++ bits o n) ≡ j + o = length-append (bits j (c / 2 ^ o)) (bits o n) ∙ ap₂ (λ (x y : ℕ). x + y) (length-bits j (c / 2 ^ o)) (length-bits o n) in
+    bits-join j o (c / 2 ^ o) n (shr-lt j o h)
+    ∙ sym (rw (cut c, cut n, append-assoc, drop-at (bits o c) _ o (length-bits o c), ← append-assoc) (take-at (bits j (c / 2 ^ o) ++ bits o n) (bits j (n / 2 ^ o)) (j + o) long))
+
+pub merge-bits : (d o c n : ℕ) → o < d → c < 2 ^ d → bits d (bitOr (c / 2 ^ o) (n * 2 ^ (d - o) % 2 ^ d)) ≡ merged (bits d c) (bits d n) o
+unfolding merged
+merge-bits d o c n h k =
+    rw (length-bits d c, lt-ltb o d h)
+    (subst (λ (w : ℕ). c < 2 ^ w → bits w (bitOr (c / 2 ^ o) (n * 2 ^ (d - o) % 2 ^ w)) ≡ take w (drop o (bits w c ++ bits w n))) (sub-add-cancel (le-of-lt h)) (merge-at (d - o) o c n) k)
+
+pub merge-none : (a b : List Bool) → a ≡ merged a b 0
+unfolding merged
+merge-none [] b = refl
+merge-none (x ∷ a) b = rw (lt-ltb 0 (suc (length a)) (zero-lt-suc (length a))) (sym (take-append-seam (x ∷ a) b))
+
+pub merge-past : (d o c : ℕ) (b : List Bool) → d ≤ o → bits d c ≡ merged (bits d c) b o
+unfolding merged
+merge-past d o c b h = rw (length-bits d c, le-ltb o d h)
+
+-- two neighbouring words of a list are merged to the word from the offset on
+pub merged-window : (l : List Bool) (k d o : ℕ) → o < d → merged (window l k d) (window l (k + d) d) o ≡ window l (k + o) d
+unfolding merged
+merged-window l k d o h =
+    rw (length-window l k d, lt-ltb o d h, ← window-add)
+    (window-cut l k (d + d) o d (omega arith))

@@ -1,0 +1,1 @@
+-- The plain reading of each definition of specs/. Assumes nothing.

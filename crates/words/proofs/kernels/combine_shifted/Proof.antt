@@ -1,0 +1,96 @@
+use Prim.Native.Nat.{_≤_, _*_, _-_, _+_}
+use mathlib.Core.Path.{_≡_, refl}
+use native.Mathlib.Omega.{arith}
+use lib.ListN.{length}
+use Rattle.words.specs.Flags.{flagsOf, over, window}
+use Rattle.words.specs.Loops.{combined}
+use Rattle.words.proofs.Combining.{zip-word, length-zip}
+use Rattle.words.proofs.Writing.{write-none, write-step, write-all}
+use borrow.Author.Needs.{needs}
+use Rattle.words.proofs.kernels.combine_shifted.Statement.{statement}
+use Rattle.words.proofs.kernels.combine_shifted.Tie as tie
+
+abbrev Inv-loop : tie.InvT-loop
+Inv-loop op a pa s b pb t c pc u n out₀ i₀ out i = (i ≤ n) × ((length out ≡ length out₀) × (flagsOf out ≡ over (flagsOf out₀) (window (combined op a (8 * pa + s) b (8 * pb + t) c (8 * pc + u) (64 * n)) 0 (64 * i))))
+
+abbrev μ-loop : tie.MeasureT-loop
+μ-loop op a pa s b pb t c pc u n out₀ i₀ out i = n - i
+
+loop-holds : tie.Need-loop-holds Inv-loop μ-loop
+loop-holds c = (omega arith, (refl, write-none _ _))
+
+mul-at : tie.Need-mul-at Inv-loop μ-loop
+mul-at c = search needs
+
+add-shifted-word : tie.Need-add-shifted-word Inv-loop μ-loop
+add-shifted-word c = search needs
+
+shifted-word-requires : tie.Need-shifted-word-requires Inv-loop μ-loop
+shifted-word-requires c κs = search needs
+
+add-shifted-word-2 : tie.Need-add-shifted-word-2 Inv-loop μ-loop
+add-shifted-word-2 c = search needs
+
+shifted-word-requires-2 : tie.Need-shifted-word-requires-2 Inv-loop μ-loop
+shifted-word-requires-2 c κs = search needs
+
+add-shifted-word-3 : tie.Need-add-shifted-word-3 Inv-loop μ-loop
+add-shifted-word-3 c = search needs
+
+shifted-word-requires-3 : tie.Need-shifted-word-requires-3 Inv-loop μ-loop
+shifted-word-requires-3 c κs = search needs
+
+combine-word-requires : tie.Need-combine-word-requires Inv-loop μ-loop
+combine-word-requires c κs = search needs
+
+put-word-requires : tie.Need-put-word-requires Inv-loop μ-loop
+put-word-requires c κs = search needs
+
+add-i : tie.Need-add-i Inv-loop μ-loop
+add-i c = search needs
+
+loop-less : tie.Need-loop-less Inv-loop μ-loop
+loop-less c = omega (arith, c .before .before .before .before .before .before .before .before .loop-test .taken)
+
+loop-again : tie.Need-loop-again Inv-loop μ-loop
+loop-again c =
+    let put = c .before .before in
+    let op = put .before in
+    let loads = op .before .before in
+    let inv = loads .before .before .before .before .loop .inv in (
+      omega arith,
+      (
+        search needs,
+        write-step _ _ _ _ _ _ (inv .1 .1)
+            (zip-word _ _ _ _ _ _ _ _ _ _ _ _ _ _ _ _ (omega arith) (omega arith) (omega arith) (omega arith) (loads .before .before .shifted-word .ensures) (loads .before .shifted-word2 .ensures) (loads .shifted-word3 .ensures) (op .combine-word .ensures))
+            (put .put-word .ensures),
+      ),
+    )
+
+same-length : tie.Need-same-length Inv-loop μ-loop
+same-length c = search needs
+
+returns : tie.Need-returns Inv-loop μ-loop
+returns c = write-all _ _ _ _ _ (c .before .loop .inv .1 .1) (length-zip _ _ _ _ _ _ _ _) (c .before .loop .inv .0) (c .loop-test .left)
+
+pub combine-shifted-spec : {M : Type 1} → statement M
+combine-shifted-spec =
+    tie.close
+    (tie.spec
+    Inv-loop
+    μ-loop
+    loop-holds
+    mul-at
+    add-shifted-word
+    shifted-word-requires
+    add-shifted-word-2
+    shifted-word-requires-2
+    add-shifted-word-3
+    shifted-word-requires-3
+    combine-word-requires
+    put-word-requires
+    add-i
+    loop-less
+    loop-again
+    same-length
+    returns)

@@ -1,0 +1,26 @@
+use Rattle.words.proofs.Loads.{load-mid}
+use borrow.Author.Needs.{needs}
+use Rattle.words.proofs.word.full_word.Statement.{statement}
+use Rattle.words.proofs.word.full_word.Tie as tie
+
+add-end : tie.Need-add-end
+add-end c = search needs
+
+sub-join : tie.Need-sub-join
+sub-join c = search needs
+
+part-join-start : tie.Need-part-join-start
+part-join-start c = search needs
+
+part-join-end : tie.Need-part-join-end
+part-join-end c = search needs
+
+join-requires : tie.Need-join-requires
+join-requires c κs = search needs
+
+returns : tie.Need-returns
+returns c = load-mid _ _ _ (c .join .ensures)
+
+pub full-word-spec : {M : Type 1} → statement M
+full-word-spec =
+    tie.close (tie.spec add-end sub-join part-join-start part-join-end join-requires returns)

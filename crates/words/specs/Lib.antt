@@ -1,0 +1,8 @@
+-- What the contracts of this crate mean. `Flags` is read first: the other files stand on it alone.
+pub mod Counts
+pub mod Flags
+pub mod Kernels
+pub mod Loops
+pub mod Merge
+pub mod Nth
+pub mod Ops

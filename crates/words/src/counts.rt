@@ -1,0 +1,199 @@
+// Counting and comparing. A stretch is `len` flags of the bytes from any flag on, zeros past their end. The time is bounded by
+// the bytes lent, whatever `len` is.
+ghost use mathlib.Core.Path.{_≡_};
+ghost use mathlib.Core.Bool.{false, _&&_};
+ghost use Prim.Native.Nat.{_*_, _+_, _-_, _≤_, _<_};
+ghost use lib.ListN.{length};
+ghost use lib.Dec.{ltb};
+ghost use Rattle.words.specs.Flags.{flagsOf, count, digit, window, wordFlags};
+ghost use Rattle.words.specs.Ops.{opOf};
+ghost use Rattle.words.specs.Kernels.{InRange};
+ghost use Rattle.words.specs.Loops.{stretch, combined};
+ghost use Rattle.words.specs.Counts.{anySet, sameFlags};
+use crate::kernels::each_count;
+use crate::kernels::each_join;
+use crate::kernels::ones_words;
+use crate::loops::common_room;
+use crate::loops::least;
+use crate::loops::room;
+use crate::loops::triple_word;
+use crate::loops::words_for;
+use crate::ops::Op;
+use crate::word::low_flags;
+use crate::word::ones_in_word;
+use crate::word::word_at;
+
+// How many flags of a stretch are set: up to a byte boundary, whole words, and the rest.
+pub fn count_ones(bytes: &[u8], start: usize, len: usize) -> usize
+    ensures { λ r. ⌜ r ≡ count (stretch (now (bytes .entry)) start len) ⌝ }
+{
+    let p = start / 8;
+    let s = start % 8;
+    if len <= 64 {
+        return ones_in_word(low_flags(word_at(bytes, p, s), len));
+    }
+    let h = (8 - s) % 8;
+    let q = p + (s + 7) / 8;
+    let n = least((len - h) / 64, room(bytes.len(), q));
+    let first = ones_in_word(low_flags(word_at(bytes, p, s), h));
+    let mid = ones_words(bytes, q, n);
+    let rest = len - h - 64 * n;
+    let last = ones_in_word(low_flags(word_at(bytes, q + 8 * n, 0), rest));
+    first + mid + last
+}
+
+// A number of words that no stretch over so many bytes exceeds.
+fn reach(x: usize, y: usize, z: usize) -> usize
+    ensures { λ r. ⌜ (x ≤ 8 * r) × ((y ≤ 8 * r) × (z ≤ 8 * r)) ⌝ }
+{
+    most(x, most(y, z)) / 8 + 1
+}
+
+fn most(x: usize, y: usize) -> usize
+    ensures { λ r. ⌜ (x ≤ r) × (y ≤ r) ⌝ }
+{
+    if x < y { y } else { x }
+}
+
+// What the operation gives past the end of all stretches.
+fn past_end(op: Op) -> bool
+    ensures { λ r. ⌜ r ≡ opOf op false false false ⌝ }
+{
+    match op {
+        Op::And => false,
+        Op::AndNot => false,
+        Op::Or => false,
+        Op::OrNot => true,
+        Op::Xor => false,
+        Op::Not => true,
+        Op::Select => false,
+    }
+}
+
+// How many of `len` flags stand behind n words, where each is set or none.
+fn ones_behind(flag: bool, len: usize, n: usize) -> usize
+    ensures { λ r. ⌜ r ≡ (len - 64 * n) * digit flag ⌝ }
+{
+    if flag {
+        if n <= len / 64 { len - 64 * n } else { 0 }
+    } else {
+        0
+    }
+}
+
+// Is one of `len` flags that stand behind n words set, where each is or none.
+fn any_behind(flag: bool, len: usize, n: usize) -> bool
+    ensures { λ r. ⌜ r ≡ (ltb (64 * n) len && flag) ⌝ }
+{
+    if flag {
+        if n <= len / 64 { 64 * n < len } else { false }
+    } else {
+        false
+    }
+}
+
+// Is a flag of a word set.
+fn is_set(w: u64) -> bool
+    ensures { λ r. ⌜ r ≡ anySet (wordFlags w) ⌝ }
+{
+    w != 0
+}
+
+// How many flags of three stretches combined are set.
+pub fn count_ones_of(
+    op: Op,
+    a: &[u8],
+    sa: usize,
+    b: &[u8],
+    sb: usize,
+    c: &[u8],
+    sc: usize,
+    len: usize,
+) -> usize
+    ensures { λ r. ⌜ r ≡ count (combined op (now (a .entry)) sa (now (b .entry)) sb (now (c .entry)) sc len) ⌝ }
+{
+    if len <= 64 {
+        return ones_in_word(triple_word(op, a, sa, b, sb, c, sc, len, 0));
+    }
+    let n = least(words_for(len), reach(a.len(), b.len(), c.len()));
+    let pa = sa / 8;
+    let pb = sb / 8;
+    let pc = sc / 8;
+    let mut i = common_room(len / 64, a.len(), pa + 1, b.len(), pb + 1, c.len(), pc + 1);
+    let mut ones = each_count(op, a, pa, sa % 8, b, pb, sb % 8, c, pc, sc % 8, i);
+    while i < n {
+        ones += ones_in_word(triple_word(op, a, sa, b, sb, c, sc, len, i));
+        i += 1;
+    }
+    ones + ones_behind(past_end(op), len, n)
+}
+
+// The same for words in range, 64 at a time, with an end at the first that have a flag set.
+fn any_whole(
+    op: Op,
+    a: &[u8],
+    pa: usize,
+    s: usize,
+    b: &[u8],
+    pb: usize,
+    t: usize,
+    c: &[u8],
+    pc: usize,
+    u: usize,
+    n: usize,
+) -> bool
+    requires { ⌜ InRange (length (now a) - (pa + 1)) (length (now b) - (pb + 1)) (length (now c) - (pc + 1)) n s t u ⌝ }
+    ensures { λ r. ⌜ r ≡ anySet (combined op (now (a .entry)) (8 * pa + s) (now (b .entry)) (8 * pb + t) (now (c .entry)) (8 * pc + u) (64 * n)) ⌝ }
+{
+    let mut i = 0;
+    while i < n {
+        let k = least(64, n - i);
+        let at = 8 * i;
+        let all = each_join(op, a, pa + at, s, b, pb + at, t, c, pc + at, u, k);
+        if is_set(all) {
+            return true;
+        }
+        i += k;
+    }
+    false
+}
+
+// Is a flag of three stretches combined set.
+pub fn any_set(
+    op: Op,
+    a: &[u8],
+    sa: usize,
+    b: &[u8],
+    sb: usize,
+    c: &[u8],
+    sc: usize,
+    len: usize,
+) -> bool
+    ensures { λ r. ⌜ r ≡ anySet (combined op (now (a .entry)) sa (now (b .entry)) sb (now (c .entry)) sc len) ⌝ }
+{
+    if len <= 64 {
+        return is_set(triple_word(op, a, sa, b, sb, c, sc, len, 0));
+    }
+    let n = least(words_for(len), reach(a.len(), b.len(), c.len()));
+    let pa = sa / 8;
+    let pb = sb / 8;
+    let pc = sc / 8;
+    let mut i = common_room(len / 64, a.len(), pa + 1, b.len(), pb + 1, c.len(), pc + 1);
+    if any_whole(op, a, pa, sa % 8, b, pb, sb % 8, c, pc, sc % 8, i) {
+        return true;
+    }
+    while i < n {
+        if is_set(triple_word(op, a, sa, b, sb, c, sc, len, i)) {
+            return true;
+        }
+        i += 1;
+    }
+    any_behind(past_end(op), len, n)
+}
+
+// Are two stretches the same.
+pub fn equal(a: &[u8], sa: usize, b: &[u8], sb: usize, len: usize) -> bool
+    ensures { λ r. ⌜ r ≡ sameFlags (stretch (now (a .entry)) sa len) (stretch (now (b .entry)) sb len) ⌝ }
+{
+    !any_set(Op::Xor, a, sa, b, sb, b, sb, len)
+}

@@ -1,0 +1,187 @@
+// Loops that write. A stretch is `len` flags of the bytes from any flag on, zeros past their end; no stretch and
+// no output has to be large enough. The time is bounded by the bytes lent, whatever `len` is.
+ghost use mathlib.Core.Path.{_≡_};
+ghost use Prim.Native.Nat.{_*_, _+_, _-_, _/_, _%_, _≤_, _<_, min};
+ghost use lib.ListN.{length};
+ghost use Rattle.words.specs.Flags.{wordFlags, copies, flagsOf, over, window};
+ghost use Rattle.words.specs.Loops.{stretch, combined, wholeWords};
+ghost use Rattle.words.specs.Kernels.{InBytes};
+use crate::kernels::each_bytes;
+use crate::kernels::each_shifted;
+use crate::kernels::fill_words;
+use crate::ops::Op;
+use crate::ops::combine_word;
+use crate::word::constant_word;
+use crate::word::low_flags;
+use crate::word::store_at;
+use crate::word::store_le_u64;
+use crate::word::word_at;
+
+pub(crate) fn least(x: usize, y: usize) -> usize
+    ensures { λ r. ⌜ r ≡ min x y ⌝ }
+{
+    if x < y { x } else { y }
+}
+
+// How many whole words `size` bytes have from the byte `at` on.
+pub(crate) fn room(size: usize, at: usize) -> usize
+    ensures { λ r. ⌜ r ≡ (size - at) / 8 ⌝ }
+{
+    if at < size { (size - at) / 8 } else { 0 }
+}
+
+// How many words hold `len` flags.
+pub(crate) fn words_for(len: usize) -> usize
+    ensures { λ r. ⌜ r ≡ (len + 63) / 64 ⌝ }
+{
+    len / 64 + (len % 64 + 63) / 64
+}
+
+// How many words three stretches have in range, at most `most`.
+pub(crate) fn common_room(
+    most: usize,
+    size_a: usize,
+    pa: usize,
+    size_b: usize,
+    pb: usize,
+    size_c: usize,
+    pc: usize,
+) -> usize
+    ensures { λ r. ⌜ InBytes («size_a» - pa) («size_b» - pb) («size_c» - pc) r × (r ≤ most) ⌝ }
+{
+    let x = least(most, room(size_a, pa));
+    let y = least(room(size_b, pb), room(size_c, pc));
+    least(x, y)
+}
+
+// Word i of three stretches combined: zeros past their end.
+pub(crate) fn triple_word(
+    op: Op,
+    a: &[u8],
+    sa: usize,
+    b: &[u8],
+    sb: usize,
+    c: &[u8],
+    sc: usize,
+    len: usize,
+    i: usize,
+) -> u64
+    requires { ⌜ 64 * i ≤ len ⌝ }
+    ensures { λ r. ⌜ wordFlags r ≡ window (combined op (now (a .entry)) sa (now (b .entry)) sb (now (c .entry)) sc len) (64 * i) 64 ⌝ }
+{
+    let at = 8 * i;
+    let x = word_at(a, sa / 8 + at, sa % 8);
+    let y = word_at(b, sb / 8 + at, sb % 8);
+    let z = word_at(c, sc / 8 + at, sc % 8);
+    low_flags(combine_word(op, x, y, z), len - 64 * i)
+}
+
+// Three stretches combined over the front of out, as whole words with zeros behind the last flag.
+pub fn combine(
+    op: Op,
+    a: &[u8],
+    sa: usize,
+    b: &[u8],
+    sb: usize,
+    c: &[u8],
+    sc: usize,
+    len: usize,
+    out: &mut [u8],
+)
+    ensures { λ _. ⌜ flagsOf (now (out .exit)) ≡ over (flagsOf (now (out .entry))) (wholeWords (combined op (now (a .entry)) sa (now (b .entry)) sb (now (c .entry)) sc len)) ⌝ }
+{
+    if len <= 64 {
+        combine_short(op, a, sa, b, sb, c, sc, len, out);
+    } else {
+        combine_long(op, a, sa, b, sb, c, sc, len, out);
+    }
+}
+
+// At most a word, with no loop.
+fn combine_short(
+    op: Op,
+    a: &[u8],
+    sa: usize,
+    b: &[u8],
+    sb: usize,
+    c: &[u8],
+    sc: usize,
+    len: usize,
+    out: &mut [u8],
+)
+    requires { ⌜ len ≤ 64 ⌝ }
+    ensures { λ _. ⌜ flagsOf (now (out .exit)) ≡ over (flagsOf (now (out .entry))) (wholeWords (combined op (now (a .entry)) sa (now (b .entry)) sb (now (c .entry)) sc len)) ⌝ }
+{
+    if len > 0 {
+        store_le_u64(out, triple_word(op, a, sa, b, sb, c, sc, len, 0));
+    }
+}
+
+// The words that are in range, then what is left: at most two words where the stretches and the output are large enough.
+fn combine_long(
+    op: Op,
+    a: &[u8],
+    sa: usize,
+    b: &[u8],
+    sb: usize,
+    c: &[u8],
+    sc: usize,
+    len: usize,
+    out: &mut [u8],
+)
+    ensures { λ _. ⌜ flagsOf (now (out .exit)) ≡ over (flagsOf (now (out .entry))) (wholeWords (combined op (now (a .entry)) sa (now (b .entry)) sb (now (c .entry)) sc len)) ⌝ }
+{
+    let n = least(words_for(len), (out.len() + 7) / 8);
+    let mut i = combine_whole(op, a, sa, b, sb, c, sc, len, out);
+    while i < n {
+        store_at(out, 8 * i, triple_word(op, a, sa, b, sb, c, sc, len, i));
+        i += 1;
+    }
+}
+
+// The whole words that are in range: how many there are.
+fn combine_whole(
+    op: Op,
+    a: &[u8],
+    sa: usize,
+    b: &[u8],
+    sb: usize,
+    c: &[u8],
+    sc: usize,
+    len: usize,
+    out: &mut [u8],
+) -> usize
+    ensures { λ r. ⌜ (64 * r ≤ len) × ((8 * r ≤ length (now (out .entry))) × (flagsOf (now (out .exit)) ≡ over (flagsOf (now (out .entry))) (combined op (now (a .entry)) sa (now (b .entry)) sb (now (c .entry)) sc (64 * r)))) ⌝ }
+{
+    let most = least(len / 64, out.len() / 8);
+    let pa = sa / 8;
+    let pb = sb / 8;
+    let pc = sc / 8;
+    if sa % 8 + sb % 8 + sc % 8 == 0 {
+        let n = common_room(most, a.len(), pa, b.len(), pb, c.len(), pc);
+        each_bytes(op, a, pa, b, pb, c, pc, n, out);
+        return n;
+    }
+    let n = common_room(most, a.len(), pa + 1, b.len(), pb + 1, c.len(), pc + 1);
+    each_shifted(op, a, pa, sa % 8, b, pb, sb % 8, c, pc, sc % 8, n, out);
+    n
+}
+
+// A stretch over the front of out, as whole words with zeros behind the last flag: a stretch joined with itself.
+pub fn copy(bytes: &[u8], start: usize, len: usize, out: &mut [u8])
+    ensures { λ _. ⌜ flagsOf (now (out .exit)) ≡ over (flagsOf (now (out .entry))) (wholeWords (stretch (now (bytes .entry)) start len)) ⌝ }
+{
+    combine(Op::Or, bytes, start, bytes, start, bytes, start, len, out);
+}
+
+// `len` copies of the flag over the front of out, as whole words with zeros behind the last flag.
+pub fn fill(flag: bool, len: usize, out: &mut [u8])
+    ensures { λ _. ⌜ flagsOf (now (out .exit)) ≡ over (flagsOf (now (out .entry))) (wholeWords (copies len flag)) ⌝ }
+{
+    let n = least(len / 64, out.len() / 8);
+    fill_words(flag, n, out);
+    let done = 64 * n;
+    if done < len {
+        store_at(out, 8 * n, low_flags(constant_word(flag), len - done));
+    }
+}

@@ -1,0 +1,161 @@
+// A word: loads, stores, its low flags and its ones. Loads and stores that lie in range by `requires` are private to the crate.
+ghost use mathlib.Core.Path.{_≡_};
+ghost use Prim.Native.Nat.{_+_, _*_, _<_, _≤_, _%_};
+ghost use lib.ListN.{length, take};
+ghost use Rattle.words.specs.Flags.{wordFlags, copies, flagsOf, count, over, overAt, window};
+
+fn wide(x: u8) -> u64
+    ensures { λ r. ⌜ (r ≡ x) × (r < 256) ⌝ }
+{
+    x as u64
+}
+
+fn low_byte(w: u64) -> u8
+    ensures { λ r. ⌜ r ≡ w % 256 ⌝ }
+{
+    (w % 256) as u8
+}
+
+// At most eight bytes as a word. Where the length is known to be eight, this is compiled to one load.
+fn join(part: &[u8]) -> u64
+    requires { ⌜ length (now part) ≤ 8 ⌝ }
+    ensures { λ r. ⌜ wordFlags r ≡ window (flagsOf (now (part .entry))) 0 64 ⌝ }
+{
+    let mut w: u64 = 0;
+    let mut i = 0;
+    while i < part.len() {
+        w = w | wide(part[i]) << (8 * i);
+        i += 1;
+    }
+    w
+}
+
+// The low bytes of w, as many as `out` has. Where that is known to be eight, this is compiled to one store.
+fn split(out: &mut [u8], w: u64)
+    requires { ⌜ length (now out) ≤ 8 ⌝ }
+    ensures { λ _. ⌜ flagsOf (now (out .exit)) ≡ over (flagsOf (now (out .entry))) (wordFlags w) ⌝ }
+{
+    let mut i = 0;
+    while i < out.len() {
+        out[i] = low_byte(w >> (8 * i));
+        i += 1;
+    }
+}
+
+// The first eight bytes as a word, absent ones as zero.
+pub fn load_padded_le_u64(part: &[u8]) -> u64
+    ensures { λ r. ⌜ wordFlags r ≡ window (flagsOf (now (part .entry))) 0 64 ⌝ }
+{
+    if part.len() >= 8 {
+        join(&part[..8])
+    } else {
+        join(part)
+    }
+}
+
+// The eight bytes of w over the front of `out`, as far as there is room.
+pub fn store_le_u64(out: &mut [u8], w: u64)
+    ensures { λ _. ⌜ flagsOf (now (out .exit)) ≡ over (flagsOf (now (out .entry))) (wordFlags w) ⌝ }
+{
+    if out.len() >= 8 {
+        split(&mut out[..8], w);
+    } else {
+        split(out, w);
+    }
+}
+
+// The eight bytes of w from the byte `at` on, as far as there is room.
+pub fn store_at(out: &mut [u8], at: usize, w: u64)
+    ensures { λ _. ⌜ flagsOf (now (out .exit)) ≡ overAt (flagsOf (now (out .entry))) (8 * at) (wordFlags w) ⌝ }
+{
+    if at <= out.len() {
+        store_le_u64(&mut out[at..], w);
+    }
+}
+
+// The eight bytes from `at` on, all in range: one load.
+pub(crate) fn full_word(bytes: &[u8], at: usize) -> u64
+    requires { ⌜ at + 8 ≤ length (now bytes) ⌝ }
+    ensures { λ r. ⌜ wordFlags r ≡ window (flagsOf (now (bytes .entry))) (8 * at) 64 ⌝ }
+{
+    let end = at + 8;
+    join(&bytes[at..end])
+}
+
+// The eight bytes of w from `at` on, all in range: one store.
+pub(crate) fn put_word(out: &mut [u8], at: usize, w: u64)
+    requires { ⌜ at + 8 ≤ length (now out) ⌝ }
+    ensures { λ _. ⌜ flagsOf (now (out .exit)) ≡ overAt (flagsOf (now (out .entry))) (8 * at) (wordFlags w) ⌝ }
+{
+    let end = at + 8;
+    split(&mut out[at..end], w);
+}
+
+// The 64 flags from the flag 8 * at + s on, nine bytes in range: two loads, one byte apart, which agree where they overlap,
+// so that s = 0 is no special case.
+pub(crate) fn shifted_word(bytes: &[u8], at: usize, s: usize) -> u64
+    requires { ⌜ (at + 9 ≤ length (now bytes)) × (s ≤ 8) ⌝ }
+    ensures { λ r. ⌜ wordFlags r ≡ window (flagsOf (now (bytes .entry))) (8 * at + s) 64 ⌝ }
+{
+    (full_word(bytes, at) >> s) | (full_word(bytes, at + 1) << (8 - s))
+}
+
+// The word moved down by k flags, nothing from 64 on.
+fn down(w: u64, k: usize) -> u64
+    ensures { λ r. ⌜ wordFlags r ≡ window (wordFlags w) k 64 ⌝ }
+{
+    if k < 64 { w >> k } else { 0 }
+}
+
+// The 64 flags from the flag 8 * at + s on, zeros past the end. Near the end the last eight bytes are loaded, if there are so
+// many: the bytes of a mask are whole words, so this is the usual case.
+pub(crate) fn word_at(bytes: &[u8], at: usize, s: usize) -> u64
+    requires { ⌜ s ≤ 8 ⌝ }
+    ensures { λ r. ⌜ wordFlags r ≡ window (flagsOf (now (bytes .entry))) (8 * at + s) 64 ⌝ }
+{
+    let n = bytes.len();
+    if n <= at {
+        return 0;
+    }
+    if 9 <= n - at {
+        return shifted_word(bytes, at, s);
+    }
+    if n < 8 {
+        return down(join(bytes), 8 * at + s);
+    }
+    down(full_word(bytes, n - 8), 8 * (at + 8 - n) + s)
+}
+
+// The 64 flags from the flag `bit` on, zeros past the end.
+pub fn word_from(bytes: &[u8], bit: usize) -> u64
+    ensures { λ r. ⌜ wordFlags r ≡ window (flagsOf (now (bytes .entry))) bit 64 ⌝ }
+{
+    word_at(bytes, bit / 8, bit % 8)
+}
+
+// The k low flags of w, zeros above.
+pub fn low_flags(w: u64, k: usize) -> u64
+    ensures { λ r. ⌜ wordFlags r ≡ window (take k (wordFlags w)) 0 64 ⌝ }
+{
+    if k >= 64 { w } else { w % (1 << k) }
+}
+
+// A word of one flag.
+pub fn constant_word(flag: bool) -> u64
+    ensures { λ r. ⌜ wordFlags r ≡ copies 64 flag ⌝ }
+{
+    if flag { !0 } else { 0 }
+}
+
+// How many flags of w are set.
+pub fn ones_in_word(w: u64) -> usize
+    ensures { λ r. ⌜ r ≡ count (wordFlags w) ⌝ }
+{
+    wide32(u64::count_ones(w))
+}
+
+fn wide32(x: u32) -> usize
+    ensures { λ r. ⌜ r ≡ x ⌝ }
+{
+    x as usize
+}
