@@ -5,6 +5,7 @@ pub mod Bits
 pub mod Bytes
 pub mod Combining
 pub mod Counting
+pub mod EndLaws
 mod Loads
 pub mod Merging
 mod NthLaws

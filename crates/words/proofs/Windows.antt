@@ -3,16 +3,17 @@ use mathlib.Core.Path.{_≡_, refl, sym, ap, ap₂, _∙_}
 use mathlib.Core.Bool.{Bool, true, false, _&&_}
 use mathlib.Core.List.{List, [], _∷_, _++_}
 use mathlib.Core.Logic.{_⊎_, inl, inr, ⊎-elim}
-use Prim.Native.Nat.{ℕ, zero, suc, _+_, _-_, _*_, _≤_, _<_, zero-le}
-use native.Mathlib.Nat.{add-zero, zero-add, add-suc, suc-add}
+use Prim.Native.Nat.{ℕ, zero, suc, _+_, _-_, _*_, _^_, _≤_, _<_, zero-le}
+use native.Mathlib.Nat.{add-zero, zero-add, add-suc, suc-add, lt-of-lt-of-le}
 use native.Mathlib.Omega.{arith}
 use lib.ListN.{length, take, drop, getD, set, length-take, List·getD-eq-default}
 use lib.Dec.{ltb, leb·suc-suc}
 use lib.Seq.{getD-drop, getD-take, take-at, drop-at, take-all}
+use lib.Pow.{pow-mono}
 use lib.Arith.{digits-div, digits-mod}
 use borrow.Author.Tests.{lt-ltb, le-ltb, ltb-true, ltb-false}
 use Rattle.words.specs.Flags.{isOne, bits, wordOf, copies, window, over, overAt}
-use Rattle.words.proofs.Bits.{bits-zero, digit-lt, isOne-digit}
+use Rattle.words.proofs.Bits.{bits-zero, digit-lt, isOne-digit, wordOf-bits, wordOf-lt}
 
 -- the two cases of a comparison
 pub lt-or-le : (a b : ℕ) → (a < b) ⊎ (b ≤ a)
@@ -145,6 +146,14 @@ bits-window (suc d) (b ∷ l) =
     ap₂ (λ (x : Bool) (t : List Bool). x ∷ t)
     (ap isOne (digits-mod (wordOf l) (digit-lt b)) ∙ isOne-digit b)
     (ap (bits d) (digits-div (wordOf l) (digit-lt b)) ∙ bits-window d l ∙ window-drop (b ∷ l) 1 0 d)
+
+-- zeros behind a list do not change its number
+pub wordOf-padded : (d : ℕ) (l : List Bool) → length l ≤ d → wordOf (window l 0 d) ≡ wordOf l
+wordOf-padded d l h = ap wordOf (sym (bits-window d l)) ∙ wordOf-bits d (wordOf l) (lt-of-lt-of-le (wordOf-lt l) (pow-mono h))
+
+-- the number that has a list's flags
+pub word-value : (d : ℕ) (l : List Bool) (r : ℕ) → r < 2 ^ d → length l ≤ d → bits d r ≡ window l 0 d → r ≡ wordOf l
+word-value d l r b h p = sym (wordOf-bits d r b) ∙ ap wordOf p ∙ wordOf-padded d l h
 
 -- ---- writing over a list
 

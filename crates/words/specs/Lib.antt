@@ -1,5 +1,6 @@
 -- What the contracts of this crate mean. `Flags` is read first: the other files stand on it alone.
 pub mod Counts
+pub mod Ends
 pub mod Flags
 pub mod Kernels
 pub mod Loops

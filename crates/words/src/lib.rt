@@ -4,6 +4,7 @@
 // lent bytes are zero, and what does not fit an output is left out. Above this crate nothing speaks of bits, shifts or powers
 // of two: the contracts turn numbers into lists of flags (specs/Flags.antt).
 pub mod counts;
+pub mod ends;
 mod kernels;
 pub mod loops;
 pub mod merge;
