@@ -2,7 +2,7 @@
 -- A reading that is a law of another file is named, not repeated. Assumes nothing.
 --
 -- `digit`, `bitAt`, `flagAt` and `opOf` are read as they stand. Of a list l, flag j is `getD l j false`: false from its end on.
-use mathlib.Core.Path.{_≡_, refl, sym, ap, ap₂, _∙_}
+use mathlib.Core.Path.{_≡_, refl, sym, ap, _∙_}
 use mathlib.Core.Bool.{Bool, true, false, xor}
 use mathlib.Core.List.{List, [], _∷_, _++_}
 use mathlib.Core.Logic.{⊎-elim}
@@ -43,16 +43,15 @@ unfolding flagsOf
 at-flags [] j = rw zero-div
 at-flags (b ∷ bytes) j = ⊎-elim
     (λ (h : j < 8).
-    let q : 0 ≡ j / 8 = omega arith in
-    let r : j ≡ j % 8 = omega arith in
-    List·getD-append (bits 8 b) (flagsOf bytes) false j (omega (arith, length-bits 8 b)) ∙ at-bits 8 b j h
-    ∙ ap₂ (λ (x y : ℕ). bitAt (getD (b ∷ bytes) x 0) y) q r)
+    let q : j / 8 ≡ 0 = omega arith in
+    let r : j % 8 ≡ j = omega arith in
+    rw (q, r) (List·getD-append (bits 8 b) (flagsOf bytes) false j (omega (arith, length-bits 8 b)) ∙ at-bits 8 b j h))
     (λ (h : 8 ≤ j).
     let e : j ≡ length (bits 8 b) + (j - 8) = omega (arith, length-bits 8 b) in
-    let q : suc ((j - 8) / 8) ≡ j / 8 = omega arith in
-    let r : (j - 8) % 8 ≡ j % 8 = omega arith in
-    ap (λ (x : ℕ). getD (bits 8 b ++ flagsOf bytes) x false) e ∙ getD-append-add (bits 8 b) (flagsOf bytes) (j - 8) false
-    ∙ at-flags bytes (j - 8) ∙ ap₂ (λ (x y : ℕ). bitAt (getD (b ∷ bytes) x 0) y) q r)
+    let q : j / 8 ≡ suc ((j - 8) / 8) = omega arith in
+    let r : j % 8 ≡ (j - 8) % 8 = omega arith in
+    rw (q, r)
+    (ap (λ (x : ℕ). getD (bits 8 b ++ flagsOf bytes) x false) e ∙ getD-append-add (bits 8 b) (flagsOf bytes) (j - 8) false ∙ at-flags bytes (j - 8)))
     (lt-or-le j 8)
 
 -- Bit k of `wordOf l` is, for every k, flag k of l.
