@@ -29,7 +29,7 @@ nth-high (false ∷ a) b n h = let e : n - (0 + count a) ≡ n - count a = omega
 nth-high (true ∷ a) b zero h = absurd (omega arith)
 nth-high (true ∷ a) b (suc n) h = let e : suc n - (1 + count a) ≡ n - count a = omega arith in rw (e, nth-high a b n (omega arith)) (omega arith)
 
-nth-lt : (l : List Bool) (n : ℕ) → n < count l → nthPlace l n < length l
+pub nth-lt : (l : List Bool) (n : ℕ) → n < count l → nthPlace l n < length l
 unfolding nthPlace count
 nth-lt [] n h = absurd (omega arith)
 nth-lt (false ∷ a) n h = omega (arith, nth-lt a n (omega arith))
