@@ -1,0 +1,167 @@
+-- The checks of a call, put together from pieces, and what is known where all have passed. Assumes nothing.
+use mathlib.Core.Path.{_≡_, refl, sym, ap, ap₂, _∙_, subst}
+use mathlib.Core.Bool.{Bool, true, false, cond}
+use mathlib.Core.List.{List, [], _∷_, _++_}
+use Prim.Native.Nat.{ℕ, zero, suc, _+_, _*_, _/_, _%_, _≤_, _<_}
+use native.Mathlib.Omega.{arith}
+use lib.Dec.{leb}
+use borrow.Author.Tests.{le-leb, lt-leb, leb-true, leb-false}
+use Rattle.words.proofs.Windows.{lt-or-le}
+use Rattle.masks.specs.Answer.{Answer, given, refused, decided, kept, unlessEmpty}
+use Rattle.masks.specs.Checks.{Check, check, rank, earlier, failure, firstFailed, limit, withinLimit, spanChecks, addressChecks}
+use mathlib.Core.Logic.{⊎-elim}
+
+-- ---- a choice by a test, where the test is known
+
+pub when-le : {A : Type 0} (a b : ℕ) (x y : A) → a ≤ b → x ≡ cond (leb a b) x y
+when-le a b x y h = ap (λ (t : Bool). cond t x y) (sym (le-leb a b h))
+
+pub when-gt : {A : Type 0} (a b : ℕ) (x y : A) → b < a → y ≡ cond (leb a b) x y
+when-gt a b x y h = ap (λ (t : Bool). cond t x y) (sym (lt-leb a b h))
+
+-- what holds of either choice
+pub by-test : {A : Type 0} (P : A → Type 0) (a b : ℕ) (x y : A) → (a ≤ b → P x) → (b < a → P y) → P (cond (leb a b) x y)
+by-test P a b x y p q = ⊎-elim
+    (λ (h : b < a). subst P (when-gt a b x y h) (q h))
+    (λ (h : a ≤ b). subst P (when-le a b x y h) (p h))
+    (lt-or-le b a)
+
+-- ---- pieces are put together
+
+pub earlier-none : (a : ℕ) → earlier a 0 ≡ a
+unfolding earlier
+earlier-none zero = refl
+earlier-none (suc a) = refl
+
+pub none-earlier : (a : ℕ) → earlier 0 a ≡ a
+unfolding earlier
+none-earlier a = refl
+
+first-one : (a b : ℕ) → rank (suc a) ≤ rank (suc b) → earlier (suc a) (suc b) ≡ suc a
+unfolding earlier
+first-one a b h = ap (λ (t : Bool). cond t (suc a) (suc b)) (le-leb (rank (suc a)) (rank (suc b)) h)
+
+second-one : (a b : ℕ) → rank (suc b) < rank (suc a) → earlier (suc a) (suc b) ≡ suc b
+unfolding earlier
+second-one a b h = ap (λ (t : Bool). cond t (suc a) (suc b)) (lt-leb (rank (suc a)) (rank (suc b)) h)
+
+pub first-least : (a b : ℕ) → (a ≡ 0 → ⊥) → (b ≡ 0 → ⊥) → rank a ≤ rank b → earlier a b ≡ a
+first-least zero b p q h = absurd (p refl)
+first-least (suc a) zero p q h = absurd (q refl)
+first-least (suc a) (suc b) p q h = first-one a b h
+
+pub second-least : (a b : ℕ) → (a ≡ 0 → ⊥) → (b ≡ 0 → ⊥) → rank b < rank a → earlier a b ≡ b
+second-least zero b p q h = absurd (p refl)
+second-least (suc a) zero p q h = absurd (q refl)
+second-least (suc a) (suc b) p q h = second-one a b h
+
+-- the first of least rank among three, either way round
+earlier-assoc : (a b c : ℕ) → earlier (earlier a b) c ≡ earlier a (earlier b c)
+earlier-assoc zero b c = ap (λ (x : ℕ). earlier x c) (none-earlier b) ∙ sym (none-earlier (earlier b c))
+earlier-assoc (suc a) zero c = ap (λ (x : ℕ). earlier x c) (earlier-none (suc a)) ∙ ap (earlier (suc a)) (sym (none-earlier c))
+earlier-assoc (suc a) (suc b) zero = earlier-none (earlier (suc a) (suc b)) ∙ ap (earlier (suc a)) (sym (earlier-none (suc b)))
+earlier-assoc (suc a) (suc b) (suc c) = ⊎-elim
+    (λ (h : rank (suc b) < rank (suc a)). ap (λ (x : ℕ). earlier x (suc c)) (second-one a b h) ∙ ⊎-elim
+    (λ (k : rank (suc c) < rank (suc b)). second-one b c k ∙ sym (ap (earlier (suc a)) (second-one b c k) ∙ second-one a c (omega arith)))
+    (λ (k : rank (suc b) ≤ rank (suc c)). first-one b c k ∙ sym (ap (earlier (suc a)) (first-one b c k) ∙ second-one a b h))
+    (lt-or-le (rank (suc c)) (rank (suc b))))
+    (λ (h : rank (suc a) ≤ rank (suc b)). ap (λ (x : ℕ). earlier x (suc c)) (first-one a b h) ∙ ⊎-elim
+    (λ (k : rank (suc c) < rank (suc b)). sym (ap (earlier (suc a)) (second-one b c k)))
+    (λ (k : rank (suc b) ≤ rank (suc c)). first-one a c (omega arith) ∙ sym (ap (earlier (suc a)) (first-one b c k) ∙ first-one a b h))
+    (lt-or-le (rank (suc c)) (rank (suc b))))
+    (lt-or-le (rank (suc b)) (rank (suc a)))
+
+-- the number of two pieces in a row
+pub failed-append : (a b : List Check) → firstFailed (a ++ b) ≡ earlier (firstFailed a) (firstFailed b)
+unfolding firstFailed
+failed-append [] b = sym (none-earlier (firstFailed b))
+failed-append (c ∷ a) b = ap (earlier (failure c)) (failed-append a b) ∙ sym (earlier-assoc (failure c) (firstFailed a) (firstFailed b))
+
+-- how a call puts its pieces together: the number of two pieces is the earlier of their numbers
+pub two-pieces : (a b r : ℕ) (A B : List Check) → r ≡ earlier a b → a ≡ firstFailed A → b ≡ firstFailed B → r ≡ firstFailed (A ++ B)
+two-pieces a b r A B e p q = e ∙ ap₂ earlier p q ∙ sym (failed-append A B)
+
+pub one-check : (r n : ℕ) (t u : Bool) → r ≡ cond t 0 n → t ≡ u → r ≡ firstFailed (check n u ∷ [])
+unfolding firstFailed
+one-check r n t u e h = e ∙ ap (λ (x : Bool). cond x 0 n) h ∙ sym (earlier-none (cond u 0 n))
+
+-- ---- where all have passed
+
+pub passed-left : (a b : ℕ) → earlier a b ≡ 0 → a ≡ 0
+unfolding earlier
+passed-left zero b e = refl
+passed-left (suc a) zero e = e
+passed-left (suc a) (suc b) e = absurd (never (leb (rank (suc a)) (rank (suc b))) e)
+  where
+    never : (t : Bool) → cond t (suc a) (suc b) ≡ 0 → ⊥
+    never true e = omega arith
+    never false e = omega arith
+
+pub passed-right : (a b : ℕ) → earlier a b ≡ 0 → b ≡ 0
+passed-right a b e = sym (none-earlier b) ∙ ap (λ (x : ℕ). earlier x b) (sym (passed-left a b e)) ∙ e
+
+-- the answer of a call: refused where a number came out, given where none did
+pub is-refused : {S A : Type 0} (n m : ℕ) (s : S) (a : A) → n ≡ m → (n ≡ 0 → ⊥) → refused n s ≡ decided m s a
+unfolding decided
+is-refused zero m s a e h = absurd (h refl)
+is-refused (suc n) m s a e h = ap (λ (x : ℕ). decided x s a) e
+
+pub is-given : {S A : Type 0} (n m : ℕ) (s : S) (a : A) → n ≡ m → n ≡ 0 → given a ≡ decided m s a
+unfolding decided
+is-given n m s a e h = ap (λ (x : ℕ). decided x s a) (sym h ∙ e)
+
+pub not-empty : {A : Type 0} (n : ℕ) (x y z : A) → (n ≡ 0 → ⊥) → z ≡ y → z ≡ unlessEmpty n x y
+unfolding unlessEmpty
+not-empty zero x y z h e = absurd (h refl)
+not-empty (suc n) x y z h e = e
+
+pub is-empty : {A : Type 0} (n : ℕ) (x y : A) → n ≡ 0 → x ≡ unlessEmpty n x y
+unfolding unlessEmpty
+is-empty n x y e = ap (λ (m : ℕ). unlessEmpty m x y) (sym e)
+
+-- a check with a number that has passed
+pub passed-one : (n : ℕ) (t : Bool) → cond t 0 (suc n) ≡ 0 → t ≡ true
+passed-one n true e = refl
+passed-one n false e = absurd (omega arith)
+
+-- what is known of a span whose checks have passed
+pub record SpanAllowed (start n size : ℕ) : Type 0 where
+  pub starts : start ≤ limit
+  pub short : n ≤ limit
+  pub inside : start + n ≤ 8 * size
+
+pub span-allowed : (start n size : ℕ) → firstFailed (spanChecks start n size) ≡ 0 → SpanAllowed start n size
+unfolding firstFailed spanChecks
+span-allowed start n size e =
+    let one = passed-left (failure (withinLimit start)) (earlier (failure (withinLimit n)) (earlier (failure (check 2 (leb (start + n) (8 * size)))) 0)) e in
+    let rest = passed-right (failure (withinLimit start)) (earlier (failure (withinLimit n)) (earlier (failure (check 2 (leb (start + n) (8 * size)))) 0)) e in
+    let two = passed-left (failure (withinLimit n)) (earlier (failure (check 2 (leb (start + n) (8 * size)))) 0) rest in
+    let three = passed-left (failure (check 2 (leb (start + n) (8 * size)))) 0 (passed-right (failure (withinLimit n)) (earlier (failure (check 2 (leb (start + n) (8 * size)))) 0) rest) in
+    record {
+      starts = leb-true start limit (passed-one 0 (leb start limit) one);
+      short = leb-true n limit (passed-one 0 (leb n limit) two);
+      inside = leb-true (start + n) (8 * size) (passed-one 1 (leb (start + n) (8 * size)) three);
+    }
+
+-- a single check that has passed
+pub check-allowed : (n : ℕ) (t : Bool) → firstFailed (check (suc n) t ∷ []) ≡ 0 → t ≡ true
+unfolding firstFailed
+check-allowed n t e = passed-one n t (sym (earlier-none (cond t 0 (suc n))) ∙ e)
+
+pub address-allowed : (address : ℕ) → firstFailed (addressChecks address) ≡ 0 → address ≤ 7
+unfolding addressChecks
+address-allowed address e = leb-true address 7 (check-allowed 7 (leb address 7) e)
+
+-- the two halves of what has passed
+pub both-left : (A B : List Check) → firstFailed (A ++ B) ≡ 0 → firstFailed A ≡ 0
+both-left A B e = passed-left (firstFailed A) (firstFailed B) (sym (failed-append A B) ∙ e)
+
+pub both-right : (A B : List Check) → firstFailed (A ++ B) ≡ 0 → firstFailed B ≡ 0
+both-right A B e = passed-right (firstFailed A) (firstFailed B) (sym (failed-append A B) ∙ e)
+
+-- start + n, taken by bytes and flags, so that nothing can overflow
+pub exact-sum : (start n size : ℕ) → leb (start / 8 + n / 8 + (start % 8 + n % 8 + 7) / 8) size ≡ leb (start + n) (8 * size)
+exact-sum start n size = ⊎-elim
+    (λ (h : 8 * size < start + n). lt-leb (start / 8 + n / 8 + (start % 8 + n % 8 + 7) / 8) size (omega arith) ∙ sym (lt-leb (start + n) (8 * size) h))
+    (λ (h : start + n ≤ 8 * size). le-leb (start / 8 + n / 8 + (start % 8 + n % 8 + 7) / 8) size (omega arith) ∙ sym (le-leb (start + n) (8 * size) h))
+    (lt-or-le (8 * size) (start + n))

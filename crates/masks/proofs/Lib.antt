@@ -1,0 +1,4 @@
+-- The laws of the crate, a file for each topic.
+pub mod CheckLaws
+pub mod SpanLaws
+pub mod SplitLaws

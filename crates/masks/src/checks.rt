@@ -1,0 +1,88 @@
+// The checks that the calls share, and how a call puts them together: a number is 0 where nothing failed.
+ghost use mathlib.Core.Path.{_≡_};
+ghost use mathlib.Core.Bool.{cond};
+ghost use mathlib.Core.List.{_++_};
+ghost use Prim.Native.Nat.{_+_, _*_};
+ghost use lib.Dec.{leb};
+ghost use lib.ListN.{length};
+ghost use Rattle.masks.specs.Checks.{earlier as Checks·earlier, rank as Checks·rank, firstFailed, limit, spanChecks, addressChecks, outputChecks};
+ghost use Rattle.masks.specs.Mask.{countFits, maskChecks};
+use crate::bitmap::Bitmap;
+use crate::bitmap::Unset;
+
+// Of two numbers the one that is put first.
+pub(crate) fn earlier(a: u8, b: u8) -> u8
+    ensures { λ r. ⌜ r ≡ Checks·earlier a b ⌝ }
+{
+    if a == 0 {
+        return b;
+    }
+    if b == 0 {
+        return a;
+    }
+    if rank(a) <= rank(b) { a } else { b }
+}
+
+// The place of a number in the order of the questions.
+fn rank(number: u8) -> u8
+    ensures { λ r. ⌜ r ≡ Checks·rank number ⌝ }
+{
+    number
+}
+
+pub(crate) fn failed(number: u8, holds: bool) -> u8
+    ensures { λ r. ⌜ r ≡ cond holds 0 number ⌝ }
+{
+    if holds { 0 } else { number }
+}
+
+pub(crate) fn within_limit(n: usize) -> bool
+    ensures { λ r. ⌜ r ≡ leb n limit ⌝ }
+{
+    n <= Bitmap::LIMIT
+}
+
+// Is start + length, taken exactly, at most the flags of so many bytes.
+fn in_bytes(start: usize, length: usize, size: usize) -> bool
+    ensures { λ r. ⌜ r ≡ leb (start + length) (8 * size) ⌝ }
+{
+    start / 8 + length / 8 + (start % 8 + length % 8 + 7) / 8 <= size
+}
+
+pub(crate) fn span_failure(start: usize, length: usize, size: usize) -> u8
+    ensures { λ r. ⌜ r ≡ firstFailed (spanChecks start length size) ⌝ }
+{
+    earlier(
+        failed(1, within_limit(start)),
+        earlier(
+            failed(1, within_limit(length)),
+            failed(2, in_bytes(start, length, size)),
+        ),
+    )
+}
+
+pub(crate) fn address_failure(address: usize) -> u8
+    ensures { λ r. ⌜ r ≡ firstFailed (addressChecks address) ⌝ }
+{
+    failed(8, address <= 7)
+}
+
+// Is a known zero count at most the length.
+fn count_fits(unset: Unset, length: usize) -> bool
+    ensures { λ r. ⌜ r ≡ countFits unset length ⌝ }
+{
+    match unset {
+        Unset::Known(zeros) => zeros <= length,
+        Unset::Unknown => true,
+    }
+}
+
+pub(crate) fn mask_failure(mask: Bitmap, bytes: &[u8]) -> u8
+    ensures { λ r. ⌜ r ≡ firstFailed (maskChecks mask (now (bytes .entry))) ⌝ }
+{
+    let unset = mask.unset;
+    earlier(
+        span_failure(mask.start, mask.length, bytes.len()),
+        failed(3, count_fits(unset, mask.length)),
+    )
+}
