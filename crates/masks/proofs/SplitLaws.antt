@@ -12,10 +12,12 @@ use Rattle.words.specs.Loops.{stretch}
 use mathlib.Core.Logic.{_⊎_, inl, inr, ⊎-elim}
 use borrow.Author.Tests.{leb-true, leb-false}
 use Rattle.words.proofs.Windows.{length-window, window-add, window-cut, window-all, bits-window, in-window}
-use Rattle.masks.specs.Aligned.{bytesToAligned, bulkOffset, short, prefixLength, bulkStart, bulkLength, suffixLength, alignedSplit, emptySplit, splitFlags, alignedOf, alignedChecks}
+use Rattle.masks.specs.Aligned.{bytesToAligned, bulkOffset, short, prefixLength, bulkStart, bulkLength, suffixLength, alignedSplit, emptySplit, splitFlags, alignedOf, alignedChecks, Bounded}
+use Rattle.masks.specs.declared.aligned.AlignedBitmapSlice.{AlignedBitmapSlice}
 use Rattle.masks.specs.Answer.{Answer, given, refused, decided, unlessEmpty}
-use Rattle.masks.specs.Checks.{firstFailed, limit}
-use Rattle.masks.proofs.CheckLaws.{by-test, when-le, when-gt, both-left, both-right, span-allowed, SpanAllowed}
+use Rattle.masks.specs.Checks.{firstFailed, limit, spanChecks, addressChecks}
+use Rattle.masks.specs.Utils.{spanCount}
+use Rattle.masks.proofs.CheckLaws.{by-test, when-le, when-gt, both-left, both-right, is-given, span-allowed, SpanAllowed}
 
 -- the first whole word is not before the span's first flag, and at most a word further
 pub record Offset (start offset : ℕ) : Type 0 where
@@ -92,3 +94,59 @@ split-flags bytes start n address =
     (word-flags (flagsOf bytes) start (prefixLength start n address) (h .word))
     (word-flags (flagsOf bytes) (start + n - suffixLength start n address) (suffixLength start n address) low)
     ∙ three-parts (flagsOf bytes) start n (prefixLength start n address) (bulkStart start n address) h
+
+-- ---- what a caller of `AlignedBitmapSlice::new` learns
+
+given-only : {S A : Type 0} (f : ℕ) (s : S) (a b : A) → given a ≡ decided f s b → (f ≡ 0) × (a ≡ b)
+unfolding decided
+given-only zero s a b e = (refl, cc)
+given-only (suc f) s a b e = absurd (let z : _≡_ {A = ℕ} 0 1 = cc in omega arith)
+
+-- a split that was given: within bounds, and its flags are the span's
+pub record SplitKnown (bytes : List ℕ) (start n : ℕ) (s : AlignedBitmapSlice) : Type 0 where
+  pub bounded : Bounded s
+  pub flags : splitFlags bytes s ≡ stretch bytes start n
+
+no-flags : (bytes : List ℕ) (start : ℕ) → splitFlags bytes emptySplit ≡ stretch bytes start 0
+unfolding splitFlags window
+no-flags bytes start = refl
+
+split-bounded : (bytes : List ℕ) (start n address : ℕ) → start ≤ limit → n ≤ limit → Bounded (alignedSplit bytes start n address)
+split-bounded bytes start n address hs hn =
+    let h : Placed start n (prefixLength start n address) (bulkStart start n address) = placed start n address in
+    let near : bulkStart start n address ≤ start / 8 + 8 = h .near in
+    record { prefixFits = h .word; suffixFits = omega arith; bulkStarts = omega arith; bulkFits = omega arith }
+
+pub split-known : (bytes : List ℕ) (start n address : ℕ) (s : AlignedBitmapSlice) → given s ≡ alignedOf bytes start n address → SplitKnown bytes start n s
+unfolding alignedOf unlessEmpty alignedChecks
+split-known bytes start zero address s e =
+    let q : s ≡ emptySplit = cc in
+    record { bounded = subst Bounded (sym q) none; flags = ap (splitFlags bytes) q ∙ no-flags bytes start }
+  where
+    none : Bounded emptySplit
+    none = record { prefixFits = omega arith; suffixFits = omega arith; bulkStarts = omega arith; bulkFits = omega arith }
+split-known bytes start (suc n) address s e =
+    let g = given-only (firstFailed (spanChecks start (suc n) (length bytes) ++ addressChecks address)) tt s (alignedSplit bytes start (suc n) address) e in
+    let a = span-allowed start (suc n) (length bytes) (both-left (spanChecks start (suc n) (length bytes)) (addressChecks address) (g .0)) in
+    record {
+      bounded = subst Bounded (sym (g .1)) (split-bounded bytes start (suc n) address (a .starts) (a .short));
+      flags = ap (splitFlags bytes) (g .1) ∙ split-flags bytes start (suc n) address;
+    }
+
+-- a count of the split's flags, and a refusal handed on
+pub counted : (bytes : List ℕ) (start n address v : ℕ) (s : AlignedBitmapSlice) → given s ≡ alignedOf bytes start n address → (n ≡ 0 → v ≡ 0) → given v ≡ spanCount bytes start n address v
+unfolding alignedOf spanCount unlessEmpty
+counted bytes start zero address v s e h = ap given (h refl)
+counted bytes start (suc n) address v s e h =
+    let g = given-only (firstFailed (alignedChecks start (suc n) (length bytes) address)) tt s (alignedSplit bytes start (suc n) address) e in
+    is-given 0 (firstFailed (alignedChecks start (suc n) (length bytes) address)) tt v (sym (g .0)) refl
+
+refused-only : {S A B : Type 0} (f k : ℕ) (s : S) (a : A) (b : B) → refused k s ≡ decided f s a → refused k s ≡ decided f s b
+unfolding decided
+refused-only zero k s a b e = absurd (let z : _≡_ {A = ℕ} 0 1 = cc in omega arith)
+refused-only (suc f) k s a b e = let q : k ≡ suc f = cc in ap (λ (m : ℕ). refused m s) q
+
+pub count-refused : (bytes : List ℕ) (start n address v k : ℕ) → refused k tt ≡ alignedOf bytes start n address → refused k tt ≡ spanCount bytes start n address v
+unfolding alignedOf spanCount unlessEmpty
+count-refused bytes start zero address v k e = absurd (let z : _≡_ {A = ℕ} 0 1 = cc in omega arith)
+count-refused bytes start (suc n) address v k e = refused-only (firstFailed (alignedChecks start (suc n) (length bytes) address)) k tt (alignedSplit bytes start (suc n) address) v e

@@ -5,4 +5,4 @@ pub mod Builder
 pub mod Checks
 pub mod Frozen
 pub mod Mask
-pub mod Spans
+pub mod Utils

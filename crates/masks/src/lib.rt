@@ -7,3 +7,4 @@ pub mod bitmap;
 pub mod builder;
 mod checks;
 mod span;
+pub mod utils;

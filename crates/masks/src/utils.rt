@@ -1,0 +1,162 @@
+// Counts over bare spans. Each works from the three parts of the aligned split, and its answer does not depend on the address.
+ghost use mathlib.Core.Path.{_≡_};
+ghost use mathlib.Core.Bool.{true, false};
+ghost use Prim.Native.Nat.{_+_, _-_, _*_, _≤_, _<_};
+ghost use Rattle.words.specs.Ends.{leading, trailing};
+ghost use Rattle.words.specs.Flags.{count};
+ghost use Rattle.words.specs.Loops.{stretch};
+ghost use Rattle.masks.specs.Aligned.{Bounded, splitFlags};
+ghost use Rattle.masks.specs.Utils.{zeros, countedAnswer, spanCount};
+use crate::aligned::Aligned;
+use crate::aligned::AlignedBitmapSlice;
+use words::counts::count_ones;
+use words::ends::leading_in_word;
+use words::ends::trailing_in_word;
+use words::word::low_flags;
+use words::word::ones_in_word;
+use words::word::word_from;
+
+pub enum Counted {
+    Count(usize),
+    Refused(u8),
+}
+
+// The ones of a split's three parts.
+fn ones_of(bytes: &[u8], s: AlignedBitmapSlice) -> usize
+    requires { ⌜ Bounded s ⌝ }
+    ensures { λ r. ⌜ r ≡ count (splitFlags (now (bytes .entry)) s) ⌝ }
+{
+    let first = ones_in_word(low_flags(s.prefix, s.prefix_len));
+    let middle = count_ones(bytes, 8 * s.bulk_start, 64 * s.bulk_len);
+    let last = ones_in_word(low_flags(s.suffix, s.suffix_len));
+    first + middle + last
+}
+
+// How many flags at the front of n words from the byte `at` on equal `flag`.
+fn leading_words(flag: bool, bytes: &[u8], at: usize, n: usize) -> usize
+    requires { ⌜ (at ≤ 4194304) × (n ≤ 65536) ⌝ }
+    ensures { λ r. ⌜ r ≡ leading flag (stretch (now (bytes .entry)) (8 * at) (64 * n)) ⌝ }
+{
+    let mut i = 0;
+    while i < n {
+        let alike = leading_in_word(flag, word_from(bytes, 8 * at + 64 * i), 64);
+        if alike < 64 {
+            return 64 * i + alike;
+        }
+        i += 1;
+    }
+    64 * n
+}
+
+// The same at the end.
+fn trailing_words(flag: bool, bytes: &[u8], at: usize, n: usize) -> usize
+    requires { ⌜ (at ≤ 4194304) × (n ≤ 65536) ⌝ }
+    ensures { λ r. ⌜ r ≡ trailing flag (stretch (now (bytes .entry)) (8 * at) (64 * n)) ⌝ }
+{
+    let mut i = 0;
+    while i < n {
+        let k = n - 1 - i;
+        let alike = trailing_in_word(flag, word_from(bytes, 8 * at + 64 * k), 64);
+        if alike < 64 {
+            return 64 * i + alike;
+        }
+        i += 1;
+    }
+    64 * n
+}
+
+// How many flags at the front of a split equal `flag`.
+fn leading_of(flag: bool, bytes: &[u8], s: AlignedBitmapSlice) -> usize
+    requires { ⌜ Bounded s ⌝ }
+    ensures { λ r. ⌜ r ≡ leading flag (splitFlags (now (bytes .entry)) s) ⌝ }
+{
+    let first = leading_in_word(flag, s.prefix, s.prefix_len);
+    if first < s.prefix_len {
+        return first;
+    }
+    let bulk = 64 * s.bulk_len;
+    let middle = leading_words(flag, bytes, s.bulk_start, s.bulk_len);
+    if middle < bulk {
+        return s.prefix_len + middle;
+    }
+    s.prefix_len + bulk + leading_in_word(flag, s.suffix, s.suffix_len)
+}
+
+// How many at its end.
+fn trailing_of(flag: bool, bytes: &[u8], s: AlignedBitmapSlice) -> usize
+    requires { ⌜ Bounded s ⌝ }
+    ensures { λ r. ⌜ r ≡ trailing flag (splitFlags (now (bytes .entry)) s) ⌝ }
+{
+    let last = trailing_in_word(flag, s.suffix, s.suffix_len);
+    if last < s.suffix_len {
+        return last;
+    }
+    let bulk = 64 * s.bulk_len;
+    let middle = trailing_words(flag, bytes, s.bulk_start, s.bulk_len);
+    if middle < bulk {
+        return s.suffix_len + middle;
+    }
+    s.suffix_len + bulk + trailing_in_word(flag, s.prefix, s.prefix_len)
+}
+
+// How many flags of a span are zero.
+pub fn count_zeros(bytes: &[u8], start: usize, length: usize, address: usize) -> Counted
+    ensures { λ r. ⌜ countedAnswer r ≡ spanCount (now (bytes .entry)) start length address (zeros (stretch (now (bytes .entry)) start length)) ⌝ }
+{
+    let split = AlignedBitmapSlice::new(bytes, start, length, address);
+    match split {
+        Aligned::Refused(number) => Counted::Refused(number),
+        Aligned::Split(s) => {
+            let ones = ones_of(bytes, s);
+            Counted::Count(length - ones)
+        }
+    }
+}
+
+fn leading_flags(flag: bool, bytes: &[u8], start: usize, length: usize, address: usize) -> Counted
+    ensures { λ r. ⌜ countedAnswer r ≡ spanCount (now (bytes .entry)) start length address (leading flag (stretch (now (bytes .entry)) start length)) ⌝ }
+{
+    let split = AlignedBitmapSlice::new(bytes, start, length, address);
+    match split {
+        Aligned::Refused(number) => Counted::Refused(number),
+        Aligned::Split(s) => Counted::Count(leading_of(flag, bytes, s)),
+    }
+}
+
+fn trailing_flags(flag: bool, bytes: &[u8], start: usize, length: usize, address: usize) -> Counted
+    ensures { λ r. ⌜ countedAnswer r ≡ spanCount (now (bytes .entry)) start length address (trailing flag (stretch (now (bytes .entry)) start length)) ⌝ }
+{
+    let split = AlignedBitmapSlice::new(bytes, start, length, address);
+    match split {
+        Aligned::Refused(number) => Counted::Refused(number),
+        Aligned::Split(s) => Counted::Count(trailing_of(flag, bytes, s)),
+    }
+}
+
+// How many zeros stand at the front of a span.
+pub fn leading_zeros(bytes: &[u8], start: usize, length: usize, address: usize) -> Counted
+    ensures { λ r. ⌜ countedAnswer r ≡ spanCount (now (bytes .entry)) start length address (leading false (stretch (now (bytes .entry)) start length)) ⌝ }
+{
+    leading_flags(false, bytes, start, length, address)
+}
+
+// How many ones stand at the front of a span.
+pub fn leading_ones(bytes: &[u8], start: usize, length: usize, address: usize) -> Counted
+    ensures { λ r. ⌜ countedAnswer r ≡ spanCount (now (bytes .entry)) start length address (leading true (stretch (now (bytes .entry)) start length)) ⌝ }
+{
+    leading_flags(true, bytes, start, length, address)
+}
+
+// How many zeros stand at the end of a span.
+pub fn trailing_zeros(bytes: &[u8], start: usize, length: usize, address: usize) -> Counted
+    ensures { λ r. ⌜ countedAnswer r ≡ spanCount (now (bytes .entry)) start length address (trailing false (stretch (now (bytes .entry)) start length)) ⌝ }
+{
+    trailing_flags(false, bytes, start, length, address)
+}
+
+// How many ones stand at the end of a span.
+pub fn trailing_ones(bytes: &[u8], start: usize, length: usize, address: usize) -> Counted
+    ensures { λ r. ⌜ countedAnswer r ≡ spanCount (now (bytes .entry)) start length address (trailing true (stretch (now (bytes .entry)) start length)) ⌝ }
+{
+    trailing_flags(true, bytes, start, length, address)
+}
