@@ -1,0 +1,60 @@
+-- The loop counts up to 12, and what is written keeps its length.
+use Prim.Native.Nat.{_≤_, _-_}
+use mathlib.Core.Path.{_≡_}
+use lib.ListN.{length}
+use borrow.Author.Needs.{needs}
+use Rattle.words_cases.proofs.comparing.mixed_lines.Statement.{statement}
+use Rattle.words_cases.proofs.comparing.mixed_lines.Tie as tie
+
+abbrev Inv-loop : tie.InvT-loop
+Inv-loop a b₀ i₀ b i = (i ≤ 12) × (length b ≡ length b₀)
+
+abbrev μ-loop : tie.MeasureT-loop
+μ-loop a b₀ i₀ b i = 12 - i
+
+paint-requires : tie.Need-paint-requires Inv-loop μ-loop
+paint-requires c κs = search needs
+
+loop-holds : tie.Need-loop-holds Inv-loop μ-loop
+loop-holds c = search needs
+
+flag-requires : tie.Need-flag-requires Inv-loop μ-loop
+flag-requires c κs = search needs
+
+mixed-line-requires : tie.Need-mixed-line-requires Inv-loop μ-loop
+mixed-line-requires c κs = search needs
+
+add-i : tie.Need-add-i Inv-loop μ-loop
+add-i c = search needs
+
+loop-less : tie.Need-loop-less Inv-loop μ-loop
+loop-less c = search needs
+
+loop-again : tie.Need-loop-again Inv-loop μ-loop
+loop-again c = search needs
+
+same-length : tie.Need-same-length Inv-loop μ-loop
+same-length c = search needs
+
+same-length-2 : tie.Need-same-length-2 Inv-loop μ-loop
+same-length-2 c = search needs
+
+returns : tie.Need-returns Inv-loop μ-loop
+returns c = search needs
+
+pub mixed-lines-spec : {M : Type 1} → statement M
+mixed-lines-spec =
+    tie.close
+    (tie.spec
+    Inv-loop
+    μ-loop
+    paint-requires
+    loop-holds
+    flag-requires
+    mixed-line-requires
+    add-i
+    loop-less
+    loop-again
+    same-length
+    same-length-2
+    returns)

@@ -1,0 +1,50 @@
+-- The loop counts up to 6.
+use Prim.Native.Nat.{_≤_, _-_}
+use borrow.Author.Needs.{needs}
+use Rattle.words_cases.proofs.comparing.same_starts.Statement.{statement}
+use Rattle.words_cases.proofs.comparing.same_starts.Tie as tie
+
+abbrev Inv-loop : tie.InvT-loop
+Inv-loop a b i₀ i = i ≤ 6
+
+abbrev μ-loop : tie.MeasureT-loop
+μ-loop a b i₀ i = 6 - i
+
+loop-holds : tie.Need-loop-holds Inv-loop μ-loop
+loop-holds c = search needs
+
+start-requires : tie.Need-start-requires Inv-loop μ-loop
+start-requires c κs = search needs
+
+start-requires-2 : tie.Need-start-requires-2 Inv-loop μ-loop
+start-requires-2 c κs = search needs
+
+equal-lens-requires : tie.Need-equal-lens-requires Inv-loop μ-loop
+equal-lens-requires c κs = search needs
+
+add-i : tie.Need-add-i Inv-loop μ-loop
+add-i c = search needs
+
+loop-less : tie.Need-loop-less Inv-loop μ-loop
+loop-less c = search needs
+
+loop-again : tie.Need-loop-again Inv-loop μ-loop
+loop-again c = search needs
+
+returns : tie.Need-returns Inv-loop μ-loop
+returns c = search needs
+
+pub same-starts-spec : {M : Type 1} → statement M
+same-starts-spec =
+    tie.close
+    (tie.spec
+    Inv-loop
+    μ-loop
+    loop-holds
+    start-requires
+    start-requires-2
+    equal-lens-requires
+    add-i
+    loop-less
+    loop-again
+    returns)

@@ -1,0 +1,64 @@
+-- The loop counts up to 168, and what is written keeps its length.
+use Prim.Native.Nat.{_≤_, _-_}
+use mathlib.Core.Path.{_≡_}
+use lib.ListN.{length}
+use borrow.Author.Needs.{needs}
+use Rattle.words_cases.proofs.counting.any_lines.Statement.{statement}
+use Rattle.words_cases.proofs.counting.any_lines.Tie as tie
+
+abbrev Inv-loop : tie.InvT-loop
+Inv-loop a₀ b₀ c i₀ a b i = (i ≤ 168) × ((length a ≡ length a₀) × (length b ≡ length b₀))
+
+abbrev μ-loop : tie.MeasureT-loop
+μ-loop a₀ b₀ c i₀ a b i = 168 - i
+
+paint-requires : tie.Need-paint-requires Inv-loop μ-loop
+paint-requires c κs = search needs
+
+loop-holds : tie.Need-loop-holds Inv-loop μ-loop
+loop-holds c = search needs
+
+flag-requires : tie.Need-flag-requires Inv-loop μ-loop
+flag-requires c κs = search needs
+
+any-line-requires : tie.Need-any-line-requires Inv-loop μ-loop
+any-line-requires c κs = search needs
+
+add-i : tie.Need-add-i Inv-loop μ-loop
+add-i c = search needs
+
+loop-less : tie.Need-loop-less Inv-loop μ-loop
+loop-less c = search needs
+
+loop-again : tie.Need-loop-again Inv-loop μ-loop
+loop-again c = search needs
+
+same-length : tie.Need-same-length Inv-loop μ-loop
+same-length c = search needs
+
+same-length-2 : tie.Need-same-length-2 Inv-loop μ-loop
+same-length-2 c = search needs
+
+same-length-3 : tie.Need-same-length-3 Inv-loop μ-loop
+same-length-3 c = search needs
+
+returns : tie.Need-returns Inv-loop μ-loop
+returns c = search needs
+
+pub any-lines-spec : {M : Type 1} → statement M
+any-lines-spec =
+    tie.close
+    (tie.spec
+    Inv-loop
+    μ-loop
+    paint-requires
+    loop-holds
+    flag-requires
+    any-line-requires
+    add-i
+    loop-less
+    loop-again
+    same-length
+    same-length-2
+    same-length-3
+    returns)

@@ -1,0 +1,50 @@
+-- The loop counts up to 56.
+use Prim.Native.Nat.{_≤_, _-_}
+use borrow.Author.Needs.{needs}
+use Rattle.words_cases.proofs.counting.far_count_lines.Statement.{statement}
+use Rattle.words_cases.proofs.counting.far_count_lines.Tie as tie
+
+abbrev Inv-loop : tie.InvT-loop
+Inv-loop bytes i₀ i = i ≤ 56
+
+abbrev μ-loop : tie.MeasureT-loop
+μ-loop bytes i₀ i = 56 - i
+
+loop-holds : tie.Need-loop-holds Inv-loop μ-loop
+loop-holds c = search needs
+
+size-requires : tie.Need-size-requires Inv-loop μ-loop
+size-requires c κs = search needs
+
+far-start-requires : tie.Need-far-start-requires Inv-loop μ-loop
+far-start-requires c κs = search needs
+
+count-line-requires : tie.Need-count-line-requires Inv-loop μ-loop
+count-line-requires c κs = search needs
+
+add-i : tie.Need-add-i Inv-loop μ-loop
+add-i c = search needs
+
+loop-less : tie.Need-loop-less Inv-loop μ-loop
+loop-less c = search needs
+
+loop-again : tie.Need-loop-again Inv-loop μ-loop
+loop-again c = search needs
+
+returns : tie.Need-returns Inv-loop μ-loop
+returns c = search needs
+
+pub far-count-lines-spec : {M : Type 1} → statement M
+far-count-lines-spec =
+    tie.close
+    (tie.spec
+    Inv-loop
+    μ-loop
+    loop-holds
+    size-requires
+    far-start-requires
+    count-line-requires
+    add-i
+    loop-less
+    loop-again
+    returns)

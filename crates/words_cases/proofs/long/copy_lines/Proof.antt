@@ -1,0 +1,56 @@
+-- The loop counts up to 6, and what is written keeps its length.
+use Prim.Native.Nat.{_≤_, _-_}
+use mathlib.Core.Path.{_≡_}
+use lib.ListN.{length}
+use borrow.Author.Needs.{needs}
+use Rattle.words_cases.proofs.long.copy_lines.Statement.{statement}
+use Rattle.words_cases.proofs.long.copy_lines.Tie as tie
+
+abbrev Inv-loop : tie.InvT-loop
+Inv-loop a out₀ i₀ out i = (i ≤ 6) × (length out ≡ length out₀)
+
+abbrev μ-loop : tie.MeasureT-loop
+μ-loop a out₀ i₀ out i = 6 - i
+
+loop-holds : tie.Need-loop-holds Inv-loop μ-loop
+loop-holds c = search needs
+
+start-requires : tie.Need-start-requires Inv-loop μ-loop
+start-requires c κs = search needs
+
+len-requires : tie.Need-len-requires Inv-loop μ-loop
+len-requires c κs = search needs
+
+copy-line-requires : tie.Need-copy-line-requires Inv-loop μ-loop
+copy-line-requires c κs = search needs
+
+add-i : tie.Need-add-i Inv-loop μ-loop
+add-i c = search needs
+
+loop-less : tie.Need-loop-less Inv-loop μ-loop
+loop-less c = search needs
+
+loop-again : tie.Need-loop-again Inv-loop μ-loop
+loop-again c = search needs
+
+same-length : tie.Need-same-length Inv-loop μ-loop
+same-length c = search needs
+
+returns : tie.Need-returns Inv-loop μ-loop
+returns c = search needs
+
+pub copy-lines-spec : {M : Type 1} → statement M
+copy-lines-spec =
+    tie.close
+    (tie.spec
+    Inv-loop
+    μ-loop
+    loop-holds
+    start-requires
+    len-requires
+    copy-line-requires
+    add-i
+    loop-less
+    loop-again
+    same-length
+    returns)

@@ -1,0 +1,56 @@
+-- The loop counts up to 30, and what is written keeps its length.
+use Prim.Native.Nat.{_≤_, _-_}
+use mathlib.Core.Path.{_≡_}
+use lib.ListN.{length}
+use borrow.Author.Needs.{needs}
+use Rattle.words_cases.proofs.writing.far_len_copy_lines.Statement.{statement}
+use Rattle.words_cases.proofs.writing.far_len_copy_lines.Tie as tie
+
+abbrev Inv-loop : tie.InvT-loop
+Inv-loop bytes out₀ i₀ out i = (i ≤ 30) × (length out ≡ length out₀)
+
+abbrev μ-loop : tie.MeasureT-loop
+μ-loop bytes out₀ i₀ out i = 30 - i
+
+loop-holds : tie.Need-loop-holds Inv-loop μ-loop
+loop-holds c = search needs
+
+start-requires : tie.Need-start-requires Inv-loop μ-loop
+start-requires c κs = search needs
+
+far-len-requires : tie.Need-far-len-requires Inv-loop μ-loop
+far-len-requires c κs = search needs
+
+far-copy-line-requires : tie.Need-far-copy-line-requires Inv-loop μ-loop
+far-copy-line-requires c κs = search needs
+
+add-i : tie.Need-add-i Inv-loop μ-loop
+add-i c = search needs
+
+loop-less : tie.Need-loop-less Inv-loop μ-loop
+loop-less c = search needs
+
+loop-again : tie.Need-loop-again Inv-loop μ-loop
+loop-again c = search needs
+
+same-length : tie.Need-same-length Inv-loop μ-loop
+same-length c = search needs
+
+returns : tie.Need-returns Inv-loop μ-loop
+returns c = search needs
+
+pub far-len-copy-lines-spec : {M : Type 1} → statement M
+far-len-copy-lines-spec =
+    tie.close
+    (tie.spec
+    Inv-loop
+    μ-loop
+    loop-holds
+    start-requires
+    far-len-requires
+    far-copy-line-requires
+    add-i
+    loop-less
+    loop-again
+    same-length
+    returns)
