@@ -1,15 +1,15 @@
 -- The checks of a call, put together from pieces, and what is known where all have passed. Assumes nothing.
 use mathlib.Core.Path.{_≡_, refl, sym, ap, ap₂, _∙_, subst}
-use mathlib.Core.Bool.{Bool, true, false, cond}
+use mathlib.Core.Bool.{Bool, true, false, cond, _&&_}
 use mathlib.Core.List.{List, [], _∷_, _++_}
-use Prim.Native.Nat.{ℕ, zero, suc, _+_, _*_, _/_, _%_, _≤_, _<_}
+use Prim.Native.Nat.{ℕ, zero, suc, _+_, _-_, _*_, _/_, _%_, _≤_, _<_}
 use native.Mathlib.Omega.{arith}
-use lib.Dec.{leb}
-use borrow.Author.Tests.{le-leb, lt-leb, leb-true, leb-false}
+use lib.Dec.{leb, eqb}
+use borrow.Author.Tests.{le-leb, lt-leb, leb-true, leb-false, eq-eqb, ne-eqb}
 use Rattle.words.proofs.Windows.{lt-or-le}
 use Rattle.masks.specs.Answer.{Answer, given, refused, decided, kept, unlessEmpty}
 use Rattle.masks.specs.Checks.{Check, check, rank, earlier, failure, firstFailed, limit, withinLimit, spanChecks, addressChecks}
-use mathlib.Core.Logic.{⊎-elim}
+use mathlib.Core.Logic.{_⊎_, inl, inr, ⊎-elim}
 
 -- ---- a choice by a test, where the test is known
 
@@ -18,6 +18,12 @@ when-le a b x y h = ap (λ (t : Bool). cond t x y) (sym (le-leb a b h))
 
 pub when-gt : {A : Type 0} (a b : ℕ) (x y : A) → b < a → y ≡ cond (leb a b) x y
 when-gt a b x y h = ap (λ (t : Bool). cond t x y) (sym (lt-leb a b h))
+
+pub when-eq : {A : Type 0} (a b : ℕ) (x y : A) → a ≡ b → x ≡ cond (eqb a b) x y
+when-eq a b x y h = ap (λ (t : Bool). cond t x y) (sym (eq-eqb a b h))
+
+pub when-ne : {A : Type 0} (a b : ℕ) (x y : A) → (a ≡ b → ⊥) → y ≡ cond (eqb a b) x y
+when-ne a b x y h = ap (λ (t : Bool). cond t x y) (sym (ne-eqb a b h))
 
 -- what holds of either choice
 pub by-test : {A : Type 0} (P : A → Type 0) (a b : ℕ) (x y : A) → (a ≤ b → P x) → (b < a → P y) → P (cond (leb a b) x y)
@@ -84,6 +90,11 @@ two-pieces a b r A B e p q = e ∙ ap₂ earlier p q ∙ sym (failed-append A B)
 pub one-check : (r n : ℕ) (t u : Bool) → r ≡ cond t 0 n → t ≡ u → r ≡ firstFailed (check n u ∷ [])
 unfolding firstFailed
 one-check r n t u e h = e ∙ ap (λ (x : Bool). cond x 0 n) h ∙ sym (earlier-none (cond u 0 n))
+
+-- a check before others
+pub check-before : (r n a b : ℕ) (t u : Bool) (cs : List Check) → r ≡ earlier a b → a ≡ cond t 0 n → t ≡ u → b ≡ firstFailed cs → r ≡ firstFailed (check n u ∷ cs)
+unfolding firstFailed
+check-before r n a b t u cs e p h q = e ∙ ap₂ earlier (p ∙ ap (λ (x : Bool). cond x 0 n) h) q
 
 -- ---- where all have passed
 
@@ -165,3 +176,86 @@ exact-sum start n size = ⊎-elim
     (λ (h : 8 * size < start + n). lt-leb (start / 8 + n / 8 + (start % 8 + n % 8 + 7) / 8) size (omega arith) ∙ sym (lt-leb (start + n) (8 * size) h))
     (λ (h : start + n ≤ 8 * size). le-leb (start / 8 + n / 8 + (start % 8 + n % 8 + 7) / 8) size (omega arith) ∙ sym (le-leb (start + n) (8 * size) h))
     (lt-or-le (8 * size) (start + n))
+
+pub sum-test : (a b c : ℕ) → a ≤ c → leb b (c - a) ≡ leb (a + b) c
+sum-test a b c h = ⊎-elim
+    (λ (k : c < a + b). lt-leb b (c - a) (omega arith) ∙ sym (lt-leb (a + b) c k))
+    (λ (k : a + b ≤ c). le-leb b (c - a) (omega arith) ∙ sym (le-leb (a + b) c k))
+    (lt-or-le c (a + b))
+
+pub sum-over : (a b c : ℕ) → c < a → false ≡ leb (a + b) c
+sum-over a b c h = sym (lt-leb (a + b) c (omega arith))
+
+-- a check at the front of those that have passed
+pub first-allowed : (n : ℕ) (t : Bool) (cs : List Check) → firstFailed (check (suc n) t ∷ cs) ≡ 0 → t ≡ true
+unfolding firstFailed
+first-allowed n t cs e = passed-one n t (passed-left (cond t 0 (suc n)) (firstFailed cs) e)
+
+pub rest-allowed : (c : Check) (cs : List Check) → firstFailed (c ∷ cs) ≡ 0 → firstFailed cs ≡ 0
+unfolding firstFailed
+rest-allowed c cs e = passed-right (failure c) (firstFailed cs) e
+
+-- checks that have passed before others
+pub passed-before : (A B : List Check) (r n : ℕ) → n ≡ firstFailed A → n ≡ 0 → r ≡ firstFailed B → r ≡ firstFailed (A ++ B)
+passed-before A B r n p z q = q ∙ sym (none-earlier (firstFailed B)) ∙ ap (λ (x : ℕ). earlier x (firstFailed B)) (sym z ∙ p) ∙ sym (failed-append A B)
+
+-- a refusal by a check that is made after the others
+pub last-refused : {S A : Type 0} (cs : List Check) (n k : ℕ) (t : Bool) (s : S) (a : A) → n ≡ firstFailed cs → n ≡ 0 → t ≡ false → refused (suc k) s ≡ decided (firstFailed (cs ++ (check (suc k) t ∷ []))) s a
+unfolding decided firstFailed
+last-refused cs n k t s a p z e = ap (λ (m : ℕ). decided m s a) (ap (λ (x : Bool). cond x 0 (suc k)) (sym e) ∙ passed-before cs (check (suc k) t ∷ []) (cond t 0 (suc k)) n p z (sym (earlier-none (cond t 0 (suc k)))))
+
+pub last-given : {S A : Type 0} (cs : List Check) (n k : ℕ) (t : Bool) (s : S) (a : A) → n ≡ firstFailed cs → n ≡ 0 → t ≡ true → given a ≡ decided (firstFailed (cs ++ (check (suc k) t ∷ []))) s a
+unfolding decided firstFailed
+last-given cs n k t s a p z e = ap (λ (m : ℕ). decided m s a) (ap (λ (x : Bool). cond x 0 (suc k)) (sym e) ∙ passed-before cs (check (suc k) t ∷ []) (cond t 0 (suc k)) n p z (sym (earlier-none (cond t 0 (suc k)))))
+
+-- ---- a check that is made only where the others have passed: all of them are put before it
+
+-- are all numbers of a list put before k
+abbrev pub before : ℕ → List Check → Bool
+before k [] = true
+before k (c ∷ cs) = leb (rank (c .number)) (rank k) && before k cs
+
+and-left : (x y : Bool) → (x && y) ≡ true → x ≡ true
+and-left true y e = refl
+and-left false y e = e
+
+and-right : (x y : Bool) → (x && y) ≡ true → y ≡ true
+and-right true y e = e
+and-right false y e = absurd (let z : _≡_ {A = ℕ} 0 1 = cc e in omega arith)
+
+earlier-ranked : (a b k : ℕ) → (a ≡ 0 → ⊥) ⊎ (a ≡ 0) → (b ≡ 0 → ⊥) ⊎ (b ≡ 0) → ((a ≡ 0 → ⊥) → rank a ≤ k) → ((b ≡ 0 → ⊥) → rank b ≤ k) → (earlier a b ≡ 0 → ⊥) → rank (earlier a b) ≤ k
+unfolding earlier
+earlier-ranked zero b k p q h i n = i n
+earlier-ranked (suc a) zero k p q h i n = h n
+earlier-ranked (suc a) (suc b) k p q h i n =
+    by-test (λ (x : ℕ). rank x ≤ k) (rank (suc a)) (rank (suc b)) (suc a) (suc b) (λ _. h (λ e. omega arith)) (λ _. i (λ e. omega arith))
+
+failure-ranked : (c : Check) (k : ℕ) → rank (c .number) ≤ k → (failure c ≡ 0 → ⊥) → rank (failure c) ≤ k
+failure-ranked c k h n = go (c .holds) n
+  where
+    go : (t : Bool) → (cond t 0 (c .number) ≡ 0 → ⊥) → rank (cond t 0 (c .number)) ≤ k
+    go true m = absurd (m refl)
+    go false m = h
+
+zero-or : (n : ℕ) → (n ≡ 0 → ⊥) ⊎ (n ≡ 0)
+zero-or zero = inr refl
+zero-or (suc n) = inl (λ e. omega arith)
+
+pub failed-ranked : (cs : List Check) (k : ℕ) → before k cs ≡ true → (firstFailed cs ≡ 0 → ⊥) → rank (firstFailed cs) ≤ rank k
+unfolding firstFailed
+failed-ranked [] k e n = absurd (n refl)
+failed-ranked (c ∷ cs) k e n =
+    earlier-ranked (failure c) (firstFailed cs) (rank k) (zero-or (failure c)) (zero-or (firstFailed cs))
+    (failure-ranked c (rank k) (leb-true (rank (c .number)) (rank k) (and-left (leb (rank (c .number)) (rank k)) (before k cs) e)))
+    (failed-ranked cs k (and-right (leb (rank (c .number)) (rank k)) (before k cs) e)) n
+
+-- a refusal by the checks that are put first
+pub first-refused : {S A : Type 0} (cs : List Check) (n k : ℕ) (t : Bool) (s : S) (a : A) → before (suc k) cs ≡ true → n ≡ firstFailed cs → (n ≡ 0 → ⊥) → refused n s ≡ decided (firstFailed (cs ++ (check (suc k) t ∷ []))) s a
+first-refused cs n k t s a b p z = is-refused n (firstFailed (cs ++ (check (suc k) t ∷ []))) s a (p ∙ sym (failed-append cs (check (suc k) t ∷ []) ∙ ap (earlier (firstFailed cs)) (single t) ∙ keeps t)) z
+  where
+    single : (t : Bool) → firstFailed (check (suc k) t ∷ []) ≡ cond t 0 (suc k)
+    single t = sym (one-check (cond t 0 (suc k)) (suc k) t t refl refl)
+
+    keeps : (t : Bool) → earlier (firstFailed cs) (cond t 0 (suc k)) ≡ firstFailed cs
+    keeps true = earlier-none (firstFailed cs)
+    keeps false = first-least (firstFailed cs) (suc k) (λ e. z (p ∙ e)) (λ e. omega arith) (failed-ranked cs (suc k) b (λ e. z (p ∙ e)))

@@ -152,6 +152,10 @@ zeros-rest l n c e p = omega (arith, count-not l)
 pub ones-most : (l : List Bool) (n c : ℕ) → length l ≡ n → c ≡ count l → c ≤ n
 ones-most l n c e p = omega (arith, count-le l)
 
+pub zeros-most : (l : List Bool) (n c : ℕ) → length l ≡ n → c ≡ zeros l → c ≤ n
+unfolding zeros
+zeros-most l n c e p = omega (arith, count-not l)
+
 pub zeros-none : (bytes : List ℕ) (start n : ℕ) → n ≡ 0 → zeros (window (flagsOf bytes) start n) ≡ 0
 unfolding zeros
 zeros-none bytes start n e = omega (arith, count-not (window (flagsOf bytes) start n), length-window (flagsOf bytes) start n)

@@ -7,7 +7,7 @@ use native.Mathlib.Omega.{arith}
 use lib.Dec.{leb}
 use lib.ListN.{length, take, drop}
 use lib.Seq.{take-all}
-use Rattle.words.specs.Flags.{bits, flagsOf, window, wordOf}
+use Rattle.words.specs.Flags.{bits, count, flagsOf, window, wordOf}
 use Rattle.words.specs.Loops.{stretch}
 use mathlib.Core.Logic.{_⊎_, inl, inr, ⊎-elim}
 use borrow.Author.Tests.{leb-true, leb-false}
@@ -111,7 +111,7 @@ no-flags : (bytes : List ℕ) (start : ℕ) → splitFlags bytes emptySplit ≡ 
 unfolding splitFlags window
 no-flags bytes start = refl
 
-split-bounded : (bytes : List ℕ) (start n address : ℕ) → start ≤ limit → n ≤ limit → Bounded (alignedSplit bytes start n address)
+pub split-bounded : (bytes : List ℕ) (start n address : ℕ) → start ≤ 8388608 → n ≤ limit → Bounded (alignedSplit bytes start n address)
 split-bounded bytes start n address hs hn =
     let h : Placed start n (prefixLength start n address) (bulkStart start n address) = placed start n address in
     let near : bulkStart start n address ≤ start / 8 + 8 = h .near in
@@ -129,7 +129,7 @@ split-known bytes start (suc n) address s e =
     let g = given-only (firstFailed (spanChecks start (suc n) (length bytes) ++ addressChecks address)) tt s (alignedSplit bytes start (suc n) address) e in
     let a = span-allowed start (suc n) (length bytes) (both-left (spanChecks start (suc n) (length bytes)) (addressChecks address) (g .0)) in
     record {
-      bounded = subst Bounded (sym (g .1)) (split-bounded bytes start (suc n) address (a .starts) (a .short));
+      bounded = subst Bounded (sym (g .1)) (split-bounded bytes start (suc n) address (omega (arith, a .starts)) (a .short));
       flags = ap (splitFlags bytes) (g .1) ∙ split-flags bytes start (suc n) address;
     }
 
@@ -150,3 +150,7 @@ pub count-refused : (bytes : List ℕ) (start n address v k : ℕ) → refused k
 unfolding alignedOf spanCount unlessEmpty
 count-refused bytes start zero address v k e = absurd (let z : _≡_ {A = ℕ} 0 1 = cc in omega arith)
 count-refused bytes start (suc n) address v k e = refused-only (firstFailed (alignedChecks start (suc n) (length bytes) address)) k tt (alignedSplit bytes start (suc n) address) v e
+
+-- the ones of a split are the span's
+pub split-count : (bytes : List ℕ) (start n address c : ℕ) (s : AlignedBitmapSlice) → s ≡ alignedSplit bytes start n address → c ≡ count (splitFlags bytes s) → c ≡ count (stretch bytes start n)
+split-count bytes start n address c s e p = p ∙ ap (λ (t : AlignedBitmapSlice). count (splitFlags bytes t)) e ∙ ap count (split-flags bytes start n address)

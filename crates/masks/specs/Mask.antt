@@ -1,18 +1,30 @@
--- The mask: its flags and its zero count. Assumes nothing.
-use Prim.Native.Nat.{ℕ}
-use mathlib.Core.Bool.{Bool, true}
+-- The mask: its flags, its zero count, and what a slice makes of them. Assumes nothing.
+use Prim.Native.Nat.{ℕ, _+_, _-_, _/_, _≤_, max}
+use mathlib.Core.Bool.{Bool, true, cond, not, _&&_}
 use mathlib.Core.List.{List, [], _∷_, _++_}
-use lib.Dec.{leb}
+use lib.Dec.{eqb, leb}
 use lib.ListN.{length}
 use Rattle.words.specs.Loops.{stretch}
-use Rattle.masks.specs.Checks.{Check, check, spanChecks}
+use Rattle.masks.specs.Answer.{Answer, given, refused, checked}
+use Rattle.masks.specs.Checks.{Check, check, limit, withinLimit, spanChecks}
+use Rattle.masks.specs.Utils.{zeros}
 use Rattle.masks.specs.declared.bitmap.Bitmap.{Bitmap}
+use Rattle.masks.specs.declared.bitmap.Counting.{Counting}
+use Rattle.masks.specs.declared.bitmap.Cut.{Cut}
+use Rattle.masks.specs.declared.bitmap.Made.{Made}
+use Rattle.masks.specs.declared.bitmap.Sliced.{Sliced}
 use Rattle.masks.specs.declared.bitmap.Unset.{Unset}
 use Rattle.masks.specs.declared.bitmap.Unset.the-variants.{Known, Unknown}
+
+-- the one place where a mask's record is made
+abbrev pub maskOf : ℕ → ℕ → Unset → Bitmap
+maskOf start n unset = record { start = start; length = n; unset = unset }
 
 -- the flags of a mask in its bytes
 abbrev pub maskFlags : Bitmap → List ℕ → List Bool
 maskFlags m bytes = stretch bytes (m .start) (m .length)
+
+-- ---- the zero count
 
 -- question 3: a known zero count is at most the length
 abbrev pub countFits : Unset → ℕ → Bool
@@ -22,6 +34,104 @@ countFits Unknown n = true
 abbrev pub countValid : Bitmap → List ℕ → Bool
 countValid m bytes = countFits (m .unset) (m .length)
 
+abbrev pub countOr : Unset → ℕ → ℕ
+countOr (Known z) n = z
+countOr Unknown n = n
+
+-- the count that a mask brings: the known one, or the zeros counted
+unfoldable pub zeroCount : Bitmap → List ℕ → ℕ
+zeroCount m bytes = countOr (m .unset) (zeros (maskFlags m bytes))
+
+-- known as 0 where there are no flags, else unknown
+abbrev pub uncounted : ℕ → Unset
+uncounted n = cond (eqb n 0) (Known 0) Unknown
+
 -- questions 1 to 3, of a mask
 unfoldable pub maskChecks : Bitmap → List ℕ → List Check
 maskChecks m bytes = spanChecks (m .start) (m .length) (length bytes) ++ (check 3 (countValid m bytes) ∷ [])
+
+-- ---- new, try_new, unset_bits
+
+abbrev pub emptyMask : Bitmap
+emptyMask = maskOf 0 0 (Known 0)
+
+abbrev pub madeAnswer : Made → Answer (Unit {0}) Bitmap
+madeAnswer (Made.Mask m) = given m
+madeAnswer (Made.Refused k) = refused k tt
+
+unfoldable pub tryNewOf : List ℕ → ℕ → ℕ → Answer (Unit {0}) Bitmap
+tryNewOf bytes start n = checked (spanChecks start n (length bytes)) tt (maskOf start n (uncounted n))
+
+-- a mask with its count, and the count
+pub record Recounted : Type 0 where
+  pub mask : Bitmap
+  pub zeros : ℕ
+
+abbrev pub countingAnswer : Counting → Answer Bitmap Recounted
+countingAnswer (Counting.Zeros z m) = given (record { mask = m; zeros = z })
+countingAnswer (Counting.Refused k m) = refused k m
+
+unfoldable pub unsetBitsOf : Bitmap → List ℕ → Answer Bitmap Recounted
+unsetBitsOf m bytes =
+    checked (maskChecks m bytes) m
+    (record { mask = maskOf (m .start) (m .length) (Known (zeroCount m bytes)); zeros = zeroCount m bytes })
+
+-- ---- slice
+
+-- the zeros that a slice cuts off, before it and behind it
+unfoldable pub cutZeros : Bitmap → List ℕ → ℕ → ℕ → ℕ
+cutZeros m bytes offset n =
+    zeros (stretch bytes (m .start) offset) + zeros (stretch bytes (m .start + offset + n) (m .length - (offset + n)))
+
+-- is a known count z of `old` flags, neither none nor all of them, recounted for a slice of n flags
+unfoldable pub recounts : ℕ → ℕ → ℕ → Bool
+recounts old n z = not (eqb z 0) && (not (eqb z old) && leb old (n + max (old / 5) 32))
+
+-- a known count that is not recounted: of none it stays 0, of all it becomes the new length, else it is unknown
+unfoldable pub keptCount : ℕ → ℕ → ℕ → Unset
+keptCount z old n = cond (eqb z 0) (Known 0) (cond (eqb z old) (Known n) Unknown)
+
+-- the count of a slice of n flags that cuts off so many zeros
+abbrev pub slicedCount : ℕ → ℕ → ℕ → Unset → Unset
+slicedCount old n cut Unknown = Unknown
+slicedCount old n cut (Known z) = cond (recounts old n z) (Known (z - cut)) (keptCount z old n)
+
+-- question 7, put where the slice recounts
+abbrev pub recountValid : ℕ → ℕ → ℕ → Unset → Bool
+recountValid old n cut Unknown = true
+recountValid old n cut (Known z) = cond (recounts old n z) (leb cut z && leb (z - cut) n) true
+
+-- a recount: z less the zeros cut off, of n flags
+unfoldable pub recountedOf : ℕ → ℕ → ℕ → Cut
+recountedOf z cut n = cond (leb cut z && leb (z - cut) n) (Cut.Count (Known (z - cut))) Cut.Wrong
+
+-- the count of a slice, or that question 7 is answered no
+abbrev pub cutOf : ℕ → ℕ → ℕ → Unset → Cut
+cutOf old n cut u = cond (recountValid old n cut u) (Cut.Count (slicedCount old n cut u)) Cut.Wrong
+
+-- questions 1, 2, 3 and 6
+unfoldable pub pieceChecks : Bitmap → List ℕ → ℕ → ℕ → List Check
+pieceChecks m bytes offset n =
+    maskChecks m bytes
+    ++ (withinLimit offset ∷ withinLimit n ∷ withinLimit (m .start + offset) ∷ check 6 (leb (offset + n) (m .length)) ∷ [])
+
+unfoldable pub sliceChecks : Bitmap → List ℕ → ℕ → ℕ → List Check
+sliceChecks m bytes offset n =
+    pieceChecks m bytes offset n
+    ++ (check 7 (recountValid (m .length) n (cutZeros m bytes offset n) (m .unset)) ∷ [])
+
+abbrev pub slicedMask : Bitmap → List ℕ → ℕ → ℕ → Bitmap
+slicedMask m bytes offset n = maskOf (m .start + offset) n (slicedCount (m .length) n (cutZeros m bytes offset n) (m .unset))
+
+abbrev pub slicedAnswer : Sliced → Answer Bitmap Bitmap
+slicedAnswer (Sliced.Mask m) = given m
+slicedAnswer (Sliced.Refused k m) = refused k m
+
+unfoldable pub sliceOf : Bitmap → List ℕ → ℕ → ℕ → Answer Bitmap Bitmap
+sliceOf m bytes offset n = checked (sliceChecks m bytes offset n) m (slicedMask m bytes offset n)
+
+-- what is known of a piece whose questions 1, 2, 3 and 6 are answered yes
+pub record PieceAllowed (m : Bitmap) (offset n : ℕ) : Type 0 where
+  pub starts : m .start ≤ limit
+  pub short : m .length ≤ limit
+  pub inside : offset + n ≤ m .length

@@ -53,7 +53,7 @@ impl AlignedBitmapSlice {
 
 // The place of the first whole word, in bytes from the span's first byte on.
 fn bulk_offset(start: usize, address: usize) -> usize
-    requires { ⌜ (start ≤ 4194304) × (address ≤ 7) ⌝ }
+    requires { ⌜ (start ≤ 8388608) × (address ≤ 7) ⌝ }
     ensures { λ r. ⌜ r ≡ bulkOffset start address ⌝ }
 {
     let to_aligned = (8 - (address + start / 8) % 8) % 8;
@@ -65,7 +65,7 @@ fn bulk_offset(start: usize, address: usize) -> usize
 }
 
 fn prefix_length(start: usize, length: usize, address: usize) -> usize
-    requires { ⌜ (start ≤ 4194304) × ((length ≤ 4194304) × (address ≤ 7)) ⌝ }
+    requires { ⌜ (start ≤ 8388608) × ((length ≤ 4194304) × (address ≤ 7)) ⌝ }
     ensures { λ r. ⌜ r ≡ prefixLength start length address ⌝ }
 {
     if start % 8 + length <= 64 {
@@ -76,7 +76,7 @@ fn prefix_length(start: usize, length: usize, address: usize) -> usize
 }
 
 fn bulk_start(start: usize, length: usize, address: usize) -> usize
-    requires { ⌜ (start ≤ 4194304) × ((length ≤ 4194304) × (address ≤ 7)) ⌝ }
+    requires { ⌜ (start ≤ 8388608) × ((length ≤ 4194304) × (address ≤ 7)) ⌝ }
     ensures { λ r. ⌜ r ≡ bulkStart start length address ⌝ }
 {
     if start % 8 + length <= 64 {
@@ -86,8 +86,8 @@ fn bulk_start(start: usize, length: usize, address: usize) -> usize
     }
 }
 
-fn split(bytes: &[u8], start: usize, length: usize, address: usize) -> AlignedBitmapSlice
-    requires { ⌜ (start ≤ 4194304) × ((length ≤ 4194304) × (address ≤ 7)) ⌝ }
+pub(crate) fn split(bytes: &[u8], start: usize, length: usize, address: usize) -> AlignedBitmapSlice
+    requires { ⌜ (start ≤ 8388608) × ((length ≤ 4194304) × (address ≤ 7)) ⌝ }
     ensures { λ r. ⌜ r ≡ alignedSplit (now (bytes .entry)) start length address ⌝ }
 {
     let prefix_len = prefix_length(start, length, address);

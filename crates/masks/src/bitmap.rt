@@ -1,4 +1,21 @@
-// The mask's record. Its bytes are lent beside it.
+// The mask: its record, and the calls that make one, cut it and count it. Its bytes are lent beside it.
+ghost use mathlib.Core.Path.{_≡_};
+ghost use mathlib.Core.Bool.{not, _&&_};
+ghost use Prim.Native.Nat.{_+_, _-_, _*_, _/_, _≤_, max};
+ghost use lib.Dec.{eqb, leb};
+ghost use lib.ListN.{length};
+ghost use Rattle.words.specs.Loops.{stretch};
+ghost use Rattle.masks.specs.Checks.{firstFailed};
+ghost use Rattle.masks.specs.Utils.{zeros};
+ghost use Rattle.masks.specs.Mask.{cutOf, cutZeros, countingAnswer, emptyMask, keptCount, madeAnswer, pieceChecks, recountedOf, recounts as Mask·recounts};
+ghost use Rattle.masks.specs.Mask.{PieceAllowed, slicedAnswer, sliceOf, tryNewOf, uncounted, unsetBitsOf, zeroCount};
+use crate::checks::earlier;
+use crate::checks::failed;
+use crate::checks::mask_failure;
+use crate::checks::span_failure;
+use crate::checks::sum_at_most;
+use crate::checks::within_limit;
+use crate::utils::zeros_at;
 
 // A zero count: known, or not counted yet.
 pub enum Unset {
@@ -13,7 +30,205 @@ pub struct Bitmap {
     pub unset: Unset,
 }
 
+pub enum Made {
+    Mask(Bitmap),
+    Refused(u8),
+}
+
+pub enum Sliced {
+    Mask(Bitmap),
+    Refused(u8, Bitmap),
+}
+
+// The zeros of a mask, and the mask with its count known.
+pub enum Counting {
+    Zeros(usize, Bitmap),
+    Refused(u8, Bitmap),
+}
+
+// The count of a slice, or that the known count cannot be true of it.
+pub enum Cut {
+    Count(Unset),
+    Wrong,
+}
+
 impl Bitmap {
     // The flag limit: the largest start and length that the calls take.
     pub const LIMIT: usize = 4194304;
+
+    // The empty mask.
+    pub fn new() -> Self
+        ensures { λ r. ⌜ r ≡ emptyMask ⌝ }
+    {
+        Bitmap {
+            start: 0,
+            length: 0,
+            unset: Unset::Known(0),
+        }
+    }
+
+    // A mask over lent bytes, its zeros not counted yet.
+    pub fn try_new(bytes: &[u8], start: usize, length: usize) -> Made
+        ensures { λ r. ⌜ madeAnswer r ≡ tryNewOf (now (bytes .entry)) start length ⌝ }
+    {
+        let refusal = span_failure(start, length, bytes.len());
+        if refusal != 0 {
+            return Made::Refused(refusal);
+        }
+        let unset = not_counted(length);
+        Made::Mask(Bitmap {
+            start: start,
+            length: length,
+            unset: unset,
+        })
+    }
+
+    // The zeros of the mask, and the mask with its count known.
+    pub fn unset_bits(self, bytes: &[u8]) -> Counting
+        ensures { λ r. ⌜ countingAnswer r ≡ unsetBitsOf self (now (bytes .entry)) ⌝ }
+    {
+        let refusal = mask_failure(self, bytes);
+        if refusal != 0 {
+            return Counting::Refused(refusal, self);
+        }
+        let zeros = zero_count(self, bytes);
+        Counting::Zeros(
+            zeros,
+            Bitmap {
+                start: self.start,
+                length: self.length,
+                unset: Unset::Known(zeros),
+            },
+        )
+    }
+
+    // The piece of `length` flags from `offset` on.
+    pub fn slice(self, bytes: &[u8], offset: usize, length: usize) -> Sliced
+        ensures { λ r. ⌜ slicedAnswer r ≡ sliceOf self (now (bytes .entry)) offset length ⌝ }
+    {
+        let refusal = piece_failure(self, bytes, offset, length);
+        if refusal != 0 {
+            return Sliced::Refused(refusal, self);
+        }
+        let start = self.start + offset;
+        let cut = cut_count(self, bytes, offset, length);
+        match cut {
+            Cut::Wrong => Sliced::Refused(7, self),
+            Cut::Count(unset) => Sliced::Mask(Bitmap {
+                start: start,
+                length: length,
+                unset: unset,
+            }),
+        }
+    }
+}
+
+// Known as 0 where there are no flags, else unknown.
+pub(crate) fn not_counted(length: usize) -> Unset
+    ensures { λ r. ⌜ r ≡ uncounted length ⌝ }
+{
+    if length == 0 {
+        Unset::Known(0)
+    } else {
+        Unset::Unknown
+    }
+}
+
+// The known count, or the zeros counted.
+pub(crate) fn zero_count(mask: Bitmap, bytes: &[u8]) -> usize
+    requires { ⌜ (mask .start ≤ 4194304) × (mask .length ≤ 4194304) ⌝ }
+    ensures { λ r. ⌜ r ≡ zeroCount mask (now (bytes .entry)) ⌝ }
+{
+    let unset = mask.unset;
+    match unset {
+        Unset::Known(zeros) => zeros,
+        Unset::Unknown => zeros_at(bytes, mask.start, mask.length),
+    }
+}
+
+fn piece_failure(mask: Bitmap, bytes: &[u8], offset: usize, length: usize) -> u8
+    ensures { λ r. ⌜ r ≡ firstFailed (pieceChecks mask (now (bytes .entry)) offset length) ⌝ }
+{
+    let inside = failed(6, sum_at_most(offset, length, mask.length));
+    let starts = failed(1, sum_at_most(mask.start, offset, Bitmap::LIMIT));
+    let short = failed(1, within_limit(length));
+    let near = failed(1, within_limit(offset));
+    let piece = earlier(near, earlier(short, earlier(starts, inside)));
+    earlier(mask_failure(mask, bytes), piece)
+}
+
+// Is a known count recounted for a slice of n flags of `old`.
+fn recounts(old: usize, n: usize, zeros: usize) -> bool
+    requires { ⌜ (old ≤ 4194304) × (n ≤ 4194304) ⌝ }
+    ensures { λ r. ⌜ r ≡ Mask·recounts old n zeros ⌝ }
+{
+    if zeros == 0 {
+        return false;
+    }
+    if zeros == old {
+        return false;
+    }
+    old <= n + most(old / 5, 32)
+}
+
+fn most(x: usize, y: usize) -> usize
+    ensures { λ r. ⌜ r ≡ max x y ⌝ }
+{
+    if x < y { y } else { x }
+}
+
+// The zeros before a piece and behind it.
+fn cut_zeros(mask: Bitmap, bytes: &[u8], offset: usize, length: usize) -> usize
+    requires { ⌜ PieceAllowed mask offset length ⌝ }
+    ensures { λ r. ⌜ r ≡ cutZeros mask (now (bytes .entry)) offset length ⌝ }
+{
+    let end = offset + length;
+    let before = zeros_at(bytes, mask.start, offset);
+    let behind = zeros_at(bytes, mask.start + offset + length, mask.length - end);
+    before + behind
+}
+
+// The count of a piece.
+fn cut_count(mask: Bitmap, bytes: &[u8], offset: usize, length: usize) -> Cut
+    requires { ⌜ PieceAllowed mask offset length ⌝ }
+    ensures { λ r. ⌜ r ≡ cutOf (mask .length) length (cutZeros mask (now (bytes .entry)) offset length) (mask .unset) ⌝ }
+{
+    let unset = mask.unset;
+    match unset {
+        Unset::Unknown => Cut::Count(Unset::Unknown),
+        Unset::Known(zeros) => {
+            if recounts(mask.length, length, zeros) {
+                recount(zeros, cut_zeros(mask, bytes, offset, length), length)
+            } else {
+                kept_count(zeros, mask.length, length)
+            }
+        }
+    }
+}
+
+// A known count less the zeros cut off.
+fn recount(zeros: usize, cut: usize, length: usize) -> Cut
+    ensures { λ r. ⌜ r ≡ recountedOf zeros cut length ⌝ }
+{
+    if zeros < cut {
+        return Cut::Wrong;
+    }
+    let rest = zeros - cut;
+    if length < rest {
+        return Cut::Wrong;
+    }
+    Cut::Count(Unset::Known(rest))
+}
+
+// A known count that is not recounted: of none or of all flags it stays so.
+fn kept_count(zeros: usize, old: usize, length: usize) -> Cut
+    ensures { λ r. ⌜ r ≡ Cut.Count (keptCount zeros old length) ⌝ }
+{
+    if zeros == 0 {
+        return Cut::Count(Unset::Known(0));
+    }
+    if zeros == old {
+        return Cut::Count(Unset::Known(length));
+    }
+    Cut::Count(Unset::Unknown)
 }

@@ -86,3 +86,10 @@ pub(crate) fn mask_failure(mask: Bitmap, bytes: &[u8]) -> u8
         failed(3, count_fits(unset, mask.length)),
     )
 }
+
+// Is a + b, taken exactly, at most c.
+pub(crate) fn sum_at_most(a: usize, b: usize, c: usize) -> bool
+    ensures { λ r. ⌜ r ≡ leb (a + b) c ⌝ }
+{
+    if a <= c { b <= c - a } else { false }
+}

@@ -9,6 +9,7 @@ ghost use Rattle.masks.specs.Aligned.{Bounded, splitFlags};
 ghost use Rattle.masks.specs.Utils.{zeros, countedAnswer, spanCount};
 use crate::aligned::Aligned;
 use crate::aligned::AlignedBitmapSlice;
+use crate::aligned::split;
 use words::counts::count_ones;
 use words::ends::leading_in_word;
 use words::ends::trailing_in_word;
@@ -97,6 +98,16 @@ fn trailing_of(flag: bool, bytes: &[u8], s: AlignedBitmapSlice) -> usize
         return s.suffix_len + middle;
     }
     s.suffix_len + bulk + trailing_in_word(flag, s.prefix, s.prefix_len)
+}
+
+// The zeros of a span, with no check: what the mask's own calls count by, with the address remainder 0.
+pub(crate) fn zeros_at(bytes: &[u8], start: usize, length: usize) -> usize
+    requires { ⌜ (start ≤ 8388608) × (length ≤ 4194304) ⌝ }
+    ensures { λ r. ⌜ r ≡ zeros (stretch (now (bytes .entry)) start length) ⌝ }
+{
+    let s = split(bytes, start, length, 0);
+    let ones = ones_of(bytes, s);
+    length - ones
 }
 
 // How many flags of a span are zero.

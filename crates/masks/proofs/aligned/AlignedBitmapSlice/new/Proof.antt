@@ -32,7 +32,7 @@ split-requires c κs =
     let e = c .before in
     let none = sym (e .earlier .ensures) ∙ c .if2 .left in
     let span = span-allowed _ _ _ (sym (e .before .before .span-failure .ensures) ∙ passed-left _ _ none) in
-    (span .starts, (span .short, address-allowed _ (sym (e .before .address-failure .ensures) ∙ passed-right _ _ none)))
+    (omega (arith, span .starts), (span .short, address-allowed _ (sym (e .before .address-failure .ensures) ∙ passed-right _ _ none)))
 
 returns-3 : tie.Need-returns-3
 unfolding alignedOf alignedChecks
