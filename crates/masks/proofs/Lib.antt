@@ -1,5 +1,7 @@
 -- The laws of the crate, a file for each topic.
+pub mod AppendLaws
 pub mod CheckLaws
 pub mod FrozenLaws
+pub mod RoomLaws
 pub mod SpanLaws
 pub mod SplitLaws
