@@ -181,11 +181,11 @@ low-count k w e =
     let s : count (take k (bits 64 w)) + count (drop k (bits 64 w)) ≡ count (bits 64 w) = sym (count-append (take k (bits 64 w)) (drop k (bits 64 w))) ∙ ap count (take-append-drop k (bits 64 w)) in
     omega arith
 
-no-count : count [] ≡ 0
+pub no-count : count [] ≡ 0
 unfolding count
 no-count = refl
 
-no-bytes : (l : List Bool) → packed 0 l ≡ []
+pub no-bytes : (l : List Bool) → packed 0 l ≡ []
 unfolding packed
 no-bytes l = refl
 

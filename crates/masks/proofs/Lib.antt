@@ -2,6 +2,7 @@
 pub mod AppendLaws
 pub mod CheckLaws
 pub mod FrozenLaws
+pub mod PushLaws
 pub mod RoomLaws
 pub mod SpanLaws
 pub mod SplitLaws
