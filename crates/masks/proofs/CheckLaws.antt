@@ -135,6 +135,15 @@ pub passed-one : (n : ℕ) (t : Bool) → cond t 0 (suc n) ≡ 0 → t ≡ true
 passed-one n true e = refl
 passed-one n false e = absurd (omega arith)
 
+-- a check that stands first, and those behind it
+pub head-passed : (n : ℕ) (t : Bool) (cs : List Check) → firstFailed (check (suc n) t ∷ cs) ≡ 0 → t ≡ true
+unfolding firstFailed
+head-passed n t cs e = passed-one n t (passed-left (cond t 0 (suc n)) (firstFailed cs) e)
+
+pub tail-passed : (c : Check) (cs : List Check) → firstFailed (c ∷ cs) ≡ 0 → firstFailed cs ≡ 0
+unfolding firstFailed
+tail-passed c cs e = passed-right (failure c) (firstFailed cs) e
+
 -- what is known of a span whose checks have passed
 pub record SpanAllowed (start n size : ℕ) : Type 0 where
   pub starts : start ≤ limit

@@ -1,6 +1,10 @@
 -- The laws of the crate, a file for each topic.
+pub mod AppendLaws
 pub mod CheckLaws
+pub mod FrozenLaws
 pub mod MaskLaws
 pub mod PartLaws
+pub mod PushLaws
+pub mod RoomLaws
 pub mod SpanLaws
 pub mod SplitLaws

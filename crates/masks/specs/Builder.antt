@@ -1,12 +1,14 @@
 -- The builder: its checks, and one definition of appending a list of flags. Assumes nothing.
-use Prim.Native.Nat.{ℕ, _+_, _-_, _*_, _/_, _%_, _^_}
-use mathlib.Core.Bool.{Bool, _&&_}
+use mathlib.Core.Path.{_≡_}
+use Prim.Native.Nat.{ℕ, _+_, _-_, _*_, _/_, _%_, _≤_}
+use mathlib.Core.Bool.{Bool, true, not, _&&_}
 use mathlib.Core.List.{List, [], _∷_, _++_}
-use lib.Dec.{eqb, leb}
+use lib.Dec.{leb}
 use lib.ListN.{length, take, drop}
+use Rattle.words.specs.Counts.{anySet}
 use Rattle.words.specs.Flags.{count, wordFlags, wordOf, flagsOf, window}
 use Rattle.masks.specs.Answer.{Answer, given, refused}
-use Rattle.masks.specs.Checks.{Check, check, withinLimit, outputChecks}
+use Rattle.masks.specs.Checks.{Check, check, limit, withinLimit, outputChecks}
 use Rattle.masks.specs.Frozen.{packed, overFrom, frozen, frozenSize}
 use Rattle.masks.specs.declared.builder.BitmapBuilder.{BitmapBuilder}
 
@@ -44,12 +46,23 @@ appended f l =
 unfoldable pub builderFlags : Filling → List Bool
 builderFlags f = window (flagsOf (f .bytes)) 0 (64 * (f .builder .length / 64)) ++ inProgress (f .builder)
 
+-- no bit in a word from k up
+abbrev pub noneFrom : ℕ → ℕ → Bool
+noneFrom w k = not (anySet (drop k (wordFlags w)))
+
 -- question 4: no bit in the word from length mod 64 up, ones at most those of the finished words, a buffer that holds these
 unfoldable pub possible : BitmapBuilder → ℕ → Bool
 possible b size =
-    eqb (b .word / 2 ^ (b .length % 64)) 0
+    noneFrom (b .word) (b .length % 64)
     && (leb (b .ones) (64 * (b .length / 64)) && leb (8 * (b .length / 64)) size)
 
 -- questions 1, 4 and 9 of a call that makes the builder n flags long, over a buffer of so many bytes
 unfoldable pub builderChecks : BitmapBuilder → ℕ → ℕ → List Check
 builderChecks b n size = withinLimit (b .length) ∷ withinLimit n ∷ check 4 (possible b size) ∷ outputChecks n size
+
+-- what the workers ask of a builder to which n flags are to be appended: it is possible, and within the limit and the buffer
+pub record Room (b : BitmapBuilder) (n size : ℕ) : Type 0 where
+  pub short : b .length + n ≤ limit
+  pub low : noneFrom (b .word) (b .length % 64) ≡ true
+  pub few : b .ones ≤ 64 * (b .length / 64)
+  pub holds : 8 * ((b .length + n + 63) / 64) ≤ size

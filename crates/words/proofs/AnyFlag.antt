@@ -7,14 +7,14 @@ use mathlib.Core.Logic.{_⊎_, inl, inr, ⊎-elim}
 use Prim.Native.Nat.{ℕ, zero, suc, _+_, _-_, _*_, _^_, _≤_, _<_}
 use native.Mathlib.Omega.{arith}
 use lib.Dec.{eqb, ltb}
-use lib.ListN.{length}
+use lib.ListN.{length, drop, length-drop}
 use borrow.Author.Tests.{eq-eqb, ne-eqb, lt-ltb, le-ltb, ltb-true, ltb-false}
 use Rattle.words.specs.Flags.{bits, copies, count, digit, wordOf, window}
 use Rattle.words.specs.Ops.{zip3}
 use Rattle.words.specs.Counts.{anySet, sameFlags}
 use Rattle.words.proofs.Bits.{length-bits, bits-zero, wordOf-bits}
 use Rattle.words.proofs.Counting.{count-add, count-inside, count-padded, count-behind}
-use Rattle.words.proofs.Windows.{lt-or-le, window-add, window-all, window-past}
+use Rattle.words.proofs.Windows.{lt-or-le, window-add, window-drop, window-all, window-past}
 
 pub and-true : (x : Bool) → (x && true) ≡ x
 and-true true = refl
@@ -164,3 +164,11 @@ same-any [] [] e = refl
 same-any [] (y ∷ b) e = absurd (omega arith)
 same-any (x ∷ a) [] e = absurd (omega arith)
 same-any (x ∷ a) (y ∷ b) e = not-or (xor x y) (anySet (zip3 (λ x y z. xor x y) a b b)) ∙ ap (λ (t : Bool). not (xor x y) && t) (same-any a b (omega arith))
+
+-- a window that reaches the end
+pub any-drop : (l : List Bool) (k n : ℕ) → length l ≤ k + n → anySet (window l k n) ≡ anySet (drop k l)
+any-drop l k n h =
+    let z : k ≡ k + 0 = omega arith in
+    any-count (window l k n)
+    ∙ ap (ltb 0) (ap (λ (x : ℕ). count (window l x n)) z ∙ ap count (sym (window-drop l k 0 n)) ∙ count-padded (drop k l) n (omega (arith, length-drop k l)))
+    ∙ sym (any-count (drop k l))

@@ -6,7 +6,7 @@ pub mod Bytes
 pub mod Combining
 pub mod Counting
 pub mod EndLaws
-mod Loads
+pub mod Loads
 pub mod Merging
 mod NthLaws
 pub mod Plain

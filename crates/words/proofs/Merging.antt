@@ -1,20 +1,20 @@
--- Two words shifted together: two loads that overlap, and `merge_reversed`. Assumes nothing.
+-- Two words shifted together: two loads that overlap, `merge_reversed`, and one word behind the other. Assumes nothing.
 use mathlib.Core.Path.{_≡_, refl, sym, ap, ap₂, _∙_, subst}
 use mathlib.Core.Bool.{Bool, true, false, _&&_, _||_}
 use mathlib.Core.List.{List, [], _∷_, _++_, zipWith, append-assoc}
 use Prim.Native.Nat.{ℕ, zero, suc, _+_, _-_, _*_, _/_, _%_, _^_, _≤_, _<_}
-use native.Mathlib.Nat.{add-comm, le-of-lt, sub-add-cancel, zero-lt-suc}
+use native.Mathlib.Nat.{add-comm, le-of-lt, sub-add-cancel, mod-lt, one-mul, zero-lt-suc}
 use native.Mathlib.Omega.{arith}
-use lib.ListN.{length, take, drop, getD, length-append}
-use lib.Dec.{ltb}
-use lib.Seq.{take-at, drop-at, take-append-seam}
-use lib.Pow.{shr-lt}
+use lib.ListN.{length, take, drop, getD, length-append, length-take, List·getD-append}
+use lib.Dec.{lit<, ltb}
+use lib.Seq.{take-at, drop-at, take-all, length-take-le, take-append-seam, take-append-add, getD-take}
+use lib.Pow.{shl-exact, pow-pos, shr-lt}
 use lib.Bits.{bitOr}
 use borrow.Author.Tests.{lt-ltb, le-ltb}
 use Rattle.words.specs.Flags.{bits, copies, window}
 use Rattle.words.specs.Merge.{merged}
 use Rattle.words.proofs.Bits.{length-bits, bits-add, bits-take, bits-mod, bits-shl, bits-or, bits-join}
-use Rattle.words.proofs.Windows.{length-copies, length-window, window-add, window-cut, at-window, in-window}
+use Rattle.words.proofs.Windows.{length-copies, length-window, window-add, window-cut, as-window, at-window, in-window}
 use Rattle.words.proofs.Loads.{bits-shr}
 
 zip-append : (f : Bool → Bool → Bool) (a b c d : List Bool) → length a ≡ length c → zipWith f (a ++ b) (c ++ d) ≡ zipWith f a c ++ zipWith f b d
@@ -108,3 +108,32 @@ unfolding merged
 merged-window l k d o h =
     rw (length-window l k d, lt-ltb o d h, ← window-add)
     (window-cut l k (d + d) o d (omega arith))
+
+-- ---- the k low flags of one word, then those of another
+
+front-flags : (d k : ℕ) (a b : List Bool) → length a ≡ k → k ≤ d → length b ≡ d → a ++ take (d - k) b ≡ window (a ++ b) 0 d
+front-flags d k a b ea h eb =
+    let e : d ≡ length a + (d - k) = omega arith in
+    let n : length (a ++ take (d - k) b) ≡ d = length-append a (take (d - k) b) ∙ ap (λ (x : ℕ). length a + x) (length-take-le (d - k) b (omega arith)) ∙ sym e in
+    let f : take d (a ++ b) ≡ a ++ take (d - k) b = ap (λ (x : ℕ). take x (a ++ b)) e ∙ take-append-add a b (d - k) in
+    as-window (a ++ take (d - k) b) (a ++ b) 0 d n (λ j q.
+    let z : j ≡ 0 + j = omega arith in
+    ap (λ (l : List Bool). getD l j false) (sym f) ∙ getD-take d (a ++ b) j false q ∙ ap (λ (x : ℕ). getD (a ++ b) x false) z)
+
+pub behind-some : (d k a b : ℕ) → k < d → bits d (bitOr (a % (1 * 2 ^ k % 2 ^ d)) (b * 2 ^ k % 2 ^ d)) ≡ window (take k (bits d a) ++ bits d b) 0 d
+behind-some d k a b h =
+    let e : k + (d - k) ≡ d = omega arith in
+    let low : 1 * 2 ^ k % 2 ^ d ≡ 2 ^ k = shl-exact 1 k d (lit< tt) (omega arith) ∙ one-mul (2 ^ k) in
+    ap (λ (x : ℕ). bits d (bitOr (a % x) (b * 2 ^ k % 2 ^ d))) low
+    ∙ ap (λ (x : ℕ). bits x (bitOr (a % 2 ^ k) (b * 2 ^ k % 2 ^ x))) (sym e)
+    ∙ bits-join k (d - k) (a % 2 ^ k) b (mod-lt a (pow-pos k))
+    ∙ ap₂ (λ (x y : List Bool). x ++ y) (bits-mod k a ∙ sym (bits-take d k a (le-of-lt h))) (sym (bits-take d (d - k) b (omega arith)))
+    ∙ front-flags d k (take k (bits d a)) (bits d b) (length-take-le k (bits d a) (omega (arith, length-bits d a))) (le-of-lt h) (length-bits d b)
+
+pub behind-all : (d k a : ℕ) (b : List Bool) → d ≤ k → bits d a ≡ window (take k (bits d a) ++ b) 0 d
+behind-all d k a b h = as-window (bits d a) (take k (bits d a) ++ b) 0 d (length-bits d a) (λ j q.
+    let z : j ≡ 0 + j = omega arith in
+    let n : length (bits d a) ≡ d = length-bits d a in
+    ap (λ (l : List Bool). getD l j false) (sym (take-all k (bits d a) (omega arith)))
+    ∙ sym (List·getD-append (take k (bits d a)) b false j (omega (arith, length-take k (bits d a))))
+    ∙ ap (λ (x : ℕ). getD (take k (bits d a) ++ b) x false) z)

@@ -1,9 +1,9 @@
 // Counting and comparing. A stretch is `len` flags of the bytes from any flag on, zeros past their end. The time is bounded by
 // the bytes lent, whatever `len` is.
 ghost use mathlib.Core.Path.{_≡_};
-ghost use mathlib.Core.Bool.{false, _&&_};
+ghost use mathlib.Core.Bool.{false, not, _&&_};
 ghost use Prim.Native.Nat.{_*_, _+_, _-_, _≤_, _<_};
-ghost use lib.ListN.{length};
+ghost use lib.ListN.{length, drop};
 ghost use lib.Dec.{ltb};
 ghost use Rattle.words.specs.Flags.{flagsOf, count, digit, window, wordFlags};
 ghost use Rattle.words.specs.Ops.{opOf};
@@ -19,6 +19,7 @@ use crate::loops::room;
 use crate::loops::triple_word;
 use crate::loops::words_for;
 use crate::ops::Op;
+use crate::word::down;
 use crate::word::low_flags;
 use crate::word::ones_in_word;
 use crate::word::word_at;
@@ -97,6 +98,13 @@ fn is_set(w: u64) -> bool
     ensures { λ r. ⌜ r ≡ anySet (wordFlags w) ⌝ }
 {
     w != 0
+}
+
+// Is no flag of a word set from the flag k on.
+pub fn none_from(w: u64, k: usize) -> bool
+    ensures { λ r. ⌜ r ≡ not (anySet (drop k (wordFlags w))) ⌝ }
+{
+    !is_set(down(w, k))
 }
 
 // How many flags of three stretches combined are set.

@@ -1,5 +1,6 @@
 // A word: loads, stores, its low flags and its ones. Loads and stores that lie in range by `requires` are private to the crate.
 ghost use mathlib.Core.Path.{_≡_};
+ghost use mathlib.Core.List.{_++_};
 ghost use Prim.Native.Nat.{_+_, _*_, _<_, _≤_, _%_};
 ghost use lib.ListN.{length, take};
 ghost use Rattle.words.specs.Flags.{wordFlags, copies, flagsOf, count, over, overAt, window};
@@ -101,7 +102,7 @@ pub(crate) fn shifted_word(bytes: &[u8], at: usize, s: usize) -> u64
 }
 
 // The word moved down by k flags, nothing from 64 on.
-fn down(w: u64, k: usize) -> u64
+pub fn down(w: u64, k: usize) -> u64
     ensures { λ r. ⌜ wordFlags r ≡ window (wordFlags w) k 64 ⌝ }
 {
     if k < 64 { w >> k } else { 0 }
@@ -138,6 +139,13 @@ pub fn low_flags(w: u64, k: usize) -> u64
     ensures { λ r. ⌜ wordFlags r ≡ window (take k (wordFlags w)) 0 64 ⌝ }
 {
     if k >= 64 { w } else { w % (1 << k) }
+}
+
+// The k low flags of a, then those of b: the first 64 of them.
+pub fn behind(a: u64, k: usize, b: u64) -> u64
+    ensures { λ r. ⌜ wordFlags r ≡ window (take k (wordFlags a) ++ wordFlags b) 0 64 ⌝ }
+{
+    if k >= 64 { a } else { a % (1 << k) | b << k }
 }
 
 // A word of one flag.

@@ -1,0 +1,207 @@
+-- Appending to a builder: nothing, one list after another, and what the builder's flags and its count become. Assumes nothing.
+use mathlib.Core.Path.{_≡_, refl, sym, ap, ap₂, _∙_, subst}
+use mathlib.Core.Bool.{Bool, true, false, not}
+use mathlib.Core.List.{List, [], _∷_, _++_, append-assoc, append-nil}
+use Prim.Native.Nat.{ℕ, zero, suc, _+_, _-_, _*_, _/_, _%_, _^_, _≤_, _<_}
+use native.Mathlib.Nat.{zero-add, add-assoc}
+use native.Mathlib.Omega.{arith}
+use lib.ListN.{length, take, drop, getD, length-append, length-drop, take-append-drop}
+use lib.Seq.{length-take-le, take-at, drop-at}
+use borrow.Author.Tests.{not-true}
+use Rattle.words.specs.Counts.{anySet}
+use Rattle.words.specs.Flags.{bits, count, digit, flagsOf, overAt, window, wordOf}
+use Rattle.words.proofs.AnyFlag.{any-zero, zero-any}
+use Rattle.words.proofs.Bits.{length-bits, wordOf-bits}
+use Rattle.words.proofs.Bytes.{length-flags}
+use Rattle.words.proofs.Counting.{count-append, count-le, count-padded}
+use Rattle.words.proofs.Plain.{window-part, overAt-before, overAt-in}
+use Rattle.words.proofs.Windows.{length-window, window-add, window-all, window-cut, window-ext, as-window, at-in, bits-window}
+use Rattle.masks.specs.Builder.{Filling, filling, builderOf, inProgress, appended, builderFlags, noneFrom, Room}
+use Rattle.masks.specs.Frozen.{packed, overFrom}
+use Rattle.masks.specs.declared.builder.BitmapBuilder.{BitmapBuilder}
+use Rattle.masks.proofs.FrozenLaws.{length-packed, flags-packed, packed-window, packed-append, overFrom-none, overFrom-more, length-overFrom, flags-overFrom}
+
+-- ---- lists at the seams of words
+
+window-front : (n : ℕ) (a b : List Bool) → length a ≡ n → window (a ++ b) 0 n ≡ a
+window-front n a b e = window-part (a ++ b) 0 n (omega (arith, length-append a b)) ∙ take-at a b n e
+
+packed-front : (n : ℕ) (a b : List Bool) → length a ≡ 8 * n → packed n (a ++ b) ≡ packed n a
+packed-front n a b e =
+    let h : 8 * n ≤ 8 * n = omega arith in
+    packed-window n (8 * n) (a ++ b) h ∙ ap (packed n) (window-front (8 * n) a b e)
+
+-- the first flags of a list's word are the list
+pub word-back : (r : List Bool) (k : ℕ) → length r ≡ k → k ≤ 64 → take k (bits 64 (wordOf r)) ≡ r
+word-back r k e h =
+    ap (take k) (bits-window 64 r) ∙ window-cut r 0 64 0 k (omega arith) ∙ ap (window r 0) (sym e) ∙ window-all r
+
+pub length-progress : (b : BitmapBuilder) → length (inProgress b) ≡ b .length % 64
+unfolding inProgress
+length-progress b = length-take-le (b .length % 64) (bits 64 (b .word)) (omega (arith, length-bits 64 (b .word)))
+
+pub progress-of : (n : ℕ) (r : List Bool) (ones : ℕ) → length r ≡ n % 64 → inProgress (builderOf n (wordOf r) ones) ≡ r
+unfolding inProgress
+progress-of n r ones e = word-back r (n % 64) e (omega arith)
+
+-- ---- one way to say what appending gives
+
+-- the flags in progress and the new ones in a row are `front`, q whole words, and `rest`, less than a word
+pub record Parts (f : Filling) (l : List Bool) (q : ℕ) (front rest : List Bool) : Type 0 where
+  pub row : inProgress (f .builder) ++ l ≡ front ++ rest
+  pub whole : length front ≡ 64 * q
+  pub less : length rest < 64
+
+-- n flags more, of which `front` is written
+abbrev pub grown : Filling → ℕ → ℕ → List Bool → List Bool → Filling
+grown f n q front rest =
+    filling (builderOf (f .builder .length + n) (wordOf rest) (f .builder .ones + count front)) (overFrom (f .bytes) (8 * (f .builder .length / 64)) (packed (8 * q) front))
+
+abbrev made : Filling → ℕ → ℕ → List Bool → Filling
+made f n q all =
+    filling (builderOf (f .builder .length + n) (wordOf (drop (64 * q) all)) (f .builder .ones + count (take (64 * q) all))) (overFrom (f .bytes) (8 * (f .builder .length / 64)) (packed (8 * q) all))
+
+made-grown : (f : Filling) (n q : ℕ) (front rest : List Bool) → length front ≡ 64 * q → made f n q (front ++ rest) ≡ grown f n q front rest
+made-grown f n q front rest e =
+    let e8 : length front ≡ 8 * (8 * q) = omega arith in
+    ap₂ (λ (r t : List Bool). filling (builderOf (f .builder .length + n) (wordOf r) (f .builder .ones + count t)) (overFrom (f .bytes) (8 * (f .builder .length / 64)) (packed (8 * q) (front ++ rest))))
+    (drop-at front rest (64 * q) e) (take-at front rest (64 * q) e)
+    ∙ ap (λ (m : List ℕ). filling (builderOf (f .builder .length + n) (wordOf rest) (f .builder .ones + count front)) (overFrom (f .bytes) (8 * (f .builder .length / 64)) m)) (packed-front (8 * q) front rest e8)
+
+pub appended-grown : (f : Filling) (l : List Bool) (q : ℕ) (front rest : List Bool) → Parts f l q front rest → appended f l ≡ grown f (length l) q front rest
+unfolding appended
+appended-grown f l q front rest p =
+    let row = p .row in
+    let long : length (inProgress (f .builder) ++ l) ≡ length front + length rest = ap length row ∙ length-append front rest in
+    let less : length rest < 64 = p .less in
+    let full : length front ≡ 64 * q = p .whole in
+    let w : length (inProgress (f .builder) ++ l) / 64 ≡ q = omega arith in
+    ap₂ (made f (length l)) w row ∙ made-grown f (length l) q front rest full
+
+-- the parts that every appending has
+pub parts-of : (f : Filling) (l : List Bool) → Parts f l (length (inProgress (f .builder) ++ l) / 64) (take (64 * (length (inProgress (f .builder) ++ l) / 64)) (inProgress (f .builder) ++ l)) (drop (64 * (length (inProgress (f .builder) ++ l) / 64)) (inProgress (f .builder) ++ l))
+parts-of f l =
+    let all = inProgress (f .builder) ++ l in
+    record {
+      row = sym (take-append-drop (64 * (length all / 64)) all);
+      whole = length-take-le (64 * (length all / 64)) all (omega arith);
+      less = omega (arith, length-drop (64 * (length all / 64)) all);
+    }
+
+-- how many flags the parts are
+pub parts-long : (f : Filling) (l : List Bool) (q : ℕ) (front rest : List Bool) → Parts f l q front rest → f .builder .length % 64 + length l ≡ 64 * q + length rest
+parts-long f l q front rest p =
+    let long : length (inProgress (f .builder) ++ l) ≡ length (front ++ rest) = ap length (p .row) in
+    let full : length front ≡ 64 * q = p .whole in
+    omega (arith, length-append (inProgress (f .builder)) l, length-progress (f .builder), length-append front rest)
+
+-- ---- one list after another
+
+module _ (f : Filling) (a b : List Bool) (q : ℕ) (front rest : List Bool) (p : Parts f a q front rest) (r : ℕ) (front2 rest2 : List Bool)
+    (row : rest ++ b ≡ front2 ++ rest2) (full2 : length front2 ≡ 64 * r) (less2 : length rest2 < 64) where
+  next-parts : Parts (grown f (length a) q front rest) b r front2 rest2
+  next-parts =
+      let less : length rest < 64 = p .less in
+      let e : length rest ≡ (f .builder .length + length a) % 64 = omega (arith, parts-long f a q front rest p) in
+      record { row = ap (λ (t : List Bool). t ++ b) (progress-of (f .builder .length + length a) rest (f .builder .ones + count front) e) ∙ row; whole = full2; less = less2 }
+
+  both-parts : Parts f (a ++ b) (q + r) (front ++ front2) rest2
+  both-parts =
+      let full : length front ≡ 64 * q = p .whole in
+      record {
+        row =
+            sym (append-assoc (inProgress (f .builder)) a b) ∙ ap (λ (t : List Bool). t ++ b) (p .row)
+            ∙ append-assoc front rest b ∙ ap (λ (t : List Bool). front ++ t) row ∙ sym (append-assoc front front2 rest2);
+        whole = omega (arith, length-append front front2);
+        less = less2;
+      }
+
+  grown-grown : grown (grown f (length a) q front rest) (length b) r front2 rest2 ≡ grown f (length (a ++ b)) (q + r) (front ++ front2) rest2
+  grown-grown =
+      let full : length front ≡ 64 * q = p .whole in
+      let less : length rest < 64 = p .less in
+      let n : f .builder .length + length a + length b ≡ f .builder .length + length (a ++ b) = omega (arith, length-append a b) in
+      let o : f .builder .ones + count front + count front2 ≡ f .builder .ones + count (front ++ front2) = omega (arith, count-append front front2) in
+      let at : 8 * ((f .builder .length + length a) / 64) ≡ 8 * (f .builder .length / 64) + length (packed (8 * q) front) = omega (arith, parts-long f a q front rest p, length-packed (8 * q) front) in
+      let k : 8 * q + 8 * r ≡ 8 * (q + r) = omega arith in
+      let e8 : length front ≡ 8 * (8 * q) = omega arith in
+      let two : packed (8 * q) front ++ packed (8 * r) front2 ≡ packed (8 * (q + r)) (front ++ front2) =
+      sym (packed-append (8 * q) (8 * r) (front ++ front2)
+      ∙ ap₂ (λ (s t : List ℕ). s ++ t) (packed-front (8 * q) front front2 e8) (ap (packed (8 * r)) (drop-at front front2 (8 * (8 * q)) e8)))
+      ∙ ap (λ (x : ℕ). packed x (front ++ front2)) k in
+      let m : overFrom (overFrom (f .bytes) (8 * (f .builder .length / 64)) (packed (8 * q) front)) (8 * ((f .builder .length + length a) / 64)) (packed (8 * r) front2) ≡ overFrom (f .bytes) (8 * (f .builder .length / 64)) (packed (8 * (q + r)) (front ++ front2)) =
+      ap (λ (x : ℕ). overFrom (overFrom (f .bytes) (8 * (f .builder .length / 64)) (packed (8 * q) front)) x (packed (8 * r) front2)) at
+      ∙ overFrom-more (f .bytes) (8 * (f .builder .length / 64)) (packed (8 * q) front) (packed (8 * r) front2)
+      ∙ ap (overFrom (f .bytes) (8 * (f .builder .length / 64))) two in
+      ap₂ (λ (x y : ℕ). filling (builderOf x (wordOf rest2) y) (overFrom (overFrom (f .bytes) (8 * (f .builder .length / 64)) (packed (8 * q) front)) (8 * ((f .builder .length + length a) / 64)) (packed (8 * r) front2))) n o
+      ∙ ap (filling (builderOf (f .builder .length + length (a ++ b)) (wordOf rest2) (f .builder .ones + count (front ++ front2)))) m
+
+  append-parts : appended (appended f a) b ≡ appended f (a ++ b)
+  append-parts =
+      ap (λ (g : Filling). appended g b) (appended-grown f a q front rest p)
+      ∙ appended-grown (grown f (length a) q front rest) b r front2 rest2 next-parts
+      ∙ grown-grown ∙ sym (appended-grown f (a ++ b) (q + r) (front ++ front2) rest2 both-parts)
+
+-- appending one list, then another, is appending both in a row
+pub append-append : (f : Filling) (a b : List Bool) → appended (appended f a) b ≡ appended f (a ++ b)
+append-append f a b =
+    let all = inProgress (f .builder) ++ a in
+    let rest = drop (64 * (length all / 64)) all in
+    let row = rest ++ b in
+    append-parts f a b (length all / 64) (take (64 * (length all / 64)) all) rest (parts-of f a)
+    (length row / 64) (take (64 * (length row / 64)) row) (drop (64 * (length row / 64)) row)
+    (sym (take-append-drop (64 * (length row / 64)) row))
+    (length-take-le (64 * (length row / 64)) row (omega arith))
+    (omega (arith, length-drop (64 * (length row / 64)) row))
+
+pub append-then : (f g h : Filling) (a b : List Bool) → g ≡ appended f a → h ≡ appended g b → h ≡ appended f (a ++ b)
+append-then f g h a b p q = q ∙ ap (λ (x : Filling). appended x b) p ∙ append-append f a b
+
+-- ---- nothing
+
+none-zero : (l : List Bool) → anySet l ≡ false → wordOf l ≡ 0
+unfolding anySet wordOf
+none-zero [] e = refl
+none-zero (true ∷ l) e = absurd (let z : _≡_ {A = ℕ} 0 1 = cc in omega arith)
+none-zero (false ∷ l) e = let h : wordOf l ≡ 0 = none-zero l e in omega arith
+
+low-list : (k : ℕ) (l : List Bool) → anySet (drop k l) ≡ false → wordOf (take k l) ≡ wordOf l
+unfolding wordOf
+low-list zero l e = sym (none-zero l e)
+low-list (suc k) [] e = refl
+low-list (suc k) (x ∷ l) e = ap (λ (n : ℕ). n * 2 + digit x) (low-list k l e)
+
+-- a word with no flag from k on is that of its first flags
+pub low-word : (k w : ℕ) → w < 2 ^ 64 → noneFrom w k ≡ true → wordOf (take k (bits 64 w)) ≡ w
+low-word k w h e = low-list k (bits 64 w) (not-true (anySet (drop k (bits 64 w))) e) ∙ wordOf-bits 64 w h
+
+pub low-count : (k w : ℕ) → noneFrom w k ≡ true → count (take k (bits 64 w)) ≡ count (bits 64 w)
+low-count k w e =
+    let z : count (drop k (bits 64 w)) ≡ 0 = any-zero (drop k (bits 64 w)) (sym (not-true (anySet (drop k (bits 64 w))) e)) in
+    let s : count (take k (bits 64 w)) + count (drop k (bits 64 w)) ≡ count (bits 64 w) = sym (count-append (take k (bits 64 w)) (drop k (bits 64 w))) ∙ ap count (take-append-drop k (bits 64 w)) in
+    omega arith
+
+pub no-count : count [] ≡ 0
+unfolding count
+no-count = refl
+
+pub no-bytes : (l : List Bool) → packed 0 l ≡ []
+unfolding packed
+no-bytes l = refl
+
+progress-word : (b : BitmapBuilder) → b .word < 2 ^ 64 → noneFrom (b .word) (b .length % 64) ≡ true → wordOf (inProgress b) ≡ b .word
+unfolding inProgress
+progress-word b h e = low-word (b .length % 64) (b .word) h e
+
+-- appending nothing to a possible builder changes nothing
+pub append-none : (f : Filling) → f .builder .word < 2 ^ 64 → noneFrom (f .builder .word) (f .builder .length % 64) ≡ true → appended f [] ≡ f
+append-none f h e =
+    let p : Parts f [] 0 [] (inProgress (f .builder)) =
+    record { row = append-nil (inProgress (f .builder)); whole = refl; less = omega (arith, length-progress (f .builder)) } in
+    let n : f .builder .length + 0 ≡ f .builder .length = omega arith in
+    let o : f .builder .ones + count [] ≡ f .builder .ones = omega (arith, no-count) in
+    appended-grown f [] 0 [] (inProgress (f .builder)) p
+    ∙ ap₂ (λ (x y : ℕ). filling (builderOf x (wordOf (inProgress (f .builder))) y) (overFrom (f .bytes) (8 * (f .builder .length / 64)) (packed 0 []))) n o
+    ∙ ap₂ (λ (x : ℕ) (y : List ℕ). filling (builderOf (f .builder .length) x (f .builder .ones)) y)
+    (progress-word (f .builder) h e)
+    (ap (overFrom (f .bytes) (8 * (f .builder .length / 64))) (no-bytes []) ∙ overFrom-none (f .bytes) (8 * (f .builder .length / 64)))

@@ -1,0 +1,155 @@
+-- Builders with room for what is appended: what the checks give, and what is left of it after an appending. Assumes nothing.
+use mathlib.Core.Path.{_≡_, refl, sym, ap, ap₂, _∙_, subst}
+use mathlib.Core.Bool.{Bool, true, false, not, _&&_}
+use mathlib.Core.List.{List, [], _∷_, _++_, append-assoc}
+use Prim.Native.Nat.{ℕ, zero, suc, _+_, _-_, _*_, _/_, _%_, _≤_, _<_}
+use native.Mathlib.Omega.{arith}
+use lib.Dec.{leb}
+use lib.ListN.{length, take, drop, getD, length-append, take-append-drop}
+use borrow.Author.Tests.{leb-true}
+use Rattle.words.specs.Counts.{anySet}
+use Rattle.words.specs.Flags.{bits, count, flagsOf, overAt, window, wordOf}
+use Rattle.words.proofs.AnyFlag.{zero-any}
+use Rattle.words.proofs.Bytes.{length-flags}
+use Rattle.words.proofs.Counting.{count-append, count-le, count-padded}
+use Rattle.words.proofs.Plain.{overAt-before, overAt-in}
+use Rattle.words.proofs.Windows.{length-window, window-add, window-ext, as-window, at-in, bits-window}
+use Rattle.masks.specs.Builder.{Filling, filling, builderOf, inProgress, appended, builderFlags, noneFrom, possible, builderChecks, Room}
+use Rattle.masks.specs.Checks.{Check, check, firstFailed, failure, limit, withinLimit, outputChecks}
+use Rattle.masks.specs.Frozen.{packed, overFrom}
+use Rattle.masks.specs.declared.builder.BitmapBuilder.{BitmapBuilder}
+use Rattle.masks.proofs.AppendLaws.{Parts, grown, appended-grown, parts-of, parts-long, progress-of, word-back, length-progress}
+use Rattle.masks.proofs.CheckLaws.{head-passed, tail-passed}
+use Rattle.masks.proofs.FrozenLaws.{flags-packed, length-packed, length-overFrom, flags-overFrom}
+
+-- ---- what the checks give
+
+and-left : (x y : Bool) → (x && y) ≡ true → x ≡ true
+and-left true y e = refl
+and-left false y e = e
+
+and-right : (x y : Bool) → (x && y) ≡ true → y ≡ true
+and-right true y e = e
+and-right false y e = absurd (let z : _≡_ {A = ℕ} 0 1 = cc in omega arith)
+
+pub room-of : (b : BitmapBuilder) (n size : ℕ) → firstFailed (builderChecks b (b .length + n) size) ≡ 0 → Room b n size
+unfolding builderChecks possible outputChecks
+room-of b n size e =
+    let two = tail-passed (withinLimit (b .length)) (withinLimit (b .length + n) ∷ check 4 (possible b size) ∷ outputChecks (b .length + n) size) e in
+    let three = tail-passed (withinLimit (b .length + n)) (check 4 (possible b size) ∷ outputChecks (b .length + n) size) two in
+    let four = tail-passed (check 4 (possible b size)) (outputChecks (b .length + n) size) three in
+    let poss = head-passed 3 (possible b size) (outputChecks (b .length + n) size) three in
+    let rest = and-right (noneFrom (b .word) (b .length % 64)) (leb (b .ones) (64 * (b .length / 64)) && leb (8 * (b .length / 64)) size) poss in
+    record {
+      short = leb-true (b .length + n) limit (head-passed 0 (leb (b .length + n) limit) (check 4 (possible b size) ∷ outputChecks (b .length + n) size) two);
+      low = and-left (noneFrom (b .word) (b .length % 64)) (leb (b .ones) (64 * (b .length / 64)) && leb (8 * (b .length / 64)) size) poss;
+      few = leb-true (b .ones) (64 * (b .length / 64)) (and-left (leb (b .ones) (64 * (b .length / 64))) (leb (8 * (b .length / 64)) size) rest);
+      holds = leb-true (8 * ((b .length + n + 63) / 64)) size (head-passed 8 (leb (8 * ((b .length + n + 63) / 64)) size) [] four);
+    }
+
+pub room-less : (b : BitmapBuilder) (m n size : ℕ) → m ≤ n → Room b n size → Room b m size
+room-less b m n size h r =
+    let short : b .length + n ≤ limit = r .short in
+    let holds : 8 * ((b .length + n + 63) / 64) ≤ size = r .holds in
+    record { short = omega arith; low = r .low; few = r .few; holds = omega arith }
+
+-- ---- after an appending
+
+none-behind : (r : List Bool) (k : ℕ) → length r ≡ k → k ≤ 64 → noneFrom (wordOf r) k ≡ true
+none-behind r k e h =
+    let whole : count (bits 64 (wordOf r)) ≡ count r = ap count (bits-window 64 r) ∙ count-padded r 64 (omega arith) in
+    let front : count (take k (bits 64 (wordOf r))) ≡ count r = ap count (word-back r k e h) in
+    let sum : count (take k (bits 64 (wordOf r))) + count (drop k (bits 64 (wordOf r))) ≡ count (bits 64 (wordOf r)) =
+    sym (count-append (take k (bits 64 (wordOf r))) (drop k (bits 64 (wordOf r)))) ∙ ap count (take-append-drop k (bits 64 (wordOf r))) in
+    ap not (sym (zero-any (drop k (bits 64 (wordOf r))) (omega arith)))
+
+grown-room : (f : Filling) (l : List Bool) (q : ℕ) (front rest : List Bool) (m n : ℕ) → Parts f l q front rest → length l + n ≤ m → Room (f .builder) m (length (f .bytes))
+    → Room (grown f (length l) q front rest .builder) n (length (grown f (length l) q front rest .bytes))
+grown-room f l q front rest m n p h r =
+    let short : f .builder .length + m ≤ limit = r .short in
+    let holds : 8 * ((f .builder .length + m + 63) / 64) ≤ length (f .bytes) = r .holds in
+    let few : f .builder .ones ≤ 64 * (f .builder .length / 64) = r .few in
+    let full : length front ≡ 64 * q = p .whole in
+    let less : length rest < 64 = p .less in
+    let long : f .builder .length % 64 + length l ≡ 64 * q + length rest = parts-long f l q front rest p in
+    record {
+      short = omega arith;
+      low = none-behind rest ((f .builder .length + length l) % 64) (omega arith) (omega arith);
+      few = omega (arith, count-le front);
+      holds = omega (arith, length-overFrom (f .bytes) (8 * (f .builder .length / 64)) (packed (8 * q) front));
+    }
+
+-- what is left where room for m flags was, and l has been appended
+pub room-after : (f g : Filling) (l : List Bool) (m n : ℕ) → g ≡ appended f l → length l + n ≤ m → Room (f .builder) m (length (f .bytes)) → Room (g .builder) n (length (g .bytes))
+room-after f g l m n e h r =
+    let p = parts-of f l in
+    subst (λ (x : Filling). Room (x .builder) n (length (x .bytes))) (sym (e ∙ appended-grown f l _ _ _ p)) (grown-room f l _ _ _ m n p h r)
+
+pub length-after : (f g : Filling) (l : List Bool) → g ≡ appended f l → g .builder .length ≡ f .builder .length + length l
+unfolding appended
+length-after f g l e = ap (λ (x : Filling). x .builder .length) e
+
+-- ---- the flags of the builder, and the count of its finished words
+
+-- the flags of the finished words
+abbrev pub finished : Filling → List Bool
+finished f = window (flagsOf (f .bytes)) 0 (64 * (f .builder .length / 64))
+
+grown-finished : (f : Filling) (l : List Bool) (q : ℕ) (front rest : List Bool) → Parts f l q front rest → 8 * ((f .builder .length + length l) / 64) ≤ length (f .bytes)
+    → finished (grown f (length l) q front rest) ≡ finished f ++ front
+grown-finished f l q front rest p h =
+    let full : length front ≡ 64 * q = p .whole in
+    let less : length rest < 64 = p .less in
+    let long : f .builder .length % 64 + length l ≡ 64 * q + length rest = parts-long f l q front rest p in
+    let new : List Bool = flagsOf (overFrom (f .bytes) (8 * (f .builder .length / 64)) (packed (8 * q) front)) in
+    let e : 64 * ((f .builder .length + length l) / 64) ≡ 64 * (f .builder .length / 64) + 64 * q = omega arith in
+    let at : 8 * (8 * (f .builder .length / 64)) ≡ 64 * (f .builder .length / 64) = omega arith in
+    let n8 : 8 * (8 * q) ≡ 64 * q = omega arith in
+    let now : new ≡ overAt (flagsOf (f .bytes)) (64 * (f .builder .length / 64)) (window front 0 (64 * q)) =
+    flags-overFrom (f .bytes) (8 * (f .builder .length / 64)) (packed (8 * q) front)
+    ∙ ap₂ (λ (x : ℕ) (y : List Bool). overAt (flagsOf (f .bytes)) x y) at (flags-packed (8 * q) front ∙ ap (window front 0) n8) in
+    ap (window new 0) e ∙ window-add new 0 (64 * (f .builder .length / 64)) (64 * q)
+    ∙ ap (λ (t : List Bool). window t 0 (64 * (f .builder .length / 64)) ++ window t (0 + 64 * (f .builder .length / 64)) (64 * q)) now
+    ∙ ap₂ (λ (x y : List Bool). x ++ y)
+    (window-ext (overAt (flagsOf (f .bytes)) (64 * (f .builder .length / 64)) (window front 0 (64 * q))) (flagsOf (f .bytes)) 0 0 (64 * (f .builder .length / 64)) (λ j b.
+    overAt-before (flagsOf (f .bytes)) (64 * (f .builder .length / 64)) (window front 0 (64 * q)) (0 + j) (omega arith)))
+    (sym (as-window front (overAt (flagsOf (f .bytes)) (64 * (f .builder .length / 64)) (window front 0 (64 * q))) (0 + 64 * (f .builder .length / 64)) (64 * q) full (λ j b.
+    let z : 0 + j ≡ j = omega arith in
+    let y : 64 * (f .builder .length / 64) + j ≡ 0 + 64 * (f .builder .length / 64) + j = omega arith in
+    sym (ap (λ (x : ℕ). getD front x false) z) ∙ sym (at-in front 0 (64 * q) j b)
+    ∙ sym (overAt-in (flagsOf (f .bytes)) (64 * (f .builder .length / 64)) (window front 0 (64 * q)) j (omega (arith, length-window front 0 (64 * q))) (omega (arith, length-flags (f .bytes))))
+    ∙ ap (λ (x : ℕ). getD (overAt (flagsOf (f .bytes)) (64 * (f .builder .length / 64)) (window front 0 (64 * q))) x false) y)))
+
+pub finished-after : (f : Filling) (l : List Bool) (q : ℕ) (front rest : List Bool) → Parts f l q front rest → 8 * ((f .builder .length + length l) / 64) ≤ length (f .bytes)
+    → finished (appended f l) ≡ finished f ++ front
+finished-after f l q front rest p h = ap finished (appended-grown f l q front rest p) ∙ grown-finished f l q front rest p h
+
+grown-flags : (f : Filling) (l : List Bool) (q : ℕ) (front rest : List Bool) → Parts f l q front rest → 8 * ((f .builder .length + length l) / 64) ≤ length (f .bytes)
+    → builderFlags (grown f (length l) q front rest) ≡ builderFlags f ++ l
+unfolding builderFlags
+grown-flags f l q front rest p h =
+    let less : length rest < 64 = p .less in
+    let e : length rest ≡ (f .builder .length + length l) % 64 = omega (arith, parts-long f l q front rest p) in
+    ap₂ (λ (x y : List Bool). x ++ y) (grown-finished f l q front rest p h) (progress-of (f .builder .length + length l) rest (f .builder .ones + count front) e)
+    ∙ append-assoc (finished f) front rest ∙ ap (λ (t : List Bool). finished f ++ t) (sym (p .row)) ∙ sym (append-assoc (finished f) (inProgress (f .builder)) l)
+
+-- the builder's flags, then the new ones
+pub flags-after : (f : Filling) (l : List Bool) → Room (f .builder) (length l) (length (f .bytes)) → builderFlags (appended f l) ≡ builderFlags f ++ l
+flags-after f l r =
+    let holds : 8 * ((f .builder .length + length l + 63) / 64) ≤ length (f .bytes) = r .holds in
+    let p = parts-of f l in
+    ap builderFlags (appended-grown f l _ _ _ p) ∙ grown-flags f l _ _ _ p (omega arith)
+
+-- ones that are those of the finished words stay so
+pub ones-after : (f : Filling) (l : List Bool) → Room (f .builder) (length l) (length (f .bytes)) → f .builder .ones ≡ count (finished f) → appended f l .builder .ones ≡ count (finished (appended f l))
+ones-after f l r e =
+    let holds : 8 * ((f .builder .length + length l + 63) / 64) ≤ length (f .bytes) = r .holds in
+    let p = parts-of f l in
+    ap (λ (x : Filling). x .builder .ones) (appended-grown f l _ _ _ p) ∙ ap₂ (λ (x y : ℕ). x + y) e refl
+    ∙ sym (ap count (finished-after f l _ _ _ p (omega arith)) ∙ count-append (finished f) _)
+
+-- how many flags a builder has
+pub length-flags-of : (f : Filling) → length (builderFlags f) ≡ f .builder .length
+unfolding builderFlags
+length-flags-of f =
+    omega (arith, length-append (finished f) (inProgress (f .builder)), length-window (flagsOf (f .bytes)) 0 (64 * (f .builder .length / 64)), length-progress (f .builder))
