@@ -1,4 +1,6 @@
 -- The laws of the crate, a file for each topic.
 pub mod CheckLaws
+pub mod ChunkLaws
+pub mod CursorLaws
 pub mod SpanLaws
 pub mod SplitLaws

@@ -3,6 +3,8 @@ pub mod Aligned
 pub mod Answer
 pub mod Builder
 pub mod Checks
+pub mod Chunks
+pub mod Cursor
 pub mod Frozen
 pub mod Mask
 pub mod Spans

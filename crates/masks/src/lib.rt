@@ -6,4 +6,6 @@ pub mod aligned;
 pub mod bitmap;
 pub mod builder;
 mod checks;
+pub mod chunks;
+mod cursor;
 mod span;
