@@ -2,7 +2,7 @@
 use mathlib.Core.Path.{_≡_, refl, sym, ap, ap₂, _∙_, subst}
 use mathlib.Core.Bool.{Bool, true, false, cond}
 use mathlib.Core.List.{List, [], _∷_, _++_}
-use Prim.Native.Nat.{ℕ, zero, suc, _+_, _*_, _/_, _%_, _≤_, _<_}
+use Prim.Native.Nat.{ℕ, zero, suc, _+_, _-_, _*_, _/_, _%_, _≤_, _<_}
 use native.Mathlib.Omega.{arith}
 use lib.Dec.{leb}
 use borrow.Author.Tests.{le-leb, lt-leb, leb-true, leb-false}
@@ -165,3 +165,13 @@ exact-sum start n size = ⊎-elim
     (λ (h : 8 * size < start + n). lt-leb (start / 8 + n / 8 + (start % 8 + n % 8 + 7) / 8) size (omega arith) ∙ sym (lt-leb (start + n) (8 * size) h))
     (λ (h : start + n ≤ 8 * size). le-leb (start / 8 + n / 8 + (start % 8 + n % 8 + 7) / 8) size (omega arith) ∙ sym (le-leb (start + n) (8 * size) h))
     (lt-or-le (8 * size) (start + n))
+
+-- x + y against a limit, taken as y against what x leaves of it
+pub sum-leb : (x y m : ℕ) → x ≤ m → leb y (m - x) ≡ leb (x + y) m
+sum-leb x y m h = ⊎-elim
+    (λ (k : m < x + y). lt-leb y (m - x) (omega arith) ∙ sym (lt-leb (x + y) m k))
+    (λ (k : x + y ≤ m). le-leb y (m - x) (omega arith) ∙ sym (le-leb (x + y) m k))
+    (lt-or-le m (x + y))
+
+pub sum-over : (x y m : ℕ) → m < x → false ≡ leb (x + y) m
+sum-over x y m h = sym (lt-leb (x + y) m (omega arith))

@@ -1,4 +1,5 @@
 -- The laws of the crate, a file for each topic.
+pub mod BitmaskLaws
 pub mod CheckLaws
 pub mod ChunkLaws
 pub mod CursorLaws

@@ -1,6 +1,6 @@
 // Words of a span.
 ghost use mathlib.Core.Path.{_≡_};
-ghost use Prim.Native.Nat.{_*_, _≤_};
+ghost use Prim.Native.Nat.{_*_, _≤_, min};
 ghost use lib.ListN.{length};
 ghost use Rattle.words.specs.Flags.{wordOf, wordFlags};
 ghost use Rattle.words.specs.Loops.{stretch};
@@ -22,4 +22,10 @@ pub(crate) fn byte_word(bytes: &[u8], at: usize) -> u64
     ensures { λ r. ⌜ wordFlags r ≡ stretch (now (bytes .entry)) (8 * at) 64 ⌝ }
 {
     load_padded_le_u64(&bytes[at..])
+}
+
+pub(crate) fn least(x: usize, y: usize) -> usize
+    ensures { λ r. ⌜ r ≡ min x y ⌝ }
+{
+    if x < y { x } else { y }
 }
