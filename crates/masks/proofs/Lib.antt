@@ -1,6 +1,9 @@
 -- The laws of the crate, a file for each topic.
 pub mod AppendLaws
+pub mod BitmaskLaws
 pub mod CheckLaws
+pub mod ChunkLaws
+pub mod CursorLaws
 pub mod FrozenLaws
 pub mod MaskLaws
 pub mod PartLaws

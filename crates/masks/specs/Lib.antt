@@ -1,8 +1,11 @@
 -- What the contracts of this crate mean. `Checks`, `Answer` and `Mask` are read first.
 pub mod Aligned
 pub mod Answer
+pub mod Bitmask
 pub mod Builder
 pub mod Checks
+pub mod Chunks
+pub mod Cursor
 pub mod Frozen
 pub mod Mask
 pub mod Utils

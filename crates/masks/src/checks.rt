@@ -42,6 +42,17 @@ pub(crate) fn within_limit(n: usize) -> bool
     n <= Bitmap::LIMIT
 }
 
+// Is a resulting start x + y, taken exactly, within the limit.
+pub(crate) fn sum_within_limit(x: usize, y: usize) -> bool
+    ensures { λ r. ⌜ r ≡ leb (x + y) limit ⌝ }
+{
+    if x <= Bitmap::LIMIT {
+        y <= Bitmap::LIMIT - x
+    } else {
+        false
+    }
+}
+
 // Is start + length, taken exactly, at most the flags of so many bytes.
 fn in_bytes(start: usize, length: usize, size: usize) -> bool
     ensures { λ r. ⌜ r ≡ leb (start + length) (8 * size) ⌝ }

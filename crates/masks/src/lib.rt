@@ -4,7 +4,10 @@
 // first one answered no, with the state it got. Nothing is written before the last check has passed.
 pub mod aligned;
 pub mod bitmap;
+pub mod bitmask;
 pub mod builder;
 mod checks;
+pub mod chunks;
+mod cursor;
 mod span;
 pub mod utils;

@@ -1,0 +1,44 @@
+use mathlib.Core.Path.{refl}
+use Rattle.masks.specs.Bitmask.{splitChecks}
+use Rattle.masks.proofs.CheckLaws.{two-pieces, one-check}
+use borrow.Author.Needs.{needs}
+use Rattle.masks.proofs.bitmask.split_failure.Statement.{statement}
+use Rattle.masks.proofs.bitmask.split_failure.Tie as tie
+
+span-failure-requires : tie.Need-span-failure-requires
+span-failure-requires c κs = search needs
+
+sum-within-limit-requires : tie.Need-sum-within-limit-requires
+sum-within-limit-requires c κs = search needs
+
+failed-requires : tie.Need-failed-requires
+failed-requires c κs = search needs
+
+failed-requires-2 : tie.Need-failed-requires-2
+failed-requires-2 c κs = search needs
+
+earlier-requires : tie.Need-earlier-requires
+earlier-requires c κs = search needs
+
+earlier-requires-2 : tie.Need-earlier-requires-2
+earlier-requires-2 c κs = search needs
+
+returns : tie.Need-returns
+unfolding splitChecks
+returns c =
+    two-pieces _ _ _ _ _ (c .earlier2 .ensures) (c .before .before .before .before .before .span-failure .ensures)
+    (two-pieces _ _ _ _ _ (c .before .earlier .ensures)
+    (one-check _ _ _ _ (c .before .before .before .failed .ensures) (c .before .before .before .before .sum-within-limit .ensures))
+    (one-check _ _ _ _ (c .before .before .failed2 .ensures) refl))
+
+pub split-failure-spec : {M : Type 1} → statement M
+split-failure-spec =
+    tie.close
+    (tie.spec
+    span-failure-requires
+    sum-within-limit-requires
+    failed-requires
+    failed-requires-2
+    earlier-requires
+    earlier-requires-2
+    returns)
