@@ -121,6 +121,16 @@ pub is-given : {S A : Type 0} (n m : ℕ) (s : S) (a : A) → n ≡ m → n ≡ 
 unfolding decided
 is-given n m s a e h = ap (λ (x : ℕ). decided x s a) (sym h ∙ e)
 
+-- a lent buffer: as it was where a number came out, else new
+pub is-kept : {A : Type 0} (n m : ℕ) (new old : A) → n ≡ m → (n ≡ 0 → ⊥) → old ≡ kept m new old
+unfolding kept
+is-kept zero m new old e h = absurd (h refl)
+is-kept (suc n) m new old e h = ap (λ (x : ℕ). kept x new old) e
+
+pub is-new : {A : Type 0} (n m : ℕ) (new old : A) → n ≡ m → n ≡ 0 → new ≡ kept m new old
+unfolding kept
+is-new n m new old e h = ap (λ (x : ℕ). kept x new old) (sym h ∙ e)
+
 pub not-empty : {A : Type 0} (n : ℕ) (x y z : A) → (n ≡ 0 → ⊥) → z ≡ y → z ≡ unlessEmpty n x y
 unfolding unlessEmpty
 not-empty zero x y z h e = absurd (h refl)
@@ -268,3 +278,10 @@ first-refused cs n k t s a b p z = is-refused n (firstFailed (cs ++ (check (suc 
     keeps : (t : Bool) → earlier (firstFailed cs) (cond t 0 (suc k)) ≡ firstFailed cs
     keeps true = earlier-none (firstFailed cs)
     keeps false = first-least (firstFailed cs) (suc k) (λ e. z (p ∙ e)) (λ e. omega arith) (failed-ranked cs (suc k) b (λ e. z (p ∙ e)))
+
+-- the words of n flags, against those of an output
+pub output-test : (n size : ℕ) → leb (n / 64 + (n % 64 + 63) / 64) (size / 8) ≡ leb (8 * ((n + 63) / 64)) size
+output-test n size = ⊎-elim
+    (λ (h : size < 8 * ((n + 63) / 64)). lt-leb (n / 64 + (n % 64 + 63) / 64) (size / 8) (omega arith) ∙ sym (lt-leb (8 * ((n + 63) / 64)) size h))
+    (λ (h : 8 * ((n + 63) / 64) ≤ size). le-leb (n / 64 + (n % 64 + 63) / 64) (size / 8) (omega arith) ∙ sym (le-leb (8 * ((n + 63) / 64)) size h))
+    (lt-or-le size (8 * ((n + 63) / 64)))

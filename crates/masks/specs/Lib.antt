@@ -4,6 +4,7 @@ pub mod Answer
 pub mod Bitmask
 pub mod Builder
 pub mod Checks
+pub mod Combine
 pub mod Chunks
 pub mod Cursor
 pub mod Frozen

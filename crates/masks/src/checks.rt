@@ -104,3 +104,10 @@ pub(crate) fn sum_at_most(a: usize, b: usize, c: usize) -> bool
 {
     if a <= c { b <= c - a } else { false }
 }
+
+// Does an output of so many bytes hold the frozen bytes of n flags.
+pub(crate) fn frozen_failure(n: usize, size: usize) -> u8
+    ensures { λ r. ⌜ r ≡ firstFailed (outputChecks n size) ⌝ }
+{
+    failed(9, n / 64 + (n % 64 + 63) / 64 <= size / 8)
+}

@@ -4,6 +4,7 @@
 // first one answered no, with the state it got. Nothing is written before the last check has passed.
 pub mod aligned;
 pub mod bitmap;
+pub mod bitmap_ops;
 pub mod bitmask;
 pub mod builder;
 mod checks;

@@ -1,0 +1,128 @@
+-- The combinations: what is written, by flags and by bytes, and what the counts say. Assumes nothing.
+use mathlib.Core.Path.{_≡_, refl, sym, ap, ap₂, _∙_, subst}
+use mathlib.Core.Bool.{Bool, true, false, not, cond, _&&_, _||_, xor}
+use mathlib.Core.List.{List, [], _∷_, _++_, map, zipWith}
+use Prim.Native.Nat.{ℕ, zero, suc, _+_, _*_, _/_, _≤_, _<_}
+use native.Mathlib.Omega.{arith}
+use lib.Dec.{eqb, leb}
+use lib.ListN.{length}
+use borrow.Author.Tests.{eq-eqb, ne-eqb, eqb-true, eqb-false}
+use Rattle.words.specs.Flags.{copies, count, flagsOf, over, window}
+use Rattle.words.specs.Loops.{wholeWords, combined, stretch}
+use Rattle.words.specs.Ops.{opOf, zip3}
+use Rattle.words.specs.declared.ops.Op.{Op}
+use Rattle.words.specs.declared.ops.Op.the-variants.{And, AndNot, Or, OrNot, Xor, Not, Select}
+use Rattle.words.proofs.Bytes.{flags-inj, flags-over}
+use Rattle.masks.specs.Answer.{Answer, given, refused, decided, kept}
+use Rattle.masks.specs.Checks.{Check, check, firstFailed, outputChecks}
+use Rattle.masks.specs.Combine.{shortcut, resultFlags, resultCount, hasShortcut, pairChecks, pairShortcut, pairEach, pairFlags, pairMask, pairOf, pairBytes, PairInLimit}
+use Rattle.masks.specs.Frozen.{packed, frozen, frozenSize, overFrom}
+use Rattle.masks.specs.Mask.{maskOf, maskFlags, maskChecks, zeroCount}
+use Rattle.masks.specs.declared.bitmap.Bitmap.{Bitmap}
+use Rattle.masks.specs.declared.bitmap.Unset.{Unset}
+use Rattle.masks.specs.declared.bitmap_ops.Shortcut.{Shortcut}
+use Rattle.masks.specs.declared.bitmap_ops.Shortcut.the-variants.{Each, All}
+use Rattle.masks.proofs.CheckLaws.{both-left, both-right, first-allowed, is-given, is-refused, is-kept, is-new}
+use Rattle.masks.proofs.FrozenLaws.{Small, flags-packed, packed-small, overFrom-small}
+use Rattle.masks.proofs.MaskLaws.{mask-allowed}
+
+-- ---- from flags to bytes
+
+flags-frozen : (l : List Bool) → flagsOf (frozen l) ≡ wholeWords l
+unfolding frozen wholeWords
+flags-frozen l =
+    let e : 8 * (8 * ((length l + 63) / 64)) ≡ 64 * ((length l + 63) / 64) = omega arith in
+    flags-packed (8 * ((length l + 63) / 64)) l ∙ ap (window l 0) e
+
+over-small : (out : List ℕ) (l : List Bool) → Small out → Small (over out (frozen l))
+unfolding overFrom frozen
+over-small out l p = overFrom-small out 0 (packed (frozenSize (length l)) l) p (packed-small (frozenSize (length l)) l)
+
+-- whole words that were written over the front of an output
+pub frozen-written : (out out′ : List ℕ) (l : List Bool) → Small out → Small out′ → flagsOf out′ ≡ over (flagsOf out) (wholeWords l) → out′ ≡ over out (frozen l)
+frozen-written out out′ l p q e =
+    flags-inj out′ (over out (frozen l)) q (over-small out l p)
+    (e ∙ ap (over (flagsOf out)) (sym (flags-frozen l)) ∙ sym (flags-over out (frozen l)))
+
+-- ---- shortcuts
+
+pub no-shortcut : (op : Op) (n l r : ℕ) → hasShortcut op ≡ false → Each ≡ shortcut op n l r
+unfolding shortcut
+no-shortcut And n l r e = absurd (let z : _≡_ {A = ℕ} 0 1 = cc e in omega arith)
+no-shortcut Or n l r e = absurd (let z : _≡_ {A = ℕ} 0 1 = cc e in omega arith)
+no-shortcut Xor n l r e = absurd (let z : _≡_ {A = ℕ} 0 1 = cc e in omega arith)
+no-shortcut AndNot n l r e = refl
+no-shortcut OrNot n l r e = refl
+no-shortcut Not n l r e = refl
+no-shortcut Select n l r e = refl
+
+pub and-first : (n l r : ℕ) → l ≡ n → All false ≡ shortcut And n l r
+unfolding shortcut
+and-first n l r e = rw (eq-eqb l n e)
+
+pub and-second : (n l r : ℕ) → (l ≡ n → ⊥) → r ≡ n → All false ≡ shortcut And n l r
+unfolding shortcut
+and-second n l r h e = rw (ne-eqb l n h, eq-eqb r n e)
+
+pub and-none : (n l r : ℕ) → (l ≡ n → ⊥) → (r ≡ n → ⊥) → Each ≡ shortcut And n l r
+unfolding shortcut
+and-none n l r h k = rw (ne-eqb l n h, ne-eqb r n k)
+
+pub or-first : (n l r : ℕ) → l ≡ 0 → All true ≡ shortcut Or n l r
+unfolding shortcut
+or-first n l r e = rw (eq-eqb l 0 e)
+
+pub or-second : (n l r : ℕ) → (l ≡ 0 → ⊥) → r ≡ 0 → All true ≡ shortcut Or n l r
+unfolding shortcut
+or-second n l r h e = rw (ne-eqb l 0 h, eq-eqb r 0 e)
+
+pub or-none : (n l r : ℕ) → (l ≡ 0 → ⊥) → (r ≡ 0 → ⊥) → Each ≡ shortcut Or n l r
+unfolding shortcut
+or-none n l r h k = rw (ne-eqb l 0 h, ne-eqb r 0 k)
+
+-- `xor` by its four tests
+pub xor-by : (n l r : ℕ) (a b c d : Bool) (s : Shortcut) → eqb l n ≡ a → eqb r n ≡ b → eqb l 0 ≡ c → eqb r 0 ≡ d
+    → s ≡ cond ((a && b) || (c && d)) (All false) (cond ((c && b) || (a && d)) (All true) Each) → s ≡ shortcut Xor n l r
+unfolding shortcut
+xor-by n l r a b c d s p q u v e = rw (p, q, u, v) e
+
+pub xor-each : (c : Bool) → Each ≡ cond ((true && false) || (c && false)) (All false) (cond ((c && false) || (true && false)) (All true) Each)
+xor-each true = refl
+xor-each false = refl
+
+-- ---- the answer of two masks combined
+
+pub pair-in-limit : (a : Bitmap) (aBytes : List ℕ) (b : Bitmap) (bBytes : List ℕ) (size : ℕ) → firstFailed (pairChecks a aBytes b bBytes size) ≡ 0 → PairInLimit a b
+unfolding pairChecks
+pair-in-limit a aBytes b bBytes size e =
+    let rest : List Check = check 5 (eqb (a .length) (b .length)) ∷ outputChecks (a .length) size in
+    let one = mask-allowed a aBytes (both-left (maskChecks a aBytes) (maskChecks b bBytes ++ rest) e) in
+    let two = mask-allowed b bBytes (both-left (maskChecks b bBytes) rest (both-right (maskChecks a aBytes) (maskChecks b bBytes ++ rest) e)) in
+    record { startA = one .starts; lengthA = one .short; startB = two .starts; lengthB = two .short }
+
+pub pair-lengths : (a : Bitmap) (aBytes : List ℕ) (b : Bitmap) (bBytes : List ℕ) (size : ℕ) → firstFailed (pairChecks a aBytes b bBytes size) ≡ 0 → a .length ≡ b .length
+unfolding pairChecks
+pair-lengths a aBytes b bBytes size e =
+    let rest : List Check = check 5 (eqb (a .length) (b .length)) ∷ outputChecks (a .length) size in
+    eqb-true (a .length) (b .length)
+    (first-allowed 4 (eqb (a .length) (b .length)) (outputChecks (a .length) size)
+    (both-right (maskChecks b bBytes) rest (both-right (maskChecks a aBytes) (maskChecks b bBytes ++ rest) e)))
+
+module _ (op : Op) (a : Bitmap) (aBytes : List ℕ) (b : Bitmap) (bBytes out : List ℕ) (k : ℕ) (e : k ≡ firstFailed (pairChecks a aBytes b bBytes (length out))) where
+  pub pair-refused : (k ≡ 0 → ⊥) → (refused k tt ≡ pairOf op a aBytes b bBytes out) × (out ≡ pairBytes op a aBytes b bBytes out)
+  unfolding pairOf pairBytes
+  pair-refused h = (is-refused k (firstFailed (pairChecks a aBytes b bBytes (length out))) tt (pairMask op a aBytes b bBytes) e h, is-kept k (firstFailed (pairChecks a aBytes b bBytes (length out))) (over out (frozen (pairFlags op a aBytes b bBytes))) out e h)
+
+  pub pair-given : (by : Shortcut) (u : Unset) → k ≡ 0 → by ≡ pairShortcut op a aBytes b bBytes → u ≡ resultCount by (a .length) → given (maskOf 0 (a .length) u) ≡ pairOf op a aBytes b bBytes out
+  unfolding pairOf pairMask
+  pair-given by u z p q =
+      ap (λ (v : Unset). given (maskOf 0 (a .length) v)) (q ∙ ap (λ (s : Shortcut). resultCount s (a .length)) p)
+      ∙ is-given k (firstFailed (pairChecks a aBytes b bBytes (length out))) tt (pairMask op a aBytes b bBytes) e z
+
+  pub pair-written : (by : Shortcut) (out′ : List ℕ) → k ≡ 0 → by ≡ pairShortcut op a aBytes b bBytes
+      → out′ ≡ over out (frozen (resultFlags by (a .length) (combined op aBytes (a .start) bBytes (b .start) bBytes (b .start) (a .length)))) → out′ ≡ pairBytes op a aBytes b bBytes out
+  unfolding pairBytes pairFlags
+  pair-written by out′ z p q =
+      let same : a .length ≡ b .length = pair-lengths a aBytes b bBytes (length out) (sym e ∙ z) in
+      q ∙ ap₂ (λ (s : Shortcut) (n : ℕ). over out (frozen (resultFlags s (a .length) (zip3 (opOf op) (stretch aBytes (a .start) (a .length)) (stretch bBytes (b .start) n) (stretch bBytes (b .start) n))))) p same
+      ∙ is-new k (firstFailed (pairChecks a aBytes b bBytes (length out))) (over out (frozen (resultFlags (pairShortcut op a aBytes b bBytes) (a .length) (pairEach op a aBytes b bBytes)))) out e z

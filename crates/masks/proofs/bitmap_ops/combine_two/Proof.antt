@@ -1,0 +1,43 @@
+use mathlib.Core.Path.{sym, _∙_}
+use Rattle.masks.proofs.CombineLaws.{pair-in-limit, pair-refused, pair-given, pair-written}
+use borrow.Author.Needs.{needs}
+use Rattle.masks.proofs.bitmap_ops.combine_two.Statement.{statement}
+use Rattle.masks.proofs.bitmap_ops.combine_two.Tie as tie
+
+pair-failure-requires : tie.Need-pair-failure-requires
+pair-failure-requires c κs = search needs
+
+returns : tie.Need-returns
+returns c = pair-refused _ _ _ _ _ _ _ (c .before .pair-failure .ensures) (c .if1 .taken)
+
+pair-shortcut-requires : tie.Need-pair-shortcut-requires
+pair-shortcut-requires c κs = pair-in-limit _ _ _ _ _ (sym (c .before .pair-failure .ensures) ∙ c .if1 .left)
+
+write-result-requires : tie.Need-write-result-requires
+write-result-requires c κs = search needs
+
+result-count-requires : tie.Need-result-count-requires
+result-count-requires c κs = search needs
+
+same-length : tie.Need-same-length
+same-length c = search needs
+
+returns-2 : tie.Need-returns-2
+returns-2 c =
+    let write = c .before .before .before in
+    let by = write .before .before in (
+      pair-given _ _ _ _ _ _ _ (by .before .before .pair-failure .ensures) _ _ (by .before .if1 .left) (by .pair-shortcut .ensures) (c .result-count .ensures),
+      pair-written _ _ _ _ _ _ _ (by .before .before .pair-failure .ensures) _ _ (by .before .if1 .left) (by .pair-shortcut .ensures) (write .write-result .ensures),
+    )
+
+pub combine-two-spec : {M : Type 1} → statement M
+combine-two-spec =
+    tie.close
+    (tie.spec
+    pair-failure-requires
+    returns
+    pair-shortcut-requires
+    write-result-requires
+    result-count-requires
+    same-length
+    returns-2)

@@ -1,0 +1,102 @@
+-- The combinations of masks: flag by flag, or by the counts alone where these say that the result is constant. Assumes nothing.
+use Prim.Native.Nat.{ℕ, _≤_}
+use mathlib.Core.Bool.{Bool, true, false, not, cond, _&&_, _||_}
+use mathlib.Core.List.{List, [], _∷_, _++_, map, zipWith}
+use lib.Dec.{eqb}
+use lib.ListN.{length}
+use Rattle.words.specs.Flags.{copies, over}
+use Rattle.words.specs.Ops.{opOf, zip3}
+use Rattle.words.specs.declared.ops.Op.{Op}
+use Rattle.words.specs.declared.ops.Op.the-variants.{And, AndNot, Or, OrNot, Xor, Not, Select}
+use Rattle.masks.specs.Answer.{Answer, given, refused, checked, kept}
+use Rattle.masks.specs.Checks.{Check, check, firstFailed, limit, outputChecks}
+use Rattle.masks.specs.Frozen.{frozen}
+use Rattle.masks.specs.Mask.{maskOf, maskFlags, maskChecks, zeroCount, uncounted}
+use Rattle.masks.specs.declared.bitmap.Bitmap.{Bitmap}
+use Rattle.masks.specs.declared.bitmap.Unset.{Unset}
+use Rattle.masks.specs.declared.bitmap.Unset.the-variants.{Known}
+use Rattle.masks.specs.declared.bitmap_ops.Combined.{Combined}
+use Rattle.masks.specs.declared.bitmap_ops.Shortcut.{Shortcut}
+use Rattle.masks.specs.declared.bitmap_ops.Shortcut.the-variants.{Each, All}
+
+abbrev pub combinedAnswer : Combined → Answer (Unit {0}) Bitmap
+combinedAnswer (Combined.Mask m) = given m
+combinedAnswer (Combined.Refused k) = refused k tt
+
+-- ---- shortcuts: what the zero counts l and r of two masks of n flags say of the result
+
+-- constant by count: all ones, all zeros
+abbrev pub full : ℕ → ℕ → Bool
+full n zeros = eqb zeros 0
+
+abbrev pub clear : ℕ → ℕ → Bool
+clear n zeros = eqb zeros n
+
+-- `and` is all zero if either count equals the length; `or` is all one if either count is 0; `xor` is constant if both masks
+-- are constant by count. The other combinations have no shortcut.
+unfoldable pub shortcut : Op → ℕ → ℕ → ℕ → Shortcut
+shortcut And n l r = cond (clear n l || clear n r) (All false) Each
+shortcut Or n l r = cond (full n l || full n r) (All true) Each
+shortcut Xor n l r =
+    cond ((clear n l && clear n r) || (full n l && full n r)) (All false)
+    (cond ((full n l && clear n r) || (clear n l && full n r)) (All true) Each)
+shortcut AndNot n l r = Each
+shortcut OrNot n l r = Each
+shortcut Not n l r = Each
+shortcut Select n l r = Each
+
+-- the flags of the result, where those flag by flag are given
+abbrev pub resultFlags : Shortcut → ℕ → List Bool → List Bool
+resultFlags Each n flags = flags
+resultFlags (All x) n flags = copies n x
+
+-- its count: its length where a shortcut gives all zeros, 0 for no flags, else unknown
+abbrev pub resultCount : Shortcut → ℕ → Unset
+resultCount (All false) n = Known n
+resultCount (All true) n = uncounted n
+resultCount Each n = uncounted n
+
+-- ---- two masks
+
+unfoldable pub pairChecks : Bitmap → List ℕ → Bitmap → List ℕ → ℕ → List Check
+pairChecks a aBytes b bBytes size =
+    maskChecks a aBytes ++ (maskChecks b bBytes ++ (check 5 (eqb (a .length) (b .length)) ∷ outputChecks (a .length) size))
+
+abbrev pub pairShortcut : Op → Bitmap → List ℕ → Bitmap → List ℕ → Shortcut
+pairShortcut op a aBytes b bBytes = shortcut op (a .length) (zeroCount a aBytes) (zeroCount b bBytes)
+
+-- flag by flag: an operation on two flags does not read the third
+abbrev pub pairEach : Op → Bitmap → List ℕ → Bitmap → List ℕ → List Bool
+pairEach op a aBytes b bBytes = zip3 (opOf op) (maskFlags a aBytes) (maskFlags b bBytes) (maskFlags b bBytes)
+
+unfoldable pub pairFlags : Op → Bitmap → List ℕ → Bitmap → List ℕ → List Bool
+pairFlags op a aBytes b bBytes = resultFlags (pairShortcut op a aBytes b bBytes) (a .length) (pairEach op a aBytes b bBytes)
+
+-- the record of the result
+unfoldable pub pairMask : Op → Bitmap → List ℕ → Bitmap → List ℕ → Bitmap
+pairMask op a aBytes b bBytes = maskOf 0 (a .length) (resultCount (pairShortcut op a aBytes b bBytes) (a .length))
+
+unfoldable pub pairOf : Op → Bitmap → List ℕ → Bitmap → List ℕ → List ℕ → Answer (Unit {0}) Bitmap
+pairOf op a aBytes b bBytes out = checked (pairChecks a aBytes b bBytes (length out)) tt (pairMask op a aBytes b bBytes)
+
+unfoldable pub pairBytes : Op → Bitmap → List ℕ → Bitmap → List ℕ → List ℕ → List ℕ
+pairBytes op a aBytes b bBytes out =
+    kept (firstFailed (pairChecks a aBytes b bBytes (length out))) (over out (frozen (pairFlags op a aBytes b bBytes))) out
+
+-- ---- what the workers ask and answer
+
+-- an operation that has a shortcut
+abbrev pub hasShortcut : Op → Bool
+hasShortcut And = true
+hasShortcut Or = true
+hasShortcut Xor = true
+hasShortcut AndNot = false
+hasShortcut OrNot = false
+hasShortcut Not = false
+hasShortcut Select = false
+
+pub record PairInLimit (a b : Bitmap) : Type 0 where
+  pub startA : a .start ≤ limit
+  pub lengthA : a .length ≤ limit
+  pub startB : b .start ≤ limit
+  pub lengthB : b .length ≤ limit
