@@ -9,20 +9,22 @@ use lib.ListN.{length}
 use borrow.Author.Tests.{eq-eqb, ne-eqb, eqb-true, eqb-false}
 use Rattle.words.specs.Flags.{copies, count, flagsOf, over, window}
 use Rattle.words.specs.Loops.{wholeWords, combined, stretch}
-use Rattle.words.specs.Ops.{opOf, zip3}
+use Rattle.words.specs.Ops.{opOf, orNot, zip3}
+use Rattle.words.proofs.Combining.{zip-first, zip-two, zip-same, zip-flip, else-set, else-clear}
+use Rattle.words.proofs.Windows.{length-window}
 use Rattle.words.specs.declared.ops.Op.{Op}
 use Rattle.words.specs.declared.ops.Op.the-variants.{And, AndNot, Or, OrNot, Xor, Not, Select}
 use Rattle.words.proofs.Bytes.{flags-inj, flags-over}
 use Rattle.masks.specs.Answer.{Answer, given, refused, decided, kept}
 use Rattle.masks.specs.Checks.{Check, check, firstFailed, outputChecks}
-use Rattle.masks.specs.Combine.{shortcut, resultFlags, resultCount, hasShortcut, pairChecks, pairShortcut, pairEach, pairFlags, pairMask, pairOf, pairBytes, PairInLimit}
+use Rattle.masks.specs.Combine.{shortcut, resultFlags, resultCount, hasShortcut, pairChecks, pairShortcut, pairEach, pairFlags, pairMask, pairOf, pairBytes, PairInLimit, eachOf, eachBytes, selectChecks}
 use Rattle.masks.specs.Frozen.{packed, frozen, frozenSize, overFrom}
-use Rattle.masks.specs.Mask.{maskOf, maskFlags, maskChecks, zeroCount}
+use Rattle.masks.specs.Mask.{maskOf, maskFlags, maskChecks, uncounted, zeroCount}
 use Rattle.masks.specs.declared.bitmap.Bitmap.{Bitmap}
 use Rattle.masks.specs.declared.bitmap.Unset.{Unset}
 use Rattle.masks.specs.declared.bitmap_ops.Shortcut.{Shortcut}
 use Rattle.masks.specs.declared.bitmap_ops.Shortcut.the-variants.{Each, All}
-use Rattle.masks.proofs.CheckLaws.{both-left, both-right, first-allowed, is-given, is-refused, is-kept, is-new}
+use Rattle.masks.proofs.CheckLaws.{both-left, both-right, first-allowed, rest-allowed, is-given, is-refused, is-kept, is-new}
 use Rattle.masks.proofs.FrozenLaws.{Small, flags-packed, packed-small, overFrom-small}
 use Rattle.masks.proofs.MaskLaws.{mask-allowed}
 
@@ -126,3 +128,55 @@ module _ (op : Op) (a : Bitmap) (aBytes : List ℕ) (b : Bitmap) (bBytes out : L
       let same : a .length ≡ b .length = pair-lengths a aBytes b bBytes (length out) (sym e ∙ z) in
       q ∙ ap₂ (λ (s : Shortcut) (n : ℕ). over out (frozen (resultFlags s (a .length) (zip3 (opOf op) (stretch aBytes (a .start) (a .length)) (stretch bBytes (b .start) n) (stretch bBytes (b .start) n))))) p same
       ∙ is-new k (firstFailed (pairChecks a aBytes b bBytes (length out))) (over out (frozen (resultFlags (pairShortcut op a aBytes b bBytes) (a .length) (pairEach op a aBytes b bBytes)))) out e z
+
+-- ---- the answer of a combination with no shortcut
+
+module _ (cs : List Check) (n : ℕ) (flags : List Bool) (out : List ℕ) (k : ℕ) (e : k ≡ firstFailed cs) where
+  pub each-refused : (k ≡ 0 → ⊥) → (refused k tt ≡ eachOf cs n) × (out ≡ eachBytes cs flags out)
+  unfolding eachOf eachBytes
+  each-refused h = (is-refused k (firstFailed cs) tt (maskOf 0 n (uncounted n)) e h, is-kept k (firstFailed cs) (over out (frozen flags)) out e h)
+
+  pub each-given : (u : Unset) (out′ : List ℕ) (written : List Bool) → k ≡ 0 → u ≡ uncounted n → out′ ≡ over out (frozen written) → written ≡ flags
+      → (given (maskOf 0 n u) ≡ eachOf cs n) × (out′ ≡ eachBytes cs flags out)
+  unfolding eachOf eachBytes
+  each-given u out′ written z p q r = (
+    ap (λ (v : Unset). given (maskOf 0 n v)) p ∙ is-given k (firstFailed cs) tt (maskOf 0 n (uncounted n)) e z,
+    q ∙ ap (λ (l : List Bool). over out (frozen l)) r ∙ is-new k (firstFailed cs) (over out (frozen flags)) out e z,
+  )
+
+pub not-each : (l : List Bool) (s n : ℕ) → zip3 (opOf Not) (window l s n) (window l s n) (window l s n) ≡ map not (window l s n)
+not-each l s n = zip-first not (window l s n) (window l s n) (window l s n) refl refl
+
+pub constant-set : (l m : List Bool) (s t n : ℕ) → zip3 (opOf OrNot) (window m t n) (window l s n) (window l s n) ≡ zipWith (λ p q. cond p q true) (window l s n) (window m t n)
+constant-set l m s t n =
+    zip-two orNot (window m t n) (window l s n) (window l s n) (length-window m t n ∙ sym (length-window l s n)) (length-window m t n ∙ sym (length-window l s n))
+    ∙ zip-flip orNot (λ p q. cond p q true) else-set (window l s n) (window m t n)
+
+pub constant-clear : (l m : List Bool) (s t n : ℕ) → zip3 (opOf And) (window l s n) (window m t n) (window m t n) ≡ zipWith (λ p q. cond p q false) (window l s n) (window m t n)
+constant-clear l m s t n =
+    zip-two _&&_ (window l s n) (window m t n) (window m t n) (length-window l s n ∙ sym (length-window m t n)) (length-window l s n ∙ sym (length-window m t n))
+    ∙ zip-same _&&_ (λ p q. cond p q false) else-clear (window l s n) (window m t n)
+
+-- where the checks have passed, the lengths are equal
+pub select-lengths : (s : Bitmap) (sBytes : List ℕ) (t : Bitmap) (tBytes : List ℕ) (f : Bitmap) (fBytes : List ℕ) (size : ℕ)
+    → firstFailed (selectChecks s sBytes t tBytes f fBytes size) ≡ 0 → (s .length ≡ t .length) × (s .length ≡ f .length)
+unfolding selectChecks
+select-lengths s sBytes t tBytes f fBytes size e =
+    let last : List Check = check 5 (eqb (s .length) (f .length)) ∷ outputChecks (s .length) size in
+    let rest : List Check = check 5 (eqb (s .length) (t .length)) ∷ last in
+    let passed = both-right (maskChecks f fBytes) rest (both-right (maskChecks t tBytes) (maskChecks f fBytes ++ rest) (both-right (maskChecks s sBytes) (maskChecks t tBytes ++ (maskChecks f fBytes ++ rest)) e)) in (
+      eqb-true (s .length) (t .length) (first-allowed 4 (eqb (s .length) (t .length)) last passed),
+      eqb-true (s .length) (f .length) (first-allowed 4 (eqb (s .length) (f .length)) (outputChecks (s .length) size) (rest-allowed (check 5 (eqb (s .length) (t .length))) last passed)),
+    )
+
+pub select-each : (A B C : List Bool) (s t u n m k : ℕ) → n ≡ m → n ≡ k → zip3 (opOf Select) (window A s n) (window B t n) (window C u n) ≡ zip3 cond (window A s n) (window B t m) (window C u k)
+select-each A B C s t u n m k p q = ap₂ (λ (x y : ℕ). zip3 cond (window A s n) (window B t x) (window C u y)) p q
+
+pub constant-length : (A B : List Bool) (x : Bool) (s t n m : ℕ) → n ≡ m → zipWith (λ p q. cond p q x) (window A s n) (window B t n) ≡ zipWith (λ p q. cond p q x) (window A s n) (window B t m)
+constant-length A B x s t n m p = ap (λ (k : ℕ). zipWith (λ p q. cond p q x) (window A s n) (window B t k)) p
+
+pub written-set : (a b : List ℕ) (sa sb n : ℕ) (x : Bool) (out out′ : List ℕ) → x ≡ true → out′ ≡ over out (frozen (combined OrNot b sb a sa a sa n)) → out′ ≡ over out (frozen (zipWith (λ p q. cond p q x) (stretch a sa n) (stretch b sb n)))
+written-set a b sa sb n x out out′ h e = e ∙ ap (λ (l : List Bool). over out (frozen l)) (constant-set (flagsOf a) (flagsOf b) sa sb n ∙ ap (λ (y : Bool). zipWith (λ p q. cond p q y) (stretch a sa n) (stretch b sb n)) (sym h))
+
+pub written-clear : (a b : List ℕ) (sa sb n : ℕ) (x : Bool) (out out′ : List ℕ) → x ≡ false → out′ ≡ over out (frozen (combined And a sa b sb b sb n)) → out′ ≡ over out (frozen (zipWith (λ p q. cond p q x) (stretch a sa n) (stretch b sb n)))
+written-clear a b sa sb n x out out′ h e = e ∙ ap (λ (l : List Bool). over out (frozen l)) (constant-clear (flagsOf a) (flagsOf b) sa sb n ∙ ap (λ (y : Bool). zipWith (λ p q. cond p q y) (stretch a sa n) (stretch b sb n)) (sym h))

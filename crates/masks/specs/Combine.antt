@@ -83,6 +83,36 @@ unfoldable pub pairBytes : Op → Bitmap → List ℕ → Bitmap → List ℕ �
 pairBytes op a aBytes b bBytes out =
     kept (firstFailed (pairChecks a aBytes b bBytes (length out))) (over out (frozen (pairFlags op a aBytes b bBytes))) out
 
+-- ---- combinations with no shortcut: these checks, this many flags, these flags
+
+unfoldable pub eachOf : List Check → ℕ → Answer (Unit {0}) Bitmap
+eachOf cs n = checked cs tt (maskOf 0 n (uncounted n))
+
+unfoldable pub eachBytes : List Check → List Bool → List ℕ → List ℕ
+eachBytes cs flags out = kept (firstFailed cs) (over out (frozen flags)) out
+
+-- `not` inverts each flag
+unfoldable pub notChecks : Bitmap → List ℕ → ℕ → List Check
+notChecks m bytes size = maskChecks m bytes ++ outputChecks (m .length) size
+
+abbrev pub notFlags : Bitmap → List ℕ → List Bool
+notFlags m bytes = map not (maskFlags m bytes)
+
+-- `select` takes the second's flag at a 1 of the first, else the third's
+unfoldable pub selectChecks : Bitmap → List ℕ → Bitmap → List ℕ → Bitmap → List ℕ → ℕ → List Check
+selectChecks s sBytes t tBytes f fBytes size =
+    maskChecks s sBytes
+    ++ (maskChecks t tBytes
+    ++ (maskChecks f fBytes
+    ++ (check 5 (eqb (s .length) (t .length)) ∷ check 5 (eqb (s .length) (f .length)) ∷ outputChecks (s .length) size)))
+
+abbrev pub selectFlags : Bitmap → List ℕ → Bitmap → List ℕ → Bitmap → List ℕ → List Bool
+selectFlags s sBytes t tBytes f fBytes = zip3 cond (maskFlags s sBytes) (maskFlags t tBytes) (maskFlags f fBytes)
+
+-- `select_constant` takes the second's flag at a 1 of the first, else the constant
+abbrev pub selectConstantFlags : Bitmap → List ℕ → Bitmap → List ℕ → Bool → List Bool
+selectConstantFlags s sBytes t tBytes x = zipWith (λ p q. cond p q x) (maskFlags s sBytes) (maskFlags t tBytes)
+
 -- ---- what the workers ask and answer
 
 -- an operation that has a shortcut

@@ -1,15 +1,16 @@
 // The combinations: flag by flag into a lent output, as frozen bytes. Spans start at any bit.
 ghost use mathlib.Core.Path.{_≡_};
-ghost use mathlib.Core.Bool.{Bool};
+ghost use mathlib.Core.Bool.{Bool, cond};
+ghost use mathlib.Core.List.{zipWith};
 ghost use Prim.Native.Nat.{_≤_};
 ghost use lib.ListN.{length};
 ghost use Rattle.words.specs.Flags.{copies, over};
-ghost use Rattle.words.specs.Loops.{combined};
+ghost use Rattle.words.specs.Loops.{combined, stretch};
 ghost use Rattle.words.specs.declared.ops.Op.the-variants.{And, AndNot, Or, OrNot, Xor};
 ghost use Rattle.masks.specs.Checks.{firstFailed};
 ghost use Rattle.masks.specs.Frozen.{frozen};
 ghost use Rattle.masks.specs.Combine.{combinedAnswer, pairBytes, pairChecks, pairOf, pairShortcut, resultCount, resultFlags, shortcut};
-ghost use Rattle.masks.specs.Combine.{PairInLimit, hasShortcut};
+ghost use Rattle.masks.specs.Combine.{PairInLimit, hasShortcut, eachBytes, eachOf, notChecks, notFlags, selectChecks, selectConstantFlags, selectFlags};
 use crate::bitmap::Bitmap;
 use crate::bitmap::Unset;
 use crate::bitmap::not_counted;
@@ -252,4 +253,127 @@ pub fn xor(lhs: Bitmap, left: &[u8], rhs: Bitmap, right: &[u8], out: &mut [u8]) 
     ensures bytes { λ _. ⌜ now (out .exit) ≡ pairBytes Xor lhs (now (left .entry)) rhs (now (right .entry)) (now (out .entry)) ⌝ }
 {
     combine_two(Op::Xor, lhs, left, rhs, right, out)
+}
+
+fn not_failure(mask: Bitmap, bytes: &[u8], size: usize) -> u8
+    ensures { λ r. ⌜ r ≡ firstFailed (notChecks mask (now (bytes .entry)) size) ⌝ }
+{
+    let room = frozen_failure(mask.length, size);
+    earlier(mask_failure(mask, bytes), room)
+}
+
+// The flags of the mask, each inverted.
+pub fn not(mask: Bitmap, bytes: &[u8], out: &mut [u8]) -> Combined
+    ensures answer { λ r. ⌜ combinedAnswer r ≡ eachOf (notChecks mask (now (bytes .entry)) (length (now (out .entry)))) (mask .length) ⌝ }
+    ensures bytes { λ _. ⌜ now (out .exit) ≡ eachBytes (notChecks mask (now (bytes .entry)) (length (now (out .entry)))) (notFlags mask (now (bytes .entry))) (now (out .entry)) ⌝ }
+{
+    let refusal = not_failure(mask, bytes, out.len());
+    if refusal != 0 {
+        return Combined::Refused(refusal);
+    }
+    let n = mask.length;
+    let start = mask.start;
+    combine_frozen(Op::Not, bytes, start, bytes, start, bytes, start, n, out);
+    let unset = not_counted(n);
+    Combined::Mask(Bitmap {
+        start: 0,
+        length: n,
+        unset: unset,
+    })
+}
+
+fn select_failure(
+    selector: Bitmap,
+    by: &[u8],
+    truthy: Bitmap,
+    yes: &[u8],
+    falsy: Bitmap,
+    no: &[u8],
+    size: usize,
+) -> u8
+    ensures { λ r. ⌜ r ≡ firstFailed (selectChecks selector (now (by .entry)) truthy (now (yes .entry)) falsy (now (no .entry)) size) ⌝ }
+{
+    let room = frozen_failure(selector.length, size);
+    let third = failed(5, selector.length == falsy.length);
+    let second = failed(5, selector.length == truthy.length);
+    let lengths = earlier(second, earlier(third, room));
+    let masks = earlier(mask_failure(falsy, no), lengths);
+    earlier(
+        mask_failure(selector, by),
+        earlier(mask_failure(truthy, yes), masks),
+    )
+}
+
+// The second mask's flag where the first's is set, else the third's.
+pub fn select(
+    selector: Bitmap,
+    by: &[u8],
+    truthy: Bitmap,
+    yes: &[u8],
+    falsy: Bitmap,
+    no: &[u8],
+    out: &mut [u8],
+) -> Combined
+    ensures answer { λ r. ⌜ combinedAnswer r ≡ eachOf (selectChecks selector (now (by .entry)) truthy (now (yes .entry)) falsy (now (no .entry)) (length (now (out .entry)))) (selector .length) ⌝ }
+    ensures bytes { λ _. ⌜ now (out .exit) ≡ eachBytes (selectChecks selector (now (by .entry)) truthy (now (yes .entry)) falsy (now (no .entry)) (length (now (out .entry)))) (selectFlags selector (now (by .entry)) truthy (now (yes .entry)) falsy (now (no .entry))) (now (out .entry)) ⌝ }
+{
+    let refusal = select_failure(selector, by, truthy, yes, falsy, no, out.len());
+    if refusal != 0 {
+        return Combined::Refused(refusal);
+    }
+    let n = selector.length;
+    combine_frozen(
+        Op::Select,
+        by,
+        selector.start,
+        yes,
+        truthy.start,
+        no,
+        falsy.start,
+        n,
+        out,
+    );
+    let unset = not_counted(n);
+    Combined::Mask(Bitmap {
+        start: 0,
+        length: n,
+        unset: unset,
+    })
+}
+
+// Two stretches under `select_constant`, frozen over the front of out.
+fn select_frozen(a: &[u8], sa: usize, b: &[u8], sb: usize, flag: bool, n: usize, out: &mut [u8])
+    ensures { λ _. ⌜ now (out .exit) ≡ over (now (out .entry)) (frozen (zipWith (λ p q. cond p q flag) (stretch (now (a .entry)) sa n) (stretch (now (b .entry)) sb n))) ⌝ }
+{
+    if flag {
+        combine_frozen(Op::OrNot, b, sb, a, sa, a, sa, n, out);
+    } else {
+        combine_frozen(Op::And, a, sa, b, sb, b, sb, n, out);
+    }
+}
+
+// The second mask's flag where the first's is set, else the constant.
+pub fn select_constant(
+    selector: Bitmap,
+    by: &[u8],
+    truthy: Bitmap,
+    yes: &[u8],
+    flag: bool,
+    out: &mut [u8],
+) -> Combined
+    ensures answer { λ r. ⌜ combinedAnswer r ≡ eachOf (pairChecks selector (now (by .entry)) truthy (now (yes .entry)) (length (now (out .entry)))) (selector .length) ⌝ }
+    ensures bytes { λ _. ⌜ now (out .exit) ≡ eachBytes (pairChecks selector (now (by .entry)) truthy (now (yes .entry)) (length (now (out .entry)))) (selectConstantFlags selector (now (by .entry)) truthy (now (yes .entry)) flag) (now (out .entry)) ⌝ }
+{
+    let refusal = pair_failure(selector, by, truthy, yes, out.len());
+    if refusal != 0 {
+        return Combined::Refused(refusal);
+    }
+    let n = selector.length;
+    select_frozen(by, selector.start, yes, truthy.start, flag, n, out);
+    let unset = not_counted(n);
+    Combined::Mask(Bitmap {
+        start: 0,
+        length: n,
+        unset: unset,
+    })
 }
