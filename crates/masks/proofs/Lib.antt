@@ -3,6 +3,7 @@ pub mod AppendLaws
 pub mod BitmaskLaws
 pub mod CheckLaws
 pub mod CombineLaws
+pub mod CompareLaws
 pub mod ChunkLaws
 pub mod CursorLaws
 pub mod FrozenLaws

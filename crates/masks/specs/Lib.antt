@@ -5,6 +5,7 @@ pub mod Bitmask
 pub mod Builder
 pub mod Checks
 pub mod Combine
+pub mod Compare
 pub mod Chunks
 pub mod Cursor
 pub mod Frozen

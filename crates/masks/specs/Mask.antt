@@ -1,12 +1,14 @@
 -- The mask: its flags, its zero count, and what a slice makes of them. Assumes nothing.
 use Prim.Native.Nat.{ℕ, _+_, _-_, _/_, _≤_, max}
-use mathlib.Core.Bool.{Bool, true, cond, not, _&&_}
+use mathlib.Core.Bool.{Bool, true, false, cond, not, _&&_}
 use mathlib.Core.List.{List, [], _∷_, _++_}
 use lib.Dec.{eqb, leb}
 use lib.ListN.{length}
+use Rattle.words.specs.Flags.{copies, over}
 use Rattle.words.specs.Loops.{stretch}
-use Rattle.masks.specs.Answer.{Answer, given, refused, checked}
-use Rattle.masks.specs.Checks.{Check, check, limit, withinLimit, spanChecks}
+use Rattle.masks.specs.Answer.{Answer, given, refused, checked, kept}
+use Rattle.masks.specs.Checks.{Check, check, firstFailed, limit, outputChecks, withinLimit, spanChecks}
+use Rattle.masks.specs.Frozen.{frozen}
 use Rattle.masks.specs.Utils.{zeros}
 use Rattle.masks.specs.declared.bitmap.Bitmap.{Bitmap}
 use Rattle.masks.specs.declared.bitmap.Counting.{Counting}
@@ -61,6 +63,16 @@ madeAnswer (Made.Refused k) = refused k tt
 
 unfoldable pub tryNewOf : List ℕ → ℕ → ℕ → Answer (Unit {0}) Bitmap
 tryNewOf bytes start n = checked (spanChecks start n (length bytes)) tt (maskOf start n (uncounted n))
+
+-- questions 1 and 9, of a mask of n zeros in an output
+unfoldable pub zeroedChecks : ℕ → ℕ → List Check
+zeroedChecks n size = withinLimit n ∷ outputChecks n size
+
+unfoldable pub newZeroedOf : ℕ → List ℕ → Answer (Unit {0}) Bitmap
+newZeroedOf n out = checked (zeroedChecks n (length out)) tt (maskOf 0 n (Known n))
+
+unfoldable pub newZeroedBytes : ℕ → List ℕ → List ℕ
+newZeroedBytes n out = kept (firstFailed (zeroedChecks n (length out))) (over out (frozen (copies n false))) out
 
 -- a mask with its count, and the count
 pub record Recounted : Type 0 where

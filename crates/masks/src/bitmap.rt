@@ -8,9 +8,11 @@ ghost use Rattle.words.specs.Loops.{stretch};
 ghost use Rattle.masks.specs.Checks.{firstFailed};
 ghost use Rattle.masks.specs.Utils.{zeros};
 ghost use Rattle.masks.specs.Mask.{cutOf, cutZeros, countingAnswer, emptyMask, keptCount, madeAnswer, pieceChecks, recountedOf, recounts as Mask·recounts};
-ghost use Rattle.masks.specs.Mask.{PieceAllowed, slicedAnswer, sliceOf, tryNewOf, uncounted, unsetBitsOf, zeroCount};
+ghost use Rattle.masks.specs.Mask.{newZeroedBytes, newZeroedOf, PieceAllowed, slicedAnswer, sliceOf, tryNewOf, uncounted, unsetBitsOf, zeroCount};
+use crate::bitmap_ops::fill_frozen;
 use crate::checks::earlier;
 use crate::checks::failed;
+use crate::checks::frozen_failure;
 use crate::checks::mask_failure;
 use crate::checks::span_failure;
 use crate::checks::sum_at_most;
@@ -65,6 +67,24 @@ impl Bitmap {
             length: 0,
             unset: Unset::Known(0),
         }
+    }
+
+    // A mask of so many zeros, frozen over the front of out.
+    pub fn new_zeroed(length: usize, out: &mut [u8]) -> Made
+        ensures answer { λ r. ⌜ madeAnswer r ≡ newZeroedOf length (now (out .entry)) ⌝ }
+        ensures bytes { λ _. ⌜ now (out .exit) ≡ newZeroedBytes length (now (out .entry)) ⌝ }
+    {
+        let room = frozen_failure(length, out.len());
+        let refusal = earlier(failed(1, within_limit(length)), room);
+        if refusal != 0 {
+            return Made::Refused(refusal);
+        }
+        fill_frozen(false, length, out);
+        Made::Mask(Bitmap {
+            start: 0,
+            length: length,
+            unset: Unset::Known(length),
+        })
     }
 
     // A mask over lent bytes, its zeros not counted yet.

@@ -9,6 +9,7 @@ pub mod bitmask;
 pub mod builder;
 mod checks;
 pub mod chunks;
+pub mod compare;
 mod cursor;
 mod span;
 pub mod utils;
