@@ -13,3 +13,4 @@ pub mod PushLaws
 pub mod RoomLaws
 pub mod SpanLaws
 pub mod SplitLaws
+pub mod TrueLaws

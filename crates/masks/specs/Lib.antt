@@ -10,4 +10,5 @@ pub mod Chunks
 pub mod Cursor
 pub mod Frozen
 pub mod Mask
+pub mod TrueCounts
 pub mod Utils
