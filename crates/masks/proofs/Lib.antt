@@ -3,5 +3,6 @@ pub mod BitmaskLaws
 pub mod CheckLaws
 pub mod ChunkLaws
 pub mod CursorLaws
+pub mod SearchLaws
 pub mod SpanLaws
 pub mod SplitLaws

@@ -8,4 +8,5 @@ pub mod Chunks
 pub mod Cursor
 pub mod Frozen
 pub mod Mask
+pub mod Search
 pub mod Spans
