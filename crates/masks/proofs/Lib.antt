@@ -3,6 +3,7 @@ pub mod BitmaskLaws
 pub mod CheckLaws
 pub mod ChunkLaws
 pub mod CursorLaws
+pub mod IteratorLaws
 pub mod SearchLaws
 pub mod SpanLaws
 pub mod SplitLaws

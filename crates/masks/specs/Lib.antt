@@ -7,6 +7,7 @@ pub mod Checks
 pub mod Chunks
 pub mod Cursor
 pub mod Frozen
+pub mod Iterator
 pub mod Mask
 pub mod Search
 pub mod Spans

@@ -9,4 +9,5 @@ pub mod builder;
 mod checks;
 pub mod chunks;
 mod cursor;
+pub mod iterator;
 mod span;
