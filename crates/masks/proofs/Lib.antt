@@ -7,3 +7,4 @@ pub mod IteratorLaws
 pub mod SearchLaws
 pub mod SpanLaws
 pub mod SplitLaws
+pub mod TrueIdxLaws

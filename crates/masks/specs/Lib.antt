@@ -11,3 +11,4 @@ pub mod Iterator
 pub mod Mask
 pub mod Search
 pub mod Spans
+pub mod TrueIdx

@@ -11,3 +11,4 @@ pub mod chunks;
 mod cursor;
 pub mod iterator;
 mod span;
+pub mod true_idx;
