@@ -5,6 +5,7 @@ pub mod ChunkLaws
 pub mod CursorLaws
 pub mod IteratorLaws
 pub mod SearchLaws
+pub mod SearchPlain
 pub mod SpanLaws
 pub mod SplitLaws
 pub mod TrueIdxLaws
