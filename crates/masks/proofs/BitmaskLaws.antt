@@ -69,7 +69,8 @@ pub record SplitAllowed (start n at : ℕ) : Type 0 where
 pub split-allowed : (start n at size : ℕ) → firstFailed (splitChecks start n at size) ≡ 0 → SplitAllowed start n at
 unfolding splitChecks
 split-allowed start n at size e =
-    let both : firstFailed ((withinLimit (start + at) ∷ []) ++ (check 6 (leb at n) ∷ [])) ≡ 0 = both-right (spanChecks start n size) (withinLimit (start + at) ∷ check 6 (leb at n) ∷ []) e in
+    let both : firstFailed ((withinLimit (start + at) ∷ []) ++ (check 6 (leb at n) ∷ [])) ≡ 0 =
+    both-right (spanChecks start n size) (withinLimit (start + at) ∷ check 6 (leb at n) ∷ []) e in
     record {
       starts = leb-true (start + at) limit (check-allowed 0 (leb (start + at) limit) (both-left (withinLimit (start + at) ∷ []) (check 6 (leb at n) ∷ []) both));
       reached = leb-true at n (check-allowed 5 (leb at n) (both-right (withinLimit (start + at) ∷ []) (check 6 (leb at n) ∷ []) both));

@@ -1,7 +1,7 @@
 -- The plain reading of the two searches: where they give a position, and where none. Assumes nothing.
 use mathlib.Core.Path.{_≡_, sym, ap, _∙_}
 use mathlib.Core.Bool.{Bool, true, false}
-use mathlib.Core.List.{List, _++_}
+use mathlib.Core.List.{List}
 use mathlib.Core.Option.{none, some}
 use Prim.Native.Nat.{ℕ, suc, _+_, _-_, _≤_, _<_}
 use native.Mathlib.Omega.{arith}
@@ -36,7 +36,9 @@ forward-some l n from h =
           after = omega arith;
           inside = omega (arith, length-drop from l);
           isSet = sym (getD-drop from l (nthPlace (drop from l) n) false) ∙ nth-set (drop from l) n h;
-          between = ap (λ (x : ℕ). count (window l from x)) e ∙ ap count (window-part l from (nthPlace (drop from l) n) (omega (arith, length-drop from l))) ∙ nth-before (drop from l) n h;
+          between =
+              ap (λ (x : ℕ). count (window l from x)) e
+              ∙ ap count (window-part l from (nthPlace (drop from l) n) (omega (arith, length-drop from l))) ∙ nth-before (drop from l) n h;
         },
       ),
     )
@@ -66,8 +68,10 @@ backward-some l n end h =
     let low : p < end = omega (arith, length-take end l) in
     let one : getD (take end l) p false ≡ true = nth-set (take end l) m few in
     let before : count (take p (take end l)) ≡ m = nth-before (take end l) m few in
-    let upTo : count (take (suc p) (take end l)) ≡ m + 1 = count-first (take end l) p ∙ ap (λ (x : ℕ). x + digit (getD (take end l) p false)) before ∙ ap (λ (t : Bool). m + digit t) one in
-    let whole : count (take end l) ≡ count (take (suc p) (take end l)) + count (drop (suc p) (take end l)) = ap count (sym (take-append-drop (suc p) (take end l))) ∙ count-append (take (suc p) (take end l)) (drop (suc p) (take end l)) in (
+    let upTo : count (take (suc p) (take end l)) ≡ m + 1 =
+    count-first (take end l) p ∙ ap (λ (x : ℕ). x + digit (getD (take end l) p false)) before ∙ ap (λ (t : Bool). m + digit t) one in
+    let whole : count (take end l) ≡ count (take (suc p) (take end l)) + count (drop (suc p) (take end l)) =
+    ap count (sym (take-append-drop (suc p) (take end l))) ∙ count-append (take (suc p) (take end l)) (drop (suc p) (take end l)) in (
       p,
       (
         rw (lt-ltb n (count (take end l)) h),

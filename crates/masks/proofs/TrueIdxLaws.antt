@@ -76,7 +76,9 @@ by-mask false a b n p q = q
 
 flags-length : (c : TrueIdxIter) (bytes : List ℕ) → length (trueFlags c bytes) ≡ c .length
 unfolding trueFlags
-flags-length c bytes = by-mask (c .masked) (stretch bytes (c .start) (c .length)) (copies (c .length) true) (c .length) (length-window _ (c .start) (c .length)) (length-copies (c .length) true)
+flags-length c bytes =
+    by-mask (c .masked) (stretch bytes (c .start) (c .length)) (copies (c .length) true) (c .length)
+    (length-window _ (c .start) (c .length)) (length-copies (c .length) true)
 
 -- ---- what is known where the checks have passed
 
@@ -85,20 +87,30 @@ pub record TrueAllowed (c : TrueIdxIter) : Type 0 where
   pub short : c .length ≤ limit
   pub reached : c .place ≤ c .length
 
+three-passed : (a b c : Bool) → firstFailed (check 1 a ∷ check 1 b ∷ check 6 c ∷ []) ≡ 0 → (a ≡ true) × ((b ≡ true) × (c ≡ true))
+three-passed a b c e =
+    let rest : firstFailed ((check 1 b ∷ []) ++ (check 6 c ∷ [])) ≡ 0 = both-right (check 1 a ∷ []) (check 1 b ∷ check 6 c ∷ []) e in (
+      check-allowed 0 a (both-left (check 1 a ∷ []) (check 1 b ∷ check 6 c ∷ []) e),
+      (check-allowed 0 b (both-left (check 1 b ∷ []) (check 6 c ∷ []) rest), check-allowed 5 c (both-right (check 1 b ∷ []) (check 6 c ∷ []) rest)),
+    )
+
 pub true-allowed : (c : TrueIdxIter) (size : ℕ) → firstFailed (trueChecks c size) ≡ 0 → TrueAllowed c
 unfolding trueChecks
 true-allowed c size e = go (c .masked) e
   where
     go : (t : Bool)
-        → firstFailed (cond t (cursorChecks (c .start) (c .length) (c .place) size) (withinLimit (c .start) ∷ withinLimit (c .length) ∷ check 6 (leb (c .place) (c .length)) ∷ [])) ≡ 0
+        → firstFailed (cond t (cursorChecks (c .start) (c .length) (c .place) size)
+        (withinLimit (c .start) ∷ withinLimit (c .length) ∷ check 6 (leb (c .place) (c .length)) ∷ [])) ≡ 0
         → TrueAllowed c
-    go true e = let a : CursorAllowed (c .start) (c .length) (c .place) size = cursor-allowed (c .start) (c .length) (c .place) size e in record { starts = a .starts; short = a .short; reached = a .reached }
+    go true e =
+        let a : CursorAllowed (c .start) (c .length) (c .place) size = cursor-allowed (c .start) (c .length) (c .place) size e in
+        record { starts = a .starts; short = a .short; reached = a .reached }
     go false e =
-        let rest : firstFailed ((withinLimit (c .length) ∷ []) ++ (check 6 (leb (c .place) (c .length)) ∷ [])) ≡ 0 = both-right (withinLimit (c .start) ∷ []) (withinLimit (c .length) ∷ check 6 (leb (c .place) (c .length)) ∷ []) e in
+        let all = three-passed (leb (c .start) limit) (leb (c .length) limit) (leb (c .place) (c .length)) e in
         record {
-          starts = leb-true (c .start) limit (check-allowed 0 (leb (c .start) limit) (both-left (withinLimit (c .start) ∷ []) (withinLimit (c .length) ∷ check 6 (leb (c .place) (c .length)) ∷ []) e));
-          short = leb-true (c .length) limit (check-allowed 0 (leb (c .length) limit) (both-left (withinLimit (c .length) ∷ []) (check 6 (leb (c .place) (c .length)) ∷ []) rest));
-          reached = leb-true (c .place) (c .length) (check-allowed 5 (leb (c .place) (c .length)) (both-right (withinLimit (c .length) ∷ []) (check 6 (leb (c .place) (c .length)) ∷ []) rest));
+          starts = leb-true (c .start) limit (all .0);
+          short = leb-true (c .length) limit (all .1 .0);
+          reached = leb-true (c .place) (c .length) (all .1 .1);
         }
 
 -- ---- the two answers of a cursor

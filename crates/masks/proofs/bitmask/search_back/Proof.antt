@@ -56,7 +56,8 @@ loop-again : tie.Need-loop-again Inv-loop μ-loop
 loop-again c =
     let e = c .before in (
       omega arith,
-      turn-down _ _ _ _ _ _ (record { low = omega arith; inside = omega arith; near = omega arith }) (e .before .span-window .ensures) _ _ (e .ones-in-window .ensures) (c .if1 .left)
+      turn-down _ _ _ _ _ _ (record { low = omega arith; inside = omega arith; near = omega arith }) (e .before .span-window .ensures)
+          _ _ (e .ones-in-window .ensures) (c .if1 .left)
           ∙ e .before .before .before .before .loop .inv .1,
     )
 

@@ -33,7 +33,11 @@ leading-in-word-requires c κs = search needs
 add-at : tie.Need-add-at Inv-loop μ-loop
 add-at c =
     let e = c .before .before in
-    omega (arith, alike-most _ _ _ _ _ _ _ _ _ (e .before .before .loop .inv) (e .least .ensures) (e .before .loop-test .taken) (c .before .word-from .ensures) (c .leading-in-word .ensures))
+    omega (
+      arith,
+      alike-most _ _ _ _ _ _ _ _ _ (e .before .before .loop .inv) (e .least .ensures) (e .before .loop-test .taken)
+          (c .before .word-from .ensures) (c .leading-in-word .ensures),
+    )
 
 sub-result : tie.Need-sub-result Inv-loop μ-loop
 sub-result c = search needs
@@ -41,7 +45,8 @@ sub-result c = search needs
 returns : tie.Need-returns Inv-loop μ-loop
 returns c =
     let e = c .before .before .before in
-    alike-stop _ _ _ _ _ _ _ _ _ (e .before .before .loop .inv) (e .least .ensures) (e .before .loop-test .taken) (c .before .before .word-from .ensures) (c .before .leading-in-word .ensures) (c .if1 .taken)
+    alike-stop _ _ _ _ _ _ _ _ _ (e .before .before .loop .inv) (e .least .ensures) (e .before .loop-test .taken)
+    (c .before .before .word-from .ensures) (c .before .leading-in-word .ensures) (c .if1 .taken)
 
 loop-less : tie.Need-loop-less Inv-loop μ-loop
 loop-less c = search needs
@@ -49,7 +54,8 @@ loop-less c = search needs
 loop-again : tie.Need-loop-again Inv-loop μ-loop
 loop-again c =
     let e = c .before .before .before in
-    alike-more _ _ _ _ _ _ _ _ _ (e .before .before .loop .inv) (e .least .ensures) (e .before .loop-test .taken) (c .before .before .word-from .ensures) (c .before .leading-in-word .ensures) (c .if1 .left)
+    alike-more _ _ _ _ _ _ _ _ _ (e .before .before .loop .inv) (e .least .ensures) (e .before .loop-test .taken)
+    (c .before .before .word-from .ensures) (c .before .leading-in-word .ensures) (c .if1 .left)
 
 sub-result-2 : tie.Need-sub-result-2 Inv-loop μ-loop
 sub-result-2 c = search needs
