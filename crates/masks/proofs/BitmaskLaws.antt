@@ -1,22 +1,22 @@
 -- A window of a span as a number, at any width, and a span cut in two. Assumes nothing.
-use mathlib.Core.Path.{_≡_, refl, sym, ap, ap₂, _∙_}
-use mathlib.Core.Bool.{Bool, true, false, _&&_}
+use mathlib.Core.Path.{_≡_, sym, ap, ap₂, _∙_}
+use mathlib.Core.Bool.{Bool, false, _&&_}
 use mathlib.Core.List.{List, [], _∷_, _++_}
 use mathlib.Core.Logic.{⊎-elim}
-use Prim.Native.Nat.{ℕ, _+_, _-_, _*_, _^_, _≤_, _<_, min}
+use Prim.Native.Nat.{ℕ, _+_, _-_, _^_, _≤_, _<_, min}
 use native.Mathlib.Nat.{lt-of-lt-of-le}
 use native.Mathlib.Omega.{arith}
 use lib.Dec.{leb, ltb}
-use lib.ListN.{length, getD}
+use lib.ListN.{getD}
 use lib.Pow.{pow-mono, pow-pos}
 use borrow.Author.Tests.{leb-true, lt-ltb, le-ltb}
-use Rattle.words.specs.Flags.{bits, copies, flagsOf, window, wordOf}
+use Rattle.words.specs.Flags.{bits, flagsOf, window, wordOf}
 use Rattle.words.specs.Loops.{stretch}
 use Rattle.words.proofs.Bits.{bits-zero, wordOf-bits, wordOf-lt}
 use Rattle.words.proofs.Windows.{lt-or-le, ltb-sub, length-window, window-add, window-all, window-past, window-ext, at-window, bits-window, wordOf-padded}
 use Rattle.masks.specs.Bitmask.{splitChecks, windowWord}
 use Rattle.masks.specs.Checks.{check, withinLimit, firstFailed, limit, spanChecks}
-use Rattle.masks.proofs.CheckLaws.{SpanAllowed, span-allowed, check-allowed, both-left, both-right}
+use Rattle.masks.proofs.CheckLaws.{check-allowed, both-left, both-right}
 
 -- ---- a window of d flags
 
@@ -69,7 +69,8 @@ pub record SplitAllowed (start n at : ℕ) : Type 0 where
 pub split-allowed : (start n at size : ℕ) → firstFailed (splitChecks start n at size) ≡ 0 → SplitAllowed start n at
 unfolding splitChecks
 split-allowed start n at size e =
-    let both : firstFailed ((withinLimit (start + at) ∷ []) ++ (check 6 (leb at n) ∷ [])) ≡ 0 = both-right (spanChecks start n size) (withinLimit (start + at) ∷ check 6 (leb at n) ∷ []) e in
+    let both : firstFailed ((withinLimit (start + at) ∷ []) ++ (check 6 (leb at n) ∷ [])) ≡ 0 =
+    both-right (spanChecks start n size) (withinLimit (start + at) ∷ check 6 (leb at n) ∷ []) e in
     record {
       starts = leb-true (start + at) limit (check-allowed 0 (leb (start + at) limit) (both-left (withinLimit (start + at) ∷ []) (check 6 (leb at n) ∷ []) both));
       reached = leb-true at n (check-allowed 5 (leb at n) (both-right (withinLimit (start + at) ∷ []) (check 6 (leb at n) ∷ []) both));

@@ -1,6 +1,6 @@
 -- The words of a span: loaded at a byte, merged inside a byte, and what a cursor over them gives. Assumes nothing.
 use mathlib.Core.Path.{_≡_, sym, ap, ap₂, _∙_}
-use mathlib.Core.Bool.{Bool, cond}
+use mathlib.Core.Bool.{Bool}
 use mathlib.Core.List.{List}
 use Prim.Native.Nat.{ℕ, _+_, _-_, _*_, _/_, _%_, _^_, _≤_, _<_}
 use native.Mathlib.Omega.{arith}
@@ -12,7 +12,7 @@ use Rattle.words.specs.Merge.{merged}
 use Rattle.words.proofs.Merging.{merged-window}
 use Rattle.words.proofs.Windows.{length-window, window-all, in-window, word-value}
 use Rattle.masks.specs.Chunks.{chunksAt, chunkWord, chunkStep, remainderWord}
-use Rattle.masks.specs.Cursor.{Step, item, ended}
+use Rattle.masks.specs.Cursor.{item, ended}
 use Rattle.masks.specs.declared.chunks.BitChunks.{BitChunks}
 
 -- a word that begins at a byte

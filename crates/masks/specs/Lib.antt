@@ -4,11 +4,14 @@ pub mod Answer
 pub mod Bitmask
 pub mod Builder
 pub mod Checks
+pub mod Chunks
 pub mod Combine
 pub mod Compare
-pub mod Chunks
 pub mod Cursor
 pub mod Frozen
+pub mod Iterator
 pub mod Mask
+pub mod Search
 pub mod TrueCounts
+pub mod TrueIdx
 pub mod Utils

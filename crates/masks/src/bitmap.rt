@@ -54,6 +54,12 @@ pub enum Cut {
     Wrong,
 }
 
+// A mask, or none.
+pub enum Optional {
+    Present(Bitmap),
+    Absent,
+}
+
 impl Bitmap {
     // The flag limit: the largest start and length that the calls take.
     pub const LIMIT: usize = 4194304;

@@ -1,14 +1,21 @@
-// Spans cut in two, and windows of 32 flags.
+// Spans cut in two, windows of 32 flags, and searches for the n-th set flag by such windows.
 ghost use mathlib.Core.Path.{_≡_};
-ghost use Prim.Native.Nat.{_≤_};
+ghost use Prim.Native.Nat.{_≤_, _<_};
+ghost use Rattle.words.specs.Flags.{bits, count};
+ghost use Rattle.words.specs.Loops.{stretch};
+ghost use Rattle.words.specs.Nth.{nthPlace};
+ghost use Rattle.masks.specs.Answer.{given};
 ghost use Rattle.masks.specs.Bitmask.{partsAnswer, splitAt, splitChecks, windowAnswer, windowAt, windowWord};
 ghost use Rattle.masks.specs.Checks.{firstFailed};
+ghost use Rattle.masks.specs.Search.{positionAnswer, searchFrom, searchBack, nthFrom, nthBack, seen};
 use crate::checks::earlier;
 use crate::checks::failed;
 use crate::checks::span_failure;
 use crate::checks::sum_within_limit;
 use crate::span::flags_word;
 use crate::span::least;
+use words::nth::Nth;
+use words::nth::nth_set_bit_u32;
 
 // A start bit and a length in bits. The Rust's `BitMask`, its bytes lent beside it.
 pub struct Span {
@@ -81,4 +88,130 @@ pub(crate) fn span_window(bytes: &[u8], start: usize, length: usize, index: usiz
     }
     let k = least(32, length - index);
     flags_word(bytes, start + index, k) as u32
+}
+
+// Where the n-th set flag is, if there are so many.
+pub enum Position {
+    At(usize),
+    Missing,
+    Refused(u8),
+}
+
+// The position, at or after `from`, of the n-th set flag there, counted from 0.
+pub fn nth_set_bit_idx(bytes: &[u8], start: usize, length: usize, n: usize, from: usize) -> Position
+    ensures { λ r. ⌜ positionAnswer r ≡ searchFrom (now (bytes .entry)) start length n from ⌝ }
+{
+    let refusal = span_failure(start, length, bytes.len());
+    if refusal != 0 {
+        return Position::Refused(refusal);
+    }
+    search_from(bytes, start, length, n, from)
+}
+
+// The position of the n-th set flag counted down from below `end`, which may exceed the length.
+pub fn nth_set_bit_idx_rev(
+    bytes: &[u8],
+    start: usize,
+    length: usize,
+    n: usize,
+    end: usize,
+) -> Position
+    ensures { λ r. ⌜ positionAnswer r ≡ searchBack (now (bytes .entry)) start length n end ⌝ }
+{
+    let refusal = span_failure(start, length, bytes.len());
+    if refusal != 0 {
+        return Position::Refused(refusal);
+    }
+    search_back(bytes, start, length, n, least(end, length))
+}
+
+// Window by window, with fewer left to pass over after each.
+fn search_from(bytes: &[u8], start: usize, length: usize, n: usize, from: usize) -> Position
+    requires { ⌜ (start ≤ 4194304) × (length ≤ 4194304) ⌝ }
+    ensures { λ r. ⌜ positionAnswer r ≡ given (nthFrom (stretch (now (bytes .entry)) start length) n from) ⌝ }
+{
+    let mut left = n;
+    let mut at = from;
+    while at < length {
+        let seen = nth_in_window(span_window(bytes, start, length, at), left);
+        match seen {
+            Seen::There(i) => {
+                let position = at + i;
+                return Position::At(position);
+            }
+            Seen::Only(ones) => {
+                left -= ones;
+            }
+        }
+        at += 32;
+    }
+    Position::Missing
+}
+
+// The same from the end on: the window before `below` has zeros from there on.
+fn search_back(bytes: &[u8], start: usize, length: usize, n: usize, end: usize) -> Position
+    requires { ⌜ (start ≤ 4194304) × ((length ≤ 4194304) × (end ≤ length)) ⌝ }
+    ensures { λ r. ⌜ positionAnswer r ≡ given (nthBack (stretch (now (bytes .entry)) start length) n end) ⌝ }
+{
+    let mut left = n;
+    let mut below = end;
+    while below > 0 {
+        let at = below - least(below, 32);
+        let w = span_window(bytes, start, below, at);
+        let ones = ones_in_window(w);
+        if left < ones {
+            let number = ones - 1 - left;
+            let position = at + place_in_window(w, number);
+            return Position::At(position);
+        }
+        left -= ones;
+        below = at;
+    }
+    Position::Missing
+}
+
+// What a window says of its set flag n: where it is, or how many are set.
+enum Seen {
+    There(usize),
+    Only(usize),
+}
+
+fn wide(x: u32) -> usize
+    ensures { λ r. ⌜ r ≡ x ⌝ }
+{
+    x as usize
+}
+
+// The one place where the set flags of a window are counted.
+fn nth_in_window(w: u32, n: usize) -> Seen
+    ensures { λ r. ⌜ r ≡ seen (bits 32 w) n ⌝ }
+{
+    let number = least(n, 32);
+    let found = nth_set_bit_u32(w, number as u32);
+    match found {
+        Nth::At(i) => Seen::There(wide(i)),
+        Nth::Missing => Seen::Only(wide(u32::count_ones(w))),
+    }
+}
+
+// No window has a set flag number 32.
+fn ones_in_window(w: u32) -> usize
+    ensures { λ r. ⌜ r ≡ count (bits 32 w) ⌝ }
+{
+    let seen = nth_in_window(w, 32);
+    match seen {
+        Seen::There(i) => i,
+        Seen::Only(ones) => ones,
+    }
+}
+
+fn place_in_window(w: u32, n: usize) -> usize
+    requires { ⌜ n < count (bits 32 w) ⌝ }
+    ensures { λ r. ⌜ r ≡ nthPlace (bits 32 w) n ⌝ }
+{
+    let seen = nth_in_window(w, n);
+    match seen {
+        Seen::There(i) => i,
+        Seen::Only(ones) => ones,
+    }
 }

@@ -11,5 +11,7 @@ mod checks;
 pub mod chunks;
 pub mod compare;
 mod cursor;
+pub mod iterator;
 mod span;
+pub mod true_idx;
 pub mod utils;

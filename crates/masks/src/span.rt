@@ -1,9 +1,11 @@
-// Words of a span.
+// Words of a span, and how many flags alike stand next in it.
 ghost use mathlib.Core.Path.{_≡_};
 ghost use Prim.Native.Nat.{_*_, _≤_, min};
 ghost use lib.ListN.{length};
 ghost use Rattle.words.specs.Flags.{wordOf, wordFlags};
 ghost use Rattle.words.specs.Loops.{stretch};
+ghost use Rattle.masks.specs.Iterator.{leadingFrom};
+use words::ends::leading_in_word;
 use words::word::load_padded_le_u64;
 use words::word::low_flags;
 use words::word::word_from;
@@ -22,6 +24,29 @@ pub(crate) fn byte_word(bytes: &[u8], at: usize) -> u64
     ensures { λ r. ⌜ wordFlags r ≡ stretch (now (bytes .entry)) (8 * at) 64 ⌝ }
 {
     load_padded_le_u64(&bytes[at..])
+}
+
+// How many flags of a span that equal `flag` stand from `place` on: word by word, up to one that has another flag.
+pub(crate) fn leading_from(
+    flag: bool,
+    bytes: &[u8],
+    start: usize,
+    length: usize,
+    place: usize,
+) -> usize
+    requires { ⌜ (start ≤ 4194304) × ((length ≤ 4194304) × (place ≤ length)) ⌝ }
+    ensures { λ r. ⌜ r ≡ leadingFrom flag (stretch (now (bytes .entry)) start length) place ⌝ }
+{
+    let mut at = place;
+    while at < length {
+        let k = least(64, length - at);
+        let same = leading_in_word(flag, word_from(bytes, start + at), k);
+        at += same;
+        if same < k {
+            return at - place;
+        }
+    }
+    at - place
 }
 
 pub(crate) fn least(x: usize, y: usize) -> usize

@@ -9,6 +9,7 @@ use native.Mathlib.Omega.{arith}
 use lib.Arith.{digits-div, digits-mod, digits-lt, lt-one}
 use lib.Pow.{pow-pos, shr-shr, shl-shr, high, split, shr-lt}
 use lib.Bits.{block-half, block-odd, bitAnd, bitOr, bitXor, differ, and-step, or-step, xor-step, or-shifted-r}
+use lib.Dec.{eqb}
 use lib.ListN.{length, take}
 use lib.Seq.{take-at}
 use Rattle.words.specs.Flags.{isOne, digit, bits, wordOf, copies}
@@ -100,6 +101,11 @@ pub digit-isOne : (x : ℕ) → x < 2 → digit (isOne x) ≡ x
 digit-isOne zero h = refl
 digit-isOne (suc zero) h = refl
 digit-isOne (suc (suc x)) h = absurd (omega arith)
+
+pub eqb-isOne : (x : ℕ) → x < 2 → eqb x 1 ≡ isOne x
+eqb-isOne zero h = refl
+eqb-isOne (suc zero) h = refl
+eqb-isOne (suc (suc x)) h = absurd (omega arith)
 
 pub isOne-digit : (b : Bool) → isOne (digit b) ≡ b
 isOne-digit false = refl

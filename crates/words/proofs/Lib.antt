@@ -8,7 +8,7 @@ pub mod Counting
 pub mod EndLaws
 pub mod Loads
 pub mod Merging
-mod NthLaws
+pub mod NthLaws
 pub mod Plain
 mod Ranges
 pub mod Windows

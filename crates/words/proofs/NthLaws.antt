@@ -15,14 +15,15 @@ use Rattle.words.specs.Nth.{nthPlace, nthOne}
 use Rattle.words.proofs.Bits.{bits-add, bits-mod, bits-shl, length-bits}
 use Rattle.words.proofs.Counting.{ones-bits, count-append, count-copies}
 
-nth-low : (a b : List Bool) (n : ℕ) → n < count a → nthPlace (a ++ b) n ≡ nthPlace a n
+-- in two lists in a row
+pub nth-low : (a b : List Bool) (n : ℕ) → n < count a → nthPlace (a ++ b) n ≡ nthPlace a n
 unfolding nthPlace count
 nth-low [] b n h = absurd (omega arith)
 nth-low (false ∷ a) b n h = ap suc (nth-low a b n (omega arith))
 nth-low (true ∷ a) b zero h = refl
 nth-low (true ∷ a) b (suc n) h = ap suc (nth-low a b n (omega arith))
 
-nth-high : (a b : List Bool) (n : ℕ) → count a ≤ n → nthPlace (a ++ b) n ≡ length a + nthPlace b (n - count a)
+pub nth-high : (a b : List Bool) (n : ℕ) → count a ≤ n → nthPlace (a ++ b) n ≡ length a + nthPlace b (n - count a)
 unfolding nthPlace count
 nth-high [] b n h = let e : n - 0 ≡ n = omega arith in rw e (omega arith)
 nth-high (false ∷ a) b n h = let e : n - (0 + count a) ≡ n - count a = omega arith in rw (e, nth-high a b n (omega arith)) (omega arith)

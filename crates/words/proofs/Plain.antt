@@ -6,11 +6,12 @@ use mathlib.Core.Path.{_≡_, refl, sym, ap, _∙_}
 use mathlib.Core.Bool.{Bool, true, false, xor}
 use mathlib.Core.List.{List, [], _∷_, _++_}
 use mathlib.Core.Logic.{⊎-elim}
-use Prim.Native.Nat.{ℕ, zero, suc, _+_, _-_, _*_, _/_, _%_, _≤_, _<_, min}
-use native.Mathlib.Nat.{zero-add, zero-div, div-one}
+use Prim.Native.Nat.{ℕ, zero, suc, _+_, _-_, _*_, _/_, _%_, _^_, _≤_, _<_, min}
+use native.Mathlib.Nat.{zero-add, zero-div, div-one, mod-lt, zero-lt-suc}
 use native.Mathlib.Omega.{arith}
 use lib.ListN.{length, take, drop, getD, length-append, length-take, length-drop, List·getD-eq-default, List·getD-append}
 use lib.Seq.{getD-take, getD-drop, getD-append-add, length-take-le}
+use lib.Dec.{eqb}
 use borrow.Author.Tests.{lt-ltb, le-ltb}
 use Rattle.words.specs.Flags.{isOne, digit, bitAt, flagAt, bits, wordOf, flagsOf, count, window, over, overAt}
 use Rattle.words.specs.Counts.{anySet, sameFlags}
@@ -21,7 +22,8 @@ use Rattle.words.specs.Ops.{opOf, zip3}
 use Rattle.words.specs.declared.nth.Nth.the-variants.{At, Missing}
 use Rattle.words.specs.declared.ops.Op.{Op}
 use Rattle.words.proofs.AnyFlag.{any-some}
-use Rattle.words.proofs.Bits.{length-bits, halves}
+use Rattle.words.proofs.Bits.{length-bits, halves, eqb-isOne}
+use Rattle.words.proofs.Bytes.{length-flags}
 use Rattle.words.proofs.Combining.{at-zip-in}
 use Rattle.words.proofs.Counting.{count-append}
 use Rattle.words.proofs.NthLaws.{nth-lt}
@@ -53,6 +55,14 @@ at-flags (b ∷ bytes) j = ⊎-elim
     rw (q, r)
     (ap (λ (x : ℕ). getD (bits 8 b ++ flagsOf bytes) x false) e ∙ getD-append-add (bits 8 b) (flagsOf bytes) (j - 8) false ∙ at-flags bytes (j - 8)))
     (lt-or-le j 8)
+
+-- So a flag can be read from its byte alone.
+pub read-flag : (bytes : List ℕ) (j b : ℕ) → b ≡ getD bytes (j / 8) 0 → eqb (b / 2 ^ (j % 8) % 2) 1 ≡ getD (flagsOf bytes) j false
+read-flag bytes j b e =
+    eqb-isOne (b / 2 ^ (j % 8) % 2) (mod-lt (b / 2 ^ (j % 8)) (zero-lt-suc 1)) ∙ ap (λ (x : ℕ). bitAt x (j % 8)) e ∙ sym (at-flags bytes j)
+
+pub no-flag : (bytes : List ℕ) (j : ℕ) → length bytes ≤ j / 8 → false ≡ getD (flagsOf bytes) j false
+no-flag bytes j h = sym (List·getD-eq-default (flagsOf bytes) false (omega (arith, length-flags bytes)))
 
 -- Bit k of `wordOf l` is, for every k, flag k of l.
 pub at-word : (l : List Bool) (k : ℕ) → bitAt (wordOf l) k ≡ getD l k false

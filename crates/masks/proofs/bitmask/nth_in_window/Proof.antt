@@ -1,0 +1,53 @@
+use mathlib.Core.Path.{sym, ap, _∙_}
+use Rattle.masks.specs.declared.bitmask.Seen.the-variants.{There}
+use Rattle.words.proofs.Counting.{ones-bits}
+use Rattle.masks.proofs.SearchLaws.{see-there, see-only}
+use borrow.Author.Needs.{needs}
+use Rattle.masks.proofs.bitmask.nth_in_window.Statement.{statement}
+use Rattle.masks.proofs.bitmask.nth_in_window.Tie as tie
+
+least-requires : tie.Need-least-requires
+least-requires c κs = search needs
+
+cast-nth-set-bit-u32 : tie.Need-cast-nth-set-bit-u32
+cast-nth-set-bit-u32 c = search needs
+
+nth-set-bit-u32-requires : tie.Need-nth-set-bit-u32-requires
+nth-set-bit-u32-requires c κs = search needs
+
+enum-known-found : tie.Need-enum-known-found
+enum-known-found c = search needs
+
+wide-requires : tie.Need-wide-requires
+wide-requires c κs = search needs
+
+enum-told : tie.Need-enum-told
+enum-told c = search needs
+
+wide-requires-2 : tie.Need-wide-requires-2
+wide-requires-2 c κs = search needs
+
+returns : tie.Need-returns
+returns c =
+    let e = c .before .before .before .before in
+    ap There (c .wide .ensures) ∙ see-there 32 _ _ _ _ (e .before .least .ensures) (sym (e .nth-set-bit-u32 .ensures) ∙ c .before .before .found .given .1)
+
+returns-2 : tie.Need-returns-2
+returns-2 c =
+    let e = c .before .before .before in
+    see-only 32 _ _ _ _ (e .before .least .ensures) (sym (e .nth-set-bit-u32 .ensures) ∙ c .before .enum-told .given .1)
+    (c .wide2 .ensures ∙ sym (ones-bits 32 _ (e .before .before .fits .w .fits)))
+
+pub nth-in-window-spec : {M : Type 1} → statement M
+nth-in-window-spec =
+    tie.close
+    (tie.spec
+    least-requires
+    cast-nth-set-bit-u32
+    nth-set-bit-u32-requires
+    enum-known-found
+    wide-requires
+    enum-told
+    wide-requires-2
+    returns
+    returns-2)
