@@ -2,7 +2,7 @@
 use mathlib.Core.Path.{_≡_, refl, sym, ap, ap₂, _∙_, subst}
 use mathlib.Core.Bool.{Bool, true, false, cond}
 use mathlib.Core.List.{List, [], _∷_, _++_}
-use Prim.Native.Nat.{ℕ, zero, suc, _+_, _*_, _/_, _%_, _≤_, _<_}
+use Prim.Native.Nat.{ℕ, zero, suc, _+_, _-_, _*_, _/_, _%_, _≤_, _<_}
 use native.Mathlib.Omega.{arith}
 use lib.Dec.{leb}
 use borrow.Author.Tests.{le-leb, lt-leb, leb-true, leb-false}
@@ -174,3 +174,34 @@ exact-sum start n size = ⊎-elim
     (λ (h : 8 * size < start + n). lt-leb (start / 8 + n / 8 + (start % 8 + n % 8 + 7) / 8) size (omega arith) ∙ sym (lt-leb (start + n) (8 * size) h))
     (λ (h : start + n ≤ 8 * size). le-leb (start / 8 + n / 8 + (start % 8 + n % 8 + 7) / 8) size (omega arith) ∙ sym (le-leb (start + n) (8 * size) h))
     (lt-or-le (8 * size) (start + n))
+
+-- words for n + more flags, taken by words and flags
+pub exact-words : (n more : ℕ) → n / 64 + more / 64 + (n % 64 + more % 64 + 63) / 64 ≡ (n + more + 63) / 64
+exact-words n more = omega arith
+
+-- n + more within a limit, where n is, and where it is not
+pub sum-within : (n more most : ℕ) → n ≤ most → leb more (most - n) ≡ leb (n + more) most
+sum-within n more most h = ⊎-elim
+    (λ (k : most < n + more). lt-leb more (most - n) (omega arith) ∙ sym (lt-leb (n + more) most k))
+    (λ (k : n + more ≤ most). le-leb more (most - n) (omega arith) ∙ sym (le-leb (n + more) most k))
+    (lt-or-le most (n + more))
+
+-- ---- the two promises of a call that may write: its answer and its bytes
+
+kept-old : {B : Type 0} (r : ℕ) (new old : B) → (r ≡ 0 → ⊥) → old ≡ kept r new old
+unfolding kept
+kept-old zero new old h = absurd (h refl)
+kept-old (suc r) new old h = refl
+
+module _ {S A B : Type 0} (r m : ℕ) (s : S) (old : B) (e : r ≡ m) where
+  pub refused-way : (a : A) (new : B) → (r ≡ 0 → ⊥) → (refused r s ≡ decided m s a) × (old ≡ kept m new old)
+  refused-way a new h = (is-refused r m s a e h, kept-old r new old h ∙ ap (λ (x : ℕ). kept x new old) e)
+
+  pub given-way : (a a′ : A) (out new : B) → r ≡ 0 → a ≡ a′ → out ≡ new → (given a ≡ decided m s a′) × (out ≡ kept m new old)
+  unfolding kept
+  given-way a a′ out new h p q = (ap given p ∙ is-given r m s a′ e h, q ∙ ap (λ (x : ℕ). kept x new old) (sym h ∙ e))
+
+-- a check before others
+pub more-check : (r a b n : ℕ) (t u : Bool) (cs : List Check) → r ≡ earlier a b → a ≡ cond t 0 n → t ≡ u → b ≡ firstFailed cs → r ≡ firstFailed (check n u ∷ cs)
+unfolding firstFailed
+more-check r a b n t u cs e p h q = e ∙ ap₂ earlier (p ∙ ap (λ (x : Bool). cond x 0 n) h) q

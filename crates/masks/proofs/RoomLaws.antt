@@ -47,6 +47,10 @@ room-of b n size e =
       holds = leb-true (8 * ((b .length + n + 63) / 64)) size (head-passed 8 (leb (8 * ((b .length + n + 63) / 64)) size) [] four);
     }
 
+pub word-allowed : (w k : ℕ) → firstFailed (withinLimit k ∷ check 6 (leb k 64 && noneFrom w k) ∷ []) ≡ 0 → k ≤ 64
+word-allowed w k e =
+    leb-true k 64 (and-left (leb k 64) (noneFrom w k) (head-passed 5 (leb k 64 && noneFrom w k) [] (tail-passed (withinLimit k) (check 6 (leb k 64 && noneFrom w k) ∷ []) e)))
+
 pub room-less : (b : BitmapBuilder) (m n size : ℕ) → m ≤ n → Room b n size → Room b m size
 room-less b m n size h r =
     let short : b .length + n ≤ limit = r .short in
