@@ -1,6 +1,7 @@
 -- The laws of the crate, a file for each topic.
 pub mod AppendLaws
 pub mod CheckLaws
+pub mod ExtendLaws
 pub mod FreezeLaws
 pub mod FrozenLaws
 pub mod PushLaws

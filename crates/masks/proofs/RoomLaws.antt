@@ -89,6 +89,13 @@ room-after f g l m n e h r =
     let p = parts-of f l in
     subst (λ (x : Filling). Room (x .builder) n (length (x .bytes))) (sym (e ∙ appended-grown f l _ _ _ p)) (grown-room f l _ _ _ m n p h r)
 
+pub room-then : (f g : Filling) (l : List Bool) (k m n : ℕ) → g ≡ appended f l → length l ≡ k → Room (f .builder) m (length (f .bytes)) → k + n ≤ m → Room (g .builder) n (length (g .bytes))
+room-then f g l k m n e h r q = room-after f g l m n e (omega arith) r
+
+pub length-then : (f g : Filling) (l : List Bool) (k : ℕ) → g ≡ appended f l → length l ≡ k → g .builder .length ≡ f .builder .length + k
+unfolding appended
+length-then f g l k e h = ap (λ (x : Filling). x .builder .length) e ∙ ap (λ (x : ℕ). f .builder .length + x) h
+
 pub length-after : (f g : Filling) (l : List Bool) → g ≡ appended f l → g .builder .length ≡ f .builder .length + length l
 unfolding appended
 length-after f g l e = ap (λ (x : Filling). x .builder .length) e

@@ -7,7 +7,7 @@ use mathlib.Core.List.{List, [], _∷_, _++_}
 use lib.Dec.{leb}
 use Rattle.masks.specs.Answer.{Answer, given, refused}
 use Rattle.masks.specs.Builder.{builderChecks, noneFrom}
-use Rattle.masks.specs.Checks.{Check, check, withinLimit}
+use Rattle.masks.specs.Checks.{Check, check, withinLimit, spanChecks}
 use Rattle.masks.specs.declared.builder.BitmapBuilder.{BitmapBuilder}
 use Rattle.masks.specs.declared.builder.Pushed.{Pushed}
 use Rattle.masks.specs.declared.builder.Pushed.the-variants.{Done, Refused}
@@ -27,3 +27,7 @@ wordChecks b size word n = growChecks b n size ++ (withinLimit n ∷ check 6 (le
 -- of a constant besides these: its stated length
 unfoldable pub constantChecks : BitmapBuilder → ℕ → ℕ → List Check
 constantChecks b size n = growChecks b n size ++ (withinLimit n ∷ [])
+
+-- of a span of n flags over `held` bytes, where m flags are appended: questions 1 and 2 of it besides
+unfoldable pub spanGrowChecks : BitmapBuilder → ℕ → ℕ → ℕ → ℕ → ℕ → List Check
+spanGrowChecks b size start n held m = spanChecks start n held ++ growChecks b m size

@@ -152,3 +152,10 @@ pub(crate) fn word_failure(word: u64, k: usize) -> u8
         failed(6, both(k <= 64, none_from(word, k))),
     )
 }
+
+// Of a stated length.
+pub(crate) fn limit_failure(n: usize) -> u8
+    ensures { λ r. ⌜ r ≡ firstFailed (withinLimit n ∷ []) ⌝ }
+{
+    failed(1, within_limit(n))
+}

@@ -6,4 +6,5 @@ pub mod aligned;
 pub mod bitmap;
 pub mod builder;
 mod checks;
+mod extend;
 mod span;
