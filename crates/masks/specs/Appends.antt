@@ -1,16 +1,24 @@
 -- The calls that append to a builder: their checks, and the flags that they append. Assumes nothing.
 --
--- Each call's answer is `checked` of its checks, the builder as it came, and `appended` of its flags; the buffer is `kept` likewise.
+-- Each call appends a list of flags where all its checks pass. Else the builder and the buffer are as they came.
 use Prim.Native.Nat.{ℕ, _+_, _*_}
 use mathlib.Core.Bool.{Bool, _&&_}
 use mathlib.Core.List.{List, [], _∷_, _++_}
 use lib.Dec.{leb}
-use Rattle.masks.specs.Answer.{Answer, given, refused}
-use Rattle.masks.specs.Builder.{builderChecks, noneFrom}
-use Rattle.masks.specs.Checks.{Check, check, withinLimit, spanChecks}
+use lib.ListN.{length}
+use Rattle.masks.specs.Answer.{Answer, given, refused, checked, kept}
+use Rattle.masks.specs.Builder.{filling, appended, builderChecks, noneFrom}
+use Rattle.masks.specs.Checks.{Check, check, firstFailed, withinLimit, spanChecks}
 use Rattle.masks.specs.declared.builder.BitmapBuilder.{BitmapBuilder}
 use Rattle.masks.specs.declared.builder.Pushed.{Pushed}
 use Rattle.masks.specs.declared.builder.Pushed.the-variants.{Done, Refused}
+
+-- what a call with these checks answers that appends l, and what the buffer then holds
+abbrev pub appendAnswer : List Check → BitmapBuilder → List ℕ → List Bool → Answer BitmapBuilder BitmapBuilder
+appendAnswer cs b bytes l = checked cs b (appended (filling b bytes) l .builder)
+
+abbrev pub appendBytes : List Check → BitmapBuilder → List ℕ → List Bool → List ℕ
+appendBytes cs b bytes l = kept (firstFailed cs) (appended (filling b bytes) l .bytes) bytes
 
 abbrev pub pushedAnswer : Pushed → Answer BitmapBuilder BitmapBuilder
 pushedAnswer (Done b) = given b
@@ -28,6 +36,6 @@ wordChecks b size word n = growChecks b n size ++ (withinLimit n ∷ check 6 (le
 unfoldable pub constantChecks : BitmapBuilder → ℕ → ℕ → List Check
 constantChecks b size n = growChecks b n size ++ (withinLimit n ∷ [])
 
--- of a span of n flags over `held` bytes, where m flags are appended: questions 1 and 2 of it besides
-unfoldable pub spanGrowChecks : BitmapBuilder → ℕ → ℕ → ℕ → ℕ → ℕ → List Check
-spanGrowChecks b size start n held m = spanChecks start n held ++ growChecks b m size
+-- of a span, where m flags are appended: questions 1 and 2 of it besides
+unfoldable pub spanGrowChecks : BitmapBuilder → List ℕ → List ℕ → ℕ → ℕ → ℕ → List Check
+spanGrowChecks b buf bytes start n m = spanChecks start n (length bytes) ++ growChecks b m (length buf)

@@ -4,10 +4,11 @@ use mathlib.Core.Bool.{Bool, cond}
 use mathlib.Core.List.{List}
 use mathlib.Core.Option.{Option, none, some}
 use lib.Dec.{eqb}
+use lib.ListN.{length}
 use Rattle.words.specs.Flags.{count, over, wordFlags}
-use Rattle.masks.specs.Answer.{Answer, given, refused}
+use Rattle.masks.specs.Answer.{Answer, given, refused, kept}
 use Rattle.masks.specs.Builder.{filling, builderFlags, builderChecks}
-use Rattle.masks.specs.Checks.{Check}
+use Rattle.masks.specs.Checks.{Check, firstFailed}
 use Rattle.masks.specs.Frozen.{frozen}
 use Rattle.masks.specs.declared.bitmap.Bitmap.{Bitmap}
 use Rattle.masks.specs.declared.bitmap.Unset.the-variants.{Known}
@@ -35,6 +36,10 @@ freezeChecks b size = builderChecks b (b .length) size
 -- the frozen bytes of the builder's flags over the front of its buffer
 unfoldable pub frozenOver : BitmapBuilder → List ℕ → List ℕ
 frozenOver b bytes = over bytes (frozen (builderFlags (filling b bytes)))
+
+-- what the buffer holds after the call
+abbrev pub freezeBytes : BitmapBuilder → List ℕ → List ℕ
+freezeBytes b bytes = kept (firstFailed (freezeChecks b (length bytes))) (frozenOver b bytes) bytes
 
 abbrev pub madeAnswer : Made → Answer BitmapBuilder Bitmap
 madeAnswer (Made·Mask m) = given m

@@ -4,10 +4,8 @@ ghost use Prim.Native.Nat.{_+_, _*_, _%_, _≤_};
 ghost use lib.ListN.{length};
 ghost use Rattle.words.specs.Flags.{copies, digit};
 ghost use Rattle.words.specs.Loops.{stretch};
-ghost use Rattle.masks.specs.Answer.{checked, kept};
-ghost use Rattle.masks.specs.Appends.{pushedAnswer, constantChecks, spanGrowChecks};
+ghost use Rattle.masks.specs.Appends.{pushedAnswer, appendAnswer, appendBytes, constantChecks, spanGrowChecks};
 ghost use Rattle.masks.specs.Builder.{Room, filling, appended};
-ghost use Rattle.masks.specs.Checks.{firstFailed};
 use crate::builder::BitmapBuilder;
 use crate::builder::Pushed;
 use crate::builder::push_flags;
@@ -24,8 +22,8 @@ use words::word::word_from;
 impl BitmapBuilder {
     // Appends n copies of a flag.
     pub fn extend_constant(self, buf: &mut [u8], n: usize, flag: bool) -> Pushed
-        ensures answer { λ r. ⌜ pushedAnswer r ≡ checked (constantChecks self (length (now (buf .entry))) n) self (appended (filling self (now (buf .entry))) (copies n flag) .builder) ⌝ }
-        ensures bytes { λ _. ⌜ now (buf .exit) ≡ kept (firstFailed (constantChecks self (length (now (buf .entry))) n)) (appended (filling self (now (buf .entry))) (copies n flag) .bytes) (now (buf .entry)) ⌝ }
+        ensures answer { λ r. ⌜ pushedAnswer r ≡ appendAnswer (constantChecks self (length (now (buf .entry))) n) self (now (buf .entry)) (copies n flag) ⌝ }
+        ensures bytes { λ _. ⌜ now (buf .exit) ≡ appendBytes (constantChecks self (length (now (buf .entry))) n) self (now (buf .entry)) (copies n flag) ⌝ }
     {
         let refusal = earlier(builder_failure(self, n, buf.len()), limit_failure(n));
         if refusal != 0 {
@@ -36,8 +34,10 @@ impl BitmapBuilder {
 
     // Appends a span.
     pub fn extend_from_slice(self, buf: &mut [u8], bytes: &[u8], start: usize, n: usize) -> Pushed
-        ensures answer { λ r. ⌜ pushedAnswer r ≡ checked (spanGrowChecks self (length (now (buf .entry))) start n (length (now (bytes .entry))) n) self (appended (filling self (now (buf .entry))) (stretch (now (bytes .entry)) start n) .builder) ⌝ }
-        ensures bytes { λ _. ⌜ now (buf .exit) ≡ kept (firstFailed (spanGrowChecks self (length (now (buf .entry))) start n (length (now (bytes .entry))) n)) (appended (filling self (now (buf .entry))) (stretch (now (bytes .entry)) start n) .bytes) (now (buf .entry)) ⌝ }
+        ensures answer { λ r. ⌜ pushedAnswer r ≡ appendAnswer (spanGrowChecks self (now (buf .entry)) (now (bytes .entry)) start n n) self (now (buf .entry))
+            (stretch (now (bytes .entry)) start n) ⌝ }
+        ensures bytes { λ _. ⌜ now (buf .exit) ≡ appendBytes (spanGrowChecks self (now (buf .entry)) (now (bytes .entry)) start n n) self (now (buf .entry))
+            (stretch (now (bytes .entry)) start n) ⌝ }
     {
         let refusal = earlier(
             span_failure(start, n, bytes.len()),
