@@ -9,21 +9,23 @@ use lib.ListN.{length, take, drop, getD, length-append, length-drop, take-append
 use lib.Seq.{length-take-le, take-at, drop-at}
 use borrow.Author.Tests.{not-true}
 use Rattle.words.specs.Counts.{anySet}
-use Rattle.words.specs.Flags.{bits, count, digit, flagsOf, overAt, window, wordOf}
+use Rattle.words.specs.Flags.{bits, copies, count, digit, flagsOf, overAt, window, wordOf}
 use Rattle.words.proofs.AnyFlag.{any-zero, zero-any}
 use Rattle.words.proofs.Bits.{length-bits, wordOf-bits}
 use Rattle.words.proofs.Bytes.{length-flags}
 use Rattle.words.proofs.Counting.{count-append, count-le, count-padded}
 use Rattle.words.proofs.Plain.{window-part, overAt-before, overAt-in}
 use Rattle.words.proofs.Windows.{length-window, window-add, window-all, window-cut, window-ext, as-window, at-in, bits-window}
-use Rattle.masks.specs.Builder.{Filling, filling, builderOf, inProgress, appended, builderFlags, noneFrom, Room}
+use Rattle.masks.specs.Answer.{Answer, given, decided, kept}
+use Rattle.masks.specs.Builder.{Filling, filling, builderOf, inProgress, appended, noneFrom}
 use Rattle.masks.specs.Frozen.{packed, overFrom}
 use Rattle.masks.specs.declared.builder.BitmapBuilder.{BitmapBuilder}
+use Rattle.masks.proofs.CheckLaws.{given-way}
 use Rattle.masks.proofs.FrozenLaws.{length-packed, flags-packed, packed-window, packed-append, overFrom-none, overFrom-more, length-overFrom, flags-overFrom}
 
 -- ---- lists at the seams of words
 
-window-front : (n : ℕ) (a b : List Bool) → length a ≡ n → window (a ++ b) 0 n ≡ a
+pub window-front : (n : ℕ) (a b : List Bool) → length a ≡ n → window (a ++ b) 0 n ≡ a
 window-front n a b e = window-part (a ++ b) 0 n (omega (arith, length-append a b)) ∙ take-at a b n e
 
 packed-front : (n : ℕ) (a b : List Bool) → length a ≡ 8 * n → packed n (a ++ b) ≡ packed n a
@@ -175,6 +177,11 @@ low-list (suc k) (x ∷ l) e = ap (λ (n : ℕ). n * 2 + digit x) (low-list k l 
 pub low-word : (k w : ℕ) → w < 2 ^ 64 → noneFrom w k ≡ true → wordOf (take k (bits 64 w)) ≡ w
 low-word k w h e = low-list k (bits 64 w) (not-true (anySet (drop k (bits 64 w))) e) ∙ wordOf-bits 64 w h
 
+pub low-window : (k w : ℕ) → noneFrom w k ≡ true → bits 64 w ≡ window (take k (bits 64 w)) 0 64
+low-window k w e =
+    sym (sym (bits-window 64 (take k (bits 64 w))) ∙ ap (bits 64) (low-list k (bits 64 w) (not-true (anySet (drop k (bits 64 w))) e))
+    ∙ bits-window 64 (bits 64 w) ∙ ap (window (bits 64 w) 0) (sym (length-bits 64 w)) ∙ window-all (bits 64 w))
+
 pub low-count : (k w : ℕ) → noneFrom w k ≡ true → count (take k (bits 64 w)) ≡ count (bits 64 w)
 low-count k w e =
     let z : count (drop k (bits 64 w)) ≡ 0 = any-zero (drop k (bits 64 w)) (sym (not-true (anySet (drop k (bits 64 w))) e)) in
@@ -205,3 +212,24 @@ append-none f h e =
     ∙ ap₂ (λ (x : ℕ) (y : List ℕ). filling (builderOf (f .builder .length) x (f .builder .ones)) y)
     (progress-word (f .builder) h e)
     (ap (overFrom (f .bytes) (8 * (f .builder .length / 64))) (no-bytes []) ∙ overFrom-none (f .bytes) (8 * (f .builder .length / 64)))
+
+-- ---- the promises of a call that appends
+
+pub append-way : (r m : ℕ) (s b : BitmapBuilder) (old out : List ℕ) (f : Filling) (l : List Bool) → r ≡ m → r ≡ 0 → filling b out ≡ appended f l
+    → (given b ≡ decided m s (appended f l .builder)) × (out ≡ kept m (appended f l .bytes) old)
+append-way r m s b old out f l e h p =
+    given-way r m s old e b (appended f l .builder) out (appended f l .bytes) h (ap (λ (x : Filling). x .builder) p) (ap (λ (x : Filling). x .bytes) p)
+
+pub take-copies : (k n : ℕ) (x : Bool) → k ≤ n → take k (copies n x) ≡ copies k x
+unfolding copies
+take-copies zero n x h = refl
+take-copies (suc k) zero x h = absurd (omega arith)
+take-copies (suc k) (suc n) x h = ap (λ (t : List Bool). x ∷ t) (take-copies k n x (omega arith))
+
+-- the first flags of a word of one flag
+pub constant-front : (k w : ℕ) (x : Bool) → k ≤ 64 → bits 64 w ≡ copies 64 x → take k (bits 64 w) ≡ copies k x
+constant-front k w x h e = ap (take k) e ∙ take-copies k 64 x h
+
+pub one-copy : (x : Bool) → copies 1 x ≡ x ∷ []
+unfolding copies
+one-copy x = refl

@@ -285,3 +285,27 @@ output-test n size = ⊎-elim
     (λ (h : size < 8 * ((n + 63) / 64)). lt-leb (n / 64 + (n % 64 + 63) / 64) (size / 8) (omega arith) ∙ sym (lt-leb (8 * ((n + 63) / 64)) size h))
     (λ (h : 8 * ((n + 63) / 64) ≤ size). le-leb (n / 64 + (n % 64 + 63) / 64) (size / 8) (omega arith) ∙ sym (le-leb (8 * ((n + 63) / 64)) size h))
     (lt-or-le size (8 * ((n + 63) / 64)))
+
+-- words for n + more flags, taken by words and flags
+pub exact-words : (n more : ℕ) → n / 64 + more / 64 + (n % 64 + more % 64 + 63) / 64 ≡ (n + more + 63) / 64
+exact-words n more = omega arith
+
+-- ---- the two promises of a call that may write: its answer and its bytes
+
+kept-old : {B : Type 0} (r : ℕ) (new old : B) → (r ≡ 0 → ⊥) → old ≡ kept r new old
+unfolding kept
+kept-old zero new old h = absurd (h refl)
+kept-old (suc r) new old h = refl
+
+module _ {S A B : Type 0} (r m : ℕ) (s : S) (old : B) (e : r ≡ m) where
+  pub refused-way : (a : A) (new : B) → (r ≡ 0 → ⊥) → (refused r s ≡ decided m s a) × (old ≡ kept m new old)
+  refused-way a new h = (is-refused r m s a e h, kept-old r new old h ∙ ap (λ (x : ℕ). kept x new old) e)
+
+  pub given-way : (a a′ : A) (out new : B) → r ≡ 0 → a ≡ a′ → out ≡ new → (given a ≡ decided m s a′) × (out ≡ kept m new old)
+  unfolding kept
+  given-way a a′ out new h p q = (ap given p ∙ is-given r m s a′ e h, q ∙ ap (λ (x : ℕ). kept x new old) (sym h ∙ e))
+
+-- a check before others
+pub more-check : (r a b n : ℕ) (t u : Bool) (cs : List Check) → r ≡ earlier a b → a ≡ cond t 0 n → t ≡ u → b ≡ firstFailed cs → r ≡ firstFailed (check n u ∷ cs)
+unfolding firstFailed
+more-check r a b n t u cs e p h q = e ∙ ap₂ earlier (p ∙ ap (λ (x : Bool). cond x 0 n) h) q

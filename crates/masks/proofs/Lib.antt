@@ -6,6 +6,8 @@ pub mod ChunkLaws
 pub mod CombineLaws
 pub mod CompareLaws
 pub mod CursorLaws
+pub mod ExtendLaws
+pub mod FreezeLaws
 pub mod FrozenLaws
 pub mod IteratorLaws
 pub mod MaskLaws

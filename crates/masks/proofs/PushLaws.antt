@@ -21,7 +21,7 @@ use Rattle.masks.proofs.FrozenLaws.{Small, overFrom-none, written-bytes
 -- ---- windows of two lists in a row
 
 -- past the first list
-window-behind : (p t : List Bool) (k n : ℕ) → window (p ++ t) (length p + k) n ≡ window t k n
+pub window-behind : (p t : List Bool) (k n : ℕ) → window (p ++ t) (length p + k) n ≡ window t k n
 window-behind p t k n = window-ext (p ++ t) t (length p + k) k n (λ j h.
     let e : length p + k + j ≡ length p + (k + j) = omega arith in
     ap (λ (x : ℕ). getD (p ++ t) x false) e ∙ getD-append-add p t (k + j) false)

@@ -47,6 +47,10 @@ room-of b n size e =
       holds = leb-true (8 * ((b .length + n + 63) / 64)) size (head-passed 8 (leb (8 * ((b .length + n + 63) / 64)) size) [] four);
     }
 
+pub word-allowed : (w k : ℕ) → firstFailed (withinLimit k ∷ check 6 (leb k 64 && noneFrom w k) ∷ []) ≡ 0 → k ≤ 64
+word-allowed w k e =
+    leb-true k 64 (and-left (leb k 64) (noneFrom w k) (head-passed 5 (leb k 64 && noneFrom w k) [] (tail-passed (withinLimit k) (check 6 (leb k 64 && noneFrom w k) ∷ []) e)))
+
 pub room-less : (b : BitmapBuilder) (m n size : ℕ) → m ≤ n → Room b n size → Room b m size
 room-less b m n size h r =
     let short : b .length + n ≤ limit = r .short in
@@ -84,6 +88,13 @@ pub room-after : (f g : Filling) (l : List Bool) (m n : ℕ) → g ≡ appended 
 room-after f g l m n e h r =
     let p = parts-of f l in
     subst (λ (x : Filling). Room (x .builder) n (length (x .bytes))) (sym (e ∙ appended-grown f l _ _ _ p)) (grown-room f l _ _ _ m n p h r)
+
+pub room-then : (f g : Filling) (l : List Bool) (k m n : ℕ) → g ≡ appended f l → length l ≡ k → Room (f .builder) m (length (f .bytes)) → k + n ≤ m → Room (g .builder) n (length (g .bytes))
+room-then f g l k m n e h r q = room-after f g l m n e (omega arith) r
+
+pub length-then : (f g : Filling) (l : List Bool) (k : ℕ) → g ≡ appended f l → length l ≡ k → g .builder .length ≡ f .builder .length + k
+unfolding appended
+length-then f g l k e h = ap (λ (x : Filling). x .builder .length) e ∙ ap (λ (x : ℕ). f .builder .length + x) h
 
 pub length-after : (f g : Filling) (l : List Bool) → g ≡ appended f l → g .builder .length ≡ f .builder .length + length l
 unfolding appended

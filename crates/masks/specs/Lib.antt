@@ -1,6 +1,7 @@
 -- What the contracts of this crate mean. `Checks`, `Answer` and `Mask` are read first.
 pub mod Aligned
 pub mod Answer
+pub mod Appends
 pub mod Bitmask
 pub mod Builder
 pub mod Checks
@@ -8,6 +9,7 @@ pub mod Chunks
 pub mod Combine
 pub mod Compare
 pub mod Cursor
+pub mod Freeze
 pub mod Frozen
 pub mod Iterator
 pub mod Mask

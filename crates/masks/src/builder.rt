@@ -1,10 +1,20 @@
 // The builder: flags are appended to a lent buffer. A word is written when it is full.
 ghost use mathlib.Core.Path.{_≡_};
-ghost use Prim.Native.Nat.{_≤_};
+ghost use mathlib.Core.List.{[], _∷_};
+ghost use Prim.Native.Nat.{_≤_, _-_};
 ghost use lib.ListN.{length, take};
 ghost use Rattle.words.specs.Flags.{wordFlags};
-ghost use Rattle.masks.specs.Builder.{Room, filling, appended};
+ghost use Rattle.masks.specs.Answer.{checked};
+ghost use Rattle.masks.specs.Appends.{pushedAnswer, appendAnswer, appendBytes, growChecks, wordChecks};
+ghost use Rattle.masks.specs.Builder.{Room, newBuilder, filling, appended};
+ghost use Rattle.masks.specs.Freeze.{allOnes, frozenMask, validityOf, freezeChecks, freezeBytes, frozenOver, madeAnswer, validityAnswer};
+use crate::bitmap::Bitmap;
+use crate::bitmap::Unset;
+use crate::checks::builder_failure;
+use crate::checks::earlier;
+use crate::checks::word_failure;
 use words::word::behind;
+use words::word::constant_word;
 use words::word::down;
 use words::word::low_flags;
 use words::word::ones_in_word;
@@ -15,6 +25,89 @@ pub struct BitmapBuilder {
     pub length: usize,
     pub word: u64,
     pub ones: usize,
+}
+
+// What a call that appends gives: the builder, or a check's number and the builder as it came.
+pub enum Pushed {
+    Done(BitmapBuilder),
+    Refused(u8, BitmapBuilder),
+}
+
+// What `freeze` gives.
+pub enum Made {
+    Mask(Bitmap),
+    Refused(u8, BitmapBuilder),
+}
+
+// What `into_opt_validity` gives: no mask where all flags are set.
+pub enum Validity {
+    Mask(Bitmap),
+    AllSet,
+    Refused(u8, BitmapBuilder),
+}
+
+impl BitmapBuilder {
+    pub fn new() -> Self
+        ensures { λ r. ⌜ r ≡ newBuilder ⌝ }
+    {
+        BitmapBuilder {
+            length: 0,
+            word: 0,
+            ones: 0,
+        }
+    }
+
+    pub fn push(self, buf: &mut [u8], flag: bool) -> Pushed
+        ensures answer { λ r. ⌜ pushedAnswer r ≡ appendAnswer (growChecks self 1 (length (now (buf .entry)))) self (now (buf .entry)) (flag ∷ []) ⌝ }
+        ensures bytes { λ _. ⌜ now (buf .exit) ≡ appendBytes (growChecks self 1 (length (now (buf .entry)))) self (now (buf .entry)) (flag ∷ []) ⌝ }
+    {
+        let refusal = builder_failure(self, 1, buf.len());
+        if refusal != 0 {
+            return Pushed::Refused(refusal, self);
+        }
+        Pushed::Done(push_flags(self, buf, constant_word(flag), 1))
+    }
+
+    // Appends the first flags of a word.
+    pub fn push_word_with_len_unchecked(self, buf: &mut [u8], word: u64, k: usize) -> Pushed
+        ensures answer { λ r. ⌜ pushedAnswer r ≡ appendAnswer (wordChecks self (length (now (buf .entry))) word k) self (now (buf .entry)) (take k (wordFlags word)) ⌝ }
+        ensures bytes { λ _. ⌜ now (buf .exit) ≡ appendBytes (wordChecks self (length (now (buf .entry))) word k) self (now (buf .entry)) (take k (wordFlags word)) ⌝ }
+    {
+        let refusal = earlier(builder_failure(self, k, buf.len()), word_failure(word, k));
+        if refusal != 0 {
+            return Pushed::Refused(refusal, self);
+        }
+        Pushed::Done(push_flags(self, buf, word, k))
+    }
+
+    // Writes the word in progress, and gives the mask of all flags.
+    pub fn freeze(self, buf: &mut [u8]) -> Made
+        ensures answer { λ r. ⌜ madeAnswer r ≡ checked (freezeChecks self (length (now (buf .entry)))) self (frozenMask self) ⌝ }
+        ensures bytes { λ _. ⌜ now (buf .exit) ≡ freezeBytes self (now (buf .entry)) ⌝ }
+    {
+        let refusal = builder_failure(self, 0, buf.len());
+        if refusal != 0 {
+            return Made::Refused(refusal, self);
+        }
+        finish(self, buf);
+        Made::Mask(frozen_mask(self))
+    }
+
+    // The same, but no mask where the ones equal the length.
+    pub fn into_opt_validity(self, buf: &mut [u8]) -> Validity
+        ensures answer { λ r. ⌜ validityAnswer r ≡ checked (freezeChecks self (length (now (buf .entry)))) self (validityOf self) ⌝ }
+        ensures bytes { λ _. ⌜ now (buf .exit) ≡ freezeBytes self (now (buf .entry)) ⌝ }
+    {
+        let refusal = builder_failure(self, 0, buf.len());
+        if refusal != 0 {
+            return Validity::Refused(refusal, self);
+        }
+        finish(self, buf);
+        if all_ones(self) == self.length {
+            return Validity::AllSet;
+        }
+        Validity::Mask(frozen_mask(self))
+    }
 }
 
 // Appends the first k flags of a word: they go behind those in progress, and a full word is written.
@@ -40,5 +133,35 @@ pub(crate) fn push_flags(b: BitmapBuilder, buf: &mut [u8], word: u64, k: usize) 
         length: longer,
         word: rest,
         ones: ones,
+    }
+}
+
+// Writes the word in progress behind the finished ones.
+fn finish(b: BitmapBuilder, buf: &mut [u8])
+    requires { ⌜ Room b 0 (length (now buf)) ⌝ }
+    ensures { λ _. ⌜ now (buf .exit) ≡ frozenOver b (now (buf .entry)) ⌝ }
+{
+    if b.length % 64 != 0 {
+        store_at(buf, 8 * (b.length / 64), b.word);
+    }
+}
+
+// The ones held and those in the word.
+fn all_ones(b: BitmapBuilder) -> usize
+    requires { ⌜ allOnes b ≤ b .length ⌝ }
+    ensures { λ r. ⌜ r ≡ allOnes b ⌝ }
+{
+    b.ones + ones_in_word(b.word)
+}
+
+fn frozen_mask(b: BitmapBuilder) -> Bitmap
+    requires { ⌜ allOnes b ≤ b .length ⌝ }
+    ensures { λ r. ⌜ r ≡ frozenMask b ⌝ }
+{
+    let zeros = b.length - all_ones(b);
+    Bitmap {
+        start: 0,
+        length: b.length,
+        unset: Unset::Known(zeros),
     }
 }

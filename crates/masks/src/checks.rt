@@ -1,14 +1,17 @@
 // The checks that the calls share, and how a call puts them together: a number is 0 where nothing failed.
 ghost use mathlib.Core.Path.{_≡_};
-ghost use mathlib.Core.Bool.{cond};
-ghost use mathlib.Core.List.{_++_};
+ghost use mathlib.Core.Bool.{cond, _&&_};
+ghost use mathlib.Core.List.{[], _∷_};
 ghost use Prim.Native.Nat.{_+_, _*_};
 ghost use lib.Dec.{leb};
 ghost use lib.ListN.{length};
-ghost use Rattle.masks.specs.Checks.{earlier as Checks·earlier, rank as Checks·rank, firstFailed, limit, spanChecks, addressChecks, outputChecks};
+ghost use Rattle.masks.specs.Checks.{earlier as Checks·earlier, rank as Checks·rank, firstFailed, limit, check, withinLimit, spanChecks, addressChecks, outputChecks};
 ghost use Rattle.masks.specs.Mask.{countFits, maskChecks};
+ghost use Rattle.masks.specs.Builder.{possible, builderChecks, noneFrom};
 use crate::bitmap::Bitmap;
 use crate::bitmap::Unset;
+use crate::builder::BitmapBuilder;
+use words::counts::none_from;
 
 // Of two numbers the one that is put first.
 pub(crate) fn earlier(a: u8, b: u8) -> u8
@@ -110,4 +113,63 @@ pub(crate) fn frozen_failure(n: usize, size: usize) -> u8
     ensures { λ r. ⌜ r ≡ firstFailed (outputChecks n size) ⌝ }
 {
     failed(9, n / 64 + (n % 64 + 63) / 64 <= size / 8)
+}
+
+fn both(a: bool, b: bool) -> bool
+    ensures { λ r. ⌜ r ≡ (a && b) ⌝ }
+{
+    if a { b } else { false }
+}
+
+// Does an output of so many bytes hold n + more flags, taken exactly.
+pub(crate) fn output_failure(n: usize, more: usize, size: usize) -> u8
+    ensures { λ r. ⌜ r ≡ firstFailed (outputChecks (n + more) size) ⌝ }
+{
+    let words = n / 64 + more / 64 + (n % 64 + more % 64 + 63) / 64;
+    failed(9, 8 * words <= size)
+}
+
+// Is the builder one that the calls can have made, over a buffer of so many bytes.
+fn is_possible(b: BitmapBuilder, size: usize) -> bool
+    ensures { λ r. ⌜ r ≡ possible b size ⌝ }
+{
+    let whole = b.length / 64;
+    both(
+        none_from(b.word, b.length % 64),
+        both(b.ones <= 64 * whole, 8 * whole <= size),
+    )
+}
+
+// Of a call that appends so many flags to a builder with a buffer of so many bytes.
+pub(crate) fn builder_failure(b: BitmapBuilder, more: usize, size: usize) -> u8
+    ensures { λ r. ⌜ r ≡ firstFailed (builderChecks b (b .length + more) size) ⌝ }
+{
+    let n = b.length;
+    earlier(
+        failed(1, within_limit(n)),
+        earlier(
+            failed(1, sum_within_limit(n, more)),
+            earlier(
+                failed(4, is_possible(b, size)),
+                output_failure(n, more, size),
+            ),
+        ),
+    )
+}
+
+// Of a pushed word: its stated length, and that it has at most 64 flags and none beyond.
+pub(crate) fn word_failure(word: u64, k: usize) -> u8
+    ensures { λ r. ⌜ r ≡ firstFailed (withinLimit k ∷ check 6 (leb k 64 && noneFrom word k) ∷ []) ⌝ }
+{
+    earlier(
+        failed(1, within_limit(k)),
+        failed(6, both(k <= 64, none_from(word, k))),
+    )
+}
+
+// Of a stated length.
+pub(crate) fn limit_failure(n: usize) -> u8
+    ensures { λ r. ⌜ r ≡ firstFailed (withinLimit n ∷ []) ⌝ }
+{
+    failed(1, within_limit(n))
 }

@@ -11,6 +11,7 @@ mod checks;
 pub mod chunks;
 pub mod compare;
 mod cursor;
+mod extend;
 pub mod iterator;
 mod span;
 pub mod true_idx;

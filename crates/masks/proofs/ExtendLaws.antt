@@ -1,0 +1,67 @@
+-- Long extensions: whole words written to the buffer, and a list appended in three parts. Assumes nothing.
+use mathlib.Core.Path.{_≡_, refl, sym, ap, ap₂, _∙_}
+use mathlib.Core.Bool.{Bool}
+use mathlib.Core.List.{List, [], _∷_, _++_, append-nil}
+use Prim.Native.Nat.{ℕ, zero, suc, _+_, _-_, _*_, _/_, _%_, _≤_, _<_}
+use native.Mathlib.Nat.{zero-add, suc-add, zero-lt-suc}
+use native.Mathlib.Omega.{arith}
+use lib.ListN.{length, take}
+use Rattle.words.specs.Flags.{bits, copies, count, flagsOf, overAt, window, wordOf}
+use Rattle.words.specs.Loops.{wholeWords}
+use Rattle.words.proofs.Windows.{window-add, window-cut}
+use Rattle.masks.specs.Builder.{Filling, filling, builderOf, inProgress, appended}
+use Rattle.masks.specs.Frozen.{packed, overFrom}
+use Rattle.masks.specs.declared.builder.BitmapBuilder.{BitmapBuilder}
+use Rattle.masks.proofs.AppendLaws.{Parts, appended-grown, append-then, length-progress}
+use Rattle.masks.proofs.FrozenLaws.{Small, written-bytes}
+
+-- ---- whole words
+
+no-flags : (l : List Bool) → length l ≡ 0 → l ≡ []
+no-flags [] e = refl
+no-flags (x ∷ l) e = absurd (omega arith)
+
+no-word : wordOf [] ≡ 0
+unfolding wordOf
+no-word = refl
+
+-- what a helper wrote from the first unfilled word on
+whole-written : (bytes out : List ℕ) (at q : ℕ) (l : List Bool) → length l ≡ 64 * q → Small bytes → Small out → flagsOf out ≡ overAt (flagsOf bytes) (8 * at) (wholeWords l) → out ≡ overFrom bytes at (packed (8 * q) l)
+unfolding wholeWords
+whole-written bytes out at q l e small small′ put =
+    let n : 64 * ((length l + 63) / 64) ≡ 8 * (8 * q) = omega arith in
+    written-bytes bytes out at (8 * q) l small small′ (put ∙ ap (λ (x : ℕ). overAt (flagsOf bytes) (8 * at) (window l 0 x)) n)
+
+-- whole words appended to a builder with no word in progress
+pub append-whole : (b : BitmapBuilder) (bytes out : List ℕ) (q c : ℕ) (l : List Bool) → b .length % 64 ≡ 0 → length l ≡ 64 * q → c ≡ count l → Small bytes → Small out
+    → flagsOf out ≡ overAt (flagsOf bytes) (8 * (8 * (b .length / 64))) (wholeWords l) → filling (builderOf (b .length + 64 * q) 0 (b .ones + c)) out ≡ appended (filling b bytes) l
+append-whole b bytes out q c l h e ones small small′ put =
+    let none : inProgress b ≡ [] = no-flags (inProgress b) (length-progress b ∙ h) in
+    let p : Parts (filling b bytes) l q l [] = record { row = ap (λ (t : List Bool). t ++ l) none ∙ sym (append-nil l); whole = e; less = zero-lt-suc 63 } in
+    sym (appended-grown (filling b bytes) l q l [] p
+    ∙ ap₂ (λ (x y : ℕ). filling (builderOf (b .length + x) y (b .ones + count l)) (overFrom bytes (8 * (b .length / 64)) (packed (8 * q) l))) e no-word
+    ∙ ap₂ (λ (x : ℕ) (y : List ℕ). filling (builderOf (b .length + 64 * q) 0 (b .ones + x)) y) (sym ones) (sym (whole-written bytes out (8 * (b .length / 64)) q l e small small′ put)))
+
+-- ---- three parts
+
+pub append-three : (f g h k : Filling) (a m c l : List Bool) → g ≡ appended f a → h ≡ appended g m → k ≡ appended h c → (a ++ m) ++ c ≡ l → k ≡ appended f l
+append-three f g h k a m c l p q r e = append-then f h k (a ++ m) c (append-then f g h a m p q) r ∙ ap (appended f) e
+
+pub copies-add : (m n : ℕ) (x : Bool) → copies (m + n) x ≡ copies m x ++ copies n x
+unfolding copies
+copies-add zero n x = ap (λ (k : ℕ). copies k x) (zero-add n)
+copies-add (suc m) n x = ap (λ (k : ℕ). copies k x) (suc-add m n) ∙ ap (λ (t : List Bool). x ∷ t) (copies-add m n x)
+
+pub copies-three : (a m c n : ℕ) (x : Bool) → n ≡ a + m + c → (copies a x ++ copies m x) ++ copies c x ≡ copies n x
+copies-three a m c n x e = sym (ap (λ (k : ℕ). copies k x) e ∙ copies-add (a + m) c x ∙ ap (λ (t : List Bool). t ++ copies c x) (copies-add a m x))
+
+pub window-three : (l : List Bool) (k a m c n x y : ℕ) → n ≡ a + m + c → x ≡ k + a → y ≡ k + (a + m) → (window l k a ++ window l x m) ++ window l y c ≡ window l k n
+window-three l k a m c n x y e ex ey =
+    ap₂ (λ (i j : ℕ). (window l k a ++ window l i m) ++ window l j c) ex ey
+    ∙ sym (ap (window l k) e ∙ window-add l k (a + m) c ∙ ap (λ (t : List Bool). t ++ window l (k + (a + m)) c) (window-add l k a m))
+
+-- the first flags of a word that was read from a flag on
+pub stretch-front : (l : List Bool) (bit k w : ℕ) → k ≤ 64 → bits 64 w ≡ window l bit 64 → take k (bits 64 w) ≡ window l bit k
+stretch-front l bit k w h e =
+    let z : bit + 0 ≡ bit = omega arith in
+    ap (take k) e ∙ window-cut l bit 64 0 k (omega arith) ∙ ap (λ (x : ℕ). window l x k) z

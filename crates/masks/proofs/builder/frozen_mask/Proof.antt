@@ -1,0 +1,15 @@
+use borrow.Author.Needs.{needs}
+use Rattle.masks.proofs.builder.frozen_mask.Statement.{statement}
+use Rattle.masks.proofs.builder.frozen_mask.Tie as tie
+
+all-ones-requires : tie.Need-all-ones-requires
+all-ones-requires c κs = search needs
+
+sub-zeros : tie.Need-sub-zeros
+sub-zeros c = search needs
+
+returns : tie.Need-returns
+returns c = rw (c .before .all-ones .ensures)
+
+pub frozen-mask-spec : {M : Type 1} → statement M
+frozen-mask-spec = tie.close (tie.spec all-ones-requires sub-zeros returns)

@@ -1,0 +1,66 @@
+use Rattle.words.proofs.Counting.{count-within}
+use Rattle.words.specs.Flags.{flagsOf}
+use native.Mathlib.Omega.{arith}
+use Rattle.words.proofs.Bytes.{over-from}
+use Rattle.words.proofs.Windows.{length-window}
+use Rattle.masks.proofs.ExtendLaws.{append-whole}
+use borrow.Author.Needs.{needs}
+use Rattle.masks.proofs.extend.copy_words.Statement.{statement}
+use Rattle.masks.proofs.extend.copy_words.Tie as tie
+
+mul-n : tie.Need-mul-n
+mul-n c = search needs
+
+add-longer : tie.Need-add-longer
+add-longer c = search needs
+
+count-ones-requires : tie.Need-count-ones-requires
+count-ones-requires c κs = search needs
+
+add-ones : tie.Need-add-ones
+add-ones c =
+    let s = c .before .before .before .before .before in
+    let few = s .pre .1 .few in
+    let short = s .pre .1 .short in
+    omega (arith, count-within (flagsOf (s .args .bytes .now)) (s .args .start) _ _ (c .before .count-ones .ensures))
+
+mul-at : tie.Need-mul-at
+mul-at c = search needs
+
+sub-copy : tie.Need-sub-copy
+sub-copy c = search needs
+
+part-copy-start : tie.Need-part-copy-start
+part-copy-start c = search needs
+
+part-copy-end : tie.Need-part-copy-end
+part-copy-end c = search needs
+
+copy-requires : tie.Need-copy-requires
+copy-requires c κs = search needs
+
+same-length : tie.Need-same-length
+same-length c = search needs
+
+returns : tie.Need-returns
+returns c =
+    let did = c .before .before in
+    let s = did .before .before .before .before .before .before .before .before in
+    append-whole _ (s .args .buf .now) _ (s .args .whole) _ _ (s .pre .0) (length-window _ _ _) (did .before .before .before .before .count-ones .ensures)
+    (λ i. did .before .before .before .before .before .before .before .slice-known .given i .fits) (λ i. c .slice-known2 .given i .fits) (over-from _ _ _ _ (did .copy .ensures))
+
+pub copy-words-spec : {M : Type 1} → statement M
+copy-words-spec =
+    tie.close
+    (tie.spec
+    mul-n
+    add-longer
+    count-ones-requires
+    add-ones
+    mul-at
+    sub-copy
+    part-copy-start
+    part-copy-end
+    copy-requires
+    same-length
+    returns)

@@ -1,0 +1,65 @@
+use mathlib.Core.Path.{sym, _∙_}
+use native.Mathlib.Omega.{arith}
+use Rattle.words.proofs.Bytes.{over-from}
+use Rattle.words.proofs.Counting.{count-copies, count-le}
+use Rattle.words.proofs.Windows.{length-copies}
+use Rattle.masks.proofs.ExtendLaws.{append-whole}
+use borrow.Author.Needs.{needs}
+use Rattle.masks.proofs.extend.fill_words.Statement.{statement}
+use Rattle.masks.proofs.extend.fill_words.Tie as tie
+
+mul-n : tie.Need-mul-n
+mul-n c = search needs
+
+add-longer : tie.Need-add-longer
+add-longer c = search needs
+
+ones-of-requires : tie.Need-ones-of-requires
+ones-of-requires c κs = search needs
+
+add-ones : tie.Need-add-ones
+add-ones c =
+    let few = c .before .before .before .before .pre .1 .few in
+    let short = c .before .before .before .before .pre .1 .short in
+    omega (arith, c .before .ones-of .ensures .1)
+
+mul-at : tie.Need-mul-at
+mul-at c = search needs
+
+sub-fill : tie.Need-sub-fill
+sub-fill c = search needs
+
+part-fill-start : tie.Need-part-fill-start
+part-fill-start c = search needs
+
+part-fill-end : tie.Need-part-fill-end
+part-fill-end c = search needs
+
+fill-requires : tie.Need-fill-requires
+fill-requires c κs = search needs
+
+same-length : tie.Need-same-length
+same-length c = search needs
+
+returns : tie.Need-returns
+returns c =
+    let did = c .before .before in
+    let s = did .before .before .before .before .before .before .before in
+    append-whole _ (s .args .buf .now) _ (s .args .whole) _ _ (s .pre .0) (length-copies _ _) (did .before .before .before .before .ones-of .ensures .0 ∙ sym (count-copies _ _))
+    (λ i. did .before .before .before .before .before .before .slice-known .given i .fits) (λ i. c .slice-known2 .given i .fits) (over-from _ _ _ _ (did .fill .ensures))
+
+pub fill-words-spec : {M : Type 1} → statement M
+fill-words-spec =
+    tie.close
+    (tie.spec
+    mul-n
+    add-longer
+    ones-of-requires
+    add-ones
+    mul-at
+    sub-fill
+    part-fill-start
+    part-fill-end
+    fill-requires
+    same-length
+    returns)

@@ -1,0 +1,41 @@
+-- The calls that append to a builder: their checks, and the flags that they append. Assumes nothing.
+--
+-- Each call appends a list of flags where all its checks pass. Else the builder and the buffer are as they came.
+use Prim.Native.Nat.{ℕ, _+_, _*_}
+use mathlib.Core.Bool.{Bool, _&&_}
+use mathlib.Core.List.{List, [], _∷_, _++_}
+use lib.Dec.{leb}
+use lib.ListN.{length}
+use Rattle.masks.specs.Answer.{Answer, given, refused, checked, kept}
+use Rattle.masks.specs.Builder.{filling, appended, builderChecks, noneFrom}
+use Rattle.masks.specs.Checks.{Check, check, firstFailed, withinLimit, spanChecks}
+use Rattle.masks.specs.declared.builder.BitmapBuilder.{BitmapBuilder}
+use Rattle.masks.specs.declared.builder.Pushed.{Pushed}
+use Rattle.masks.specs.declared.builder.Pushed.the-variants.{Done, Refused}
+
+-- what a call with these checks answers that appends l, and what the buffer then holds
+abbrev pub appendAnswer : List Check → BitmapBuilder → List ℕ → List Bool → Answer BitmapBuilder BitmapBuilder
+appendAnswer cs b bytes l = checked cs b (appended (filling b bytes) l .builder)
+
+abbrev pub appendBytes : List Check → BitmapBuilder → List ℕ → List Bool → List ℕ
+appendBytes cs b bytes l = kept (firstFailed cs) (appended (filling b bytes) l .bytes) bytes
+
+abbrev pub pushedAnswer : Pushed → Answer BitmapBuilder BitmapBuilder
+pushedAnswer (Done b) = given b
+pushedAnswer (Refused n b) = refused n b
+
+-- questions 1, 4 and 9, of a call that appends n flags
+abbrev pub growChecks : BitmapBuilder → ℕ → ℕ → List Check
+growChecks b n size = builderChecks b (b .length + n) size
+
+-- of a word besides these: its stated length, and question 6
+unfoldable pub wordChecks : BitmapBuilder → ℕ → ℕ → ℕ → List Check
+wordChecks b size word n = growChecks b n size ++ (withinLimit n ∷ check 6 (leb n 64 && noneFrom word n) ∷ [])
+
+-- of a constant besides these: its stated length
+unfoldable pub constantChecks : BitmapBuilder → ℕ → ℕ → List Check
+constantChecks b size n = growChecks b n size ++ (withinLimit n ∷ [])
+
+-- of a span, where m flags are appended: questions 1 and 2 of it besides
+unfoldable pub spanGrowChecks : BitmapBuilder → List ℕ → List ℕ → ℕ → ℕ → ℕ → List Check
+spanGrowChecks b buf bytes start n m = spanChecks start n (length bytes) ++ growChecks b m (length buf)

@@ -1,0 +1,143 @@
+// Long extensions of a builder: up to a full word, then whole words written straight to the buffer, then the rest.
+ghost use mathlib.Core.Path.{_≡_};
+ghost use Prim.Native.Nat.{_+_, _*_, _%_, _≤_};
+ghost use lib.ListN.{length};
+ghost use Rattle.words.specs.Flags.{copies, digit};
+ghost use Rattle.words.specs.Loops.{stretch};
+ghost use Rattle.masks.specs.Appends.{pushedAnswer, appendAnswer, appendBytes, constantChecks, spanGrowChecks};
+ghost use Rattle.masks.specs.Builder.{Room, filling, appended};
+use crate::builder::BitmapBuilder;
+use crate::builder::Pushed;
+use crate::builder::push_flags;
+use crate::checks::builder_failure;
+use crate::checks::earlier;
+use crate::checks::limit_failure;
+use crate::checks::span_failure;
+use words::counts::count_ones;
+use words::loops::copy;
+use words::loops::fill;
+use words::word::constant_word;
+use words::word::word_from;
+
+impl BitmapBuilder {
+    // Appends n copies of a flag.
+    pub fn extend_constant(self, buf: &mut [u8], n: usize, flag: bool) -> Pushed
+        ensures answer { λ r. ⌜ pushedAnswer r ≡ appendAnswer (constantChecks self (length (now (buf .entry))) n) self (now (buf .entry)) (copies n flag) ⌝ }
+        ensures bytes { λ _. ⌜ now (buf .exit) ≡ appendBytes (constantChecks self (length (now (buf .entry))) n) self (now (buf .entry)) (copies n flag) ⌝ }
+    {
+        let refusal = earlier(builder_failure(self, n, buf.len()), limit_failure(n));
+        if refusal != 0 {
+            return Pushed::Refused(refusal, self);
+        }
+        Pushed::Done(append_copies(self, buf, n, flag))
+    }
+
+    // Appends a span.
+    pub fn extend_from_slice(self, buf: &mut [u8], bytes: &[u8], start: usize, n: usize) -> Pushed
+        ensures answer { λ r. ⌜ pushedAnswer r ≡ appendAnswer (spanGrowChecks self (now (buf .entry)) (now (bytes .entry)) start n n) self (now (buf .entry))
+            (stretch (now (bytes .entry)) start n) ⌝ }
+        ensures bytes { λ _. ⌜ now (buf .exit) ≡ appendBytes (spanGrowChecks self (now (buf .entry)) (now (bytes .entry)) start n n) self (now (buf .entry))
+            (stretch (now (bytes .entry)) start n) ⌝ }
+    {
+        let refusal = earlier(
+            span_failure(start, n, bytes.len()),
+            builder_failure(self, n, buf.len()),
+        );
+        if refusal != 0 {
+            return Pushed::Refused(refusal, self);
+        }
+        Pushed::Done(append_stretch(self, buf, bytes, start, n))
+    }
+}
+
+// How many flags are missing from a full word.
+fn to_whole(b: BitmapBuilder) -> usize
+    ensures { λ r. ⌜ (r ≤ 63) × ((b .length + r) % 64 ≡ 0) ⌝ }
+{
+    (64 - b.length % 64) % 64
+}
+
+pub(crate) fn append_copies(b: BitmapBuilder, buf: &mut [u8], n: usize, flag: bool) -> BitmapBuilder
+    requires { ⌜ Room b n (length (now buf)) ⌝ }
+    ensures { λ r. ⌜ filling r (now (buf .exit)) ≡ appended (filling b (now (buf .entry))) (copies n flag) ⌝ }
+{
+    let word = constant_word(flag);
+    if n <= 64 {
+        return push_flags(b, buf, word, n);
+    }
+    let head = to_whole(b);
+    let whole = (n - head) / 64;
+    let rest = (n - head) % 64;
+    let started = push_flags(b, buf, word, head);
+    let filled = fill_words(started, buf, whole, flag);
+    push_flags(filled, buf, word, rest)
+}
+
+fn ones_of(flag: bool, n: usize) -> usize
+    ensures { λ r. ⌜ (r ≡ n * digit flag) × (r ≤ n) ⌝ }
+{
+    if flag { n } else { 0 }
+}
+
+// Whole words of one flag, to a builder with no word in progress: the helper gets the buffer from the first unfilled word on.
+fn fill_words(b: BitmapBuilder, buf: &mut [u8], whole: usize, flag: bool) -> BitmapBuilder
+    requires { ⌜ (b .length % 64 ≡ 0) × Room b (64 * whole) (length (now buf)) ⌝ }
+    ensures { λ r. ⌜ filling r (now (buf .exit)) ≡ appended (filling b (now (buf .entry))) (copies (64 * whole) flag) ⌝ }
+{
+    let n = 64 * whole;
+    let longer = b.length + n;
+    let ones = b.ones + ones_of(flag, n);
+    let at = 8 * (b.length / 64);
+    fill(flag, n, &mut buf[at..]);
+    BitmapBuilder {
+        length: longer,
+        word: 0,
+        ones: ones,
+    }
+}
+
+pub(crate) fn append_stretch(
+    b: BitmapBuilder,
+    buf: &mut [u8],
+    bytes: &[u8],
+    start: usize,
+    n: usize,
+) -> BitmapBuilder
+    requires { ⌜ (start + n ≤ 8388608) × Room b n (length (now buf)) ⌝ }
+    ensures { λ r. ⌜ filling r (now (buf .exit)) ≡ appended (filling b (now (buf .entry))) (stretch (now (bytes .entry)) start n) ⌝ }
+{
+    let first = word_from(bytes, start);
+    if n <= 64 {
+        return push_flags(b, buf, first, n);
+    }
+    let head = to_whole(b);
+    let whole = (n - head) / 64;
+    let rest = (n - head) % 64;
+    let started = push_flags(b, buf, first, head);
+    let copied = copy_words(started, buf, bytes, start + head, whole);
+    let last = word_from(bytes, start + n - rest);
+    push_flags(copied, buf, last, rest)
+}
+
+// Whole words of a stretch, likewise.
+fn copy_words(
+    b: BitmapBuilder,
+    buf: &mut [u8],
+    bytes: &[u8],
+    start: usize,
+    whole: usize,
+) -> BitmapBuilder
+    requires { ⌜ (b .length % 64 ≡ 0) × Room b (64 * whole) (length (now buf)) ⌝ }
+    ensures { λ r. ⌜ filling r (now (buf .exit)) ≡ appended (filling b (now (buf .entry))) (stretch (now (bytes .entry)) start (64 * whole)) ⌝ }
+{
+    let n = 64 * whole;
+    let longer = b.length + n;
+    let ones = b.ones + count_ones(bytes, start, n);
+    let at = 8 * (b.length / 64);
+    copy(bytes, start, n, &mut buf[at..]);
+    BitmapBuilder {
+        length: longer,
+        word: 0,
+        ones: ones,
+    }
+}
