@@ -22,8 +22,8 @@ use Rattle.masks.specs.Frozen.{packed, frozen, frozenSize, overFrom}
 use Rattle.masks.specs.Mask.{maskOf, maskFlags, maskChecks, uncounted, zeroCount}
 use Rattle.masks.specs.declared.bitmap.Bitmap.{Bitmap}
 use Rattle.masks.specs.declared.bitmap.Unset.{Unset}
-use Rattle.masks.specs.declared.bitmap_ops.Shortcut.{Shortcut}
-use Rattle.masks.specs.declared.bitmap_ops.Shortcut.the-variants.{Each, All}
+use Rattle.masks.specs.declared.shortcuts.Shortcut.{Shortcut}
+use Rattle.masks.specs.declared.shortcuts.Shortcut.the-variants.{Each, All}
 use Rattle.masks.proofs.CheckLaws.{both-left, both-right, first-allowed, rest-allowed, is-given, is-refused, is-kept, is-new}
 use Rattle.masks.proofs.FrozenLaws.{Small, flags-packed, packed-small, overFrom-small}
 use Rattle.masks.proofs.MaskLaws.{mask-allowed}
@@ -131,13 +131,13 @@ module _ (op : Op) (a : Bitmap) (aBytes : List ℕ) (b : Bitmap) (bBytes out : L
 
 -- ---- the answer of a combination with no shortcut
 
-module _ (cs : List Check) (n : ℕ) (flags : List Bool) (out : List ℕ) (k : ℕ) (e : k ≡ firstFailed cs) where
-  pub each-refused : (k ≡ 0 → ⊥) → (refused k tt ≡ eachOf cs n) × (out ≡ eachBytes cs flags out)
+module _ (cs : List Check) (masks : List Bitmap) (n : ℕ) (flags : List Bool) (out : List ℕ) (k : ℕ) (e : k ≡ firstFailed cs) where
+  pub each-refused : (k ≡ 0 → ⊥) → (refused k tt ≡ eachOf cs masks n) × (out ≡ eachBytes cs flags out)
   unfolding eachOf eachBytes
   each-refused h = (is-refused k (firstFailed cs) tt (maskOf 0 n (uncounted n)) e h, is-kept k (firstFailed cs) (over out (frozen flags)) out e h)
 
   pub each-given : (u : Unset) (out′ : List ℕ) (written : List Bool) → k ≡ 0 → u ≡ uncounted n → out′ ≡ over out (frozen written) → written ≡ flags
-      → (given (maskOf 0 n u) ≡ eachOf cs n) × (out′ ≡ eachBytes cs flags out)
+      → (given (maskOf 0 n u) ≡ eachOf cs masks n) × (out′ ≡ eachBytes cs flags out)
   unfolding eachOf eachBytes
   each-given u out′ written z p q r = (
     ap (λ (v : Unset). given (maskOf 0 n v)) p ∙ is-given k (firstFailed cs) tt (maskOf 0 n (uncounted n)) e z,

@@ -21,8 +21,8 @@ use Rattle.masks.specs.Utils.{zeros}
 use Rattle.masks.specs.declared.bitmap.Bitmap.{Bitmap}
 use Rattle.masks.specs.declared.bitmap.Unset.{Unset}
 use Rattle.masks.specs.declared.bitmap.Unset.the-variants.{Known, Unknown}
-use Rattle.masks.specs.declared.bitmap_ops.Shortcut.{Shortcut}
-use Rattle.masks.specs.declared.bitmap_ops.Shortcut.the-variants.{Each, All}
+use Rattle.masks.specs.declared.shortcuts.Shortcut.{Shortcut}
+use Rattle.masks.specs.declared.shortcuts.Shortcut.the-variants.{Each, All}
 
 -- ---- lists that are constant by their count
 

@@ -16,8 +16,8 @@ use Rattle.masks.specs.declared.bitmap.Bitmap.{Bitmap}
 use Rattle.masks.specs.declared.bitmap.Unset.{Unset}
 use Rattle.masks.specs.declared.bitmap.Unset.the-variants.{Known}
 use Rattle.masks.specs.declared.bitmap_ops.Combined.{Combined}
-use Rattle.masks.specs.declared.bitmap_ops.Shortcut.{Shortcut}
-use Rattle.masks.specs.declared.bitmap_ops.Shortcut.the-variants.{Each, All}
+use Rattle.masks.specs.declared.shortcuts.Shortcut.{Shortcut}
+use Rattle.masks.specs.declared.shortcuts.Shortcut.the-variants.{Each, All}
 
 abbrev pub combinedAnswer : Combined → Answer (Unit {0}) Bitmap
 combinedAnswer (Combined.Mask m) = given m
@@ -56,6 +56,10 @@ resultCount (All false) n = Known n
 resultCount (All true) n = uncounted n
 resultCount Each n = uncounted n
 
+-- the record of a result of n flags, made here alone; of the masks combined it takes nothing yet
+abbrev pub resultMask : List Bitmap → ℕ → Unset → Bitmap
+resultMask masks n u = maskOf 0 n u
+
 -- ---- two masks
 
 unfoldable pub pairChecks : Bitmap → List ℕ → Bitmap → List ℕ → ℕ → List Check
@@ -74,7 +78,7 @@ pairFlags op a aBytes b bBytes = resultFlags (pairShortcut op a aBytes b bBytes)
 
 -- the record of the result
 unfoldable pub pairMask : Op → Bitmap → List ℕ → Bitmap → List ℕ → Bitmap
-pairMask op a aBytes b bBytes = maskOf 0 (a .length) (resultCount (pairShortcut op a aBytes b bBytes) (a .length))
+pairMask op a aBytes b bBytes = resultMask (a ∷ b ∷ []) (a .length) (resultCount (pairShortcut op a aBytes b bBytes) (a .length))
 
 unfoldable pub pairOf : Op → Bitmap → List ℕ → Bitmap → List ℕ → List ℕ → Answer (Unit {0}) Bitmap
 pairOf op a aBytes b bBytes out = checked (pairChecks a aBytes b bBytes (length out)) tt (pairMask op a aBytes b bBytes)
@@ -83,10 +87,10 @@ unfoldable pub pairBytes : Op → Bitmap → List ℕ → Bitmap → List ℕ �
 pairBytes op a aBytes b bBytes out =
     kept (firstFailed (pairChecks a aBytes b bBytes (length out))) (over out (frozen (pairFlags op a aBytes b bBytes))) out
 
--- ---- combinations with no shortcut: these checks, this many flags, these flags
+-- ---- combinations with no shortcut: these checks, these masks, this many flags, these flags
 
-unfoldable pub eachOf : List Check → ℕ → Answer (Unit {0}) Bitmap
-eachOf cs n = checked cs tt (maskOf 0 n (uncounted n))
+unfoldable pub eachOf : List Check → List Bitmap → ℕ → Answer (Unit {0}) Bitmap
+eachOf cs masks n = checked cs tt (resultMask masks n (uncounted n))
 
 unfoldable pub eachBytes : List Check → List Bool → List ℕ → List ℕ
 eachBytes cs flags out = kept (firstFailed cs) (over out (frozen flags)) out

@@ -9,7 +9,6 @@ ghost use Rattle.masks.specs.Checks.{firstFailed};
 ghost use Rattle.masks.specs.Utils.{zeros};
 ghost use Rattle.masks.specs.Mask.{cutOf, cutZeros, countingAnswer, emptyMask, keptCount, madeAnswer, pieceChecks, recountedOf, recounts as Mask·recounts};
 ghost use Rattle.masks.specs.Mask.{newZeroedBytes, newZeroedOf, PieceAllowed, slicedAnswer, sliceOf, tryNewOf, uncounted, unsetBitsOf, zeroCount};
-use crate::bitmap_ops::fill_frozen;
 use crate::checks::earlier;
 use crate::checks::failed;
 use crate::checks::frozen_failure;
@@ -17,6 +16,7 @@ use crate::checks::mask_failure;
 use crate::checks::span_failure;
 use crate::checks::sum_at_most;
 use crate::checks::within_limit;
+use crate::frozen::fill_frozen;
 use crate::utils::zeros_at;
 
 // A zero count: known, or not counted yet.

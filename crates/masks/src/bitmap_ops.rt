@@ -1,181 +1,27 @@
 // The combinations: flag by flag into a lent output, as frozen bytes. Spans start at any bit.
 ghost use mathlib.Core.Path.{_≡_};
-ghost use mathlib.Core.Bool.{Bool, cond};
-ghost use mathlib.Core.List.{zipWith};
-ghost use Prim.Native.Nat.{_≤_};
+ghost use mathlib.Core.List.{[], _∷_};
 ghost use lib.ListN.{length};
-ghost use Rattle.words.specs.Flags.{copies, over};
-ghost use Rattle.words.specs.Loops.{combined, stretch};
 ghost use Rattle.words.specs.declared.ops.Op.the-variants.{And, AndNot, Or, OrNot, Xor};
 ghost use Rattle.masks.specs.Checks.{firstFailed};
-ghost use Rattle.masks.specs.Frozen.{frozen};
-ghost use Rattle.masks.specs.Combine.{combinedAnswer, pairBytes, pairChecks, pairOf, pairShortcut, resultCount, resultFlags, shortcut};
-ghost use Rattle.masks.specs.Combine.{PairInLimit, hasShortcut, eachBytes, eachOf, notChecks, notFlags, selectChecks, selectConstantFlags, selectFlags};
+ghost use Rattle.masks.specs.Combine.{combinedAnswer, pairBytes, pairChecks, pairOf, eachBytes, eachOf, notChecks, notFlags, selectChecks, selectConstantFlags, selectFlags};
 use crate::bitmap::Bitmap;
-use crate::bitmap::Unset;
 use crate::bitmap::not_counted;
-use crate::bitmap::zero_count;
 use crate::checks::earlier;
 use crate::checks::failed;
 use crate::checks::frozen_failure;
 use crate::checks::mask_failure;
+use crate::frozen::combine_frozen;
+use crate::frozen::select_frozen;
+use crate::frozen::write_result;
+use crate::shortcuts::pair_shortcut;
+use crate::shortcuts::result_count;
 use words::ops::Op;
 
 // The mask over the output. The arguments' records stay with the caller.
 pub enum Combined {
     Mask(Bitmap),
     Refused(u8),
-}
-
-// What the counts say of a result: nothing, or that all its flags are the same.
-pub enum Shortcut {
-    Each,
-    All(bool),
-}
-
-// Three stretches combined, frozen over the front of out.
-fn combine_frozen(
-    op: Op,
-    a: &[u8],
-    sa: usize,
-    b: &[u8],
-    sb: usize,
-    c: &[u8],
-    sc: usize,
-    n: usize,
-    out: &mut [u8],
-)
-    ensures { λ _. ⌜ now (out .exit) ≡ over (now (out .entry)) (frozen (combined op (now (a .entry)) sa (now (b .entry)) sb (now (c .entry)) sc n)) ⌝ }
-{
-    words::loops::combine(op, a, sa, b, sb, c, sc, n, out);
-}
-
-// Copies of a flag, frozen over the front of out.
-pub(crate) fn fill_frozen(flag: bool, n: usize, out: &mut [u8])
-    ensures { λ _. ⌜ now (out .exit) ≡ over (now (out .entry)) (frozen (copies n flag)) ⌝ }
-{
-    words::loops::fill(flag, n, out);
-}
-
-// What the counts l and r of two masks of n flags say.
-fn by_counts(op: Op, n: usize, l: usize, r: usize) -> Shortcut
-    ensures { λ s. ⌜ s ≡ shortcut op n l r ⌝ }
-{
-    match op {
-        Op::And => {
-            if l == n {
-                return Shortcut::All(false);
-            }
-            if r == n {
-                return Shortcut::All(false);
-            }
-            Shortcut::Each
-        }
-        Op::Or => {
-            if l == 0 {
-                return Shortcut::All(true);
-            }
-            if r == 0 {
-                return Shortcut::All(true);
-            }
-            Shortcut::Each
-        }
-        Op::Xor => xor_shortcut(n, l, r),
-        Op::AndNot => Shortcut::Each,
-        Op::OrNot => Shortcut::Each,
-        Op::Not => Shortcut::Each,
-        Op::Select => Shortcut::Each,
-    }
-}
-
-fn xor_shortcut(n: usize, l: usize, r: usize) -> Shortcut
-    ensures { λ s. ⌜ s ≡ shortcut Xor n l r ⌝ }
-{
-    if l == n {
-        if r == n {
-            return Shortcut::All(false);
-        }
-        if r == 0 {
-            return Shortcut::All(true);
-        }
-        return Shortcut::Each;
-    }
-    if l == 0 {
-        if r == 0 {
-            return Shortcut::All(false);
-        }
-        if r == n {
-            return Shortcut::All(true);
-        }
-        return Shortcut::Each;
-    }
-    Shortcut::Each
-}
-
-// What the counts of two masks say; they are counted only for an operation that has a shortcut.
-fn pair_shortcut(op: Op, lhs: Bitmap, left: &[u8], rhs: Bitmap, right: &[u8]) -> Shortcut
-    requires { ⌜ PairInLimit lhs rhs ⌝ }
-    ensures { λ s. ⌜ s ≡ pairShortcut op lhs (now (left .entry)) rhs (now (right .entry)) ⌝ }
-{
-    if has_shortcut(op) {
-        by_counts(
-            op,
-            lhs.length,
-            zero_count(lhs, left),
-            zero_count(rhs, right),
-        )
-    } else {
-        Shortcut::Each
-    }
-}
-
-fn has_shortcut(op: Op) -> bool
-    ensures { λ r. ⌜ r ≡ hasShortcut op ⌝ }
-{
-    match op {
-        Op::And => true,
-        Op::Or => true,
-        Op::Xor => true,
-        Op::AndNot => false,
-        Op::OrNot => false,
-        Op::Not => false,
-        Op::Select => false,
-    }
-}
-
-// The count of a result of n flags.
-fn result_count(by: Shortcut, n: usize) -> Unset
-    ensures { λ u. ⌜ u ≡ resultCount by n ⌝ }
-{
-    match by {
-        Shortcut::All(flag) => {
-            if flag {
-                not_counted(n)
-            } else {
-                Unset::Known(n)
-            }
-        }
-        Shortcut::Each => not_counted(n),
-    }
-}
-
-// The result's flags, frozen over the front of out.
-fn write_result(
-    by: Shortcut,
-    op: Op,
-    a: &[u8],
-    sa: usize,
-    b: &[u8],
-    sb: usize,
-    n: usize,
-    out: &mut [u8],
-)
-    ensures { λ _. ⌜ now (out .exit) ≡ over (now (out .entry)) (frozen (resultFlags by n (combined op (now (a .entry)) sa (now (b .entry)) sb (now (b .entry)) sb n))) ⌝ }
-{
-    match by {
-        Shortcut::All(flag) => fill_frozen(flag, n, out),
-        Shortcut::Each => combine_frozen(op, a, sa, b, sb, b, sb, n, out),
-    }
 }
 
 fn pair_failure(lhs: Bitmap, left: &[u8], rhs: Bitmap, right: &[u8], size: usize) -> u8
@@ -264,7 +110,7 @@ fn not_failure(mask: Bitmap, bytes: &[u8], size: usize) -> u8
 
 // The flags of the mask, each inverted.
 pub fn not(mask: Bitmap, bytes: &[u8], out: &mut [u8]) -> Combined
-    ensures answer { λ r. ⌜ combinedAnswer r ≡ eachOf (notChecks mask (now (bytes .entry)) (length (now (out .entry)))) (mask .length) ⌝ }
+    ensures answer { λ r. ⌜ combinedAnswer r ≡ eachOf (notChecks mask (now (bytes .entry)) (length (now (out .entry)))) (mask ∷ []) (mask .length) ⌝ }
     ensures bytes { λ _. ⌜ now (out .exit) ≡ eachBytes (notChecks mask (now (bytes .entry)) (length (now (out .entry)))) (notFlags mask (now (bytes .entry))) (now (out .entry)) ⌝ }
 {
     let refusal = not_failure(mask, bytes, out.len());
@@ -314,7 +160,7 @@ pub fn select(
     no: &[u8],
     out: &mut [u8],
 ) -> Combined
-    ensures answer { λ r. ⌜ combinedAnswer r ≡ eachOf (selectChecks selector (now (by .entry)) truthy (now (yes .entry)) falsy (now (no .entry)) (length (now (out .entry)))) (selector .length) ⌝ }
+    ensures answer { λ r. ⌜ combinedAnswer r ≡ eachOf (selectChecks selector (now (by .entry)) truthy (now (yes .entry)) falsy (now (no .entry)) (length (now (out .entry)))) (selector ∷ truthy ∷ falsy ∷ []) (selector .length) ⌝ }
     ensures bytes { λ _. ⌜ now (out .exit) ≡ eachBytes (selectChecks selector (now (by .entry)) truthy (now (yes .entry)) falsy (now (no .entry)) (length (now (out .entry)))) (selectFlags selector (now (by .entry)) truthy (now (yes .entry)) falsy (now (no .entry))) (now (out .entry)) ⌝ }
 {
     let refusal = select_failure(selector, by, truthy, yes, falsy, no, out.len());
@@ -341,17 +187,6 @@ pub fn select(
     })
 }
 
-// Two stretches under `select_constant`, frozen over the front of out.
-fn select_frozen(a: &[u8], sa: usize, b: &[u8], sb: usize, flag: bool, n: usize, out: &mut [u8])
-    ensures { λ _. ⌜ now (out .exit) ≡ over (now (out .entry)) (frozen (zipWith (λ p q. cond p q flag) (stretch (now (a .entry)) sa n) (stretch (now (b .entry)) sb n))) ⌝ }
-{
-    if flag {
-        combine_frozen(Op::OrNot, b, sb, a, sa, a, sa, n, out);
-    } else {
-        combine_frozen(Op::And, a, sa, b, sb, b, sb, n, out);
-    }
-}
-
 // The second mask's flag where the first's is set, else the constant.
 pub fn select_constant(
     selector: Bitmap,
@@ -361,7 +196,7 @@ pub fn select_constant(
     flag: bool,
     out: &mut [u8],
 ) -> Combined
-    ensures answer { λ r. ⌜ combinedAnswer r ≡ eachOf (pairChecks selector (now (by .entry)) truthy (now (yes .entry)) (length (now (out .entry)))) (selector .length) ⌝ }
+    ensures answer { λ r. ⌜ combinedAnswer r ≡ eachOf (pairChecks selector (now (by .entry)) truthy (now (yes .entry)) (length (now (out .entry)))) (selector ∷ truthy ∷ []) (selector .length) ⌝ }
     ensures bytes { λ _. ⌜ now (out .exit) ≡ eachBytes (pairChecks selector (now (by .entry)) truthy (now (yes .entry)) (length (now (out .entry)))) (selectConstantFlags selector (now (by .entry)) truthy (now (yes .entry)) flag) (now (out .entry)) ⌝ }
 {
     let refusal = pair_failure(selector, by, truthy, yes, out.len());

@@ -7,7 +7,7 @@ not-failure-requires : tie.Need-not-failure-requires
 not-failure-requires c κs = search needs
 
 returns : tie.Need-returns
-returns c = each-refused _ _ _ _ _ (c .before .not-failure .ensures) (c .if1 .taken)
+returns c = each-refused _ _ _ _ _ _ (c .before .not-failure .ensures) (c .if1 .taken)
 
 combine-frozen-requires : tie.Need-combine-frozen-requires
 combine-frozen-requires c κs = search needs
@@ -22,7 +22,7 @@ returns-2 : tie.Need-returns-2
 returns-2 c =
     let write = c .before .before .before in
     let known = write .before .before in
-    each-given _ _ _ _ _ (known .before .not-failure .ensures) _ _ _ (known .if1 .left) (c .not-counted .ensures) (write .combine-frozen .ensures) (not-each _ _ _)
+    each-given _ _ _ _ _ _ (known .before .not-failure .ensures) _ _ _ (known .if1 .left) (c .not-counted .ensures) (write .combine-frozen .ensures) (not-each _ _ _)
 
 pub not-spec : {M : Type 1} → statement M
 not-spec =

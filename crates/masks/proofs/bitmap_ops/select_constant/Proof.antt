@@ -8,7 +8,7 @@ pair-failure-requires : tie.Need-pair-failure-requires
 pair-failure-requires c κs = search needs
 
 returns : tie.Need-returns
-returns c = each-refused _ _ _ _ _ (c .before .pair-failure .ensures) (c .if1 .taken)
+returns c = each-refused _ _ _ _ _ _ (c .before .pair-failure .ensures) (c .if1 .taken)
 
 select-frozen-requires : tie.Need-select-frozen-requires
 select-frozen-requires c κs = search needs
@@ -23,7 +23,7 @@ returns-2 : tie.Need-returns-2
 returns-2 c =
     let write = c .before .before .before in
     let known = write .before .before in
-    each-given _ _ _ _ _ (known .before .pair-failure .ensures) _ _ _ (known .if1 .left) (c .not-counted .ensures) (write .select-frozen .ensures)
+    each-given _ _ _ _ _ _ (known .before .pair-failure .ensures) _ _ _ (known .if1 .left) (c .not-counted .ensures) (write .select-frozen .ensures)
     (constant-length _ _ _ _ _ _ _ (pair-lengths _ _ _ _ _ (sym (known .before .pair-failure .ensures) ∙ known .if1 .left)))
 
 pub select-constant-spec : {M : Type 1} → statement M

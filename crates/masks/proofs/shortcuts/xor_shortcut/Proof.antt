@@ -3,8 +3,8 @@ use mathlib.Core.Path.{refl, sym, _∙_}
 use Rattle.masks.proofs.CombineLaws.{xor-by, xor-each}
 use mathlib.Core.Bool.{true, false}
 use borrow.Author.Tests.{eq-eqb, ne-eqb}
-use Rattle.masks.proofs.bitmap_ops.xor_shortcut.Statement.{statement}
-use Rattle.masks.proofs.bitmap_ops.xor_shortcut.Tie as tie
+use Rattle.masks.proofs.shortcuts.xor_shortcut.Statement.{statement}
+use Rattle.masks.proofs.shortcuts.xor_shortcut.Tie as tie
 
 returns : tie.Need-returns
 returns c = xor-by _ _ _ true true _ _ _ (eq-eqb _ _ (c .before .if1 .taken)) (eq-eqb _ _ (c .if2 .taken)) refl refl refl

@@ -3,8 +3,8 @@ use Prim.Native.Nat.{ℕ}
 use Rattle.masks.specs.Combine.{shortcut}
 use Rattle.masks.proofs.CombineLaws.{no-shortcut}
 use borrow.Author.Needs.{needs}
-use Rattle.masks.proofs.bitmap_ops.pair_shortcut.Statement.{statement}
-use Rattle.masks.proofs.bitmap_ops.pair_shortcut.Tie as tie
+use Rattle.masks.proofs.shortcuts.pair_shortcut.Statement.{statement}
+use Rattle.masks.proofs.shortcuts.pair_shortcut.Tie as tie
 
 has-shortcut-requires : tie.Need-has-shortcut-requires
 has-shortcut-requires c κs = search needs

@@ -1,7 +1,7 @@
 use Rattle.masks.proofs.CombineLaws.{frozen-written}
 use borrow.Author.Needs.{needs}
-use Rattle.masks.proofs.bitmap_ops.combine_frozen.Statement.{statement}
-use Rattle.masks.proofs.bitmap_ops.combine_frozen.Tie as tie
+use Rattle.masks.proofs.frozen.combine_frozen.Statement.{statement}
+use Rattle.masks.proofs.frozen.combine_frozen.Tie as tie
 
 combine-requires : tie.Need-combine-requires
 combine-requires c κs = search needs

@@ -1,7 +1,7 @@
 use Rattle.masks.proofs.CombineLaws.{frozen-written}
 use borrow.Author.Needs.{needs}
-use Rattle.masks.proofs.bitmap_ops.fill_frozen.Statement.{statement}
-use Rattle.masks.proofs.bitmap_ops.fill_frozen.Tie as tie
+use Rattle.masks.proofs.frozen.fill_frozen.Statement.{statement}
+use Rattle.masks.proofs.frozen.fill_frozen.Tie as tie
 
 fill-requires : tie.Need-fill-requires
 fill-requires c κs = search needs

@@ -1,6 +1,6 @@
 use borrow.Author.Needs.{needs}
-use Rattle.masks.proofs.bitmap_ops.write_result.Statement.{statement}
-use Rattle.masks.proofs.bitmap_ops.write_result.Tie as tie
+use Rattle.masks.proofs.frozen.write_result.Statement.{statement}
+use Rattle.masks.proofs.frozen.write_result.Tie as tie
 
 enum-known-by : tie.Need-enum-known-by
 enum-known-by c = search needs

@@ -3,8 +3,8 @@ use mathlib.Core.Path.{sym}
 use Rattle.masks.specs.Combine.{shortcut}
 use Rattle.masks.proofs.CombineLaws.{and-first, and-second, and-none, or-first, or-second, or-none}
 use borrow.Author.Needs.{needs}
-use Rattle.masks.proofs.bitmap_ops.by_counts.Statement.{statement}
-use Rattle.masks.proofs.bitmap_ops.by_counts.Tie as tie
+use Rattle.masks.proofs.shortcuts.by_counts.Statement.{statement}
+use Rattle.masks.proofs.shortcuts.by_counts.Tie as tie
 
 enum-told : tie.Need-enum-told
 enum-told c = search needs

@@ -1,7 +1,7 @@
 use Rattle.masks.proofs.CombineLaws.{written-set, written-clear}
 use borrow.Author.Needs.{needs}
-use Rattle.masks.proofs.bitmap_ops.select_frozen.Statement.{statement}
-use Rattle.masks.proofs.bitmap_ops.select_frozen.Tie as tie
+use Rattle.masks.proofs.frozen.select_frozen.Statement.{statement}
+use Rattle.masks.proofs.frozen.select_frozen.Tie as tie
 
 combine-frozen-requires : tie.Need-combine-frozen-requires
 combine-frozen-requires c κs = search needs

@@ -1,6 +1,6 @@
 use borrow.Author.Needs.{needs}
-use Rattle.masks.proofs.bitmap_ops.result_count.Statement.{statement}
-use Rattle.masks.proofs.bitmap_ops.result_count.Tie as tie
+use Rattle.masks.proofs.shortcuts.result_count.Statement.{statement}
+use Rattle.masks.proofs.shortcuts.result_count.Tie as tie
 
 enum-known-by : tie.Need-enum-known-by
 enum-known-by c = search needs
