@@ -16,6 +16,7 @@ pub mod PushLaws
 pub mod RoomLaws
 pub mod SearchLaws
 pub mod SearchPlain
+pub mod SliceTruth
 pub mod SpanLaws
 pub mod SplitLaws
 pub mod TrueIdxLaws

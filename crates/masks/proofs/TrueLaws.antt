@@ -1,5 +1,4 @@
--- Where the counts are true a shortcut is never seen: the flags written are the operation on the arguments' flags; and a slice, a
--- count and a combination give true counts again. Assumes nothing.
+-- Where the counts are true a shortcut is never seen: the flags written are the operation on the arguments' flags. Assumes nothing.
 use mathlib.Core.Path.{_≡_, refl, sym, ap, ap₂, _∙_, subst}
 use mathlib.Core.Bool.{Bool, true, false, not, cond, _&&_, _||_, xor}
 use mathlib.Core.List.{List, [], _∷_, _++_, map}
