@@ -7,11 +7,11 @@ use native.Mathlib.Omega.{arith}
 use lib.ListN.{length, take, length-take, length-append}
 use lib.Seq.{take-all}
 use Rattle.words.specs.Ends.{leading, trailing}
-use Rattle.words.specs.Flags.{bits, count, flagsOf, window}
+use Rattle.words.specs.Flags.{bits, count, flagsOf, window, wordOf}
 use Rattle.words.proofs.Bits.{length-bits}
-use Rattle.words.proofs.Counting.{count-append, count-padded, count-not, count-le}
+use Rattle.words.proofs.Counting.{count-append, count-padded, count-not, count-le, count-short}
 use Rattle.words.proofs.EndLaws.{leading-le, leading-some, leading-all, trailing-le, trailing-some, trailing-all}
-use Rattle.words.proofs.Windows.{length-window, window-add}
+use Rattle.words.proofs.Windows.{bits-window, length-window, window-add}
 use Rattle.masks.specs.Utils.{zeros}
 
 -- ---- the parts that are words
@@ -143,6 +143,12 @@ module _ (x : Bool) (l : List Bool) (s n : ℕ) where
       let f : s + 64 * (n - i) ≡ s = omega arith in
       let all : 64 * i ≡ trailing x (window l (s + 64 * (n - i)) (64 * i)) = omega (arith, trailing-le x (window l (s + 64 * (n - i)) (64 * i)), length-window l (s + 64 * (n - i)) (64 * i)) in
       ap (λ (m : ℕ). 64 * m) (sym e) ∙ all ∙ ap₂ (λ (y m : ℕ). trailing x (window l y (64 * m))) f e
+
+-- the ones of a span that fits a word
+pub short-count : (bytes : List ℕ) (start n w c : ℕ) → n ≤ 64 → w ≡ wordOf (window (flagsOf bytes) start n) → c ≡ count (bits 64 w) → c ≡ count (window (flagsOf bytes) start n)
+short-count bytes start n w c h p q =
+    let l = window (flagsOf bytes) start n in
+    count-short l n w c (length-window (flagsOf bytes) start n) h (ap (bits 64) p ∙ bits-window 64 l) q
 
 -- the zeros are what is not set
 pub zeros-rest : (l : List Bool) (n c : ℕ) → length l ≡ n → c ≡ count l → n - c ≡ zeros l

@@ -17,7 +17,7 @@ use Rattle.masks.specs.declared.aligned.AlignedBitmapSlice.{AlignedBitma
 use Rattle.masks.specs.Answer.{Answer, given, refused, decided, unlessEmpty}
 use Rattle.masks.specs.Checks.{firstFailed, limit, spanChecks, addressChecks}
 use Rattle.masks.specs.Utils.{spanCount}
-use Rattle.masks.proofs.CheckLaws.{by-test, when-le, when-gt, both-left, both-right, is-given, span-allowed, SpanAllowed}
+use Rattle.masks.proofs.CheckLaws.{by-test, when-le, when-gt, both-left, both-right, is-given, span-allowed, SpanAllowed, address-allowed}
 
 -- the first whole word is not before the span's first flag, and at most a word further
 pub record Offset (start offset : ℕ) : Type 0 where
@@ -154,3 +154,10 @@ count-refused bytes start (suc n) address v k e = refused-only (firstFailed (ali
 -- the ones of a split are the span's
 pub split-count : (bytes : List ℕ) (start n address c : ℕ) (s : AlignedBitmapSlice) → s ≡ alignedSplit bytes start n address → c ≡ count (splitFlags bytes s) → c ≡ count (stretch bytes start n)
 split-count bytes start n address c s e p = p ∙ ap (λ (t : AlignedBitmapSlice). count (splitFlags bytes t)) e ∙ ap count (split-flags bytes start n address)
+
+-- what is known of a span whose checks have passed, with its address
+pub aligned-allowed : (start n size address : ℕ) → firstFailed (alignedChecks start n size address) ≡ 0 → (start ≤ 8388608) × ((n ≤ 4194304) × (address ≤ 7))
+unfolding alignedChecks
+aligned-allowed start n size address e =
+    let span = span-allowed start n size (both-left (spanChecks start n size) (addressChecks address) e) in
+    (omega (arith, span .starts), (span .short, address-allowed address (both-right (spanChecks start n size) (addressChecks address) e)))

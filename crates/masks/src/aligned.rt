@@ -40,15 +40,18 @@ impl AlignedBitmapSlice {
                 suffix_len: 0,
             });
         }
-        let refusal = earlier(
-            span_failure(start, length, bytes.len()),
-            address_failure(address),
-        );
+        let refusal = aligned_failure(start, length, bytes.len(), address);
         if refusal != 0 {
             return Aligned::Refused(refusal);
         }
         Aligned::Split(split(bytes, start, length, address))
     }
+}
+
+pub(crate) fn aligned_failure(start: usize, length: usize, size: usize, address: usize) -> u8
+    ensures { λ r. ⌜ r ≡ firstFailed (alignedChecks start length size address) ⌝ }
+{
+    earlier(span_failure(start, length, size), address_failure(address))
 }
 
 // The place of the first whole word, in bytes from the span's first byte on.

@@ -9,7 +9,9 @@ ghost use Rattle.masks.specs.Aligned.{Bounded, splitFlags};
 ghost use Rattle.masks.specs.Utils.{zeros, countedAnswer, spanCount};
 use crate::aligned::Aligned;
 use crate::aligned::AlignedBitmapSlice;
+use crate::aligned::aligned_failure;
 use crate::aligned::split;
+use crate::span::flags_word;
 use words::counts::count_ones;
 use words::ends::leading_in_word;
 use words::ends::trailing_in_word;
@@ -100,28 +102,40 @@ fn trailing_of(flag: bool, bytes: &[u8], s: AlignedBitmapSlice) -> usize
     s.suffix_len + bulk + trailing_in_word(flag, s.prefix, s.prefix_len)
 }
 
-// The zeros of a span, with no check: what the mask's own calls count by, with the address remainder 0.
+// The zeros of a span, with no check. One that fits a word is read as one.
+fn span_zeros(bytes: &[u8], start: usize, length: usize, address: usize) -> usize
+    requires { ⌜ (start ≤ 8388608) × ((length ≤ 4194304) × (address ≤ 7)) ⌝ }
+    ensures { λ r. ⌜ r ≡ zeros (stretch (now (bytes .entry)) start length) ⌝ }
+{
+    if length <= 64 {
+        let few = ones_in_word(flags_word(bytes, start, length));
+        return length - few;
+    }
+    let s = split(bytes, start, length, address);
+    let ones = ones_of(bytes, s);
+    length - ones
+}
+
+// What the mask's own calls count by: the address remainder is 0.
 pub(crate) fn zeros_at(bytes: &[u8], start: usize, length: usize) -> usize
     requires { ⌜ (start ≤ 8388608) × (length ≤ 4194304) ⌝ }
     ensures { λ r. ⌜ r ≡ zeros (stretch (now (bytes .entry)) start length) ⌝ }
 {
-    let s = split(bytes, start, length, 0);
-    let ones = ones_of(bytes, s);
-    length - ones
+    span_zeros(bytes, start, length, 0)
 }
 
 // How many flags of a span are zero.
 pub fn count_zeros(bytes: &[u8], start: usize, length: usize, address: usize) -> Counted
     ensures { λ r. ⌜ countedAnswer r ≡ spanCount (now (bytes .entry)) start length address (zeros (stretch (now (bytes .entry)) start length)) ⌝ }
 {
-    let split = AlignedBitmapSlice::new(bytes, start, length, address);
-    match split {
-        Aligned::Refused(number) => Counted::Refused(number),
-        Aligned::Split(s) => {
-            let ones = ones_of(bytes, s);
-            Counted::Count(length - ones)
-        }
+    if length == 0 {
+        return Counted::Count(0);
     }
+    let refusal = aligned_failure(start, length, bytes.len(), address);
+    if refusal != 0 {
+        return Counted::Refused(refusal);
+    }
+    Counted::Count(span_zeros(bytes, start, length, address))
 }
 
 fn leading_flags(flag: bool, bytes: &[u8], start: usize, length: usize, address: usize) -> Counted

@@ -1,50 +1,32 @@
--- The split's flags are the span's: its ones taken off the length are the span's zeros.
 use mathlib.Core.Path.{sym, ap, _∙_}
-use native.Mathlib.Omega.{arith}
-use Rattle.words.proofs.Windows.{length-window}
-use Rattle.words.specs.Flags.{count}
 use Rattle.masks.specs.Answer.{given}
-use Rattle.masks.specs.Aligned.{alignedAnswer}
-use Rattle.masks.proofs.PartLaws.{zeros-rest, ones-most, zeros-none}
-use Rattle.masks.proofs.SplitLaws.{split-known, counted, count-refused}
+use Rattle.masks.specs.Utils.{spanCount}
+use Rattle.masks.proofs.CheckLaws.{is-refused, is-given, is-empty, not-empty}
+use Rattle.masks.proofs.SplitLaws.{aligned-allowed}
 use borrow.Author.Needs.{needs}
 use Rattle.masks.proofs.utils.count_zeros.Statement.{statement}
 use Rattle.masks.proofs.utils.count_zeros.Tie as tie
 
-new-requires : tie.Need-new-requires
-new-requires c κs = search needs
-
-enum-known-split : tie.Need-enum-known-split
-enum-known-split c = search needs
-
-enum-known-split-2 : tie.Need-enum-known-split-2
-enum-known-split-2 c = search needs
-
-ones-of-requires : tie.Need-ones-of-requires
-ones-of-requires c κs = split-known _ _ _ _ _ (sym (ap alignedAnswer (c .before .split2 .given .1)) ∙ c .before .before .before .new .ensures) .bounded
-
-sub-t10 : tie.Need-sub-t10
-sub-t10 c =
-    let was = sym (ap alignedAnswer (c .before .before .split2 .given .1)) ∙ c .before .before .before .before .new .ensures in
-    omega (arith, ones-most _ _ _ (length-window _ _ _) (c .ones-of .ensures ∙ ap count (split-known _ _ _ _ _ was .flags)))
-
 returns : tie.Need-returns
-returns c = count-refused _ _ _ _ _ _ (sym (ap alignedAnswer (c .before .split .given .1)) ∙ c .before .before .before .new .ensures)
+unfolding spanCount
+returns c = is-empty _ _ _ (c .if1 .taken)
+
+aligned-failure-requires : tie.Need-aligned-failure-requires
+aligned-failure-requires c κs = search needs
 
 returns-2 : tie.Need-returns-2
-returns-2 c =
-    let was = sym (ap alignedAnswer (c .before .before .split2 .given .1)) ∙ c .before .before .before .before .new .ensures in
-    ap given (zeros-rest _ _ _ (length-window _ _ _) (c .ones-of .ensures ∙ ap count (split-known _ _ _ _ _ was .flags)))
-    ∙ counted _ _ _ _ _ _ was (zeros-none _ _ _)
+unfolding spanCount
+returns-2 c = not-empty _ _ _ _ (c .before .before .if1 .left) (is-refused _ _ _ _ (c .before .aligned-failure .ensures) (c .if2 .taken))
+
+span-zeros-requires : tie.Need-span-zeros-requires
+span-zeros-requires c κs = aligned-allowed _ _ _ _ (sym (c .before .aligned-failure .ensures) ∙ c .if2 .left)
+
+returns-3 : tie.Need-returns-3
+unfolding spanCount
+returns-3 c =
+    let e = c .before .before in
+    not-empty _ _ _ _ (e .before .if1 .left) (ap given (c .span-zeros .ensures) ∙ is-given _ _ _ _ (e .aligned-failure .ensures) (c .before .if2 .left))
 
 pub count-zeros-spec : {M : Type 1} → statement M
 count-zeros-spec =
-    tie.close
-    (tie.spec
-    new-requires
-    enum-known-split
-    enum-known-split-2
-    ones-of-requires
-    sub-t10
-    returns
-    returns-2)
+    tie.close (tie.spec returns aligned-failure-requires returns-2 span-zeros-requires returns-3)
