@@ -5,6 +5,7 @@ pub mod ExtendLaws
 pub mod FreezeLaws
 pub mod FrozenLaws
 pub mod PushLaws
+pub mod RepeatLaws
 pub mod RoomLaws
 pub mod SpanLaws
 pub mod SplitLaws

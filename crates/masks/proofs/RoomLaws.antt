@@ -96,6 +96,10 @@ pub length-then : (f g : Filling) (l : List Bool) (k : ℕ) → g ≡ appended f
 unfolding appended
 length-then f g l k e h = ap (λ (x : Filling). x .builder .length) e ∙ ap (λ (x : ℕ). f .builder .length + x) h
 
+pub size-after : (f g : Filling) (l : List Bool) → g ≡ appended f l → length (g .bytes) ≡ length (f .bytes)
+unfolding appended
+size-after f g l e = ap (λ (x : Filling). length (x .bytes)) e ∙ length-overFrom (f .bytes) (8 * (f .builder .length / 64)) (packed (8 * (length (inProgress (f .builder) ++ l) / 64)) (inProgress (f .builder) ++ l))
+
 pub length-after : (f g : Filling) (l : List Bool) → g ≡ appended f l → g .builder .length ≡ f .builder .length + length l
 unfolding appended
 length-after f g l e = ap (λ (x : Filling). x .builder .length) e

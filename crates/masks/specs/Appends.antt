@@ -1,14 +1,17 @@
 -- The calls that append to a builder: their checks, and the flags that they append. Assumes nothing.
 --
 -- Each call appends a list of flags where all its checks pass. Else the builder and the buffer are as they came.
-use Prim.Native.Nat.{ℕ, _+_, _*_}
+use mathlib.Core.Path.{_≡_}
+use mathlib.Core.Logic.{_⊎_}
+use Prim.Native.Nat.{ℕ, _+_, _*_, _<_}
 use mathlib.Core.Bool.{Bool, _&&_}
 use mathlib.Core.List.{List, [], _∷_, _++_}
 use lib.Dec.{leb}
 use lib.ListN.{length}
+use Rattle.words.specs.Flags.{copies}
 use Rattle.masks.specs.Answer.{Answer, given, refused, checked, kept}
 use Rattle.masks.specs.Builder.{filling, appended, builderChecks, noneFrom}
-use Rattle.masks.specs.Checks.{Check, check, firstFailed, withinLimit, spanChecks}
+use Rattle.masks.specs.Checks.{Check, check, firstFailed, limit, withinLimit, spanChecks}
 use Rattle.masks.specs.declared.builder.BitmapBuilder.{BitmapBuilder}
 use Rattle.masks.specs.declared.builder.Pushed.{Pushed}
 use Rattle.masks.specs.declared.builder.Pushed.the-variants.{Done, Refused}
@@ -39,3 +42,12 @@ constantChecks b size n = growChecks b n size ++ (withinLimit n ∷ [])
 -- of a span, where m flags are appended: questions 1 and 2 of it besides
 unfoldable pub spanGrowChecks : BitmapBuilder → List ℕ → List ℕ → ℕ → ℕ → ℕ → List Check
 spanGrowChecks b buf bytes start n m = spanChecks start n (length bytes) ++ growChecks b m (length buf)
+
+-- each flag so often, in turn
+unfoldable pub repeated : ℕ → List Bool → List Bool
+repeated k [] = []
+repeated k (x ∷ l) = copies k x ++ repeated k l
+
+-- a number that stands for another: the same, or over the flag limit as that is
+abbrev pub SameOrOver : ℕ → ℕ → Type 0
+SameOrOver r p = (r ≡ p) ⊎ ((limit < r) × (limit < p))

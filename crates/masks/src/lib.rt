@@ -7,4 +7,5 @@ pub mod bitmap;
 pub mod builder;
 mod checks;
 mod extend;
+mod repeat;
 mod span;

@@ -6,9 +6,10 @@ use mathlib.Core.Path.{_≡_, refl, sym, ap, _∙_}
 use mathlib.Core.Bool.{Bool, true, false, xor}
 use mathlib.Core.List.{List, [], _∷_, _++_}
 use mathlib.Core.Logic.{⊎-elim}
-use Prim.Native.Nat.{ℕ, zero, suc, _+_, _-_, _*_, _/_, _%_, _≤_, _<_, min}
-use native.Mathlib.Nat.{zero-add, zero-div, div-one}
+use Prim.Native.Nat.{ℕ, zero, suc, _+_, _-_, _*_, _/_, _%_, _^_, _≤_, _<_, min}
+use native.Mathlib.Nat.{zero-add, zero-div, div-one, mod-lt, zero-lt-suc}
 use native.Mathlib.Omega.{arith}
+use lib.Dec.{eqb}
 use lib.ListN.{length, take, drop, getD, length-append, length-take, length-drop, List·getD-eq-default, List·getD-append}
 use lib.Seq.{getD-take, getD-drop, getD-append-add, length-take-le}
 use borrow.Author.Tests.{lt-ltb, le-ltb}
@@ -53,6 +54,15 @@ at-flags (b ∷ bytes) j = ⊎-elim
     rw (q, r)
     (ap (λ (x : ℕ). getD (bits 8 b ++ flagsOf bytes) x false) e ∙ getD-append-add (bits 8 b) (flagsOf bytes) (j - 8) false ∙ at-flags bytes (j - 8)))
     (lt-or-le j 8)
+
+-- the same as the code tests it
+pub at-byte : (bytes : List ℕ) (j v : ℕ) → v ≡ getD bytes (j / 8) 0 → eqb (v / 2 ^ (j % 8) % 2) 1 ≡ getD (flagsOf bytes) j false
+at-byte bytes j v e = is-one (v / 2 ^ (j % 8) % 2) (mod-lt (v / 2 ^ (j % 8)) (zero-lt-suc 1)) ∙ ap (λ (x : ℕ). bitAt x (j % 8)) e ∙ sym (at-flags bytes j)
+  where
+    is-one : (x : ℕ) → x < 2 → eqb x 1 ≡ isOne x
+    is-one zero h = refl
+    is-one (suc zero) h = refl
+    is-one (suc (suc x)) h = absurd (omega arith)
 
 -- Bit k of `wordOf l` is, for every k, flag k of l.
 pub at-word : (l : List Bool) (k : ℕ) → bitAt (wordOf l) k ≡ getD l k false

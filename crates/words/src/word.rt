@@ -1,8 +1,9 @@
 // A word: loads, stores, its low flags and its ones. Loads and stores that lie in range by `requires` are private to the crate.
 ghost use mathlib.Core.Path.{_≡_};
+ghost use mathlib.Core.Bool.{false};
 ghost use mathlib.Core.List.{_++_};
 ghost use Prim.Native.Nat.{_+_, _*_, _<_, _≤_, _%_};
-ghost use lib.ListN.{length, take};
+ghost use lib.ListN.{length, take, getD};
 ghost use Rattle.words.specs.Flags.{wordFlags, copies, flagsOf, count, over, overAt, window};
 
 fn wide(x: u8) -> u64
@@ -132,6 +133,18 @@ pub fn word_from(bytes: &[u8], bit: usize) -> u64
     ensures { λ r. ⌜ wordFlags r ≡ window (flagsOf (now (bytes .entry))) bit 64 ⌝ }
 {
     word_at(bytes, bit / 8, bit % 8)
+}
+
+// The flag `bit`, zero past the end.
+pub fn flag_at(bytes: &[u8], bit: usize) -> bool
+    ensures { λ r. ⌜ r ≡ getD (flagsOf (now (bytes .entry))) bit false ⌝ }
+{
+    let at = bit / 8;
+    if at < bytes.len() {
+        (wide(bytes[at]) >> (bit % 8)) % 2 == 1
+    } else {
+        false
+    }
 }
 
 // The k low flags of w, zeros above.
