@@ -15,11 +15,14 @@ use Rattle.words.proofs.Counting.{count-append, count-le, count-padded}
 use Rattle.words.proofs.Plain.{overAt-before, overAt-in}
 use Rattle.words.proofs.Windows.{length-window, window-add, window-ext, as-window, at-in, bits-window}
 use Rattle.masks.specs.Builder.{Filling, filling, builderOf, inProgress, appended, builderFlags, noneFrom, possible, builderChecks, Room}
-use Rattle.masks.specs.Checks.{Check, check, firstFailed, failure, limit, withinLimit, outputChecks}
+use Rattle.masks.specs.Appends.{pieceChecks}
+use Rattle.masks.specs.Checks.{Check, check, firstFailed, limit, withinLimit, spanChecks, outputChecks}
 use Rattle.masks.specs.Frozen.{packed, overFrom}
+use Rattle.masks.specs.Mask.{maskChecks, countValid}
+use Rattle.masks.specs.declared.bitmap.Bitmap.{Bitmap}
 use Rattle.masks.specs.declared.builder.BitmapBuilder.{BitmapBuilder}
 use Rattle.masks.proofs.AppendLaws.{Parts, grown, appended-grown, parts-of, parts-long, progress-of, word-back, length-progress}
-use Rattle.masks.proofs.CheckLaws.{head-passed, tail-passed}
+use Rattle.masks.proofs.CheckLaws.{head-passed, tail-passed, both-left, span-allowed}
 use Rattle.masks.proofs.FrozenLaws.{flags-packed, length-packed, length-overFrom, flags-overFrom}
 
 -- ---- what the checks give
@@ -168,3 +171,18 @@ pub length-flags-of : (f : Filling) → length (builderFlags f) ≡ f .builder .
 unfolding builderFlags
 length-flags-of f =
     omega (arith, length-append (finished f) (inProgress (f .builder)), length-window (flagsOf (f .bytes)) 0 (64 * (f .builder .length / 64)), length-progress (f .builder))
+
+-- ---- what the checks of a mask and of a piece of it give
+
+pub record PieceAllowed (m : Bitmap) (bytes : List ℕ) (start n : ℕ) : Type 0 where
+  pub starts : m .start ≤ limit
+  pub short : m .length ≤ limit
+  pub inside : start + n ≤ m .length
+
+pub piece-allowed : (m : Bitmap) (bytes : List ℕ) (start n : ℕ) → firstFailed (maskChecks m bytes) ≡ 0 → firstFailed (pieceChecks start n (m .length)) ≡ 0 → PieceAllowed m bytes start n
+unfolding maskChecks pieceChecks
+piece-allowed m bytes start n e p =
+    let span = span-allowed (m .start) (m .length) (length bytes) (both-left (spanChecks (m .start) (m .length) (length bytes)) (check 3 (countValid m bytes) ∷ []) e) in
+    let two = tail-passed (withinLimit start) (withinLimit n ∷ check 6 (leb (start + n) (m .length)) ∷ []) p in
+    let three = tail-passed (withinLimit n) (check 6 (leb (start + n) (m .length)) ∷ []) two in
+    record { starts = span .starts; short = span .short; inside = leb-true (start + n) (m .length) (head-passed 5 (leb (start + n) (m .length)) [] three) }

@@ -12,6 +12,8 @@ use Rattle.words.specs.Flags.{copies}
 use Rattle.masks.specs.Answer.{Answer, given, refused, checked, kept}
 use Rattle.masks.specs.Builder.{filling, appended, builderChecks, noneFrom}
 use Rattle.masks.specs.Checks.{Check, check, firstFailed, limit, withinLimit, spanChecks}
+use Rattle.masks.specs.Mask.{maskChecks}
+use Rattle.masks.specs.declared.bitmap.Bitmap.{Bitmap}
 use Rattle.masks.specs.declared.builder.BitmapBuilder.{BitmapBuilder}
 use Rattle.masks.specs.declared.builder.Pushed.{Pushed}
 use Rattle.masks.specs.declared.builder.Pushed.the-variants.{Done, Refused}
@@ -42,6 +44,14 @@ constantChecks b size n = growChecks b n size ++ (withinLimit n ∷ [])
 -- of a span, where m flags are appended: questions 1 and 2 of it besides
 unfoldable pub spanGrowChecks : BitmapBuilder → List ℕ → List ℕ → ℕ → ℕ → ℕ → List Check
 spanGrowChecks b buf bytes start n m = spanChecks start n (length bytes) ++ growChecks b m (length buf)
+
+-- questions 1 and 6 of a piece of n flags from `start` on, in a mask of so many flags
+unfoldable pub pieceChecks : ℕ → ℕ → ℕ → List Check
+pieceChecks start n whole = withinLimit start ∷ withinLimit n ∷ check 6 (leb (start + n) whole) ∷ []
+
+-- of a piece of a mask besides questions 1, 4 and 9: the mask's, and the piece's
+unfoldable pub subsliceChecks : BitmapBuilder → List ℕ → Bitmap → List ℕ → ℕ → ℕ → List Check
+subsliceChecks b buf m bytes start n = maskChecks m bytes ++ (pieceChecks start n (m .length) ++ growChecks b n (length buf))
 
 -- each flag so often, in turn
 unfoldable pub repeated : ℕ → List Bool → List Bool

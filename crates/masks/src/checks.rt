@@ -7,6 +7,7 @@ ghost use lib.Dec.{leb};
 ghost use lib.ListN.{length};
 ghost use Rattle.masks.specs.Checks.{earlier as Checks·earlier, rank as Checks·rank, firstFailed, limit, check, withinLimit, spanChecks, addressChecks, outputChecks};
 ghost use Rattle.masks.specs.Mask.{countFits, maskChecks};
+ghost use Rattle.masks.specs.Appends.{pieceChecks};
 ghost use Rattle.masks.specs.Builder.{possible, builderChecks, noneFrom};
 use crate::bitmap::Bitmap;
 use crate::bitmap::Unset;
@@ -96,15 +97,11 @@ fn both(a: bool, b: bool) -> bool
     if a { b } else { false }
 }
 
-// Is n + more, taken exactly, at most the flag limit.
-fn sum_within_limit(n: usize, more: usize) -> bool
-    ensures { λ r. ⌜ r ≡ leb (n + more) limit ⌝ }
+// Is n + more, taken exactly, at most so much.
+fn sum_within(n: usize, more: usize, most: usize) -> bool
+    ensures { λ r. ⌜ r ≡ leb (n + more) most ⌝ }
 {
-    if n <= Bitmap::LIMIT {
-        more <= Bitmap::LIMIT - n
-    } else {
-        false
-    }
+    if n <= most { more <= most - n } else { false }
 }
 
 // Does an output of so many bytes hold n + more flags, taken exactly.
@@ -134,7 +131,7 @@ pub(crate) fn builder_failure(b: BitmapBuilder, more: usize, size: usize) -> u8
     earlier(
         failed(1, within_limit(n)),
         earlier(
-            failed(1, sum_within_limit(n, more)),
+            failed(1, sum_within(n, more, Bitmap::LIMIT)),
             earlier(
                 failed(4, is_possible(b, size)),
                 output_failure(n, more, size),
@@ -158,4 +155,17 @@ pub(crate) fn limit_failure(n: usize) -> u8
     ensures { λ r. ⌜ r ≡ firstFailed (withinLimit n ∷ []) ⌝ }
 {
     failed(1, within_limit(n))
+}
+
+// Of a piece of n flags from `start` on, in a mask of so many flags.
+pub(crate) fn piece_failure(start: usize, n: usize, whole: usize) -> u8
+    ensures { λ r. ⌜ r ≡ firstFailed (pieceChecks start n whole) ⌝ }
+{
+    earlier(
+        failed(1, within_limit(start)),
+        earlier(
+            failed(1, within_limit(n)),
+            failed(6, sum_within(start, n, whole)),
+        ),
+    )
 }
