@@ -4,6 +4,7 @@ pub mod CheckLaws
 pub mod ExtendLaws
 pub mod FreezeLaws
 pub mod FrozenLaws
+pub mod GatherLaws
 pub mod PushLaws
 pub mod RepeatLaws
 pub mod RoomLaws

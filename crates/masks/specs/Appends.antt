@@ -4,10 +4,10 @@
 use mathlib.Core.Path.{_≡_}
 use mathlib.Core.Logic.{_⊎_}
 use Prim.Native.Nat.{ℕ, _+_, _*_, _<_}
-use mathlib.Core.Bool.{Bool, _&&_}
+use mathlib.Core.Bool.{Bool, true, false, _&&_}
 use mathlib.Core.List.{List, [], _∷_, _++_}
-use lib.Dec.{leb}
-use lib.ListN.{length}
+use lib.Dec.{leb, ltb}
+use lib.ListN.{length, getD}
 use Rattle.words.specs.Flags.{copies}
 use Rattle.masks.specs.Answer.{Answer, given, refused, checked, kept}
 use Rattle.masks.specs.Builder.{filling, appended, builderChecks, noneFrom}
@@ -52,6 +52,20 @@ pieceChecks start n whole = withinLimit start ∷ withinLimit n ∷ check 6 (leb
 -- of a piece of a mask besides questions 1, 4 and 9: the mask's, and the piece's
 unfoldable pub subsliceChecks : BitmapBuilder → List ℕ → Bitmap → List ℕ → ℕ → ℕ → List Check
 subsliceChecks b buf m bytes start n = maskChecks m bytes ++ (pieceChecks start n (m .length) ++ growChecks b n (length buf))
+
+-- is each index below n
+unfoldable pub allBelow : ℕ → List ℕ → Bool
+allBelow n [] = true
+allBelow n (i ∷ idxs) = ltb i n && allBelow n idxs
+
+-- of a gather besides those of its span: question 6
+unfoldable pub gatherChecks : BitmapBuilder → List ℕ → List ℕ → ℕ → ℕ → List ℕ → List Check
+gatherChecks b buf bytes start n idxs = spanGrowChecks b buf bytes start n (length idxs) ++ (check 6 (allBelow n idxs) ∷ [])
+
+-- the flag of l at each index, 0 at or past its end
+unfoldable pub gathered : List Bool → List ℕ → List Bool
+gathered l [] = []
+gathered l (i ∷ idxs) = getD l i false ∷ gathered l idxs
 
 -- each flag so often, in turn
 unfoldable pub repeated : ℕ → List Bool → List Bool

@@ -7,5 +7,6 @@ pub mod bitmap;
 pub mod builder;
 mod checks;
 mod extend;
+mod gather;
 mod repeat;
 mod span;
