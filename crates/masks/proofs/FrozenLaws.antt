@@ -82,7 +82,8 @@ flags-overFrom l at m =
     ∙ ap₂ (λ (x y : List Bool). x ++ y) (flags-take at l) (flags-over (drop at l) m ∙ ap (λ (t : List Bool). over t (flagsOf m)) (flags-drop at l))
 
 -- n bytes of m were written from the byte `at` on, as their flags say
-pub written-bytes : (out out′ : List ℕ) (at n : ℕ) (m : List Bool) → Small out → Small out′ → flagsOf out′ ≡ overAt (flagsOf out) (8 * at) (window m 0 (8 * n)) → out′ ≡ overFrom out at (packed n m)
+pub written-bytes : (out out′ : List ℕ) (at n : ℕ) (m : List Bool) → Small out → Small out′ → flagsOf out′ ≡ overAt (flagsOf out) (8 * at) (window m 0 (8 * n))
+    → out′ ≡ overFrom out at (packed n m)
 written-bytes out out′ at n m p q e =
     flags-inj out′ (overFrom out at (packed n m)) q (overFrom-small out at (packed n m) p (packed-small n m))
     (e ∙ ap (overAt (flagsOf out) (8 * at)) (sym (flags-packed n m)) ∙ sym (flags-overFrom out at (packed n m)))

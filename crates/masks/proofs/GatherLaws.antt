@@ -52,7 +52,8 @@ flag-past l s n at h = sym (at-window l s n at ∙ ap (λ (t : Bool). t && getD 
 -- ---- into a word
 
 -- a flag behind the first i of a word
-next-flag : (w v r i : ℕ) (x : Bool) → i < 64 → bits 64 v ≡ copies 64 x → bits 64 r ≡ window (take i (bits 64 w) ++ bits 64 v) 0 64 → take (i + 1) (bits 64 r) ≡ take i (bits 64 w) ++ (x ∷ [])
+next-flag : (w v r i : ℕ) (x : Bool) → i < 64 → bits 64 v ≡ copies 64 x → bits 64 r ≡ window (take i (bits 64 w) ++ bits 64 v) 0 64
+    → take (i + 1) (bits 64 r) ≡ take i (bits 64 w) ++ (x ∷ [])
 next-flag w v r i x h e p =
     let front : length (take i (bits 64 w)) ≡ i = length-low i w (omega arith) in
     let long : length (take i (bits 64 w) ++ bits 64 v) ≡ i + 64 = length-append (take i (bits 64 w)) (bits 64 v) ∙ ap₂ (λ (a b : ℕ). a + b) front (length-bits 64 v) in
@@ -62,7 +63,8 @@ next-flag w v r i x h e p =
     ∙ ap (λ (k : ℕ). take k (take i (bits 64 w) ++ bits 64 v)) n ∙ take-append-add (take i (bits 64 w)) (bits 64 v) 1
     ∙ ap (λ (t : List Bool). take i (bits 64 w) ++ t) (ap (take 1) e ∙ take-copies 1 64 x (omega arith) ∙ one-copy x)
 
-pub word-step : (l : List Bool) (a : List ℕ) (w v r i at : ℕ) (x : Bool) → take i (bits 64 w) ≡ gathered l (take i a) → i < length a → length a ≤ 64 → at ≡ getD a i 0 → x ≡ getD l at false
+pub word-step : (l : List Bool) (a : List ℕ) (w v r i at : ℕ) (x : Bool) → take i (bits 64 w) ≡ gathered l (take i a) → i < length a → length a ≤ 64 → at ≡ getD a i 0
+    → x ≡ getD l at false
     → bits 64 v ≡ copies 64 x → bits 64 r ≡ window (take i (bits 64 w) ++ bits 64 v) 0 64 → take (i + 1) (bits 64 r) ≡ gathered l (take (i + 1) a)
 word-step l a w v r i at x inv h few ea ex ev er =
     next-flag w v r i x (omega arith) ev er
@@ -76,7 +78,8 @@ word-all l a w i inv h k =
 -- ---- word by word
 
 pub part-step : (f g h : Filling) (l : List Bool) (a : List ℕ) (w i end : ℕ) → g ≡ appended f (gathered l (take i a)) → i < end → end ≤ length a
-    → take (length (take (end - i) (drop i a))) (bits 64 w) ≡ gathered l (take (end - i) (drop i a)) → h ≡ appended g (take (end - i) (bits 64 w)) → h ≡ appended f (gathered l (take end a))
+    → take (length (take (end - i) (drop i a))) (bits 64 w) ≡ gathered l (take (end - i) (drop i a)) → h ≡ appended g (take (end - i) (bits 64 w))
+    → h ≡ appended f (gathered l (take end a))
 part-step f g h l a w i end p q fits part push =
     let e : i + (end - i) ≡ end = omega arith in
     let n : length (take (end - i) (drop i a)) ≡ end - i = length-take-le (end - i) (drop i a) (omega (arith, length-drop i a)) in
@@ -84,7 +87,8 @@ part-step f g h l a w i end p q fits part push =
     ∙ ap (appended f) (ap (λ (t : List Bool). gathered l (take i a) ++ t) (ap (λ (k : ℕ). take k (bits 64 w)) (sym n) ∙ part)
     ∙ sym (gathered-append l (take i a) (take (end - i) (drop i a))) ∙ ap (gathered l) (sym (take-add i (end - i) a) ∙ ap (λ (k : ℕ). take k a) e))
 
-pub part-room : (f g : Filling) (l : List Bool) (a : List ℕ) (i k : ℕ) → g ≡ appended f (gathered l (take i a)) → i + k ≤ length a → Room (f .builder) (length a) (length (f .bytes)) → Room (g .builder) k (length (g .bytes))
+pub part-room : (f g : Filling) (l : List Bool) (a : List ℕ) (i k : ℕ) → g ≡ appended f (gathered l (take i a)) → i + k ≤ length a
+    → Room (f .builder) (length a) (length (f .bytes)) → Room (g .builder) k (length (g .bytes))
 part-room f g l a i k e h r =
     let n : length (gathered l (take i a)) ≡ i = length-gathered l (take i a) ∙ length-take-le i a (omega arith) in
     room-after f g (gathered l (take i a)) (length a) k e (omega arith) r

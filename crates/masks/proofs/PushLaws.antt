@@ -47,7 +47,8 @@ module _ (b : BitmapBuilder) (bytes : List ℕ) (word v low k : ℕ) (few : k �
     (merged : bits 64 low ≡ window (take (b .length % 64) (bits 64 (b .word)) ++ bits 64 v) 0 64) where
   row-flags : bits 64 low ≡ window (inProgress b ++ take k (bits 64 word)) 0 64
   unfolding inProgress
-  row-flags = merged ∙ ap (λ (t : List Bool). window (take (b .length % 64) (bits 64 (b .word)) ++ t) 0 64) flags ∙ window-padded (take (b .length % 64) (bits 64 (b .word))) (take k (bits 64 word)) 64
+  row-flags = merged ∙ ap (λ (t : List Bool). window (take (b .length % 64) (bits 64 (b .word)) ++ t) 0 64) flags
+      ∙ window-padded (take (b .length % 64) (bits 64 (b .word))) (take k (bits 64 word)) 64
 
   row-long : length (inProgress b ++ take k (bits 64 word)) ≡ b .length % 64 + k
   row-long = length-append (inProgress b) (take k (bits 64 word)) ∙ ap₂ (λ (x y : ℕ). x + y) (length-progress b) (length-low k word few)

@@ -69,7 +69,8 @@ runs-step f g h l s i k x p q r =
     ∙ ap (appended f) (ap (λ (t : List Bool). repeated k (window l s i) ++ t) (ap (copies k) q ∙ sym (one-repeated k l (s + i)))
     ∙ sym (ap (repeated k) (window-add l s i 1) ∙ repeated-append k (window l s i) (window l (s + i) 1)))
 
-pub runs-room : (f g : Filling) (l : List Bool) (s i n k : ℕ) → g ≡ appended f (repeated k (window l s i)) → i < n → Room (f .builder) (n * k) (length (f .bytes)) → Room (g .builder) k (length (g .bytes))
+pub runs-room : (f g : Filling) (l : List Bool) (s i n k : ℕ) → g ≡ appended f (repeated k (window l s i)) → i < n → Room (f .builder) (n * k) (length (f .bytes))
+    → Room (g .builder) k (length (g .bytes))
 runs-room f g l s i n k e h r =
     let more : suc i * k ≤ n * k = mul-le-mul-right k h in
     let long : length (repeated k (window l s i)) ≡ i * k = length-repeated k (window l s i) ∙ ap (λ (x : ℕ). x * k) (length-window l s i) in
@@ -108,7 +109,8 @@ then-one false = one-first 1
 over-limit : (b : BitmapBuilder) (n size : ℕ) → limit < n → firstFailed (growChecks b n size) ≡ 1
 unfolding builderChecks firstFailed
 over-limit b n size h =
-    ap (λ (t : Bool). earlier (failure (withinLimit (b .length))) (earlier (cond t 0 1) (firstFailed (check 4 (possible b size) ∷ outputChecks (b .length + n) size)))) (lt-leb (b .length + n) limit (omega arith))
+    ap (λ (t : Bool). earlier (failure (withinLimit (b .length))) (earlier (cond t 0 1) (firstFailed (check 4 (possible b size) ∷ outputChecks (b .length + n) size))))
+    (lt-leb (b .length + n) limit (omega arith))
     ∙ ap (earlier (failure (withinLimit (b .length)))) (one-first (firstFailed (check 4 (possible b size) ∷ outputChecks (b .length + n) size)))
     ∙ then-one (leb (b .length) limit)
 

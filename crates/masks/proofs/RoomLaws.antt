@@ -92,7 +92,8 @@ room-after f g l m n e h r =
     let p = parts-of f l in
     subst (λ (x : Filling). Room (x .builder) n (length (x .bytes))) (sym (e ∙ appended-grown f l _ _ _ p)) (grown-room f l _ _ _ m n p h r)
 
-pub room-then : (f g : Filling) (l : List Bool) (k m n : ℕ) → g ≡ appended f l → length l ≡ k → Room (f .builder) m (length (f .bytes)) → k + n ≤ m → Room (g .builder) n (length (g .bytes))
+pub room-then : (f g : Filling) (l : List Bool) (k m n : ℕ) → g ≡ appended f l → length l ≡ k → Room (f .builder) m (length (f .bytes)) → k + n ≤ m
+    → Room (g .builder) n (length (g .bytes))
 room-then f g l k m n e h r q = room-after f g l m n e (omega arith) r
 
 pub length-then : (f g : Filling) (l : List Bool) (k : ℕ) → g ≡ appended f l → length l ≡ k → g .builder .length ≡ f .builder .length + k
@@ -101,7 +102,8 @@ length-then f g l k e h = ap (λ (x : Filling). x .builder .length) e ∙ ap (λ
 
 pub size-after : (f g : Filling) (l : List Bool) → g ≡ appended f l → length (g .bytes) ≡ length (f .bytes)
 unfolding appended
-size-after f g l e = ap (λ (x : Filling). length (x .bytes)) e ∙ length-overFrom (f .bytes) (8 * (f .builder .length / 64)) (packed (8 * (length (inProgress (f .builder) ++ l) / 64)) (inProgress (f .builder) ++ l))
+size-after f g l e = ap (λ (x : Filling). length (x .bytes)) e
+    ∙ length-overFrom (f .bytes) (8 * (f .builder .length / 64)) (packed (8 * (length (inProgress (f .builder) ++ l) / 64)) (inProgress (f .builder) ++ l))
 
 pub length-after : (f g : Filling) (l : List Bool) → g ≡ appended f l → g .builder .length ≡ f .builder .length + length l
 unfolding appended
@@ -135,7 +137,8 @@ grown-finished f l q front rest p h =
     let z : 0 + j ≡ j = omega arith in
     let y : 64 * (f .builder .length / 64) + j ≡ 0 + 64 * (f .builder .length / 64) + j = omega arith in
     sym (ap (λ (x : ℕ). getD front x false) z) ∙ sym (at-in front 0 (64 * q) j b)
-    ∙ sym (overAt-in (flagsOf (f .bytes)) (64 * (f .builder .length / 64)) (window front 0 (64 * q)) j (omega (arith, length-window front 0 (64 * q))) (omega (arith, length-flags (f .bytes))))
+    ∙ sym (overAt-in (flagsOf (f .bytes)) (64 * (f .builder .length / 64)) (window front 0 (64 * q)) j (omega (arith, length-window front 0 (64 * q)))
+    (omega (arith, length-flags (f .bytes))))
     ∙ ap (λ (x : ℕ). getD (overAt (flagsOf (f .bytes)) (64 * (f .builder .length / 64)) (window front 0 (64 * q))) x false) y)))
 
 pub finished-after : (f : Filling) (l : List Bool) (q : ℕ) (front rest : List Bool) → Parts f l q front rest → 8 * ((f .builder .length + length l) / 64) ≤ length (f .bytes)
@@ -159,7 +162,8 @@ flags-after f l r =
     ap builderFlags (appended-grown f l _ _ _ p) ∙ grown-flags f l _ _ _ p (omega arith)
 
 -- ones that are those of the finished words stay so
-pub ones-after : (f : Filling) (l : List Bool) → Room (f .builder) (length l) (length (f .bytes)) → f .builder .ones ≡ count (finished f) → appended f l .builder .ones ≡ count (finished (appended f l))
+pub ones-after : (f : Filling) (l : List Bool) → Room (f .builder) (length l) (length (f .bytes)) → f .builder .ones ≡ count (finished f)
+    → appended f l .builder .ones ≡ count (finished (appended f l))
 ones-after f l r e =
     let holds : 8 * ((f .builder .length + length l + 63) / 64) ≤ length (f .bytes) = r .holds in
     let p = parts-of f l in
@@ -179,7 +183,8 @@ pub record PieceAllowed (m : Bitmap) (bytes : List ℕ) (start n : ℕ) : Type 0
   pub short : m .length ≤ limit
   pub inside : start + n ≤ m .length
 
-pub piece-allowed : (m : Bitmap) (bytes : List ℕ) (start n : ℕ) → firstFailed (maskChecks m bytes) ≡ 0 → firstFailed (pieceChecks start n (m .length)) ≡ 0 → PieceAllowed m bytes start n
+pub piece-allowed : (m : Bitmap) (bytes : List ℕ) (start n : ℕ) → firstFailed (maskChecks m bytes) ≡ 0 → firstFailed (pieceChecks start n (m .length)) ≡ 0
+    → PieceAllowed m bytes start n
 unfolding maskChecks pieceChecks
 piece-allowed m bytes start n e p =
     let span = span-allowed (m .start) (m .length) (length bytes) (both-left (spanChecks (m .start) (m .length) (length bytes)) (check 3 (countValid m bytes) ∷ []) e) in

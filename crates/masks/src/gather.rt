@@ -55,10 +55,10 @@ impl BitmapBuilder {
         n: usize,
         idxs: &[u32],
     ) -> Pushed
-        ensures answer { λ r. ⌜ pushedAnswer r ≡ appendAnswer (spanGrowChecks self (now (buf .entry)) (now (bytes .entry)) start n (length (now (idxs .entry)))) self (now (buf .entry))
-            (gathered (stretch (now (bytes .entry)) start n) (now (idxs .entry))) ⌝ }
-        ensures bytes { λ _. ⌜ now (buf .exit) ≡ appendBytes (spanGrowChecks self (now (buf .entry)) (now (bytes .entry)) start n (length (now (idxs .entry)))) self (now (buf .entry))
-            (gathered (stretch (now (bytes .entry)) start n) (now (idxs .entry))) ⌝ }
+        ensures answer { λ r. ⌜ pushedAnswer r ≡ appendAnswer (spanGrowChecks self (now (buf .entry)) (now (bytes .entry)) start n (length (now (idxs .entry))))
+            self (now (buf .entry)) (gathered (stretch (now (bytes .entry)) start n) (now (idxs .entry))) ⌝ }
+        ensures bytes { λ _. ⌜ now (buf .exit) ≡ appendBytes (spanGrowChecks self (now (buf .entry)) (now (bytes .entry)) start n (length (now (idxs .entry))))
+            self (now (buf .entry)) (gathered (stretch (now (bytes .entry)) start n) (now (idxs .entry))) ⌝ }
     {
         let refusal = earlier(
             span_failure(start, n, bytes.len()),

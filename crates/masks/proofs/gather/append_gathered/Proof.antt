@@ -62,8 +62,11 @@ loop-again c =
     let did = c .before .before in
     let word = did .before .before in
     let end = word .before .before in
-    let at = end .before .before in
-    (omega arith, part-step _ _ _ _ (at .before .before .before .before .args .idxs .now) _ (at .loop .i) _ (at .loop .inv .1) (omega arith) (omega arith) (word .gather-word .ensures) (did .push-flags .ensures))
+    let at = end .before .before in (
+      omega arith,
+      part-step _ _ _ _ (at .before .before .before .before .args .idxs .now) _ (at .loop .i) _ (at .loop .inv .1) (omega arith) (omega arith)
+          (word .gather-word .ensures) (did .push-flags .ensures),
+    )
 
 same-length : tie.Need-same-length Inv-loop μ-loop
 same-length c = size-after _ _ _ (c .before .loop .inv .1)

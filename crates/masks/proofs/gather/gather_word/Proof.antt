@@ -46,8 +46,11 @@ loop-less c = search needs
 loop-again : tie.Need-loop-again Inv-loop μ-loop
 loop-again c =
     let flag = c .before .before in
-    let turn = flag .before .before .before in
-    (omega arith, word-step _ _ _ _ _ _ _ _ (turn .before .loop .inv .1) (turn .loop-test .taken) (turn .before .before .before .before .pre .1) (flag .before .index .ensures) (flag .span-flag .ensures) (c .before .constant-word .ensures) (c .behind .ensures))
+    let turn = flag .before .before .before in (
+      omega arith,
+      word-step _ _ _ _ _ _ _ _ (turn .before .loop .inv .1) (turn .loop-test .taken) (turn .before .before .before .before .pre .1) (flag .before .index .ensures)
+          (flag .span-flag .ensures) (c .before .constant-word .ensures) (c .behind .ensures),
+    )
 
 returns : tie.Need-returns Inv-loop μ-loop
 returns c = word-all _ _ _ _ (c .before .loop .inv .1) (c .before .loop .inv .0) (c .loop-test .left)

@@ -35,7 +35,9 @@ returns c =
     let below = e .before .before in
     let two = below .before in
     refused-way _ _ _ _
-    (two-pieces _ _ _ _ _ (e .earlier2 .ensures) (two-pieces _ _ _ _ _ (two .earlier .ensures) (two .before .before .span-failure .ensures) (two .before .builder-failure .ensures)) (one-check _ _ _ _ (e .before .failed .ensures) (below .all-below .ensures)))
+    (two-pieces _ _ _ _ _ (e .earlier2 .ensures)
+    (two-pieces _ _ _ _ _ (two .earlier .ensures) (two .before .before .span-failure .ensures) (two .before .builder-failure .ensures))
+    (one-check _ _ _ _ (e .before .failed .ensures) (below .all-below .ensures)))
     _ _ (c .if1 .taken)
 
 append-gathered-requires : tie.Need-append-gathered-requires
@@ -58,7 +60,9 @@ returns-2 c =
     let below = e .before .before in
     let two = below .before in
     append-way _ _ _ _ _ _ _ _
-    (two-pieces _ _ _ _ _ (e .earlier2 .ensures) (two-pieces _ _ _ _ _ (two .earlier .ensures) (two .before .before .span-failure .ensures) (two .before .builder-failure .ensures)) (one-check _ _ _ _ (e .before .failed .ensures) (below .all-below .ensures)))
+    (two-pieces _ _ _ _ _ (e .earlier2 .ensures)
+    (two-pieces _ _ _ _ _ (two .earlier .ensures) (two .before .before .span-failure .ensures) (two .before .builder-failure .ensures))
+    (one-check _ _ _ _ (e .before .failed .ensures) (below .all-below .ensures)))
     (no .if1 .left) (did .append-gathered .ensures)
 
 pub gather-extend-from-slice-spec : {M : Type 1} → statement M

@@ -32,7 +32,8 @@ unfolding subsliceChecks
 returns c =
     let e = c .before in
     let b = e .before .before in
-    refused-way _ _ _ _ (two-pieces _ _ _ _ _ (e .earlier2 .ensures) (b .before .before .mask-failure .ensures) (two-pieces _ _ _ _ _ (e .before .earlier .ensures) (b .before .piece-failure .ensures) (b .builder-failure .ensures))) _ _ (c .if1 .taken)
+    refused-way _ _ _ _ (two-pieces _ _ _ _ _ (e .earlier2 .ensures) (b .before .before .mask-failure .ensures)
+    (two-pieces _ _ _ _ _ (e .before .earlier .ensures) (b .before .piece-failure .ensures) (b .builder-failure .ensures))) _ _ (c .if1 .taken)
 
 add-append-stretch : tie.Need-add-append-stretch
 add-append-stretch c =
@@ -67,7 +68,8 @@ returns-2 c =
     let none = sym (e .earlier2 .ensures) ∙ no .if1 .left in
     let rest = sym (e .before .earlier .ensures) ∙ passed-right _ _ none in
     let ok = piece-allowed _ _ _ _ (sym (b .before .before .mask-failure .ensures) ∙ passed-left _ _ none) (sym (b .before .piece-failure .ensures) ∙ passed-left _ _ rest) in
-    append-way _ _ _ _ _ _ _ _ (two-pieces _ _ _ _ _ (e .earlier2 .ensures) (b .before .before .mask-failure .ensures) (two-pieces _ _ _ _ _ (e .before .earlier .ensures) (b .before .piece-failure .ensures) (b .builder-failure .ensures))) (no .if1 .left)
+    append-way _ _ _ _ _ _ _ _ (two-pieces _ _ _ _ _ (e .earlier2 .ensures) (b .before .before .mask-failure .ensures)
+    (two-pieces _ _ _ _ _ (e .before .earlier .ensures) (b .before .piece-failure .ensures) (b .builder-failure .ensures))) (no .if1 .left)
     (did .append-stretch .ensures ∙ ap (appended _) (sym (in-window _ _ _ _ _ (ok .inside))))
 
 pub subslice-extend-from-bitmap-spec : {M : Type 1} → statement M
