@@ -1,27 +1,25 @@
 -- Appending to a builder: nothing, one list after another, and what the builder's flags and its count become. Assumes nothing.
-use mathlib.Core.Path.{_≡_, refl, sym, ap, ap₂, _∙_, subst}
-use mathlib.Core.Bool.{Bool, true, false, not}
+use mathlib.Core.Path.{_≡_, refl, sym, ap, ap₂, _∙_}
+use mathlib.Core.Bool.{Bool, true, false}
 use mathlib.Core.List.{List, [], _∷_, _++_, append-assoc, append-nil}
-use Prim.Native.Nat.{ℕ, zero, suc, _+_, _-_, _*_, _/_, _%_, _^_, _≤_, _<_}
-use native.Mathlib.Nat.{zero-add, add-assoc}
+use Prim.Native.Nat.{ℕ, zero, suc, _+_, _*_, _/_, _%_, _^_, _≤_, _<_}
 use native.Mathlib.Omega.{arith}
-use lib.ListN.{length, take, drop, getD, length-append, length-drop, take-append-drop}
+use lib.ListN.{length, take, drop, length-append, length-drop, take-append-drop}
 use lib.Seq.{length-take-le, take-at, drop-at}
 use borrow.Author.Tests.{not-true}
 use Rattle.words.specs.Counts.{anySet}
-use Rattle.words.specs.Flags.{bits, copies, count, digit, flagsOf, overAt, window, wordOf}
-use Rattle.words.proofs.AnyFlag.{any-zero, zero-any}
+use Rattle.words.specs.Flags.{bits, copies, count, digit, window, wordOf}
+use Rattle.words.proofs.AnyFlag.{any-zero}
 use Rattle.words.proofs.Bits.{length-bits, wordOf-bits}
-use Rattle.words.proofs.Bytes.{length-flags}
-use Rattle.words.proofs.Counting.{count-append, count-le, count-padded}
-use Rattle.words.proofs.Plain.{window-part, overAt-before, overAt-in}
-use Rattle.words.proofs.Windows.{length-window, window-add, window-all, window-cut, window-ext, as-window, at-in, bits-window}
-use Rattle.masks.specs.Answer.{Answer, given, decided, kept}
+use Rattle.words.proofs.Counting.{count-append}
+use Rattle.words.proofs.Plain.{window-part}
+use Rattle.words.proofs.Windows.{window-all, window-cut, bits-window}
+use Rattle.masks.specs.Answer.{given, decided, kept}
 use Rattle.masks.specs.Builder.{Filling, filling, builderOf, inProgress, appended, noneFrom}
 use Rattle.masks.specs.Frozen.{packed, overFrom}
 use Rattle.masks.specs.declared.builder.BitmapBuilder.{BitmapBuilder}
 use Rattle.masks.proofs.CheckLaws.{given-way}
-use Rattle.masks.proofs.FrozenLaws.{length-packed, flags-packed, packed-window, packed-append, overFrom-none, overFrom-more, length-overFrom, flags-overFrom}
+use Rattle.masks.proofs.FrozenLaws.{length-packed, packed-window, packed-append, overFrom-none, overFrom-more}
 
 -- ---- lists at the seams of words
 

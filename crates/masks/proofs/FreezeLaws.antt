@@ -1,15 +1,15 @@
 -- Freezing a builder: the word in progress behind the finished ones makes the frozen bytes. Assumes nothing.
 use mathlib.Core.Path.{_≡_, refl, sym, ap, ap₂, _∙_}
-use mathlib.Core.Bool.{Bool, true, false, cond}
-use mathlib.Core.List.{List, [], _∷_, _++_, append-nil}
-use Prim.Native.Nat.{ℕ, zero, suc, _+_, _-_, _*_, _/_, _%_, _≤_, _<_}
-use mathlib.Core.Option.{Option, none, some}
+use mathlib.Core.Bool.{Bool, true, cond}
+use mathlib.Core.List.{List, [], _++_}
+use Prim.Native.Nat.{ℕ, _+_, _*_, _/_, _%_, _≤_}
+use mathlib.Core.Option.{none, some}
 use native.Mathlib.Nat.{add-zero}
 use native.Mathlib.Omega.{arith}
 use borrow.Author.Tests.{eq-eqb, ne-eqb}
 use lib.ListN.{length, take, drop, take-append-drop}
 use lib.Seq.{length-take-le}
-use Rattle.words.specs.Flags.{bits, count, flagsOf, over, overAt, window, wordFlags}
+use Rattle.words.specs.Flags.{bits, flagsOf, over, overAt, window}
 use Rattle.words.proofs.Bits.{length-bits}
 use Rattle.words.proofs.Bytes.{length-flags}
 use Rattle.words.proofs.Counting.{count-le}
@@ -21,7 +21,7 @@ use Rattle.masks.specs.Freeze.{allOnes, frozenMask, validityOf, freezeCh
 use Rattle.masks.specs.Frozen.{packed, frozen, frozenSize, overFrom}
 use Rattle.masks.specs.declared.bitmap.Bitmap.{Bitmap}
 use Rattle.masks.specs.declared.builder.BitmapBuilder.{BitmapBuilder}
-use Rattle.masks.proofs.AppendLaws.{low-count, low-window, length-progress, window-front}
+use Rattle.masks.proofs.AppendLaws.{low-count, low-window, window-front}
 use Rattle.masks.proofs.FrozenLaws.{Small, written-bytes}
 use Rattle.masks.proofs.PushLaws.{window-behind}
 use Rattle.masks.proofs.RoomLaws.{finished, length-flags-of}

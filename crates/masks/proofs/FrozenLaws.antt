@@ -2,15 +2,15 @@
 use mathlib.Core.Path.{_≡_, refl, sym, ap, ap₂, _∙_, subst}
 use mathlib.Core.Bool.{Bool}
 use mathlib.Core.List.{List, [], _∷_, _++_}
-use Prim.Native.Nat.{ℕ, zero, suc, _+_, _-_, _*_, _/_, _^_, _≤_, _<_}
+use Prim.Native.Nat.{ℕ, zero, suc, _+_, _*_, _^_, _≤_, _<_}
 use native.Mathlib.Nat.{zero-lt-suc, zero-add, suc-add}
 use native.Mathlib.Omega.{arith}
-use lib.ListN.{length, take, drop, getD, length-append, length-drop, take-append-drop}
-use lib.Seq.{take-all, drop-drop}
-use Rattle.words.specs.Flags.{bits, flagsOf, over, overAt, window, wordOf}
+use lib.ListN.{length, take, drop, getD, length-append, take-append-drop}
+use lib.Seq.{drop-drop}
+use Rattle.words.specs.Flags.{flagsOf, over, overAt, window, wordOf}
 use Rattle.words.proofs.Bits.{wordOf-lt}
 use Rattle.words.proofs.Bytes.{flags-append, flags-take, flags-drop, flags-over, flags-inj}
-use Rattle.words.proofs.Windows.{length-window, window-add, window-drop, window-all, in-window, bits-window, length-over, over-none, over-more}
+use Rattle.words.proofs.Windows.{length-window, window-add, window-drop, in-window, bits-window, length-over, over-none, over-more}
 use Rattle.masks.specs.Frozen.{packed, overFrom}
 
 -- numbers that are bytes, as every lent list is

@@ -2,17 +2,17 @@
 use mathlib.Core.Path.{_≡_, refl, sym, ap, ap₂, _∙_, subst}
 use mathlib.Core.Bool.{Bool, true, false, _&&_}
 use mathlib.Core.List.{List, [], _∷_, _++_}
-use Prim.Native.Nat.{ℕ, zero, suc, _+_, _-_, _*_, _≤_, _<_}
+use Prim.Native.Nat.{ℕ, suc, _+_, _-_, _≤_, _<_}
 use native.Mathlib.Numerals.{add-one}
 use native.Mathlib.Omega.{arith}
 use lib.Dec.{ltb}
-use lib.ListN.{length, take, drop, getD, length-append, length-take, length-drop, take-append-drop}
-use lib.Seq.{take-suc, take-all, take-take, take-add, take-at, take-append-add, length-take-le, drop-cons}
+use lib.ListN.{length, take, drop, getD, length-append, length-drop, take-append-drop}
+use lib.Seq.{take-suc, take-all, take-take, take-add, take-append-add, length-take-le, drop-cons}
 use borrow.Author.Tests.{lt-ltb, le-ltb}
 use Rattle.words.specs.Flags.{bits, copies, window}
 use Rattle.words.proofs.Bits.{length-bits}
 use Rattle.words.proofs.Plain.{window-part}
-use Rattle.words.proofs.Windows.{at-window, length-copies}
+use Rattle.words.proofs.Windows.{at-window}
 use Rattle.masks.specs.Appends.{gathered, allBelow}
 use Rattle.masks.specs.Builder.{Filling, appended, Room}
 use Rattle.masks.proofs.AppendLaws.{append-then, take-copies, one-copy}

@@ -1,11 +1,10 @@
 -- Flags repeated in turn, and their number taken exactly. Assumes nothing.
-use mathlib.Core.Path.{_≡_, refl, sym, ap, ap₂, _∙_, subst}
+use mathlib.Core.Path.{_≡_, refl, sym, ap, _∙_, subst}
 use mathlib.Core.Bool.{Bool, true, false, cond}
 use mathlib.Core.List.{List, [], _∷_, _++_, append-assoc, append-nil}
 use mathlib.Core.Logic.{_⊎_, inl, inr, ⊎-elim}
-use Prim.Native.Nat.{ℕ, zero, suc, _+_, _-_, _*_, _/_, _%_, _≤_, _<_}
+use Prim.Native.Nat.{ℕ, zero, suc, _+_, _*_, _≤_, _<_}
 use native.Mathlib.Nat.{zero-mul, mul-zero, suc-mul, mul-one, mul-comm, mul-le-mul, mul-le-mul-right, le-mul-of-pos-right}
-use native.Mathlib.Numerals.{add-one}
 use native.Mathlib.Omega.{arith}
 use lib.Dec.{leb}
 use lib.ListN.{length, getD, length-append}
@@ -14,7 +13,7 @@ use Rattle.words.specs.Flags.{copies, window}
 use Rattle.words.proofs.Windows.{length-copies, length-window, window-add}
 use Rattle.masks.specs.Appends.{repeated, SameOrOver, growChecks}
 use Rattle.masks.specs.Builder.{Filling, appended, possible, builderChecks, Room}
-use Rattle.masks.specs.Checks.{Check, check, rank, earlier, failure, firstFailed, limit, withinLimit, outputChecks}
+use Rattle.masks.specs.Checks.{check, earlier, failure, firstFailed, limit, withinLimit, outputChecks}
 use Rattle.masks.specs.declared.builder.BitmapBuilder.{BitmapBuilder}
 use Rattle.masks.proofs.AppendLaws.{append-then}
 use Rattle.masks.proofs.CheckLaws.{earlier-none, none-earlier, first-least}
