@@ -1,27 +1,25 @@
 -- Appending to a builder: nothing, one list after another, and what the builder's flags and its count become. Assumes nothing.
-use mathlib.Core.Path.{_≡_, refl, sym, ap, ap₂, _∙_, subst}
-use mathlib.Core.Bool.{Bool, true, false, not}
+use mathlib.Core.Path.{_≡_, refl, sym, ap, ap₂, _∙_}
+use mathlib.Core.Bool.{Bool, true, false}
 use mathlib.Core.List.{List, [], _∷_, _++_, append-assoc, append-nil}
-use Prim.Native.Nat.{ℕ, zero, suc, _+_, _-_, _*_, _/_, _%_, _^_, _≤_, _<_}
-use native.Mathlib.Nat.{zero-add, add-assoc}
+use Prim.Native.Nat.{ℕ, zero, suc, _+_, _*_, _/_, _%_, _^_, _≤_, _<_}
 use native.Mathlib.Omega.{arith}
-use lib.ListN.{length, take, drop, getD, length-append, length-drop, take-append-drop}
+use lib.ListN.{length, take, drop, length-append, length-drop, take-append-drop}
 use lib.Seq.{length-take-le, take-at, drop-at}
 use borrow.Author.Tests.{not-true}
 use Rattle.words.specs.Counts.{anySet}
-use Rattle.words.specs.Flags.{bits, copies, count, digit, flagsOf, overAt, window, wordOf}
-use Rattle.words.proofs.AnyFlag.{any-zero, zero-any}
+use Rattle.words.specs.Flags.{bits, copies, count, digit, window, wordOf}
+use Rattle.words.proofs.AnyFlag.{any-zero}
 use Rattle.words.proofs.Bits.{length-bits, wordOf-bits}
-use Rattle.words.proofs.Bytes.{length-flags}
-use Rattle.words.proofs.Counting.{count-append, count-le, count-padded}
-use Rattle.words.proofs.Plain.{window-part, overAt-before, overAt-in}
-use Rattle.words.proofs.Windows.{length-window, window-add, window-all, window-cut, window-ext, as-window, at-in, bits-window}
-use Rattle.masks.specs.Answer.{Answer, given, decided, kept}
+use Rattle.words.proofs.Counting.{count-append}
+use Rattle.words.proofs.Plain.{window-part}
+use Rattle.words.proofs.Windows.{window-all, window-cut, bits-window}
+use Rattle.masks.specs.Answer.{given, decided, kept}
 use Rattle.masks.specs.Builder.{Filling, filling, builderOf, inProgress, appended, noneFrom}
 use Rattle.masks.specs.Frozen.{packed, overFrom}
 use Rattle.masks.specs.declared.builder.BitmapBuilder.{BitmapBuilder}
 use Rattle.masks.proofs.CheckLaws.{given-way}
-use Rattle.masks.proofs.FrozenLaws.{length-packed, flags-packed, packed-window, packed-append, overFrom-none, overFrom-more, length-overFrom, flags-overFrom}
+use Rattle.masks.proofs.FrozenLaws.{length-packed, packed-window, packed-append, overFrom-none, overFrom-more}
 
 -- ---- lists at the seams of words
 
@@ -61,14 +59,17 @@ grown f n q front rest =
 
 abbrev made : Filling → ℕ → ℕ → List Bool → Filling
 made f n q all =
-    filling (builderOf (f .builder .length + n) (wordOf (drop (64 * q) all)) (f .builder .ones + count (take (64 * q) all))) (overFrom (f .bytes) (8 * (f .builder .length / 64)) (packed (8 * q) all))
+    filling (builderOf (f .builder .length + n) (wordOf (drop (64 * q) all)) (f .builder .ones + count (take (64 * q) all)))
+    (overFrom (f .bytes) (8 * (f .builder .length / 64)) (packed (8 * q) all))
 
 made-grown : (f : Filling) (n q : ℕ) (front rest : List Bool) → length front ≡ 64 * q → made f n q (front ++ rest) ≡ grown f n q front rest
 made-grown f n q front rest e =
     let e8 : length front ≡ 8 * (8 * q) = omega arith in
-    ap₂ (λ (r t : List Bool). filling (builderOf (f .builder .length + n) (wordOf r) (f .builder .ones + count t)) (overFrom (f .bytes) (8 * (f .builder .length / 64)) (packed (8 * q) (front ++ rest))))
+    ap₂ (λ (r t : List Bool). filling (builderOf (f .builder .length + n) (wordOf r) (f .builder .ones + count t))
+    (overFrom (f .bytes) (8 * (f .builder .length / 64)) (packed (8 * q) (front ++ rest))))
     (drop-at front rest (64 * q) e) (take-at front rest (64 * q) e)
-    ∙ ap (λ (m : List ℕ). filling (builderOf (f .builder .length + n) (wordOf rest) (f .builder .ones + count front)) (overFrom (f .bytes) (8 * (f .builder .length / 64)) m)) (packed-front (8 * q) front rest e8)
+    ∙ ap (λ (m : List ℕ). filling (builderOf (f .builder .length + n) (wordOf rest) (f .builder .ones + count front)) (overFrom (f .bytes) (8 * (f .builder .length / 64)) m))
+    (packed-front (8 * q) front rest e8)
 
 pub appended-grown : (f : Filling) (l : List Bool) (q : ℕ) (front rest : List Bool) → Parts f l q front rest → appended f l ≡ grown f (length l) q front rest
 unfolding appended
@@ -81,7 +82,9 @@ appended-grown f l q front rest p =
     ap₂ (made f (length l)) w row ∙ made-grown f (length l) q front rest full
 
 -- the parts that every appending has
-pub parts-of : (f : Filling) (l : List Bool) → Parts f l (length (inProgress (f .builder) ++ l) / 64) (take (64 * (length (inProgress (f .builder) ++ l) / 64)) (inProgress (f .builder) ++ l)) (drop (64 * (length (inProgress (f .builder) ++ l) / 64)) (inProgress (f .builder) ++ l))
+pub parts-of : (f : Filling) (l : List Bool)
+    → Parts f l (length (inProgress (f .builder) ++ l) / 64) (take (64 * (length (inProgress (f .builder) ++ l) / 64)) (inProgress (f .builder) ++ l))
+    (drop (64 * (length (inProgress (f .builder) ++ l) / 64)) (inProgress (f .builder) ++ l))
 parts-of f l =
     let all = inProgress (f .builder) ++ l in
     record {
@@ -124,18 +127,21 @@ module _ (f : Filling) (a b : List Bool) (q : ℕ) (front rest : List Bool) (p :
       let less : length rest < 64 = p .less in
       let n : f .builder .length + length a + length b ≡ f .builder .length + length (a ++ b) = omega (arith, length-append a b) in
       let o : f .builder .ones + count front + count front2 ≡ f .builder .ones + count (front ++ front2) = omega (arith, count-append front front2) in
-      let at : 8 * ((f .builder .length + length a) / 64) ≡ 8 * (f .builder .length / 64) + length (packed (8 * q) front) = omega (arith, parts-long f a q front rest p, length-packed (8 * q) front) in
+      let at : 8 * ((f .builder .length + length a) / 64) ≡ 8 * (f .builder .length / 64) + length (packed (8 * q) front) = omega
+      (arith, parts-long f a q front rest p, length-packed (8 * q) front) in
       let k : 8 * q + 8 * r ≡ 8 * (q + r) = omega arith in
       let e8 : length front ≡ 8 * (8 * q) = omega arith in
       let two : packed (8 * q) front ++ packed (8 * r) front2 ≡ packed (8 * (q + r)) (front ++ front2) =
       sym (packed-append (8 * q) (8 * r) (front ++ front2)
       ∙ ap₂ (λ (s t : List ℕ). s ++ t) (packed-front (8 * q) front front2 e8) (ap (packed (8 * r)) (drop-at front front2 (8 * (8 * q)) e8)))
       ∙ ap (λ (x : ℕ). packed x (front ++ front2)) k in
-      let m : overFrom (overFrom (f .bytes) (8 * (f .builder .length / 64)) (packed (8 * q) front)) (8 * ((f .builder .length + length a) / 64)) (packed (8 * r) front2) ≡ overFrom (f .bytes) (8 * (f .builder .length / 64)) (packed (8 * (q + r)) (front ++ front2)) =
+      let m : overFrom (overFrom (f .bytes) (8 * (f .builder .length / 64)) (packed (8 * q) front)) (8 * ((f .builder .length + length a) / 64))
+      (packed (8 * r) front2) ≡ overFrom (f .bytes) (8 * (f .builder .length / 64)) (packed (8 * (q + r)) (front ++ front2)) =
       ap (λ (x : ℕ). overFrom (overFrom (f .bytes) (8 * (f .builder .length / 64)) (packed (8 * q) front)) x (packed (8 * r) front2)) at
       ∙ overFrom-more (f .bytes) (8 * (f .builder .length / 64)) (packed (8 * q) front) (packed (8 * r) front2)
       ∙ ap (overFrom (f .bytes) (8 * (f .builder .length / 64))) two in
-      ap₂ (λ (x y : ℕ). filling (builderOf x (wordOf rest2) y) (overFrom (overFrom (f .bytes) (8 * (f .builder .length / 64)) (packed (8 * q) front)) (8 * ((f .builder .length + length a) / 64)) (packed (8 * r) front2))) n o
+      ap₂ (λ (x y : ℕ). filling (builderOf x (wordOf rest2) y)
+      (overFrom (overFrom (f .bytes) (8 * (f .builder .length / 64)) (packed (8 * q) front)) (8 * ((f .builder .length + length a) / 64)) (packed (8 * r) front2))) n o
       ∙ ap (filling (builderOf (f .builder .length + length (a ++ b)) (wordOf rest2) (f .builder .ones + count (front ++ front2)))) m
 
   append-parts : appended (appended f a) b ≡ appended f (a ++ b)
@@ -185,7 +191,8 @@ low-window k w e =
 pub low-count : (k w : ℕ) → noneFrom w k ≡ true → count (take k (bits 64 w)) ≡ count (bits 64 w)
 low-count k w e =
     let z : count (drop k (bits 64 w)) ≡ 0 = any-zero (drop k (bits 64 w)) (sym (not-true (anySet (drop k (bits 64 w))) e)) in
-    let s : count (take k (bits 64 w)) + count (drop k (bits 64 w)) ≡ count (bits 64 w) = sym (count-append (take k (bits 64 w)) (drop k (bits 64 w))) ∙ ap count (take-append-drop k (bits 64 w)) in
+    let s : count (take k (bits 64 w)) + count (drop k (bits 64 w)) ≡ count (bits 64 w) = sym (count-append (take k (bits 64 w)) (drop k (bits 64 w)))
+    ∙ ap count (take-append-drop k (bits 64 w)) in
     omega arith
 
 pub no-count : count [] ≡ 0

@@ -166,7 +166,8 @@ span-allowed start n size e =
     let one = passed-left (failure (withinLimit start)) (earlier (failure (withinLimit n)) (earlier (failure (check 2 (leb (start + n) (8 * size)))) 0)) e in
     let rest = passed-right (failure (withinLimit start)) (earlier (failure (withinLimit n)) (earlier (failure (check 2 (leb (start + n) (8 * size)))) 0)) e in
     let two = passed-left (failure (withinLimit n)) (earlier (failure (check 2 (leb (start + n) (8 * size)))) 0) rest in
-    let three = passed-left (failure (check 2 (leb (start + n) (8 * size)))) 0 (passed-right (failure (withinLimit n)) (earlier (failure (check 2 (leb (start + n) (8 * size)))) 0) rest) in
+    let three = passed-left (failure (check 2 (leb (start + n) (8 * size)))) 0
+    (passed-right (failure (withinLimit n)) (earlier (failure (check 2 (leb (start + n) (8 * size)))) 0) rest) in
     record {
       starts = leb-true start limit (passed-one 0 (leb start limit) one);
       short = leb-true n limit (passed-one 0 (leb n limit) two);

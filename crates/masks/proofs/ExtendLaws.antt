@@ -2,7 +2,7 @@
 use mathlib.Core.Path.{_≡_, refl, sym, ap, ap₂, _∙_}
 use mathlib.Core.Bool.{Bool}
 use mathlib.Core.List.{List, [], _∷_, _++_, append-nil}
-use Prim.Native.Nat.{ℕ, zero, suc, _+_, _-_, _*_, _/_, _%_, _≤_, _<_}
+use Prim.Native.Nat.{ℕ, zero, suc, _+_, _*_, _/_, _%_, _≤_}
 use native.Mathlib.Nat.{zero-add, suc-add, zero-lt-suc}
 use native.Mathlib.Omega.{arith}
 use lib.ListN.{length, take}
@@ -26,7 +26,8 @@ unfolding wordOf
 no-word = refl
 
 -- what a helper wrote from the first unfilled word on
-whole-written : (bytes out : List ℕ) (at q : ℕ) (l : List Bool) → length l ≡ 64 * q → Small bytes → Small out → flagsOf out ≡ overAt (flagsOf bytes) (8 * at) (wholeWords l) → out ≡ overFrom bytes at (packed (8 * q) l)
+whole-written : (bytes out : List ℕ) (at q : ℕ) (l : List Bool) → length l ≡ 64 * q → Small bytes → Small out → flagsOf out ≡ overAt (flagsOf bytes) (8 * at) (wholeWords l)
+    → out ≡ overFrom bytes at (packed (8 * q) l)
 unfolding wholeWords
 whole-written bytes out at q l e small small′ put =
     let n : 64 * ((length l + 63) / 64) ≡ 8 * (8 * q) = omega arith in
@@ -40,7 +41,8 @@ append-whole b bytes out q c l h e ones small small′ put =
     let p : Parts (filling b bytes) l q l [] = record { row = ap (λ (t : List Bool). t ++ l) none ∙ sym (append-nil l); whole = e; less = zero-lt-suc 63 } in
     sym (appended-grown (filling b bytes) l q l [] p
     ∙ ap₂ (λ (x y : ℕ). filling (builderOf (b .length + x) y (b .ones + count l)) (overFrom bytes (8 * (b .length / 64)) (packed (8 * q) l))) e no-word
-    ∙ ap₂ (λ (x : ℕ) (y : List ℕ). filling (builderOf (b .length + 64 * q) 0 (b .ones + x)) y) (sym ones) (sym (whole-written bytes out (8 * (b .length / 64)) q l e small small′ put)))
+    ∙ ap₂ (λ (x : ℕ) (y : List ℕ). filling (builderOf (b .length + 64 * q) 0 (b .ones + x)) y) (sym ones)
+    (sym (whole-written bytes out (8 * (b .length / 64)) q l e small small′ put)))
 
 -- ---- three parts
 

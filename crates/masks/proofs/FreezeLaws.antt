@@ -1,15 +1,15 @@
 -- Freezing a builder: the word in progress behind the finished ones makes the frozen bytes. Assumes nothing.
 use mathlib.Core.Path.{_≡_, refl, sym, ap, ap₂, _∙_}
-use mathlib.Core.Bool.{Bool, true, false, cond}
-use mathlib.Core.List.{List, [], _∷_, _++_, append-nil}
-use Prim.Native.Nat.{ℕ, zero, suc, _+_, _-_, _*_, _/_, _%_, _≤_, _<_}
-use mathlib.Core.Option.{Option, none, some}
+use mathlib.Core.Bool.{Bool, true, cond}
+use mathlib.Core.List.{List, [], _++_}
+use Prim.Native.Nat.{ℕ, _+_, _*_, _/_, _%_, _≤_}
+use mathlib.Core.Option.{none, some}
 use native.Mathlib.Nat.{add-zero}
 use native.Mathlib.Omega.{arith}
 use borrow.Author.Tests.{eq-eqb, ne-eqb}
 use lib.ListN.{length, take, drop, take-append-drop}
 use lib.Seq.{length-take-le}
-use Rattle.words.specs.Flags.{bits, count, flagsOf, over, overAt, window, wordFlags}
+use Rattle.words.specs.Flags.{bits, flagsOf, over, overAt, window}
 use Rattle.words.proofs.Bits.{length-bits}
 use Rattle.words.proofs.Bytes.{length-flags}
 use Rattle.words.proofs.Counting.{count-le}
@@ -21,7 +21,7 @@ use Rattle.masks.specs.Freeze.{allOnes, frozenMask, validityOf, freezeCh
 use Rattle.masks.specs.Frozen.{packed, frozen, frozenSize, overFrom}
 use Rattle.masks.specs.declared.bitmap.Bitmap.{Bitmap}
 use Rattle.masks.specs.declared.builder.BitmapBuilder.{BitmapBuilder}
-use Rattle.masks.proofs.AppendLaws.{low-count, low-window, length-progress, window-front}
+use Rattle.masks.proofs.AppendLaws.{low-count, low-window, window-front}
 use Rattle.masks.proofs.FrozenLaws.{Small, written-bytes}
 use Rattle.masks.proofs.PushLaws.{window-behind}
 use Rattle.masks.proofs.RoomLaws.{finished, length-flags-of}
@@ -75,11 +75,13 @@ module _ (b : BitmapBuilder) (bytes : List ℕ) (r : Room b 0 (length bytes)) wh
       let e8 : 8 * frozenSize (b .length) ≡ 64 * (b .length / 64) + k = omega arith in
       written-bytes bytes out 0 (frozenSize (b .length)) (builderFlags (filling b bytes)) small small′
       (put ∙ sym (over-own (flagsOf bytes) (window (inProgress b) 0 k) (64 * (b .length / 64)) (omega (arith, length-flags bytes)))
-      ∙ ap (over (flagsOf bytes)) (sym (flags-parts (frozenSize (b .length)) k e8)) ∙ sym (front-over (flagsOf bytes) (window (builderFlags (filling b bytes)) 0 (8 * frozenSize (b .length)))))
+      ∙ ap (over (flagsOf bytes)) (sym (flags-parts (frozenSize (b .length)) k e8))
+      ∙ sym (front-over (flagsOf bytes) (window (builderFlags (filling b bytes)) 0 (8 * frozenSize (b .length)))))
       ∙ ap (λ (n : ℕ). over bytes (packed (frozenSize n) (builderFlags (filling b bytes)))) (sym (length-flags-of (filling b bytes)))
 
   -- with a word in progress, which was stored
-  pub freeze-word : (out : List ℕ) → (b .length % 64 ≡ 0 → ⊥) → Small bytes → Small out → flagsOf out ≡ overAt (flagsOf bytes) (8 * (8 * (b .length / 64))) (bits 64 (b .word)) → out ≡ frozenOver b bytes
+  pub freeze-word : (out : List ℕ) → (b .length % 64 ≡ 0 → ⊥) → Small bytes → Small out → flagsOf out ≡ overAt (flagsOf bytes) (8 * (8 * (b .length / 64))) (bits 64 (b .word))
+      → out ≡ frozenOver b bytes
   freeze-word out h small small′ put =
       let at : 8 * (8 * (b .length / 64)) ≡ 64 * (b .length / 64) = omega arith in
       let e : frozenSize (b .length) * 8 ≡ 64 * (b .length / 64) + 64 = omega arith in
@@ -89,7 +91,8 @@ module _ (b : BitmapBuilder) (bytes : List ℕ) (r : Room b 0 (length bytes)) wh
   pub freeze-whole : b .length % 64 ≡ 0 → Small bytes → bytes ≡ frozenOver b bytes
   freeze-whole h small =
       let e : frozenSize (b .length) * 8 ≡ 64 * (b .length / 64) + 0 = omega arith in
-      freeze-flags bytes 0 e small small (sym (ap (overAt (flagsOf bytes) (64 * (b .length / 64))) (no-window (inProgress b) 0) ∙ overAt-nothing (flagsOf bytes) (64 * (b .length / 64))))
+      freeze-flags bytes 0 e small small (sym (ap (overAt (flagsOf bytes) (64 * (b .length / 64))) (no-window (inProgress b) 0)
+      ∙ overAt-nothing (flagsOf bytes) (64 * (b .length / 64))))
 
 -- ---- the calls
 

@@ -2,15 +2,15 @@
 use mathlib.Core.Path.{_≡_, refl, sym, ap, ap₂, _∙_, subst}
 use mathlib.Core.Bool.{Bool}
 use mathlib.Core.List.{List, [], _∷_, _++_}
-use Prim.Native.Nat.{ℕ, zero, suc, _+_, _-_, _*_, _/_, _^_, _≤_, _<_}
+use Prim.Native.Nat.{ℕ, zero, suc, _+_, _*_, _^_, _≤_, _<_}
 use native.Mathlib.Nat.{zero-lt-suc, zero-add, suc-add}
 use native.Mathlib.Omega.{arith}
-use lib.ListN.{length, take, drop, getD, length-append, length-drop, take-append-drop}
-use lib.Seq.{take-all, drop-drop}
-use Rattle.words.specs.Flags.{bits, flagsOf, over, overAt, window, wordOf}
+use lib.ListN.{length, take, drop, getD, length-append, take-append-drop}
+use lib.Seq.{drop-drop}
+use Rattle.words.specs.Flags.{flagsOf, over, overAt, window, wordOf}
 use Rattle.words.proofs.Bits.{wordOf-lt}
 use Rattle.words.proofs.Bytes.{flags-append, flags-take, flags-drop, flags-over, flags-inj}
-use Rattle.words.proofs.Windows.{length-window, window-add, window-drop, window-all, in-window, bits-window, length-over, over-none, over-more}
+use Rattle.words.proofs.Windows.{length-window, window-add, window-drop, in-window, bits-window, length-over, over-none, over-more}
 use Rattle.masks.specs.Frozen.{packed, overFrom}
 
 -- numbers that are bytes, as every lent list is
@@ -82,7 +82,8 @@ flags-overFrom l at m =
     ∙ ap₂ (λ (x y : List Bool). x ++ y) (flags-take at l) (flags-over (drop at l) m ∙ ap (λ (t : List Bool). over t (flagsOf m)) (flags-drop at l))
 
 -- n bytes of m were written from the byte `at` on, as their flags say
-pub written-bytes : (out out′ : List ℕ) (at n : ℕ) (m : List Bool) → Small out → Small out′ → flagsOf out′ ≡ overAt (flagsOf out) (8 * at) (window m 0 (8 * n)) → out′ ≡ overFrom out at (packed n m)
+pub written-bytes : (out out′ : List ℕ) (at n : ℕ) (m : List Bool) → Small out → Small out′ → flagsOf out′ ≡ overAt (flagsOf out) (8 * at) (window m 0 (8 * n))
+    → out′ ≡ overFrom out at (packed n m)
 written-bytes out out′ at n m p q e =
     flags-inj out′ (overFrom out at (packed n m)) q (overFrom-small out at (packed n m) p (packed-small n m))
     (e ∙ ap (overAt (flagsOf out) (8 * at)) (sym (flags-packed n m)) ∙ sym (flags-overFrom out at (packed n m)))

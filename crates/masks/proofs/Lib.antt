@@ -9,10 +9,12 @@ pub mod CursorLaws
 pub mod ExtendLaws
 pub mod FreezeLaws
 pub mod FrozenLaws
+pub mod GatherLaws
 pub mod IteratorLaws
 pub mod MaskLaws
 pub mod PartLaws
 pub mod PushLaws
+pub mod RepeatLaws
 pub mod RoomLaws
 pub mod SearchLaws
 pub mod SearchPlain

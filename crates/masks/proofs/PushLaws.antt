@@ -1,9 +1,9 @@
 -- Flags of a word appended: within the word in progress, and over its end. Assumes nothing.
-use mathlib.Core.Path.{_≡_, refl, sym, ap, ap₂, _∙_, subst}
-use mathlib.Core.Bool.{Bool, true, false}
-use mathlib.Core.List.{List, [], _∷_, _++_}
+use mathlib.Core.Path.{_≡_, refl, sym, ap, ap₂, _∙_}
+use mathlib.Core.Bool.{Bool, false}
+use mathlib.Core.List.{List, [], _++_}
 use mathlib.Core.Logic.{⊎-elim}
-use Prim.Native.Nat.{ℕ, zero, suc, _+_, _-_, _*_, _/_, _%_, _^_, _≤_, _<_}
+use Prim.Native.Nat.{ℕ, _+_, _-_, _*_, _/_, _%_, _^_, _≤_, _<_}
 use native.Mathlib.Omega.{arith}
 use lib.ListN.{length, take, drop, getD, length-append, length-drop, take-append-drop, List·getD-append}
 use lib.Seq.{length-take-le, getD-append-add}
@@ -11,8 +11,8 @@ use Rattle.words.specs.Flags.{bits, count, flagsOf, overAt, window, wordOf}
 use Rattle.words.proofs.Bits.{length-bits}
 use Rattle.words.proofs.Loads.{from-end}
 use Rattle.words.proofs.Plain.{window-part}
-use Rattle.words.proofs.Windows.{lt-or-le, length-window, window-all, window-drop, window-ext, at-in, word-value}
-use Rattle.masks.specs.Builder.{Filling, filling, builderOf, inProgress, appended}
+use Rattle.words.proofs.Windows.{lt-or-le, window-all, window-drop, window-ext, at-in, word-value}
+use Rattle.masks.specs.Builder.{filling, builderOf, inProgress, appended}
 use Rattle.masks.specs.Frozen.{packed, overFrom}
 use Rattle.masks.specs.declared.builder.BitmapBuilder.{BitmapBuilder}
 use Rattle.masks.proofs.AppendLaws.{Parts, appended-grown, length-progress, no-count, no-bytes}
@@ -47,7 +47,8 @@ module _ (b : BitmapBuilder) (bytes : List ℕ) (word v low k : ℕ) (few : k �
     (merged : bits 64 low ≡ window (take (b .length % 64) (bits 64 (b .word)) ++ bits 64 v) 0 64) where
   row-flags : bits 64 low ≡ window (inProgress b ++ take k (bits 64 word)) 0 64
   unfolding inProgress
-  row-flags = merged ∙ ap (λ (t : List Bool). window (take (b .length % 64) (bits 64 (b .word)) ++ t) 0 64) flags ∙ window-padded (take (b .length % 64) (bits 64 (b .word))) (take k (bits 64 word)) 64
+  row-flags = merged ∙ ap (λ (t : List Bool). window (take (b .length % 64) (bits 64 (b .word)) ++ t) 0 64) flags
+      ∙ window-padded (take (b .length % 64) (bits 64 (b .word))) (take k (bits 64 word)) 64
 
   row-long : length (inProgress b ++ take k (bits 64 word)) ≡ b .length % 64 + k
   row-long = length-append (inProgress b) (take k (bits 64 word)) ∙ ap₂ (λ (x y : ℕ). x + y) (length-progress b) (length-low k word few)

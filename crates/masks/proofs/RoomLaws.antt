@@ -2,25 +2,27 @@
 use mathlib.Core.Path.{_≡_, refl, sym, ap, ap₂, _∙_, subst}
 use mathlib.Core.Bool.{Bool, true, false, not, _&&_}
 use mathlib.Core.List.{List, [], _∷_, _++_, append-assoc}
-use Prim.Native.Nat.{ℕ, zero, suc, _+_, _-_, _*_, _/_, _%_, _≤_, _<_}
+use Prim.Native.Nat.{ℕ, _+_, _*_, _/_, _%_, _≤_, _<_}
 use native.Mathlib.Omega.{arith}
 use lib.Dec.{leb}
 use lib.ListN.{length, take, drop, getD, length-append, take-append-drop}
 use borrow.Author.Tests.{leb-true}
-use Rattle.words.specs.Counts.{anySet}
 use Rattle.words.specs.Flags.{bits, count, flagsOf, overAt, window, wordOf}
 use Rattle.words.proofs.AnyFlag.{zero-any}
 use Rattle.words.proofs.Bytes.{length-flags}
 use Rattle.words.proofs.Counting.{count-append, count-le, count-padded}
 use Rattle.words.proofs.Plain.{overAt-before, overAt-in}
 use Rattle.words.proofs.Windows.{length-window, window-add, window-ext, as-window, at-in, bits-window}
-use Rattle.masks.specs.Builder.{Filling, filling, builderOf, inProgress, appended, builderFlags, noneFrom, possible, builderChecks, Room}
-use Rattle.masks.specs.Checks.{Check, check, firstFailed, failure, limit, withinLimit, outputChecks}
+use Rattle.masks.specs.Builder.{Filling, inProgress, appended, builderFlags, noneFrom, possible, builderChecks, Room}
+use Rattle.masks.specs.Appends.{pieceChecks}
+use Rattle.masks.specs.Checks.{check, firstFailed, limit, withinLimit, spanChecks, outputChecks}
 use Rattle.masks.specs.Frozen.{packed, overFrom}
+use Rattle.masks.specs.Mask.{maskChecks, countValid}
+use Rattle.masks.specs.declared.bitmap.Bitmap.{Bitmap}
 use Rattle.masks.specs.declared.builder.BitmapBuilder.{BitmapBuilder}
 use Rattle.masks.proofs.AppendLaws.{Parts, grown, appended-grown, parts-of, parts-long, progress-of, word-back, length-progress}
-use Rattle.masks.proofs.CheckLaws.{head-passed, tail-passed}
-use Rattle.masks.proofs.FrozenLaws.{flags-packed, length-packed, length-overFrom, flags-overFrom}
+use Rattle.masks.proofs.CheckLaws.{head-passed, tail-passed, both-left, span-allowed}
+use Rattle.masks.proofs.FrozenLaws.{flags-packed, length-overFrom, flags-overFrom}
 
 -- ---- what the checks give
 
@@ -89,12 +91,18 @@ room-after f g l m n e h r =
     let p = parts-of f l in
     subst (λ (x : Filling). Room (x .builder) n (length (x .bytes))) (sym (e ∙ appended-grown f l _ _ _ p)) (grown-room f l _ _ _ m n p h r)
 
-pub room-then : (f g : Filling) (l : List Bool) (k m n : ℕ) → g ≡ appended f l → length l ≡ k → Room (f .builder) m (length (f .bytes)) → k + n ≤ m → Room (g .builder) n (length (g .bytes))
+pub room-then : (f g : Filling) (l : List Bool) (k m n : ℕ) → g ≡ appended f l → length l ≡ k → Room (f .builder) m (length (f .bytes)) → k + n ≤ m
+    → Room (g .builder) n (length (g .bytes))
 room-then f g l k m n e h r q = room-after f g l m n e (omega arith) r
 
 pub length-then : (f g : Filling) (l : List Bool) (k : ℕ) → g ≡ appended f l → length l ≡ k → g .builder .length ≡ f .builder .length + k
 unfolding appended
 length-then f g l k e h = ap (λ (x : Filling). x .builder .length) e ∙ ap (λ (x : ℕ). f .builder .length + x) h
+
+pub size-after : (f g : Filling) (l : List Bool) → g ≡ appended f l → length (g .bytes) ≡ length (f .bytes)
+unfolding appended
+size-after f g l e = ap (λ (x : Filling). length (x .bytes)) e
+    ∙ length-overFrom (f .bytes) (8 * (f .builder .length / 64)) (packed (8 * (length (inProgress (f .builder) ++ l) / 64)) (inProgress (f .builder) ++ l))
 
 pub length-after : (f g : Filling) (l : List Bool) → g ≡ appended f l → g .builder .length ≡ f .builder .length + length l
 unfolding appended
@@ -128,7 +136,8 @@ grown-finished f l q front rest p h =
     let z : 0 + j ≡ j = omega arith in
     let y : 64 * (f .builder .length / 64) + j ≡ 0 + 64 * (f .builder .length / 64) + j = omega arith in
     sym (ap (λ (x : ℕ). getD front x false) z) ∙ sym (at-in front 0 (64 * q) j b)
-    ∙ sym (overAt-in (flagsOf (f .bytes)) (64 * (f .builder .length / 64)) (window front 0 (64 * q)) j (omega (arith, length-window front 0 (64 * q))) (omega (arith, length-flags (f .bytes))))
+    ∙ sym (overAt-in (flagsOf (f .bytes)) (64 * (f .builder .length / 64)) (window front 0 (64 * q)) j (omega (arith, length-window front 0 (64 * q)))
+    (omega (arith, length-flags (f .bytes))))
     ∙ ap (λ (x : ℕ). getD (overAt (flagsOf (f .bytes)) (64 * (f .builder .length / 64)) (window front 0 (64 * q))) x false) y)))
 
 pub finished-after : (f : Filling) (l : List Bool) (q : ℕ) (front rest : List Bool) → Parts f l q front rest → 8 * ((f .builder .length + length l) / 64) ≤ length (f .bytes)
@@ -152,7 +161,8 @@ flags-after f l r =
     ap builderFlags (appended-grown f l _ _ _ p) ∙ grown-flags f l _ _ _ p (omega arith)
 
 -- ones that are those of the finished words stay so
-pub ones-after : (f : Filling) (l : List Bool) → Room (f .builder) (length l) (length (f .bytes)) → f .builder .ones ≡ count (finished f) → appended f l .builder .ones ≡ count (finished (appended f l))
+pub ones-after : (f : Filling) (l : List Bool) → Room (f .builder) (length l) (length (f .bytes)) → f .builder .ones ≡ count (finished f)
+    → appended f l .builder .ones ≡ count (finished (appended f l))
 ones-after f l r e =
     let holds : 8 * ((f .builder .length + length l + 63) / 64) ≤ length (f .bytes) = r .holds in
     let p = parts-of f l in
@@ -164,3 +174,19 @@ pub length-flags-of : (f : Filling) → length (builderFlags f) ≡ f .builder .
 unfolding builderFlags
 length-flags-of f =
     omega (arith, length-append (finished f) (inProgress (f .builder)), length-window (flagsOf (f .bytes)) 0 (64 * (f .builder .length / 64)), length-progress (f .builder))
+
+-- ---- what the checks of a mask and of a piece of it give
+
+pub record PieceAllowed (m : Bitmap) (bytes : List ℕ) (start n : ℕ) : Type 0 where
+  pub starts : m .start ≤ limit
+  pub short : m .length ≤ limit
+  pub inside : start + n ≤ m .length
+
+pub piece-allowed : (m : Bitmap) (bytes : List ℕ) (start n : ℕ) → firstFailed (maskChecks m bytes) ≡ 0 → firstFailed (pieceChecks start n (m .length)) ≡ 0
+    → PieceAllowed m bytes start n
+unfolding maskChecks pieceChecks
+piece-allowed m bytes start n e p =
+    let span = span-allowed (m .start) (m .length) (length bytes) (both-left (spanChecks (m .start) (m .length) (length bytes)) (check 3 (countValid m bytes) ∷ []) e) in
+    let two = tail-passed (withinLimit start) (withinLimit n ∷ check 6 (leb (start + n) (m .length)) ∷ []) p in
+    let three = tail-passed (withinLimit n) (check 6 (leb (start + n) (m .length)) ∷ []) two in
+    record { starts = span .starts; short = span .short; inside = leb-true (start + n) (m .length) (head-passed 5 (leb (start + n) (m .length)) [] three) }

@@ -1,14 +1,19 @@
 -- The calls that append to a builder: their checks, and the flags that they append. Assumes nothing.
 --
 -- Each call appends a list of flags where all its checks pass. Else the builder and the buffer are as they came.
-use Prim.Native.Nat.{ℕ, _+_, _*_}
-use mathlib.Core.Bool.{Bool, _&&_}
+use mathlib.Core.Path.{_≡_}
+use mathlib.Core.Logic.{_⊎_}
+use Prim.Native.Nat.{ℕ, _+_, _<_}
+use mathlib.Core.Bool.{Bool, true, false, _&&_}
 use mathlib.Core.List.{List, [], _∷_, _++_}
-use lib.Dec.{leb}
-use lib.ListN.{length}
+use lib.Dec.{leb, ltb}
+use lib.ListN.{length, getD}
+use Rattle.words.specs.Flags.{copies}
 use Rattle.masks.specs.Answer.{Answer, given, refused, checked, kept}
 use Rattle.masks.specs.Builder.{filling, appended, builderChecks, noneFrom}
-use Rattle.masks.specs.Checks.{Check, check, firstFailed, withinLimit, spanChecks}
+use Rattle.masks.specs.Checks.{Check, check, firstFailed, limit, withinLimit, spanChecks}
+use Rattle.masks.specs.Mask.{maskChecks}
+use Rattle.masks.specs.declared.bitmap.Bitmap.{Bitmap}
 use Rattle.masks.specs.declared.builder.BitmapBuilder.{BitmapBuilder}
 use Rattle.masks.specs.declared.builder.Pushed.{Pushed}
 use Rattle.masks.specs.declared.builder.Pushed.the-variants.{Done, Refused}
@@ -39,3 +44,34 @@ constantChecks b size n = growChecks b n size ++ (withinLimit n ∷ [])
 -- of a span, where m flags are appended: questions 1 and 2 of it besides
 unfoldable pub spanGrowChecks : BitmapBuilder → List ℕ → List ℕ → ℕ → ℕ → ℕ → List Check
 spanGrowChecks b buf bytes start n m = spanChecks start n (length bytes) ++ growChecks b m (length buf)
+
+-- questions 1 and 6 of a piece of n flags from `start` on, in a mask of so many flags
+unfoldable pub pieceChecks : ℕ → ℕ → ℕ → List Check
+pieceChecks start n whole = withinLimit start ∷ withinLimit n ∷ check 6 (leb (start + n) whole) ∷ []
+
+-- of a piece of a mask besides questions 1, 4 and 9: the mask's, and the piece's
+unfoldable pub subsliceChecks : BitmapBuilder → List ℕ → Bitmap → List ℕ → ℕ → ℕ → List Check
+subsliceChecks b buf m bytes start n = maskChecks m bytes ++ (pieceChecks start n (m .length) ++ growChecks b n (length buf))
+
+-- is each index below n
+unfoldable pub allBelow : ℕ → List ℕ → Bool
+allBelow n [] = true
+allBelow n (i ∷ idxs) = ltb i n && allBelow n idxs
+
+-- of a gather besides those of its span: question 6
+unfoldable pub gatherChecks : BitmapBuilder → List ℕ → List ℕ → ℕ → ℕ → List ℕ → List Check
+gatherChecks b buf bytes start n idxs = spanGrowChecks b buf bytes start n (length idxs) ++ (check 6 (allBelow n idxs) ∷ [])
+
+-- the flag of l at each index, 0 at or past its end
+unfoldable pub gathered : List Bool → List ℕ → List Bool
+gathered l [] = []
+gathered l (i ∷ idxs) = getD l i false ∷ gathered l idxs
+
+-- each flag so often, in turn
+unfoldable pub repeated : ℕ → List Bool → List Bool
+repeated k [] = []
+repeated k (x ∷ l) = copies k x ++ repeated k l
+
+-- a number that stands for another: the same, or over the flag limit as that is
+abbrev pub SameOrOver : ℕ → ℕ → Type 0
+SameOrOver r p = (r ≡ p) ⊎ ((limit < r) × (limit < p))

@@ -1,15 +1,14 @@
 -- The builder: its checks, and one definition of appending a list of flags. Assumes nothing.
 use mathlib.Core.Path.{_≡_}
-use Prim.Native.Nat.{ℕ, _+_, _-_, _*_, _/_, _%_, _≤_}
+use Prim.Native.Nat.{ℕ, _+_, _*_, _/_, _%_, _≤_}
 use mathlib.Core.Bool.{Bool, true, not, _&&_}
-use mathlib.Core.List.{List, [], _∷_, _++_}
+use mathlib.Core.List.{List, _∷_, _++_}
 use lib.Dec.{leb}
 use lib.ListN.{length, take, drop}
 use Rattle.words.specs.Counts.{anySet}
 use Rattle.words.specs.Flags.{count, wordFlags, wordOf, flagsOf, window}
-use Rattle.masks.specs.Answer.{Answer, given, refused}
 use Rattle.masks.specs.Checks.{Check, check, limit, withinLimit, outputChecks}
-use Rattle.masks.specs.Frozen.{packed, overFrom, frozen, frozenSize}
+use Rattle.masks.specs.Frozen.{packed, overFrom}
 use Rattle.masks.specs.declared.builder.BitmapBuilder.{BitmapBuilder}
 
 -- a builder and the buffer lent to it

@@ -1,6 +1,6 @@
 -- Freezing: the mask of a builder's flags, and their frozen bytes. Assumes nothing.
 use Prim.Native.Nat.{ℕ, _+_, _-_}
-use mathlib.Core.Bool.{Bool, cond}
+use mathlib.Core.Bool.{cond}
 use mathlib.Core.List.{List}
 use mathlib.Core.Option.{Option, none, some}
 use lib.Dec.{eqb}

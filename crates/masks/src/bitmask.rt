@@ -8,10 +8,11 @@ ghost use Rattle.masks.specs.Answer.{given};
 ghost use Rattle.masks.specs.Bitmask.{partsAnswer, splitAt, splitChecks, windowAnswer, windowAt, windowWord};
 ghost use Rattle.masks.specs.Checks.{firstFailed};
 ghost use Rattle.masks.specs.Search.{positionAnswer, searchFrom, searchBack, nthFrom, nthBack, seen};
+use crate::bitmap::Bitmap;
 use crate::checks::earlier;
 use crate::checks::failed;
 use crate::checks::span_failure;
-use crate::checks::sum_within_limit;
+use crate::checks::sum_at_most;
 use crate::span::flags_word;
 use crate::span::least;
 use words::nth::Nth;
@@ -39,7 +40,7 @@ fn split_failure(start: usize, length: usize, at: usize, size: usize) -> u8
     earlier(
         span_failure(start, length, size),
         earlier(
-            failed(1, sum_within_limit(start, at)),
+            failed(1, sum_at_most(start, at, Bitmap::LIMIT)),
             failed(6, at <= length),
         ),
     )

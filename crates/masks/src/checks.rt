@@ -7,6 +7,7 @@ ghost use lib.Dec.{leb};
 ghost use lib.ListN.{length};
 ghost use Rattle.masks.specs.Checks.{earlier as Checks·earlier, rank as Checks·rank, firstFailed, limit, check, withinLimit, spanChecks, addressChecks, outputChecks};
 ghost use Rattle.masks.specs.Mask.{countFits, maskChecks};
+ghost use Rattle.masks.specs.Appends.{pieceChecks};
 ghost use Rattle.masks.specs.Builder.{possible, builderChecks, noneFrom};
 use crate::bitmap::Bitmap;
 use crate::bitmap::Unset;
@@ -43,17 +44,6 @@ pub(crate) fn within_limit(n: usize) -> bool
     ensures { λ r. ⌜ r ≡ leb n limit ⌝ }
 {
     n <= Bitmap::LIMIT
-}
-
-// Is a resulting start x + y, taken exactly, within the limit.
-pub(crate) fn sum_within_limit(x: usize, y: usize) -> bool
-    ensures { λ r. ⌜ r ≡ leb (x + y) limit ⌝ }
-{
-    if x <= Bitmap::LIMIT {
-        y <= Bitmap::LIMIT - x
-    } else {
-        false
-    }
 }
 
 // Is start + length, taken exactly, at most the flags of so many bytes.
@@ -148,7 +138,7 @@ pub(crate) fn builder_failure(b: BitmapBuilder, more: usize, size: usize) -> u8
     earlier(
         failed(1, within_limit(n)),
         earlier(
-            failed(1, sum_within_limit(n, more)),
+            failed(1, sum_at_most(n, more, Bitmap::LIMIT)),
             earlier(
                 failed(4, is_possible(b, size)),
                 output_failure(n, more, size),
@@ -172,4 +162,17 @@ pub(crate) fn limit_failure(n: usize) -> u8
     ensures { λ r. ⌜ r ≡ firstFailed (withinLimit n ∷ []) ⌝ }
 {
     failed(1, within_limit(n))
+}
+
+// Of a piece of n flags from `start` on, in a mask of so many flags.
+pub(crate) fn piece_failure(start: usize, n: usize, whole: usize) -> u8
+    ensures { λ r. ⌜ r ≡ firstFailed (pieceChecks start n whole) ⌝ }
+{
+    earlier(
+        failed(1, within_limit(start)),
+        earlier(
+            failed(1, within_limit(n)),
+            failed(6, sum_at_most(start, n, whole)),
+        ),
+    )
 }

@@ -2,16 +2,20 @@
 ghost use mathlib.Core.Path.{_≡_};
 ghost use Prim.Native.Nat.{_+_, _*_, _%_, _≤_};
 ghost use lib.ListN.{length};
-ghost use Rattle.words.specs.Flags.{copies, digit};
+ghost use Rattle.words.specs.Flags.{copies, digit, window};
 ghost use Rattle.words.specs.Loops.{stretch};
-ghost use Rattle.masks.specs.Appends.{pushedAnswer, appendAnswer, appendBytes, constantChecks, spanGrowChecks};
+ghost use Rattle.masks.specs.Appends.{pushedAnswer, appendAnswer, appendBytes, constantChecks, spanGrowChecks, subsliceChecks};
 ghost use Rattle.masks.specs.Builder.{Room, filling, appended};
+ghost use Rattle.masks.specs.Mask.{maskFlags};
+use crate::bitmap::Bitmap;
 use crate::builder::BitmapBuilder;
 use crate::builder::Pushed;
 use crate::builder::push_flags;
 use crate::checks::builder_failure;
 use crate::checks::earlier;
 use crate::checks::limit_failure;
+use crate::checks::mask_failure;
+use crate::checks::piece_failure;
 use crate::checks::span_failure;
 use words::counts::count_ones;
 use words::loops::copy;
@@ -47,6 +51,33 @@ impl BitmapBuilder {
             return Pushed::Refused(refusal, self);
         }
         Pushed::Done(append_stretch(self, buf, bytes, start, n))
+    }
+
+    // Appends a piece of a mask.
+    pub fn subslice_extend_from_bitmap(
+        self,
+        buf: &mut [u8],
+        mask: Bitmap,
+        bytes: &[u8],
+        start: usize,
+        n: usize,
+    ) -> Pushed
+        ensures answer { λ r. ⌜ pushedAnswer r ≡ appendAnswer (subsliceChecks self (now (buf .entry)) mask (now (bytes .entry)) start n) self (now (buf .entry))
+            (window (maskFlags mask (now (bytes .entry))) start n) ⌝ }
+        ensures bytes { λ _. ⌜ now (buf .exit) ≡ appendBytes (subsliceChecks self (now (buf .entry)) mask (now (bytes .entry)) start n) self (now (buf .entry))
+            (window (maskFlags mask (now (bytes .entry))) start n) ⌝ }
+    {
+        let refusal = earlier(
+            mask_failure(mask, bytes),
+            earlier(
+                piece_failure(start, n, mask.length),
+                builder_failure(self, n, buf.len()),
+            ),
+        );
+        if refusal != 0 {
+            return Pushed::Refused(refusal, self);
+        }
+        Pushed::Done(append_stretch(self, buf, bytes, mask.start + start, n))
     }
 }
 

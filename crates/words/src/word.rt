@@ -1,7 +1,7 @@
 // A word: loads, stores, its low flags and its ones. Loads and stores that lie in range by `requires` are private to the crate.
+ghost use mathlib.Core.Bool.{false};
 ghost use mathlib.Core.Path.{_≡_};
 ghost use mathlib.Core.List.{_++_};
-ghost use mathlib.Core.Bool.{false};
 ghost use Prim.Native.Nat.{_+_, _*_, _<_, _≤_, _%_};
 ghost use lib.ListN.{length, take, getD};
 ghost use Rattle.words.specs.Flags.{wordFlags, copies, flagsOf, count, over, overAt, window};

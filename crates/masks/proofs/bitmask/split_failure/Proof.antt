@@ -8,8 +8,8 @@ use Rattle.masks.proofs.bitmask.split_failure.Tie as tie
 span-failure-requires : tie.Need-span-failure-requires
 span-failure-requires c κs = search needs
 
-sum-within-limit-requires : tie.Need-sum-within-limit-requires
-sum-within-limit-requires c κs = search needs
+sum-at-most-requires : tie.Need-sum-at-most-requires
+sum-at-most-requires c κs = search needs
 
 failed-requires : tie.Need-failed-requires
 failed-requires c κs = search needs
@@ -28,7 +28,7 @@ unfolding splitChecks
 returns c =
     two-pieces _ _ _ _ _ (c .earlier2 .ensures) (c .before .before .before .before .before .span-failure .ensures)
     (two-pieces _ _ _ _ _ (c .before .earlier .ensures)
-    (one-check _ _ _ _ (c .before .before .before .failed .ensures) (c .before .before .before .before .sum-within-limit .ensures))
+    (one-check _ _ _ _ (c .before .before .before .failed .ensures) (c .before .before .before .before .sum-at-most .ensures))
     (one-check _ _ _ _ (c .before .before .failed2 .ensures) refl))
 
 pub split-failure-spec : {M : Type 1} → statement M
@@ -36,7 +36,7 @@ split-failure-spec =
     tie.close
     (tie.spec
     span-failure-requires
-    sum-within-limit-requires
+    sum-at-most-requires
     failed-requires
     failed-requires-2
     earlier-requires

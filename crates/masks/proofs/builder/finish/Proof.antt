@@ -16,7 +16,8 @@ returns : tie.Need-returns
 returns c =
     let then = c .before .before .before .before .before in
     let s = then .before .before .before in
-    freeze-word _ (s .args .buf .now) (s .pre) _ (then .if1 .taken) (λ i. then .before .before .slice-known .given i .fits) (λ i. c .slice-known2 .given i .fits) (c .before .before .store-at .ensures)
+    freeze-word _ (s .args .buf .now) (s .pre) _ (then .if1 .taken) (λ i. then .before .before .slice-known .given i .fits) (λ i. c .slice-known2 .given i .fits)
+    (c .before .before .store-at .ensures)
 
 returns-2 : tie.Need-returns-2
 returns-2 c =

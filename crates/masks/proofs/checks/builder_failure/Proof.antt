@@ -10,8 +10,8 @@ within-limit-requires c κs = search needs
 failed-requires : tie.Need-failed-requires
 failed-requires c κs = search needs
 
-sum-within-limit-requires : tie.Need-sum-within-limit-requires
-sum-within-limit-requires c κs = search needs
+sum-at-most-requires : tie.Need-sum-at-most-requires
+sum-at-most-requires c κs = search needs
 
 failed-requires-2 : tie.Need-failed-requires-2
 failed-requires-2 c κs = search needs
@@ -44,7 +44,7 @@ builder-failure-spec =
     (tie.spec
     within-limit-requires
     failed-requires
-    sum-within-limit-requires
+    sum-at-most-requires
     failed-requires-2
     is-possible-requires
     failed-requires-3

@@ -28,7 +28,8 @@ returns : tie.Need-returns
 returns c =
     let one = c .before .before .before .before in
     more-check _ _ _ _ _ _ _ (c .earlier .ensures) (one .failed .ensures) (one .before .within-limit .ensures)
-    (one-check _ _ _ _ (c .before .failed2 .ensures) (c .before .before .both .ensures ∙ ap (λ (t : Bool). leb (one .before .before .args .k) 64 && t) (c .before .before .before .none-from .ensures)))
+    (one-check _ _ _ _ (c .before .failed2 .ensures)
+    (c .before .before .both .ensures ∙ ap (λ (t : Bool). leb (one .before .before .args .k) 64 && t) (c .before .before .before .none-from .ensures)))
 
 pub word-failure-spec : {M : Type 1} → statement M
 word-failure-spec =

@@ -81,8 +81,10 @@ returns-2 c =
     let did = did2 .before .before .before .before in
     let head = did .before .before in
     let n = head .before .before .before .before .before .args .n in
-    append-three _ _ _ _ _ _ _ _ (did .push-flags2 .ensures ∙ ap (appended _) (stretch-front _ _ (head .to-whole .result) _ (omega arith) (head .before .before .word-from .ensures))) (did2 .copy-words .ensures)
-    (did3 .push-flags3 .ensures ∙ ap (appended _) (stretch-front _ _ ((n - head .to-whole .result) % 64) _ (omega arith) (last .word-from2 .ensures))) (window-three _ _ _ _ _ _ _ _ (omega arith) (omega arith) (omega arith))
+    append-three _ _ _ _ _ _ _ _ (did .push-flags2 .ensures
+    ∙ ap (appended _) (stretch-front _ _ (head .to-whole .result) _ (omega arith) (head .before .before .word-from .ensures))) (did2 .copy-words .ensures)
+    (did3 .push-flags3 .ensures ∙ ap (appended _) (stretch-front _ _ ((n - head .to-whole .result) % 64) _ (omega arith) (last .word-from2 .ensures)))
+    (window-three _ _ _ _ _ _ _ _ (omega arith) (omega arith) (omega arith))
 
 pub append-stretch-spec : {M : Type 1} → statement M
 append-stretch-spec =

@@ -1,7 +1,7 @@
 use mathlib.Core.Path.{sym, _∙_}
 use native.Mathlib.Omega.{arith}
 use Rattle.words.proofs.Bytes.{over-from}
-use Rattle.words.proofs.Counting.{count-copies, count-le}
+use Rattle.words.proofs.Counting.{count-copies}
 use Rattle.words.proofs.Windows.{length-copies}
 use Rattle.masks.proofs.ExtendLaws.{append-whole}
 use borrow.Author.Needs.{needs}

@@ -1,4 +1,3 @@
-use mathlib.Core.Path.{sym}
 use native.Mathlib.Omega.{arith}
 use Rattle.masks.proofs.extend.ones_of.Statement.{statement}
 use Rattle.masks.proofs.extend.ones_of.Tie as tie

@@ -37,7 +37,8 @@ returns-2 c =
     let did = c .before .before in
     let no = did .before .before in
     let e = no .before in
-    append-way _ _ _ _ _ _ _ _ (two-pieces _ _ _ _ _ (e .earlier .ensures) (e .before .before .builder-failure .ensures) (e .before .limit-failure .ensures)) (no .if1 .left) (did .append-copies .ensures)
+    append-way _ _ _ _ _ _ _ _ (two-pieces _ _ _ _ _ (e .earlier .ensures) (e .before .before .builder-failure .ensures) (e .before .limit-failure .ensures)) (no .if1 .left)
+    (did .append-copies .ensures)
 
 pub extend-constant-spec : {M : Type 1} → statement M
 extend-constant-spec =

@@ -40,7 +40,8 @@ returns-2 c =
     let did = c .before .before in
     let no = did .before .before in
     let e = no .before in
-    append-way _ _ _ _ _ _ _ _ (two-pieces _ _ _ _ _ (e .earlier .ensures) (e .before .before .span-failure .ensures) (e .before .builder-failure .ensures)) (no .if1 .left) (did .append-stretch .ensures)
+    append-way _ _ _ _ _ _ _ _ (two-pieces _ _ _ _ _ (e .earlier .ensures) (e .before .before .span-failure .ensures) (e .before .builder-failure .ensures)) (no .if1 .left)
+    (did .append-stretch .ensures)
 
 pub extend-from-slice-spec : {M : Type 1} → statement M
 extend-from-slice-spec =

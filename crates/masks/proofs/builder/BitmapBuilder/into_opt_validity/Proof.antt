@@ -29,7 +29,8 @@ returns-2 : tie.Need-returns-2
 returns-2 c =
     let did = c .before .before .before .before .before in
     let no = did .before .before in
-    given-way _ _ _ _ (same-checks _ _ _ (no .before .builder-failure .ensures)) _ _ _ _ (no .if1 .left) (all-set _ _ (c .before .before .all-ones .ensures) (c .if2 .taken)) (did .finish .ensures)
+    given-way _ _ _ _ (same-checks _ _ _ (no .before .builder-failure .ensures)) _ _ _ _ (no .if1 .left) (all-set _ _ (c .before .before .all-ones .ensures) (c .if2 .taken))
+    (did .finish .ensures)
 
 frozen-mask-requires : tie.Need-frozen-mask-requires
 frozen-mask-requires c κs =

@@ -40,7 +40,8 @@ returns-2 c =
     let did = c .before .before in
     let no = did .before .before in
     let e = no .before in
-    append-way _ _ _ _ _ _ _ _ (two-pieces _ _ _ _ _ (e .earlier .ensures) (e .before .before .builder-failure .ensures) (e .before .word-failure .ensures)) (no .if1 .left) (did .push-flags .ensures)
+    append-way _ _ _ _ _ _ _ _ (two-pieces _ _ _ _ _ (e .earlier .ensures) (e .before .before .builder-failure .ensures) (e .before .word-failure .ensures)) (no .if1 .left)
+    (did .push-flags .ensures)
 
 pub push-word-with-len-unchecked-spec : {M : Type 1} → statement M
 push-word-with-len-unchecked-spec =
