@@ -1,28 +1,30 @@
 -- Freezing a builder: the word in progress behind the finished ones makes the frozen bytes. Assumes nothing.
 use mathlib.Core.Path.{_≡_, refl, sym, ap, ap₂, _∙_}
-use mathlib.Core.Bool.{Bool, true, cond}
+use mathlib.Core.Bool.{Bool, true, false, cond}
 use mathlib.Core.List.{List, [], _++_}
-use Prim.Native.Nat.{ℕ, _+_, _*_, _/_, _%_, _≤_}
+use Prim.Native.Nat.{ℕ, _+_, _-_, _*_, _/_, _%_, _≤_, _<_}
 use mathlib.Core.Option.{none, some}
 use native.Mathlib.Nat.{add-zero}
 use native.Mathlib.Omega.{arith}
 use borrow.Author.Tests.{eq-eqb, ne-eqb}
-use lib.ListN.{length, take, drop, take-append-drop}
+use lib.ListN.{length, take, drop, getD, take-append-drop}
 use lib.Seq.{length-take-le}
-use Rattle.words.specs.Flags.{bits, flagsOf, over, overAt, window}
+use Rattle.words.specs.Flags.{bits, count, flagsOf, over, overAt, window}
 use Rattle.words.proofs.Bits.{length-bits}
-use Rattle.words.proofs.Bytes.{length-flags}
-use Rattle.words.proofs.Counting.{count-le}
-use Rattle.words.proofs.Plain.{window-part}
-use Rattle.words.proofs.Windows.{length-window, window-add, over-append, over-none}
+use Rattle.words.proofs.Bytes.{length-flags, flags-over}
+use Rattle.words.proofs.Counting.{count-append, count-le, count-not}
+use Rattle.words.proofs.Plain.{window-part, at-over}
+use Rattle.words.proofs.Windows.{length-window, window-add, as-window, at-in, over-append, over-none}
 use Rattle.masks.specs.Builder.{filling, inProgress, builderFlags, builderChecks, noneFrom, Room}
 use Rattle.masks.specs.Checks.{firstFailed}
 use Rattle.masks.specs.Freeze.{allOnes, frozenMask, validityOf, freezeChecks, frozenOver}
 use Rattle.masks.specs.Frozen.{packed, frozen, frozenSize, overFrom}
+use Rattle.masks.specs.Mask.{maskFlags}
+use Rattle.masks.specs.Spans.{zeros}
 use Rattle.masks.specs.declared.bitmap.Bitmap.{Bitmap}
 use Rattle.masks.specs.declared.builder.BitmapBuilder.{BitmapBuilder}
 use Rattle.masks.proofs.AppendLaws.{low-count, low-window, window-front}
-use Rattle.masks.proofs.FrozenLaws.{Small, written-bytes}
+use Rattle.masks.proofs.FrozenLaws.{Small, flags-packed, written-bytes}
 use Rattle.masks.proofs.PushLaws.{window-behind}
 use Rattle.masks.proofs.RoomLaws.{finished, length-flags-of}
 
@@ -105,3 +107,42 @@ all-set b n e h = ap (λ (t : Bool). cond t none (some (frozenMask b))) (sym (eq
 
 pub not-all-set : (b : BitmapBuilder) (n : ℕ) (m : Bitmap) → n ≡ allOnes b → (n ≡ b .length → ⊥) → m ≡ frozenMask b → some m ≡ validityOf b
 not-all-set b n m e h p = ap some p ∙ ap (λ (t : Bool). cond t none (some (frozenMask b))) (sym (ne-eqb (allOnes b) (b .length) (λ q. h (e ∙ q))))
+
+-- ---- what the frozen bytes and the count stand for
+
+-- a list's own flags stand at the front of what its frozen bytes were written over
+frozen-front : (bytes : List ℕ) (l : List Bool) → frozenSize (length l) ≤ length bytes → window (flagsOf (over bytes (frozen l))) 0 (length l) ≡ l
+unfolding frozen
+frozen-front bytes l h =
+    let flags : flagsOf (over bytes (packed (frozenSize (length l)) l)) ≡ over (flagsOf bytes) (window l 0 (8 * frozenSize (length l))) =
+    flags-over bytes (packed (frozenSize (length l)) l) ∙ ap (over (flagsOf bytes)) (flags-packed (frozenSize (length l)) l) in
+    sym (as-window l (flagsOf (over bytes (packed (frozenSize (length l)) l))) 0 (length l) refl (λ j b.
+    let z : 0 + j ≡ j = omega arith in
+    sym (ap₂ (λ (t : List Bool) (x : ℕ). getD t x false) flags z
+    ∙ at-over (flagsOf bytes) (window l 0 (8 * frozenSize (length l))) j false
+    (omega (arith, length-window l 0 (8 * frozenSize (length l)))) (omega (arith, length-flags bytes))
+    ∙ at-in l 0 (8 * frozenSize (length l)) j (omega arith) ∙ ap (λ (x : ℕ). getD l x false) z)))
+
+-- the mask's flags are the builder's
+pub frozen-flags : (b : BitmapBuilder) (bytes : List ℕ) → Room b 0 (length bytes) → maskFlags (frozenMask b) (frozenOver b bytes) ≡ builderFlags (filling b bytes)
+unfolding frozenOver
+frozen-flags b bytes r =
+    let holds : 8 * ((b .length + 0 + 63) / 64) ≤ length bytes = r .holds in
+    ap (window (flagsOf (over bytes (frozen (builderFlags (filling b bytes))))) 0) (sym (length-flags-of (filling b bytes)))
+    ∙ frozen-front bytes (builderFlags (filling b bytes)) (omega (arith, length-flags-of (filling b bytes)))
+
+progress-count : (b : BitmapBuilder) → noneFrom (b .word) (b .length % 64) ≡ true → count (inProgress b) ≡ count (bits 64 (b .word))
+unfolding inProgress
+progress-count b e = low-count (b .length % 64) (b .word) e
+
+-- ones that are those of the finished words make all ones those of the builder's flags
+pub true-ones : (b : BitmapBuilder) (bytes : List ℕ) → Room b 0 (length bytes) → b .ones ≡ count (finished (filling b bytes)) → allOnes b ≡ count (builderFlags (filling b bytes))
+unfolding builderFlags
+true-ones b bytes r e =
+    ap₂ (λ (x y : ℕ). x + y) e (sym (progress-count b (r .low))) ∙ sym (count-append (finished (filling b bytes)) (inProgress b))
+
+-- and the known count that of its zeros
+pub true-zeros : (b : BitmapBuilder) (bytes : List ℕ) → Room b 0 (length bytes) → b .ones ≡ count (finished (filling b bytes))
+    → b .length - allOnes b ≡ zeros (builderFlags (filling b bytes))
+true-zeros b bytes r e =
+    omega (arith, true-ones b bytes r e, count-not (builderFlags (filling b bytes)), length-flags-of (filling b bytes))
