@@ -13,6 +13,7 @@ pub mod compare;
 mod cursor;
 mod extend;
 pub mod iterator;
+pub mod slice_iterator;
 mod span;
 pub mod true_idx;
 pub mod utils;
