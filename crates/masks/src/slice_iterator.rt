@@ -1,8 +1,9 @@
 // The runs of ones of a mask, one by one.
 ghost use mathlib.Core.Path.{_≡_};
-ghost use mathlib.Core.Bool.{true};
+ghost use mathlib.Core.Bool.{true, _&&_};
 ghost use Prim.Native.Nat.{_+_, _*_, _≤_};
-ghost use lib.ListN.{length};
+ghost use lib.Dec.{eqb, leb};
+ghost use lib.ListN.{length as ListN·length};
 ghost use Rattle.words.specs.Loops.{stretch};
 ghost use Rattle.masks.specs.Iterator.{leadingFrom};
 ghost use Rattle.masks.specs.SliceIterator.{slicesAnswer, newSlices, runOf, sliceAnswer, nextSlice};
@@ -10,6 +11,7 @@ use crate::bitmap::Bitmap;
 use crate::checks::mask_failure;
 use crate::cursor::cursor_failure;
 use crate::span::leading_from;
+use crate::span::least;
 
 // A cursor over the flags of a mask. The Rust's `SlicesIterator`, its bytes lent beside it.
 pub struct SlicesIterator {
@@ -36,14 +38,52 @@ pub enum Slice {
     Refused(u8, SlicesIterator),
 }
 
-// The run that begins at `first`.
+// Is a byte, read from its first bit on, all ones, with no end of the flags in it.
+fn all_ones(byte: u8, bit: usize, left: usize) -> bool
+    ensures { λ r. ⌜ r ≡ (eqb bit 0 && (eqb byte 255 && leb 8 left)) ⌝ }
+{
+    if bit == 0 {
+        if byte == 255 { left >= 8 } else { false }
+    } else {
+        false
+    }
+}
+
+// The run of ones that begins at `first`: over bytes and, inside them, over bits, both left at the run's end. A byte of ones
+// is passed over at once.
 fn run_from(bytes: &[u8], start: usize, length: usize, first: usize) -> Run
-    requires { ⌜ (start ≤ 4194304) × ((length ≤ 4194304) × (first ≤ length)) ⌝ }
+    requires { ⌜ (start ≤ 4194304) × ((length ≤ 4194304) × ((start + length ≤ 8 * ListN·length (now bytes)) × (first ≤ length))) ⌝ }
     ensures { λ r. ⌜ r ≡ runOf first (leadingFrom true (stretch (now (bytes .entry)) start length) first) ⌝ }
 {
-    Run {
-        start: first,
-        length: leading_from(true, bytes, start, length, first),
+    let mut at = first;
+    'bytes: loop {
+        if at >= length {
+            let ones = at - first;
+            break 'bytes Run {
+                start: first,
+                length: ones,
+            };
+        }
+        let flag = start + at;
+        let byte = bytes[flag / 8];
+        let mut bit = flag % 8;
+        let left = length - at;
+        if all_ones(byte, bit, left) {
+            at += 8;
+            continue 'bytes;
+        }
+        let stop = least(8, bit + left);
+        'bits: while bit < stop {
+            if (byte >> bit) % 2 == 0 {
+                let ones = at - first;
+                break 'bytes Run {
+                    start: first,
+                    length: ones,
+                };
+            }
+            bit += 1;
+            at += 1;
+        }
     }
 }
 

@@ -39,7 +39,7 @@ run-from-requires : tie.Need-run-from-requires
 run-from-requires c κs =
     let e = c .before .before .before .before in
     let span = cursor-allowed _ _ _ _ (sym (e .before .cursor-failure .ensures) ∙ e .if1 .left) in
-    (span .starts, (span .short, omega (arith, c .if2 .left)))
+    (span .starts, (span .short, (span .inside, omega (arith, c .if2 .left))))
 
 add-past : tie.Need-add-past
 add-past c =
