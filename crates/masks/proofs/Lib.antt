@@ -15,6 +15,7 @@ pub mod PartLaws
 pub mod PushLaws
 pub mod RoomLaws
 pub mod RunLaws
+pub mod RunsPlain
 pub mod SearchLaws
 pub mod SearchPlain
 pub mod SpanLaws

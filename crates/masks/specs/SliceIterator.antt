@@ -1,9 +1,9 @@
 -- The runs of ones of a mask, one by one. Assumes nothing.
-use Prim.Native.Nat.{ℕ, _+_}
+use Prim.Native.Nat.{ℕ, suc, _+_}
 use mathlib.Core.Bool.{Bool, true, false, cond}
-use mathlib.Core.List.{List}
-use lib.Dec.{ltb}
-use lib.ListN.{length}
+use mathlib.Core.List.{List, [], _∷_}
+use lib.Dec.{ltb, eqb}
+use lib.ListN.{length, drop}
 use Rattle.words.specs.Loops.{stretch}
 use Rattle.masks.specs.Answer.{Answer, given, refused, checked}
 use Rattle.masks.specs.Checks.{Check}
@@ -61,3 +61,25 @@ sliceAnswer (Slice·Refused k c) = refused k c
 
 unfoldable pub nextSlice : SlicesIterator → List ℕ → Answer SlicesIterator (Step SlicesIterator Run)
 nextSlice c bytes = checked (runChecks c bytes) c (sliceStep c (stretch bytes (c .start) (c .length)))
+
+-- ---- all runs of a list
+
+-- a one at k before the runs that follow it: it joins a run that begins just behind it
+unfoldable pub withOne : ℕ → List Run → List Run
+withOne k [] = runOf k 1 ∷ []
+withOne k (r ∷ rs) = cond (eqb (r .start) (suc k)) (runOf k (suc (r .length)) ∷ rs) (runOf k 1 ∷ (r ∷ rs))
+
+-- the runs of ones of a list whose first flag is number k, rising
+unfoldable pub runsFrom : ℕ → List Bool → List Run
+runsFrom k [] = []
+runsFrom k (false ∷ l) = runsFrom (suc k) l
+runsFrom k (true ∷ l) = withOne k (runsFrom (suc k) l)
+
+-- the runs that a cursor at a place has before it
+unfoldable pub runsLeft : List Bool → ℕ → List Run
+runsLeft l place = runsFrom place (drop place l)
+
+-- a step's run, and the runs that the cursor behind it has before it
+abbrev pub listed : List Bool → Step SlicesIterator Run → List Run
+listed l (item r c) = r ∷ runsLeft l (c .place)
+listed l (ended c) = []
