@@ -235,11 +235,11 @@ abbrev pub before : ℕ → List Check → Bool
 before k [] = true
 before k (c ∷ cs) = leb (rank (c .number)) (rank k) && before k cs
 
-and-left : (x y : Bool) → (x && y) ≡ true → x ≡ true
+pub and-left : (x y : Bool) → (x && y) ≡ true → x ≡ true
 and-left true y e = refl
 and-left false y e = e
 
-and-right : (x y : Bool) → (x && y) ≡ true → y ≡ true
+pub and-right : (x y : Bool) → (x && y) ≡ true → y ≡ true
 and-right true y e = e
 and-right false y e = absurd (let z : _≡_ {A = ℕ} 0 1 = cc e in omega arith)
 

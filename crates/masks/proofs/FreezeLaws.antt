@@ -20,7 +20,7 @@ use Rattle.masks.specs.Checks.{firstFailed}
 use Rattle.masks.specs.Freeze.{allOnes, frozenMask, validityOf, freezeChecks, frozenOver}
 use Rattle.masks.specs.Frozen.{packed, frozen, frozenSize, overFrom}
 use Rattle.masks.specs.Mask.{maskFlags}
-use Rattle.masks.specs.Spans.{zeros}
+use Rattle.masks.specs.Utils.{zeros}
 use Rattle.masks.specs.declared.bitmap.Bitmap.{Bitmap}
 use Rattle.masks.specs.declared.builder.BitmapBuilder.{BitmapBuilder}
 use Rattle.masks.proofs.AppendLaws.{low-count, low-window, window-front}

@@ -38,7 +38,7 @@ module _ (l : List Bool) (x : Bool) (at k r : ℕ) (inside : at + k ≤ length l
   parts = sym (take-append-drop k (drop at l)) ∙ ap₂ (λ (s t : List Bool). s ++ t) (sym (window-part l at k inside)) (drop-drop k at l)
 
   -- another flag stands among k flags
-  some-alike : r < k → leadingFrom x l at ≡ r
+  pub some-alike : r < k → leadingFrom x l at ≡ r
   unfolding leadingFrom
   some-alike h = ap (leading x) parts ∙ leading-some x (window l at k) (drop (at + k) l) (omega (arith, length-window l at k)) ∙ sym e
 
@@ -46,7 +46,7 @@ module _ (l : List Bool) (x : Bool) (at k r : ℕ) (inside : at + k ≤ length l
   no-more = omega (arith, leading-le x (window l at k), length-window l at k)
 
   -- all of them are alike
-  every-alike : k ≤ r → leadingFrom x l at ≡ r + leadingFrom x l (at + r)
+  pub every-alike : k ≤ r → leadingFrom x l at ≡ r + leadingFrom x l (at + r)
   unfolding leadingFrom
   every-alike h =
       let z : k ≡ r = omega (arith, no-more) in

@@ -16,6 +16,8 @@ pub mod PartLaws
 pub mod PushLaws
 pub mod RepeatLaws
 pub mod RoomLaws
+pub mod RunLaws
+pub mod RunsPlain
 pub mod SearchLaws
 pub mod SearchPlain
 pub mod SliceTruth

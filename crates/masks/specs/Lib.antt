@@ -14,6 +14,7 @@ pub mod Frozen
 pub mod Iterator
 pub mod Mask
 pub mod Search
+pub mod SliceIterator
 pub mod TrueCounts
 pub mod TrueIdx
 pub mod Utils

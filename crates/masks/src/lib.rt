@@ -17,6 +17,7 @@ mod gather;
 pub mod iterator;
 mod repeat;
 mod shortcuts;
+pub mod slice_iterator;
 mod span;
 pub mod true_idx;
 pub mod utils;
