@@ -144,5 +144,6 @@ true-ones b bytes r e =
 -- and the known count that of its zeros
 pub true-zeros : (b : BitmapBuilder) (bytes : List ℕ) → Room b 0 (length bytes) → b .ones ≡ count (finished (filling b bytes))
     → b .length - allOnes b ≡ zeros (builderFlags (filling b bytes))
+unfolding zeros
 true-zeros b bytes r e =
     omega (arith, true-ones b bytes r e, count-not (builderFlags (filling b bytes)), length-flags-of (filling b bytes))
