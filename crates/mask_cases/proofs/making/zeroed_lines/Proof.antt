@@ -1,0 +1,52 @@
+-- The loop counts up to 8, and what is written keeps its length.
+use Prim.Native.Nat.{_≤_, _-_}
+use mathlib.Core.Path.{_≡_}
+use lib.ListN.{length}
+use borrow.Author.Needs.{needs}
+use Rattle.mask_cases.proofs.making.zeroed_lines.Statement.{statement}
+use Rattle.mask_cases.proofs.making.zeroed_lines.Tie as tie
+
+abbrev Inv-loop : tie.InvT-loop
+Inv-loop out₀ i₀ out i = (i ≤ 8) × (length out ≡ length out₀)
+
+abbrev μ-loop : tie.MeasureT-loop
+μ-loop out₀ i₀ out i = 8 - i
+
+loop-holds : tie.Need-loop-holds Inv-loop μ-loop
+loop-holds c = search needs
+
+len-requires : tie.Need-len-requires Inv-loop μ-loop
+len-requires c κs = search needs
+
+zeroed-line-requires : tie.Need-zeroed-line-requires Inv-loop μ-loop
+zeroed-line-requires c κs = search needs
+
+add-i : tie.Need-add-i Inv-loop μ-loop
+add-i c = search needs
+
+loop-less : tie.Need-loop-less Inv-loop μ-loop
+loop-less c = search needs
+
+loop-again : tie.Need-loop-again Inv-loop μ-loop
+loop-again c = search needs
+
+same-length : tie.Need-same-length Inv-loop μ-loop
+same-length c = search needs
+
+returns : tie.Need-returns Inv-loop μ-loop
+returns c = search needs
+
+pub zeroed-lines-spec : {M : Type 1} → statement M
+zeroed-lines-spec =
+    tie.close
+    (tie.spec
+    Inv-loop
+    μ-loop
+    loop-holds
+    len-requires
+    zeroed-line-requires
+    add-i
+    loop-less
+    loop-again
+    same-length
+    returns)

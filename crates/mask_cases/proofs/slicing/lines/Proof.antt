@@ -1,0 +1,46 @@
+-- The loop counts up to 72.
+use Prim.Native.Nat.{_≤_, _-_}
+use borrow.Author.Needs.{needs}
+use Rattle.mask_cases.proofs.slicing.lines.Statement.{statement}
+use Rattle.mask_cases.proofs.slicing.lines.Tie as tie
+
+abbrev Inv-loop : tie.InvT-loop
+Inv-loop bytes i₀ i = i ≤ 72
+
+abbrev μ-loop : tie.MeasureT-loop
+μ-loop bytes i₀ i = 72 - i
+
+loop-holds : tie.Need-loop-holds Inv-loop μ-loop
+loop-holds c = search needs
+
+old-requires : tie.Need-old-requires Inv-loop μ-loop
+old-requires c κs = search needs
+
+line-requires : tie.Need-line-requires Inv-loop μ-loop
+line-requires c κs = search needs
+
+add-i : tie.Need-add-i Inv-loop μ-loop
+add-i c = search needs
+
+loop-less : tie.Need-loop-less Inv-loop μ-loop
+loop-less c = search needs
+
+loop-again : tie.Need-loop-again Inv-loop μ-loop
+loop-again c = search needs
+
+returns : tie.Need-returns Inv-loop μ-loop
+returns c = search needs
+
+pub lines-spec : {M : Type 1} → statement M
+lines-spec =
+    tie.close
+    (tie.spec
+    Inv-loop
+    μ-loop
+    loop-holds
+    old-requires
+    line-requires
+    add-i
+    loop-less
+    loop-again
+    returns)

@@ -1,0 +1,34 @@
+-- The loop counts up to 73.
+use Prim.Native.Nat.{_≤_, _-_}
+use borrow.Author.Needs.{needs}
+use Rattle.span_cases.proofs.aligned.start_lines.Statement.{statement}
+use Rattle.span_cases.proofs.aligned.start_lines.Tie as tie
+
+abbrev Inv-loop : tie.InvT-loop
+Inv-loop bytes i₀ i = i ≤ 73
+
+abbrev μ-loop : tie.MeasureT-loop
+μ-loop bytes i₀ i = 73 - i
+
+loop-holds : tie.Need-loop-holds Inv-loop μ-loop
+loop-holds c = search needs
+
+start-line-requires : tie.Need-start-line-requires Inv-loop μ-loop
+start-line-requires c κs = search needs
+
+add-i : tie.Need-add-i Inv-loop μ-loop
+add-i c = search needs
+
+loop-less : tie.Need-loop-less Inv-loop μ-loop
+loop-less c = search needs
+
+loop-again : tie.Need-loop-again Inv-loop μ-loop
+loop-again c = search needs
+
+returns : tie.Need-returns Inv-loop μ-loop
+returns c = search needs
+
+pub start-lines-spec : {M : Type 1} → statement M
+start-lines-spec =
+    tie.close
+    (tie.spec Inv-loop μ-loop loop-holds start-line-requires add-i loop-less loop-again returns)
