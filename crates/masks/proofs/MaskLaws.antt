@@ -68,7 +68,7 @@ pub within-both : (z cut n : ℕ) → cut ≤ z → z - cut ≤ n → Cut.Count 
 unfolding recountedOf
 within-both z cut n h k = rw (le-leb cut z h, le-leb (z - cut) n k)
 
--- what a cut says of question 7 and of the count
+-- what a cut says of check 7 and of the count
 pub cut-wrong : (old n cut : ℕ) (u : Unset) → Cut.Wrong ≡ cutOf old n cut u → recountValid old n cut u ≡ false
 cut-wrong old n cut u e = go (recountValid old n cut u) e
   where

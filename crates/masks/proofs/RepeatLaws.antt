@@ -96,7 +96,7 @@ product-often k n h q = subst (SameOrOver k) (mul-comm k n) (product-long n k h 
 pub product-fits : (k n : ℕ) → k ≤ limit → n ≤ limit → n * k ≤ 17592186044416
 product-fits k n h q = mul-le-mul q h
 
--- over the limit question 1 decides, which is the first
+-- over the limit check 1 decides, which is the first
 one-first : (x : ℕ) → earlier 1 x ≡ 1
 one-first zero = earlier-none 1
 one-first (suc x) = first-least 1 (suc x) (λ e. omega arith) (λ e. omega arith) (omega arith)

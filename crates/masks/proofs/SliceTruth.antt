@@ -1,4 +1,4 @@
--- A slice of a mask with a true count has a true count, and question 7 is never answered no; a slice of the whole changes
+-- A slice of a mask with a true count has a true count, and check 7 never fails; a slice of the whole changes
 -- nothing; the count of a combination is true of the flags it writes. Assumes nothing.
 use mathlib.Core.Path.{_≡_, refl, sym, ap, ap₂, _∙_, subst}
 use mathlib.Core.Bool.{Bool, true, false, not, cond, _&&_}
@@ -126,7 +126,7 @@ valid-slice : (m : Bitmap) (bytes : List ℕ) (offset n : ℕ) → offset + n �
 unfolding cutZeros
 valid-slice m bytes offset n h t = never-wrong (flagsOf bytes) (m .start) (m .length) offset n h (m .unset) t
 
--- with a true count question 7 decides nothing
+-- with a true count check 7 decides nothing
 pub slice-accepted : (m : Bitmap) (bytes : List ℕ) (offset n : ℕ) → Truthful m bytes → sliceOf m bytes offset n ≡ checked (pieceChecks m bytes offset n) m (slicedMask m bytes offset n)
 unfolding decided
 slice-accepted m bytes offset n t = go (firstFailed (pieceChecks m bytes offset n)) refl

@@ -66,7 +66,7 @@ splitFlags bytes s = prefixFlags s ++ (bulkFlags bytes s ++ suffixFlags s)
 abbrev pub emptySplit : AlignedBitmapSlice
 emptySplit = record { prefix = 0; «prefix_len» = 0; «bulk_start» = 0; «bulk_len» = 0; suffix = 0; «suffix_len» = 0 }
 
--- questions 1, 2 and 8
+-- checks 1, 2 and 8
 unfoldable pub alignedChecks : ℕ → ℕ → ℕ → ℕ → List Check
 alignedChecks start n size address = spanChecks start n size ++ addressChecks address
 

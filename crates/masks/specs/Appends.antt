@@ -29,11 +29,11 @@ abbrev pub pushedAnswer : Pushed → Answer BitmapBuilder BitmapBuilder
 pushedAnswer (Done b) = given b
 pushedAnswer (Refused n b) = refused n b
 
--- questions 1, 4 and 9, of a call that appends n flags
+-- checks 1, 4 and 9, of a call that appends n flags
 abbrev pub growChecks : BitmapBuilder → ℕ → ℕ → List Check
 growChecks b n size = builderChecks b (b .length + n) size
 
--- of a word besides these: its stated length, and question 6
+-- of a word besides these: its stated length, and check 6
 unfoldable pub wordChecks : BitmapBuilder → ℕ → ℕ → ℕ → List Check
 wordChecks b size word n = growChecks b n size ++ (withinLimit n ∷ check 6 (leb n 64 && noneFrom word n) ∷ [])
 
@@ -41,15 +41,15 @@ wordChecks b size word n = growChecks b n size ++ (withinLimit n ∷ check 6 (le
 unfoldable pub constantChecks : BitmapBuilder → ℕ → ℕ → List Check
 constantChecks b size n = growChecks b n size ++ (withinLimit n ∷ [])
 
--- of a span, where m flags are appended: questions 1 and 2 of it besides
+-- of a span, where m flags are appended: checks 1 and 2 of it besides
 unfoldable pub spanGrowChecks : BitmapBuilder → List ℕ → List ℕ → ℕ → ℕ → ℕ → List Check
 spanGrowChecks b buf bytes start n m = spanChecks start n (length bytes) ++ growChecks b m (length buf)
 
--- questions 1 and 6 of a piece of n flags from `start` on, in a mask of so many flags
+-- checks 1 and 6 of a piece of n flags from `start` on, in a mask of so many flags
 unfoldable pub pieceChecks : ℕ → ℕ → ℕ → List Check
 pieceChecks start n whole = withinLimit start ∷ withinLimit n ∷ check 6 (leb (start + n) whole) ∷ []
 
--- of a piece of a mask besides questions 1, 4 and 9: the mask's, and the piece's
+-- of a piece of a mask besides checks 1, 4 and 9: the mask's, and the piece's
 unfoldable pub subsliceChecks : BitmapBuilder → List ℕ → Bitmap → List ℕ → ℕ → ℕ → List Check
 subsliceChecks b buf m bytes start n = maskChecks m bytes ++ (pieceChecks start n (m .length) ++ growChecks b n (length buf))
 
@@ -58,7 +58,7 @@ unfoldable pub allBelow : ℕ → List ℕ → Bool
 allBelow n [] = true
 allBelow n (i ∷ idxs) = ltb i n && allBelow n idxs
 
--- of a gather besides those of its span: question 6
+-- of a gather besides those of its span: check 6
 unfoldable pub gatherChecks : BitmapBuilder → List ℕ → List ℕ → ℕ → ℕ → List ℕ → List Check
 gatherChecks b buf bytes start n idxs = spanGrowChecks b buf bytes start n (length idxs) ++ (check 6 (allBelow n idxs) ∷ [])
 

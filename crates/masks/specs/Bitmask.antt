@@ -18,7 +18,7 @@ use Rattle.masks.specs.declared.bitmask.Window.the-variants.{Flags, Refu
 abbrev pub spanOf : ℕ → ℕ → Span
 spanOf start n = record { start = start; length = n }
 
--- questions 1, 2 and 6. The second part's start is put to question 1 too.
+-- checks 1, 2 and 6. The second part's start is put to check 1 too.
 unfoldable pub splitChecks : ℕ → ℕ → ℕ → ℕ → List Check
 splitChecks start n at size = spanChecks start n size ++ (withinLimit (start + at) ∷ check 6 (leb at n) ∷ [])
 
@@ -40,6 +40,6 @@ abbrev pub windowAnswer : Window → Answer (Unit {0}) ℕ
 windowAnswer (Flags w) = given w
 windowAnswer (Window·Refused n) = refused n tt
 
--- questions 1 and 2
+-- checks 1 and 2
 unfoldable pub windowAt : List ℕ → ℕ → ℕ → ℕ → Answer (Unit {0}) ℕ
 windowAt bytes start n index = checked (spanChecks start n (length bytes)) tt (windowWord bytes start n index)

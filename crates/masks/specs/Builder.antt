@@ -49,13 +49,13 @@ builderFlags f = window (flagsOf (f .bytes)) 0 (64 * (f .builder .length / 64)) 
 abbrev pub noneFrom : ℕ → ℕ → Bool
 noneFrom w k = not (anySet (drop k (wordFlags w)))
 
--- question 4: no bit in the word from length mod 64 up, ones at most those of the finished words, a buffer that holds these
+-- check 4: no bit in the word from length mod 64 up, ones at most those of the finished words, a buffer that holds these
 unfoldable pub possible : BitmapBuilder → ℕ → Bool
 possible b size =
     noneFrom (b .word) (b .length % 64)
     && (leb (b .ones) (64 * (b .length / 64)) && leb (8 * (b .length / 64)) size)
 
--- questions 1, 4 and 9 of a call that makes the builder n flags long, over a buffer of so many bytes
+-- checks 1, 4 and 9 of a call that makes the builder n flags long, over a buffer of so many bytes
 unfoldable pub builderChecks : BitmapBuilder → ℕ → ℕ → List Check
 builderChecks b n size = withinLimit (b .length) ∷ withinLimit n ∷ check 4 (possible b size) ∷ outputChecks n size
 

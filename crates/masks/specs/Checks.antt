@@ -14,7 +14,7 @@ pub record Check : Type 0 where
 abbrev pub check : ℕ → Bool → Check
 check n t = record { number = n; holds = t }
 
--- the order in which the questions are put
+-- the order of the checks
 abbrev pub rank : ℕ → ℕ
 rank n = n
 
@@ -38,18 +38,18 @@ limit = 4194304
 
 -- ---- the pieces
 
--- question 1, of a start or a length
+-- check 1, of a start or a length
 abbrev pub withinLimit : ℕ → Check
 withinLimit n = check 1 (leb n limit)
 
--- questions 1 and 2, of a span over so many bytes
+-- checks 1 and 2, of a span over so many bytes
 unfoldable pub spanChecks : ℕ → ℕ → ℕ → List Check
 spanChecks start n size = withinLimit start ∷ withinLimit n ∷ check 2 (leb (start + n) (8 * size)) ∷ []
 
--- question 8, of an address remainder
+-- check 8, of an address remainder
 unfoldable pub addressChecks : ℕ → List Check
 addressChecks address = check 8 (leb address 7) ∷ []
 
--- question 9, of an output of so many bytes for n flags
+-- check 9, of an output of so many bytes for n flags
 unfoldable pub outputChecks : ℕ → ℕ → List Check
 outputChecks n size = check 9 (leb (8 * ((n + 63) / 64)) size) ∷ []

@@ -27,7 +27,7 @@ abbrev pub chunksAnswer : Chunks → Answer (Unit {0}) BitChunks
 chunksAnswer (Cursor c) = given c
 chunksAnswer (Chunks·Refused n) = refused n tt
 
--- questions 1 and 2
+-- checks 1 and 2
 unfoldable pub newChunks : List ℕ → ℕ → ℕ → Answer (Unit {0}) BitChunks
 newChunks bytes start n = checked (spanChecks start n (length bytes)) tt (chunksAt start n 0)
 
@@ -49,7 +49,7 @@ chunkAnswer (Word w c) = given (item w c)
 chunkAnswer (Done c) = given (ended c)
 chunkAnswer (Chunk·Refused n c) = refused n c
 
--- questions 1, 2 and 6
+-- checks 1, 2 and 6
 abbrev pub chunkChecks : BitChunks → List ℕ → List Check
 chunkChecks c bytes = cursorChecks (c .start) (c .length) (c .place) (length bytes)
 

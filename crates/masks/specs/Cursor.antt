@@ -4,7 +4,7 @@ use mathlib.Core.List.{List, [], _∷_, _++_}
 use lib.Dec.{leb}
 use Rattle.masks.specs.Checks.{Check, check, spanChecks}
 
--- questions 1, 2 and 6, of a cursor over so many bytes
+-- checks 1, 2 and 6, of a cursor over so many bytes
 unfoldable pub cursorChecks : ℕ → ℕ → ℕ → ℕ → List Check
 cursorChecks start n place size = spanChecks start n size ++ (check 6 (leb place n) ∷ [])
 

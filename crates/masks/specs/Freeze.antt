@@ -29,7 +29,7 @@ frozenMask b = record { start = 0; length = b .length; unset = Known (b .length 
 abbrev pub validityOf : BitmapBuilder → Option Bitmap
 validityOf b = cond (eqb (allOnes b) (b .length)) none (some (frozenMask b))
 
--- questions 1, 4 and 9
+-- checks 1, 4 and 9
 abbrev pub freezeChecks : BitmapBuilder → ℕ → List Check
 freezeChecks b size = builderChecks b (b .length) size
 

@@ -34,11 +34,11 @@ abbrev pub iterAnswer : Iter → Answer (Unit {0}) BitmapIter
 iterAnswer (Cursor c) = given c
 iterAnswer (Iter·Refused n) = refused n tt
 
--- questions 1 and 2; for length 0, before them, a cursor that is all 0
+-- checks 1 and 2; for length 0, before them, a cursor that is all 0
 unfoldable pub newIter : List ℕ → ℕ → ℕ → Answer (Unit {0}) BitmapIter
 newIter bytes start n = unlessEmpty n (given (iterAt 0 0 0)) (checked (spanChecks start n (length bytes)) tt (iterAt start n 0))
 
--- ---- a flag: questions 1, 2 and 6
+-- ---- a flag: checks 1, 2 and 6
 
 abbrev pub iterChecks : BitmapIter → List ℕ → List Check
 iterChecks c bytes = cursorChecks (c .start) (c .length) (c .place) (length bytes)
@@ -58,7 +58,7 @@ flagAnswer (Flag·Refused n c) = refused n c
 unfoldable pub nthFlag : BitmapIter → List ℕ → ℕ → Answer BitmapIter (Step BitmapIter Bool)
 nthFlag c bytes k = checked (iterChecks c bytes) c (flagStep bytes c k)
 
--- ---- how many alike: questions 1, 2 and 6
+-- ---- how many alike: checks 1, 2 and 6
 
 -- how many flags x stand from a place on
 unfoldable pub leadingFrom : Bool → List Bool → ℕ → ℕ

@@ -28,7 +28,7 @@ maskFlags m bytes = stretch bytes (m .start) (m .length)
 
 -- ---- the zero count
 
--- question 3: a known zero count is at most the length
+-- check 3: a known zero count is at most the length
 abbrev pub countFits : Unset → ℕ → Bool
 countFits (Known z) n = leb z n
 countFits Unknown n = true
@@ -48,7 +48,7 @@ zeroCount m bytes = countOr (m .unset) (zeros (maskFlags m bytes))
 abbrev pub uncounted : ℕ → Unset
 uncounted n = cond (eqb n 0) (Known 0) Unknown
 
--- questions 1 to 3, of a mask
+-- checks 1 to 3, of a mask
 unfoldable pub maskChecks : Bitmap → List ℕ → List Check
 maskChecks m bytes = spanChecks (m .start) (m .length) (length bytes) ++ (check 3 (countValid m bytes) ∷ [])
 
@@ -64,7 +64,7 @@ madeAnswer (Made.Refused k) = refused k tt
 unfoldable pub tryNewOf : List ℕ → ℕ → ℕ → Answer (Unit {0}) Bitmap
 tryNewOf bytes start n = checked (spanChecks start n (length bytes)) tt (maskOf start n (uncounted n))
 
--- questions 1 and 9, of a mask of n zeros in an output
+-- checks 1 and 9, of a mask of n zeros in an output
 unfoldable pub zeroedChecks : ℕ → ℕ → List Check
 zeroedChecks n size = withinLimit n ∷ outputChecks n size
 
@@ -108,7 +108,7 @@ abbrev pub slicedCount : ℕ → ℕ → ℕ → Unset → Unset
 slicedCount old n cut Unknown = Unknown
 slicedCount old n cut (Known z) = cond (recounts old n z) (Known (z - cut)) (keptCount z old n)
 
--- question 7, put where the slice recounts
+-- check 7, made where the slice recounts
 abbrev pub recountValid : ℕ → ℕ → ℕ → Unset → Bool
 recountValid old n cut Unknown = true
 recountValid old n cut (Known z) = cond (recounts old n z) (leb cut z && leb (z - cut) n) true
@@ -117,11 +117,11 @@ recountValid old n cut (Known z) = cond (recounts old n z) (leb cut z && leb (z 
 unfoldable pub recountedOf : ℕ → ℕ → ℕ → Cut
 recountedOf z cut n = cond (leb cut z && leb (z - cut) n) (Cut.Count (Known (z - cut))) Cut.Wrong
 
--- the count of a slice, or that question 7 is answered no
+-- the count of a slice, or that check 7 fails
 abbrev pub cutOf : ℕ → ℕ → ℕ → Unset → Cut
 cutOf old n cut u = cond (recountValid old n cut u) (Cut.Count (slicedCount old n cut u)) Cut.Wrong
 
--- questions 1, 2, 3 and 6
+-- checks 1, 2, 3 and 6
 unfoldable pub pieceChecks : Bitmap → List ℕ → ℕ → ℕ → List Check
 pieceChecks m bytes offset n =
     maskChecks m bytes
@@ -142,7 +142,7 @@ slicedAnswer (Sliced.Refused k m) = refused k m
 unfoldable pub sliceOf : Bitmap → List ℕ → ℕ → ℕ → Answer Bitmap Bitmap
 sliceOf m bytes offset n = checked (sliceChecks m bytes offset n) m (slicedMask m bytes offset n)
 
--- what is known of a piece whose questions 1, 2, 3 and 6 are answered yes
+-- what is known of a piece whose checks 1, 2, 3 and 6 have passed
 pub record PieceAllowed (m : Bitmap) (offset n : ℕ) : Type 0 where
   pub starts : m .start ≤ limit
   pub short : m .length ≤ limit

@@ -27,7 +27,7 @@ nthBack l n end = cond (ltb n (count (take end l))) (some (nthPlace (take end l)
 unfoldable pub seen : List Bool → ℕ → Seen
 seen l n = cond (ltb n (count l)) (There (nthPlace l n)) (Only (count l))
 
--- ---- the calls: questions 1 and 2
+-- ---- the calls: checks 1 and 2
 
 abbrev pub positionAnswer : Position → Answer (Unit {0}) (Option ℕ)
 positionAnswer (At k) = given (some k)

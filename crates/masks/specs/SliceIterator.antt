@@ -29,7 +29,7 @@ slicesMoved c place = slicesAt (c .start) (c .length) place
 abbrev pub runOf : ℕ → ℕ → Run
 runOf first n = record { start = first; length = n }
 
--- ---- a new cursor: questions 1 to 3
+-- ---- a new cursor: checks 1 to 3
 
 abbrev pub slicesAnswer : Slices → Answer (Unit {0}) SlicesIterator
 slicesAnswer (Cursor c) = given c
@@ -38,7 +38,7 @@ slicesAnswer (Slices·Refused k) = refused k tt
 unfoldable pub newSlices : Bitmap → List ℕ → Answer (Unit {0}) SlicesIterator
 newSlices m bytes = checked (maskChecks m bytes) tt (slicesAt (m .start) (m .length) 0)
 
--- ---- the next run: questions 1, 2 and 6
+-- ---- the next run: checks 1, 2 and 6
 
 abbrev pub runChecks : SlicesIterator → List ℕ → List Check
 runChecks c bytes = cursorChecks (c .start) (c .length) (c .place) (length bytes)

@@ -30,7 +30,7 @@ trueMoved c place = trueAt (c .start) (c .length) place (c .masked)
 
 -- ---- a new cursor
 
--- questions 1 to 3 and 5; with no mask, question 1
+-- checks 1 to 3 and 5; with no mask, check 1
 unfoldable pub newTrueChecks : ℕ → Optional → List ℕ → List Check
 newTrueChecks n (Present m) bytes = (withinLimit n ∷ []) ++ (maskChecks m bytes ++ (check 5 (eqb n (m .length)) ∷ []))
 newTrueChecks n Absent bytes = withinLimit n ∷ []
@@ -53,7 +53,7 @@ newTrue n mask bytes = checked (newTrueChecks n mask bytes) tt (firstTrue n mask
 unfoldable pub trueFlags : TrueIdxIter → List ℕ → List Bool
 trueFlags c bytes = cond (c .masked) (stretch bytes (c .start) (c .length)) (copies (c .length) true)
 
--- questions 1, 2 and 6; with no mask, 1 and 6
+-- checks 1, 2 and 6; with no mask, 1 and 6
 unfoldable pub trueChecks : TrueIdxIter → ℕ → List Check
 trueChecks c size =
     cond (c .masked) (cursorChecks (c .start) (c .length) (c .place) size)

@@ -17,7 +17,7 @@ abbrev pub countedAnswer : Counted → Answer (Unit {0}) ℕ
 countedAnswer (Count n) = given n
 countedAnswer (Refused k) = refused k tt
 
--- the answer of a count over a span of n flags: 0 before any check where there is none, else the value after questions 1, 2
+-- the answer of a count over a span of n flags: 0 before any check where there is none, else the value after checks 1, 2
 -- and 8
 unfoldable pub spanCount : List ℕ → ℕ → ℕ → ℕ → ℕ → Answer (Unit {0}) ℕ
 spanCount bytes start n address value =

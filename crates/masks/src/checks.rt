@@ -27,7 +27,7 @@ pub(crate) fn earlier(a: u8, b: u8) -> u8
     if rank(a) <= rank(b) { a } else { b }
 }
 
-// The place of a number in the order of the questions.
+// The place of a number in the order of the checks.
 fn rank(number: u8) -> u8
     ensures { λ r. ⌜ r ≡ Checks·rank number ⌝ }
 {

@@ -1,7 +1,7 @@
 // Permission masks over lent bytes: spans, the mask's record, and what is asked of them. A mask has one flag for each truck.
 //
-// Every call answers on every input: it puts document 01's questions (checks.rt) in their order and gives back the number of the
-// first one answered no, with the state it got. Nothing is written before the last check has passed.
+// Every call answers on every input: it makes document 01's checks (checks.rt) in their order and gives back the number of the
+// first that fails, with the state it got. Nothing is written before the last check has passed.
 pub mod aligned;
 pub mod bitmap;
 pub mod bitmap_ops;
