@@ -14,6 +14,7 @@ pub mod MaskLaws
 pub mod PartLaws
 pub mod PushLaws
 pub mod RoomLaws
+pub mod RunExample
 pub mod RunLaws
 pub mod RunsPlain
 pub mod SearchLaws
