@@ -16,6 +16,7 @@ pub mod PartLaws
 pub mod PushLaws
 pub mod RepeatLaws
 pub mod RoomLaws
+pub mod RunExample
 pub mod RunLaws
 pub mod RunsPlain
 pub mod SearchLaws
