@@ -9,7 +9,7 @@ from mask_lists import *
 from flag_lists import hex_bytes
 
 LENS = [0, 1, 8, 63, 64, 65, 128, 129]
-FAR = [0, 3, 319, 320, 321, LIMIT - 1, LIMIT, LIMIT + 1, 2**61, 2**63, LARGEST - 63, LARGEST - 7, LARGEST - 2, LARGEST]
+FAR = [0, 2, 319, 320, 321, LIMIT - 1, LIMIT, LIMIT + 1, 2**61, 2**63, LARGEST - 63, LARGEST - 7, LARGEST - 2, LARGEST]
 KINDS = [0, 1, 8]
 
 

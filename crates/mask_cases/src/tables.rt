@@ -19,7 +19,7 @@ pub fn len(i: usize) -> usize {
 pub fn far(i: usize) -> usize {
     match i {
         0 => 0,
-        1 => 3,
+        1 => 2,
         2 => 319,
         3 => 320,
         4 => 321,
