@@ -1,4 +1,5 @@
 -- The laws of the crate, a file for each topic.
+pub mod Accepted
 pub mod AppendLaws
 pub mod BitmaskLaws
 pub mod CheckLaws

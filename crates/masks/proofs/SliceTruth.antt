@@ -50,7 +50,7 @@ unfolding zeros
 zeros-of-zeros n = omega (arith, count-not (copies n false), length-copies n false, count-none-set n)
 
 -- where nothing is counted
-none-true : (n : ℕ) (l : List Bool) → length l ≡ n → TrueCount (uncounted n) l
+pub none-true : (n : ℕ) (l : List Bool) → length l ≡ n → TrueCount (uncounted n) l
 none-true n l e = go (eqb n 0) refl
   where
     go : (t : Bool) → eqb n 0 ≡ t → TrueCount (cond t (Known 0) Unknown) l
