@@ -111,7 +111,7 @@ not-all-set b n m e h p = ap some p ∙ ap (λ (t : Bool). cond t none (some (fr
 -- ---- what the frozen bytes and the count stand for
 
 -- a list's own flags stand at the front of what its frozen bytes were written over
-frozen-front : (bytes : List ℕ) (l : List Bool) → frozenSize (length l) ≤ length bytes → window (flagsOf (over bytes (frozen l))) 0 (length l) ≡ l
+pub frozen-front : (bytes : List ℕ) (l : List Bool) → frozenSize (length l) ≤ length bytes → window (flagsOf (over bytes (frozen l))) 0 (length l) ≡ l
 unfolding frozen
 frozen-front bytes l h =
     let flags : flagsOf (over bytes (packed (frozenSize (length l)) l)) ≡ over (flagsOf bytes) (window l 0 (8 * frozenSize (length l))) =

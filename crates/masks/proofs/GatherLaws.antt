@@ -24,7 +24,7 @@ unfolding gathered
 gathered-append l [] b = refl
 gathered-append l (i ∷ a) b = ap (λ (t : List Bool). getD l i false ∷ t) (gathered-append l a b)
 
-length-gathered : (l : List Bool) (a : List ℕ) → length (gathered l a) ≡ length a
+pub length-gathered : (l : List Bool) (a : List ℕ) → length (gathered l a) ≡ length a
 unfolding gathered
 length-gathered l [] = refl
 length-gathered l (i ∷ a) = ap suc (length-gathered l a)

@@ -11,6 +11,7 @@ pub mod ExtendLaws
 pub mod FreezeLaws
 pub mod FrozenLaws
 pub mod GatherLaws
+pub mod HistoryLaws
 pub mod IteratorLaws
 pub mod MaskLaws
 pub mod PartLaws

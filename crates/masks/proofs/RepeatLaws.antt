@@ -26,7 +26,7 @@ unfolding repeated
 repeated-append k [] b = refl
 repeated-append k (x ∷ a) b = ap (λ (t : List Bool). copies k x ++ t) (repeated-append k a b) ∙ sym (append-assoc (copies k x) (repeated k a) (repeated k b))
 
-length-repeated : (k : ℕ) (l : List Bool) → length (repeated k l) ≡ length l * k
+pub length-repeated : (k : ℕ) (l : List Bool) → length (repeated k l) ≡ length l * k
 unfolding repeated
 length-repeated k [] = sym (zero-mul k)
 length-repeated k (x ∷ l) =

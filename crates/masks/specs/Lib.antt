@@ -11,6 +11,7 @@ pub mod Compare
 pub mod Cursor
 pub mod Freeze
 pub mod Frozen
+pub mod History
 pub mod Iterator
 pub mod Mask
 pub mod Search
