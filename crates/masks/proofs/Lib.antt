@@ -12,6 +12,7 @@ pub mod FreezeLaws
 pub mod FrozenLaws
 pub mod GatherLaws
 pub mod HistoryLaws
+pub mod HistoryMasks
 pub mod IteratorLaws
 pub mod MaskLaws
 pub mod PartLaws
