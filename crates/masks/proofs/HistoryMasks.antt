@@ -68,24 +68,24 @@ count-holds m bytes l (suc k) s = s
 
 -- ---- combinations
 
-length-zip3 : (f : Bool → Bool → Bool → Bool) (a b c : List Bool) → length a ≡ length b → length a ≡ length c → length (zip3 f a b c) ≡ length a
+pub length-zip3 : (f : Bool → Bool → Bool → Bool) (a b c : List Bool) → length a ≡ length b → length a ≡ length c → length (zip3 f a b c) ≡ length a
 unfolding zip3
 length-zip3 f [] b c p q = refl
 length-zip3 f (x ∷ a) [] c p q = absurd (omega arith)
 length-zip3 f (x ∷ a) (y ∷ b) [] p q = absurd (omega arith)
 length-zip3 f (x ∷ a) (y ∷ b) (z ∷ c) p q = ap suc (length-zip3 f a b c (omega arith) (omega arith))
 
-length-zip2 : (f : Bool → Bool → Bool) (a b : List Bool) → length a ≡ length b → length (zipWith f a b) ≡ length a
+pub length-zip2 : (f : Bool → Bool → Bool) (a b : List Bool) → length a ≡ length b → length (zipWith f a b) ≡ length a
 unfolding zipWith
 length-zip2 f [] b p = refl
 length-zip2 f (x ∷ a) [] p = absurd (omega arith)
 length-zip2 f (x ∷ a) (y ∷ b) p = ap suc (length-zip2 f a b (omega arith))
 
-length-not : (a : List Bool) → length (map not a) ≡ length a
+pub length-not : (a : List Bool) → length (map not a) ≡ length a
 length-not [] = refl
 length-not (x ∷ a) = ap suc (length-not a)
 
-output-allowed : (n size : ℕ) → firstFailed (outputChecks n size) ≡ 0 → 8 * ((n + 63) / 64) ≤ size
+pub output-allowed : (n size : ℕ) → firstFailed (outputChecks n size) ≡ 0 → 8 * ((n + 63) / 64) ≤ size
 unfolding outputChecks
 output-allowed n size e = leb-true (8 * ((n + 63) / 64)) size (check-allowed 8 (leb (8 * ((n + 63) / 64)) size) e)
 
@@ -107,7 +107,7 @@ module _ (m : Bitmap) (bytes : List ℕ) (l : List Bool) (s : Stands m bytes l) 
   fair-at own t = s .counts
   fair-at (other n its) t = t
 
-  flags-at : (p : Argument) → maskFlags (maskAt m p) (bytesAt bytes p) ≡ flagsAt l p
+  pub flags-at : (p : Argument) → maskFlags (maskAt m p) (bytesAt bytes p) ≡ flagsAt l p
   flags-at own = s .flags
   flags-at (other n its) = refl
 

@@ -13,6 +13,7 @@ pub mod FrozenLaws
 pub mod GatherLaws
 pub mod HistoryLaws
 pub mod HistoryMasks
+pub mod HistoryTheorem
 pub mod IteratorLaws
 pub mod MaskLaws
 pub mod PartLaws
