@@ -84,7 +84,7 @@ grows (optGather bytes start n idxs) b buf e =
     sized b (length idxs) (length (gathered (stretch bytes start n) idxs)) (length buf) (length-gathered (stretch bytes start n) idxs)
     (both-right (spanChecks start n (length bytes)) (growChecks b (length idxs) (length buf)) e)
 
-builds-after : (f : Filling) (l fl : List Bool) → Builds f l → Room (f .builder) (length fl) (length (f .bytes)) → Builds (appended f fl) (l ++ fl)
+pub builds-after : (f : Filling) (l fl : List Bool) → Builds f l → Room (f .builder) (length fl) (length (f .bytes)) → Builds (appended f fl) (l ++ fl)
 builds-after f l fl i r =
     record {
       room = room-after f (appended f fl) fl (length fl) 0 refl (omega arith) r;
@@ -94,7 +94,7 @@ builds-after f l fl i r =
 
 pub append-holds : (a : Append) (f : Filling) (l : List Bool) (k : ℕ) → k ≡ firstFailed (appendChecks a (f .builder) (f .bytes)) → Builds f l
     → let o = afterAppend (kept k (appended f (appendFlags a) .bytes) (f .bytes)) (decided k (f .builder) (appended f (appendFlags a) .builder)) in
-      Holds (o .state) (cond (o .accepted) (l ++ appendFlags a) l)
+    Holds (o .state) (cond (o .accepted) (l ++ appendFlags a) l)
 unfolding kept decided
 append-holds a f l zero e i = builds-after f l (appendFlags a) i (room-of (f .builder) (length (appendFlags a)) (length (f .bytes)) (grows a (f .builder) (f .bytes) (sym e)))
 append-holds a f l (suc k) e i = i
@@ -118,14 +118,14 @@ frozen-stands f l i =
 
 pub freeze-holds : (f : Filling) (l : List Bool) (k : ℕ) → Builds f l
     → let o = afterFreeze (kept k (frozenOver (f .builder) (f .bytes)) (f .bytes)) (decided k (f .builder) (frozenMask (f .builder))) in
-      Holds (o .state) (cond (o .accepted) l l)
+    Holds (o .state) (cond (o .accepted) l l)
 unfolding kept decided
 freeze-holds f l zero i = frozen-stands f l i
 freeze-holds f l (suc k) i = i
 
 pub validity-holds : (f : Filling) (l : List Bool) (k : ℕ) (t : Bool) → Builds f l
     → let o = afterValidity (kept k (frozenOver (f .builder) (f .bytes)) (f .bytes)) (decided k (f .builder) (cond t none (some (frozenMask (f .builder))))) in
-      Holds (o .state) (cond (o .accepted) l l)
+    Holds (o .state) (cond (o .accepted) l l)
 unfolding kept decided
 validity-holds f l zero true i = tt
 validity-holds f l zero false i = frozen-stands f l i

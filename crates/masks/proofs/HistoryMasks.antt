@@ -45,7 +45,7 @@ piece-starts m bytes offset n e =
 
 pub slice-holds : (m : Bitmap) (bytes : List ℕ) (l : List Bool) (offset n k : ℕ) → k ≡ firstFailed (pieceChecks m bytes offset n) → Stands m bytes l
     → let o = afterSlice bytes (decided k m (slicedMask m bytes offset n)) in
-      Holds (o .state) (cond (o .accepted) (window l offset n) l)
+    Holds (o .state) (cond (o .accepted) (window l offset n) l)
 unfolding decided
 slice-holds m bytes l offset n zero e s =
     let p = piece-allowed m bytes offset n (sym e) in
@@ -61,7 +61,7 @@ slice-holds m bytes l offset n (suc k) e s = s
 
 pub count-holds : (m : Bitmap) (bytes : List ℕ) (l : List Bool) (k : ℕ) → Stands m bytes l
     → let o = afterCount bytes (decided k m (record { mask = maskOf (m .start) (m .length) (Known (zeroCount m bytes)); zeros = zeroCount m bytes })) in
-      Holds (o .state) (cond (o .accepted) l l)
+    Holds (o .state) (cond (o .accepted) l l)
 unfolding decided
 count-holds m bytes l zero s = record { starts = s .starts; short = s .short; inside = s .inside; flags = s .flags; counts = true-count m bytes (s .counts) }
 count-holds m bytes l (suc k) s = s
@@ -113,8 +113,8 @@ module _ (m : Bitmap) (bytes : List ℕ) (l : List Bool) (s : Stands m bytes l) 
 
   pub pair-holds : (op : Op) (p q : Argument) (out : List ℕ) (k : ℕ) → k ≡ firstFailed (pairChecks (maskAt m p) (bytesAt bytes p) (maskAt m q) (bytesAt bytes q) (length out))
       → let o = afterCombined m bytes (kept k (over out (frozen (pairFlags op (maskAt m p) (bytesAt bytes p) (maskAt m q) (bytesAt bytes q)))) out)
-            (decided k tt (pairMask op (maskAt m p) (bytesAt bytes p) (maskAt m q) (bytesAt bytes q))) in
-        (o .accepted ≡ true → FairAt p × FairAt q) → Holds (o .state) (cond (o .accepted) (zip3 (opOf op) (flagsAt l p) (flagsAt l q) (flagsAt l q)) l)
+      (decided k tt (pairMask op (maskAt m p) (bytesAt bytes p) (maskAt m q) (bytesAt bytes q))) in
+      (o .accepted ≡ true → FairAt p × FairAt q) → Holds (o .state) (cond (o .accepted) (zip3 (opOf op) (flagsAt l p) (flagsAt l q) (flagsAt l q)) l)
   unfolding kept decided pairMask pairFlags pairChecks
   pair-holds op p q out zero e fair =
       let a = maskAt m p in
@@ -139,7 +139,7 @@ module _ (m : Bitmap) (bytes : List ℕ) (l : List Bool) (s : Stands m bytes l) 
   pub each-holds : (n : ℕ) (F G : List Bool) (cs : List Check) (out : List ℕ) (k : ℕ) → k ≡ firstFailed cs
       → (firstFailed cs ≡ 0 → (length F ≡ n) × ((n ≤ limit) × (8 * ((n + 63) / 64) ≤ length out))) → F ≡ G
       → let o = afterCombined m bytes (kept k (over out (frozen F)) out) (decided k tt (maskOf 0 n (uncounted n))) in
-        Holds (o .state) (cond (o .accepted) G l)
+      Holds (o .state) (cond (o .accepted) G l)
   unfolding kept decided
   each-holds n F G cs out zero e known p =
       let a = known (sym e) in

@@ -1,5 +1,6 @@
 -- The laws of the crate, a file for each topic.
 pub mod Accepted
+pub mod AgreementLaws
 pub mod AppendLaws
 pub mod BitmaskLaws
 pub mod CheckLaws
@@ -11,6 +12,7 @@ pub mod ExtendLaws
 pub mod FreezeLaws
 pub mod FrozenLaws
 pub mod GatherLaws
+pub mod Histories
 pub mod HistoryLaws
 pub mod HistoryMasks
 pub mod HistoryTheorem

@@ -1,4 +1,5 @@
 -- What the contracts of this crate mean. `Checks`, `Answer` and `Mask` are read first.
+pub mod Agreement
 pub mod Aligned
 pub mod Answer
 pub mod Appends
