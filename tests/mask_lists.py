@@ -3,19 +3,10 @@
 The questions are those of tests/nine_questions.py. Each call gives its values as a list; an output is a list of bytes, which a
 call that is not refused changes in place."""
 from nine_questions import *
+from flag_lists import AND, AND_NOT, NOT, OPS, OR, OR_NOT, SELECT, XOR
 
-AND, AND_NOT, OR, OR_NOT, XOR, NOT, SELECT, SELECT_0, SELECT_1 = range(9)
-FLAGWISE = [
-    lambda x, y, z: x and y,
-    lambda x, y, z: x and not y,
-    lambda x, y, z: x or y,
-    lambda x, y, z: x or not y,
-    lambda x, y, z: x != y,
-    lambda x, y, z: not x,
-    lambda x, y, z: y if x else z,
-    lambda x, y, z: y if x else False,
-    lambda x, y, z: y if x else True,
-]
+SELECT_0, SELECT_1 = 7, 8
+FLAGWISE = OPS + [lambda x, y, z: y if x else False, lambda x, y, z: y if x else True]
 
 
 def record(mask):
