@@ -3,36 +3,43 @@
 use mathlib.Core.Path.{_≡_, refl, sym, ap, ap₂, _∙_, subst}
 use mathlib.Core.Bool.{Bool, true, false, cond}
 use mathlib.Core.List.{List, [], _∷_, _++_}
-use Prim.Native.Nat.{ℕ, zero, suc, _+_, _-_, _*_, _/_, _≤_}
+use mathlib.Core.Option.{Option, none, some}
+use mathlib.Core.Logic.{⊎-elim}
+use Prim.Native.Nat.{ℕ, zero, suc, _+_, _-_, _*_, _/_, _≤_, _<_}
 use native.Mathlib.Omega.{arith}
 use lib.Dec.{leb, ltb}
 use lib.ListN.{length, drop, getD, take}
-use borrow.Author.Tests.{le-leb}
+use borrow.Author.Tests.{le-leb, le-ltb, lt-ltb}
 use Rattle.words.specs.Flags.{flagsOf, over, window}
 use Rattle.words.specs.Loops.{stretch}
-use Rattle.words.proofs.Windows.{in-window, length-window, window-all}
-use Rattle.masks.specs.Agreement.{Agrees, refrozen}
-use Rattle.masks.specs.Answer.{Answer, given, decided, checked}
+use Rattle.words.proofs.Windows.{in-window, length-window, lt-or-le, window-all}
+use Rattle.masks.specs.Agreement.{Agrees, Combines, Fits, countShown, flagOf, flagShown, nthOf, nthShown, refrozen, runsListed, runsOf, runsShown, thenRuns}
+use Rattle.masks.specs.Answer.{Answer, given, refused, decided, checked, unlessEmpty}
 use Rattle.masks.specs.Builder.{appended, builderFlags, filling, newBuilder, Room}
 use Rattle.masks.specs.Checks.{Check, check, earlier, firstFailed, limit, spanChecks}
 use Rattle.masks.specs.Cursor.{Step, item, ended, cursorChecks}
 use Rattle.masks.specs.Freeze.{frozenOver}
 use Rattle.masks.specs.Frozen.{frozen, frozenSize, packed}
-use Rattle.masks.specs.History.{Stands}
-use Rattle.masks.specs.Iterator.{flagStep, iterAt, iterChecks, nthFlag}
+use Rattle.masks.specs.History.{Combination}
+use Rattle.masks.specs.Iterator.{leadingFrom, flagStep, iterAt, iterFlags, movedTo, newIter, nthFlag}
 use Rattle.masks.specs.Mask.{maskChecks, maskFlags, maskOf, Recounted, unsetBitsOf, zeroCount}
 use Rattle.masks.specs.Search.{nthBack, nthFrom, searchBack, searchFrom}
-use Rattle.masks.specs.SliceIterator.{newSlices, runsFrom, runsLeft, slicesAt}
-use Rattle.masks.specs.TrueCounts.{TrueCount, Truthful}
+use Rattle.masks.specs.SliceIterator.{listed, newSlices, nextSlice, runOf, runStart, runsFrom, runsLeft, sliceStep, slicesAt, slicesMoved}
+use Rattle.masks.specs.TrueCounts.{Sound, TrueCount, Truthful}
 use Rattle.masks.specs.Utils.{zeros}
 use Rattle.masks.specs.declared.bitmap.Bitmap.{Bitmap}
 use Rattle.masks.specs.declared.bitmap.Unset.the-variants.{Known}
+use Rattle.masks.specs.declared.iterator.BitmapIter.{BitmapIter}
+use Rattle.masks.specs.declared.slice_iterator.Run.{Run}
+use Rattle.masks.specs.declared.slice_iterator.SlicesIterator.{SlicesIterator}
 use Rattle.masks.proofs.Accepted.{mask-accepted, span-accepted}
 use Rattle.masks.proofs.CheckLaws.{is-given, passed-before}
+use Rattle.masks.proofs.CombinedLaws.{combines}
 use Rattle.masks.proofs.FrozenLaws.{flags-packed, length-packed}
-use Rattle.masks.proofs.HistoryLaws.{Builds, builds-after}
+use Rattle.masks.proofs.HistoryLaws.{Builds, Stands, builds-after}
 use Rattle.masks.proofs.HistoryTheorem.{new-holds}
 use Rattle.masks.proofs.RoomLaws.{size-after}
+use Rattle.masks.proofs.RunsPlain.{FirstRun, first-run, next-lists}
 use Rattle.masks.proofs.TrueLaws.{true-count}
 
 -- ---- frozen bytes
@@ -58,6 +65,56 @@ frozen-back l =
 pub frozen-same : (a b : List Bool) → length a ≡ length b → frozen a ≡ frozen b → a ≡ b
 frozen-same a b e f = sym (frozen-back a) ∙ ap₂ (λ (x : List ℕ) (n : ℕ). window (flagsOf x) 0 n) f e ∙ frozen-back b
 
+-- ---- flags one by one
+
+step-shown : (bytes : List ℕ) (c : BitmapIter) (n : ℕ) → flagShown (given (flagStep bytes c n)) ≡ some (cond (ltb (c .place + n) (c .length)) (some (getD (iterFlags c bytes) (c .place + n) false)) none)
+unfolding flagStep
+step-shown bytes c n = go (ltb (c .place + n) (c .length))
+  where
+    go : (t : Bool) → flagShown (given (cond t (item (getD (iterFlags c bytes) (c .place + n) false) (movedTo c (c .place + n + 1))) (ended (movedTo c (c .length)))))
+        ≡ some (cond t (some (getD (iterFlags c bytes) (c .place + n) false)) none)
+    go true = refl
+    go false = refl
+
+cursor-accepted : (start size place : ℕ) (bytes : List ℕ) → 0 ≡ firstFailed (spanChecks start size (length bytes)) → place ≤ size
+    → 0 ≡ firstFailed (cursorChecks start size place (length bytes))
+unfolding cursorChecks firstFailed earlier
+cursor-accepted start size place bytes e h = passed-before (spanChecks start size (length bytes)) (check 6 (leb place size) ∷ []) 0 0 e refl (rw (le-leb place size h))
+
+nth-there : (bytes : List ℕ) (start size n : ℕ) → 0 ≡ firstFailed (spanChecks start size (length bytes)) → flagShown (nthFlag (iterAt start size 0) bytes n) ≡ some (flagOf (stretch bytes start size) n)
+unfolding nthFlag
+nth-there bytes start size n e =
+    let c = iterAt start size 0 in
+    let same : 0 + n ≡ n = omega arith in
+    ap flagShown (sym (is-given 0 (firstFailed (cursorChecks start size 0 (length bytes))) c (flagStep bytes c n) (cursor-accepted start size 0 bytes e (omega arith)) refl))
+    ∙ step-shown bytes c n
+    ∙ ap₂ (λ (i k : ℕ). some (cond (ltb i k) (some (getD (stretch bytes start size) i false)) none)) same (sym (length-window (flagsOf bytes) start size))
+
+-- a new cursor: over no flags it is all 0
+new-nth : (bytes : List ℕ) (start size n : ℕ) → 0 ≡ firstFailed (spanChecks start size (length bytes)) → nthOf (newIter bytes start size) bytes n ≡ some (flagOf (stretch bytes start size) n)
+unfolding newIter unlessEmpty window
+new-nth bytes start zero n e = nth-there bytes 0 0 n (span-accepted 0 0 (length bytes) (omega arith) (omega arith) (omega arith))
+new-nth bytes start (suc size) n e =
+    ap (λ (a : Answer (Unit {0}) BitmapIter). nthOf a bytes n) (sym (is-given 0 (firstFailed (spanChecks start (suc size) (length bytes))) tt (iterAt start (suc size) 0) e refl))
+    ∙ nth-there bytes start (suc size) n e
+
+-- ---- runs one by one
+
+-- the next run, and those that the cursor behind it lists
+more-listed : (c : SlicesIterator) (bytes : List ℕ) (l : List Bool) (k : ℕ) → length l ≡ c .length → c .length < suc k + c .place
+    → ((p : ℕ) → p ≤ c .length → c .length < k + p → runsListed k bytes (slicesMoved c p) ≡ runsLeft l p)
+    → thenRuns (runsListed k bytes) (given (sliceStep c l)) ≡ listed l (sliceStep c l)
+unfolding sliceStep
+more-listed c bytes l k e f more =
+    let s = runStart l (c .place) in
+    let n = leadingFrom true l s in
+    ⊎-elim
+    (λ (h : s < c .length).
+    let r = first-run l (c .place) (omega arith) in
+    rw (lt-ltb s (c .length) h) (ap (λ (t : List Run). runOf s n ∷ t) (more (s + n) (omega (arith, r .inside)) (omega (arith, r .after, r .some)))))
+    (λ (h : c .length ≤ s). rw (le-ltb s (c .length) h) refl)
+    (lt-or-le s (c .length))
+
 -- ---- agreement
 
 module _ (m : Bitmap) (bytes : List ℕ) (l : List Bool) (s : Stands m bytes l) where
@@ -65,19 +122,19 @@ module _ (m : Bitmap) (bytes : List ℕ) (l : List Bool) (s : Stands m bytes l) 
   long = sym (length-window (flagsOf bytes) (m .start) (m .length)) ∙ ap length (s .flags)
 
   in-span : 0 ≡ firstFailed (spanChecks (m .start) (m .length) (length bytes))
-  in-span = span-accepted (m .start) (m .length) (length bytes) (s .starts) (s .short) (s .inside)
+  in-span = span-accepted (m .start) (m .length) (length bytes) (s .sound .starts) (s .sound .short) (s .sound .inside)
 
   whole : 0 ≡ firstFailed (maskChecks m bytes)
-  whole = mask-accepted m bytes (s .starts) (s .short) (s .inside) (s .counts)
+  whole = mask-accepted m bytes (s .sound .starts) (s .sound .short) (s .sound .inside) (s .sound .counts)
 
   truth : zeroCount m bytes ≡ zeros l
-  truth = true-count m bytes (s .counts) ∙ ap zeros (s .flags)
+  truth = true-count m bytes (s .sound .counts) ∙ ap zeros (s .flags)
 
-  counted : unsetBitsOf m bytes ≡ given (record { mask = maskOf (m .start) (m .length) (Known (zeros l)); zeros = zeros l })
+  counted : countShown (unsetBitsOf m bytes) ≡ some (zeros l)
   unfolding unsetBitsOf
   counted =
-      sym (is-given 0 (firstFailed (maskChecks m bytes)) m (record { mask = maskOf (m .start) (m .length) (Known (zeroCount m bytes)); zeros = zeroCount m bytes }) whole refl)
-      ∙ ap (λ (z : ℕ). given (record { mask = maskOf (m .start) (m .length) (Known z); zeros = z })) truth
+      ap countShown (sym (is-given 0 (firstFailed (maskChecks m bytes)) m (record { mask = maskOf (m .start) (m .length) (Known (zeroCount m bytes)); zeros = zeroCount m bytes }) whole refl))
+      ∙ ap some truth
 
   forward : (n from : ℕ) → searchFrom bytes (m .start) (m .length) n from ≡ given (nthFrom l n from)
   unfolding searchFrom
@@ -91,27 +148,38 @@ module _ (m : Bitmap) (bytes : List ℕ) (l : List Bool) (s : Stands m bytes l) 
       sym (is-given 0 (firstFailed (spanChecks (m .start) (m .length) (length bytes))) tt (nthBack (maskFlags m bytes) n end) in-span refl)
       ∙ ap (λ (t : List Bool). given (nthBack t n end)) (s .flags)
 
-  at-start : 0 ≡ firstFailed (cursorChecks (m .start) (m .length) 0 (length bytes))
-  unfolding cursorChecks firstFailed earlier
-  at-start = passed-before (spanChecks (m .start) (m .length) (length bytes)) (check 6 (leb 0 (m .length)) ∷ []) 0 0 in-span refl (rw (le-leb 0 (m .length) (omega arith)))
+  nth : (n : ℕ) → nthShown m bytes n ≡ some (flagOf l n)
+  nth n = new-nth bytes (m .start) (m .length) n in-span ∙ ap (λ (t : List Bool). some (flagOf t n)) (s .flags)
 
-  nth : (n : ℕ) → nthFlag (iterAt (m .start) (m .length) 0) bytes n
-      ≡ given (cond (ltb (0 + n) (length l)) (item (getD l (0 + n) false) (iterAt (m .start) (m .length) (0 + n + 1))) (ended (iterAt (m .start) (m .length) (m .length))))
-  unfolding nthFlag flagStep
-  nth n =
-      sym (is-given 0 (firstFailed (cursorChecks (m .start) (m .length) 0 (length bytes))) (iterAt (m .start) (m .length) 0) (flagStep bytes (iterAt (m .start) (m .length) 0) n) at-start refl)
-      ∙ ap₂ (λ (t : List Bool) (k : ℕ). given (cond (ltb (0 + n) k) (item (getD t (0 + n) false) (iterAt (m .start) (m .length) (0 + n + 1))) (ended (iterAt (m .start) (m .length) (m .length))))) (s .flags) long
+  -- the runs one by one
+  next-there : (place : ℕ) → place ≤ m .length → given (sliceStep (slicesAt (m .start) (m .length) place) (maskFlags m bytes)) ≡ nextSlice (slicesAt (m .start) (m .length) place) bytes
+  unfolding nextSlice
+  next-there place h =
+      is-given 0 (firstFailed (cursorChecks (m .start) (m .length) place (length bytes))) (slicesAt (m .start) (m .length) place)
+      (sliceStep (slicesAt (m .start) (m .length) place) (maskFlags m bytes)) (cursor-accepted (m .start) (m .length) place bytes in-span h) refl
 
-  runs : (newSlices m bytes ≡ given (slicesAt (m .start) (m .length) 0)) × (runsLeft (maskFlags m bytes) 0 ≡ runsFrom 0 l)
+  listed-from : (k place : ℕ) → place ≤ m .length → m .length < k + place → runsListed k bytes (slicesAt (m .start) (m .length) place) ≡ runsLeft (maskFlags m bytes) place
+  unfolding runsListed
+  listed-from zero place h f = absurd (omega arith)
+  listed-from (suc k) place h f =
+      let c = slicesAt (m .start) (m .length) place in
+      let n : length (maskFlags m bytes) ≡ m .length = length-window (flagsOf bytes) (m .start) (m .length) in
+      ap (thenRuns (runsListed k bytes)) (sym (next-there place h))
+      ∙ more-listed c bytes (maskFlags m bytes) k n f (λ p a b. listed-from k p a b)
+      ∙ sym (next-lists c (maskFlags m bytes) n)
+
+  runs : (k : ℕ) → length l < k → runsShown k m bytes ≡ some (runsFrom 0 l)
   unfolding newSlices runsLeft
-  runs = (sym (is-given 0 (firstFailed (maskChecks m bytes)) tt (slicesAt (m .start) (m .length) 0) whole refl), ap (λ (t : List Bool). runsFrom 0 (drop 0 t)) (s .flags))
+  runs k h =
+      ap (runsOf k bytes) (sym (is-given 0 (firstFailed (maskChecks m bytes)) tt (slicesAt (m .start) (m .length) 0) whole refl))
+      ∙ ap some (listed-from k 0 (omega arith) (omega (arith, long)) ∙ ap (λ (t : List Bool). runsFrom 0 (drop 0 t)) (s .flags))
 
   frozen-bytes : (buf : List ℕ) → frozenSize (m .length) ≤ length buf → refrozen m bytes buf ≡ frozen l
   unfolding frozenOver
   frozen-bytes buf h =
       let n : length (maskFlags m bytes) ≡ m .length = length-window (flagsOf bytes) (m .start) (m .length) in
       let room : Room newBuilder (length (maskFlags m bytes)) (length buf) = record {
-        short = omega (arith, s .short);
+        short = omega (arith, s .sound .short);
         low = new-holds buf .room .low;
         few = omega arith;
         holds = omega arith;
@@ -123,16 +191,21 @@ module _ (m : Bitmap) (bytes : List ℕ) (l : List Bool) (s : Stands m bytes l) 
       ap₂ (λ (k : ℕ) (t : List Bool). take k (over (f .bytes) (frozen t))) (ap frozenSize long ∙ sym (length-frozen l)) same
       ∙ take-over (f .bytes) (frozen l) (omega (arith, length-frozen l, long))
 
+  combined : (c : Combination) (out : List ℕ) → Fits (m .length) c → frozenSize (m .length) ≤ length out → Combines m bytes l c out
+  combined c out f h = combines m bytes l s out h c f
+
   pub agrees : Agrees m bytes l
   agrees =
       record {
+        sound = s .sound;
         long = long;
         flags = s .flags;
-        known = subst (TrueCount (m .unset)) (s .flags) (s .counts);
+        known = subst (TrueCount (m .unset)) (s .flags) (s .sound .counts);
         counted = counted;
         frozenBytes = frozen-bytes;
         runs = runs;
         nth = nth;
         forward = forward;
         backward = backward;
+        combined = combined;
       }

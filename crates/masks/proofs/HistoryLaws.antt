@@ -14,14 +14,14 @@ use Rattle.words.specs.Loops.{stretch}
 use Rattle.words.proofs.Bits.{length-bits}
 use Rattle.words.proofs.Windows.{length-copies, length-over, length-window}
 use Rattle.masks.specs.Answer.{Answer, given, refused, decided, kept, checked}
-use Rattle.masks.specs.Appends.{constantChecks, gatherChecks, gathered, growChecks, pieceChecks as Appends·pieceChecks, repeated, spanGrowChecks, subsliceChecks, wordChecks, allBelow}
+use Rattle.masks.specs.Appends.{Append, pushFlag, extendConstant, pushWord, extendSlice, extendRepeated, extendBitmap, extendGather, extendOptGather, appendChecks, appendFlags, constantChecks, gatherChecks, gathered, growChecks, innerChecks, repeated, spanGrowChecks, subsliceChecks, wordChecks, allBelow}
 use Rattle.masks.specs.Builder.{Filling, filling, appended, builderChecks, builderFlags, noneFrom, Room}
 use Rattle.masks.specs.Checks.{Check, check, firstFailed, limit, spanChecks, withinLimit}
 use Rattle.masks.specs.Freeze.{allOnes, freezeChecks, frozenMask, frozenOver, validityOf}
 use Rattle.masks.specs.Frozen.{frozen}
-use Rattle.masks.specs.History.{Append, push, extendConstant, pushWord, extendFromSlice, extendRepeated, subslice, gather, optGather, appendChecks, appendFlags, afterAppend, afterFreeze, afterValidity, afterSlice, afterCount, State, building, masked, ended, Stands, Outcome}
+use Rattle.masks.specs.History.{afterAppend, afterFreeze, afterValidity, afterSlice, afterCount, State, waiting, building, masked, ended, Outcome}
 use Rattle.masks.specs.Mask.{maskChecks, maskFlags, maskOf, pieceChecks, slicedMask, sliceOf, unsetBitsOf, zeroCount}
-use Rattle.masks.specs.TrueCounts.{TrueCount, Truthful}
+use Rattle.masks.specs.TrueCounts.{Sound, TrueCount, Truthful}
 use Rattle.masks.specs.Utils.{zeros}
 use Rattle.masks.specs.declared.bitmap.Bitmap.{Bitmap}
 use Rattle.masks.specs.declared.bitmap.Unset.{Unset}
@@ -44,7 +44,13 @@ pub record Builds (f : Filling) (l : List Bool) : Type 0 where
   pub flags : builderFlags f ≡ l
   pub ones : f .builder .ones ≡ count (finished f)
 
+-- a mask is sound, and its flags are the list's
+pub record Stands (m : Bitmap) (bytes : List ℕ) (l : List Bool) : Type 0 where
+  pub sound : Sound m bytes
+  pub flags : maskFlags m bytes ≡ l
+
 abbrev pub Holds : State → List Bool → Type 0
+Holds waiting l = Unit {0}
 Holds (building f) l = Builds f l
 Holds (masked m bytes) l = Stands m bytes l
 Holds ended l = Unit {0}
@@ -60,27 +66,27 @@ word-long w n h = length-take-le n (bits 64 w) (omega (arith, length-bits 64 w))
 -- every append has passed the builder's checks for its own flags
 grows : (a : Append) (b : BitmapBuilder) (buf : List ℕ) → firstFailed (appendChecks a b buf) ≡ 0 → firstFailed (builderChecks b (b .length + length (appendFlags a)) (length buf)) ≡ 0
 unfolding constantChecks wordChecks spanGrowChecks subsliceChecks gatherChecks
-grows (push x) b buf e = e
+grows (pushFlag x) b buf e = e
 grows (extendConstant n x) b buf e = sized b n (length (copies n x)) (length buf) (length-copies n x) (both-left (growChecks b n (length buf)) (withinLimit n ∷ []) e)
 grows (pushWord w n) b buf e =
     let rest : List Check = withinLimit n ∷ check 6 (leb n 64 && noneFrom w n) ∷ [] in
     sized b n (length (take n (wordFlags w))) (length buf) (word-long w n (word-allowed w n (both-right (growChecks b n (length buf)) rest e)))
     (both-left (growChecks b n (length buf)) rest e)
-grows (extendFromSlice bytes start n) b buf e =
+grows (extendSlice bytes start n) b buf e =
     sized b n (length (stretch bytes start n)) (length buf) (length-window (flagsOf bytes) start n) (both-right (spanChecks start n (length bytes)) (growChecks b n (length buf)) e)
 grows (extendRepeated bytes start n k) b buf e =
     sized b (n * k) (length (repeated k (stretch bytes start n))) (length buf)
     (length-repeated k (stretch bytes start n) ∙ ap (λ (x : ℕ). x * k) (length-window (flagsOf bytes) start n))
     (both-right (spanChecks start n (length bytes)) (growChecks b (n * k) (length buf)) e)
-grows (subslice m bytes start n) b buf e =
+grows (extendBitmap m bytes start n) b buf e =
     sized b n (length (window (maskFlags m bytes) start n)) (length buf) (length-window (maskFlags m bytes) start n)
-    (both-right (Appends·pieceChecks start n (m .length)) (growChecks b n (length buf))
-    (both-right (maskChecks m bytes) (Appends·pieceChecks start n (m .length) ++ growChecks b n (length buf)) e))
-grows (gather bytes start n idxs) b buf e =
+    (both-right (innerChecks start n (m .length)) (growChecks b n (length buf))
+    (both-right (maskChecks m bytes) (innerChecks start n (m .length) ++ growChecks b n (length buf)) e))
+grows (extendGather bytes start n idxs) b buf e =
     sized b (length idxs) (length (gathered (stretch bytes start n) idxs)) (length buf) (length-gathered (stretch bytes start n) idxs)
     (both-right (spanChecks start n (length bytes)) (growChecks b (length idxs) (length buf))
     (both-left (spanChecks start n (length bytes) ++ growChecks b (length idxs) (length buf)) (check 6 (allBelow n idxs) ∷ []) e))
-grows (optGather bytes start n idxs) b buf e =
+grows (extendOptGather bytes start n idxs) b buf e =
     sized b (length idxs) (length (gathered (stretch bytes start n) idxs)) (length buf) (length-gathered (stretch bytes start n) idxs)
     (both-right (spanChecks start n (length bytes)) (growChecks b (length idxs) (length buf)) e)
 
@@ -109,11 +115,13 @@ frozen-stands f l i =
     let short : b .length + 0 ≤ limit = r .short in
     let holds : 8 * ((b .length + 0 + 63) / 64) ≤ length (f .bytes) = r .holds in
     record {
-      starts = omega arith;
-      short = omega arith;
-      inside = omega (arith, length-over (f .bytes) (frozen (builderFlags f)));
+      sound = record {
+        starts = omega arith;
+        short = omega arith;
+        inside = omega (arith, length-over (f .bytes) (frozen (builderFlags f)));
+        counts = true-zeros b (f .bytes) r (i .ones) ∙ ap zeros (sym (frozen-flags b (f .bytes) r));
+      };
       flags = frozen-flags b (f .bytes) r ∙ i .flags;
-      counts = true-zeros b (f .bytes) r (i .ones) ∙ ap zeros (sym (frozen-flags b (f .bytes) r));
     }
 
 pub freeze-holds : (f : Filling) (l : List Bool) (k : ℕ) → Builds f l

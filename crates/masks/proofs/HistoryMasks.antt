@@ -1,6 +1,6 @@
 -- The invariant of histories through the calls on a mask: slices, counts and combinations. Assumes nothing.
 use mathlib.Core.Path.{_≡_, refl, sym, ap, ap₂, _∙_, subst}
-use mathlib.Core.Bool.{Bool, true, false, cond, not}
+use mathlib.Core.Bool.{Bool, true, false, cond, not, xor as exclusive}
 use mathlib.Core.List.{List, [], _∷_, _++_, map, zipWith}
 use Prim.Native.Nat.{ℕ, zero, suc, _+_, _-_, _*_, _/_, _≤_}
 use native.Mathlib.Omega.{arith}
@@ -16,9 +16,9 @@ use Rattle.masks.specs.Answer.{Answer, given, refused, decided, kept, ch
 use Rattle.masks.specs.Checks.{Check, check, firstFailed, limit, outputChecks, spanChecks, withinLimit}
 use Rattle.masks.specs.Combine.{notChecks, notFlags, pairChecks, pairEach, pairFlags, pairMask, pairShortcut, resultCount, resultFlags, selectChecks, selectConstantFlags, selectFlags}
 use Rattle.masks.specs.Frozen.{frozen}
-use Rattle.masks.specs.History.{Argument, own, other, FairAt, State, Stands, afterCombined, afterCount, afterSlice, bytesAt, flagsAt, maskAt}
+use Rattle.masks.specs.History.{Argument, own, other, Pair, and, andNot, or, orNot, xor, FairAt, State, afterCombined, afterCount, afterSlice, bytesAt, flagsAt, maskAt, pairFlag, pairOp}
 use Rattle.masks.specs.Mask.{Recounted, maskChecks, maskFlags, maskOf, pieceChecks, slicedMask, uncounted, zeroCount}
-use Rattle.masks.specs.TrueCounts.{TrueCount, Truthful}
+use Rattle.masks.specs.TrueCounts.{Sound, TrueCount, Truthful}
 use Rattle.masks.specs.declared.bitmap.Bitmap.{Bitmap}
 use Rattle.masks.specs.declared.bitmap.Unset.{Unset}
 use Rattle.masks.specs.declared.bitmap.Unset.the-variants.{Known, Unknown}
@@ -27,7 +27,7 @@ use Rattle.masks.specs.declared.shortcuts.Shortcut.the-variants.{Each, A
 use Rattle.masks.proofs.CheckLaws.{both-left, both-right, check-allowed, first-allowed, rest-allowed}
 use Rattle.masks.proofs.CombineLaws.{pair-lengths, select-lengths}
 use Rattle.masks.proofs.FreezeLaws.{frozen-front}
-use Rattle.masks.proofs.HistoryLaws.{Holds}
+use Rattle.masks.proofs.HistoryLaws.{Holds, Stands}
 use Rattle.masks.proofs.MaskLaws.{mask-allowed, piece-allowed}
 use Rattle.masks.proofs.SliceTruth.{none-true, result-true, slice-flags, slice-true}
 use Rattle.masks.proofs.TrueLaws.{flags-by-operation, true-count}
@@ -51,11 +51,13 @@ slice-holds m bytes l offset n zero e s =
     let p = piece-allowed m bytes offset n (sym e) in
     let inside : offset + n ≤ m .length = p .inside in
     record {
-      starts = piece-starts m bytes offset n (sym e);
-      short = omega (arith, s .short);
-      inside = omega (arith, s .inside);
+      sound = record {
+        starts = piece-starts m bytes offset n (sym e);
+        short = omega (arith, s .sound .short);
+        inside = omega (arith, s .sound .inside);
+        counts = slice-true m bytes offset n inside (s .sound .counts);
+      };
       flags = slice-flags m bytes offset n inside ∙ ap (λ (t : List Bool). window t offset n) (s .flags);
-      counts = slice-true m bytes offset n inside (s .counts);
     }
 slice-holds m bytes l offset n (suc k) e s = s
 
@@ -63,7 +65,11 @@ pub count-holds : (m : Bitmap) (bytes : List ℕ) (l : List Bool) (k : ℕ) → 
     → let o = afterCount bytes (decided k m (record { mask = maskOf (m .start) (m .length) (Known (zeroCount m bytes)); zeros = zeroCount m bytes })) in
     Holds (o .state) (cond (o .accepted) l l)
 unfolding decided
-count-holds m bytes l zero s = record { starts = s .starts; short = s .short; inside = s .inside; flags = s .flags; counts = true-count m bytes (s .counts) }
+count-holds m bytes l zero s =
+    record {
+      sound = record { starts = s .sound .starts; short = s .sound .short; inside = s .sound .inside; counts = true-count m bytes (s .sound .counts) };
+      flags = s .flags;
+    }
 count-holds m bytes l (suc k) s = s
 
 -- ---- combinations
@@ -95,27 +101,87 @@ made-stands : (n : ℕ) (u : Unset) (F l : List Bool) (out : List ℕ) → lengt
 made-stands n u F l out e h r p t =
     let same : window (flagsOf (over out (frozen F))) 0 n ≡ F = ap (window (flagsOf (over out (frozen F))) 0) (sym e) ∙ frozen-front out F (omega arith) in
     record {
-      starts = omega arith;
-      short = h;
-      inside = omega (arith, length-over out (frozen F));
+      sound = record {
+        starts = omega arith;
+        short = h;
+        inside = omega (arith, length-over out (frozen F));
+        counts = subst (TrueCount u) (sym same) t;
+      };
       flags = same ∙ p;
-      counts = subst (TrueCount u) (sym same) t;
     }
+
+-- the five operations: what the code's do, flag by flag, is what the reference list says
+same-flag : (op : Pair) (x y : Bool) → opOf (pairOp op) x y y ≡ pairFlag op x y
+unfolding exclusive
+same-flag and x y = refl
+same-flag andNot x y = refl
+same-flag or x y = refl
+same-flag orNot x y = refl
+same-flag xor true true = refl
+same-flag xor true false = refl
+same-flag xor false true = refl
+same-flag xor false false = refl
+
+by-flag : (op : Pair) (a b : List Bool) → length a ≡ length b → zip3 (opOf (pairOp op)) a b b ≡ zipWith (pairFlag op) a b
+unfolding zip3 zipWith
+by-flag op [] b e = refl
+by-flag op (x ∷ a) [] e = refl
+by-flag op (x ∷ a) (y ∷ b) e = ap₂ (λ (z : Bool) (t : List Bool). z ∷ t) (same-flag op x y) (by-flag op a b (omega arith))
+
+result-long : (s : Shortcut) (n : ℕ) (flags : List Bool) → length flags ≡ n → length (resultFlags s n flags) ≡ n
+result-long Each n flags e = e
+result-long (All x) n flags e = length-copies n x
+
+module _ (op : Op) (a : Bitmap) (aB : List ℕ) (b : Bitmap) (bB : List ℕ) (e : a .length ≡ b .length) where
+  each-long : length (pairEach op a aB b bB) ≡ a .length
+  each-long =
+      let first = length-window (flagsOf aB) (a .start) (a .length) in
+      let even = first ∙ e ∙ sym (length-window (flagsOf bB) (b .start) (b .length)) in
+      length-zip3 (opOf op) (maskFlags a aB) (maskFlags b bB) (maskFlags b bB) even even ∙ first
+
+  pub pair-long : length (pairFlags op a aB b bB) ≡ a .length
+  unfolding pairFlags
+  pair-long = result-long (pairShortcut op a aB b bB) (a .length) (pairEach op a aB b bB) each-long
+
+  pub pair-true : TrueCount (resultCount (pairShortcut op a aB b bB) (a .length)) (pairFlags op a aB b bB)
+  unfolding pairFlags
+  pair-true = result-true (pairShortcut op a aB b bB) (a .length) (pairEach op a aB b bB) each-long
 
 module _ (m : Bitmap) (bytes : List ℕ) (l : List Bool) (s : Stands m bytes l) where
   fair-at : (p : Argument) → FairAt p → Truthful (maskAt m p) (bytesAt bytes p)
-  fair-at own t = s .counts
+  fair-at own t = s .sound .counts
   fair-at (other n its) t = t
 
   pub flags-at : (p : Argument) → maskFlags (maskAt m p) (bytesAt bytes p) ≡ flagsAt l p
   flags-at own = s .flags
   flags-at (other n its) = refl
 
-  pub pair-holds : (op : Op) (p q : Argument) (out : List ℕ) (k : ℕ) → k ≡ firstFailed (pairChecks (maskAt m p) (bytesAt bytes p) (maskAt m q) (bytesAt bytes q) (length out))
-      → let o = afterCombined m bytes (kept k (over out (frozen (pairFlags op (maskAt m p) (bytesAt bytes p) (maskAt m q) (bytesAt bytes q)))) out)
-      (decided k tt (pairMask op (maskAt m p) (bytesAt bytes p) (maskAt m q) (bytesAt bytes q))) in
-      (o .accepted ≡ true → FairAt p × FairAt q) → Holds (o .state) (cond (o .accepted) (zip3 (opOf op) (flagsAt l p) (flagsAt l q) (flagsAt l q)) l)
-  unfolding kept decided pairMask pairFlags pairChecks
+  pub select-written : (p q r : Argument) → selectFlags (maskAt m p) (bytesAt bytes p) (maskAt m q) (bytesAt bytes q) (maskAt m r) (bytesAt bytes r) ≡ zip3 cond (flagsAt l p) (flagsAt l q) (flagsAt l r)
+  select-written p q r =
+      ap₂ (λ (x y : List Bool). zip3 cond x y (maskFlags (maskAt m r) (bytesAt bytes r))) (flags-at p) (flags-at q) ∙ ap (zip3 cond (flagsAt l p) (flagsAt l q)) (flags-at r)
+
+  pub constant-written : (p q : Argument) (x : Bool) → selectConstantFlags (maskAt m p) (bytesAt bytes p) (maskAt m q) (bytesAt bytes q) x ≡ zipWith (λ s t. cond s t x) (flagsAt l p) (flagsAt l q)
+  constant-written p q x = ap₂ (zipWith (λ s t. cond s t x)) (flags-at p) (flags-at q)
+
+  -- where the checks have passed and the counts are true: the flags written are the reference list's
+  pub pair-written : (op : Pair) (p q : Argument) (size : ℕ) → firstFailed (pairChecks (maskAt m p) (bytesAt bytes p) (maskAt m q) (bytesAt bytes q) size) ≡ 0 → FairAt p × FairAt q
+      → pairFlags (pairOp op) (maskAt m p) (bytesAt bytes p) (maskAt m q) (bytesAt bytes q) ≡ zipWith (pairFlag op) (flagsAt l p) (flagsAt l q)
+  pair-written op p q size e fair =
+      let a = maskAt m p in
+      let b = maskAt m q in
+      let aB = bytesAt bytes p in
+      let bB = bytesAt bytes q in
+      let same : a .length ≡ b .length = pair-lengths a aB b bB size e in
+      let even = length-window (flagsOf aB) (a .start) (a .length) ∙ same ∙ sym (length-window (flagsOf bB) (b .start) (b .length)) in
+      flags-by-operation (pairOp op) a aB b bB same (fair-at p (fair .0)) (fair-at q (fair .1))
+      ∙ by-flag op (maskFlags a aB) (maskFlags b bB) even
+      ∙ ap₂ (zipWith (pairFlag op)) (flags-at p) (flags-at q)
+
+  pub pair-holds : (op : Pair) (p q : Argument) (out : List ℕ) (k : ℕ) → k ≡ firstFailed (pairChecks (maskAt m p) (bytesAt bytes p) (maskAt m q) (bytesAt bytes q) (length out))
+      → let o = afterCombined m bytes (kept k (over out (frozen (pairFlags (pairOp op) (maskAt m p) (bytesAt bytes p) (maskAt m q) (bytesAt bytes q)))) out)
+      (decided k tt (pairMask (pairOp op) (maskAt m p) (bytesAt bytes p) (maskAt m q) (bytesAt bytes q))) in
+      (o .accepted ≡ true → FairAt p × FairAt q) → Holds (o .state) (cond (o .accepted) (zipWith (pairFlag op) (flagsAt l p) (flagsAt l q)) l)
+  unfolding kept decided pairMask pairChecks
   pair-holds op p q out zero e fair =
       let a = maskAt m p in
       let b = maskAt m q in
@@ -125,14 +191,11 @@ module _ (m : Bitmap) (bytes : List ℕ) (l : List Bool) (s : Stands m bytes l) 
       let room = output-allowed (a .length) (length out) (rest-allowed (check 5 (eqb (a .length) (b .length))) (outputChecks (a .length) (length out))
       (both-right (maskChecks b bB) rest (both-right (maskChecks a aB) (maskChecks b bB ++ rest) (sym e)))) in
       let same : a .length ≡ b .length = pair-lengths a aB b bB (length out) (sym e) in
-      let first = length-window (flagsOf aB) (a .start) (a .length) in
-      let second = length-window (flagsOf bB) (b .start) (b .length) in
-      let each : length (pairEach op a aB b bB) ≡ a .length = length-zip3 (opOf op) (maskFlags a aB) (maskFlags b bB) (maskFlags b bB) (first ∙ same ∙ sym second) (first ∙ same ∙ sym second) ∙ first in
-      let written : pairFlags op a aB b bB ≡ pairEach op a aB b bB = flags-by-operation op a aB b bB same (fair-at p (fair refl .0)) (fair-at q (fair refl .1)) in
-      made-stands (a .length) (resultCount (pairShortcut op a aB b bB) (a .length)) (pairFlags op a aB b bB) (zip3 (opOf op) (flagsAt l p) (flagsAt l q) (flagsAt l q)) out
-      (ap length written ∙ each) (mask-allowed a aB (both-left (maskChecks a aB) (maskChecks b bB ++ rest) (sym e)) .short) room
-      (written ∙ ap₂ (λ (x y : List Bool). zip3 (opOf op) x y y) (flags-at p) (flags-at q))
-      (result-true (pairShortcut op a aB b bB) (a .length) (pairEach op a aB b bB) each)
+      let written = pair-written op p q (length out) (sym e) (fair refl) in
+      let long : length (pairFlags (pairOp op) a aB b bB) ≡ a .length = pair-long (pairOp op) a aB b bB same in
+      made-stands (a .length) (resultCount (pairShortcut (pairOp op) a aB b bB) (a .length)) (pairFlags (pairOp op) a aB b bB) (zipWith (pairFlag op) (flagsAt l p) (flagsAt l q)) out
+      long (mask-allowed a aB (both-left (maskChecks a aB) (maskChecks b bB ++ rest) (sym e)) .short) room written
+      (pair-true (pairOp op) a aB b bB same)
   pair-holds op p q out (suc k) e fair = s
 
   -- combinations with no shortcut

@@ -6,6 +6,7 @@ pub mod BitmaskLaws
 pub mod CheckLaws
 pub mod ChunkLaws
 pub mod CombineLaws
+pub mod CombinedLaws
 pub mod CompareLaws
 pub mod CursorLaws
 pub mod ExtendLaws

@@ -14,7 +14,7 @@ use Rattle.words.proofs.Counting.{count-append, count-le, count-padded}
 use Rattle.words.proofs.Plain.{overAt-before, overAt-in}
 use Rattle.words.proofs.Windows.{length-window, window-add, window-ext, as-window, at-in, bits-window}
 use Rattle.masks.specs.Builder.{Filling, inProgress, appended, builderFlags, noneFrom, possible, builderChecks, Room}
-use Rattle.masks.specs.Appends.{pieceChecks}
+use Rattle.masks.specs.Appends.{innerChecks}
 use Rattle.masks.specs.Checks.{check, firstFailed, limit, withinLimit, spanChecks, outputChecks}
 use Rattle.masks.specs.Frozen.{packed, overFrom}
 use Rattle.masks.specs.Mask.{maskChecks, countValid}
@@ -177,15 +177,15 @@ length-flags-of f =
 
 -- ---- what the checks of a mask and of a piece of it give
 
-pub record PieceAllowed (m : Bitmap) (bytes : List ℕ) (start n : ℕ) : Type 0 where
+pub record InnerAllowed (m : Bitmap) (bytes : List ℕ) (start n : ℕ) : Type 0 where
   pub starts : m .start ≤ limit
   pub short : m .length ≤ limit
   pub inside : start + n ≤ m .length
 
-pub piece-allowed : (m : Bitmap) (bytes : List ℕ) (start n : ℕ) → firstFailed (maskChecks m bytes) ≡ 0 → firstFailed (pieceChecks start n (m .length)) ≡ 0
-    → PieceAllowed m bytes start n
-unfolding maskChecks pieceChecks
-piece-allowed m bytes start n e p =
+pub inner-allowed : (m : Bitmap) (bytes : List ℕ) (start n : ℕ) → firstFailed (maskChecks m bytes) ≡ 0 → firstFailed (innerChecks start n (m .length)) ≡ 0
+    → InnerAllowed m bytes start n
+unfolding maskChecks innerChecks
+inner-allowed m bytes start n e p =
     let span = span-allowed (m .start) (m .length) (length bytes) (both-left (spanChecks (m .start) (m .length) (length bytes)) (check 3 (countValid m bytes) ∷ []) e) in
     let two = tail-passed (withinLimit start) (withinLimit n ∷ check 6 (leb (start + n) (m .length)) ∷ []) p in
     let three = tail-passed (withinLimit n) (check 6 (leb (start + n) (m .length)) ∷ []) two in

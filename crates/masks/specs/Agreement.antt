@@ -1,23 +1,37 @@
--- What a mask has to have in common with a list of flags: all that document 01 compares with its plain list's. Assumes nothing.
-use Prim.Native.Nat.{ℕ, _+_, _*_, _/_, _≤_}
+-- Demand 3: what a mask has to have in common with a list of flags, all that document 01 compares with its plain list's, and the
+-- whole statement. Assumes nothing.
+use Prim.Native.Nat.{ℕ, zero, suc, _+_, _*_, _≤_, _<_}
 use mathlib.Core.Path.{_≡_}
 use mathlib.Core.Bool.{Bool, false, cond}
-use mathlib.Core.List.{List}
+use mathlib.Core.List.{List, [], _∷_}
+use mathlib.Core.Option.{Option, none, some}
 use lib.Dec.{ltb}
 use lib.ListN.{length, getD, take}
-use Rattle.masks.specs.Answer.{Answer, given}
+use Rattle.words.specs.Flags.{over}
+use Rattle.masks.specs.Answer.{Answer, given, refused}
 use Rattle.masks.specs.Builder.{appended, filling, newBuilder}
 use Rattle.masks.specs.Cursor.{Step, item, ended}
 use Rattle.masks.specs.Freeze.{frozenOver}
 use Rattle.masks.specs.Frozen.{frozen, frozenSize}
-use Rattle.masks.specs.Iterator.{iterAt, nthFlag}
-use Rattle.masks.specs.Mask.{maskFlags, maskOf, Recounted, unsetBitsOf}
+use Rattle.masks.specs.History.{Argument, own, other, Combination, pair, invert, select, selectConstant, History, FairHistory, combinedBytes, combinedFlags, combinedOf, endOf, listOf, masked}
+use Rattle.masks.specs.Iterator.{newIter, nthFlag}
+use Rattle.masks.specs.Mask.{maskFlags, Recounted, unsetBitsOf}
 use Rattle.masks.specs.Search.{nthBack, nthFrom, searchBack, searchFrom}
-use Rattle.masks.specs.SliceIterator.{newSlices, runsFrom, runsLeft, slicesAt}
-use Rattle.masks.specs.TrueCounts.{TrueCount}
+use Rattle.masks.specs.SliceIterator.{newSlices, nextSlice, runsFrom}
+use Rattle.masks.specs.TrueCounts.{Sound, TrueCount}
 use Rattle.masks.specs.Utils.{zeros}
 use Rattle.masks.specs.declared.bitmap.Bitmap.{Bitmap}
 use Rattle.masks.specs.declared.bitmap.Unset.the-variants.{Known}
+use Rattle.masks.specs.declared.iterator.BitmapIter.{BitmapIter}
+use Rattle.masks.specs.declared.slice_iterator.Run.{Run}
+use Rattle.masks.specs.declared.slice_iterator.SlicesIterator.{SlicesIterator}
+
+-- ---- what the calls show of a mask: `none` where a call is refused
+
+-- the count that `unset_bits` gives
+abbrev pub countShown : Answer Bitmap Recounted → Option ℕ
+countShown (given r) = some (r .zeros)
+countShown (refused k m) = none
 
 -- the bytes that `freeze` writes for a new builder with the mask's flags appended
 abbrev pub refrozen : Bitmap → List ℕ → List ℕ → List ℕ
@@ -25,18 +39,104 @@ refrozen m bytes buf =
     let f = appended (filling newBuilder buf) (maskFlags m bytes) in
     take (frozenSize (m .length)) (frozenOver (f .builder) (f .bytes))
 
+-- the flag that `nth` of a new `BitmapIter` gives, or that there is none
+abbrev pub flagShown : Answer BitmapIter (Step BitmapIter Bool) → Option (Option Bool)
+flagShown (given (item x c)) = some (some x)
+flagShown (given (ended c)) = some none
+flagShown (refused k c) = none
+
+abbrev pub nthOf : Answer (Unit {0}) BitmapIter → List ℕ → ℕ → Option (Option Bool)
+nthOf (given c) bytes n = flagShown (nthFlag c bytes n)
+nthOf (refused k s) bytes n = none
+
+abbrev pub nthShown : Bitmap → List ℕ → ℕ → Option (Option Bool)
+nthShown m bytes n = nthOf (newIter bytes (m .start) (m .length)) bytes n
+
+-- the flag of a list, or that there is none
+abbrev pub flagOf : List Bool → ℕ → Option Bool
+flagOf l n = cond (ltb n (length l)) (some (getD l n false)) none
+
+-- the runs that `next` gives until none, in so many calls at most
+abbrev pub thenRuns : (SlicesIterator → List Run) → Answer SlicesIterator (Step SlicesIterator Run) → List Run
+thenRuns more (given (item r c)) = r ∷ more c
+thenRuns more (given (ended c)) = []
+thenRuns more (refused k c) = []
+
+unfoldable pub runsListed : ℕ → List ℕ → SlicesIterator → List Run
+runsListed zero bytes c = []
+runsListed (suc k) bytes c = thenRuns (runsListed k bytes) (nextSlice c bytes)
+
+abbrev pub runsOf : ℕ → List ℕ → Answer (Unit {0}) SlicesIterator → Option (List Run)
+runsOf k bytes (given c) = some (runsListed k bytes c)
+runsOf k bytes (refused n s) = none
+
+abbrev pub runsShown : ℕ → Bitmap → List ℕ → Option (List Run)
+runsShown k m bytes = runsOf k bytes (newSlices m bytes)
+
+-- ---- combinations with other such masks of n flags
+
+abbrev pub FitAt : ℕ → Argument → Type 0
+FitAt n own = Unit {0}
+FitAt n (other m bytes) = Sound m bytes × (m .length ≡ n)
+
+abbrev pub Fits : ℕ → Combination → Type 0
+Fits n (pair op p q) = FitAt n p × FitAt n q
+Fits n (invert p) = FitAt n p
+Fits n (select p q r) = FitAt n p × (FitAt n q × FitAt n r)
+Fits n (selectConstant p q x) = FitAt n p × FitAt n q
+
+-- the call is accepted, writes the frozen bytes of the reference list's flags, and gives a mask of them
+pub record Combines (m : Bitmap) (bytes : List ℕ) (l : List Bool) (c : Combination) (out : List ℕ) : Type 0 where
+  pub result : Bitmap
+  pub accepted : combinedOf m bytes c out ≡ given result
+  pub written : combinedBytes m bytes c out ≡ over out (frozen (combinedFlags l c))
+  pub flags : maskFlags result (combinedBytes m bytes c out) ≡ combinedFlags l c
+
+-- ---- a mask and a list
+
 pub record Agrees (m : Bitmap) (bytes : List ℕ) (l : List Bool) : Type 0 where
+  pub sound : Sound m bytes
   pub long : m .length ≡ length l
   pub flags : maskFlags m bytes ≡ l
   -- a known count, and the one that `unset_bits` gives
   pub known : TrueCount (m .unset) l
-  pub counted : unsetBitsOf m bytes ≡ given (record { mask = maskOf (m .start) (m .length) (Known (zeros l)); zeros = zeros l })
+  pub counted : countShown (unsetBitsOf m bytes) ≡ some (zeros l)
   -- the frozen bytes, in any buffer that holds them
   pub frozenBytes : (buf : List ℕ) → frozenSize (m .length) ≤ length buf → refrozen m bytes buf ≡ frozen l
-  -- the runs from place 0: `next` lists them one by one (`next-lists` of RunsPlain)
-  pub runs : (newSlices m bytes ≡ given (slicesAt (m .start) (m .length) 0)) × (runsLeft (maskFlags m bytes) 0 ≡ runsFrom 0 l)
+  -- the runs from place 0, listed by more calls than there are flags
+  pub runs : (k : ℕ) → length l < k → runsShown k m bytes ≡ some (runsFrom 0 l)
   -- `nth` of a new cursor, and both searches, at every argument
-  pub nth : (n : ℕ) → nthFlag (iterAt (m .start) (m .length) 0) bytes n
-      ≡ given (cond (ltb (0 + n) (length l)) (item (getD l (0 + n) false) (iterAt (m .start) (m .length) (0 + n + 1))) (ended (iterAt (m .start) (m .length) (m .length))))
+  pub nth : (n : ℕ) → nthShown m bytes n ≡ some (flagOf l n)
   pub forward : (n from : ℕ) → searchFrom bytes (m .start) (m .length) n from ≡ given (nthFrom l n from)
   pub backward : (n end : ℕ) → searchBack bytes (m .start) (m .length) n end ≡ given (nthBack l n end)
+  -- each combination with other such masks of its length, in an output that is large enough
+  pub combined : (c : Combination) (out : List ℕ) → Fits (m .length) c → frozenSize (m .length) ≤ length out → Combines m bytes l c out
+
+-- ---- two masks
+
+pub record Alike (m : Bitmap) (bytes : List ℕ) (m′ : Bitmap) (bytes′ : List ℕ) : Type 0 where
+  pub long : m .length ≡ m′ .length
+  pub known : (z z′ : ℕ) → m .unset ≡ Known z → m′ .unset ≡ Known z′ → z ≡ z′
+  pub counted : countShown (unsetBitsOf m bytes) ≡ countShown (unsetBitsOf m′ bytes′)
+  pub frozenBytes : (buf : List ℕ) → frozenSize (m .length) ≤ length buf → refrozen m bytes buf ≡ refrozen m′ bytes′ buf
+  pub runs : (k : ℕ) → m .length < k → runsShown k m bytes ≡ runsShown k m′ bytes′
+  pub nth : (n : ℕ) → nthShown m bytes n ≡ nthShown m′ bytes′ n
+  pub forward : (n from : ℕ) → searchFrom bytes (m .start) (m .length) n from ≡ searchFrom bytes′ (m′ .start) (m′ .length) n from
+  pub backward : (n end : ℕ) → searchBack bytes (m .start) (m .length) n end ≡ searchBack bytes′ (m′ .start) (m′ .length) n end
+  pub combined : (c : Combination) (out : List ℕ) → Fits (m .length) c → frozenSize (m .length) ≤ length out → combinedBytes m bytes c out ≡ combinedBytes m′ bytes′ c out
+
+-- ---- the statement
+
+-- a history that is fair has come to a mask
+pub record ComesTo (h : History) (m : Bitmap) (bytes : List ℕ) : Type 0 where
+  pub fair : FairHistory h
+  pub ends : endOf h ≡ masked m bytes
+
+pub record OneMeaning : Type 0 where
+  -- every mask that a history has come to agrees with the history's reference list
+  pub agrees : (h : History) (m : Bitmap) (bytes : List ℕ) → ComesTo h m bytes → Agrees m bytes (listOf h)
+  -- two histories with equal lists agree in all that is compared
+  pub alike : (h h′ : History) (m m′ : Bitmap) (bytes bytes′ : List ℕ) → ComesTo h m bytes → ComesTo h′ m′ bytes′ → listOf h ≡ listOf h′ → Alike m bytes m′ bytes′
+  -- if the lists differ, length or frozen bytes differ
+  pub apart : (h h′ : History) (m m′ : Bitmap) (bytes bytes′ : List ℕ) → ComesTo h m bytes → ComesTo h′ m′ bytes′ → (listOf h ≡ listOf h′ → ⊥)
+      → (buf : List ℕ) → frozenSize (m .length) ≤ length buf → m .length ≡ m′ .length → refrozen m bytes buf ≡ refrozen m′ bytes′ buf → ⊥

@@ -6,7 +6,7 @@ use mathlib.Core.Option.{Option, none, some}
 use lib.Dec.{eqb}
 use lib.ListN.{length}
 use Rattle.words.specs.Flags.{count, over, wordFlags}
-use Rattle.masks.specs.Answer.{Answer, given, refused, kept}
+use Rattle.masks.specs.Answer.{Answer, given, refused, checked, kept}
 use Rattle.masks.specs.Builder.{filling, builderFlags, builderChecks}
 use Rattle.masks.specs.Checks.{Check, firstFailed}
 use Rattle.masks.specs.Frozen.{frozen}
@@ -37,7 +37,13 @@ freezeChecks b size = builderChecks b (b .length) size
 unfoldable pub frozenOver : BitmapBuilder → List ℕ → List ℕ
 frozenOver b bytes = over bytes (frozen (builderFlags (filling b bytes)))
 
--- what the buffer holds after the call
+-- what the calls answer, and what the buffer then holds
+abbrev pub freezeOf : BitmapBuilder → List ℕ → Answer BitmapBuilder Bitmap
+freezeOf b bytes = checked (freezeChecks b (length bytes)) b (frozenMask b)
+
+abbrev pub intoOptValidityOf : BitmapBuilder → List ℕ → Answer BitmapBuilder (Option Bitmap)
+intoOptValidityOf b bytes = checked (freezeChecks b (length bytes)) b (validityOf b)
+
 abbrev pub freezeBytes : BitmapBuilder → List ℕ → List ℕ
 freezeBytes b bytes = kept (firstFailed (freezeChecks b (length bytes))) (frozenOver b bytes) bytes
 

@@ -3,39 +3,28 @@
 --
 -- A step is made of the definitions that the contracts cite. The reference list sees the arguments of the calls, save the
 -- history's own record and bytes, and which calls were refused.
-use Prim.Native.Nat.{ℕ, zero, suc, _+_, _*_, _≤_}
+use Prim.Native.Nat.{ℕ}
 use mathlib.Core.Path.{_≡_}
-use mathlib.Core.Bool.{Bool, true, false, cond, not}
+use mathlib.Core.Bool.{Bool, true, false, cond, not, _&&_, _||_}
 use mathlib.Core.List.{List, [], _∷_, _++_, map, zipWith}
 use mathlib.Core.Option.{Option, none, some}
-use lib.ListN.{length, take}
-use Rattle.words.specs.Flags.{copies, count, window, wordFlags}
+use lib.ListN.{length}
+use Rattle.words.specs.Flags.{window}
 use Rattle.words.specs.Loops.{stretch}
-use Rattle.words.specs.Ops.{opOf, zip3}
+use Rattle.words.specs.Ops.{zip3}
 use Rattle.words.specs.declared.ops.Op.{Op}
 use Rattle.words.specs.declared.ops.Op.the-variants.{And, AndNot, Or, OrNot, Xor}
-use Rattle.masks.specs.Answer.{Answer, given, refused, checked}
-use Rattle.masks.specs.Appends.{growChecks, wordChecks, constantChecks, spanGrowChecks, subsliceChecks, gatherChecks, gathered, repeated, appendAnswer, appendBytes}
+use Rattle.masks.specs.Answer.{Answer, given, refused}
+use Rattle.masks.specs.Appends.{Append, appendAnswer, appendBytes, appendFlags}
 use Rattle.masks.specs.Builder.{Filling, filling, newBuilder}
-use Rattle.masks.specs.Checks.{Check, limit}
 use Rattle.masks.specs.Combine.{pairOf, pairBytes, pairChecks, eachOf, eachBytes, notChecks, notFlags, selectChecks, selectFlags, selectConstantFlags}
-use Rattle.masks.specs.Freeze.{freezeBytes, freezeChecks, frozenMask, validityOf}
-use Rattle.masks.specs.Mask.{maskFlags, sliceOf, unsetBitsOf, Recounted}
-use Rattle.masks.specs.TrueCounts.{TrueCount, Truthful}
+use Rattle.masks.specs.Freeze.{freezeBytes, freezeOf, intoOptValidityOf}
+use Rattle.masks.specs.Mask.{maskFlags, sliceOf, tryNewOf, unsetBitsOf, Recounted}
+use Rattle.masks.specs.TrueCounts.{Truthful}
 use Rattle.masks.specs.declared.bitmap.Bitmap.{Bitmap}
 use Rattle.masks.specs.declared.builder.BitmapBuilder.{BitmapBuilder}
 
 -- ---- the calls, with their arguments save the history's own record and bytes
-
-pub data Append : Type 0 where
-  push : Bool → Append
-  extendConstant : ℕ → Bool → Append
-  pushWord : ℕ → ℕ → Append
-  extendFromSlice : List ℕ → ℕ → ℕ → Append
-  extendRepeated : List ℕ → ℕ → ℕ → ℕ → Append
-  subslice : Bitmap → List ℕ → ℕ → ℕ → Append
-  gather : List ℕ → ℕ → ℕ → List ℕ → Append
-  optGather : List ℕ → ℕ → ℕ → List ℕ → Append
 
 -- a mask that a combination takes: the history's own, or another with its bytes
 pub data Argument : Type 0 where
@@ -52,6 +41,8 @@ pub data Combination : Type 0 where
   selectConstant : Argument → Argument → Bool → Combination
 
 pub data Call : Type 0 where
+  -- bytes, start and length
+  tryNew : List ℕ → ℕ → ℕ → Call
   append : Append → Call
   freeze : Call
   intoOptValidity : Call
@@ -62,11 +53,22 @@ pub data Call : Type 0 where
 
 -- ---- the state that calls leave
 
--- a builder with its buffer, a mask with its bytes, or no mask: a history that `into_opt_validity` ended with none
+-- nothing yet: no span was accepted; a builder with its buffer; a mask with its bytes; no mask: a history that
+-- `into_opt_validity` ended with none
 pub data State : Type 0 where
+  waiting : State
   building : Filling → State
   masked : Bitmap → List ℕ → State
   ended : State
+
+-- a history begins with a new builder and any buffer, or with `try_new` calls, up to the first accepted one
+pub data Start : Type 0 where
+  fromBuilder : List ℕ → Start
+  fromSpan : Start
+
+abbrev pub startOf : Start → State
+startOf (fromBuilder buf) = building (filling newBuilder buf)
+startOf fromSpan = waiting
 
 -- what a call leaves, and whether it was accepted
 pub record Outcome : Type 0 where
@@ -76,27 +78,7 @@ pub record Outcome : Type 0 where
 abbrev pub outcome : State → Bool → Outcome
 outcome s t = record { state = s; accepted = t }
 
--- ---- appends: their checks and their flags
-
-abbrev pub appendChecks : Append → BitmapBuilder → List ℕ → List Check
-appendChecks (push x) b buf = growChecks b 1 (length buf)
-appendChecks (extendConstant n x) b buf = constantChecks b (length buf) n
-appendChecks (pushWord w n) b buf = wordChecks b (length buf) w n
-appendChecks (extendFromSlice bytes start n) b buf = spanGrowChecks b buf bytes start n n
-appendChecks (extendRepeated bytes start n k) b buf = spanGrowChecks b buf bytes start n (n * k)
-appendChecks (subslice m bytes start n) b buf = subsliceChecks b buf m bytes start n
-appendChecks (gather bytes start n idxs) b buf = gatherChecks b buf bytes start n idxs
-appendChecks (optGather bytes start n idxs) b buf = spanGrowChecks b buf bytes start n (length idxs)
-
-abbrev pub appendFlags : Append → List Bool
-appendFlags (push x) = x ∷ []
-appendFlags (extendConstant n x) = copies n x
-appendFlags (pushWord w n) = take n (wordFlags w)
-appendFlags (extendFromSlice bytes start n) = stretch bytes start n
-appendFlags (extendRepeated bytes start n k) = repeated k (stretch bytes start n)
-appendFlags (subslice m bytes start n) = window (maskFlags m bytes) start n
-appendFlags (gather bytes start n idxs) = gathered (stretch bytes start n) idxs
-appendFlags (optGather bytes start n idxs) = gathered (stretch bytes start n) idxs
+-- ---- calls on a builder
 
 abbrev pub afterAppend : List ℕ → Answer BitmapBuilder BitmapBuilder → Outcome
 afterAppend bytes (given b) = outcome (building (filling b bytes)) true
@@ -111,7 +93,11 @@ afterValidity bytes (given (some m)) = outcome (masked m bytes) true
 afterValidity bytes (given none) = outcome ended true
 afterValidity bytes (refused k b) = outcome (building (filling b bytes)) false
 
--- ---- calls on a mask
+-- ---- calls on a mask, and the one that makes it
+
+abbrev pub afterTry : List ℕ → Answer (Unit {0}) Bitmap → Outcome
+afterTry bytes (given m) = outcome (masked m bytes) true
+afterTry bytes (refused k s) = outcome waiting false
 
 abbrev pub afterSlice : List ℕ → Answer Bitmap Bitmap → Outcome
 afterSlice bytes (given m) = outcome (masked m bytes) true
@@ -163,21 +149,37 @@ combinedBytes m bytes (selectConstant p q x) out =
 -- ---- one call, a list of calls, and what the reference list sees of them
 
 -- a call that does not fit the state stands for none: it leaves the state, and is not accepted
+abbrev pub stepWaiting : Call → Outcome
+stepWaiting (tryNew bytes start n) = afterTry bytes (tryNewOf bytes start n)
+stepWaiting (append a) = outcome waiting false
+stepWaiting freeze = outcome waiting false
+stepWaiting intoOptValidity = outcome waiting false
+stepWaiting (slice offset n) = outcome waiting false
+stepWaiting unsetBits = outcome waiting false
+stepWaiting (combine c out) = outcome waiting false
+
+abbrev pub stepBuilder : BitmapBuilder → List ℕ → Call → Outcome
+stepBuilder b buf (tryNew bytes start n) = outcome (building (filling b buf)) false
+stepBuilder b buf (append a) = afterAppend (appendBytes a b buf) (appendAnswer a b buf)
+stepBuilder b buf freeze = afterFreeze (freezeBytes b buf) (freezeOf b buf)
+stepBuilder b buf intoOptValidity = afterValidity (freezeBytes b buf) (intoOptValidityOf b buf)
+stepBuilder b buf (slice offset n) = outcome (building (filling b buf)) false
+stepBuilder b buf unsetBits = outcome (building (filling b buf)) false
+stepBuilder b buf (combine c out) = outcome (building (filling b buf)) false
+
+abbrev pub stepMask : Bitmap → List ℕ → Call → Outcome
+stepMask m bytes (tryNew its start n) = outcome (masked m bytes) false
+stepMask m bytes (append a) = outcome (masked m bytes) false
+stepMask m bytes freeze = outcome (masked m bytes) false
+stepMask m bytes intoOptValidity = outcome (masked m bytes) false
+stepMask m bytes (slice offset n) = afterSlice bytes (sliceOf m bytes offset n)
+stepMask m bytes unsetBits = afterCount bytes (unsetBitsOf m bytes)
+stepMask m bytes (combine c out) = afterCombined m bytes (combinedBytes m bytes c out) (combinedOf m bytes c out)
+
 abbrev pub step : State → Call → Outcome
-step (building f) (append a) =
-    afterAppend (appendBytes (appendChecks a (f .builder) (f .bytes)) (f .builder) (f .bytes) (appendFlags a))
-    (appendAnswer (appendChecks a (f .builder) (f .bytes)) (f .builder) (f .bytes) (appendFlags a))
-step (building f) freeze = afterFreeze (freezeBytes (f .builder) (f .bytes)) (checked (freezeChecks (f .builder) (length (f .bytes))) (f .builder) (frozenMask (f .builder)))
-step (building f) intoOptValidity = afterValidity (freezeBytes (f .builder) (f .bytes)) (checked (freezeChecks (f .builder) (length (f .bytes))) (f .builder) (validityOf (f .builder)))
-step (building f) (slice offset n) = outcome (building f) false
-step (building f) unsetBits = outcome (building f) false
-step (building f) (combine c out) = outcome (building f) false
-step (masked m bytes) (append a) = outcome (masked m bytes) false
-step (masked m bytes) freeze = outcome (masked m bytes) false
-step (masked m bytes) intoOptValidity = outcome (masked m bytes) false
-step (masked m bytes) (slice offset n) = afterSlice bytes (sliceOf m bytes offset n)
-step (masked m bytes) unsetBits = afterCount bytes (unsetBitsOf m bytes)
-step (masked m bytes) (combine c out) = afterCombined m bytes (combinedBytes m bytes c out) (combinedOf m bytes c out)
+step waiting c = stepWaiting c
+step (building f) c = stepBuilder (f .builder) (f .bytes) c
+step (masked m bytes) c = stepMask m bytes c
 step ended c = outcome ended false
 
 abbrev pub run : State → List Call → State
@@ -194,18 +196,28 @@ trace s (c ∷ cs) = record { call = c; accepted = step s c .accepted } ∷ trac
 
 -- ---- the reference list
 
--- it stands where the history's own mask does; other masks give the flags in their bytes
+-- The reference list (document 01's plain list) stands where the history's own mask does; other masks give the flags in their bytes.
 abbrev pub flagsAt : List Bool → Argument → List Bool
 flagsAt l own = l
 flagsAt l (other m bytes) = maskFlags m bytes
 
+-- flag by flag: `and_not` and `or_not` first invert the second's
+abbrev pub pairFlag : Pair → Bool → Bool → Bool
+pairFlag and x y = x && y
+pairFlag andNot x y = x && not y
+pairFlag or x y = x || y
+pairFlag orNot x y = x || not y
+pairFlag xor x y = cond x (not y) y
+
+-- `select` takes the second's at a 1 of the first, else the third's or the constant
 abbrev pub combinedFlags : List Bool → Combination → List Bool
-combinedFlags l (pair op p q) = zip3 (opOf (pairOp op)) (flagsAt l p) (flagsAt l q) (flagsAt l q)
+combinedFlags l (pair op p q) = zipWith (pairFlag op) (flagsAt l p) (flagsAt l q)
 combinedFlags l (invert p) = map not (flagsAt l p)
 combinedFlags l (select p q r) = zip3 cond (flagsAt l p) (flagsAt l q) (flagsAt l r)
 combinedFlags l (selectConstant p q x) = zipWith (λ s t. cond s t x) (flagsAt l p) (flagsAt l q)
 
 abbrev pub listed : List Bool → Call → List Bool
+listed l (tryNew bytes start n) = stretch bytes start n
 listed l (append a) = l ++ appendFlags a
 listed l freeze = l
 listed l intoOptValidity = l
@@ -233,6 +245,7 @@ FairCombination (select p q r) = FairAt p × (FairAt q × FairAt r)
 FairCombination (selectConstant p q x) = FairAt p × FairAt q
 
 abbrev pub FairCall : Call → Type 0
+FairCall (tryNew bytes start n) = Unit {0}
 FairCall (append a) = Unit {0}
 FairCall freeze = Unit {0}
 FairCall intoOptValidity = Unit {0}
@@ -244,12 +257,18 @@ abbrev pub Fair : State → List Call → Type 0
 Fair s [] = Unit {0}
 Fair s (c ∷ cs) = (step s c .accepted ≡ true → FairCall c) × Fair (step s c .state) cs
 
--- ---- what a mask has in common with its list
+-- ---- a history: where it begins, and its calls, refused ones included
 
--- checks 1 and 2 pass, the flags are the list's, and the count, if known, is true
-pub record Stands (m : Bitmap) (bytes : List ℕ) (l : List Bool) : Type 0 where
-  pub starts : m .start ≤ limit
-  pub short : m .length ≤ limit
-  pub inside : m .start + m .length ≤ 8 * length bytes
-  pub flags : maskFlags m bytes ≡ l
-  pub counts : Truthful m bytes
+pub record History : Type 0 where
+  pub start : Start
+  pub calls : List Call
+
+abbrev pub endOf : History → State
+endOf h = run (startOf (h .start)) (h .calls)
+
+-- the list begins empty; a span's flags take its place
+abbrev pub listOf : History → List Bool
+listOf h = reference [] (trace (startOf (h .start)) (h .calls))
+
+abbrev pub FairHistory : History → Type 0
+FairHistory h = Fair (startOf (h .start)) (h .calls)

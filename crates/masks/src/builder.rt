@@ -4,10 +4,9 @@ ghost use mathlib.Core.List.{[], _∷_};
 ghost use Prim.Native.Nat.{_≤_, _-_};
 ghost use lib.ListN.{length, take};
 ghost use Rattle.words.specs.Flags.{wordFlags};
-ghost use Rattle.masks.specs.Answer.{checked};
-ghost use Rattle.masks.specs.Appends.{pushedAnswer, appendAnswer, appendBytes, growChecks, wordChecks};
+ghost use Rattle.masks.specs.Appends.{pushedAnswer, appendAnswer, appendBytes, pushFlag, pushWord};
 ghost use Rattle.masks.specs.Builder.{Room, newBuilder, filling, appended};
-ghost use Rattle.masks.specs.Freeze.{allOnes, frozenMask, validityOf, freezeChecks, freezeBytes, frozenOver, madeAnswer, validityAnswer};
+ghost use Rattle.masks.specs.Freeze.{allOnes, frozenMask, freezeBytes, freezeOf, frozenOver, intoOptValidityOf, madeAnswer, validityAnswer};
 use crate::bitmap::Bitmap;
 use crate::bitmap::Unset;
 use crate::checks::builder_failure;
@@ -58,8 +57,8 @@ impl BitmapBuilder {
     }
 
     pub fn push(self, buf: &mut [u8], flag: bool) -> Pushed
-        ensures answer { λ r. ⌜ pushedAnswer r ≡ appendAnswer (growChecks self 1 (length (now (buf .entry)))) self (now (buf .entry)) (flag ∷ []) ⌝ }
-        ensures bytes { λ _. ⌜ now (buf .exit) ≡ appendBytes (growChecks self 1 (length (now (buf .entry)))) self (now (buf .entry)) (flag ∷ []) ⌝ }
+        ensures answer { λ r. ⌜ pushedAnswer r ≡ appendAnswer (pushFlag flag) self (now (buf .entry)) ⌝ }
+        ensures bytes { λ _. ⌜ now (buf .exit) ≡ appendBytes (pushFlag flag) self (now (buf .entry)) ⌝ }
     {
         let refusal = builder_failure(self, 1, buf.len());
         if refusal != 0 {
@@ -70,8 +69,8 @@ impl BitmapBuilder {
 
     // Appends the first flags of a word.
     pub fn push_word_with_len_unchecked(self, buf: &mut [u8], word: u64, k: usize) -> Pushed
-        ensures answer { λ r. ⌜ pushedAnswer r ≡ appendAnswer (wordChecks self (length (now (buf .entry))) word k) self (now (buf .entry)) (take k (wordFlags word)) ⌝ }
-        ensures bytes { λ _. ⌜ now (buf .exit) ≡ appendBytes (wordChecks self (length (now (buf .entry))) word k) self (now (buf .entry)) (take k (wordFlags word)) ⌝ }
+        ensures answer { λ r. ⌜ pushedAnswer r ≡ appendAnswer (pushWord word k) self (now (buf .entry)) ⌝ }
+        ensures bytes { λ _. ⌜ now (buf .exit) ≡ appendBytes (pushWord word k) self (now (buf .entry)) ⌝ }
     {
         let refusal = earlier(builder_failure(self, k, buf.len()), word_failure(word, k));
         if refusal != 0 {
@@ -82,7 +81,7 @@ impl BitmapBuilder {
 
     // Writes the word in progress, and gives the mask of all flags.
     pub fn freeze(self, buf: &mut [u8]) -> Made
-        ensures answer { λ r. ⌜ madeAnswer r ≡ checked (freezeChecks self (length (now (buf .entry)))) self (frozenMask self) ⌝ }
+        ensures answer { λ r. ⌜ madeAnswer r ≡ freezeOf self (now (buf .entry)) ⌝ }
         ensures bytes { λ _. ⌜ now (buf .exit) ≡ freezeBytes self (now (buf .entry)) ⌝ }
     {
         let refusal = builder_failure(self, 0, buf.len());
@@ -95,7 +94,7 @@ impl BitmapBuilder {
 
     // The same, but no mask where the ones equal the length.
     pub fn into_opt_validity(self, buf: &mut [u8]) -> Validity
-        ensures answer { λ r. ⌜ validityAnswer r ≡ checked (freezeChecks self (length (now (buf .entry)))) self (validityOf self) ⌝ }
+        ensures answer { λ r. ⌜ validityAnswer r ≡ intoOptValidityOf self (now (buf .entry)) ⌝ }
         ensures bytes { λ _. ⌜ now (buf .exit) ≡ freezeBytes self (now (buf .entry)) ⌝ }
     {
         let refusal = builder_failure(self, 0, buf.len());

@@ -7,7 +7,7 @@ ghost use lib.Dec.{leb};
 ghost use lib.ListN.{length};
 ghost use Rattle.masks.specs.Checks.{earlier as Checks·earlier, rank as Checks·rank, firstFailed, limit, check, withinLimit, spanChecks, addressChecks, outputChecks};
 ghost use Rattle.masks.specs.Mask.{countFits, maskChecks};
-ghost use Rattle.masks.specs.Appends.{pieceChecks};
+ghost use Rattle.masks.specs.Appends.{innerChecks};
 ghost use Rattle.masks.specs.Builder.{possible, builderChecks, noneFrom};
 use crate::bitmap::Bitmap;
 use crate::bitmap::Unset;
@@ -165,8 +165,8 @@ pub(crate) fn limit_failure(n: usize) -> u8
 }
 
 // Of a piece of n flags from `start` on, in a mask of so many flags.
-pub(crate) fn piece_failure(start: usize, n: usize, whole: usize) -> u8
-    ensures { λ r. ⌜ r ≡ firstFailed (pieceChecks start n whole) ⌝ }
+pub(crate) fn inner_failure(start: usize, n: usize, whole: usize) -> u8
+    ensures { λ r. ⌜ r ≡ firstFailed (innerChecks start n whole) ⌝ }
 {
     earlier(
         failed(1, within_limit(start)),

@@ -4,7 +4,7 @@ ghost use Prim.Native.Nat.{_+_, _*_, _%_, _≤_};
 ghost use lib.ListN.{length};
 ghost use Rattle.words.specs.Flags.{copies, digit, window};
 ghost use Rattle.words.specs.Loops.{stretch};
-ghost use Rattle.masks.specs.Appends.{pushedAnswer, appendAnswer, appendBytes, constantChecks, spanGrowChecks, subsliceChecks};
+ghost use Rattle.masks.specs.Appends.{pushedAnswer, appendAnswer, appendBytes, extendConstant, extendSlice, extendBitmap};
 ghost use Rattle.masks.specs.Builder.{Room, filling, appended};
 ghost use Rattle.masks.specs.Mask.{maskFlags};
 use crate::bitmap::Bitmap;
@@ -13,9 +13,9 @@ use crate::builder::Pushed;
 use crate::builder::push_flags;
 use crate::checks::builder_failure;
 use crate::checks::earlier;
+use crate::checks::inner_failure;
 use crate::checks::limit_failure;
 use crate::checks::mask_failure;
-use crate::checks::piece_failure;
 use crate::checks::span_failure;
 use words::counts::count_ones;
 use words::loops::copy;
@@ -26,8 +26,8 @@ use words::word::word_from;
 impl BitmapBuilder {
     // Appends n copies of a flag.
     pub fn extend_constant(self, buf: &mut [u8], n: usize, flag: bool) -> Pushed
-        ensures answer { λ r. ⌜ pushedAnswer r ≡ appendAnswer (constantChecks self (length (now (buf .entry))) n) self (now (buf .entry)) (copies n flag) ⌝ }
-        ensures bytes { λ _. ⌜ now (buf .exit) ≡ appendBytes (constantChecks self (length (now (buf .entry))) n) self (now (buf .entry)) (copies n flag) ⌝ }
+        ensures answer { λ r. ⌜ pushedAnswer r ≡ appendAnswer (extendConstant n flag) self (now (buf .entry)) ⌝ }
+        ensures bytes { λ _. ⌜ now (buf .exit) ≡ appendBytes (extendConstant n flag) self (now (buf .entry)) ⌝ }
     {
         let refusal = earlier(builder_failure(self, n, buf.len()), limit_failure(n));
         if refusal != 0 {
@@ -38,10 +38,8 @@ impl BitmapBuilder {
 
     // Appends a span.
     pub fn extend_from_slice(self, buf: &mut [u8], bytes: &[u8], start: usize, n: usize) -> Pushed
-        ensures answer { λ r. ⌜ pushedAnswer r ≡ appendAnswer (spanGrowChecks self (now (buf .entry)) (now (bytes .entry)) start n n) self (now (buf .entry))
-            (stretch (now (bytes .entry)) start n) ⌝ }
-        ensures bytes { λ _. ⌜ now (buf .exit) ≡ appendBytes (spanGrowChecks self (now (buf .entry)) (now (bytes .entry)) start n n) self (now (buf .entry))
-            (stretch (now (bytes .entry)) start n) ⌝ }
+        ensures answer { λ r. ⌜ pushedAnswer r ≡ appendAnswer (extendSlice (now (bytes .entry)) start n) self (now (buf .entry)) ⌝ }
+        ensures bytes { λ _. ⌜ now (buf .exit) ≡ appendBytes (extendSlice (now (bytes .entry)) start n) self (now (buf .entry)) ⌝ }
     {
         let refusal = earlier(
             span_failure(start, n, bytes.len()),
@@ -62,15 +60,13 @@ impl BitmapBuilder {
         start: usize,
         n: usize,
     ) -> Pushed
-        ensures answer { λ r. ⌜ pushedAnswer r ≡ appendAnswer (subsliceChecks self (now (buf .entry)) mask (now (bytes .entry)) start n) self (now (buf .entry))
-            (window (maskFlags mask (now (bytes .entry))) start n) ⌝ }
-        ensures bytes { λ _. ⌜ now (buf .exit) ≡ appendBytes (subsliceChecks self (now (buf .entry)) mask (now (bytes .entry)) start n) self (now (buf .entry))
-            (window (maskFlags mask (now (bytes .entry))) start n) ⌝ }
+        ensures answer { λ r. ⌜ pushedAnswer r ≡ appendAnswer (extendBitmap mask (now (bytes .entry)) start n) self (now (buf .entry)) ⌝ }
+        ensures bytes { λ _. ⌜ now (buf .exit) ≡ appendBytes (extendBitmap mask (now (bytes .entry)) start n) self (now (buf .entry)) ⌝ }
     {
         let refusal = earlier(
             mask_failure(mask, bytes),
             earlier(
-                piece_failure(start, n, mask.length),
+                inner_failure(start, n, mask.length),
                 builder_failure(self, n, buf.len()),
             ),
         );

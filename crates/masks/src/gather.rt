@@ -5,7 +5,7 @@ ghost use Prim.Native.Nat.{_+_, _≤_, _<_};
 ghost use lib.ListN.{length, take, getD};
 ghost use Rattle.words.specs.Flags.{wordFlags};
 ghost use Rattle.words.specs.Loops.{stretch};
-ghost use Rattle.masks.specs.Appends.{pushedAnswer, appendAnswer, appendBytes, spanGrowChecks, gatherChecks, gathered, allBelow};
+ghost use Rattle.masks.specs.Appends.{pushedAnswer, appendAnswer, appendBytes, extendGather, extendOptGather, gathered, allBelow};
 ghost use Rattle.masks.specs.Builder.{Room, filling, appended};
 use crate::builder::BitmapBuilder;
 use crate::builder::Pushed;
@@ -28,10 +28,8 @@ impl BitmapBuilder {
         n: usize,
         idxs: &[u32],
     ) -> Pushed
-        ensures answer { λ r. ⌜ pushedAnswer r ≡ appendAnswer (gatherChecks self (now (buf .entry)) (now (bytes .entry)) start n (now (idxs .entry))) self (now (buf .entry))
-            (gathered (stretch (now (bytes .entry)) start n) (now (idxs .entry))) ⌝ }
-        ensures bytes { λ _. ⌜ now (buf .exit) ≡ appendBytes (gatherChecks self (now (buf .entry)) (now (bytes .entry)) start n (now (idxs .entry))) self (now (buf .entry))
-            (gathered (stretch (now (bytes .entry)) start n) (now (idxs .entry))) ⌝ }
+        ensures answer { λ r. ⌜ pushedAnswer r ≡ appendAnswer (extendGather (now (bytes .entry)) start n (now (idxs .entry))) self (now (buf .entry)) ⌝ }
+        ensures bytes { λ _. ⌜ now (buf .exit) ≡ appendBytes (extendGather (now (bytes .entry)) start n (now (idxs .entry))) self (now (buf .entry)) ⌝ }
     {
         let refusal = earlier(
             earlier(
@@ -55,10 +53,8 @@ impl BitmapBuilder {
         n: usize,
         idxs: &[u32],
     ) -> Pushed
-        ensures answer { λ r. ⌜ pushedAnswer r ≡ appendAnswer (spanGrowChecks self (now (buf .entry)) (now (bytes .entry)) start n (length (now (idxs .entry))))
-            self (now (buf .entry)) (gathered (stretch (now (bytes .entry)) start n) (now (idxs .entry))) ⌝ }
-        ensures bytes { λ _. ⌜ now (buf .exit) ≡ appendBytes (spanGrowChecks self (now (buf .entry)) (now (bytes .entry)) start n (length (now (idxs .entry))))
-            self (now (buf .entry)) (gathered (stretch (now (bytes .entry)) start n) (now (idxs .entry))) ⌝ }
+        ensures answer { λ r. ⌜ pushedAnswer r ≡ appendAnswer (extendOptGather (now (bytes .entry)) start n (now (idxs .entry))) self (now (buf .entry)) ⌝ }
+        ensures bytes { λ _. ⌜ now (buf .exit) ≡ appendBytes (extendOptGather (now (bytes .entry)) start n (now (idxs .entry))) self (now (buf .entry)) ⌝ }
     {
         let refusal = earlier(
             span_failure(start, n, bytes.len()),

@@ -3,7 +3,7 @@ ghost use mathlib.Core.Path.{_≡_};
 ghost use Prim.Native.Nat.{_+_, _*_, _≤_, _<_};
 ghost use lib.ListN.{length};
 ghost use Rattle.words.specs.Loops.{stretch};
-ghost use Rattle.masks.specs.Appends.{pushedAnswer, appendAnswer, appendBytes, spanGrowChecks, growChecks, repeated, SameOrOver};
+ghost use Rattle.masks.specs.Appends.{pushedAnswer, appendAnswer, appendBytes, extendRepeated, growChecks, repeated, SameOrOver};
 ghost use Rattle.masks.specs.Builder.{Room, filling, appended};
 ghost use Rattle.masks.specs.Checks.{firstFailed};
 use crate::bitmap::Bitmap;
@@ -26,10 +26,8 @@ impl BitmapBuilder {
         n: usize,
         repeats: usize,
     ) -> Pushed
-        ensures answer { λ r. ⌜ pushedAnswer r ≡ appendAnswer (spanGrowChecks self (now (buf .entry)) (now (bytes .entry)) start n (n * repeats)) self (now (buf .entry))
-            (repeated repeats (stretch (now (bytes .entry)) start n)) ⌝ }
-        ensures bytes { λ _. ⌜ now (buf .exit) ≡ appendBytes (spanGrowChecks self (now (buf .entry)) (now (bytes .entry)) start n (n * repeats)) self (now (buf .entry))
-            (repeated repeats (stretch (now (bytes .entry)) start n)) ⌝ }
+        ensures answer { λ r. ⌜ pushedAnswer r ≡ appendAnswer (extendRepeated (now (bytes .entry)) start n repeats) self (now (buf .entry)) ⌝ }
+        ensures bytes { λ _. ⌜ now (buf .exit) ≡ appendBytes (extendRepeated (now (bytes .entry)) start n repeats) self (now (buf .entry)) ⌝ }
     {
         let refusal = earlier(
             span_failure(start, n, bytes.len()),

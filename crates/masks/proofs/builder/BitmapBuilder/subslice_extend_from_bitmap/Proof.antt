@@ -5,7 +5,7 @@ use Rattle.masks.specs.Appends.{subsliceChecks}
 use Rattle.masks.specs.Builder.{appended}
 use Rattle.masks.proofs.CheckLaws.{refused-way, two-pieces, passed-left, passed-right}
 use Rattle.masks.proofs.AppendLaws.{append-way}
-use Rattle.masks.proofs.RoomLaws.{room-of, piece-allowed}
+use Rattle.masks.proofs.RoomLaws.{room-of, inner-allowed}
 use borrow.Author.Needs.{needs}
 use Rattle.masks.proofs.builder.BitmapBuilder.subslice_extend_from_bitmap.Statement.{
   statement,
@@ -15,8 +15,8 @@ use Rattle.masks.proofs.builder.BitmapBuilder.subslice_extend_from_bitm
 mask-failure-requires : tie.Need-mask-failure-requires
 mask-failure-requires c κs = search needs
 
-piece-failure-requires : tie.Need-piece-failure-requires
-piece-failure-requires c κs = search needs
+inner-failure-requires : tie.Need-inner-failure-requires
+inner-failure-requires c κs = search needs
 
 builder-failure-requires : tie.Need-builder-failure-requires
 builder-failure-requires c κs = search needs
@@ -33,7 +33,7 @@ returns c =
     let e = c .before in
     let b = e .before .before in
     refused-way _ _ _ _ (two-pieces _ _ _ _ _ (e .earlier2 .ensures) (b .before .before .mask-failure .ensures)
-    (two-pieces _ _ _ _ _ (e .before .earlier .ensures) (b .before .piece-failure .ensures) (b .builder-failure .ensures))) _ _ (c .if1 .taken)
+    (two-pieces _ _ _ _ _ (e .before .earlier .ensures) (b .before .inner-failure .ensures) (b .builder-failure .ensures))) _ _ (c .if1 .taken)
 
 add-append-stretch : tie.Need-add-append-stretch
 add-append-stretch c =
@@ -42,7 +42,7 @@ add-append-stretch c =
     let b = e .before .before in
     let none = sym (e .earlier2 .ensures) ∙ no .if1 .left in
     let rest = sym (e .before .earlier .ensures) ∙ passed-right _ _ none in
-    let ok = piece-allowed _ _ _ _ (sym (b .before .before .mask-failure .ensures) ∙ passed-left _ _ none) (sym (b .before .piece-failure .ensures) ∙ passed-left _ _ rest) in
+    let ok = inner-allowed _ _ _ _ (sym (b .before .before .mask-failure .ensures) ∙ passed-left _ _ none) (sym (b .before .inner-failure .ensures) ∙ passed-left _ _ rest) in
     omega (arith, ok .starts, ok .short, ok .inside)
 
 append-stretch-requires : tie.Need-append-stretch-requires
@@ -52,7 +52,7 @@ append-stretch-requires c κs =
     let b = e .before .before in
     let none = sym (e .earlier2 .ensures) ∙ no .if1 .left in
     let rest = sym (e .before .earlier .ensures) ∙ passed-right _ _ none in
-    let ok = piece-allowed _ _ _ _ (sym (b .before .before .mask-failure .ensures) ∙ passed-left _ _ none) (sym (b .before .piece-failure .ensures) ∙ passed-left _ _ rest) in
+    let ok = inner-allowed _ _ _ _ (sym (b .before .before .mask-failure .ensures) ∙ passed-left _ _ none) (sym (b .before .inner-failure .ensures) ∙ passed-left _ _ rest) in
     (omega (arith, ok .starts, ok .short, ok .inside), room-of _ _ _ (sym (b .builder-failure .ensures) ∙ passed-right _ _ rest))
 
 same-length : tie.Need-same-length
@@ -67,9 +67,9 @@ returns-2 c =
     let b = e .before .before in
     let none = sym (e .earlier2 .ensures) ∙ no .if1 .left in
     let rest = sym (e .before .earlier .ensures) ∙ passed-right _ _ none in
-    let ok = piece-allowed _ _ _ _ (sym (b .before .before .mask-failure .ensures) ∙ passed-left _ _ none) (sym (b .before .piece-failure .ensures) ∙ passed-left _ _ rest) in
+    let ok = inner-allowed _ _ _ _ (sym (b .before .before .mask-failure .ensures) ∙ passed-left _ _ none) (sym (b .before .inner-failure .ensures) ∙ passed-left _ _ rest) in
     append-way _ _ _ _ _ _ _ _ (two-pieces _ _ _ _ _ (e .earlier2 .ensures) (b .before .before .mask-failure .ensures)
-    (two-pieces _ _ _ _ _ (e .before .earlier .ensures) (b .before .piece-failure .ensures) (b .builder-failure .ensures))) (no .if1 .left)
+    (two-pieces _ _ _ _ _ (e .before .earlier .ensures) (b .before .inner-failure .ensures) (b .builder-failure .ensures))) (no .if1 .left)
     (did .append-stretch .ensures ∙ ap (appended _) (sym (in-window _ _ _ _ _ (ok .inside))))
 
 pub subslice-extend-from-bitmap-spec : {M : Type 1} → statement M
@@ -77,7 +77,7 @@ subslice-extend-from-bitmap-spec =
     tie.close
     (tie.spec
     mask-failure-requires
-    piece-failure-requires
+    inner-failure-requires
     builder-failure-requires
     earlier-requires
     earlier-requires-2

@@ -1,8 +1,8 @@
-use Rattle.masks.specs.Appends.{pieceChecks}
+use Rattle.masks.specs.Appends.{innerChecks}
 use Rattle.masks.proofs.CheckLaws.{more-check, one-check}
 use borrow.Author.Needs.{needs}
-use Rattle.masks.proofs.checks.piece_failure.Statement.{statement}
-use Rattle.masks.proofs.checks.piece_failure.Tie as tie
+use Rattle.masks.proofs.checks.inner_failure.Statement.{statement}
+use Rattle.masks.proofs.checks.inner_failure.Tie as tie
 
 within-limit-requires : tie.Need-within-limit-requires
 within-limit-requires c κs = search needs
@@ -29,7 +29,7 @@ earlier-requires-2 : tie.Need-earlier-requires-2
 earlier-requires-2 c κs = search needs
 
 returns : tie.Need-returns
-unfolding pieceChecks
+unfolding innerChecks
 returns c =
     let three = c .before .before in
     let two = three .before .before in
@@ -38,8 +38,8 @@ returns c =
     (more-check _ _ _ _ _ _ _ (c .before .earlier .ensures) (two .failed2 .ensures) (two .before .within-limit2 .ensures)
     (one-check _ _ _ _ (three .failed3 .ensures) (three .before .sum-at-most .ensures)))
 
-pub piece-failure-spec : {M : Type 1} → statement M
-piece-failure-spec =
+pub inner-failure-spec : {M : Type 1} → statement M
+inner-failure-spec =
     tie.close
     (tie.spec
     within-limit-requires
