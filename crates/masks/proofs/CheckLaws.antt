@@ -190,11 +190,11 @@ both-left A B e = passed-left (firstFailed A) (firstFailed B) (sym (failed-appen
 pub both-right : (A B : List Check) → firstFailed (A ++ B) ≡ 0 → firstFailed B ≡ 0
 both-right A B e = passed-right (firstFailed A) (firstFailed B) (sym (failed-append A B) ∙ e)
 
--- start + n, taken by bytes and flags, so that nothing can overflow
-pub exact-sum : (start n size : ℕ) → leb (start / 8 + n / 8 + (start % 8 + n % 8 + 7) / 8) size ≡ leb (start + n) (8 * size)
-exact-sum start n size = ⊎-elim
-    (λ (h : 8 * size < start + n). lt-leb (start / 8 + n / 8 + (start % 8 + n % 8 + 7) / 8) size (omega arith) ∙ sym (lt-leb (start + n) (8 * size) h))
-    (λ (h : start + n ≤ 8 * size). le-leb (start / 8 + n / 8 + (start % 8 + n % 8 + 7) / 8) size (omega arith) ∙ sym (le-leb (start + n) (8 * size) h))
+-- start + n, taken in bytes
+pub sum-in-bytes : (start n size : ℕ) → leb ((start + n + 7) / 8) size ≡ leb (start + n) (8 * size)
+sum-in-bytes start n size = ⊎-elim
+    (λ (h : 8 * size < start + n). lt-leb ((start + n + 7) / 8) size (omega arith) ∙ sym (lt-leb (start + n) (8 * size) h))
+    (λ (h : start + n ≤ 8 * size). le-leb ((start + n + 7) / 8) size (omega arith) ∙ sym (le-leb (start + n) (8 * size) h))
     (lt-or-le (8 * size) (start + n))
 
 pub sum-test : (a b c : ℕ) → a ≤ c → leb b (c - a) ≡ leb (a + b) c
@@ -242,6 +242,39 @@ and-left false y e = e
 pub and-right : (x y : Bool) → (x && y) ≡ true → y ≡ true
 and-right true y e = e
 and-right false y e = absurd (let z : _≡_ {A = ℕ} 0 1 = cc e in omega arith)
+
+-- the checks of a span: where start and length are within the limit, check 2 decides; else it is 1
+span-number : (a b t : Bool) → (a && b) ≡ true → cond t 0 2 ≡ earlier (cond a 0 1) (earlier (cond b 0 1) (earlier (cond t 0 2) 0))
+unfolding earlier
+span-number true true true h = refl
+span-number true true false h = refl
+span-number true false t h = absurd (let z : _≡_ {A = ℕ} 0 1 = cc h in omega arith)
+span-number false b t h = absurd (let z : _≡_ {A = ℕ} 0 1 = cc h in omega arith)
+
+over-number : (a b t : Bool) → (a && b) ≡ false → 1 ≡ earlier (cond a 0 1) (earlier (cond b 0 1) (earlier (cond t 0 2) 0))
+unfolding earlier
+over-number true true t h = absurd (let z : _≡_ {A = ℕ} 0 1 = cc h in omega arith)
+over-number true false true h = refl
+over-number true false false h = refl
+over-number false true true h = refl
+over-number false true false h = refl
+over-number false false true h = refl
+over-number false false false h = refl
+
+module _ (start n size : ℕ) (x y within : Bool) (ex : x ≡ leb start limit) (ey : y ≡ leb n limit) (e : within ≡ (x && y)) where
+  pub span-within : (r : ℕ) (t : Bool) → within ≡ true → r ≡ cond t 0 2 → t ≡ leb (start + n) (8 * size) → r ≡ firstFailed (spanChecks start n size)
+  unfolding firstFailed spanChecks
+  span-within r t h p q =
+      p ∙ ap (λ (z : Bool). cond z 0 2) q ∙ span-number (leb start limit) (leb n limit) (leb (start + n) (8 * size)) (sym (ap₂ _&&_ ex ey) ∙ sym e ∙ h)
+
+  pub span-over : within ≡ false → 1 ≡ firstFailed (spanChecks start n size)
+  unfolding firstFailed spanChecks
+  span-over h = over-number (leb start limit) (leb n limit) (leb (start + n) (8 * size)) (sym (ap₂ _&&_ ex ey) ∙ sym e ∙ h)
+
+  pub both-within : within ≡ true → (start ≤ limit) × (n ≤ limit)
+  both-within h =
+      let t = sym (ap₂ _&&_ ex ey) ∙ sym e ∙ h in
+      (leb-true start limit (and-left (leb start limit) (leb n limit) t), leb-true n limit (and-right (leb start limit) (leb n limit) t))
 
 earlier-ranked : (a b k : ℕ) → (a ≡ 0 → ⊥) ⊎ (a ≡ 0) → (b ≡ 0 → ⊥) ⊎ (b ≡ 0) → ((a ≡ 0 → ⊥) → rank a ≤ k) → ((b ≡ 0 → ⊥) → rank b ≤ k) → (earlier a b ≡ 0 → ⊥) → rank (earlier a b) ≤ k
 unfolding earlier

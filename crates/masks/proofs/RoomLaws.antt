@@ -21,18 +21,10 @@ use Rattle.masks.specs.Mask.{maskChecks, countValid}
 use Rattle.masks.specs.declared.bitmap.Bitmap.{Bitmap}
 use Rattle.masks.specs.declared.builder.BitmapBuilder.{BitmapBuilder}
 use Rattle.masks.proofs.AppendLaws.{Parts, grown, appended-grown, parts-of, parts-long, progress-of, word-back, length-progress}
-use Rattle.masks.proofs.CheckLaws.{head-passed, tail-passed, both-left, span-allowed}
+use Rattle.masks.proofs.CheckLaws.{and-left, and-right, head-passed, tail-passed, both-left, span-allowed}
 use Rattle.masks.proofs.FrozenLaws.{flags-packed, length-overFrom, flags-overFrom}
 
 -- ---- what the checks give
-
-and-left : (x y : Bool) → (x && y) ≡ true → x ≡ true
-and-left true y e = refl
-and-left false y e = e
-
-and-right : (x y : Bool) → (x && y) ≡ true → y ≡ true
-and-right true y e = e
-and-right false y e = absurd (let z : _≡_ {A = ℕ} 0 1 = cc in omega arith)
 
 pub room-of : (b : BitmapBuilder) (n size : ℕ) → firstFailed (builderChecks b (b .length + n) size) ≡ 0 → Room b n size
 unfolding builderChecks possible outputChecks

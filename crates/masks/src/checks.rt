@@ -2,7 +2,7 @@
 ghost use mathlib.Core.Path.{_≡_};
 ghost use mathlib.Core.Bool.{cond, _&&_};
 ghost use mathlib.Core.List.{[], _∷_};
-ghost use Prim.Native.Nat.{_+_, _*_};
+ghost use Prim.Native.Nat.{_+_, _*_, _≤_};
 ghost use lib.Dec.{leb};
 ghost use lib.ListN.{length};
 ghost use Rattle.masks.specs.Checks.{earlier as Checks·earlier, rank as Checks·rank, firstFailed, limit, check, withinLimit, spanChecks, addressChecks, outputChecks};
@@ -46,23 +46,22 @@ pub(crate) fn within_limit(n: usize) -> bool
     n <= Bitmap::LIMIT
 }
 
-// Is start + length, taken exactly, at most the flags of so many bytes.
+// Is start + length at most the flags of so many bytes.
 fn in_bytes(start: usize, length: usize, size: usize) -> bool
+    requires { ⌜ (start ≤ limit) × (length ≤ limit) ⌝ }
     ensures { λ r. ⌜ r ≡ leb (start + length) (8 * size) ⌝ }
 {
-    start / 8 + length / 8 + (start % 8 + length % 8 + 7) / 8 <= size
+    (start + length + 7) / 8 <= size
 }
 
+// Numbers of any size: those over the limit get 1 before they are added.
 pub(crate) fn span_failure(start: usize, length: usize, size: usize) -> u8
     ensures { λ r. ⌜ r ≡ firstFailed (spanChecks start length size) ⌝ }
 {
-    earlier(
-        failed(1, within_limit(start)),
-        earlier(
-            failed(1, within_limit(length)),
-            failed(2, in_bytes(start, length, size)),
-        ),
-    )
+    if both(within_limit(start), within_limit(length)) {
+        return failed(2, in_bytes(start, length, size));
+    }
+    1
 }
 
 pub(crate) fn address_failure(address: usize) -> u8

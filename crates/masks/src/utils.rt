@@ -102,15 +102,20 @@ fn trailing_of(flag: bool, bytes: &[u8], s: AlignedBitmapSlice) -> usize
     s.suffix_len + bulk + trailing_in_word(flag, s.prefix, s.prefix_len)
 }
 
-// The zeros of a span, with no check. One that fits a word is read as one.
-fn span_zeros(bytes: &[u8], start: usize, length: usize, address: usize) -> usize
+// The zeros of a span that fits a word: it is read as one. Apart from the longer ones, so that a call has it in its own body.
+fn short_zeros(bytes: &[u8], start: usize, length: usize) -> usize
+    requires { ⌜ length ≤ 64 ⌝ }
+    ensures { λ r. ⌜ r ≡ zeros (stretch (now (bytes .entry)) start length) ⌝ }
+{
+    let few = ones_in_word(flags_word(bytes, start, length));
+    length - few
+}
+
+// The zeros of any span, by the three parts of its split.
+fn long_zeros(bytes: &[u8], start: usize, length: usize, address: usize) -> usize
     requires { ⌜ (start ≤ 8388608) × ((length ≤ 4194304) × (address ≤ 7)) ⌝ }
     ensures { λ r. ⌜ r ≡ zeros (stretch (now (bytes .entry)) start length) ⌝ }
 {
-    if length <= 64 {
-        let few = ones_in_word(flags_word(bytes, start, length));
-        return length - few;
-    }
     let s = split(bytes, start, length, address);
     let ones = ones_of(bytes, s);
     length - ones
@@ -121,7 +126,10 @@ pub(crate) fn zeros_at(bytes: &[u8], start: usize, length: usize) -> usize
     requires { ⌜ (start ≤ 8388608) × (length ≤ 4194304) ⌝ }
     ensures { λ r. ⌜ r ≡ zeros (stretch (now (bytes .entry)) start length) ⌝ }
 {
-    span_zeros(bytes, start, length, 0)
+    if length <= 64 {
+        return short_zeros(bytes, start, length);
+    }
+    long_zeros(bytes, start, length, 0)
 }
 
 // How many flags of a span are zero.
@@ -135,7 +143,10 @@ pub fn count_zeros(bytes: &[u8], start: usize, length: usize, address: usize) ->
     if refusal != 0 {
         return Counted::Refused(refusal);
     }
-    Counted::Count(span_zeros(bytes, start, length, address))
+    if length <= 64 {
+        return Counted::Count(short_zeros(bytes, start, length));
+    }
+    Counted::Count(long_zeros(bytes, start, length, address))
 }
 
 fn leading_flags(flag: bool, bytes: &[u8], start: usize, length: usize, address: usize) -> Counted

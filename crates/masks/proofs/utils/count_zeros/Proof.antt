@@ -18,15 +18,25 @@ returns-2 : tie.Need-returns-2
 unfolding spanCount
 returns-2 c = not-empty _ _ _ _ (c .before .before .if1 .left) (is-refused _ _ _ _ (c .before .aligned-failure .ensures) (c .if2 .taken))
 
-span-zeros-requires : tie.Need-span-zeros-requires
-span-zeros-requires c κs = aligned-allowed _ _ _ _ (sym (c .before .aligned-failure .ensures) ∙ c .if2 .left)
+short-zeros-requires : tie.Need-short-zeros-requires
+short-zeros-requires c κs = search needs
 
 returns-3 : tie.Need-returns-3
 unfolding spanCount
 returns-3 c =
-    let e = c .before .before in
-    not-empty _ _ _ _ (e .before .if1 .left) (ap given (c .span-zeros .ensures) ∙ is-given _ _ _ _ (e .aligned-failure .ensures) (c .before .if2 .left))
+    let e = c .before .before .before in
+    not-empty _ _ _ _ (e .before .if1 .left) (ap given (c .short-zeros .ensures) ∙ is-given _ _ _ _ (e .aligned-failure .ensures) (c .before .before .if2 .left))
+
+long-zeros-requires : tie.Need-long-zeros-requires
+long-zeros-requires c κs = aligned-allowed _ _ _ _ (sym (c .before .before .aligned-failure .ensures) ∙ c .before .if2 .left)
+
+returns-4 : tie.Need-returns-4
+unfolding spanCount
+returns-4 c =
+    let e = c .before .before .before in
+    not-empty _ _ _ _ (e .before .if1 .left) (ap given (c .long-zeros .ensures) ∙ is-given _ _ _ _ (e .aligned-failure .ensures) (c .before .before .if2 .left))
 
 pub count-zeros-spec : {M : Type 1} → statement M
 count-zeros-spec =
-    tie.close (tie.spec returns aligned-failure-requires returns-2 span-zeros-requires returns-3)
+    tie.close
+    (tie.spec returns aligned-failure-requires returns-2 short-zeros-requires returns-3 long-zeros-requires returns-4)
