@@ -2,7 +2,7 @@
 use mathlib.Core.Path.{_≡_, refl, sym, ap, ap₂, _∙_}
 use mathlib.Core.Bool.{Bool, true, false, not}
 use mathlib.Core.List.{List, [], _∷_, _++_, map, append-assoc}
-use Prim.Native.Nat.{ℕ, zero, suc, _+_, _-_, _*_, _/_, _≤_, _<_}
+use Prim.Native.Nat.{ℕ, zero, suc, _+_, _-_, _*_, _/_, _%_, _≤_, _<_}
 use native.Mathlib.Omega.{arith}
 use lib.ListN.{length, take, length-take, length-append}
 use lib.Seq.{take-all}
@@ -11,7 +11,7 @@ use Rattle.words.specs.Flags.{bits, count, flagsOf, window, wordOf}
 use Rattle.words.proofs.Bits.{length-bits}
 use Rattle.words.proofs.Counting.{count-append, count-padded, count-not, count-le, count-short}
 use Rattle.words.proofs.EndLaws.{leading-le, leading-some, leading-all, trailing-le, trailing-some, trailing-all}
-use Rattle.words.proofs.Windows.{bits-window, length-window, window-add}
+use Rattle.words.proofs.Windows.{in-window, length-window, window-add, window-cut}
 use Rattle.masks.specs.Utils.{zeros}
 
 -- ---- the parts that are words
@@ -145,10 +145,13 @@ module _ (x : Bool) (l : List Bool) (s n : ℕ) where
       ap (λ (m : ℕ). 64 * m) (sym e) ∙ all ∙ ap₂ (λ (y m : ℕ). trailing x (window l y (64 * m))) f e
 
 -- the ones of a span that fits a word
-pub short-count : (bytes : List ℕ) (start n w c : ℕ) → n ≤ 64 → w ≡ wordOf (window (flagsOf bytes) start n) → c ≡ count (bits 64 w) → c ≡ count (window (flagsOf bytes) start n)
-short-count bytes start n w c h p q =
-    let l = window (flagsOf bytes) start n in
-    count-short l n w c (length-window (flagsOf bytes) start n) h (ap (bits 64) p ∙ bits-window 64 l) q
+pub short-count : (bytes : List ℕ) (start n x r c : ℕ) → start % 8 + n ≤ 64 → bits 64 x ≡ window (flagsOf bytes) (8 * (start / 8)) 64 → bits 64 r ≡ window (bits 64 x) (start % 8) 64
+    → c ≡ count (take n (bits 64 r)) → c ≡ count (window (flagsOf bytes) start n)
+short-count bytes start n x r c h p q e =
+    let at : 8 * (start / 8) + (start % 8 + 0) ≡ start = omega arith in
+    e ∙ ap count
+    (ap (take n) q ∙ window-cut (bits 64 x) (start % 8) 64 0 n (omega arith) ∙ ap (λ (t : List Bool). window t (start % 8 + 0) n) p
+    ∙ in-window (flagsOf bytes) (8 * (start / 8)) 64 (start % 8 + 0) n (omega arith) ∙ ap (λ (k : ℕ). window (flagsOf bytes) k n) at)
 
 -- the zeros are what is not set
 pub zeros-rest : (l : List Bool) (n c : ℕ) → length l ≡ n → c ≡ count l → n - c ≡ zeros l

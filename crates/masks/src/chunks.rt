@@ -7,9 +7,9 @@ ghost use Rattle.words.specs.Loops.{stretch};
 ghost use Rattle.masks.specs.Chunks.{chunksAnswer, newChunks, chunkAnswer, nextChunk, remainderAnswer, chunksRemainder};
 use crate::checks::span_failure;
 use crate::cursor::cursor_failure;
-use crate::span::byte_word;
 use crate::span::flags_word;
 use words::merge::merge_reversed;
+use words::word::byte_word;
 
 // A cursor over a span whose place counts words. The Rust's `BitChunks`, its bytes lent beside it.
 pub struct BitChunks {

@@ -6,7 +6,6 @@ ghost use Rattle.words.specs.Flags.{wordOf, wordFlags};
 ghost use Rattle.words.specs.Loops.{stretch};
 ghost use Rattle.masks.specs.Iterator.{leadingFrom};
 use words::ends::leading_in_word;
-use words::word::load_padded_le_u64;
 use words::word::low_flags;
 use words::word::word_from;
 
@@ -16,14 +15,6 @@ pub(crate) fn flags_word(bytes: &[u8], bit: usize, k: usize) -> u64
     ensures { λ r. ⌜ r ≡ wordOf (stretch (now (bytes .entry)) bit k) ⌝ }
 {
     low_flags(word_from(bytes, bit), k)
-}
-
-// The eight bytes from `at` on as a word, zeros past the end.
-pub(crate) fn byte_word(bytes: &[u8], at: usize) -> u64
-    requires { ⌜ at ≤ length (now bytes) ⌝ }
-    ensures { λ r. ⌜ wordFlags r ≡ stretch (now (bytes .entry)) (8 * at) 64 ⌝ }
-{
-    load_padded_le_u64(&bytes[at..])
 }
 
 // How many flags of a span that equal `flag` stand from `place` on: word by word, up to one that has another flag.

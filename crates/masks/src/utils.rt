@@ -1,7 +1,7 @@
 // Counts over bare spans. Each works from the three parts of the aligned split, and its answer does not depend on the address.
 ghost use mathlib.Core.Path.{_≡_};
 ghost use mathlib.Core.Bool.{true, false};
-ghost use Prim.Native.Nat.{_+_, _-_, _*_, _≤_, _<_};
+ghost use Prim.Native.Nat.{_+_, _-_, _*_, _%_, _≤_, _<_};
 ghost use Rattle.words.specs.Ends.{leading, trailing};
 ghost use Rattle.words.specs.Flags.{count};
 ghost use Rattle.words.specs.Loops.{stretch};
@@ -11,11 +11,13 @@ use crate::aligned::Aligned;
 use crate::aligned::AlignedBitmapSlice;
 use crate::aligned::aligned_failure;
 use crate::aligned::split;
-use crate::span::flags_word;
 use words::counts::count_ones;
 use words::ends::leading_in_word;
 use words::ends::trailing_in_word;
+use words::word::byte_word;
+use words::word::down;
 use words::word::low_flags;
+use words::word::ones_below;
 use words::word::ones_in_word;
 use words::word::word_from;
 
@@ -104,10 +106,10 @@ fn trailing_of(flag: bool, bytes: &[u8], s: AlignedBitmapSlice) -> usize
 
 // The zeros of a span that fits a word: it is read as one. Apart from the longer ones, so that a call has it in its own body.
 fn short_zeros(bytes: &[u8], start: usize, length: usize) -> usize
-    requires { ⌜ length ≤ 64 ⌝ }
+    requires { ⌜ start % 8 + length ≤ 64 ⌝ }
     ensures { λ r. ⌜ r ≡ zeros (stretch (now (bytes .entry)) start length) ⌝ }
 {
-    let few = ones_in_word(flags_word(bytes, start, length));
+    let few = ones_below(down(byte_word(bytes, start / 8), start % 8), length);
     length - few
 }
 
@@ -126,7 +128,7 @@ pub(crate) fn zeros_at(bytes: &[u8], start: usize, length: usize) -> usize
     requires { ⌜ (start ≤ 8388608) × (length ≤ 4194304) ⌝ }
     ensures { λ r. ⌜ r ≡ zeros (stretch (now (bytes .entry)) start length) ⌝ }
 {
-    if length <= 64 {
+    if start % 8 + length <= 64 {
         return short_zeros(bytes, start, length);
     }
     long_zeros(bytes, start, length, 0)
@@ -143,7 +145,7 @@ pub fn count_zeros(bytes: &[u8], start: usize, length: usize, address: usize) ->
     if refusal != 0 {
         return Counted::Refused(refusal);
     }
-    if length <= 64 {
+    if start % 8 + length <= 64 {
         return Counted::Count(short_zeros(bytes, start, length));
     }
     Counted::Count(long_zeros(bytes, start, length, address))

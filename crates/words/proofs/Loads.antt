@@ -173,5 +173,12 @@ pub at-last : (bs : List ℕ) (at s x r : ℕ) → 8 ≤ length bs → length bs
     → bits 64 r ≡ window (bits 64 x) (8 * (at + 8 - length bs) + s) 64 → bits 64 r ≡ window (flagsOf bs) (8 * at + s) 64
 at-last bs at s x r h k b p u = from-end (flagsOf bs) (8 * (length bs - 8)) (8 * (at + 8 - length bs) + s) (8 * at + s) x r (omega (arith, length-flags bs)) (omega arith) p u
 
+pub byte-last : (bs : List ℕ) (at x r : ℕ) → 8 ≤ length bs → length bs - at < 8 → at < length bs → bits 64 x ≡ window (flagsOf bs) (8 * (length bs - 8)) 64
+    → bits 64 r ≡ window (bits 64 x) (8 * (at + 8 - length bs)) 64 → bits 64 r ≡ window (flagsOf bs) (8 * at) 64
+byte-last bs at x r h k b p u = from-end (flagsOf bs) (8 * (length bs - 8)) (8 * (at + 8 - length bs)) (8 * at) x r (omega (arith, length-flags bs)) (omega arith) p u
+
+pub byte-past : (bs : List ℕ) (at : ℕ) → length bs ≤ at → bits 64 0 ≡ window (flagsOf bs) (8 * at) 64
+byte-past bs at h = bits-zero 64 ∙ sym (window-past (flagsOf bs) (8 * at) 64 (omega (arith, length-flags bs)))
+
 pub at-bit : (l : List Bool) (bit r : ℕ) → bits 64 r ≡ window l (8 * (bit / 8) + bit % 8) 64 → bits 64 r ≡ window l bit 64
 at-bit l bit r p = let e : 8 * (bit / 8) + bit % 8 ≡ bit = omega arith in p ∙ ap (λ (x : ℕ). window l x 64) e

@@ -7,12 +7,13 @@ use native.Mathlib.Nat.{mod-lt, add-sub-of-le, sub-add-cancel}
 use native.Mathlib.Omega.{arith}
 use lib.Pow.{pow-pos}
 use lib.Count.{ones}
-use lib.ListN.{length}
+use lib.ListN.{length, take}
+use lib.Seq.{take-all}
 use Rattle.words.specs.Flags.{bits, copies, count, digit}
 use borrow.Author.Tests.{lt-ltb, le-ltb}
 use Rattle.words.specs.declared.nth.Nth.the-variants.{At, Missing}
 use Rattle.words.specs.Nth.{nthPlace, nthOne}
-use Rattle.words.proofs.Bits.{bits-add, bits-mod, bits-shl, length-bits}
+use Rattle.words.proofs.Bits.{bits-add, bits-mod, bits-shl, bits-take, length-bits}
 use Rattle.words.proofs.Counting.{ones-bits, count-append, count-copies}
 
 -- in two lists in a row
@@ -44,6 +45,16 @@ ones-low d h w l =
     ∙ ap count (bits-mod d (w * 2 ^ (d - h)) ∙ ap (λ (x : ℕ). bits x (w * 2 ^ (d - h))) (sym (sub-add-cancel l)) ∙ bits-shl (d - h) h w)
     ∙ count-append (copies (d - h) false) (bits h w)
     ∙ omega (arith, count-copies (d - h) false)
+
+pub ones-taken : (k w r : ℕ) → k ≤ 64 → r ≡ ones (w * 2 ^ (64 - k) % 2 ^ 64) → r ≡ count (take k (bits 64 w))
+ones-taken k w r h e = e ∙ ones-low 64 k w h ∙ ap count (sym (bits-take 64 k w h))
+
+pub ones-whole : (k w r : ℕ) → 64 < k → r ≡ count (bits 64 w) → r ≡ count (take k (bits 64 w))
+ones-whole k w r h e = e ∙ ap count (sym (take-all k (bits 64 w) (omega (arith, length-bits 64 w))))
+
+pub ones-none : (k w : ℕ) → k ≡ 0 → 0 ≡ count (take k (bits 64 w))
+unfolding count
+ones-none k w e = ap (λ (j : ℕ). count (take j (bits 64 w))) (sym e)
 
 cut : (d h w : ℕ) → h ≤ d → bits d w ≡ bits h w ++ bits (d - h) (w / 2 ^ h)
 cut d h w l = ap (λ (x : ℕ). bits x w) (sym (add-sub-of-le l)) ∙ bits-add h (d - h) w

@@ -128,6 +128,23 @@ pub(crate) fn word_at(bytes: &[u8], at: usize, s: usize) -> u64
     down(full_word(bytes, n - 8), 8 * (at + 8 - n) + s)
 }
 
+// The eight bytes from `at` on, zeros past the end; near the end likewise.
+pub fn byte_word(bytes: &[u8], at: usize) -> u64
+    ensures { λ r. ⌜ wordFlags r ≡ window (flagsOf (now (bytes .entry))) (8 * at) 64 ⌝ }
+{
+    let n = bytes.len();
+    if n <= at {
+        return 0;
+    }
+    if 8 <= n - at {
+        return full_word(bytes, at);
+    }
+    if n < 8 {
+        return down(join(bytes), 8 * at);
+    }
+    down(full_word(bytes, n - 8), 8 * (at + 8 - n))
+}
+
 // The 64 flags from the flag `bit` on, zeros past the end.
 pub fn word_from(bytes: &[u8], bit: usize) -> u64
     ensures { λ r. ⌜ wordFlags r ≡ window (flagsOf (now (bytes .entry))) bit 64 ⌝ }
@@ -173,6 +190,19 @@ pub fn ones_in_word(w: u64) -> usize
     ensures { λ r. ⌜ r ≡ count (wordFlags w) ⌝ }
 {
     wide32(u64::count_ones(w))
+}
+
+// How many of the k low flags of w are set: the others are moved out of the word.
+pub fn ones_below(w: u64, k: usize) -> usize
+    ensures { λ r. ⌜ r ≡ count (take k (wordFlags w)) ⌝ }
+{
+    if k == 0 {
+        return 0;
+    }
+    if 64 < k {
+        return ones_in_word(w);
+    }
+    wide32(u64::count_ones(w << (64 - k)))
 }
 
 fn wide32(x: u32) -> usize

@@ -1,4 +1,5 @@
 use mathlib.Core.Path.{sym, ap, _∙_}
+use native.Mathlib.Omega.{arith}
 use Rattle.masks.specs.Answer.{given}
 use Rattle.masks.specs.Utils.{spanCount}
 use Rattle.masks.proofs.CheckLaws.{is-refused, is-given, is-empty, not-empty}
@@ -17,6 +18,9 @@ aligned-failure-requires c κs = search needs
 returns-2 : tie.Need-returns-2
 unfolding spanCount
 returns-2 c = not-empty _ _ _ _ (c .before .before .if1 .left) (is-refused _ _ _ _ (c .before .aligned-failure .ensures) (c .if2 .taken))
+
+add-if3 : tie.Need-add-if3
+add-if3 c = let a = aligned-allowed _ _ _ _ (sym (c .before .aligned-failure .ensures) ∙ c .if2 .left) in omega (arith, a .0, a .1 .0)
 
 short-zeros-requires : tie.Need-short-zeros-requires
 short-zeros-requires c κs = search needs
@@ -39,4 +43,4 @@ returns-4 c =
 pub count-zeros-spec : {M : Type 1} → statement M
 count-zeros-spec =
     tie.close
-    (tie.spec returns aligned-failure-requires returns-2 short-zeros-requires returns-3 long-zeros-requires returns-4)
+    (tie.spec returns aligned-failure-requires returns-2 add-if3 short-zeros-requires returns-3 long-zeros-requires returns-4)
