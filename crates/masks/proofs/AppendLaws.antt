@@ -14,7 +14,7 @@ use Rattle.words.proofs.Bits.{length-bits, wordOf-bits}
 use Rattle.words.proofs.Counting.{count-append}
 use Rattle.words.proofs.Plain.{window-part}
 use Rattle.words.proofs.Windows.{window-all, window-cut, bits-window}
-use Rattle.masks.specs.Answer.{given, decided, kept}
+use Rattle.masks.specs.Answer.{Answer, given, refused, decided, kept}
 use Rattle.masks.specs.Builder.{Filling, filling, builderOf, inProgress, appended, noneFrom}
 use Rattle.masks.specs.Frozen.{packed, overFrom}
 use Rattle.masks.specs.declared.builder.BitmapBuilder.{BitmapBuilder}
@@ -226,6 +226,24 @@ pub append-way : (r m : ℕ) (s b : BitmapBuilder) (old out : List ℕ) (f : Fil
     → (given b ≡ decided m s (appended f l .builder)) × (out ≡ kept m (appended f l .bytes) old)
 append-way r m s b old out f l e h p =
     given-way r m s old e b (appended f l .builder) out (appended f l .bytes) h (ap (λ (x : Filling). x .builder) p) (ap (λ (x : Filling). x .bytes) p)
+
+-- the same answer as a number and the record that is left: 0 where the record was given
+abbrev changed : {S : Type 0} → Answer S S → Answer S S
+changed (given b) = given b
+changed (refused n b) = decided n b b
+
+changed-decided : {S : Type 0} (m : ℕ) (s b : S) → changed (decided m s b) ≡ decided m s b
+unfolding decided
+changed-decided zero s b = refl
+changed-decided (suc m) s b = refl
+
+pub change-done : {S : Type 0} (b : S) (r : Answer S S) → given b ≡ r → decided 0 b b ≡ r
+unfolding decided
+change-done b r e = e
+
+-- the number of a refusal is never 0
+pub change-refused : {S : Type 0} (n m : ℕ) (b s a : S) → refused n b ≡ decided m s a → decided n b b ≡ decided m s a
+change-refused n m b s a e = ap changed e ∙ changed-decided m s a
 
 pub take-copies : (k n : ℕ) (x : Bool) → k ≤ n → take k (copies n x) ≡ copies k x
 unfolding copies

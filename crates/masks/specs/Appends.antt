@@ -11,7 +11,7 @@ use lib.Dec.{leb, ltb}
 use lib.ListN.{length, getD, take}
 use Rattle.words.specs.Flags.{copies, window, wordFlags}
 use Rattle.words.specs.Loops.{stretch}
-use Rattle.masks.specs.Answer.{Answer, given, refused, checked, kept}
+use Rattle.masks.specs.Answer.{Answer, given, refused, checked, decided, kept}
 use Rattle.masks.specs.Builder.{filling, appended, builderChecks, noneFrom}
 use Rattle.masks.specs.Checks.{Check, check, firstFailed, limit, withinLimit, spanChecks}
 use Rattle.masks.specs.Mask.{maskChecks, maskFlags}
@@ -111,6 +111,10 @@ appendBytes a b buf = kept (firstFailed (appendChecks a b buf)) (appended (filli
 abbrev pub pushedAnswer : Pushed → Answer BitmapBuilder BitmapBuilder
 pushedAnswer (Done b) = given b
 pushedAnswer (Refused n b) = refused n b
+
+-- what a call over the caller's own record answers: 0 or the number of a check, and the record that it leaves
+abbrev pub changeAnswer : ℕ → BitmapBuilder → Answer BitmapBuilder BitmapBuilder
+changeAnswer n b = decided n b b
 
 -- a number that stands for another: the same, or over the flag limit as that is
 abbrev pub SameOrOver : ℕ → ℕ → Type 0

@@ -4,7 +4,7 @@ ghost use mathlib.Core.List.{[], _∷_};
 ghost use Prim.Native.Nat.{_≤_, _-_};
 ghost use lib.ListN.{length, take};
 ghost use Rattle.words.specs.Flags.{wordFlags};
-ghost use Rattle.masks.specs.Appends.{pushedAnswer, appendAnswer, appendBytes, pushFlag, pushWord};
+ghost use Rattle.masks.specs.Appends.{pushedAnswer, appendAnswer, appendBytes, changeAnswer, pushFlag, pushWord};
 ghost use Rattle.masks.specs.Builder.{Room, newBuilder, filling, appended};
 ghost use Rattle.masks.specs.Freeze.{allOnes, frozenMask, freezeBytes, freezeOf, frozenOver, intoOptValidityOf, madeAnswer, validityAnswer};
 use crate::bitmap::Bitmap;
@@ -67,6 +67,17 @@ impl BitmapBuilder {
         Pushed::Done(push_flags(self, buf, constant_word(flag), 1))
     }
 
+    // The same over the caller's own record: 0, or the number of the check that refused. The record is read and stored whole, so
+    // that a further field of it changes no line here.
+    pub fn push_mut(&mut self, buf: &mut [u8], flag: bool) -> u8
+        ensures answer { λ r. ⌜ changeAnswer r (now (self .exit)) ≡ appendAnswer (pushFlag flag) (now (self .entry)) (now (buf .entry)) ⌝ }
+        ensures bytes { λ _. ⌜ now (buf .exit) ≡ appendBytes (pushFlag flag) (now (self .entry)) (now (buf .entry)) ⌝ }
+    {
+        let next = push_change(*self, buf, flag);
+        *self = next.builder;
+        next.number
+    }
+
     // Appends the first flags of a word.
     pub fn push_word_with_len_unchecked(self, buf: &mut [u8], word: u64, k: usize) -> Pushed
         ensures answer { λ r. ⌜ pushedAnswer r ≡ appendAnswer (pushWord word k) self (now (buf .entry)) ⌝ }
@@ -106,6 +117,29 @@ impl BitmapBuilder {
             return Validity::AllSet;
         }
         Validity::Mask(frozen_mask(self))
+    }
+}
+
+// What a call over the caller's own record leaves in it, and what it returns.
+struct Change {
+    builder: BitmapBuilder,
+    number: u8,
+}
+
+// The by-value push, for `push_mut`.
+fn push_change(b: BitmapBuilder, buf: &mut [u8], flag: bool) -> Change
+    ensures answer { λ r. ⌜ changeAnswer (r .number) (r .builder) ≡ appendAnswer (pushFlag flag) b (now (buf .entry)) ⌝ }
+    ensures bytes { λ _. ⌜ now (buf .exit) ≡ appendBytes (pushFlag flag) b (now (buf .entry)) ⌝ }
+{
+    match b.push(buf, flag) {
+        Pushed::Done(next) => Change {
+            builder: next,
+            number: 0,
+        },
+        Pushed::Refused(number, same) => Change {
+            builder: same,
+            number: number,
+        },
     }
 }
 

@@ -1,0 +1,43 @@
+use mathlib.Core.Path.{sym, ap, _∙_}
+use borrow.Author.Needs.{needs}
+use Rattle.masks.specs.Appends.{pushedAnswer}
+use Rattle.masks.proofs.AppendLaws.{change-done, change-refused}
+use Rattle.masks.proofs.builder.push_change.Statement.{statement}
+use Rattle.masks.proofs.builder.push_change.Tie as tie
+
+push-requires : tie.Need-push-requires
+push-requires c κs = search needs
+
+enum-known-next : tie.Need-enum-known-next
+enum-known-next c = search needs
+
+enum-known-number : tie.Need-enum-known-number
+enum-known-number c = search needs
+
+same-length : tie.Need-same-length
+same-length c = search needs
+
+returns : tie.Need-returns
+returns c =
+    let did = c .before .before .before .before .before .push .ensures in
+    (change-done _ _ (ap pushedAnswer (sym (c .before .next .given .1)) ∙ did .0), did .1)
+
+same-length-2 : tie.Need-same-length-2
+same-length-2 c = search needs
+
+returns-2 : tie.Need-returns-2
+returns-2 c =
+    let did = c .before .before .before .before .before .push .ensures in
+    (change-refused _ _ _ _ _ (ap pushedAnswer (sym (c .before .number .given .1)) ∙ did .0), did .1)
+
+pub push-change-spec : {M : Type 1} → statement M
+push-change-spec =
+    tie.close
+    (tie.spec
+    push-requires
+    enum-known-next
+    enum-known-number
+    same-length
+    returns
+    same-length-2
+    returns-2)
