@@ -1,4 +1,5 @@
-"""The calls of the crate masks on masks, for tests/mask_cases.py. A mask is a triple: start, length, and its zero count or None.
+"""The calls of the crate masks on masks, for tests/mask_cases.py and tests/cursor_lists.py. A mask is a triple:
+start, length, and its zero count or None.
 
 The questions are those of tests/nine_questions.py. Each call gives its values as a list; an output is a list of bytes, which a
 call that is not refused changes in place."""

@@ -1,4 +1,4 @@
-"""The nine questions of document 01 and the calls of the crate masks, for tests/span_cases.py and tests/mask_cases.py.
+"""The nine questions of document 01 and the calls of the crate masks, for tests/*_cases.py.
 
 A question is a pair: its number, and whether it is answered yes. A call puts its questions in the order 1 to 9; the first one
 answered no is the refusal. Numbers are exact, of any size. Bytes are lists of numbers, flags are lists of booleans; nothing

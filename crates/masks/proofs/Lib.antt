@@ -18,6 +18,7 @@ pub mod HistoryLaws
 pub mod HistoryMasks
 pub mod HistoryTheorem
 pub mod IteratorLaws
+pub mod Listing
 pub mod MaskLaws
 pub mod PartLaws
 pub mod PushLaws
@@ -26,10 +27,13 @@ pub mod RoomLaws
 pub mod RunExample
 pub mod RunLaws
 pub mod RunsPlain
+pub mod RunsWhole
+pub mod SearchCursor
 pub mod SearchLaws
 pub mod SearchPlain
 pub mod SliceTruth
 pub mod SpanLaws
 pub mod SplitLaws
 pub mod TrueIdxLaws
+pub mod TrueIdxPlain
 pub mod TrueLaws

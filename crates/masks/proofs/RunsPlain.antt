@@ -90,7 +90,7 @@ no-runs k (x ∷ l) h = absurd (omega arith)
 
 -- ---- one by one
 
-behind : (l : List Bool) (place : ℕ) → runsLeft l place ≡ runsLeft l (runStart l place)
+pub behind : (l : List Bool) (place : ℕ) → runsLeft l place ≡ runsLeft l (runStart l place)
 unfolding runsLeft runStart leadingFrom
 behind l place = zeros-passed place (drop place l) ∙ ap (runsFrom (place + leading false (drop place l))) (drop-drop (leading false (drop place l)) place l)
 
@@ -98,7 +98,7 @@ starts-one : (l : List Bool) (place : ℕ) → runStart l place < length l → 0
 unfolding runStart leadingFrom
 starts-one l place h = rw (sym (drop-drop (leading false (drop place l)) place l)) (then-ones (drop place l) (omega (arith, length-drop place l)))
 
-a-run-first : (l : List Bool) (place : ℕ) → runStart l place < length l
+pub a-run-first : (l : List Bool) (place : ℕ) → runStart l place < length l
     → runsLeft l (runStart l place)
     ≡ runOf (runStart l place) (leadingFrom true l (runStart l place)) ∷ runsLeft l (runStart l place + leadingFrom true l (runStart l place))
 unfolding runsLeft leadingFrom
@@ -107,7 +107,7 @@ a-run-first l place h =
     let n = leading true (drop s l) in
     ones-taken s (drop s l) (starts-one l place h) ∙ ap (λ (t : List Bool). runOf s n ∷ runsFrom (s + n) t) (drop-drop n s l)
 
-none-left : (l : List Bool) (s : ℕ) → length l ≤ s → runsLeft l s ≡ []
+pub none-left : (l : List Bool) (s : ℕ) → length l ≤ s → runsLeft l s ≡ []
 unfolding runsLeft
 none-left l s h = no-runs s (drop s l) (omega (arith, length-drop s l))
 

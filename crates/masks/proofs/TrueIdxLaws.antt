@@ -74,7 +74,7 @@ by-mask : (t : Bool) (a b : List Bool) (n : ℕ) → length a ≡ n → length b
 by-mask true a b n p q = p
 by-mask false a b n p q = q
 
-flags-length : (c : TrueIdxIter) (bytes : List ℕ) → length (trueFlags c bytes) ≡ c .length
+pub flags-length : (c : TrueIdxIter) (bytes : List ℕ) → length (trueFlags c bytes) ≡ c .length
 unfolding trueFlags
 flags-length c bytes =
     by-mask (c .masked) (stretch bytes (c .start) (c .length)) (copies (c .length) true) (c .length)

@@ -1,10 +1,11 @@
 -- The positions of the ones of a mask; with no mask every position. Assumes nothing.
-use Prim.Native.Nat.{ℕ, _+_}
+use Prim.Native.Nat.{ℕ, suc, _+_, _≤_, _<_}
+use mathlib.Core.Path.{_≡_}
 use mathlib.Core.Bool.{Bool, true, false, cond}
 use mathlib.Core.List.{List, [], _∷_, _++_}
 use mathlib.Core.Option.{Option, none, some}
 use lib.Dec.{leb, eqb}
-use lib.ListN.{length}
+use lib.ListN.{length, drop, getD}
 use Rattle.words.specs.Flags.{copies}
 use Rattle.words.specs.Loops.{stretch}
 use Rattle.masks.specs.Answer.{Answer, given, refused, checked}
@@ -72,3 +73,21 @@ trueIdxAnswer (TrueIdx·Refused k c) = refused k c
 -- the first one at or after the place
 unfoldable pub nextTrue : TrueIdxIter → List ℕ → Answer TrueIdxIter (Step TrueIdxIter ℕ)
 nextTrue c bytes = checked (trueChecks c (length bytes)) c (trueStep c (nthFrom (trueFlags c bytes) 0 (c .place)))
+
+-- ---- all positions of ones of a list
+
+-- the positions of the ones of a list whose first flag is number k, rising
+unfoldable pub onesFrom : ℕ → List Bool → List ℕ
+onesFrom k [] = []
+onesFrom k (false ∷ l) = onesFrom (suc k) l
+onesFrom k (true ∷ l) = k ∷ onesFrom (suc k) l
+
+-- the positions that a cursor at a place has before it
+unfoldable pub onesLeft : List Bool → ℕ → List ℕ
+onesLeft l place = onesFrom place (drop place l)
+
+-- all ones from the flag p on, rising; every other flag from there on is a zero
+pub data AllOnes (l : List Bool) : ℕ → List ℕ → Type 0 where
+  no-one : {p : ℕ} → ((j : ℕ) → p ≤ j → getD l j false ≡ false) → AllOnes l p []
+  one-at : {p i : ℕ} {more : List ℕ} → p ≤ i → ((j : ℕ) → p ≤ j → j < i → getD l j false ≡ false) → getD l i false ≡ true
+      → AllOnes l (suc i) more → AllOnes l p (i ∷ more)

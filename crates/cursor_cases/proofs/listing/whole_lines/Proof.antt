@@ -1,0 +1,54 @@
+-- The loop counts up to 180.
+use Prim.Native.Nat.{_≤_, _-_}
+use borrow.Author.Needs.{needs}
+use Rattle.cursor_cases.proofs.listing.whole_lines.Statement.{statement}
+use Rattle.cursor_cases.proofs.listing.whole_lines.Tie as tie
+
+abbrev Inv-loop : tie.InvT-loop
+Inv-loop bytes i₀ i = i ≤ 180
+
+abbrev μ-loop : tie.MeasureT-loop
+μ-loop bytes i₀ i = 180 - i
+
+loop-holds : tie.Need-loop-holds Inv-loop μ-loop
+loop-holds c = search needs
+
+start-requires : tie.Need-start-requires Inv-loop μ-loop
+start-requires c κs = search needs
+
+add-len : tie.Need-add-len Inv-loop μ-loop
+add-len c = search needs
+
+len-requires : tie.Need-len-requires Inv-loop μ-loop
+len-requires c κs = search needs
+
+whole-line-requires : tie.Need-whole-line-requires Inv-loop μ-loop
+whole-line-requires c κs = search needs
+
+add-i : tie.Need-add-i Inv-loop μ-loop
+add-i c = search needs
+
+loop-less : tie.Need-loop-less Inv-loop μ-loop
+loop-less c = search needs
+
+loop-again : tie.Need-loop-again Inv-loop μ-loop
+loop-again c = search needs
+
+returns : tie.Need-returns Inv-loop μ-loop
+returns c = search needs
+
+pub whole-lines-spec : {M : Type 1} → statement M
+whole-lines-spec =
+    tie.close
+    (tie.spec
+    Inv-loop
+    μ-loop
+    loop-holds
+    start-requires
+    add-len
+    len-requires
+    whole-line-requires
+    add-i
+    loop-less
+    loop-again
+    returns)
