@@ -1,0 +1,60 @@
+-- The loop counts up to 14, and what is written keeps its length.
+use Prim.Native.Nat.{_≤_, _-_}
+use mathlib.Core.Path.{_≡_}
+use lib.ListN.{length}
+use borrow.Author.Needs.{needs}
+use Rattle.builder_cases.proofs.gathering.row.Statement.{statement}
+use Rattle.builder_cases.proofs.gathering.row.Tie as tie
+
+abbrev Inv-loop : tie.InvT-loop
+Inv-loop n fill start bytes idxs buf₀ i₀ buf i = (i ≤ 14) × (length buf ≡ length buf₀)
+
+abbrev μ-loop : tie.MeasureT-loop
+μ-loop n fill start bytes idxs buf₀ i₀ buf i = 14 - i
+
+loop-holds : tie.Need-loop-holds Inv-loop μ-loop
+loop-holds c = search needs
+
+add-plain : tie.Need-add-plain Inv-loop μ-loop
+add-plain c = search needs
+
+plain-requires : tie.Need-plain-requires Inv-loop μ-loop
+plain-requires c κs = search needs
+
+many-requires : tie.Need-many-requires Inv-loop μ-loop
+many-requires c κs = search needs
+
+gather-requires : tie.Need-gather-requires Inv-loop μ-loop
+gather-requires c κs = search needs
+
+add-i : tie.Need-add-i Inv-loop μ-loop
+add-i c = search needs
+
+loop-less : tie.Need-loop-less Inv-loop μ-loop
+loop-less c = search needs
+
+loop-again : tie.Need-loop-again Inv-loop μ-loop
+loop-again c = search needs
+
+same-length : tie.Need-same-length Inv-loop μ-loop
+same-length c = search needs
+
+returns : tie.Need-returns Inv-loop μ-loop
+returns c = search needs
+
+pub row-spec : {M : Type 1} → statement M
+row-spec =
+    tie.close
+    (tie.spec
+    Inv-loop
+    μ-loop
+    loop-holds
+    add-plain
+    plain-requires
+    many-requires
+    gather-requires
+    add-i
+    loop-less
+    loop-again
+    same-length
+    returns)

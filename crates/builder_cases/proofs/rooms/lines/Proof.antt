@@ -1,0 +1,64 @@
+-- The loop counts up to 72, and what is written keeps its length.
+use Prim.Native.Nat.{_≤_, _-_}
+use mathlib.Core.Path.{_≡_}
+use lib.ListN.{length}
+use borrow.Author.Needs.{needs}
+use Rattle.builder_cases.proofs.rooms.lines.Statement.{statement}
+use Rattle.builder_cases.proofs.rooms.lines.Tie as tie
+
+abbrev Inv-loop : tie.InvT-loop
+Inv-loop bytes idxs₀ buf₀ i₀ idxs buf i = (i ≤ 72) × (length idxs ≡ length idxs₀) × (length buf ≡ length buf₀)
+
+abbrev μ-loop : tie.MeasureT-loop
+μ-loop bytes idxs₀ buf₀ i₀ idxs buf i = 72 - i
+
+loop-holds : tie.Need-loop-holds Inv-loop μ-loop
+loop-holds c = search needs
+
+op-requires : tie.Need-op-requires Inv-loop μ-loop
+op-requires c κs = search needs
+
+len-requires : tie.Need-len-requires Inv-loop μ-loop
+len-requires c κs = search needs
+
+fill-requires : tie.Need-fill-requires Inv-loop μ-loop
+fill-requires c κs = search needs
+
+line-requires : tie.Need-line-requires Inv-loop μ-loop
+line-requires c κs = search needs
+
+add-i : tie.Need-add-i Inv-loop μ-loop
+add-i c = search needs
+
+loop-less : tie.Need-loop-less Inv-loop μ-loop
+loop-less c = search needs
+
+loop-again : tie.Need-loop-again Inv-loop μ-loop
+loop-again c = search needs
+
+same-length : tie.Need-same-length Inv-loop μ-loop
+same-length c = search needs
+
+same-length-2 : tie.Need-same-length-2 Inv-loop μ-loop
+same-length-2 c = search needs
+
+returns : tie.Need-returns Inv-loop μ-loop
+returns c = search needs
+
+pub lines-spec : {M : Type 1} → statement M
+lines-spec =
+    tie.close
+    (tie.spec
+    Inv-loop
+    μ-loop
+    loop-holds
+    op-requires
+    len-requires
+    fill-requires
+    line-requires
+    add-i
+    loop-less
+    loop-again
+    same-length
+    same-length-2
+    returns)
