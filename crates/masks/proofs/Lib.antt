@@ -18,6 +18,7 @@ pub mod HistoryMasks
 pub mod HistoryTheorem
 pub mod IteratorLaws
 pub mod MaskLaws
+pub mod PairPlain
 pub mod PartLaws
 pub mod PushLaws
 pub mod RepeatLaws
