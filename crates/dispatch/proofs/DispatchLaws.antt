@@ -1,4 +1,4 @@
--- What a call's answer says of its number, the checks of one mask and of two, and a single flag. Assumes nothing.
+-- The checks of one mask and of two, put together from the calls that make them, and a single flag. Assumes nothing.
 use mathlib.Core.Path.{_≡_, refl, sym, ap, _∙_, subst}
 use mathlib.Core.Bool.{Bool, true, false, cond}
 use mathlib.Core.List.{List, [], _∷_, _++_, append-assoc}
@@ -7,7 +7,7 @@ use native.Mathlib.Omega.{arith}
 use lib.Dec.{eqb, leb, ltb}
 use lib.ListN.{length, getD}
 use borrow.Author.Tests.{eq-eqb, le-leb, le-ltb, lt-ltb, ne-eqb}
-use Rattle.masks.specs.Answer.{Answer, given, refused, decided}
+use Rattle.masks.specs.Answer.{given, refused}
 use Rattle.masks.specs.Checks.{Check, check, rank, firstFailed, outputChecks, spanChecks}
 use Rattle.masks.specs.Combine.{pairChecks}
 use Rattle.masks.specs.Compare.{commonChecks}
@@ -18,6 +18,7 @@ use Rattle.masks.specs.declared.bitmap.Bitmap.{Bitmap}
 use Rattle.masks.specs.declared.bitmap.Optional.{Optional}
 use Rattle.masks.specs.declared.bitmap.Optional.the-variants.{Present, Absent}
 use Rattle.masks.specs.declared.iterator.BitmapIter.{BitmapIter}
+use Rattle.masks.proofs.AnswerLaws.{given-value, refused-failed, refused-number}
 use Rattle.masks.proofs.CheckLaws.{before, both-left, both-right, failed-ranked, first-refused, one-check, passed-before, when-ne}
 use Rattle.masks.proofs.IteratorLaws.{flag-taken, flag-ended}
 use Rattle.dispatch.specs.Dispatch.{Readable, reassignChecks, truckInside}
@@ -29,28 +30,6 @@ when-lt a b x y h = ap (λ (t : Bool). cond t x y) (sym (lt-ltb a b h))
 
 pub when-past : {A : Type 0} (a b : ℕ) (x y : A) → b ≤ a → y ≡ cond (ltb a b) x y
 when-past a b x y h = ap (λ (t : Bool). cond t x y) (sym (le-ltb a b h))
-
--- ---- the number behind an answer
-
-pub refused-number : {S A : Type 0} (n m : ℕ) (s s′ : S) (a : A) → refused n s ≡ decided m s′ a → n ≡ m
-unfolding decided
-refused-number n zero s s′ a e = absurd (let z : _≡_ {A = ℕ} 0 1 = cc in omega arith)
-refused-number n (suc m) s s′ a e = cc
-
-pub given-number : {S A : Type 0} (m : ℕ) (s : S) (a a′ : A) → given a ≡ decided m s a′ → 0 ≡ m
-unfolding decided
-given-number zero s a a′ e = refl
-given-number (suc m) s a a′ e = absurd (let z : _≡_ {A = ℕ} 0 1 = cc in omega arith)
-
-refused-failed : {S A : Type 0} (n m : ℕ) (s s′ : S) (a : A) → refused n s ≡ decided m s′ a → m ≡ 0 → ⊥
-unfolding decided
-refused-failed n zero s s′ a e z = let z : _≡_ {A = ℕ} 0 1 = cc in omega arith
-refused-failed n (suc m) s s′ a e z = omega arith
-
-given-value : {S A : Type 0} (m : ℕ) (s : S) (a a′ : A) → given a ≡ decided m s a′ → a ≡ a′
-unfolding decided
-given-value zero s a a′ e = cc
-given-value (suc m) s a a′ e = absurd (let z : _≡_ {A = ℕ} 0 1 = cc in omega arith)
 
 -- ---- a check that is put last
 

@@ -1,6 +1,7 @@
 -- The laws of the crate, a file for each topic.
 pub mod Accepted
 pub mod AgreementLaws
+pub mod AnswerLaws
 pub mod AppendLaws
 pub mod BitmaskLaws
 pub mod CheckLaws

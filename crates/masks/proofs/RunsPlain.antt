@@ -107,7 +107,7 @@ a-run-first l place h =
     let n = leading true (drop s l) in
     ones-taken s (drop s l) (starts-one l place h) ∙ ap (λ (t : List Bool). runOf s n ∷ runsFrom (s + n) t) (drop-drop n s l)
 
-none-left : (l : List Bool) (s : ℕ) → length l ≤ s → runsLeft l s ≡ []
+pub none-left : (l : List Bool) (s : ℕ) → length l ≤ s → runsLeft l s ≡ []
 unfolding runsLeft
 none-left l s h = no-runs s (drop s l) (omega (arith, length-drop s l))
 

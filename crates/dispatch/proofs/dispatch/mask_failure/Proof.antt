@@ -1,6 +1,6 @@
 use mathlib.Core.Path.{sym, ap, _∙_}
 use Rattle.masks.specs.SliceIterator.{newSlices, slicesAnswer}
-use Rattle.dispatch.proofs.DispatchLaws.{given-number, refused-number}
+use Rattle.masks.proofs.AnswerLaws.{given-number, refused-number}
 use borrow.Author.Needs.{needs}
 use Rattle.dispatch.proofs.dispatch.mask_failure.Statement.{statement}
 use Rattle.dispatch.proofs.dispatch.mask_failure.Tie as tie

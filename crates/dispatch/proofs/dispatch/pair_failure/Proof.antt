@@ -1,6 +1,7 @@
 use mathlib.Core.Path.{sym, ap, _∙_}
 use Rattle.masks.specs.Combine.{combinedAnswer, pairOf}
-use Rattle.dispatch.proofs.DispatchLaws.{given-number, pair-number, refused-number}
+use Rattle.masks.proofs.AnswerLaws.{given-number, refused-number}
+use Rattle.dispatch.proofs.DispatchLaws.{pair-number}
 use borrow.Author.Needs.{needs}
 use Rattle.dispatch.proofs.dispatch.pair_failure.Statement.{statement}
 use Rattle.dispatch.proofs.dispatch.pair_failure.Tie as tie
