@@ -55,7 +55,7 @@ fn flags(k: Case, permission: &[u8], revocation: &[u8]) {
     let len = k.len % 256;
     let mut t = 0;
     while t < len {
-        text::digit(calls::case(k, permission, revocation, t));
+        text::digit(calls::ask_case(k, permission, revocation, t));
         t += 1;
     }
 }
@@ -63,7 +63,7 @@ fn flags(k: Case, permission: &[u8], revocation: &[u8]) {
 fn trucks(k: Case, permission: &[u8], revocation: &[u8]) {
     let mut i = 0;
     while i < 9 {
-        text::answer(calls::case(k, permission, revocation, tables::truck(i, k.len)));
+        text::answer(calls::ask_case(k, permission, revocation, tables::truck(i, k.len)));
         i += 1;
     }
 }
@@ -97,7 +97,7 @@ fn trucks_sum(sum: u64, k: Case, permission: &[u8], revocation: &[u8]) -> u64 {
     let mut all = sum;
     let mut t = 0;
     while t < len + 2 {
-        all = text::add(all, calls::case(k, permission, revocation, t));
+        all = text::add(all, calls::ask_case(k, permission, revocation, t));
         t += 1;
     }
     all

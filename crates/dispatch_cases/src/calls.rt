@@ -1,11 +1,12 @@
 // The call, with its masks chosen by numbers and its answer as a number.
+ghost use Prim.Native.Nat.{_<_};
 use dispatch::dispatch::Reassign;
 use dispatch::dispatch::may_reassign;
 use masks::bitmap::Bitmap;
 use masks::bitmap::Optional;
 use masks::bitmap::Unset;
 
-// Which masks are there, and their bytes' kinds of count.
+// Which masks are there, where they start, and their length.
 pub struct Case {
     pub kind: usize,
     pub start: usize,
@@ -13,7 +14,9 @@ pub struct Case {
     pub len: usize,
 }
 
-fn wide(x: u8) -> u64 {
+fn wide(x: u8) -> u64
+    ensures { λ r. ⌜ r < 256 ⌝ }
+{
     x as u64
 }
 
@@ -63,7 +66,7 @@ fn mask(there: bool, start: usize, len: usize) -> Optional {
 }
 
 // Kind 0: both masks; 1: the permission mask alone; 2: the revocation mask alone; 3: none.
-pub fn case(k: Case, permission_bytes: &[u8], revocation_bytes: &[u8], truck: usize) -> u64 {
+pub fn ask_case(k: Case, permission_bytes: &[u8], revocation_bytes: &[u8], truck: usize) -> u64 {
     ask(
         mask(k.kind < 2, k.start, k.len),
         permission_bytes,
