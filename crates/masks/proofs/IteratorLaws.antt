@@ -1,10 +1,11 @@
 -- The flags of a span one by one, and how many alike stand next: word by word. Assumes nothing.
 use mathlib.Core.Path.{_≡_, refl, sym, ap, ap₂, _∙_}
-use mathlib.Core.Bool.{Bool, false}
+use mathlib.Core.Bool.{Bool, true, false, cond, _&&_}
 use mathlib.Core.List.{List, _++_}
 use Prim.Native.Nat.{ℕ, _+_, _-_, _≤_, _<_, min}
 use native.Mathlib.Nat.{add-zero}
 use native.Mathlib.Omega.{arith}
+use lib.Dec.{ltb}
 use lib.ListN.{length, take, drop, getD, length-drop, take-append-drop}
 use lib.Seq.{drop-drop}
 use borrow.Author.Tests.{lt-ltb, le-ltb}
@@ -12,9 +13,9 @@ use Rattle.words.specs.Ends.{leading}
 use Rattle.words.specs.Flags.{bits, flagsOf, window}
 use Rattle.words.proofs.EndLaws.{leading-le, leading-some, leading-all}
 use Rattle.words.proofs.Plain.{window-part}
-use Rattle.words.proofs.Windows.{length-window, window-cut, in-window, at-in}
+use Rattle.words.proofs.Windows.{length-window, window-cut, in-window, at-in, at-window}
 use Rattle.masks.specs.Cursor.{item, ended}
-use Rattle.masks.specs.Iterator.{movedTo, flagStep, leadingFrom}
+use Rattle.masks.specs.Iterator.{iterFlags, movedTo, flagStep, leadingFrom}
 use Rattle.masks.specs.declared.iterator.BitmapIter.{BitmapIter}
 
 -- ---- the two answers of a cursor
@@ -30,6 +31,27 @@ a-flag bytes c k x h e =
 pub no-flag : (bytes : List ℕ) (c : BitmapIter) (k : ℕ) → c .place ≤ c .length → c .length - c .place ≤ k → ended (movedTo c (c .length)) ≡ flagStep bytes c k
 unfolding flagStep
 no-flag bytes c k p h = rw (le-ltb (c .place + k) (c .length) (omega arith))
+
+-- ---- what `nth` says of the flags: x is flag k from the cursor's place on, and none that there is no flag
+
+taken-step : (t : Bool) (x y : Bool) (c d e : BitmapIter) → item x c ≡ cond t (item y d) (ended e) → x ≡ y
+taken-step true x y c d e p = cc
+taken-step false x y c d e p = absurd (let z : _≡_ {A = ℕ} 0 1 = cc in omega arith)
+
+ended-step : (t : Bool) (y : Bool) (c d e : BitmapIter) → ended c ≡ cond t (item y d) (ended e) → t ≡ false
+ended-step true y c d e p = absurd (let z : _≡_ {A = ℕ} 0 1 = cc in omega arith)
+ended-step false y c d e p = refl
+
+pub flag-taken : (bytes : List ℕ) (c d : BitmapIter) (k : ℕ) (x : Bool) → item x d ≡ flagStep bytes c k → x ≡ getD (iterFlags c bytes) (c .place + k) false
+unfolding flagStep
+flag-taken bytes c d k x e = taken-step (ltb (c .place + k) (c .length)) x (getD (iterFlags c bytes) (c .place + k) false) d (movedTo c (c .place + k + 1)) (movedTo c (c .length)) e
+
+pub flag-ended : (bytes : List ℕ) (c d : BitmapIter) (k : ℕ) → ended d ≡ flagStep bytes c k → false ≡ getD (iterFlags c bytes) (c .place + k) false
+unfolding flagStep
+flag-ended bytes c d k e =
+    sym (at-window (flagsOf bytes) (c .start) (c .length) (c .place + k)
+    ∙ ap (λ (t : Bool). t && getD (flagsOf bytes) (c .start + (c .place + k)) false)
+    (ended-step (ltb (c .place + k) (c .length)) (getD (iterFlags c bytes) (c .place + k) false) d (movedTo c (c .place + k + 1)) (movedTo c (c .length)) e))
 
 -- ---- how many alike
 

@@ -1,6 +1,7 @@
 -- The laws of the crate, a file for each topic.
 pub mod Accepted
 pub mod AgreementLaws
+pub mod AnswerLaws
 pub mod AppendLaws
 pub mod BitmaskLaws
 pub mod CheckLaws
@@ -20,6 +21,7 @@ pub mod HistoryTheorem
 pub mod IteratorLaws
 pub mod Listing
 pub mod MaskLaws
+pub mod PairPlain
 pub mod PartLaws
 pub mod PushLaws
 pub mod RepeatLaws

@@ -7,7 +7,7 @@ use lib.ListN.{length}
 use Rattle.words.specs.Flags.{copies, over}
 use Rattle.words.specs.Ops.{opOf, zip3}
 use Rattle.words.specs.declared.ops.Op.{Op}
-use Rattle.words.specs.declared.ops.Op.the-variants.{And, AndNot, Or, OrNot, Xor, Not, Select}
+pub use Rattle.words.specs.declared.ops.Op.the-variants.{And, AndNot, Or, OrNot, Xor, Not, Select}
 use Rattle.masks.specs.Answer.{Answer, given, refused, checked, kept}
 use Rattle.masks.specs.Checks.{Check, check, firstFailed, limit, outputChecks}
 use Rattle.masks.specs.Frozen.{frozen}

@@ -1,0 +1,2 @@
+// Who may reassign which truck: what the dispatch software asks of permission and revocation masks.
+pub mod dispatch;

@@ -1,0 +1,4 @@
+// The program maskreport on no bytes. tests/maskreport.py wrote stdin and stdout.
+fn main() {
+    report::program::run();
+}

@@ -1,0 +1,30 @@
+-- The numbers of a report on bytes that are read as eight flags each. Assumes nothing.
+use Prim.Native.Nat.{ℕ}
+use mathlib.Core.Bool.{Bool, cond}
+use mathlib.Core.List.{List}
+use lib.Dec.{leb}
+use lib.ListN.{length}
+use Rattle.words.specs.Flags.{flagsOf}
+use Rattle.masks.specs.Answer.{Answer, given, refused}
+use Rattle.masks.specs.Compare.{edges}
+use Rattle.masks.specs.SliceIterator.{runsFrom}
+use Rattle.masks.specs.Utils.{zeros}
+use Rattle.report.specs.declared.numbers.Numbers.{Numbers}
+use Rattle.report.specs.declared.numbers.Reported.{Reported}
+use Rattle.report.specs.declared.numbers.Reported.the-variants.{Of, Refused}
+
+-- how many flags, zeros, neighbours that differ, and runs of ones
+abbrev pub numbersOf : List Bool → Numbers
+numbersOf l = record { flags = length l; zeros = zeros l; edges = edges l; runs = length (runsFrom 0 l) }
+
+-- how many bytes a report takes
+abbrev pub most : ℕ
+most = 65536
+
+abbrev pub reportedAnswer : Reported → Answer (Unit {0}) Numbers
+reportedAnswer (Of n) = given n
+reportedAnswer (Refused k) = refused k tt
+
+-- More bytes are refused with 1: the program's own limit, and the number of no check.
+unfoldable pub reportOf : List ℕ → Answer (Unit {0}) Numbers
+reportOf bytes = cond (leb (length bytes) most) (given (numbersOf (flagsOf bytes))) (refused 1 tt)
