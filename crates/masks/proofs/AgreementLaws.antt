@@ -4,16 +4,15 @@ use mathlib.Core.Path.{_≡_, refl, sym, ap, ap₂, _∙_, subst}
 use mathlib.Core.Bool.{Bool, true, false, cond}
 use mathlib.Core.List.{List, [], _∷_, _++_}
 use mathlib.Core.Option.{Option, none, some}
-use mathlib.Core.Logic.{⊎-elim}
 use Prim.Native.Nat.{ℕ, zero, suc, _+_, _-_, _*_, _/_, _≤_, _<_}
 use native.Mathlib.Omega.{arith}
 use lib.Dec.{leb, ltb}
 use lib.ListN.{length, drop, getD, take}
-use borrow.Author.Tests.{le-leb, le-ltb, lt-ltb}
+use borrow.Author.Tests.{le-leb}
 use Rattle.words.specs.Flags.{flagsOf, over, window}
 use Rattle.words.specs.Loops.{stretch}
-use Rattle.words.proofs.Windows.{in-window, length-window, lt-or-le, window-all}
-use Rattle.masks.specs.Agreement.{Agrees, Combines, Fits, countShown, flagOf, flagShown, nthOf, nthShown, refrozen, runsListed, runsOf, runsShown, thenRuns}
+use Rattle.words.proofs.Windows.{in-window, length-window, window-all}
+use Rattle.masks.specs.Agreement.{Agrees, Combines, Fits, countShown, flagOf, flagShown, nthOf, nthShown, refrozen, runsOf, runsShown}
 use Rattle.masks.specs.Answer.{Answer, given, refused, decided, checked, unlessEmpty}
 use Rattle.masks.specs.Builder.{appended, builderFlags, filling, newBuilder, Room}
 use Rattle.masks.specs.Checks.{Check, check, earlier, firstFailed, limit, spanChecks}
@@ -21,17 +20,15 @@ use Rattle.masks.specs.Cursor.{Step, item, ended, cursorChecks}
 use Rattle.masks.specs.Freeze.{frozenOver}
 use Rattle.masks.specs.Frozen.{frozen, frozenSize, packed}
 use Rattle.masks.specs.History.{Combination}
-use Rattle.masks.specs.Iterator.{leadingFrom, flagStep, iterAt, iterFlags, movedTo, newIter, nthFlag}
+use Rattle.masks.specs.Iterator.{flagStep, iterAt, iterFlags, movedTo, newIter, nthFlag}
 use Rattle.masks.specs.Mask.{maskChecks, maskFlags, maskOf, Recounted, unsetBitsOf, zeroCount}
 use Rattle.masks.specs.Search.{nthBack, nthFrom, searchBack, searchFrom}
-use Rattle.masks.specs.SliceIterator.{listed, newSlices, nextSlice, runOf, runStart, runsFrom, runsLeft, sliceStep, slicesAt, slicesMoved}
+use Rattle.masks.specs.SliceIterator.{newSlices, runsFrom, runsLeft, slicesAt}
 use Rattle.masks.specs.TrueCounts.{Sound, TrueCount, Truthful}
 use Rattle.masks.specs.Utils.{zeros}
 use Rattle.masks.specs.declared.bitmap.Bitmap.{Bitmap}
 use Rattle.masks.specs.declared.bitmap.Unset.the-variants.{Known}
 use Rattle.masks.specs.declared.iterator.BitmapIter.{BitmapIter}
-use Rattle.masks.specs.declared.slice_iterator.Run.{Run}
-use Rattle.masks.specs.declared.slice_iterator.SlicesIterator.{SlicesIterator}
 use Rattle.masks.proofs.Accepted.{mask-accepted, span-accepted}
 use Rattle.masks.proofs.CheckLaws.{is-given, passed-before}
 use Rattle.masks.proofs.CombinedLaws.{combines}
@@ -39,7 +36,7 @@ use Rattle.masks.proofs.FrozenLaws.{flags-packed, length-packed}
 use Rattle.masks.proofs.HistoryLaws.{Builds, Stands, builds-after}
 use Rattle.masks.proofs.HistoryTheorem.{new-holds}
 use Rattle.masks.proofs.RoomLaws.{size-after}
-use Rattle.masks.proofs.RunsPlain.{FirstRun, first-run, next-lists}
+use Rattle.masks.proofs.RunsWhole.{lists-runs}
 use Rattle.masks.proofs.TrueLaws.{true-count}
 
 -- ---- frozen bytes
@@ -98,23 +95,6 @@ new-nth bytes start (suc size) n e =
     ap (λ (a : Answer (Unit {0}) BitmapIter). nthOf a bytes n) (sym (is-given 0 (firstFailed (spanChecks start (suc size) (length bytes))) tt (iterAt start (suc size) 0) e refl))
     ∙ nth-there bytes start (suc size) n e
 
--- ---- runs one by one
-
--- the next run, and those that the cursor behind it lists
-more-listed : (c : SlicesIterator) (bytes : List ℕ) (l : List Bool) (k : ℕ) → length l ≡ c .length → c .length < suc k + c .place
-    → ((p : ℕ) → p ≤ c .length → c .length < k + p → runsListed k bytes (slicesMoved c p) ≡ runsLeft l p)
-    → thenRuns (runsListed k bytes) (given (sliceStep c l)) ≡ listed l (sliceStep c l)
-unfolding sliceStep
-more-listed c bytes l k e f more =
-    let s = runStart l (c .place) in
-    let n = leadingFrom true l s in
-    ⊎-elim
-    (λ (h : s < c .length).
-    let r = first-run l (c .place) (omega arith) in
-    rw (lt-ltb s (c .length) h) (ap (λ (t : List Run). runOf s n ∷ t) (more (s + n) (omega (arith, r .inside)) (omega (arith, r .after, r .some)))))
-    (λ (h : c .length ≤ s). rw (le-ltb s (c .length) h) refl)
-    (lt-or-le s (c .length))
-
 -- ---- agreement
 
 module _ (m : Bitmap) (bytes : List ℕ) (l : List Bool) (s : Stands m bytes l) where
@@ -151,28 +131,12 @@ module _ (m : Bitmap) (bytes : List ℕ) (l : List Bool) (s : Stands m bytes l) 
   nth : (n : ℕ) → nthShown m bytes n ≡ some (flagOf l n)
   nth n = new-nth bytes (m .start) (m .length) n in-span ∙ ap (λ (t : List Bool). some (flagOf t n)) (s .flags)
 
-  -- the runs one by one
-  next-there : (place : ℕ) → place ≤ m .length → given (sliceStep (slicesAt (m .start) (m .length) place) (maskFlags m bytes)) ≡ nextSlice (slicesAt (m .start) (m .length) place) bytes
-  unfolding nextSlice
-  next-there place h =
-      is-given 0 (firstFailed (cursorChecks (m .start) (m .length) place (length bytes))) (slicesAt (m .start) (m .length) place)
-      (sliceStep (slicesAt (m .start) (m .length) place) (maskFlags m bytes)) (cursor-accepted (m .start) (m .length) place bytes in-span h) refl
-
-  listed-from : (k place : ℕ) → place ≤ m .length → m .length < k + place → runsListed k bytes (slicesAt (m .start) (m .length) place) ≡ runsLeft (maskFlags m bytes) place
-  unfolding runsListed
-  listed-from zero place h f = absurd (omega arith)
-  listed-from (suc k) place h f =
-      let c = slicesAt (m .start) (m .length) place in
-      let n : length (maskFlags m bytes) ≡ m .length = length-window (flagsOf bytes) (m .start) (m .length) in
-      ap (thenRuns (runsListed k bytes)) (sym (next-there place h))
-      ∙ more-listed c bytes (maskFlags m bytes) k n f (λ p a b. listed-from k p a b)
-      ∙ sym (next-lists c (maskFlags m bytes) n)
-
   runs : (k : ℕ) → length l < k → runsShown k m bytes ≡ some (runsFrom 0 l)
   unfolding newSlices runsLeft
   runs k h =
-      ap (runsOf k bytes) (sym (is-given 0 (firstFailed (maskChecks m bytes)) tt (slicesAt (m .start) (m .length) 0) whole refl))
-      ∙ ap some (listed-from k 0 (omega arith) (omega (arith, long)) ∙ ap (λ (t : List Bool). runsFrom 0 (drop 0 t)) (s .flags))
+      let c = slicesAt (m .start) (m .length) 0 in
+      ap (runsOf k bytes) (sym (is-given 0 (firstFailed (maskChecks m bytes)) tt c whole refl))
+      ∙ ap some (lists-runs bytes c (sym (cursor-accepted (m .start) (m .length) 0 bytes in-span (omega arith))) k (omega (arith, long)) ∙ ap (λ (t : List Bool). runsFrom 0 (drop 0 t)) (s .flags))
 
   frozen-bytes : (buf : List ℕ) → frozenSize (m .length) ≤ length buf → refrozen m bytes buf ≡ frozen l
   unfolding frozenOver

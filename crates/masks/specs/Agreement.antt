@@ -1,16 +1,16 @@
 -- Demand 3: what a mask has to have in common with a list of flags, all that document 01 compares with its plain list's, and the
 -- whole statement. Assumes nothing.
-use Prim.Native.Nat.{ℕ, zero, suc, _+_, _*_, _≤_, _<_}
+use Prim.Native.Nat.{ℕ, _≤_, _<_}
 use mathlib.Core.Path.{_≡_}
 use mathlib.Core.Bool.{Bool, false, cond}
-use mathlib.Core.List.{List, [], _∷_}
+use mathlib.Core.List.{List}
 use mathlib.Core.Option.{Option, none, some}
 use lib.Dec.{ltb}
 use lib.ListN.{length, getD, take}
 use Rattle.words.specs.Flags.{over}
 use Rattle.masks.specs.Answer.{Answer, given, refused}
 use Rattle.masks.specs.Builder.{appended, filling, newBuilder}
-use Rattle.masks.specs.Cursor.{Step, item, ended}
+use Rattle.masks.specs.Cursor.{Step, item, ended, listing}
 use Rattle.masks.specs.Freeze.{frozenOver}
 use Rattle.masks.specs.Frozen.{frozen, frozenSize}
 use Rattle.masks.specs.History.{Argument, own, other, Combination, pair, invert, select, selectConstant, History, FairHistory, combinedBytes, combinedFlags, combinedOf, endOf, listOf, masked}
@@ -56,18 +56,9 @@ nthShown m bytes n = nthOf (newIter bytes (m .start) (m .length)) bytes n
 abbrev pub flagOf : List Bool → ℕ → Option Bool
 flagOf l n = cond (ltb n (length l)) (some (getD l n false)) none
 
--- the runs that `next` gives until none, in so many calls at most
-abbrev pub thenRuns : (SlicesIterator → List Run) → Answer SlicesIterator (Step SlicesIterator Run) → List Run
-thenRuns more (given (item r c)) = r ∷ more c
-thenRuns more (given (ended c)) = []
-thenRuns more (refused k c) = []
-
-unfoldable pub runsListed : ℕ → List ℕ → SlicesIterator → List Run
-runsListed zero bytes c = []
-runsListed (suc k) bytes c = thenRuns (runsListed k bytes) (nextSlice c bytes)
-
+-- the runs that `next` of a new cursor gives until none, in so many calls at most
 abbrev pub runsOf : ℕ → List ℕ → Answer (Unit {0}) SlicesIterator → Option (List Run)
-runsOf k bytes (given c) = some (runsListed k bytes c)
+runsOf k bytes (given c) = some (listing (λ (d : SlicesIterator). nextSlice d bytes) k c)
 runsOf k bytes (refused n s) = none
 
 abbrev pub runsShown : ℕ → Bitmap → List ℕ → Option (List Run)
