@@ -235,6 +235,38 @@ def long_cases():
     line("long new_zeroed", *refused, show(new_zeroed, LIMIT, out), "#%d" % add(0, out))
 
 
+def push_mut(builder, buf, flag):
+    """The push over the caller's own builder: length, word in progress and ones in finished words."""
+    length, word, ones = builder
+    whole, fill = length // 64, length % 64
+    possible = word < 2**fill and ones <= 64 * whole and len(buf) >= 8 * whole
+    ask(limited(length, length + 1) + [(4, possible)] + held(length + 1, len(buf)), builder)
+    flags = bits(fill, word) + [flag]
+    if len(flags) == 64:
+        buf[8 * whole : 8 * whole + 8] = bytes_of(flags)
+        return [length + 1, 0, ones + flags.count(True)]
+    return [length + 1, number_of(flags), ones]
+
+
+def push_cases():
+    out = paint(7, 24)
+    given = [(0, 0, 0, 8), (5, 22, 0, 8), (62, 2**62 - 1, 0, 8), (64, 0, 64, 16), (128, 0, 0, 24)]
+    full = [(63, 0, 0, 8), (63, 2**63 - 1, 0, 8), (127, 5, 17, 16), (191, 1, 128, 24)]
+    refused = [(0, 0, 0, 0), (0, 0, 0, 7), (64, 0, 64, 15), (64, 0, 0, 7), (64, 0, 65, 16), (1, 2, 0, 8), (64, 1, 0, 16),
+               (LIMIT - 1, 0, 0, 24), (LIMIT, 0, 0, 24), (LIMIT + 1, 2, 0, 0), (LARGEST, 0, 0, 24)]
+    for *builder, size in given + full + refused:
+        row = []
+        for flag in (False, True):
+            part = out[:size]
+            row += [show(push_mut, builder, part, flag), hex_bytes(part + out[size:])]
+        line("push_mut", *builder, size, *row)
+    builder, row = [0, 0, 0], []
+    for flag in (True, False, True):
+        builder = push_mut(builder, out, flag)
+        row.append(shown((0, builder)))
+    line("push_mut row", *row)
+
+
 example_cases()
 combine_cases()
 refusal_cases()
@@ -242,3 +274,4 @@ slice_cases()
 asked_cases()
 make_cases()
 long_cases()
+push_cases()

@@ -1,4 +1,4 @@
-// Runs the calls of the crate masks on masks on boundary values and prints the answers.
+// Runs the calls of the crate masks on masks, and its push over the caller's own builder, on boundary values and prints the answers.
 //
 // The file `stdout` beside src/ holds what must be printed. It is written by tests/mask_cases.py, which works the answers out
 // over lists of flags, and the refusals from the nine questions of document 01, and has no code in common with the crates:
@@ -15,6 +15,7 @@ mod calls;
 mod case;
 mod combining;
 mod examples;
+mod lending;
 mod making;
 mod refusing;
 mod slicing;
@@ -28,4 +29,5 @@ fn main() {
     slicing::run();
     asking::run();
     making::run();
+    lending::run();
 }
