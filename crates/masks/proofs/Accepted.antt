@@ -11,13 +11,16 @@ use borrow.Author.Tests.{le-leb, lt-leb}
 use Rattle.words.specs.Flags.{flagsOf}
 use Rattle.words.proofs.Windows.{length-window}
 use Rattle.masks.specs.Aligned.{bulkOffset, bulkStart, bytesToAligned, short}
-use Rattle.masks.specs.Checks.{check, earlier, firstFailed, limit, spanChecks, withinLimit}
+use Rattle.masks.specs.Appends.{growChecks, innerChecks, subsliceChecks}
+use Rattle.masks.specs.Builder.{Room, builderChecks, possible}
+use Rattle.masks.specs.Checks.{check, earlier, firstFailed, limit, outputChecks, spanChecks, withinLimit}
 use Rattle.masks.specs.Mask.{countFits, countValid, maskChecks, maskFlags, maskOf, pieceChecks, slicedMask, tryNewOf, uncounted}
 use Rattle.masks.specs.TrueCounts.{TrueCount, Truthful}
 use Rattle.masks.specs.Utils.{zeros}
 use Rattle.masks.specs.declared.bitmap.Bitmap.{Bitmap}
 use Rattle.masks.specs.declared.bitmap.Unset.{Unset}
 use Rattle.masks.specs.declared.bitmap.Unset.the-variants.{Known, Unknown}
+use Rattle.masks.specs.declared.builder.BitmapBuilder.{BitmapBuilder}
 use Rattle.masks.proofs.CheckLaws.{SpanAllowed, passed-before, span-allowed}
 use Rattle.masks.proofs.PartLaws.{zeros-most}
 use Rattle.masks.proofs.SliceTruth.{none-true}
@@ -45,6 +48,35 @@ pub new-accepted : (bytes : List ℕ) (start n : ℕ) → firstFailed (spanCheck
 new-accepted bytes start n e =
     let a = span-allowed start n (length bytes) e in
     mask-accepted (maskOf start n (uncounted n)) bytes (a .starts) (a .short) (a .inside) (none-true n (maskFlags (maskOf start n (uncounted n)) bytes) (length-window (flagsOf bytes) start n))
+
+-- ---- builders
+
+inner-accepted : (start n whole : ℕ) → start ≤ limit → n ≤ limit → start + n ≤ whole → 0 ≡ firstFailed (innerChecks start n whole)
+unfolding innerChecks firstFailed earlier
+inner-accepted start n whole a b c = rw (le-leb start limit a, le-leb n limit b, le-leb (start + n) whole c)
+
+-- a builder with room for n flags more passes the checks of a call that appends so many
+pub builder-accepted : (b : BitmapBuilder) (n size : ℕ) → Room b n size → 0 ≡ firstFailed (builderChecks b (b .length + n) size)
+unfolding builderChecks possible outputChecks firstFailed earlier
+builder-accepted b n size r =
+    let whole : 8 * (b .length / 64) ≤ size = omega (arith, r .holds) in
+    rw (
+      le-leb (b .length) limit (omega (arith, r .short)),
+      le-leb (b .length + n) limit (r .short),
+      r .low,
+      le-leb (b .ones) (64 * (b .length / 64)) (r .few),
+      le-leb (8 * (b .length / 64)) size whole,
+      le-leb (8 * ((b .length + n + 63) / 64)) size (r .holds),
+    )
+
+-- the whole of a mask, appended
+pub whole-accepted : (b : BitmapBuilder) (buf : List ℕ) (m : Bitmap) (bytes : List ℕ) → 0 ≡ firstFailed (maskChecks m bytes) → m .length ≤ limit → Room b (m .length) (length buf)
+    → 0 ≡ firstFailed (subsliceChecks b buf m bytes 0 (m .length))
+unfolding subsliceChecks
+whole-accepted b buf m bytes a short r =
+    passed-before (maskChecks m bytes) (innerChecks 0 (m .length) (m .length) ++ growChecks b (m .length) (length buf)) 0 0 a refl
+    (passed-before (innerChecks 0 (m .length) (m .length)) (growChecks b (m .length) (length buf)) 0 0 (inner-accepted 0 (m .length) (m .length) (omega arith) short (omega arith)) refl
+    (builder-accepted b (m .length) (length buf) r))
 
 -- ---- the split
 

@@ -12,12 +12,13 @@ use borrow.Author.Tests.{le-leb}
 use Rattle.words.specs.Flags.{flagsOf, over, window}
 use Rattle.words.specs.Loops.{stretch}
 use Rattle.words.proofs.Windows.{in-window, length-window, window-all}
-use Rattle.masks.specs.Agreement.{Agrees, Combines, Fits, countShown, flagOf, flagShown, nthOf, nthShown, refrozen, runsOf, runsShown}
+use Rattle.masks.specs.Agreement.{Agrees, Combines, Fits, countShown, flagOf, flagShown, frozenShown, nthOf, nthShown, refrozen, thenFrozen, runsOf, runsShown}
 use Rattle.masks.specs.Answer.{Answer, given, refused, decided, checked, unlessEmpty}
-use Rattle.masks.specs.Builder.{appended, builderFlags, filling, newBuilder, Room}
+use Rattle.masks.specs.Appends.{subsliceChecks}
+use Rattle.masks.specs.Builder.{Filling, appended, filling, newBuilder, Room}
 use Rattle.masks.specs.Checks.{Check, check, earlier, firstFailed, limit, spanChecks}
 use Rattle.masks.specs.Cursor.{Step, item, ended, cursorChecks}
-use Rattle.masks.specs.Freeze.{frozenOver}
+use Rattle.masks.specs.Freeze.{freezeChecks, frozenMask, frozenOver}
 use Rattle.masks.specs.Frozen.{frozen, frozenSize, packed}
 use Rattle.masks.specs.History.{Combination}
 use Rattle.masks.specs.Iterator.{flagStep, iterAt, iterFlags, movedTo, newIter, nthFlag}
@@ -29,9 +30,10 @@ use Rattle.masks.specs.Utils.{zeros}
 use Rattle.masks.specs.declared.bitmap.Bitmap.{Bitmap}
 use Rattle.masks.specs.declared.bitmap.Unset.the-variants.{Known}
 use Rattle.masks.specs.declared.iterator.BitmapIter.{BitmapIter}
-use Rattle.masks.proofs.Accepted.{mask-accepted, span-accepted}
-use Rattle.masks.proofs.CheckLaws.{is-given, passed-before}
+use Rattle.masks.proofs.Accepted.{builder-accepted, mask-accepted, span-accepted, whole-accepted}
+use Rattle.masks.proofs.CheckLaws.{is-given, is-new, passed-before}
 use Rattle.masks.proofs.CombinedLaws.{combines}
+use Rattle.masks.proofs.FreezeLaws.{same-checks}
 use Rattle.masks.proofs.FrozenLaws.{flags-packed, length-packed}
 use Rattle.masks.proofs.HistoryLaws.{Builds, Stands, builds-after}
 use Rattle.masks.proofs.HistoryTheorem.{new-holds}
@@ -138,22 +140,37 @@ module _ (m : Bitmap) (bytes : List ℕ) (l : List Bool) (s : Stands m bytes l) 
       ap (runsOf k bytes) (sym (is-given 0 (firstFailed (maskChecks m bytes)) tt c whole refl))
       ∙ ap some (lists-runs bytes c (sym (cursor-accepted (m .start) (m .length) 0 bytes in-span (omega arith))) k (omega (arith, long)) ∙ ap (λ (t : List Bool). runsFrom 0 (drop 0 t)) (s .flags))
 
-  frozen-bytes : (buf : List ℕ) → frozenSize (m .length) ≤ length buf → refrozen m bytes buf ≡ frozen l
+  whole-flags : window (maskFlags m bytes) 0 (m .length) ≡ maskFlags m bytes
+  whole-flags = ap (window (maskFlags m bytes) 0) (sym (length-window (flagsOf bytes) (m .start) (m .length))) ∙ window-all (maskFlags m bytes)
+
+  -- a builder with the mask appended, frozen: the bytes that are written
+  refrozen-bytes : (f : Filling) (buf : List ℕ) → Builds f l → length (f .bytes) ≡ length buf → frozenSize (m .length) ≤ length buf
+      → thenFrozen (m .length) (f .bytes) (given (f .builder)) ≡ some (frozen l)
   unfolding frozenOver
+  refrozen-bytes f buf i size h =
+      let ok = same-checks (f .builder) (length (f .bytes)) 0 (builder-accepted (f .builder) 0 (length (f .bytes)) (i .room)) in
+      let k = firstFailed (freezeChecks (f .builder) (length (f .bytes))) in
+      ap₂ (frozenShown (m .length)) (sym (is-new 0 k (frozenOver (f .builder) (f .bytes)) (f .bytes) ok refl)) (sym (is-given 0 k (f .builder) (frozenMask (f .builder)) ok refl))
+      ∙ ap₂ (λ (n : ℕ) (t : List Bool). some (take n (over (f .bytes) (frozen t)))) (ap frozenSize long ∙ sym (length-frozen l)) (i .flags)
+      ∙ ap some (take-over (f .bytes) (frozen l) (omega (arith, length-frozen l, long)))
+
+  frozen-bytes : (buf : List ℕ) → frozenSize (m .length) ≤ length buf → refrozen m bytes buf ≡ some (frozen l)
   frozen-bytes buf h =
-      let n : length (maskFlags m bytes) ≡ m .length = length-window (flagsOf bytes) (m .start) (m .length) in
-      let room : Room newBuilder (length (maskFlags m bytes)) (length buf) = record {
+      let F = window (maskFlags m bytes) 0 (m .length) in
+      let n : length F ≡ m .length = length-window (maskFlags m bytes) 0 (m .length) in
+      let room : Room newBuilder (m .length) (length buf) = record {
         short = omega (arith, s .sound .short);
         low = new-holds buf .room .low;
         few = omega arith;
         holds = omega arith;
       } in
-      let f = appended (filling newBuilder buf) (maskFlags m bytes) in
-      let built = builds-after (filling newBuilder buf) [] (maskFlags m bytes) (new-holds buf) room in
-      let same : builderFlags f ≡ l = built .flags ∙ s .flags in
-      let size : length (f .bytes) ≡ length buf = size-after (filling newBuilder buf) f (maskFlags m bytes) refl in
-      ap₂ (λ (k : ℕ) (t : List Bool). take k (over (f .bytes) (frozen t))) (ap frozenSize long ∙ sym (length-frozen l)) same
-      ∙ take-over (f .bytes) (frozen l) (omega (arith, length-frozen l, long))
+      let f = appended (filling newBuilder buf) F in
+      let built = builds-after (filling newBuilder buf) [] F (new-holds buf) (subst (λ (k : ℕ). Room newBuilder k (length buf)) (sym n) room) in
+      let builds : Builds f l = record { room = built .room; flags = built .flags ∙ whole-flags ∙ s .flags; ones = built .ones } in
+      let k = firstFailed (subsliceChecks newBuilder buf m bytes 0 (m .length)) in
+      let ok = whole-accepted newBuilder buf m bytes whole (s .sound .short) room in
+      ap₂ (thenFrozen (m .length)) (sym (is-new 0 k (f .bytes) buf ok refl)) (sym (is-given 0 k newBuilder (f .builder) ok refl))
+      ∙ refrozen-bytes f buf builds (size-after (filling newBuilder buf) f F refl) h
 
   combined : (c : Combination) (out : List ℕ) → Fits (m .length) c → frozenSize (m .length) ≤ length out → Combines m bytes l c out
   combined c out f h = combines m bytes l s out h c f

@@ -1,8 +1,9 @@
 -- Demand 3, proved: whatever calls a history is made of, the mask that it has come to agrees with its reference list in all that is
 -- compared; so two histories with equal lists agree, and where the lists differ, length or frozen bytes differ. Assumes nothing.
-use mathlib.Core.Path.{_≡_, sym, _∙_, subst}
+use mathlib.Core.Path.{_≡_, sym, ap, _∙_, subst}
 use mathlib.Core.Bool.{Bool}
 use mathlib.Core.List.{List, []}
+use mathlib.Core.Option.{Option, none, some}
 use Prim.Native.Nat.{ℕ, _≤_, _<_}
 use native.Mathlib.Omega.{arith}
 use lib.ListN.{length}
@@ -45,11 +46,16 @@ module _ (m m′ : Bitmap) (bytes bytes′ : List ℕ) (l : List Bool) (a : Agre
         combined = λ c out f h. a .combined c out f h .written ∙ sym (a′ .combined c out (subst (λ (k : ℕ). Fits k c) long f) (room out h) .written);
       }
 
+abbrev bytes-shown : List ℕ → Option (List ℕ) → List ℕ
+bytes-shown d (some b) = b
+bytes-shown d none = d
+
 -- masks of one length whose frozen bytes are the same stand for the same list
 told-apart : (m m′ : Bitmap) (bytes bytes′ : List ℕ) (l l′ : List Bool) → Agrees m bytes l → Agrees m′ bytes′ l′ → m .length ≡ m′ .length
     → (buf : List ℕ) → frozenSize (m .length) ≤ length buf → refrozen m bytes buf ≡ refrozen m′ bytes′ buf → l ≡ l′
 told-apart m m′ bytes bytes′ l l′ a a′ e buf h f =
-    frozen-same l l′ (sym (a .long) ∙ e ∙ a′ .long) (sym (a .frozenBytes buf h) ∙ f ∙ a′ .frozenBytes buf (subst (λ (k : ℕ). frozenSize k ≤ length buf) e h))
+    frozen-same l l′ (sym (a .long) ∙ e ∙ a′ .long)
+    (ap (bytes-shown []) (sym (a .frozenBytes buf h) ∙ f ∙ a′ .frozenBytes buf (subst (λ (k : ℕ). frozenSize k ≤ length buf) e h)))
 
 pub one-meaning : OneMeaning
 one-meaning =

@@ -9,9 +9,10 @@ use lib.Dec.{ltb}
 use lib.ListN.{length, getD, take}
 use Rattle.words.specs.Flags.{over}
 use Rattle.masks.specs.Answer.{Answer, given, refused}
-use Rattle.masks.specs.Builder.{appended, filling, newBuilder}
+use Rattle.masks.specs.Appends.{appendAnswer, appendBytes, extendBitmap}
+use Rattle.masks.specs.Builder.{newBuilder}
 use Rattle.masks.specs.Cursor.{Step, item, ended, listing}
-use Rattle.masks.specs.Freeze.{frozenOver}
+use Rattle.masks.specs.Freeze.{freezeBytes, freezeOf}
 use Rattle.masks.specs.Frozen.{frozen, frozenSize}
 use Rattle.masks.specs.History.{Argument, own, other, Combination, pair, invert, select, selectConstant, History, FairHistory, combinedBytes, combinedFlags, combinedOf, endOf, listOf, masked}
 use Rattle.masks.specs.Iterator.{newIter, nthFlag}
@@ -22,6 +23,7 @@ use Rattle.masks.specs.TrueCounts.{Sound, TrueCount}
 use Rattle.masks.specs.Utils.{zeros}
 use Rattle.masks.specs.declared.bitmap.Bitmap.{Bitmap}
 use Rattle.masks.specs.declared.bitmap.Unset.the-variants.{Known}
+use Rattle.masks.specs.declared.builder.BitmapBuilder.{BitmapBuilder}
 use Rattle.masks.specs.declared.iterator.BitmapIter.{BitmapIter}
 use Rattle.masks.specs.declared.slice_iterator.Run.{Run}
 use Rattle.masks.specs.declared.slice_iterator.SlicesIterator.{SlicesIterator}
@@ -33,11 +35,18 @@ abbrev pub countShown : Answer Bitmap Recounted → Option ℕ
 countShown (given r) = some (r .zeros)
 countShown (refused k m) = none
 
--- the bytes that `freeze` writes for a new builder with the mask's flags appended
-abbrev pub refrozen : Bitmap → List ℕ → List ℕ → List ℕ
+-- the bytes that `freeze` writes for a new builder with the mask appended, in a buffer
+abbrev pub frozenShown : ℕ → List ℕ → Answer BitmapBuilder Bitmap → Option (List ℕ)
+frozenShown n bytes (given m) = some (take (frozenSize n) bytes)
+frozenShown n bytes (refused k b) = none
+
+abbrev pub thenFrozen : ℕ → List ℕ → Answer BitmapBuilder BitmapBuilder → Option (List ℕ)
+thenFrozen n bytes (given b) = frozenShown n (freezeBytes b bytes) (freezeOf b bytes)
+thenFrozen n bytes (refused k b) = none
+
+abbrev pub refrozen : Bitmap → List ℕ → List ℕ → Option (List ℕ)
 refrozen m bytes buf =
-    let f = appended (filling newBuilder buf) (maskFlags m bytes) in
-    take (frozenSize (m .length)) (frozenOver (f .builder) (f .bytes))
+    thenFrozen (m .length) (appendBytes (extendBitmap m bytes 0 (m .length)) newBuilder buf) (appendAnswer (extendBitmap m bytes 0 (m .length)) newBuilder buf)
 
 -- the flag that `nth` of a new `BitmapIter` gives, or that there is none
 abbrev pub flagShown : Answer BitmapIter (Step BitmapIter Bool) → Option (Option Bool)
@@ -93,7 +102,7 @@ pub record Agrees (m : Bitmap) (bytes : List ℕ) (l : List Bool) : Type 0 where
   pub known : TrueCount (m .unset) l
   pub counted : countShown (unsetBitsOf m bytes) ≡ some (zeros l)
   -- the frozen bytes, in any buffer that holds them
-  pub frozenBytes : (buf : List ℕ) → frozenSize (m .length) ≤ length buf → refrozen m bytes buf ≡ frozen l
+  pub frozenBytes : (buf : List ℕ) → frozenSize (m .length) ≤ length buf → refrozen m bytes buf ≡ some (frozen l)
   -- the runs from place 0, listed by more calls than there are flags
   pub runs : (k : ℕ) → length l < k → runsShown k m bytes ≡ some (runsFrom 0 l)
   -- `nth` of a new cursor, and both searches, at every argument
