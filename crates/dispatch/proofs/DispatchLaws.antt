@@ -5,21 +5,22 @@ use mathlib.Core.List.{List, [], _∷_, _++_, append-assoc}
 use Prim.Native.Nat.{ℕ, zero, suc, _+_, _*_, _/_, _≤_, _<_}
 use native.Mathlib.Omega.{arith}
 use lib.Dec.{eqb, leb, ltb}
-use lib.ListN.{length, getD}
-use borrow.Author.Tests.{eq-eqb, le-leb, le-ltb, lt-ltb, ne-eqb}
+use lib.ListN.{getD}
+use borrow.Author.Tests.{eq-eqb, le-ltb, lt-ltb, ne-eqb}
 use Rattle.masks.specs.Answer.{given, refused}
 use Rattle.masks.specs.Checks.{Check, check, rank, firstFailed, outputChecks, spanChecks}
 use Rattle.masks.specs.Combine.{pairChecks}
 use Rattle.masks.specs.Compare.{commonChecks}
-use Rattle.masks.specs.Cursor.{Step, item, ended, cursorChecks}
-use Rattle.masks.specs.Iterator.{iterAt, iterChecks, iterFlags, flagStep, nthFlag}
-use Rattle.masks.specs.Mask.{countValid, maskChecks, maskFlags}
+use Rattle.masks.specs.Cursor.{item, ended}
+use Rattle.masks.specs.Iterator.{iterAt, nthFlag}
+use Rattle.masks.specs.Mask.{maskChecks, maskFlags}
 use Rattle.masks.specs.declared.bitmap.Bitmap.{Bitmap}
 use Rattle.masks.specs.declared.bitmap.Optional.{Optional}
 use Rattle.masks.specs.declared.bitmap.Optional.the-variants.{Present, Absent}
 use Rattle.masks.specs.declared.iterator.BitmapIter.{BitmapIter}
 use Rattle.masks.proofs.AnswerLaws.{given-value, refused-failed, refused-number}
 use Rattle.masks.proofs.CheckLaws.{before, both-left, both-right, failed-ranked, first-refused, one-check, passed-before, when-ne}
+use Rattle.masks.proofs.CursorLaws.{over-mask}
 use Rattle.masks.proofs.IteratorLaws.{flag-taken, flag-ended}
 use Rattle.dispatch.specs.Dispatch.{Readable, reassignChecks, truckInside}
 
@@ -124,13 +125,6 @@ present-readable M m bytes e h = subst (λ (x : Optional). Readable x bytes) e h
 -- ---- a single flag, by a cursor at place 0
 
 module _ (m : Bitmap) (bytes : List ℕ) (t : ℕ) (readable : firstFailed (maskChecks m bytes) ≡ 0) where
-  cursor-passes : firstFailed (cursorChecks (m .start) (m .length) 0 (length bytes)) ≡ 0
-  unfolding maskChecks cursorChecks
-  cursor-passes =
-      let span = both-left (spanChecks (m .start) (m .length) (length bytes)) (check 3 (countValid m bytes) ∷ []) readable in
-      sym (passed-before (spanChecks (m .start) (m .length) (length bytes)) (check 6 (leb 0 (m .length)) ∷ []) 0 0 (sym span) refl
-      (one-check 0 6 true (leb 0 (m .length)) refl (sym (le-leb 0 (m .length) (omega arith)))))
-
   pub flag-there : (x : Bool) (c : BitmapIter) → given (item x c) ≡ nthFlag (iterAt (m .start) (m .length) 0) bytes t → x ≡ getD (maskFlags m bytes) t false
   unfolding nthFlag
   flag-there x c e =
@@ -145,4 +139,4 @@ module _ (m : Bitmap) (bytes : List ℕ) (t : ℕ) (readable : firstFailed (mask
 
   pub flag-refused : (n : ℕ) (c : BitmapIter) → refused n c ≡ nthFlag (iterAt (m .start) (m .length) 0) bytes t → ⊥
   unfolding nthFlag
-  flag-refused n c e = refused-failed _ _ _ _ _ e cursor-passes
+  flag-refused n c e = refused-failed _ _ _ _ _ e (over-mask m bytes 0 readable (omega arith))

@@ -1,22 +1,22 @@
 -- The flags of whole bytes as a mask, and its runs counted one by one. Assumes nothing.
 use mathlib.Core.Path.{_≡_, refl, sym, ap, _∙_}
 use mathlib.Core.Bool.{Bool, true, false, cond}
-use mathlib.Core.List.{List, [], _∷_}
-use Prim.Native.Nat.{ℕ, zero, suc, _+_, _*_, _≤_, _<_}
+use mathlib.Core.List.{List}
+use Prim.Native.Nat.{ℕ, suc, _+_, _*_, _≤_, _<_}
 use native.Mathlib.Omega.{arith}
-use lib.Dec.{leb, ltb}
+use lib.Dec.{ltb}
 use lib.ListN.{length}
-use borrow.Author.Tests.{le-leb, ltb-true}
+use borrow.Author.Tests.{ltb-true}
 use Rattle.words.specs.Flags.{flagsOf, window}
 use Rattle.words.proofs.Bytes.{length-flags}
 use Rattle.words.proofs.Windows.{length-window, window-all}
 use Rattle.masks.specs.Answer.{Answer, given, refused}
-use Rattle.masks.specs.Checks.{check, firstFailed, spanChecks}
+use Rattle.masks.specs.Checks.{firstFailed}
 use Rattle.masks.specs.Compare.{edges}
-use Rattle.masks.specs.Cursor.{Step, item, ended, cursorChecks}
+use Rattle.masks.specs.Cursor.{item, ended}
 use Rattle.masks.specs.Iterator.{leadingFrom}
-use Rattle.masks.specs.Mask.{countValid, maskChecks, maskFlags, maskOf, zeroCount}
-use Rattle.masks.specs.SliceIterator.{listed, nextSlice, runOf, runsFrom, runsLeft, runStart, slicesAt, slicesMoved, sliceStep}
+use Rattle.masks.specs.Mask.{maskChecks, maskFlags, maskOf, zeroCount}
+use Rattle.masks.specs.SliceIterator.{listed, nextSlice, runOf, runsFrom, runsLeft, runStart, slicesAt, sliceStep}
 use Rattle.masks.specs.Utils.{zeros}
 use Rattle.masks.specs.declared.bitmap.Bitmap.{Bitmap}
 use Rattle.masks.specs.declared.bitmap.Unset.the-variants.{Unknown}
@@ -24,7 +24,8 @@ use Rattle.masks.specs.declared.slice_iterator.Run.{Run}
 use Rattle.masks.specs.declared.slice_iterator.SlicesIterator.{SlicesIterator}
 use Rattle.masks.proofs.Accepted.{mask-accepted}
 use Rattle.masks.proofs.AnswerLaws.{given-value, refused-failed}
-use Rattle.masks.proofs.CheckLaws.{both-left, one-check, passed-before, when-gt, when-le}
+use Rattle.masks.proofs.CheckLaws.{when-gt, when-le}
+use Rattle.masks.proofs.CursorLaws.{over-mask}
 use Rattle.masks.proofs.RunsPlain.{first-run, next-lists, none-left}
 use Rattle.report.specs.Numbers.{most, numbersOf, reportOf}
 use Rattle.report.specs.declared.numbers.Numbers.{Numbers}
@@ -85,13 +86,6 @@ module _ (m : Bitmap) (bytes : List ℕ) (place runs : ℕ) (readable : firstFai
   flags-length : length (maskFlags m bytes) ≡ m .length
   flags-length = length-window (flagsOf bytes) (m .start) (m .length)
 
-  cursor-passes : firstFailed (cursorChecks (m .start) (m .length) place (length bytes)) ≡ 0
-  unfolding maskChecks cursorChecks
-  cursor-passes =
-      let span = both-left (spanChecks (m .start) (m .length) (length bytes)) (check 3 (countValid m bytes) ∷ []) readable in
-      sym (passed-before (spanChecks (m .start) (m .length) (length bytes)) (check 6 (leb place (m .length)) ∷ []) 0 0 (sym span) refl
-      (one-check 0 6 true (leb place (m .length)) refl (sym (le-leb place (m .length) (a .reached)))))
-
   -- a run, and the cursor just past it
   moved : (r : Run) (c : SlicesIterator) → item r c ≡ sliceStep (slicesAt (m .start) (m .length) place) (maskFlags m bytes) → (place < c .place) × (c .place ≤ m .length)
   unfolding sliceStep
@@ -120,4 +114,4 @@ module _ (m : Bitmap) (bytes : List ℕ) (place runs : ℕ) (readable : firstFai
 
   pub not-refused : (n : ℕ) (c : SlicesIterator) → refused n c ≡ nextSlice (slicesAt (m .start) (m .length) place) bytes → ⊥
   unfolding nextSlice
-  not-refused n c e = refused-failed _ _ _ _ _ e cursor-passes
+  not-refused n c e = refused-failed _ _ _ _ _ e (over-mask m bytes place readable (a .reached))
