@@ -113,14 +113,17 @@ def write_cases():
         for length in LENS[:15]:
             longer = copied(data, start, length, out, room_for(5, length))
             shorter = copied(data[:25], start, length, out, room_for(2, length))
+            counted = [stretch(data[:n], start, length).count() for n in (40, 25)]
+            both = [hex_bytes(longer), hex_bytes(shorter)]
             total = 0
             for n in SIZES:
                 for kind in range(6):
                     total = checksum(copied(data[:n], start, length, out, room_for(kind, length)), total)
-            show("copy", start, length, hex_bytes(longer), hex_bytes(shorter), "#%d" % total)
+            show("copy", start, length, *both, counted[0], both[0], counted[1], both[1], "#%d" % total)
     far_pairs = [(start, length) for start in FAR_STARTS for length in LENS]
     for start, length in far_pairs + [(start, length) for start in STARTS for length in FAR_LENS]:
-        show("copy far", start, length, hex_bytes(copied(data[:9], start, length, out, 20)))
+        written = hex_bytes(copied(data[:9], start, length, out, 20))
+        show("copy far", start, length, written, stretch(data[:9], start, length).count(), written)
     for length in LENS[:15]:
         for flag in (False, True):
             rows = [hex_bytes(filled(flag, length, out, room_for(kind, length))) for kind in range(6)]

@@ -17,8 +17,7 @@ use crate::checks::inner_failure;
 use crate::checks::limit_failure;
 use crate::checks::mask_failure;
 use crate::checks::span_failure;
-use words::counts::count_ones;
-use words::loops::copy;
+use words::counts::copy_count;
 use words::loops::fill;
 use words::word::constant_word;
 use words::word::word_from;
@@ -123,6 +122,7 @@ fn fill_words(b: BitmapBuilder, buf: &mut [u8], whole: usize, flag: bool) -> Bit
     }
 }
 
+// The last word, of at least a flag, is read by itself: so there is a byte behind each word of the loop over whole ones.
 pub(crate) fn append_stretch(
     b: BitmapBuilder,
     buf: &mut [u8],
@@ -138,8 +138,9 @@ pub(crate) fn append_stretch(
         return push_flags(b, buf, first, n);
     }
     let head = to_whole(b);
-    let whole = (n - head) / 64;
-    let rest = (n - head) % 64;
+    let left = n - head;
+    let whole = (left - 1) / 64;
+    let rest = left - 64 * whole;
     let started = push_flags(b, buf, first, head);
     let copied = copy_words(started, buf, bytes, start + head, whole);
     let last = word_from(bytes, start + n - rest);
@@ -159,9 +160,8 @@ fn copy_words(
 {
     let n = 64 * whole;
     let longer = b.length + n;
-    let ones = b.ones + count_ones(bytes, start, n);
     let at = 8 * (b.length / 64);
-    copy(bytes, start, n, &mut buf[at..]);
+    let ones = b.ones + copy_count(bytes, start, n, &mut buf[at..]);
     BitmapBuilder {
         length: longer,
         word: 0,

@@ -131,8 +131,8 @@ count-parts l p len h m o a b c x y z ex ey ez eo ea eb el =
     let z2 : z ≡ count (window l (p + h + m) c) = ez ∙ ap (λ (k : ℕ). count (window l k c)) eb in
     omega arith
 
-pub count-start : (l : List Bool) (p o n c : ℕ) → c ≡ count (window l o n) → o ≡ p → c ≡ count (window l p n)
-count-start l p o n c e eo = e ∙ ap (λ (k : ℕ). count (window l k n)) eo
+pub count-stretch : (l : List Bool) (p o n m c : ℕ) → c ≡ count (window l o m) → o ≡ p → m ≡ n → c ≡ count (window l p n)
+count-stretch l p o n m c h eo em = h ∙ ap₂ (λ (x y : ℕ). count (window l x y)) eo em
 
 pub count-most : (l : List Bool) (n c : ℕ) → c ≡ count l → length l ≡ n → c ≤ n
 count-most l n c e h = omega (arith, count-le l)

@@ -3,7 +3,7 @@ use mathlib.Core.Path.{_≡_, refl, sym, ap, ap₂, _∙_}
 use mathlib.Core.Bool.{Bool, false}
 use mathlib.Core.List.{List}
 use mathlib.Core.Logic.{⊎-elim}
-use Prim.Native.Nat.{ℕ, _+_, _-_, _*_, _/_, _≤_, _<_}
+use Prim.Native.Nat.{ℕ, _+_, _-_, _*_, _/_, _%_, _≤_, _<_}
 use native.Mathlib.Omega.{arith}
 use lib.ListN.{length, take, getD, List·getD-eq-default}
 use borrow.Author.Tests.{lt-ltb, le-ltb}
@@ -33,6 +33,13 @@ pub write-all : (F G : List Bool) (i n : ℕ) (out : List ℕ) → flagsOf out �
 write-all F G i n out p l h k =
     let e : 64 * i ≡ length G = omega arith in
     p ∙ ap (λ (x : ℕ). over F (window G 0 x)) e ∙ ap (over F) (window-all G)
+
+-- all words of a stretch that is whole words
+pub write-stretch : (F l : List Bool) (k x len n : ℕ) (out : List ℕ) → flagsOf out ≡ over F (window l x n) → x ≡ k → n ≡ len → len % 64 ≡ 0 → flagsOf out ≡ over F (wholeWords (window l k len))
+unfolding wholeWords
+write-stretch F l k x len n out p ex en h =
+    let e : 64 * ((length (window l k len) + 63) / 64) ≡ length (window l k len) = omega (arith, length-window l k len) in
+    p ∙ ap₂ (λ (i m : ℕ). over F (window l i m)) ex en ∙ ap (over F) (sym (ap (window (window l k len) 0) e ∙ window-all (window l k len)))
 
 -- all words of a list of len flags, or as many as the output's m flags have room for
 pub write-end : (F G : List Bool) (len m i : ℕ) (out : List ℕ) → flagsOf out ≡ over F (window G 0 (64 * i)) → length F ≡ m → length G ≡ len → (i < (len + 63) / 64 → m ≤ 64 * i) → i ≤ (len + 63) / 64

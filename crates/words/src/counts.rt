@@ -5,15 +5,17 @@ ghost use mathlib.Core.Bool.{false, not, _&&_};
 ghost use Prim.Native.Nat.{_*_, _+_, _-_, _≤_, _<_};
 ghost use lib.ListN.{length, drop};
 ghost use lib.Dec.{ltb};
-ghost use Rattle.words.specs.Flags.{flagsOf, count, digit, window, wordFlags};
+ghost use Rattle.words.specs.Flags.{flagsOf, count, digit, over, window, wordFlags};
 ghost use Rattle.words.specs.Ops.{opOf};
 ghost use Rattle.words.specs.Kernels.{InRange};
-ghost use Rattle.words.specs.Loops.{stretch, combined};
+ghost use Rattle.words.specs.Loops.{stretch, combined, wholeWords};
 ghost use Rattle.words.specs.Counts.{anySet, sameFlags};
+use crate::kernels::copy_words;
 use crate::kernels::each_count;
 use crate::kernels::each_join;
 use crate::kernels::ones_words;
 use crate::loops::common_room;
+use crate::loops::copy;
 use crate::loops::least;
 use crate::loops::room;
 use crate::loops::triple_word;
@@ -41,6 +43,29 @@ pub fn count_ones(bytes: &[u8], start: usize, len: usize) -> usize
     let rest = len - h - 64 * n;
     let last = ones_in_word(low_flags(word_at(bytes, q + 8 * n, 0), rest));
     first + mid + last
+}
+
+// A stretch over the front of out as `copy` writes it, and how many of its flags are set.
+pub fn copy_count(bytes: &[u8], start: usize, len: usize, out: &mut [u8]) -> usize
+    ensures ones { λ r. ⌜ r ≡ count (stretch (now (bytes .entry)) start len) ⌝ }
+    ensures flags { λ _. ⌜ flagsOf (now (out .exit)) ≡ over (flagsOf (now (out .entry))) (wholeWords (stretch (now (bytes .entry)) start len)) ⌝ }
+{
+    if len % 64 != 0 {
+        return copy_then_count(bytes, start, len, out);
+    }
+    if least(room(bytes.len(), start / 8 + 1), out.len() / 8) < len / 64 {
+        return copy_then_count(bytes, start, len, out);
+    }
+    copy_words(bytes, start / 8, start % 8, len / 64, out)
+}
+
+// The same in two passes, where not all words are whole and in range.
+fn copy_then_count(bytes: &[u8], start: usize, len: usize, out: &mut [u8]) -> usize
+    ensures ones { λ r. ⌜ r ≡ count (stretch (now (bytes .entry)) start len) ⌝ }
+    ensures flags { λ _. ⌜ flagsOf (now (out .exit)) ≡ over (flagsOf (now (out .entry))) (wholeWords (stretch (now (bytes .entry)) start len)) ⌝ }
+{
+    copy(bytes, start, len, out);
+    count_ones(bytes, start, len)
 }
 
 // A number of words that no stretch over so many bytes exceeds.

@@ -257,6 +257,24 @@ pub(crate) fn ones_words(bytes: &[u8], p: usize, n: usize) -> usize
     ones
 }
 
+// n words of a stretch that begins s flags behind the byte p, over the front of out, and their ones: in one pass.
+pub(crate) fn copy_words(bytes: &[u8], p: usize, s: usize, n: usize, out: &mut [u8]) -> usize
+    requires { ⌜ ((8 * n ≤ length (now bytes) - (p + 1)) × (s ≤ 8)) × ((8 * n ≤ length (now out)) × (64 * n < 2 ^ 64)) ⌝ }
+    ensures ones { λ r. ⌜ r ≡ count (window (flagsOf (now (bytes .entry))) (8 * p + s) (64 * n)) ⌝ }
+    ensures flags { λ _. ⌜ flagsOf (now (out .exit)) ≡ over (flagsOf (now (out .entry))) (window (flagsOf (now (bytes .entry))) (8 * p + s) (64 * n)) ⌝ }
+{
+    let mut ones: usize = 0;
+    let mut i = 0;
+    while i < n {
+        let at = 8 * i;
+        let w = shifted_word(bytes, p + at, s);
+        put_word(out, at, w);
+        ones += ones_in_word(w);
+        i += 1;
+    }
+    ones
+}
+
 // n words of one flag over the front of out.
 pub(crate) fn fill_words(flag: bool, n: usize, out: &mut [u8])
     requires { ⌜ 8 * n ≤ length (now out) ⌝ }

@@ -1,6 +1,7 @@
-// loops::copy and loops::fill.
+// loops::copy, counts::copy_count and loops::fill.
 use crate::tables;
 use crate::text;
+use words::counts;
 use words::loops;
 
 pub fn run() {
@@ -16,7 +17,8 @@ pub fn run() {
     far_fill_lines(out);
 }
 
-// copy START LENGTH: the outputs of five bytes more and of one byte short, and a checksum of all sizes of bytes and outputs.
+// copy START LENGTH: the outputs of five bytes more and of one byte short, the same with a count, and a checksum of all sizes of
+// bytes and outputs.
 fn copy_lines(bytes: &[u8], out: &mut [u8]) {
     let mut i = 0;
     while i < 90 {
@@ -31,6 +33,7 @@ fn copy_line(start: usize, len: usize, bytes: &[u8], out: &mut [u8]) {
     text::number(len);
     copy_shown(start, len, 40, tables::room_for(5, len), bytes, out);
     copy_shown(start, len, 25, tables::room_for(2, len), bytes, out);
+    counted(start, len, bytes, out);
     text::checksum(copy_sum(start, len, bytes, out));
     text::newline();
 }
@@ -51,6 +54,34 @@ fn copy_part(start: usize, len: usize, n: usize, room: usize, bytes: &[u8], out:
 fn copy_shown(start: usize, len: usize, n: usize, room: usize, bytes: &[u8], out: &mut [u8]) {
     copied(start, len, n, room, bytes, out);
     text::bytes(out);
+}
+
+fn counted(start: usize, len: usize, bytes: &[u8], out: &mut [u8]) {
+    counted_shown(start, len, 40, tables::room_for(5, len), bytes, out);
+    counted_shown(start, len, 25, tables::room_for(2, len), bytes, out);
+}
+
+fn counted_shown(start: usize, len: usize, n: usize, room: usize, bytes: &[u8], out: &mut [u8]) {
+    tables::paint(7, out);
+    text::number(count_part(start, len, n, room, bytes, out));
+    text::bytes(out);
+}
+
+fn count_part(
+    start: usize,
+    len: usize,
+    n: usize,
+    room: usize,
+    bytes: &[u8],
+    out: &mut [u8],
+) -> usize {
+    if bytes.len() < n {
+        return 0;
+    }
+    if out.len() < room {
+        return 0;
+    }
+    counts::copy_count(&bytes[0..n], start, len, &mut out[0..room])
 }
 
 fn copy_summed(
@@ -106,6 +137,7 @@ fn far_copy_line(start: usize, len: usize, bytes: &[u8], out: &mut [u8]) {
     text::number(start);
     text::number(len);
     copy_shown(start, len, 9, 20, bytes, out);
+    counted_shown(start, len, 9, 20, bytes, out);
     text::newline();
 }
 

@@ -1,4 +1,4 @@
-use Prim.Native.Nat.{_-_, _%_, _≤_}
+use Prim.Native.Nat.{_-_, _*_, _/_, _≤_}
 use mathlib.Core.Path.{ap, _∙_}
 use native.Mathlib.Omega.{arith}
 use Rattle.words.proofs.Windows.{length-window}
@@ -28,8 +28,14 @@ returns c =
 to-whole-requires : tie.Need-to-whole-requires
 to-whole-requires c κs = search needs
 
+sub-left : tie.Need-sub-left
+sub-left c = search needs
+
 sub-whole : tie.Need-sub-whole
 sub-whole c = search needs
+
+mul-rest : tie.Need-mul-rest
+mul-rest c = search needs
 
 sub-rest : tie.Need-sub-rest
 sub-rest c = search needs
@@ -83,7 +89,7 @@ returns-2 c =
     let n = head .before .before .before .before .before .args .n in
     append-three _ _ _ _ _ _ _ _ (did .push-flags2 .ensures
     ∙ ap (appended _) (stretch-front _ _ (head .to-whole .result) _ (omega arith) (head .before .before .word-from .ensures))) (did2 .copy-words .ensures)
-    (did3 .push-flags3 .ensures ∙ ap (appended _) (stretch-front _ _ ((n - head .to-whole .result) % 64) _ (omega arith) (last .word-from2 .ensures)))
+    (did3 .push-flags3 .ensures ∙ ap (appended _) (stretch-front _ _ (n - head .to-whole .result - 64 * ((n - head .to-whole .result - 1) / 64)) _ (omega arith) (last .word-from2 .ensures)))
     (window-three _ _ _ _ _ _ _ _ (omega arith) (omega arith) (omega arith))
 
 pub append-stretch-spec : {M : Type 1} → statement M
@@ -95,7 +101,9 @@ append-stretch-spec =
     same-length
     returns
     to-whole-requires
+    sub-left
     sub-whole
+    mul-rest
     sub-rest
     push-flags-requires-2
     add-copy-words

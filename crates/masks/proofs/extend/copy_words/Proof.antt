@@ -14,40 +14,38 @@ mul-n c = search needs
 add-longer : tie.Need-add-longer
 add-longer c = search needs
 
-count-ones-requires : tie.Need-count-ones-requires
-count-ones-requires c κs = search needs
-
-add-ones : tie.Need-add-ones
-add-ones c =
-    let s = c .before .before .before .before .before in
-    let few = s .pre .1 .few in
-    let short = s .pre .1 .short in
-    omega (arith, count-within (flagsOf (s .args .bytes .now)) (s .args .start) _ _ (c .before .count-ones .ensures))
-
 mul-at : tie.Need-mul-at
 mul-at c = search needs
 
-sub-copy : tie.Need-sub-copy
-sub-copy c = search needs
+sub-copy-count : tie.Need-sub-copy-count
+sub-copy-count c = search needs
 
-part-copy-start : tie.Need-part-copy-start
-part-copy-start c = search needs
+part-copy-count-start : tie.Need-part-copy-count-start
+part-copy-count-start c = search needs
 
-part-copy-end : tie.Need-part-copy-end
-part-copy-end c = search needs
+part-copy-count-end : tie.Need-part-copy-count-end
+part-copy-count-end c = search needs
 
-copy-requires : tie.Need-copy-requires
-copy-requires c κs = search needs
+copy-count-requires : tie.Need-copy-count-requires
+copy-count-requires c κs = search needs
+
+add-ones : tie.Need-add-ones
+add-ones c =
+    let did = c .before .before .before in
+    let s = did .before .before .before .before .before .before in
+    let few = s .pre .1 .few in
+    let short = s .pre .1 .short in
+    omega (arith, count-within (flagsOf (s .args .bytes .now)) (s .args .start) _ _ (did .copy-count .ensures .0))
 
 same-length : tie.Need-same-length
 same-length c = search needs
 
 returns : tie.Need-returns
 returns c =
-    let did = c .before .before in
-    let s = did .before .before .before .before .before .before .before .before in
-    append-whole _ (s .args .buf .now) _ (s .args .whole) _ _ (s .pre .0) (length-window _ _ _) (did .before .before .before .before .count-ones .ensures)
-    (λ i. did .before .before .before .before .before .before .before .slice-known .given i .fits) (λ i. c .slice-known2 .given i .fits) (over-from _ _ _ _ (did .copy .ensures))
+    let did = c .before .before .before in
+    let s = did .before .before .before .before .before .before in
+    append-whole _ (s .args .buf .now) _ (s .args .whole) _ _ (s .pre .0) (length-window _ _ _) (did .copy-count .ensures .0)
+    (λ i. did .before .before .before .before .before .slice-known .given i .fits) (λ i. c .before .slice-known2 .given i .fits) (over-from _ _ _ _ (did .copy-count .ensures .1))
 
 pub copy-words-spec : {M : Type 1} → statement M
 copy-words-spec =
@@ -55,12 +53,11 @@ copy-words-spec =
     (tie.spec
     mul-n
     add-longer
-    count-ones-requires
-    add-ones
     mul-at
-    sub-copy
-    part-copy-start
-    part-copy-end
-    copy-requires
+    sub-copy-count
+    part-copy-count-start
+    part-copy-count-end
+    copy-count-requires
+    add-ones
     same-length
     returns)

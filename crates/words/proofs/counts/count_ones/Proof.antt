@@ -1,11 +1,11 @@
-use mathlib.Core.Path.{_≡_, _∙_}
+use mathlib.Core.Path.{_≡_, refl, _∙_}
 use native.Mathlib.Omega.{arith}
 use Rattle.words.proofs.Bytes.{length-flags}
 use Prim.Native.Nat.{ℕ, _+_, _-_, _*_, _/_, _%_, _≤_, _<_, min}
 use mathlib.Core.List.{List}
 use lib.ListN.{length}
 use Rattle.words.specs.Flags.{flagsOf}
-use Rattle.words.proofs.Counting.{count-low, count-rest, count-parts, count-start, count-within, low-within}
+use Rattle.words.proofs.Counting.{count-low, count-rest, count-parts, count-stretch, count-within, low-within}
 use borrow.Author.Needs.{needs}
 use Rattle.words.proofs.counts.count_ones.Statement.{statement}
 use Rattle.words.proofs.counts.count_ones.Tie as tie
@@ -20,7 +20,7 @@ ones-in-word-requires : tie.Need-ones-in-word-requires
 ones-in-word-requires c κs = search needs
 
 returns : tie.Need-returns
-returns c = count-start _ _ _ _ _ (count-low _ _ _ _ _ _ (c .before .before .before .if1 .taken) (c .before .before .word-at .ensures) (c .before .low-flags .ensures) (c .ones-in-word .ensures)) (omega arith)
+returns c = count-stretch _ _ _ _ _ _ (count-low _ _ _ _ _ _ (c .before .before .before .if1 .taken) (c .before .before .word-at .ensures) (c .before .low-flags .ensures) (c .ones-in-word .ensures)) (omega arith) refl
 
 sub-h : tie.Need-sub-h
 sub-h c = search needs
