@@ -16,6 +16,8 @@ def words_only():
     for k in PLACES:
         show("low_flags", k, *[hex_word(number_of(bits(64, w)[:k])) for w in WORDS])
     show("ones_in_word", *[bits(64, w).count(True) for w in WORDS])
+    for k in PLACES:
+        show("ones_below", k, *[bits(64, w)[:k].count(True) for w in WORDS])
     for offset in PLACES:
         show("merge_reversed", offset, *[hex_word(merged(w, WORDS[(3 * i + 1) % 10], offset)) for i, w in enumerate(WORDS)])
     pairs = [(x, y, offset) for offset in range(67) for y in WORDS for x in WORDS]
@@ -43,6 +45,9 @@ def word_cases():
         at = PLACES + [8 * n, 8 * n + 1] + FAR_STARTS
         total = checksum(number_of(window(flags, k, 64)) for k in range(201))
         show("word_from", n, *[hex_word(number_of(window(flags, k, 64))) for k in at], "#%d" % total)
+    for n in range(18):
+        flags = flags_of(mixed[:n])
+        show("byte_word", n, *[hex_word(number_of(window(flags, 8 * at, 64))) for at in list(range(20)) + [LARGEST]])
     for n in range(10):
         for i, w in enumerate(WORDS):
             out = paint(5, 9)

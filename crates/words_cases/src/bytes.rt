@@ -1,6 +1,7 @@
 // Words of lent bytes: loads, stores and words from any flag on.
 use crate::tables;
 use crate::text;
+use words::word::byte_word;
 use words::word::load_padded_le_u64;
 use words::word::store_at;
 use words::word::store_le_u64;
@@ -15,6 +16,7 @@ pub fn run() {
     tables::paint(4, mixed);
     loads(ones, mixed);
     word_from_lines(mixed);
+    byte_word_lines(mixed);
     run_stores();
 }
 
@@ -69,6 +71,33 @@ fn word_from_line(bytes: &[u8], n: usize) {
         words_at_far(&bytes[0..n]);
         text::checksum(word_sum(&bytes[0..n]));
         text::newline();
+    }
+}
+
+// byte_word SIZE: at the bytes 0 to 19, and at the largest.
+fn byte_word_lines(bytes: &[u8]) {
+    let mut n = 0;
+    while n < 18 {
+        byte_word_line(bytes, n);
+        n += 1;
+    }
+}
+
+fn byte_word_line(bytes: &[u8], n: usize) {
+    if n <= bytes.len() {
+        text::label(b"byte_word");
+        text::number(n);
+        byte_words(&bytes[0..n]);
+        text::word(byte_word(&bytes[0..n], 18446744073709551615));
+        text::newline();
+    }
+}
+
+fn byte_words(bytes: &[u8]) {
+    let mut at = 0;
+    while at < 20 {
+        text::word(byte_word(bytes, at));
+        at += 1;
     }
 }
 

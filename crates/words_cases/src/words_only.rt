@@ -6,12 +6,14 @@ use words::nth::Nth;
 use words::ops;
 use words::word::constant_word;
 use words::word::low_flags;
+use words::word::ones_below;
 use words::word::ones_in_word;
 
 pub fn run() {
     constants();
     lows();
     ones();
+    ones_below_lines();
     merges();
     merge_sums();
     nth_lines();
@@ -51,6 +53,26 @@ fn ones() {
     let mut i = 0;
     while i < 10 {
         text::number(ones_in_word(tables::word(i)));
+        i += 1;
+    }
+    text::newline();
+}
+
+// ones_below K: of each word of the table.
+fn ones_below_lines() {
+    let mut i = 0;
+    while i < 13 {
+        ones_below_line(tables::place(i));
+        i += 1;
+    }
+}
+
+fn ones_below_line(k: usize) {
+    text::label(b"ones_below");
+    text::number(k);
+    let mut i = 0;
+    while i < 10 {
+        text::number(ones_below(tables::word(i), k));
         i += 1;
     }
     text::newline();
