@@ -10,6 +10,7 @@ pub mod CombineLaws
 pub mod CombinedLaws
 pub mod CompareLaws
 pub mod CursorLaws
+pub mod Examples
 pub mod ExtendLaws
 pub mod FreezeLaws
 pub mod FrozenLaws
@@ -26,7 +27,6 @@ pub mod PartLaws
 pub mod PushLaws
 pub mod RepeatLaws
 pub mod RoomLaws
-pub mod RunExample
 pub mod RunLaws
 pub mod RunsPlain
 pub mod RunsWhole

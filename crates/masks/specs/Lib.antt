@@ -10,6 +10,7 @@ pub mod Chunks
 pub mod Combine
 pub mod Compare
 pub mod Cursor
+pub mod Examples
 pub mod Freeze
 pub mod Frozen
 pub mod History
