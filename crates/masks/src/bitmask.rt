@@ -1,7 +1,9 @@
 // Spans cut in two, windows of 32 flags, and searches for the n-th set flag by such windows.
+ghost use mathlib.Core.Bool.{true};
 ghost use mathlib.Core.Path.{_≡_};
-ghost use Prim.Native.Nat.{_≤_, _<_};
-ghost use Rattle.words.specs.Flags.{bits, count};
+ghost use Prim.Native.Nat.{_+_, _/_, _≤_, _<_};
+ghost use lib.ListN.{length};
+ghost use Rattle.words.specs.Flags.{bits, count, wordOf};
 ghost use Rattle.words.specs.Loops.{stretch};
 ghost use Rattle.words.specs.Nth.{nthPlace};
 ghost use Rattle.masks.specs.Answer.{given};
@@ -13,10 +15,13 @@ use crate::checks::earlier;
 use crate::checks::failed;
 use crate::checks::span_failure;
 use crate::checks::sum_at_most;
+use crate::span::byte_word;
 use crate::span::flags_word;
 use crate::span::least;
 use words::nth::Nth;
 use words::nth::nth_set_bit_u32;
+use words::word::down;
+use words::word::low_flags;
 
 // A start bit and a length in bits. The Rust's `BitMask`, its bytes lent beside it.
 pub struct Span {
@@ -87,8 +92,33 @@ pub(crate) fn span_window(bytes: &[u8], start: usize, length: usize, index: usiz
     if index >= length {
         return 0;
     }
+    let bit = start + index;
     let k = least(32, length - index);
-    flags_word(bytes, start + index, k) as u32
+    if is_whole(k, bit / 8, bytes.len()) {
+        return whole_window(bytes, bit);
+    }
+    flags_word(bytes, bit, k) as u32
+}
+
+// Are there 32 flags, and eight bytes from their first on.
+fn is_whole(k: usize, at: usize, size: usize) -> bool
+    ensures { λ r. ⌜ (r ≡ true → (32 ≤ k) × (at + 8 ≤ size)) ⌝ }
+{
+    if k < 32 {
+        return false;
+    }
+    if size < at {
+        return false;
+    }
+    size - at >= 8
+}
+
+// 32 flags from `bit` on, by one load.
+fn whole_window(bytes: &[u8], bit: usize) -> u32
+    requires { ⌜ bit / 8 + 8 ≤ length (now bytes) ⌝ }
+    ensures { λ r. ⌜ r ≡ wordOf (stretch (now (bytes .entry)) bit 32) ⌝ }
+{
+    low_flags(down(byte_word(bytes, bit / 8), bit % 8), 32) as u32
 }
 
 // Where the n-th set flag is, if there are so many.

@@ -1,11 +1,15 @@
+-- A window of 32 flags by one load, or of fewer, cut.
 use native.Mathlib.Omega.{arith}
-use Rattle.masks.proofs.BitmaskLaws.{narrow, window-value, window-none}
 use borrow.Author.Needs.{needs}
+use Rattle.masks.proofs.BitmaskLaws.{narrow, window-value, window-none}
 use Rattle.masks.proofs.bitmask.span_window.Statement.{statement}
 use Rattle.masks.proofs.bitmask.span_window.Tie as tie
 
 returns : tie.Need-returns
 returns c = window-none _ _ _ _ (c .if1 .taken)
+
+add-bit : tie.Need-add-bit
+add-bit c = search needs
 
 sub-least : tie.Need-sub-least
 sub-least c = search needs
@@ -13,8 +17,16 @@ sub-least c = search needs
 least-requires : tie.Need-least-requires
 least-requires c κs = search needs
 
-add-flags-word : tie.Need-add-flags-word
-add-flags-word c = search needs
+is-whole-requires : tie.Need-is-whole-requires
+is-whole-requires c κs = search needs
+
+whole-window-requires : tie.Need-whole-window-requires
+whole-window-requires c κs = c .before .is-whole .ensures (c .if2 .taken) .1
+
+returns-2 : tie.Need-returns-2
+returns-2 c =
+    let e = c .before .before in
+    window-value _ _ _ _ 32 _ (omega (arith, e .is-whole .ensures (c .before .if2 .taken), e .before .least .ensures)) (c .whole-window .ensures)
 
 flags-word-requires : tie.Need-flags-word-requires
 flags-word-requires c κs = search needs
@@ -22,17 +34,20 @@ flags-word-requires c κs = search needs
 cast-result : tie.Need-cast-result
 cast-result c = record { fits = narrow _ _ _ 32 _ (c .flags-word .ensures) (omega arith) }
 
-returns-2 : tie.Need-returns-2
-returns-2 c = window-value _ _ _ _ _ _ (c .before .least .ensures) (c .flags-word .ensures)
+returns-3 : tie.Need-returns-3
+returns-3 c = window-value _ _ _ _ _ _ (c .before .before .before .least .ensures) (c .flags-word .ensures)
 
 pub span-window-spec : {M : Type 1} → statement M
 span-window-spec =
     tie.close
     (tie.spec
     returns
+    add-bit
     sub-least
     least-requires
-    add-flags-word
+    is-whole-requires
+    whole-window-requires
+    returns-2
     flags-word-requires
     cast-result
-    returns-2)
+    returns-3)
