@@ -1,6 +1,6 @@
 -- Words of a span as numbers. Assumes nothing.
-use mathlib.Core.Path.{_≡_, ap, _∙_}
-use mathlib.Core.Bool.{Bool}
+use mathlib.Core.Path.{_≡_, refl, ap, _∙_}
+use mathlib.Core.Bool.{Bool, true, false}
 use mathlib.Core.List.{List}
 use Prim.Native.Nat.{ℕ, _+_, _-_, _*_, _^_, _≤_, _<_}
 use native.Mathlib.Omega.{arith}
@@ -27,3 +27,11 @@ load-from bytes at r p =
     let z : 8 * at + 0 ≡ 8 * at = omega arith in
     p ∙ ap (λ (l : List Bool). window l 0 64) (ap flagsOf (mid-from at bytes) ∙ flags-drop at bytes)
     ∙ window-drop (flagsOf bytes) (8 * at) 0 64 ∙ ap (λ (x : ℕ). window (flagsOf bytes) x 64) z
+
+-- a flag is not both
+pub not-both : {x : Bool} → x ≡ true → x ≡ false → ⊥
+not-both a b = let n : _≡_ {A = ℕ} 0 1 = cc in omega arith
+
+-- where a test says no, nothing is owed
+pub said-no : {A : Type 0} → false ≡ true → A
+said-no e = absurd (not-both e refl)

@@ -1,8 +1,8 @@
 // Spans cut in two, windows of 32 flags, and searches for the n-th set flag by such windows.
 ghost use mathlib.Core.Bool.{true};
 ghost use mathlib.Core.Path.{_≡_};
-ghost use Prim.Native.Nat.{_+_, _/_, _≤_, _<_};
-ghost use lib.ListN.{length};
+ghost use Prim.Native.Nat.{_+_, _*_, _/_, _≤_, _<_};
+ghost use lib.ListN.{length as ListN·length};
 ghost use Rattle.words.specs.Flags.{bits, count, wordOf};
 ghost use Rattle.words.specs.Loops.{stretch};
 ghost use Rattle.words.specs.Nth.{nthPlace};
@@ -17,6 +17,7 @@ use crate::checks::span_failure;
 use crate::checks::sum_at_most;
 use crate::span::byte_word;
 use crate::span::flags_word;
+use crate::span::holds_word;
 use crate::span::least;
 use words::nth::Nth;
 use words::nth::nth_set_bit_u32;
@@ -86,14 +87,18 @@ pub fn get_u32(bytes: &[u8], start: usize, length: usize, index: usize) -> Windo
 
 // The same of a span whose checks have passed.
 pub(crate) fn span_window(bytes: &[u8], start: usize, length: usize, index: usize) -> u32
-    requires { ⌜ (start ≤ 4194304) × (length ≤ 4194304) ⌝ }
+    requires { ⌜ (start ≤ 4194304) × ((length ≤ 4194304) × (start + length ≤ 8 * ListN·length (now bytes))) ⌝ }
     ensures { λ r. ⌜ r ≡ windowWord (now (bytes .entry)) start length index ⌝ }
 {
     if index >= length {
         return 0;
     }
     let bit = start + index;
-    let k = least(32, length - index);
+    let left = length - index;
+    if left >= 64 {
+        return whole_window(bytes, bit);
+    }
+    let k = least(32, left);
     if is_whole(k, bit / 8, bytes.len()) {
         return whole_window(bytes, bit);
     }
@@ -107,15 +112,12 @@ fn is_whole(k: usize, at: usize, size: usize) -> bool
     if k < 32 {
         return false;
     }
-    if size < at {
-        return false;
-    }
-    size - at >= 8
+    holds_word(at, size)
 }
 
 // 32 flags from `bit` on, by one load.
 fn whole_window(bytes: &[u8], bit: usize) -> u32
-    requires { ⌜ bit / 8 + 8 ≤ length (now bytes) ⌝ }
+    requires { ⌜ bit / 8 + 8 ≤ ListN·length (now bytes) ⌝ }
     ensures { λ r. ⌜ r ≡ wordOf (stretch (now (bytes .entry)) bit 32) ⌝ }
 {
     low_flags(down(byte_word(bytes, bit / 8), bit % 8), 32) as u32
@@ -158,7 +160,7 @@ pub fn nth_set_bit_idx_rev(
 
 // Window by window, with fewer left to pass over after each.
 fn search_from(bytes: &[u8], start: usize, length: usize, n: usize, from: usize) -> Position
-    requires { ⌜ (start ≤ 4194304) × (length ≤ 4194304) ⌝ }
+    requires { ⌜ (start ≤ 4194304) × ((length ≤ 4194304) × (start + length ≤ 8 * ListN·length (now bytes))) ⌝ }
     ensures { λ r. ⌜ positionAnswer r ≡ given (nthFrom (stretch (now (bytes .entry)) start length) n from) ⌝ }
 {
     let mut left = n;
@@ -181,7 +183,7 @@ fn search_from(bytes: &[u8], start: usize, length: usize, n: usize, from: usize)
 
 // The same from the end on: the window before `below` has zeros from there on.
 fn search_back(bytes: &[u8], start: usize, length: usize, n: usize, end: usize) -> Position
-    requires { ⌜ (start ≤ 4194304) × ((length ≤ 4194304) × (end ≤ length)) ⌝ }
+    requires { ⌜ (start ≤ 4194304) × ((length ≤ 4194304) × ((start + length ≤ 8 * ListN·length (now bytes)) × (end ≤ length))) ⌝ }
     ensures { λ r. ⌜ positionAnswer r ≡ given (nthBack (stretch (now (bytes .entry)) start length) n end) ⌝ }
 {
     let mut left = n;
