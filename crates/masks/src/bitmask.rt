@@ -1,7 +1,6 @@
 // Spans cut in two, windows of 32 flags, and searches for the n-th set flag by such windows.
-ghost use mathlib.Core.Bool.{true};
 ghost use mathlib.Core.Path.{_≡_};
-ghost use Prim.Native.Nat.{_+_, _*_, _/_, _≤_, _<_};
+ghost use Prim.Native.Nat.{_+_, _*_, _/_, _≤_, _<_, min};
 ghost use lib.ListN.{length as ListN·length};
 ghost use Rattle.words.specs.Flags.{bits, count, wordOf};
 ghost use Rattle.words.specs.Loops.{stretch};
@@ -17,7 +16,6 @@ use crate::checks::span_failure;
 use crate::checks::sum_at_most;
 use crate::span::byte_word;
 use crate::span::flags_word;
-use crate::span::holds_word;
 use crate::span::least;
 use words::nth::Nth;
 use words::nth::nth_set_bit_u32;
@@ -98,21 +96,15 @@ pub(crate) fn span_window(bytes: &[u8], start: usize, length: usize, index: usiz
     if left >= 64 {
         return whole_window(bytes, bit);
     }
-    let k = least(32, left);
-    if is_whole(k, bit / 8, bytes.len()) {
-        return whole_window(bytes, bit);
-    }
-    flags_word(bytes, bit, k) as u32
+    last_window(bytes, bit, left)
 }
 
-// Are there 32 flags, and eight bytes from their first on.
-fn is_whole(k: usize, at: usize, size: usize) -> bool
-    ensures { λ r. ⌜ (r ≡ true → (32 ≤ k) × (at + 8 ≤ size)) ⌝ }
+// The same of at most 64 flags from `bit` on.
+fn last_window(bytes: &[u8], bit: usize, left: usize) -> u32
+    ensures { λ r. ⌜ r ≡ wordOf (stretch (now (bytes .entry)) bit (min 32 left)) ⌝ }
 {
-    if k < 32 {
-        return false;
-    }
-    holds_word(at, size)
+    let k = least(32, left);
+    flags_word(bytes, bit, k) as u32
 }
 
 // 32 flags from `bit` on, by one load.

@@ -1,13 +1,12 @@
 // Words of a span, and how many flags alike stand next in it.
 ghost use mathlib.Core.Bool.{true, false};
 ghost use mathlib.Core.Path.{_≡_};
-ghost use Prim.Native.Nat.{_+_, _*_, _/_, _≤_, min};
+ghost use Prim.Native.Nat.{_*_, _≤_, min};
 ghost use lib.ListN.{length as ListN·length};
 ghost use Rattle.words.specs.Flags.{wordOf, wordFlags};
 ghost use Rattle.words.specs.Loops.{stretch};
 ghost use Rattle.masks.specs.Iterator.{leadingFrom};
 use words::ends::leading_in_word;
-use words::word::down;
 use words::word::load_padded_le_u64;
 use words::word::low_flags;
 use words::word::word_from;
@@ -28,7 +27,7 @@ pub(crate) fn byte_word(bytes: &[u8], at: usize) -> u64
     load_padded_le_u64(&bytes[at..])
 }
 
-// How many flags of a span that equal `flag` stand from `place` on.
+// How many flags of a span that equal `flag` stand from `place` on. Another one is most often near: the first word is read here.
 pub(crate) fn leading_from(
     flag: bool,
     bytes: &[u8],
@@ -39,39 +38,16 @@ pub(crate) fn leading_from(
     requires { ⌜ (start ≤ 4194304) × ((length ≤ 4194304) × (place ≤ length)) ⌝ }
     ensures { λ r. ⌜ r ≡ leadingFrom flag (stretch (now (bytes .entry)) start length) place ⌝ }
 {
-    let bit = start + place;
-    if holds_word(bit / 8, bytes.len()) {
-        return leading_near(flag, bytes, start, length, place);
-    }
-    leading_by_words(flag, bytes, start, length, place)
-}
-
-// Are eight bytes from `at` on in range.
-pub(crate) fn holds_word(at: usize, size: usize) -> bool
-    ensures { λ r. ⌜ (r ≡ true → at + 8 ≤ size) ⌝ }
-{
-    if size < at {
-        return false;
-    }
-    size - at >= 8
-}
-
-// `leading_from` where another flag is most often near: one load of eight bytes, in which 56 flags stand whole.
-fn leading_near(flag: bool, bytes: &[u8], start: usize, length: usize, place: usize) -> usize
-    requires { ⌜ (start ≤ 4194304) × ((length ≤ 4194304) × ((place ≤ length) × ((start + place) / 8 + 8 ≤ ListN·length (now bytes)))) ⌝ }
-    ensures { λ r. ⌜ r ≡ leadingFrom flag (stretch (now (bytes .entry)) start length) place ⌝ }
-{
-    let bit = start + place;
-    let k = least(56, length - place);
-    let same = leading_in_word(flag, down(byte_word(bytes, bit / 8), bit % 8), k);
+    let k = least(64, length - place);
+    let same = leading_in_word(flag, word_from(bytes, start + place), k);
     if same < k {
         return same;
     }
     leading_by_words(flag, bytes, start, length, place)
 }
 
-// Are the eight flags from `place` on ones, as far as one load shows. Where it is often so, as in a mask with few zeros, the
-// next one is known before the load has come back.
+// Are the eight flags from `place` on ones. Where it is often so, as in a mask with few zeros, the next one is known before the
+// load has come back.
 pub(crate) fn ones_follow(bytes: &[u8], start: usize, length: usize, place: usize) -> bool
     requires { ⌜ (start ≤ 4194304) × ((length ≤ 4194304) × (place ≤ length)) ⌝ }
     ensures { λ r. ⌜ (r ≡ true → 0 ≡ leadingFrom false (stretch (now (bytes .entry)) start length) place) ⌝ }
@@ -79,11 +55,7 @@ pub(crate) fn ones_follow(bytes: &[u8], start: usize, length: usize, place: usiz
     if place >= length {
         return false;
     }
-    let bit = start + place;
-    if holds_word(bit / 8, bytes.len()) {
-        return down(byte_word(bytes, bit / 8), bit % 8) % 256 == 255;
-    }
-    false
+    word_from(bytes, start + place) % 256 == 255
 }
 
 // `leading_from` word by word, up to one that has another flag.

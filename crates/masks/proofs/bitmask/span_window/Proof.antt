@@ -1,7 +1,8 @@
--- Where 64 flags are left, eight bytes are in range. A window of 32 flags is read by one load, one of fewer is cut.
+-- Where 64 flags are left, eight bytes are in range, and one load reads a window of 32 flags.
+use mathlib.Core.Path.{refl}
 use native.Mathlib.Omega.{arith}
 use borrow.Author.Needs.{needs}
-use Rattle.masks.proofs.BitmaskLaws.{narrow, window-value, window-none}
+use Rattle.masks.proofs.BitmaskLaws.{window-value, window-none}
 use Rattle.masks.proofs.bitmask.span_window.Statement.{statement}
 use Rattle.masks.proofs.bitmask.span_window.Tie as tie
 
@@ -20,28 +21,11 @@ whole-window-requires c κs = omega arith
 returns-2 : tie.Need-returns-2
 returns-2 c = window-value _ _ _ _ 32 _ (omega arith) (c .whole-window .ensures)
 
-least-requires : tie.Need-least-requires
-least-requires c κs = search needs
-
-is-whole-requires : tie.Need-is-whole-requires
-is-whole-requires c κs = search needs
-
-whole-window-requires-2 : tie.Need-whole-window-requires-2
-whole-window-requires-2 c κs = c .before .is-whole .ensures (c .if3 .taken) .1
+last-window-requires : tie.Need-last-window-requires
+last-window-requires c κs = search needs
 
 returns-3 : tie.Need-returns-3
-returns-3 c =
-    let e = c .before .before in
-    window-value _ _ _ _ 32 _ (omega (arith, e .is-whole .ensures (c .before .if3 .taken), e .before .least .ensures)) (c .whole-window2 .ensures)
-
-flags-word-requires : tie.Need-flags-word-requires
-flags-word-requires c κs = search needs
-
-cast-result : tie.Need-cast-result
-cast-result c = record { fits = narrow _ _ _ 32 _ (c .flags-word .ensures) (omega arith) }
-
-returns-4 : tie.Need-returns-4
-returns-4 c = window-value _ _ _ _ _ _ (c .before .before .before .least .ensures) (c .flags-word .ensures)
+returns-3 c = window-value _ _ _ _ _ _ refl (c .last-window .ensures)
 
 pub span-window-spec : {M : Type 1} → statement M
 span-window-spec =
@@ -52,10 +36,5 @@ span-window-spec =
     sub-left
     whole-window-requires
     returns-2
-    least-requires
-    is-whole-requires
-    whole-window-requires-2
-    returns-3
-    flags-word-requires
-    cast-result
-    returns-4)
+    last-window-requires
+    returns-3)
