@@ -23,6 +23,7 @@ use Rattle.masks.specs.declared.slice_iterator.Run.{Run}
 use Rattle.masks.specs.declared.slice_iterator.SlicesIterator.{SlicesIterator}
 use Rattle.masks.proofs.CheckLaws.{both-left, is-given}
 use Rattle.masks.proofs.Listing.{Moves, gives, ends, lists, place-accepted, place-again}
+use Rattle.masks.proofs.SpanLaws.{not-both}
 use Rattle.masks.proofs.RunsPlain.{FirstRun, first-run, no-ones, next-lists, none-left, behind, a-run-first}
 
 -- ---- all of them, and maximal
@@ -77,9 +78,6 @@ from-first l = refl
 
 pub all-runs : (l : List Bool) → AllRuns l 0 (runsFrom 0 l)
 all-runs l = subst (AllRuns l 0) (from-first l) (all-left (suc (length l)) l 0 (omega arith) (λ (j : ℕ) (e : suc j ≡ 0). absurd (omega arith)))
-
-not-both : {x : Bool} → x ≡ true → x ≡ false → ⊥
-not-both a b = let n : _≡_ {A = ℕ} 0 1 = cc in omega arith
 
 behind-stop : (l : List Bool) (s j : ℕ) → s ≤ j → getD l s false ≡ false → getD l j false ≡ true → suc s ≤ j
 behind-stop l s j h z e = ⊎-elim

@@ -1,7 +1,8 @@
 // Spans cut in two, windows of 32 flags, and searches for the n-th set flag by such windows.
 ghost use mathlib.Core.Path.{_≡_};
-ghost use Prim.Native.Nat.{_≤_, _<_};
-ghost use Rattle.words.specs.Flags.{bits, count};
+ghost use Prim.Native.Nat.{_+_, _*_, _/_, _≤_, _<_, min};
+ghost use lib.ListN.{length as ListN·length};
+ghost use Rattle.words.specs.Flags.{bits, count, wordOf};
 ghost use Rattle.words.specs.Loops.{stretch};
 ghost use Rattle.words.specs.Nth.{nthPlace};
 ghost use Rattle.masks.specs.Answer.{given};
@@ -17,6 +18,9 @@ use crate::span::flags_word;
 use crate::span::least;
 use words::nth::Nth;
 use words::nth::nth_set_bit_u32;
+use words::word::byte_word;
+use words::word::down;
+use words::word::low_flags;
 
 // A start bit and a length in bits. The Rust's `BitMask`, its bytes lent beside it.
 pub struct Span {
@@ -81,14 +85,34 @@ pub fn get_u32(bytes: &[u8], start: usize, length: usize, index: usize) -> Windo
 
 // The same of a span whose checks have passed.
 pub(crate) fn span_window(bytes: &[u8], start: usize, length: usize, index: usize) -> u32
-    requires { ⌜ (start ≤ 4194304) × (length ≤ 4194304) ⌝ }
+    requires { ⌜ (start ≤ 4194304) × ((length ≤ 4194304) × (start + length ≤ 8 * ListN·length (now bytes))) ⌝ }
     ensures { λ r. ⌜ r ≡ windowWord (now (bytes .entry)) start length index ⌝ }
 {
     if index >= length {
         return 0;
     }
-    let k = least(32, length - index);
-    flags_word(bytes, start + index, k) as u32
+    let bit = start + index;
+    let left = length - index;
+    if left >= 64 {
+        return whole_window(bytes, bit);
+    }
+    last_window(bytes, bit, left)
+}
+
+// The same of at most 64 flags from `bit` on.
+fn last_window(bytes: &[u8], bit: usize, left: usize) -> u32
+    ensures { λ r. ⌜ r ≡ wordOf (stretch (now (bytes .entry)) bit (min 32 left)) ⌝ }
+{
+    let k = least(32, left);
+    flags_word(bytes, bit, k) as u32
+}
+
+// 32 flags from `bit` on, by one load.
+fn whole_window(bytes: &[u8], bit: usize) -> u32
+    requires { ⌜ bit / 8 + 8 ≤ ListN·length (now bytes) ⌝ }
+    ensures { λ r. ⌜ r ≡ wordOf (stretch (now (bytes .entry)) bit 32) ⌝ }
+{
+    low_flags(down(byte_word(bytes, bit / 8), bit % 8), 32) as u32
 }
 
 // Where the n-th set flag is, if there are so many.
@@ -128,7 +152,7 @@ pub fn nth_set_bit_idx_rev(
 
 // Window by window, with fewer left to pass over after each.
 fn search_from(bytes: &[u8], start: usize, length: usize, n: usize, from: usize) -> Position
-    requires { ⌜ (start ≤ 4194304) × (length ≤ 4194304) ⌝ }
+    requires { ⌜ (start ≤ 4194304) × ((length ≤ 4194304) × (start + length ≤ 8 * ListN·length (now bytes))) ⌝ }
     ensures { λ r. ⌜ positionAnswer r ≡ given (nthFrom (stretch (now (bytes .entry)) start length) n from) ⌝ }
 {
     let mut left = n;
@@ -151,7 +175,7 @@ fn search_from(bytes: &[u8], start: usize, length: usize, n: usize, from: usize)
 
 // The same from the end on: the window before `below` has zeros from there on.
 fn search_back(bytes: &[u8], start: usize, length: usize, n: usize, end: usize) -> Position
-    requires { ⌜ (start ≤ 4194304) × ((length ≤ 4194304) × (end ≤ length)) ⌝ }
+    requires { ⌜ (start ≤ 4194304) × ((length ≤ 4194304) × ((start + length ≤ 8 * ListN·length (now bytes)) × (end ≤ length))) ⌝ }
     ensures { λ r. ⌜ positionAnswer r ≡ given (nthBack (stretch (now (bytes .entry)) start length) n end) ⌝ }
 {
     let mut left = n;

@@ -1,10 +1,12 @@
 -- The set flag number n, in a list cut in two and in a word whose low half is counted. Assumes nothing.
 use mathlib.Core.Path.{_≡_, refl, sym, ap, ap₂, _∙_, subst}
-use mathlib.Core.Bool.{Bool, true, false}
+use mathlib.Core.Bool.{Bool, true, false, cond}
 use mathlib.Core.List.{List, [], _∷_, _++_}
+use mathlib.Core.Logic.{⊎-elim}
 use Prim.Native.Nat.{ℕ, zero, suc, _+_, _-_, _*_, _/_, _%_, _^_, _≤_, _<_}
-use native.Mathlib.Nat.{mod-lt, add-sub-of-le, sub-add-cancel}
+use native.Mathlib.Nat.{mod-lt, add-sub-of-le, sub-add-cancel, div-one}
 use native.Mathlib.Omega.{arith}
+use lib.Dec.{ltb}
 use lib.Pow.{pow-pos}
 use lib.Count.{ones}
 use lib.ListN.{length, take}
@@ -15,6 +17,7 @@ use Rattle.words.specs.declared.nth.Nth.the-variants.{At, Missing}
 use Rattle.words.specs.Nth.{nthPlace, nthOne}
 use Rattle.words.proofs.Bits.{bits-add, bits-mod, bits-shl, bits-take, length-bits}
 use Rattle.words.proofs.Counting.{ones-bits, count-append, count-copies}
+use Rattle.words.proofs.Windows.{lt-or-le}
 
 -- in two lists in a row
 pub nth-low : (a b : List Bool) (n : ℕ) → n < count a → nthPlace (a ++ b) n ≡ nthPlace a n
@@ -71,6 +74,55 @@ pub place-high : (d h w n k r : ℕ) → h ≤ d → k ≡ count (bits h w) → 
 place-high d h w n k r l e q p =
     ap₂ (λ (x y : ℕ). x + y) (sym (length-bits h w)) (p ∙ ap (λ (x : ℕ). nthPlace (bits (d - h) (w / 2 ^ h)) (n - x)) e)
     ∙ sym (ap (λ (x : List Bool). nthPlace x n) (cut d h w l) ∙ nth-high (bits h w) (bits (d - h) (w / 2 ^ h)) n (omega arith))
+
+-- which half it is in, as numbers: s places and o ones are passed over
+pub behind-le : (n k x r : ℕ) → r ≡ cond (ltb n k) 0 x → r ≤ x
+behind-le n k x r e = go (ltb n k) e
+  where
+    go : (t : Bool) → r ≡ cond t 0 x → r ≤ x
+    go true e = omega arith
+    go false e = omega arith
+
+pub behind-ones : (n k r : ℕ) → r ≡ cond (ltb n k) 0 k → r ≤ n
+behind-ones n k r e = ⊎-elim
+    (λ (h : n < k). let z : r ≡ 0 = rw (lt-ltb n k h) at e in omega arith)
+    (λ (h : k ≤ n). let z : r ≡ k = rw (le-ltb n k h) at e in omega arith)
+    (lt-or-le n k)
+
+module _ (d h w n k s o : ℕ) (l : h ≤ d - h) (e : k ≡ count (bits h w)) (es : s ≡ cond (ltb n k) 0 h) (eo : o ≡ cond (ltb n k) 0 k) (inside : n < count (bits d w)) where
+  whole : (x : ℕ) → x ≡ 0 → w / 2 ^ x ≡ w
+  whole x z = ap (λ (y : ℕ). w / 2 ^ y) z ∙ div-one w
+
+  low-few : n < k → n < count (bits (d - h) w)
+  low-few q = omega (arith, count-cut (d - h) h w l)
+
+  pub half-fits : n - o < count (bits (d - h) (w / 2 ^ s))
+  half-fits = ⊎-elim
+      (λ (q : n < k).
+      let zs : s ≡ 0 = rw (lt-ltb n k q) at es in
+      let zo : o ≡ 0 = rw (lt-ltb n k q) at eo in
+      rw (whole s zs) (omega (arith, low-few q)))
+      (λ (q : k ≤ n).
+      let zs : s ≡ h = rw (le-ltb n k q) at es in
+      let zo : o ≡ k = rw (le-ltb n k q) at eo in
+      rw zs (omega (arith, count-cut d h w (omega arith))))
+      (lt-or-le n k)
+
+  pub half-place : (r : ℕ) → r ≡ nthPlace (bits (d - h) (w / 2 ^ s)) (n - o) → s + r ≡ nthPlace (bits d w) n
+  half-place r p = ⊎-elim
+      (λ (q : n < k).
+      let zs : s ≡ 0 = rw (lt-ltb n k q) at es in
+      let zo : o ≡ 0 = rw (lt-ltb n k q) at eo in
+      let zn : n - o ≡ n = omega arith in
+      let zr : s + r ≡ r = omega arith in
+      zr ∙ place-low d (d - h) w n (count (bits (d - h) w)) r (omega arith) refl (low-few q)
+      (p ∙ ap₂ (λ (x y : ℕ). nthPlace (bits (d - h) x) y) (whole s zs) zn))
+      (λ (q : k ≤ n).
+      let zs : s ≡ h = rw (le-ltb n k q) at es in
+      let zo : o ≡ k = rw (le-ltb n k q) at eo in
+      ap (λ (x : ℕ). x + r) zs
+      ∙ place-high d h w n k r (omega arith) e q (p ∙ ap₂ (λ (x y : ℕ). nthPlace (bits (d - h) (w / 2 ^ x)) (n - y)) zs zo))
+      (lt-or-le n k)
 
 pub place-lt : (d w n : ℕ) → n < count (bits d w) → nthPlace (bits d w) n < d
 place-lt d w n h = subst (λ (x : ℕ). nthPlace (bits d w) n < x) (length-bits d w) (nth-lt (bits d w) n h)

@@ -1,5 +1,7 @@
 // The n-th set flag of a word.
+ghost use mathlib.Core.Bool.{cond};
 ghost use mathlib.Core.Path.{_≡_};
+ghost use lib.Dec.{ltb};
 ghost use Prim.Native.Nat.{_<_, _≤_};
 ghost use Rattle.words.specs.Flags.{bits, count};
 ghost use Rattle.words.specs.Nth.{nthPlace, nthOne};
@@ -8,6 +10,13 @@ ghost use Rattle.words.specs.Nth.{nthPlace, nthOne};
 pub enum Nth {
     At(u32),
     Missing,
+}
+
+// x if the set flag n is not among the first `ones`, else 0. A choice between two numbers is compiled without a jump.
+fn if_behind(n: u32, ones: u32, x: u32) -> u32
+    ensures { λ r. ⌜ r ≡ cond (ltb n ones) 0 x ⌝ }
+{
+    if n < ones { 0 } else { x }
 }
 
 // The place of the set flag n among the low `width` flags of w: the ones of the low half say which half it is in.
@@ -20,11 +29,9 @@ fn descend(w: u64, n: u32, width: u32) -> u32
     }
     let half = width / 2;
     let ones = u64::count_ones(w << (64 - half));
-    if n < ones {
-        descend(w, n, half)
-    } else {
-        half + descend(w >> half, n - ones, width - half)
-    }
+    let skip = if_behind(n, ones, half);
+    let passed = if_behind(n, ones, ones);
+    skip + descend(w >> skip, n - passed, width - half)
 }
 
 fn wide(x: u32) -> u64

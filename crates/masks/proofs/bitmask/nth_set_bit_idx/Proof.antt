@@ -15,7 +15,7 @@ returns c = is-refused _ _ _ _ (c .before .span-failure .ensures) (c .if1 .taken
 search-from-requires : tie.Need-search-from-requires
 search-from-requires c κs =
     let span = span-allowed _ _ _ (sym (c .before .span-failure .ensures) ∙ c .if1 .left) in
-    (span .starts, span .short)
+    (span .starts, (span .short, span .inside))
 
 returns-2 : tie.Need-returns-2
 unfolding searchFrom

@@ -22,7 +22,7 @@ search-back-requires : tie.Need-search-back-requires
 search-back-requires c κs =
     let e = c .before in
     let span = span-allowed _ _ _ (sym (e .before .span-failure .ensures) ∙ e .if1 .left) in
-    (span .starts, (span .short, omega (arith, c .least .ensures)))
+    (span .starts, (span .short, (span .inside, omega (arith, c .least .ensures))))
 
 returns-2 : tie.Need-returns-2
 unfolding searchBack
