@@ -69,6 +69,7 @@ class History:
         self.flags, self.refused, self.tried = [], [], False
 
     def step(self, letter, short, *numbers):
+        assert not (short and letter in "tsu"), "a call without an output"
         if letter == "t":
             self.start(*numbers[:2])
         elif letter in "fv":

@@ -1,19 +1,24 @@
-// A step of a history, written in eleven bytes: a letter, three numbers x, y and z of three digits, and `;`. 999 is 4,194,305, one
-// past the flag limit. `lent` are the lent bytes of tables.rt; the calls are on the history's own builder or mask.
+// A step of a history, written in eleven bytes: a letter, three numbers x, y and z of three digits each, and `;`. 999 stands for
+// 4,194,305, one past the flag limit. The calls are on the history's own builder or mask; `lent` are the bytes of tables.rt.
 //
-//     t  try_new: y flags from x on of the history's own bytes    p  push: flag x of lent
-//     c  extend_constant: x flags, all y                          w  push_word_with_len_unchecked: y flags of lent from x on;
-//     e  extend_from_slice: y flags of lent from x on                where z is not 0 with all 64 in the word
-//     r  extend_each_repeated_from_slice_unchecked: the same,     b  subslice_extend_from_bitmap: y flags from x on of the mask of
-//        z times each                                                200 flags of lent from 32 on, counted where z is not 0
-//     g  gather_extend_from_slice: of the 100 flags of lent       h  opt_gather_extend_from_slice: the same
-//        from z on those at x, x + 1, .., y of them               v  into_opt_validity
-//     f  freeze                                                   u  unset_bits
+//     t  try_new: y flags from x on of the history's own bytes, instead of the new builder that a history starts with
+//     p  push: flag x of lent
+//     c  extend_constant: x flags, all of them y
+//     w  push_word_with_len_unchecked: y flags of lent from x on; where z is not 0 the word has 64, also those past y
+//     e  extend_from_slice: y flags of lent from x on
+//     r  extend_each_repeated_from_slice_unchecked: the same, each z times
+//     b  subslice_extend_from_bitmap: y flags from x on of the mask of 200 flags of lent from 32 on, counted where z is not 0
+//     g  gather_extend_from_slice: of the 100 flags of lent from z on those at the y indices x, x + 1, ..
+//     h  opt_gather_extend_from_slice: the same
+//     f  freeze
+//     v  into_opt_validity
 //     s  slice: y flags from x on
+//     u  unset_bits
+//     a and, d and_not, o or, q or_not, x xor, n not, i select, j and k select_constant with 0 and with 1
 //
-// and the combinations a and, d and_not, o or, q or_not, x xor, n not, i select, j and k select_constant with 0 and with 1. The
-// digits of z say which mask each argument is: 0 the history's own; of lent, as long as that, 1 from x on, 2 the same counted, 3
-// from y on, 4 the same counted; 5 from x on with a flag more; 6 from x on with a count over the length.
+// The digits of z say which mask each argument of a combination is: 0 the history's own; then, over lent and as long as the own
+// one, 1 from x on, 2 the same counted, 3 from y on, 4 the same counted; and two that are refused, 5 from x on with one flag more,
+// 6 from x on with a count over its length.
 //
 // A capital letter is the same call with only the first eight bytes of its output lent.
 
