@@ -1,4 +1,5 @@
-"""The calls of the crate masks on builders, for tests/builder_cases.py. A builder is a triple: length, word in progress, ones.
+"""The calls of the crate masks on builders, for tests/builder_cases.py and tests/history_cases.py. A builder is a triple:
+length, word in progress, ones.
 
 The checks are those of tests/nine_questions.py. A buffer is a list of bytes, which a call that is not refused changes in place.
 An append gives the new triple, `freeze` the mask's record, a validity that is none the empty list."""

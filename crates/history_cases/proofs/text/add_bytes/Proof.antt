@@ -1,0 +1,51 @@
+-- The loop counts up to the length.
+use Prim.Native.Nat.{_≤_, _-_}
+use lib.ListN.{length}
+use borrow.Author.Needs.{needs}
+use Rattle.history_cases.proofs.text.add_bytes.Statement.{statement}
+use Rattle.history_cases.proofs.text.add_bytes.Tie as tie
+
+abbrev Inv-loop : tie.InvT-loop
+Inv-loop sum b all₀ i₀ all i = i ≤ length b
+
+abbrev μ-loop : tie.MeasureT-loop
+μ-loop sum b all₀ i₀ all i = length b - i
+
+loop-holds : tie.Need-loop-holds Inv-loop μ-loop
+loop-holds c = search needs
+
+shared-slice-read-wide : tie.Need-shared-slice-read-wide Inv-loop μ-loop
+shared-slice-read-wide c = search needs
+
+wide-requires : tie.Need-wide-requires Inv-loop μ-loop
+wide-requires c κs = search needs
+
+add-requires : tie.Need-add-requires Inv-loop μ-loop
+add-requires c κs = search needs
+
+add-i : tie.Need-add-i Inv-loop μ-loop
+add-i c = search needs
+
+loop-less : tie.Need-loop-less Inv-loop μ-loop
+loop-less c = search needs
+
+loop-again : tie.Need-loop-again Inv-loop μ-loop
+loop-again c = search needs
+
+returns : tie.Need-returns Inv-loop μ-loop
+returns c = search needs
+
+pub add-bytes-spec : {M : Type 1} → statement M
+add-bytes-spec =
+    tie.close
+    (tie.spec
+    Inv-loop
+    μ-loop
+    loop-holds
+    shared-slice-read-wide
+    wide-requires
+    add-requires
+    add-i
+    loop-less
+    loop-again
+    returns)
