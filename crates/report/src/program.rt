@@ -1,5 +1,6 @@
 // The program maskreport: reads standard input to its end and prints a report on it. What it prints of the bytes read is
 // what `numbers` computes.
+ghost use Prim.Native.Nat.{_≤_};
 ghost use Rattle.io.specs.Counts.{Counts};
 use crate::numbers::Numbers;
 use crate::numbers::Reported;
@@ -14,14 +15,19 @@ struct Input {
     failed: bool,
 }
 
-// One byte more is read than a report takes, so that longer input is seen.
-pub fn run() {
+// 0 where the report was printed, 1 where the input could not be read, 2 where the output could not be written. One byte more is
+// read than a report takes, so that longer input is seen.
+pub fn run() -> u8
+    ensures { λ r. ⌜ r ≤ 2 ⌝ }
+{
     let mut space = [0u8; 65537];
     let buf: &mut [u8] = &mut space;
-    read_and_print(buf);
+    read_and_print(buf)
 }
 
-fn read_and_print(buf: &mut [u8]) {
+fn read_and_print(buf: &mut [u8]) -> u8
+    ensures { λ r. ⌜ r ≤ 2 ⌝ }
+{
     let input = read_to_end(buf);
     let size = input.size;
     if input.failed {
@@ -29,15 +35,16 @@ fn read_and_print(buf: &mut [u8]) {
             STDERR_FILENO,
             b"maskreport: standard input cannot be read\n",
         );
-        return;
+        return 1;
     }
-    let printed = print(report(&buf[..size]));
-    if !printed {
-        io::write_all(
-            STDERR_FILENO,
-            b"maskreport: standard output cannot be written\n",
-        );
+    if print(report(&buf[..size])) {
+        return 0;
     }
+    io::write_all(
+        STDERR_FILENO,
+        b"maskreport: standard output cannot be written\n",
+    );
+    2
 }
 
 // Reads until the buffer is full, the input ends or a read fails. A read may give fewer bytes than it could.
