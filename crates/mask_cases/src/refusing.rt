@@ -1,4 +1,4 @@
-// The combinations and comparisons on masks with a fault: which question decides, and that nothing is written.
+// The combinations and comparisons on masks with a fault: which check decides, and that nothing is written.
 use crate::answer;
 use crate::answer::Answer;
 use crate::calls;

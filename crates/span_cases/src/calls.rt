@@ -48,32 +48,32 @@ fn counted(r: Counted) -> Answer {
     }
 }
 
-// A walk's start, length and place.
-fn walk(c: BitChunks) -> Answer {
+// A cursor's start, length and place.
+fn cursor(c: BitChunks) -> Answer {
     answer::three(big(c.start), big(c.length), big(c.place))
 }
 
-fn new_walk(r: Chunks) -> Answer {
+fn new_cursor(r: Chunks) -> Answer {
     match r {
         Chunks::Refused(number) => answer::refusal(number),
-        Chunks::Cursor(c) => walk(c),
+        Chunks::Cursor(c) => cursor(c),
     }
 }
 
 pub fn chunks(bytes: &[u8], start: usize, length: usize) -> Answer {
-    new_walk(BitChunks::new(bytes, start, length))
+    new_cursor(BitChunks::new(bytes, start, length))
 }
 
 pub fn chunks_exact(bytes: &[u8], length: usize) -> Answer {
-    new_walk(BitChunks::new_exact(bytes, length))
+    new_cursor(BitChunks::new_exact(bytes, length))
 }
 
-// The word and the walk behind it; or the walk alone.
+// The word and the cursor behind it; or the cursor alone.
 pub fn next(c: BitChunks, bytes: &[u8]) -> Answer {
     let r = c.next(bytes);
     match r {
-        Chunk::Refused(number, same) => answer::refused_with(number, walk(same)),
-        Chunk::Done(same) => walk(same),
+        Chunk::Refused(number, same) => answer::refused_with(number, cursor(same)),
+        Chunk::Done(same) => cursor(same),
         Chunk::Word(w, further) => {
             answer::four(
                 w,
@@ -85,7 +85,7 @@ pub fn next(c: BitChunks, bytes: &[u8]) -> Answer {
     }
 }
 
-// The walk that comes back.
+// The cursor that comes back.
 pub fn behind(c: BitChunks, bytes: &[u8]) -> BitChunks {
     let r = c.next(bytes);
     match r {
@@ -98,7 +98,7 @@ pub fn behind(c: BitChunks, bytes: &[u8]) -> BitChunks {
 pub fn remainder(c: BitChunks, bytes: &[u8]) -> Answer {
     let r = c.remainder(bytes);
     match r {
-        Remainder::Refused(number, same) => answer::refused_with(number, walk(same)),
+        Remainder::Refused(number, same) => answer::refused_with(number, cursor(same)),
         Remainder::Rest(w, n) => answer::two(w, big(n)),
     }
 }

@@ -22,7 +22,7 @@ fn record(start: usize, length: usize, place: usize) -> BitChunks {
     }
 }
 
-// chunks START LENGTH: new, then five times next, each from the walk that came back, and the remainder there.
+// chunks START LENGTH: new, then five times next, each from the cursor that came back, and the remainder there.
 fn near_lines(bytes: &[u8]) {
     let mut i = 0;
     while i < 128 {
@@ -37,19 +37,19 @@ fn near_line(bytes: &[u8], start: usize, length: usize) {
     text::number(length);
     text::answer(calls::chunks(bytes, start, length));
     text::answer(calls::chunks_exact(bytes, length));
-    walked(bytes, start, length);
+    followed(bytes, start, length);
     text::newline();
 }
 
-fn walked(bytes: &[u8], start: usize, length: usize) {
-    let mut walk = record(start, length, 0);
+fn followed(bytes: &[u8], start: usize, length: usize) {
+    let mut cursor = record(start, length, 0);
     let mut i: usize = 0;
     while i < 5 {
-        text::answer(calls::next(walk, bytes));
-        walk = calls::behind(walk, bytes);
+        text::answer(calls::next(cursor, bytes));
+        cursor = calls::behind(cursor, bytes);
         i += 1;
     }
-    text::answer(calls::remainder(walk, bytes));
+    text::answer(calls::remainder(cursor, bytes));
 }
 
 // chunks all START: a checksum of next and remainder at the lengths 0 to 299 and places 0 to 4.
@@ -78,16 +78,16 @@ fn start_sum(bytes: &[u8], start: usize) -> u64 {
     sum
 }
 
-fn both_sum(sum: u64, bytes: &[u8], walk: BitChunks) -> u64 {
+fn both_sum(sum: u64, bytes: &[u8], cursor: BitChunks) -> u64 {
     text::add_answer(
-        text::add_answer(sum, calls::next(walk, bytes)),
-        calls::remainder(walk, bytes),
+        text::add_answer(sum, calls::next(cursor, bytes)),
+        calls::remainder(cursor, bytes),
     )
 }
 
-fn both(bytes: &[u8], walk: BitChunks) {
-    text::answer(calls::next(walk, bytes));
-    text::answer(calls::remainder(walk, bytes));
+fn both(bytes: &[u8], cursor: BitChunks) {
+    text::answer(calls::next(cursor, bytes));
+    text::answer(calls::remainder(cursor, bytes));
 }
 
 // chunks place LENGTH PLACE: places up to the length and past it.
@@ -126,7 +126,7 @@ fn place_line(bytes: &[u8], length: usize, place: usize) {
     text::newline();
 }
 
-// chunks far START LENGTH: new over 40 bytes and over none, then a walk at place 0 and one at place 9.
+// chunks far START LENGTH: new over 40 bytes and over none, then a cursor at place 0 and one at place 9.
 fn far_lines(bytes: &[u8]) {
     let mut i = 0;
     while i < 196 {

@@ -37,7 +37,7 @@ fn all_calls(bytes: &[u8], start: usize, length: usize, address: usize) {
     text::answer(calls::aligned(bytes, start, length, address));
     counts(bytes, start, length, address);
     text::answer(calls::chunks(bytes, start, length));
-    walks(bytes, start, length);
+    cursors(bytes, start, length);
     points(bytes, start, length);
     text::newline();
 }
@@ -51,7 +51,7 @@ fn counts(bytes: &[u8], start: usize, length: usize, address: usize) {
 }
 
 // At the places of the first word, the last, and none.
-fn walks(bytes: &[u8], start: usize, length: usize) {
+fn cursors(bytes: &[u8], start: usize, length: usize) {
     both(bytes, start, length, 0);
     both(bytes, start, length, before(length / 64));
     both(bytes, start, length, length / 64);
@@ -59,13 +59,13 @@ fn walks(bytes: &[u8], start: usize, length: usize) {
 }
 
 fn both(bytes: &[u8], start: usize, length: usize, place: usize) {
-    let walk = BitChunks {
+    let cursor = BitChunks {
         start: start,
         length: length,
         place: place,
     };
-    text::answer(calls::next(walk, bytes));
-    text::answer(calls::remainder(walk, bytes));
+    text::answer(calls::next(cursor, bytes));
+    text::answer(calls::remainder(cursor, bytes));
 }
 
 fn points(bytes: &[u8], start: usize, length: usize) {

@@ -1,14 +1,14 @@
 -- The loop counts up to 5.
 use Prim.Native.Nat.{_≤_, _-_}
 use borrow.Author.Needs.{needs}
-use Rattle.span_cases.proofs.chunks.walked.Statement.{statement}
-use Rattle.span_cases.proofs.chunks.walked.Tie as tie
+use Rattle.span_cases.proofs.chunks.followed.Statement.{statement}
+use Rattle.span_cases.proofs.chunks.followed.Tie as tie
 
 abbrev Inv-loop : tie.InvT-loop
-Inv-loop bytes start length walk₀ i₀ walk i = i ≤ 5
+Inv-loop bytes start length cursor₀ i₀ cursor i = i ≤ 5
 
 abbrev μ-loop : tie.MeasureT-loop
-μ-loop bytes start length walk₀ i₀ walk i = 5 - i
+μ-loop bytes start length cursor₀ i₀ cursor i = 5 - i
 
 record-requires : tie.Need-record-requires Inv-loop μ-loop
 record-requires c κs = search needs
@@ -43,8 +43,8 @@ answer-requires-2 c κs = search needs
 returns : tie.Need-returns Inv-loop μ-loop
 returns c = search needs
 
-pub walked-spec : {M : Type 1} → statement M
-walked-spec =
+pub followed-spec : {M : Type 1} → statement M
+followed-spec =
     tie.close
     (tie.spec
     Inv-loop
