@@ -126,12 +126,23 @@ struct Change {
     number: u8,
 }
 
+// The record taken apart into length, word and ones, and put together: a further field joins here.
+fn copied(b: BitmapBuilder) -> BitmapBuilder
+    ensures { λ r. ⌜ r ≡ b ⌝ }
+{
+    BitmapBuilder {
+        length: b.length,
+        word: b.word,
+        ones: b.ones,
+    }
+}
+
 // The by-value push, for `push_mut`.
 fn push_change(b: BitmapBuilder, buf: &mut [u8], flag: bool) -> Change
     ensures answer { λ r. ⌜ changeAnswer (r .number) (r .builder) ≡ appendAnswer (pushFlag flag) b (now (buf .entry)) ⌝ }
     ensures bytes { λ _. ⌜ now (buf .exit) ≡ appendBytes (pushFlag flag) b (now (buf .entry)) ⌝ }
 {
-    match b.push(buf, flag) {
+    match copied(b).push(buf, flag) {
         Pushed::Done(next) => Change {
             builder: next,
             number: 0,

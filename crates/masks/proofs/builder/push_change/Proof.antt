@@ -5,6 +5,9 @@ use Rattle.masks.proofs.AppendLaws.{change-done, change-refused}
 use Rattle.masks.proofs.builder.push_change.Statement.{statement}
 use Rattle.masks.proofs.builder.push_change.Tie as tie
 
+copied-requires : tie.Need-copied-requires
+copied-requires c κs = search needs
+
 push-requires : tie.Need-push-requires
 push-requires c κs = search needs
 
@@ -19,21 +22,24 @@ same-length c = search needs
 
 returns : tie.Need-returns
 returns c =
-    let did = c .before .before .before .before .before .push .ensures in
-    (change-done _ _ (ap pushedAnswer (sym (c .before .next .given .1)) ∙ did .0), did .1)
+    let call = c .before .before .before .before .before in
+    let did = call .push .ensures in
+    rw (sym (call .before .before .copied .ensures)) (change-done _ _ (ap pushedAnswer (sym (c .before .next .given .1)) ∙ did .0), did .1)
 
 same-length-2 : tie.Need-same-length-2
 same-length-2 c = search needs
 
 returns-2 : tie.Need-returns-2
 returns-2 c =
-    let did = c .before .before .before .before .before .push .ensures in
-    (change-refused _ _ _ _ _ (ap pushedAnswer (sym (c .before .number .given .1)) ∙ did .0), did .1)
+    let call = c .before .before .before .before .before in
+    let did = call .push .ensures in
+    rw (sym (call .before .before .copied .ensures)) (change-refused _ _ _ _ _ (ap pushedAnswer (sym (c .before .number .given .1)) ∙ did .0), did .1)
 
 pub push-change-spec : {M : Type 1} → statement M
 push-change-spec =
     tie.close
     (tie.spec
+    copied-requires
     push-requires
     enum-known-next
     enum-known-number
