@@ -25,6 +25,7 @@ pub mod MaskLaws
 pub mod PairPlain
 pub mod PartLaws
 pub mod PushLaws
+pub mod Refusals
 pub mod RepeatLaws
 pub mod RoomLaws
 pub mod RunLaws

@@ -16,6 +16,7 @@ pub mod Frozen
 pub mod History
 pub mod Iterator
 pub mod Mask
+pub mod Refusals
 pub mod Search
 pub mod SliceIterator
 pub mod TrueCounts
