@@ -40,3 +40,4 @@ pub mod SplitLaws
 pub mod TrueIdxLaws
 pub mod TrueIdxPlain
 pub mod TrueLaws
+pub mod Witnesses

@@ -1,4 +1,4 @@
--- Each call refuses by the numbers listed for it alone, a refusal changes nothing, and each listed number has an input. Assumes nothing.
+-- Each call refuses by the numbers listed for it alone, and a refusal changes nothing. Assumes nothing.
 use mathlib.Core.Path.{_≡_, refl, sym, ap, _∙_, subst}
 use mathlib.Core.Bool.{Bool, true, false, cond, _&&_, _||_}
 use mathlib.Core.List.{List, [], _∷_, _++_}
@@ -8,15 +8,13 @@ use native.Mathlib.Omega.{arith}
 use lib.Dec.{leb, eqb}
 use lib.ListN.{length}
 use borrow.Author.Tests.{eq-eqb, eqb-true}
-use Rattle.words.specs.Counts.{anySet}
-use Rattle.words.specs.Flags.{bits, count, flagsOf, window}
 use Rattle.masks.proofs.AnswerLaws.{refused-number, refused-state, refused-failed}
 use Rattle.masks.proofs.CheckLaws.{and-left, and-right, is-kept}
 use Rattle.masks.specs.Aligned.{alignedChecks, alignedOf}
 use Rattle.masks.specs.Answer.{Answer, given, refused, decided, checked, kept, unlessEmpty}
-use Rattle.masks.specs.Appends.{Append, allBelow, pushFlag, extendConstant, pushWord, extendSlice, extendRepeated, extendBitmap, extendGather, extendOptGather, appendChecks, wordChecks, constantChecks, spanGrowChecks, innerChecks, subsliceChecks, gatherChecks}
+use Rattle.masks.specs.Appends.{Append, pushFlag, extendConstant, pushWord, extendSlice, extendRepeated, extendBitmap, extendGather, extendOptGather, appendChecks, wordChecks, constantChecks, spanGrowChecks, innerChecks, subsliceChecks, gatherChecks}
 use Rattle.masks.specs.Bitmask.{splitChecks, splitAt, windowAt}
-use Rattle.masks.specs.Builder.{builderChecks, possible}
+use Rattle.masks.specs.Builder.{builderChecks}
 use Rattle.masks.specs.Checks.{Check, rank, earlier, failure, firstFailed, spanChecks, addressChecks, outputChecks}
 use Rattle.masks.specs.Chunks.{chunkChecks, newChunks, nextChunk, chunksRemainder}
 use Rattle.masks.specs.Combine.{pairChecks, pairOf, pairBytes, eachOf, eachBytes, notChecks, selectChecks}
@@ -24,13 +22,13 @@ use Rattle.masks.specs.Compare.{eqOf, edgesOf, commonChecks, commonOf}
 use Rattle.masks.specs.Cursor.{cursorChecks}
 use Rattle.masks.specs.Freeze.{freezeChecks}
 use Rattle.masks.specs.Iterator.{iterChecks, newIter, nthFlag, takeLeading}
-use Rattle.masks.specs.Mask.{cutZeros, recounts, maskChecks, zeroedChecks, pieceChecks, sliceChecks, tryNewOf, newZeroedOf, newZeroedBytes, unsetBitsOf, sliceOf}
-use Rattle.masks.specs.Refusals.{numbers, among, allAmong, Refuses, RefusesUnwritten, Refusals, mayGive, appendFamily, witnesses, Witnessed}
+use Rattle.masks.specs.Mask.{maskChecks, zeroedChecks, pieceChecks, sliceChecks, tryNewOf, newZeroedOf, newZeroedBytes, unsetBitsOf, sliceOf}
+use Rattle.masks.specs.Refusals.{numbers, among, allAmong, Refuses, RefusesUnwritten, Refusals, mayGive, appendFamily}
 use Rattle.masks.specs.Refusals.{Family, addressed, spans, cursors, unmasked-cursors, splits, builders, pushed-words, span-appends, gathers, piece-appends, zeroed-masks, masks, slices, combinations, inversions, intersections, stated-masks, stated-lengths}
 use Rattle.masks.specs.Search.{searchFrom, searchBack}
 use Rattle.masks.specs.SliceIterator.{runChecks, newSlices, nextSlice}
 use Rattle.masks.specs.TrueIdx.{trueAt, newTrueChecks, trueChecks, newTrue, nextTrue}
-use Rattle.masks.specs.Utils.{spanCount, zeros}
+use Rattle.masks.specs.Utils.{spanCount}
 use Rattle.masks.specs.declared.bitmap.Optional.the-variants.{Present, Absent}
 use Rattle.masks.specs.declared.builder.BitmapBuilder.{BitmapBuilder}
 
@@ -201,16 +199,3 @@ refusals =
       true-next = λ start n place bytes. refuses-by (trueChecks (trueAt start n place true) (length bytes)) _ _ _ refl;
       true-next-unmasked = λ start n place bytes. refuses-by (trueChecks (trueAt start n place false) (length bytes)) _ _ _ refl;
     }
-
--- ---- each number has an input
-
-pub witnessed : Witnessed
-unfolding
-    witnesses decided unlessEmpty firstFailed earlier bits count flagsOf window anySet zeros cutZeros recounts possible allBelow
-    spanChecks addressChecks outputChecks alignedChecks cursorChecks splitChecks builderChecks wordChecks constantChecks
-    spanGrowChecks innerChecks subsliceChecks gatherChecks
-    maskChecks zeroedChecks pieceChecks sliceChecks pairChecks notChecks selectChecks commonChecks newTrueChecks trueChecks
-    alignedOf spanCount newChunks nextChunk chunksRemainder splitAt windowAt searchFrom searchBack
-    newZeroedOf tryNewOf sliceOf unsetBitsOf pairOf eachOf eqOf edgesOf commonOf
-    newSlices nextSlice newIter nthFlag takeLeading newTrue nextTrue
-witnessed = refl

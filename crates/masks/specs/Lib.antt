@@ -22,3 +22,4 @@ pub mod SliceIterator
 pub mod TrueCounts
 pub mod TrueIdx
 pub mod Utils
+pub mod Witnesses

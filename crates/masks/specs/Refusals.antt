@@ -1,39 +1,35 @@
--- Refusals: by which numbers each call may refuse, that a refusal changes nothing, and an input for each number. Assumes nothing.
+-- Refusals: by which numbers each call may refuse, and that a refusal changes nothing. Assumes nothing.
 --
--- The calls stand in families; those of one family make the same checks. `mayGive` is the table of numbers, `Refusals` the
--- statement on every call and input, through the definitions that the contracts cite, and `Witnessed` that no number of the
--- table is idle. `proofs/Refusals.antt` proves both.
+-- The calls stand in families; those of one family may refuse by the same numbers. `mayGive` is the table of these, and `Refusals` the
+-- statement on every call and input, through the definitions that the contracts cite. `Witnesses` has an input for each number.
 use Prim.Native.Nat.{ℕ}
 use mathlib.Core.Path.{_≡_}
 use mathlib.Core.Bool.{Bool, true, false, _&&_, _||_}
-use mathlib.Core.List.{List, [], _∷_, _++_, map}
+use mathlib.Core.List.{List, [], _∷_}
 use lib.Dec.{eqb}
-use lib.ListN.{length, replicate}
+use lib.ListN.{length}
 use Rattle.words.specs.declared.ops.Op.{Op}
 use Rattle.masks.specs.Aligned.{alignedOf}
-use Rattle.masks.specs.Answer.{Answer, given, refused}
+use Rattle.masks.specs.Answer.{Answer, refused}
 use Rattle.masks.specs.Appends.{Append, pushFlag, extendConstant, pushWord, extendSlice, extendRepeated, extendBitmap, extendGather, extendOptGather, appendAnswer, appendBytes}
 use Rattle.masks.specs.Bitmask.{splitAt, windowAt}
-use Rattle.masks.specs.Builder.{builderOf, newBuilder}
 use Rattle.masks.specs.Checks.{Check}
-use Rattle.masks.specs.Chunks.{chunksAt, newChunks, nextChunk, chunksRemainder}
-use Rattle.masks.specs.Combine.{And, pairOf, pairBytes, pairChecks, eachOf, eachBytes, notChecks, notFlags, selectChecks, selectFlags, selectConstantFlags}
+use Rattle.masks.specs.Chunks.{newChunks, nextChunk, chunksRemainder}
+use Rattle.masks.specs.Combine.{pairOf, pairBytes, pairChecks, eachOf, eachBytes, notChecks, notFlags, selectChecks, selectFlags, selectConstantFlags}
 use Rattle.masks.specs.Compare.{eqOf, edgesOf, commonOf}
 use Rattle.masks.specs.Freeze.{freezeOf, intoOptValidityOf, freezeBytes}
-use Rattle.masks.specs.Iterator.{iterAt, newIter, nthFlag, takeLeading}
-use Rattle.masks.specs.Mask.{maskOf, tryNewOf, newZeroedOf, newZeroedBytes, unsetBitsOf, sliceOf}
+use Rattle.masks.specs.Iterator.{newIter, nthFlag, takeLeading}
+use Rattle.masks.specs.Mask.{tryNewOf, newZeroedOf, newZeroedBytes, unsetBitsOf, sliceOf}
 use Rattle.masks.specs.Search.{searchFrom, searchBack}
-use Rattle.masks.specs.SliceIterator.{slicesAt, newSlices, nextSlice}
+use Rattle.masks.specs.SliceIterator.{newSlices, nextSlice}
 use Rattle.masks.specs.TrueIdx.{trueAt, newTrue, nextTrue}
 use Rattle.masks.specs.Utils.{spanCount}
 use Rattle.masks.specs.declared.bitmap.Bitmap.{Bitmap}
 use Rattle.masks.specs.declared.bitmap.Optional.the-variants.{Present, Absent}
-use Rattle.masks.specs.declared.bitmap.Unset.the-variants.{Known, Unknown}
 use Rattle.masks.specs.declared.builder.BitmapBuilder.{BitmapBuilder}
 use Rattle.masks.specs.declared.chunks.BitChunks.{BitChunks}
 use Rattle.masks.specs.declared.iterator.BitmapIter.{BitmapIter}
 use Rattle.masks.specs.declared.slice_iterator.SlicesIterator.{SlicesIterator}
-use Rattle.masks.specs.declared.true_idx.TrueIdxIter.{TrueIdxIter}
 
 -- ---- what is said of a call
 
@@ -181,132 +177,3 @@ pub record Refusals : Type 0 where
       → let c = trueAt start n place true in Refuses (mayGive cursors) c (nextTrue c bytes)
   pub true-next-unmasked : (start n place : ℕ) (bytes : List ℕ)
       → let c = trueAt start n place false in Refuses (mayGive unmasked-cursors) c (nextTrue c bytes)
-
--- ---- an input for each number
-
--- the number of a refusal, 0 where there is none
-abbrev pub numberOf : {S A : Type 0} → Answer S A → ℕ
-numberOf (given a) = 0
-numberOf (refused k s) = k
-
--- a byte and the mask of its flags, a lent buffer, a length past the limit, a builder with a bit in its word and no flag
-abbrev pub byte : List ℕ
-byte = 0x2D ∷ []
-
-abbrev pub whole : Bitmap
-whole = maskOf 0 8 Unknown
-
-abbrev pub buffer : List ℕ
-buffer = replicate 8 0xAA
-
-abbrev pub tooLong : ℕ
-tooLong = 4194305
-
-abbrev pub impossible : BitmapBuilder
-impossible = builderOf 0 1 0
-
--- what a call gives over the byte: at the spans that checks 1 and 2 refuse, at cursors likewise and at a place past the end, at the
--- masks that checks 1 to 3 refuse, at an address remainder of 8
-abbrev pub atSpans : (ℕ → ℕ → ℕ) → List ℕ
-atSpans f = f tooLong 1 ∷ f 2 7 ∷ []
-
-abbrev pub atCursors : (ℕ → ℕ → ℕ → ℕ) → List ℕ
-atCursors f = f tooLong 1 0 ∷ f 2 7 0 ∷ f 0 8 9 ∷ []
-
-abbrev pub atMasks : (Bitmap → ℕ) → List ℕ
-atMasks f = f (maskOf 0 tooLong Unknown) ∷ f (maskOf 2 7 Unknown) ∷ f (maskOf 0 8 (Known 9)) ∷ []
-
-abbrev pub atAddresses : (ℕ → ℕ → ℕ → ℕ) → List ℕ
-atAddresses f = f tooLong 1 0 ∷ f 2 7 0 ∷ f 0 8 8 ∷ []
-
--- what an append gives to a new builder, and what appends over the byte give where checks 1, 2, 4 and 9 refuse
-abbrev pub toNew : Append → ℕ
-toNew a = numberOf (appendAnswer a newBuilder buffer)
-
-abbrev pub toImpossible : Append → ℕ
-toImpossible a = numberOf (appendAnswer a impossible buffer)
-
-abbrev pub toNoBytes : Append → ℕ
-toNoBytes a = numberOf (appendAnswer a newBuilder [])
-
-abbrev pub atAppends : (ℕ → ℕ → Append) → List ℕ
-atAppends f = toNew (f tooLong 1) ∷ toNew (f 2 7) ∷ toImpossible (f 0 8) ∷ toNoBytes (f 0 8) ∷ []
-
--- `select` with this mask last, `select_constant` with it second, and `not` of it, over an output of so many bytes
-abbrev pub selected : Bitmap → ℕ → Answer (Unit {0}) Bitmap
-selected m size = eachOf (selectChecks whole byte whole byte m byte size) (whole ∷ whole ∷ m ∷ []) 8
-
-abbrev pub constantSelected : Bitmap → ℕ → Answer (Unit {0}) Bitmap
-constantSelected m size = eachOf (pairChecks whole byte m byte size) (whole ∷ m ∷ []) 8
-
-abbrev pub inverted : Bitmap → ℕ → Answer (Unit {0}) Bitmap
-inverted m size = eachOf (notChecks m byte size) (m ∷ []) (m .length)
-
-pub record Witness : Type 0 where
-  pub family : Family
-  pub computed : List ℕ
-
-abbrev pub witness : Family → List ℕ → Witness
-witness f ns = record { family = f; computed = ns }
-
--- the table: a row for each definition, what it gives at one input for each number of its family
-unfoldable pub witnesses : List Witness
-witnesses =
-    witness addressed (atAddresses (λ s n a. numberOf (alignedOf byte s n a)))
-    ∷ witness addressed (atAddresses (λ s n a. numberOf (spanCount byte s n a 0)))
-    ∷ witness spans (atSpans (λ s n. numberOf (newChunks byte s n)))
-    ∷ witness spans (atSpans (λ s n. numberOf (windowAt byte s n 0)))
-    ∷ witness spans (atSpans (λ s n. numberOf (searchFrom byte s n 0 0)))
-    ∷ witness spans (atSpans (λ s n. numberOf (searchBack byte s n 0 8)))
-    ∷ witness spans (atSpans (λ s n. numberOf (tryNewOf byte s n)))
-    ∷ witness spans (atSpans (λ s n. numberOf (newIter byte s n)))
-    ∷ witness cursors (atCursors (λ s n p. numberOf (nextChunk (chunksAt s n p) byte)))
-    ∷ witness cursors (atCursors (λ s n p. numberOf (chunksRemainder (chunksAt s n p) byte)))
-    ∷ witness cursors (atCursors (λ s n p. numberOf (nthFlag (iterAt s n p) byte 0)))
-    ∷ witness cursors (atCursors (λ s n p. numberOf (takeLeading true (iterAt s n p) byte)))
-    ∷ witness cursors (atCursors (λ s n p. numberOf (nextSlice (slicesAt s n p) byte)))
-    ∷ witness cursors (atCursors (λ s n p. numberOf (nextTrue (trueAt s n p true) byte)))
-    ∷ witness unmasked-cursors (numberOf (nextTrue (trueAt 0 tooLong 0 false) []) ∷ numberOf (nextTrue (trueAt 0 8 9 false) []) ∷ [])
-    ∷ witness splits (atCursors (λ s n at. numberOf (splitAt byte s n at)))
-    ∷ witness builders
-    (numberOf (appendAnswer (pushFlag true) (builderOf 4194304 0 0) buffer) ∷ toImpossible (pushFlag true) ∷ toNoBytes (pushFlag true) ∷ [])
-    ∷ witness builders (toNew (extendConstant tooLong true) ∷ toImpossible (extendConstant 1 true) ∷ toNoBytes (extendConstant 1 true) ∷ [])
-    ∷ witness builders (numberOf (freezeOf (builderOf tooLong 0 0) buffer) ∷ numberOf (freezeOf impossible buffer) ∷ numberOf (freezeOf (builderOf 1 0 0) []) ∷ [])
-    ∷ witness builders
-    (numberOf (intoOptValidityOf (builderOf tooLong 0 0) buffer) ∷ numberOf (intoOptValidityOf impossible buffer)
-    ∷ numberOf (intoOptValidityOf (builderOf 1 0 0) []) ∷ [])
-    ∷ witness pushed-words (toNew (pushWord 0 tooLong) ∷ toImpossible (pushWord 1 1) ∷ toNew (pushWord 2 1) ∷ toNoBytes (pushWord 1 1) ∷ [])
-    ∷ witness span-appends (atAppends (extendSlice byte))
-    ∷ witness span-appends (atAppends (λ s n. extendRepeated byte s n 2))
-    ∷ witness span-appends (atAppends (λ s n. extendOptGather byte s n (8 ∷ [])))
-    ∷ witness gathers
-    (toNew (extendGather byte tooLong 1 []) ∷ toNew (extendGather byte 2 7 []) ∷ toImpossible (extendGather byte 0 8 [])
-    ∷ toNew (extendGather byte 0 8 (8 ∷ [])) ∷ toNoBytes (extendGather byte 0 8 (7 ∷ [])) ∷ [])
-    ∷ witness piece-appends
-    (atMasks (λ m. toNew (extendBitmap m byte 0 1))
-    ++ (toImpossible (extendBitmap whole byte 0 8) ∷ toNew (extendBitmap whole byte 1 8) ∷ toNoBytes (extendBitmap whole byte 0 8) ∷ []))
-    ∷ witness zeroed-masks (numberOf (newZeroedOf tooLong []) ∷ numberOf (newZeroedOf 65 (replicate 15 0xAA)) ∷ [])
-    ∷ witness masks (atMasks (λ m. numberOf (unsetBitsOf m byte)))
-    ∷ witness masks (atMasks (λ m. numberOf (eqOf whole byte m byte)))
-    ∷ witness masks (atMasks (λ m. numberOf (edgesOf m byte)))
-    ∷ witness masks (atMasks (λ m. numberOf (newSlices m byte)))
-    -- the first four of the byte's flags have one zero: a count of 7 leaves 6 for the four others, a false one
-    ∷ witness slices
-    (atMasks (λ m. numberOf (sliceOf m byte 0 1)) ++ (numberOf (sliceOf whole byte 1 8) ∷ numberOf (sliceOf (maskOf 0 8 (Known 7)) byte 4 4) ∷ []))
-    ∷ witness combinations
-    (atMasks (λ m. numberOf (pairOf And whole byte m byte buffer))
-    ++ (numberOf (pairOf And whole byte (maskOf 0 7 Unknown) byte buffer) ∷ numberOf (pairOf And whole byte whole byte []) ∷ []))
-    ∷ witness combinations
-    (atMasks (λ m. numberOf (selected m 8)) ++ (numberOf (selected (maskOf 0 7 Unknown) 8) ∷ numberOf (selected whole 0) ∷ []))
-    ∷ witness combinations
-    (atMasks (λ m. numberOf (constantSelected m 8)) ++ (numberOf (constantSelected (maskOf 0 7 Unknown) 8) ∷ numberOf (constantSelected whole 0) ∷ []))
-    ∷ witness inversions (atMasks (λ m. numberOf (inverted m 8)) ++ (numberOf (inverted whole 0) ∷ []))
-    ∷ witness intersections
-    (atMasks (λ m. numberOf (commonOf whole byte m byte)) ++ (numberOf (commonOf whole byte (maskOf 0 7 Unknown) byte) ∷ []))
-    ∷ witness stated-masks (atMasks (λ m. numberOf (newTrue 8 (Present m) byte)) ++ (numberOf (newTrue 7 (Present whole) byte) ∷ []))
-    ∷ witness stated-lengths (numberOf (newTrue tooLong Absent []) ∷ [])
-    ∷ []
-
--- in every row the numbers that come out are those of the family, all of them
-abbrev pub Witnessed : Type 0
-Witnessed = map (λ (w : Witness). w .computed) witnesses ≡ map (λ (w : Witness). mayGive (w .family)) witnesses
