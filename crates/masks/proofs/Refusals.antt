@@ -1,6 +1,6 @@
 -- Each call refuses by the numbers listed for it alone, and a refusal changes nothing. Assumes nothing.
 use mathlib.Core.Path.{_≡_, refl, sym, ap, _∙_, subst}
-use mathlib.Core.Bool.{Bool, true, false, cond, _&&_, _||_}
+use mathlib.Core.Bool.{Bool, true, false, cond, _||_}
 use mathlib.Core.List.{List, [], _∷_, _++_}
 use mathlib.Core.Logic.{_⊎_, inl, inr, ⊎-elim}
 use Prim.Native.Nat.{ℕ, zero, suc}
@@ -11,7 +11,7 @@ use borrow.Author.Tests.{eq-eqb, eqb-true}
 use Rattle.masks.proofs.AnswerLaws.{refused-number, refused-state, refused-failed}
 use Rattle.masks.proofs.CheckLaws.{and-left, and-right, is-kept}
 use Rattle.masks.specs.Aligned.{alignedChecks, alignedOf}
-use Rattle.masks.specs.Answer.{Answer, given, refused, decided, checked, kept, unlessEmpty}
+use Rattle.masks.specs.Answer.{Answer, given, refused, checked, kept, unlessEmpty}
 use Rattle.masks.specs.Appends.{Append, pushFlag, extendConstant, pushWord, extendSlice, extendRepeated, extendBitmap, extendGather, extendOptGather, appendChecks, wordChecks, constantChecks, spanGrowChecks, innerChecks, subsliceChecks, gatherChecks}
 use Rattle.masks.specs.Bitmask.{splitChecks, splitAt, windowAt}
 use Rattle.masks.specs.Builder.{builderChecks}

@@ -35,7 +35,7 @@ abbrev pub numberOf : {S A : Type 0} → Answer S A → ℕ
 numberOf (given a) = 0
 numberOf (refused k s) = k
 
--- a byte, the mask of its flags and of all but the last, a lent buffer, a length past the limit, a builder with a bit in its word and no flag
+-- a byte, the mask of its flags, and that of all but the last
 abbrev pub byte : List ℕ
 byte = 0x2D ∷ []
 
@@ -45,6 +45,7 @@ whole = maskOf 0 8 Unknown
 abbrev pub shorter : Bitmap
 shorter = maskOf 0 7 Unknown
 
+-- a lent buffer, a length just past the limit, and a builder of no flags with a bit in its word
 abbrev pub buffer : List ℕ
 buffer = replicate 8 0xAA
 
@@ -54,21 +55,23 @@ tooLong = 4194305
 abbrev pub impossible : BitmapBuilder
 impossible = builderOf 0 1 0
 
--- what a call gives over the byte: at the spans that checks 1 and 2 refuse, at cursors likewise and at a place past the end, at the
--- masks that checks 1 to 3 refuse, at an address remainder of 8
+-- what a call over the byte gives at spans that checks 1 and 2 refuse
 abbrev pub atSpans : (ℕ → ℕ → ℕ) → List ℕ
 atSpans f = f tooLong 1 ∷ f 2 7 ∷ []
 
+-- at cursors, and at points of a span, that checks 1, 2 and 6 refuse
 abbrev pub atCursors : (ℕ → ℕ → ℕ → ℕ) → List ℕ
 atCursors f = f tooLong 1 0 ∷ f 2 7 0 ∷ f 0 8 9 ∷ []
 
+-- at masks that checks 1 to 3 refuse
 abbrev pub atMasks : (Bitmap → ℕ) → List ℕ
 atMasks f = f (maskOf 0 tooLong Unknown) ∷ f (maskOf 2 7 Unknown) ∷ f (maskOf 0 8 (Known 9)) ∷ []
 
+-- at spans and address remainders that checks 1, 2 and 8 refuse
 abbrev pub atAddresses : (ℕ → ℕ → ℕ → ℕ) → List ℕ
 atAddresses f = f tooLong 1 0 ∷ f 2 7 0 ∷ f 0 8 8 ∷ []
 
--- what an append gives to a new builder, and what appends over the byte give where checks 1, 2, 4 and 9 refuse
+-- what an append gives to a new builder, to the impossible one, and to a new one with no bytes
 abbrev pub toNew : Append → ℕ
 toNew a = numberOf (appendAnswer a newBuilder buffer)
 
@@ -78,16 +81,19 @@ toImpossible a = numberOf (appendAnswer a impossible buffer)
 abbrev pub toNoBytes : Append → ℕ
 toNoBytes a = numberOf (appendAnswer a newBuilder [])
 
+-- what an append of a span gives where checks 1, 2, 4 and 9 refuse
 abbrev pub atAppends : (ℕ → ℕ → Append) → List ℕ
 atAppends f = toNew (f tooLong 1) ∷ toNew (f 2 7) ∷ toImpossible (f 0 8) ∷ toNoBytes (f 0 8) ∷ []
 
--- where checks 1, 4 and 9 refuse a builder; where checks 1, 2, 3, 5 and 9 refuse a mask beside that of the byte
+-- at builders that checks 1, 4 and 9 refuse
 abbrev pub atBuilders : (BitmapBuilder → List ℕ → ℕ) → List ℕ
 atBuilders f = f (builderOf tooLong 0 0) buffer ∷ f impossible buffer ∷ f (builderOf 1 0 0) [] ∷ []
 
+-- at masks, combined with that of the byte, that checks 1, 2, 3, 5 and 9 refuse
 abbrev pub atPairs : (Bitmap → List ℕ → ℕ) → List ℕ
 atPairs f = atMasks (λ m. f m buffer) ++ (f shorter buffer ∷ f whole [] ∷ [])
 
+-- the number of `not`
 abbrev pub notNumber : Bitmap → List ℕ → ℕ
 notNumber m out = numberOf (eachOf (notChecks m byte (length out)) (m ∷ []) (m .length))
 
