@@ -1,3 +1,4 @@
 -- The laws of the crate.
 pub mod AndNotFlag
 pub mod DispatchLaws
+pub mod Refusals

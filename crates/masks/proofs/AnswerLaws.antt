@@ -23,3 +23,8 @@ pub given-value : {S A : Type 0} (m : ℕ) (s : S) (a a′ : A) → given a ≡ 
 unfolding decided
 given-value zero s a a′ e = cc
 given-value (suc m) s a a′ e = absurd (let z : _≡_ {A = ℕ} 0 1 = cc in omega arith)
+
+pub refused-state : {S A : Type 0} (n m : ℕ) (s s′ : S) (a : A) → refused n s ≡ decided m s′ a → s ≡ s′
+unfolding decided
+refused-state n zero s s′ a e = absurd (let z : _≡_ {A = ℕ} 0 1 = cc in omega arith)
+refused-state n (suc m) s s′ a e = cc

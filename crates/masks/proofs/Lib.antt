@@ -25,6 +25,7 @@ pub mod MaskLaws
 pub mod PairPlain
 pub mod PartLaws
 pub mod PushLaws
+pub mod Refusals
 pub mod RepeatLaws
 pub mod RoomLaws
 pub mod RunLaws
@@ -39,3 +40,4 @@ pub mod SplitLaws
 pub mod TrueIdxLaws
 pub mod TrueIdxPlain
 pub mod TrueLaws
+pub mod Witnesses

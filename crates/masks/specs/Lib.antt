@@ -16,8 +16,10 @@ pub mod Frozen
 pub mod History
 pub mod Iterator
 pub mod Mask
+pub mod Refusals
 pub mod Search
 pub mod SliceIterator
 pub mod TrueCounts
 pub mod TrueIdx
 pub mod Utils
+pub mod Witnesses

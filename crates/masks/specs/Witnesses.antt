@@ -1,0 +1,189 @@
+-- An input for each number by which a call may refuse, so that no number of the table `mayGive` is idle. Assumes nothing.
+--
+-- `proofs/Witnesses.antt` computes what the definitions that the contracts cite give at these inputs.
+use Prim.Native.Nat.{ℕ}
+use mathlib.Core.Path.{_≡_}
+use mathlib.Core.Bool.{true, false}
+use mathlib.Core.List.{List, [], _∷_, _++_}
+use lib.ListN.{length, drop, replicate}
+use Rattle.masks.specs.Aligned.{alignedOf}
+use Rattle.masks.specs.Answer.{Answer, given, refused}
+use Rattle.masks.specs.Appends.{Append, pushFlag, extendConstant, pushWord, extendSlice, extendRepeated, extendBitmap, extendGather, extendOptGather, appendAnswer}
+use Rattle.masks.specs.Bitmask.{splitAt, windowAt}
+use Rattle.masks.specs.Builder.{builderOf, newBuilder}
+use Rattle.masks.specs.Chunks.{chunksAt, newChunks, nextChunk, chunksRemainder}
+use Rattle.masks.specs.Combine.{And, pairOf, pairChecks, eachOf, notChecks, selectChecks}
+use Rattle.masks.specs.Compare.{eqOf, edgesOf, commonOf}
+use Rattle.masks.specs.Freeze.{freezeOf, intoOptValidityOf}
+use Rattle.masks.specs.Iterator.{iterAt, newIter, nthFlag, takeLeading}
+use Rattle.masks.specs.Mask.{maskOf, tryNewOf, newZeroedOf, unsetBitsOf, sliceOf}
+use Rattle.masks.specs.Refusals.{mayGive}
+use Rattle.masks.specs.Refusals.{Family, addressed, spans, cursors, unmasked-cursors, splits, builders, pushed-words, span-appends, gathers, piece-appends, zeroed-masks, masks, slices, combinations, inversions, intersections, stated-masks, stated-lengths}
+use Rattle.masks.specs.Search.{searchFrom, searchBack}
+use Rattle.masks.specs.SliceIterator.{slicesAt, newSlices, nextSlice}
+use Rattle.masks.specs.TrueIdx.{trueAt, newTrue, nextTrue}
+use Rattle.masks.specs.Utils.{spanCount}
+use Rattle.masks.specs.declared.bitmap.Bitmap.{Bitmap}
+use Rattle.masks.specs.declared.bitmap.Optional.the-variants.{Present, Absent}
+use Rattle.masks.specs.declared.bitmap.Unset.the-variants.{Known, Unknown}
+use Rattle.masks.specs.declared.builder.BitmapBuilder.{BitmapBuilder}
+
+-- ---- inputs
+
+-- the number of a refusal, 0 where there is none
+abbrev pub numberOf : {S A : Type 0} → Answer S A → ℕ
+numberOf (given a) = 0
+numberOf (refused k s) = k
+
+-- a byte, the mask of its flags, and that of all but the last
+abbrev pub byte : List ℕ
+byte = 0x2D ∷ []
+
+abbrev pub whole : Bitmap
+whole = maskOf 0 8 Unknown
+
+abbrev pub shorter : Bitmap
+shorter = maskOf 0 7 Unknown
+
+-- a lent buffer, a length just past the limit, and a builder of no flags with a bit in its word
+abbrev pub buffer : List ℕ
+buffer = replicate 8 0xAA
+
+abbrev pub tooLong : ℕ
+tooLong = 4194305
+
+abbrev pub impossible : BitmapBuilder
+impossible = builderOf 0 1 0
+
+-- what a call over the byte gives at spans that checks 1 and 2 refuse
+abbrev pub atSpans : (ℕ → ℕ → ℕ) → List ℕ
+atSpans f = f tooLong 1 ∷ f 2 7 ∷ []
+
+-- at cursors, and at points of a span, that checks 1, 2 and 6 refuse
+abbrev pub atCursors : (ℕ → ℕ → ℕ → ℕ) → List ℕ
+atCursors f = f tooLong 1 0 ∷ f 2 7 0 ∷ f 0 8 9 ∷ []
+
+-- at masks that checks 1 to 3 refuse
+abbrev pub atMasks : (Bitmap → ℕ) → List ℕ
+atMasks f = f (maskOf 0 tooLong Unknown) ∷ f (maskOf 2 7 Unknown) ∷ f (maskOf 0 8 (Known 9)) ∷ []
+
+-- at spans and address remainders that checks 1, 2 and 8 refuse
+abbrev pub atAddresses : (ℕ → ℕ → ℕ → ℕ) → List ℕ
+atAddresses f = f tooLong 1 0 ∷ f 2 7 0 ∷ f 0 8 8 ∷ []
+
+-- what an append gives to a new builder, to the impossible one, and to a new one with no bytes
+abbrev pub toNew : Append → ℕ
+toNew a = numberOf (appendAnswer a newBuilder buffer)
+
+abbrev pub toImpossible : Append → ℕ
+toImpossible a = numberOf (appendAnswer a impossible buffer)
+
+abbrev pub toNoBytes : Append → ℕ
+toNoBytes a = numberOf (appendAnswer a newBuilder [])
+
+-- what an append of a span gives where checks 1, 2, 4 and 9 refuse
+abbrev pub atAppends : (ℕ → ℕ → Append) → List ℕ
+atAppends f = toNew (f tooLong 1) ∷ toNew (f 2 7) ∷ toImpossible (f 0 8) ∷ toNoBytes (f 0 8) ∷ []
+
+-- at builders that checks 1, 4 and 9 refuse
+abbrev pub atBuilders : (BitmapBuilder → List ℕ → ℕ) → List ℕ
+atBuilders f = f (builderOf tooLong 0 0) buffer ∷ f impossible buffer ∷ f (builderOf 1 0 0) [] ∷ []
+
+-- at masks, combined with that of the byte, that checks 1, 2, 3, 5 and 9 refuse
+abbrev pub atPairs : (Bitmap → List ℕ → ℕ) → List ℕ
+atPairs f = atMasks (λ m. f m buffer) ++ (f shorter buffer ∷ f whole [] ∷ [])
+
+-- the number of `not`
+abbrev pub notNumber : Bitmap → List ℕ → ℕ
+notNumber m out = numberOf (eachOf (notChecks m byte (length out)) (m ∷ []) (m .length))
+
+-- ---- the table: for each definition a list, what it gives at one input for each number of its family
+
+unfoldable pub witnesses : Family → List (List ℕ)
+witnesses addressed =
+    atAddresses (λ s n a. numberOf (alignedOf byte s n a))
+    ∷ atAddresses (λ s n a. numberOf (spanCount byte s n a 0))
+    ∷ []
+witnesses spans =
+    atSpans (λ s n. numberOf (newChunks byte s n))
+    ∷ atSpans (λ s n. numberOf (windowAt byte s n 0))
+    ∷ atSpans (λ s n. numberOf (searchFrom byte s n 0 0))
+    ∷ atSpans (λ s n. numberOf (searchBack byte s n 0 8))
+    ∷ atSpans (λ s n. numberOf (tryNewOf byte s n))
+    ∷ atSpans (λ s n. numberOf (newIter byte s n))
+    ∷ []
+witnesses cursors =
+    atCursors (λ s n p. numberOf (nextChunk (chunksAt s n p) byte))
+    ∷ atCursors (λ s n p. numberOf (chunksRemainder (chunksAt s n p) byte))
+    ∷ atCursors (λ s n p. numberOf (nthFlag (iterAt s n p) byte 0))
+    ∷ atCursors (λ s n p. numberOf (takeLeading true (iterAt s n p) byte))
+    ∷ atCursors (λ s n p. numberOf (nextSlice (slicesAt s n p) byte))
+    ∷ atCursors (λ s n p. numberOf (nextTrue (trueAt s n p true) byte))
+    ∷ []
+witnesses unmasked-cursors =
+    (numberOf (nextTrue (trueAt 0 tooLong 0 false) []) ∷ numberOf (nextTrue (trueAt 0 8 9 false) []) ∷ [])
+    ∷ []
+witnesses splits =
+    atCursors (λ s n at. numberOf (splitAt byte s n at))
+    ∷ []
+witnesses builders =
+    (numberOf (appendAnswer (pushFlag true) (builderOf 4194304 0 0) buffer) ∷ toImpossible (pushFlag true) ∷ toNoBytes (pushFlag true) ∷ [])
+    ∷ (toNew (extendConstant tooLong true) ∷ toImpossible (extendConstant 1 true) ∷ toNoBytes (extendConstant 1 true) ∷ [])
+    ∷ atBuilders (λ b buf. numberOf (freezeOf b buf))
+    ∷ atBuilders (λ b buf. numberOf (intoOptValidityOf b buf))
+    ∷ []
+witnesses pushed-words =
+    (toNew (pushWord 0 tooLong) ∷ toImpossible (pushWord 1 1) ∷ toNew (pushWord 2 1) ∷ toNoBytes (pushWord 1 1) ∷ [])
+    ∷ []
+witnesses span-appends =
+    atAppends (extendSlice byte)
+    ∷ atAppends (λ s n. extendRepeated byte s n 2)
+    ∷ atAppends (λ s n. extendOptGather byte s n (8 ∷ []))
+    ∷ []
+witnesses gathers =
+    (toNew (extendGather byte tooLong 1 (0 ∷ []))
+    ∷ toNew (extendGather byte 2 7 (0 ∷ []))
+    ∷ toImpossible (extendGather byte 0 8 (0 ∷ []))
+    ∷ toNew (extendGather byte 0 8 (8 ∷ []))
+    ∷ toNoBytes (extendGather byte 0 8 (0 ∷ []))
+    ∷ [])
+    ∷ []
+witnesses piece-appends =
+    (atMasks (λ m. toNew (extendBitmap m byte 0 1))
+    ++ (toImpossible (extendBitmap whole byte 0 8) ∷ toNew (extendBitmap whole byte 1 8) ∷ toNoBytes (extendBitmap whole byte 0 8) ∷ []))
+    ∷ []
+witnesses zeroed-masks =
+    (numberOf (newZeroedOf tooLong buffer) ∷ numberOf (newZeroedOf 65 (replicate 15 0xAA)) ∷ [])
+    ∷ []
+witnesses masks =
+    atMasks (λ m. numberOf (unsetBitsOf m byte))
+    ∷ atMasks (λ m. numberOf (eqOf whole byte m byte))
+    ∷ atMasks (λ m. numberOf (edgesOf m byte))
+    ∷ atMasks (λ m. numberOf (newSlices m byte))
+    ∷ []
+-- for 7: the first four flags of the byte have one zero, so a count of 7, which is false, leaves 6 for the other four
+witnesses slices =
+    (atMasks (λ m. numberOf (sliceOf m byte 0 1))
+    ++ (numberOf (sliceOf whole byte 1 8) ∷ numberOf (sliceOf (maskOf 0 8 (Known 7)) byte 4 4) ∷ []))
+    ∷ []
+witnesses combinations =
+    atPairs (λ m out. numberOf (pairOf And whole byte m byte out))
+    ∷ atPairs (λ m out. numberOf (eachOf (selectChecks whole byte whole byte m byte (length out)) (whole ∷ whole ∷ m ∷ []) 8))
+    ∷ atPairs (λ m out. numberOf (eachOf (pairChecks whole byte m byte (length out)) (whole ∷ m ∷ []) 8))
+    ∷ []
+witnesses inversions =
+    (atMasks (λ m. notNumber m buffer) ++ (notNumber whole [] ∷ []))
+    ∷ []
+witnesses intersections =
+    (atMasks (λ m. numberOf (commonOf whole byte m byte)) ++ (numberOf (commonOf whole byte shorter byte) ∷ []))
+    ∷ []
+witnesses stated-masks =
+    (atMasks (λ m. numberOf (newTrue 8 (Present m) byte)) ++ (numberOf (newTrue 8 (Present shorter) byte) ∷ []))
+    ∷ []
+witnesses stated-lengths =
+    (numberOf (newTrue tooLong Absent []) ∷ [])
+    ∷ []
+
+-- the statement: each family has a definition, and each of these gives all the family's numbers
+abbrev pub Witnessed : Type 0
+Witnessed = (f : Family) → witnesses f ≡ mayGive f ∷ replicate (length (drop 1 (witnesses f))) (mayGive f)
