@@ -23,17 +23,6 @@ def near(length):
     return [0, 1, length // 3, length // 2, max(length - 1, 0), length, min(length + 1, LARGEST), LARGEST]
 
 
-def line(*parts):
-    print(" ".join(str(part) for part in parts))
-
-
-def total(answers):
-    sum = 0
-    for answer in answers:
-        sum = folded(sum, answer)
-    return "#%d" % sum
-
-
 def listed(call, lent, start, length, steps):
     place = 0
     for _ in range(steps):

@@ -139,5 +139,16 @@ def folded(total, answer):
     return total
 
 
+def line(*parts):
+    print(" ".join(str(part) for part in parts))
+
+
+def total(answers):
+    sum = 0
+    for answer in answers:
+        sum = folded(sum, answer)
+    return "#%d" % sum
+
+
 def show(call, *arguments):
     return shown(answered(call, *arguments))

@@ -14,17 +14,6 @@ LONG = [0, 3, 64, LIMIT - 64, LIMIT - 1, LIMIT, LIMIT + 1]
 NONE = Bytes([])
 
 
-def line(*parts):
-    print(" ".join(str(part) for part in parts))
-
-
-def total(answers):
-    sum = 0
-    for answer in answers:
-        sum = folded(sum, answer)
-    return "#%d" % sum
-
-
 def aligned_cases():
     lent = Bytes(paint(4, 40))
     for start in range(8):
