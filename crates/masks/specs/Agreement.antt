@@ -123,7 +123,8 @@ pub record Alike (m : Bitmap) (bytes : List ℕ) (m′ : Bitmap) (bytes′ : Lis
   pub nth : (n : ℕ) → nthShown m bytes n ≡ nthShown m′ bytes′ n
   pub forward : (n from : ℕ) → searchFrom bytes (m .start) (m .length) n from ≡ searchFrom bytes′ (m′ .start) (m′ .length) n from
   pub backward : (n end : ℕ) → searchBack bytes (m .start) (m .length) n end ≡ searchBack bytes′ (m′ .start) (m′ .length) n end
-  pub combined : (c : Combination) (out : List ℕ) → Fits (m .length) c → frozenSize (m .length) ≤ length out → combinedBytes m bytes c out ≡ combinedBytes m′ bytes′ c out
+  pub combined : (c : Combination) (out : List ℕ) → Fits (m .length) c → frozenSize (m .length) ≤ length out
+      → combinedBytes m bytes c out ≡ combinedBytes m′ bytes′ c out
 
 -- ---- the statement
 
@@ -136,7 +137,8 @@ pub record OneMeaning : Type 0 where
   -- every mask that a history has come to agrees with the history's reference list
   pub agrees : (h : History) (m : Bitmap) (bytes : List ℕ) → ComesTo h m bytes → Agrees m bytes (listOf h)
   -- two histories with equal lists agree in all that is compared
-  pub alike : (h h′ : History) (m m′ : Bitmap) (bytes bytes′ : List ℕ) → ComesTo h m bytes → ComesTo h′ m′ bytes′ → listOf h ≡ listOf h′ → Alike m bytes m′ bytes′
+  pub alike : (h h′ : History) (m m′ : Bitmap) (bytes bytes′ : List ℕ) → ComesTo h m bytes → ComesTo h′ m′ bytes′ → listOf h ≡ listOf h′
+      → Alike m bytes m′ bytes′
   -- if the lists differ, length or frozen bytes differ
   pub apart : (h h′ : History) (m m′ : Bitmap) (bytes bytes′ : List ℕ) → ComesTo h m bytes → ComesTo h′ m′ bytes′ → (listOf h ≡ listOf h′ → ⊥)
       → (buf : List ℕ) → frozenSize (m .length) ≤ length buf → m .length ≡ m′ .length → refrozen m bytes buf ≡ refrozen m′ bytes′ buf → ⊥
