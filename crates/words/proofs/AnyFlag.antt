@@ -76,7 +76,7 @@ any-all Z i n w p l h k = let e : 64 * i ≡ length Z = omega arith in p ∙ ap 
 
 -- ---- a word with a flag set is not zero
 
-none-zero : (l : List Bool) → anySet l ≡ false → wordOf l ≡ 0
+pub none-zero : (l : List Bool) → anySet l ≡ false → wordOf l ≡ 0
 unfolding anySet wordOf
 none-zero [] e = refl
 none-zero (true ∷ l) e = absurd (let z : _≡_ {A = ℕ} 0 1 = cc e in omega arith)

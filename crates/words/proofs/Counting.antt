@@ -50,6 +50,9 @@ count-not (false ∷ l) = let h : count l + count (map not l) ≡ length l = cou
 pub count-add : (l : List Bool) (k a b : ℕ) → count (window l k (a + b)) ≡ count (window l k a) + count (window l (k + a) b)
 count-add l k a b = ap count (window-add l k a b) ∙ count-append (window l k a) (window l (k + a) b)
 
+count-cut : (l : List Bool) (k n a b : ℕ) → n ≡ a + b → count (window l k n) ≡ count (window l k a) + count (window l (k + a) b)
+count-cut l k n a b e = ap (λ (x : ℕ). count (window l k x)) e ∙ count-add l k a b
+
 -- zeros behind a list count nothing
 pub count-past : (l : List Bool) (k n : ℕ) → length l ≤ k → count (window l k n) ≡ 0
 count-past l k n h = ap count (window-past l k n h) ∙ count-copies n false ∙ omega arith
@@ -57,7 +60,7 @@ count-past l k n h = ap count (window-past l k n h) ∙ count-copies n false ∙
 pub count-padded : (l : List Bool) (d : ℕ) → length l ≤ d → count (window l 0 d) ≡ count l
 count-padded l d h =
     let e : d ≡ length l + (d - length l) = omega arith in
-    let a : count (window l 0 d) ≡ count (window l 0 (length l)) + count (window l (0 + length l) (d - length l)) = ap (λ (x : ℕ). count (window l 0 x)) e ∙ count-add l 0 (length l) (d - length l) in
+    let a = count-cut l 0 d (length l) (d - length l) e in
     let b : count (window l 0 (length l)) ≡ count l = ap count (window-all l) in
     let c : count (window l (0 + length l) (d - length l)) ≡ 0 = count-past l (0 + length l) (d - length l) (omega arith) in
     omega arith
@@ -81,30 +84,34 @@ count-word w k e = omega (arith, count-le (bits 64 w), length-bits 64 w)
 -- ---- word by word
 
 -- the ones of the k low flags of a word
-pub count-low : (l : List Bool) (bit k w r c : ℕ) → k ≤ 64 → bits 64 w ≡ window l bit 64 → bits 64 r ≡ window (take k (bits 64 w)) 0 64 → c ≡ count (bits 64 r) → c ≡ count (window l bit k)
+pub count-low : (l : List Bool) (bit k w r c : ℕ) → k ≤ 64 → bits 64 w ≡ window l bit 64 → bits 64 r ≡ window (take k (bits 64 w)) 0 64 → c ≡ count (bits 64 r)
+    → c ≡ count (window l bit k)
 count-low l bit k w r c h p q e =
     e ∙ ap count (q ∙ ap (λ (t : List Bool). window (take k t) 0 64) p ∙ window-take l bit k 64)
     ∙ count-padded (window l bit k) 64 (omega (arith, length-window l bit k))
 
 -- the same where more are wanted than the word has, and the list ends within it
-pub count-rest : (l : List Bool) (bit k w r c : ℕ) → (64 < k → length l ≤ bit + 64) → bits 64 w ≡ window l bit 64 → bits 64 r ≡ window (take k (bits 64 w)) 0 64 → c ≡ count (bits 64 r) → c ≡ count (window l bit k)
+pub count-rest : (l : List Bool) (bit k w r c : ℕ) → (64 < k → length l ≤ bit + 64) → bits 64 w ≡ window l bit 64 → bits 64 r ≡ window (take k (bits 64 w)) 0 64
+    → c ≡ count (bits 64 r) → c ≡ count (window l bit k)
 count-rest l bit k w r c h p q e = ⊎-elim
     (λ (j : 64 < k).
     let n : k ≡ 64 + (k - 64) = omega arith in
     let z : bit + 0 ≡ bit = omega arith in
-    let a : c ≡ count (window l bit 64) = e ∙ ap count (q ∙ ap (λ (t : List Bool). window (take k t) 0 64) p ∙ window-take l bit k 64 ∙ in-window l bit k 0 64 (omega arith) ∙ ap (λ (x : ℕ). window l x 64) z) in
-    let b : count (window l bit k) ≡ count (window l bit 64) + count (window l (bit + 64) (k - 64)) = ap (λ (x : ℕ). count (window l bit x)) n ∙ count-add l bit 64 (k - 64) in
+    let low : window (take k (bits 64 w)) 0 64 ≡ window (window l bit k) 0 64 = ap (λ (t : List Bool). window (take k t) 0 64) p ∙ window-take l bit k 64 in
+    let a : c ≡ count (window l bit 64) = e ∙ ap count (q ∙ low ∙ in-window l bit k 0 64 (omega arith) ∙ ap (λ (x : ℕ). window l x 64) z) in
+    let b = count-cut l bit k 64 (k - 64) n in
     let d : count (window l (bit + 64) (k - 64)) ≡ 0 = count-past l (bit + 64) (k - 64) (h j) in
     omega arith)
     (λ (j : k ≤ 64). count-low l bit k w r c j p q e)
     (lt-or-le 64 k)
 
 -- one more word
-pub count-step : (l : List Bool) (i w c k : ℕ) → c ≡ count (window l 0 (64 * i)) → bits 64 w ≡ window l (64 * i) 64 → k ≡ count (bits 64 w) → c + k ≡ count (window l 0 (64 * (i + 1)))
+pub count-step : (l : List Bool) (i w c k : ℕ) → c ≡ count (window l 0 (64 * i)) → bits 64 w ≡ window l (64 * i) 64 → k ≡ count (bits 64 w)
+    → c + k ≡ count (window l 0 (64 * (i + 1)))
 count-step l i w c k inv q u =
     let n : 64 * (i + 1) ≡ 64 * i + 64 = omega arith in
     let z : 0 + 64 * i ≡ 64 * i = omega arith in
-    let a : count (window l 0 (64 * (i + 1))) ≡ count (window l 0 (64 * i)) + count (window l (0 + 64 * i) 64) = ap (λ (m : ℕ). count (window l 0 m)) n ∙ count-add l 0 (64 * i) 64 in
+    let a = count-cut l 0 (64 * (i + 1)) (64 * i) 64 n in
     let b : k ≡ count (window l (0 + 64 * i) 64) = u ∙ ap count (q ∙ ap (λ (m : ℕ). window l m 64) (sym z)) in
     omega arith
 
@@ -121,10 +128,11 @@ pub span-word : (l : List Bool) (p n i x w : ℕ) → 64 * i + 64 ≤ n → x �
 span-word l p n i x w h e q = q ∙ ap (λ (m : ℕ). window l m 64) e ∙ sym (in-window l p n (64 * i) 64 h)
 
 -- a stretch in three parts
-pub count-parts : (l : List Bool) (p len h m o a b c x y z : ℕ) → x ≡ count (window l o h) → y ≡ count (window l a m) → z ≡ count (window l b c) → o ≡ p → a ≡ p + h → b ≡ p + h + m → len ≡ h + m + c → x + y + z ≡ count (window l p len)
+pub count-parts : (l : List Bool) (p len h m o a b c x y z : ℕ) → x ≡ count (window l o h) → y ≡ count (window l a m) → z ≡ count (window l b c) → o ≡ p → a ≡ p + h
+    → b ≡ p + h + m → len ≡ h + m + c → x + y + z ≡ count (window l p len)
 count-parts l p len h m o a b c x y z ex ey ez eo ea eb el =
     let n : len ≡ h + (m + c) = omega arith in
-    let s1 : count (window l p len) ≡ count (window l p h) + count (window l (p + h) (m + c)) = ap (λ (k : ℕ). count (window l p k)) n ∙ count-add l p h (m + c) in
+    let s1 = count-cut l p len h (m + c) n in
     let s2 : count (window l (p + h) (m + c)) ≡ count (window l (p + h) m) + count (window l (p + h + m) c) = count-add l (p + h) m c in
     let x2 : x ≡ count (window l p h) = ex ∙ ap (λ (k : ℕ). count (window l k h)) eo in
     let y2 : y ≡ count (window l (p + h) m) = ey ∙ ap (λ (k : ℕ). count (window l k m)) ea in
@@ -156,12 +164,13 @@ pub count-short : (l : List Bool) (len w c : ℕ) → length l ≡ len → len �
 count-short l len w c e h p q = q ∙ ap count p ∙ count-padded l 64 (omega arith)
 
 -- a list of m flags whose flags behind n are one flag, over and over
-pub count-behind : (l : List Bool) (m n c d : ℕ) (x : Bool) → c ≡ count (window l 0 n) → length l ≡ m → d ≡ (m - n) * digit x → (n < m → window l n (m - n) ≡ copies (m - n) x) → c + d ≡ count l
+pub count-behind : (l : List Bool) (m n c d : ℕ) (x : Bool) → c ≡ count (window l 0 n) → length l ≡ m → d ≡ (m - n) * digit x
+    → (n < m → window l n (m - n) ≡ copies (m - n) x) → c + d ≡ count l
 count-behind l m n c d x p e q h = ⊎-elim
     (λ (k : n < m).
     let a : m ≡ n + (m - n) = omega arith in
     let z : 0 + n ≡ n = omega arith in
-    let whole : count l ≡ count (window l 0 n) + count (window l (0 + n) (m - n)) = sym (count-padded l m (omega arith)) ∙ ap (λ (i : ℕ). count (window l 0 i)) a ∙ count-add l 0 n (m - n) in
+    let whole : count l ≡ count (window l 0 n) + count (window l (0 + n) (m - n)) = sym (count-padded l m (omega arith)) ∙ count-cut l 0 m n (m - n) a in
     let rest : count (window l (0 + n) (m - n)) ≡ (m - n) * digit x = ap (λ (i : ℕ). count (window l i (m - n))) z ∙ ap count (h k) ∙ count-copies (m - n) x in
     omega arith)
     (λ (k : m ≤ n).
