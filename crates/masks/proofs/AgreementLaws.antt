@@ -37,6 +37,7 @@ use Rattle.masks.proofs.FreezeLaws.{same-checks}
 use Rattle.masks.proofs.FrozenLaws.{flags-packed, length-packed}
 use Rattle.masks.proofs.HistoryLaws.{Builds, Stands, builds-after}
 use Rattle.masks.proofs.HistoryTheorem.{new-holds}
+use Rattle.masks.proofs.Listing.{place-accepted}
 use Rattle.masks.proofs.RoomLaws.{size-after}
 use Rattle.masks.proofs.RunsWhole.{lists-runs}
 use Rattle.masks.proofs.TrueLaws.{true-count}
@@ -66,7 +67,8 @@ frozen-same a b e f = sym (frozen-back a) ∙ ap₂ (λ (x : List ℕ) (n : ℕ)
 
 -- ---- flags one by one
 
-step-shown : (bytes : List ℕ) (c : BitmapIter) (n : ℕ) → flagShown (given (flagStep bytes c n)) ≡ some (cond (ltb (c .place + n) (c .length)) (some (getD (iterFlags c bytes) (c .place + n) false)) none)
+step-shown : (bytes : List ℕ) (c : BitmapIter) (n : ℕ)
+    → flagShown (given (flagStep bytes c n)) ≡ some (cond (ltb (c .place + n) (c .length)) (some (getD (iterFlags c bytes) (c .place + n) false)) none)
 unfolding flagStep
 step-shown bytes c n = go (ltb (c .place + n) (c .length))
   where
@@ -77,10 +79,11 @@ step-shown bytes c n = go (ltb (c .place + n) (c .length))
 
 cursor-accepted : (start size place : ℕ) (bytes : List ℕ) → 0 ≡ firstFailed (spanChecks start size (length bytes)) → place ≤ size
     → 0 ≡ firstFailed (cursorChecks start size place (length bytes))
-unfolding cursorChecks firstFailed earlier
-cursor-accepted start size place bytes e h = passed-before (spanChecks start size (length bytes)) (check 6 (leb place size) ∷ []) 0 0 e refl (rw (le-leb place size h))
+unfolding cursorChecks
+cursor-accepted start size place bytes e h = sym (place-accepted (spanChecks start size (length bytes)) place size (sym e) h)
 
-nth-there : (bytes : List ℕ) (start size n : ℕ) → 0 ≡ firstFailed (spanChecks start size (length bytes)) → flagShown (nthFlag (iterAt start size 0) bytes n) ≡ some (flagOf (stretch bytes start size) n)
+nth-there : (bytes : List ℕ) (start size n : ℕ) → 0 ≡ firstFailed (spanChecks start size (length bytes))
+    → flagShown (nthFlag (iterAt start size 0) bytes n) ≡ some (flagOf (stretch bytes start size) n)
 unfolding nthFlag
 nth-there bytes start size n e =
     let c = iterAt start size 0 in
@@ -90,7 +93,8 @@ nth-there bytes start size n e =
     ∙ ap₂ (λ (i k : ℕ). some (cond (ltb i k) (some (getD (stretch bytes start size) i false)) none)) same (sym (length-window (flagsOf bytes) start size))
 
 -- a new cursor: over no flags it is all 0
-new-nth : (bytes : List ℕ) (start size n : ℕ) → 0 ≡ firstFailed (spanChecks start size (length bytes)) → nthOf (newIter bytes start size) bytes n ≡ some (flagOf (stretch bytes start size) n)
+new-nth : (bytes : List ℕ) (start size n : ℕ) → 0 ≡ firstFailed (spanChecks start size (length bytes))
+    → nthOf (newIter bytes start size) bytes n ≡ some (flagOf (stretch bytes start size) n)
 unfolding newIter unlessEmpty window
 new-nth bytes start zero n e = nth-there bytes 0 0 n (span-accepted 0 0 (length bytes) (omega arith) (omega arith) (omega arith))
 new-nth bytes start (suc size) n e =

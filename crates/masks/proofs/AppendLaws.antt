@@ -9,7 +9,7 @@ use lib.Seq.{length-take-le, take-at, drop-at}
 use borrow.Author.Tests.{not-true}
 use Rattle.words.specs.Counts.{anySet}
 use Rattle.words.specs.Flags.{bits, copies, count, digit, window, wordOf}
-use Rattle.words.proofs.AnyFlag.{any-zero}
+use Rattle.words.proofs.AnyFlag.{any-zero, none-zero}
 use Rattle.words.proofs.Bits.{length-bits, wordOf-bits}
 use Rattle.words.proofs.Counting.{count-append}
 use Rattle.words.proofs.Plain.{window-part}
@@ -166,12 +166,6 @@ pub append-then : (f g h : Filling) (a b : List Bool) → g ≡ appended f a →
 append-then f g h a b p q = q ∙ ap (λ (x : Filling). appended x b) p ∙ append-append f a b
 
 -- ---- nothing
-
-none-zero : (l : List Bool) → anySet l ≡ false → wordOf l ≡ 0
-unfolding anySet wordOf
-none-zero [] e = refl
-none-zero (true ∷ l) e = absurd (let z : _≡_ {A = ℕ} 0 1 = cc in omega arith)
-none-zero (false ∷ l) e = let h : wordOf l ≡ 0 = none-zero l e in omega arith
 
 low-list : (k : ℕ) (l : List Bool) → anySet (drop k l) ≡ false → wordOf (take k l) ≡ wordOf l
 unfolding wordOf

@@ -146,13 +146,13 @@ passed-one n true e = refl
 passed-one n false e = absurd (omega arith)
 
 -- a check that stands first, and those behind it
-pub head-passed : (n : ℕ) (t : Bool) (cs : List Check) → firstFailed (check (suc n) t ∷ cs) ≡ 0 → t ≡ true
+pub first-allowed : (n : ℕ) (t : Bool) (cs : List Check) → firstFailed (check (suc n) t ∷ cs) ≡ 0 → t ≡ true
 unfolding firstFailed
-head-passed n t cs e = passed-one n t (passed-left (cond t 0 (suc n)) (firstFailed cs) e)
+first-allowed n t cs e = passed-one n t (passed-left (cond t 0 (suc n)) (firstFailed cs) e)
 
-pub tail-passed : (c : Check) (cs : List Check) → firstFailed (c ∷ cs) ≡ 0 → firstFailed cs ≡ 0
+pub rest-allowed : (c : Check) (cs : List Check) → firstFailed (c ∷ cs) ≡ 0 → firstFailed cs ≡ 0
 unfolding firstFailed
-tail-passed c cs e = passed-right (failure c) (firstFailed cs) e
+rest-allowed c cs e = passed-right (failure c) (firstFailed cs) e
 
 -- what is known of a span whose checks have passed
 pub record SpanAllowed (start n size : ℕ) : Type 0 where
@@ -206,27 +206,28 @@ sum-test a b c h = ⊎-elim
 pub sum-over : (a b c : ℕ) → c < a → false ≡ leb (a + b) c
 sum-over a b c h = sym (lt-leb (a + b) c (omega arith))
 
--- a check at the front of those that have passed
-pub first-allowed : (n : ℕ) (t : Bool) (cs : List Check) → firstFailed (check (suc n) t ∷ cs) ≡ 0 → t ≡ true
-unfolding firstFailed
-first-allowed n t cs e = passed-one n t (passed-left (cond t 0 (suc n)) (firstFailed cs) e)
-
-pub rest-allowed : (c : Check) (cs : List Check) → firstFailed (c ∷ cs) ≡ 0 → firstFailed cs ≡ 0
-unfolding firstFailed
-rest-allowed c cs e = passed-right (failure c) (firstFailed cs) e
-
 -- checks that have passed before others
 pub passed-before : (A B : List Check) (r n : ℕ) → n ≡ firstFailed A → n ≡ 0 → r ≡ firstFailed B → r ≡ firstFailed (A ++ B)
 passed-before A B r n p z q = q ∙ sym (none-earlier (firstFailed B)) ∙ ap (λ (x : ℕ). earlier x (firstFailed B)) (sym z ∙ p) ∙ sym (failed-append A B)
 
--- a refusal by a check that is made after the others
-pub last-refused : {S A : Type 0} (cs : List Check) (n k : ℕ) (t : Bool) (s : S) (a : A) → n ≡ firstFailed cs → n ≡ 0 → t ≡ false → refused (suc k) s ≡ decided (firstFailed (cs ++ (check (suc k) t ∷ []))) s a
-unfolding decided firstFailed
-last-refused cs n k t s a p z e = ap (λ (m : ℕ). decided m s a) (ap (λ (x : Bool). cond x 0 (suc k)) (sym e) ∙ passed-before cs (check (suc k) t ∷ []) (cond t 0 (suc k)) n p z (sym (earlier-none (cond t 0 (suc k)))))
+-- a check that is made after the others have passed
+last-made : (cs : List Check) (n k : ℕ) (t : Bool) → n ≡ firstFailed cs → n ≡ 0 → cond t 0 (suc k) ≡ firstFailed (cs ++ (check (suc k) t ∷ []))
+unfolding firstFailed
+last-made cs n k t p z = passed-before cs (check (suc k) t ∷ []) (cond t 0 (suc k)) n p z (sym (earlier-none (cond t 0 (suc k))))
 
-pub last-given : {S A : Type 0} (cs : List Check) (n k : ℕ) (t : Bool) (s : S) (a : A) → n ≡ firstFailed cs → n ≡ 0 → t ≡ true → given a ≡ decided (firstFailed (cs ++ (check (suc k) t ∷ []))) s a
-unfolding decided firstFailed
-last-given cs n k t s a p z e = ap (λ (m : ℕ). decided m s a) (ap (λ (x : Bool). cond x 0 (suc k)) (sym e) ∙ passed-before cs (check (suc k) t ∷ []) (cond t 0 (suc k)) n p z (sym (earlier-none (cond t 0 (suc k)))))
+last-decided : {S A : Type 0} (cs : List Check) (n k : ℕ) (t x : Bool) (s : S) (a : A) → n ≡ firstFailed cs → n ≡ 0 → t ≡ x
+    → decided (cond x 0 (suc k)) s a ≡ decided (firstFailed (cs ++ (check (suc k) t ∷ []))) s a
+last-decided cs n k t x s a p z e = ap (λ (m : ℕ). decided m s a) (ap (λ (y : Bool). cond y 0 (suc k)) (sym e) ∙ last-made cs n k t p z)
+
+pub last-refused : {S A : Type 0} (cs : List Check) (n k : ℕ) (t : Bool) (s : S) (a : A) → n ≡ firstFailed cs → n ≡ 0 → t ≡ false
+    → refused (suc k) s ≡ decided (firstFailed (cs ++ (check (suc k) t ∷ []))) s a
+unfolding decided
+last-refused cs n k t s a p z e = last-decided cs n k t false s a p z e
+
+pub last-given : {S A : Type 0} (cs : List Check) (n k : ℕ) (t : Bool) (s : S) (a : A) → n ≡ firstFailed cs → n ≡ 0 → t ≡ true
+    → given a ≡ decided (firstFailed (cs ++ (check (suc k) t ∷ []))) s a
+unfolding decided
+last-given cs n k t s a p z e = last-decided cs n k t true s a p z e
 
 -- ---- a check that is made only where the others have passed: all of them are put before it
 
@@ -276,7 +277,8 @@ module _ (start n size : ℕ) (x y within : Bool) (ex : x ≡ leb start limit) (
       let t = sym (ap₂ _&&_ ex ey) ∙ sym e ∙ h in
       (leb-true start limit (and-left (leb start limit) (leb n limit) t), leb-true n limit (and-right (leb start limit) (leb n limit) t))
 
-earlier-ranked : (a b k : ℕ) → (a ≡ 0 → ⊥) ⊎ (a ≡ 0) → (b ≡ 0 → ⊥) ⊎ (b ≡ 0) → ((a ≡ 0 → ⊥) → rank a ≤ k) → ((b ≡ 0 → ⊥) → rank b ≤ k) → (earlier a b ≡ 0 → ⊥) → rank (earlier a b) ≤ k
+earlier-ranked : (a b k : ℕ) → (a ≡ 0 → ⊥) ⊎ (a ≡ 0) → (b ≡ 0 → ⊥) ⊎ (b ≡ 0) → ((a ≡ 0 → ⊥) → rank a ≤ k) → ((b ≡ 0 → ⊥) → rank b ≤ k) → (earlier a b ≡ 0 → ⊥)
+    → rank (earlier a b) ≤ k
 unfolding earlier
 earlier-ranked zero b k p q h i n = i n
 earlier-ranked (suc a) zero k p q h i n = h n
@@ -303,8 +305,10 @@ failed-ranked (c ∷ cs) k e n =
     (failed-ranked cs k (and-right (leb (rank (c .number)) (rank k)) (before k cs) e)) n
 
 -- a refusal by the checks that are put first
-pub first-refused : {S A : Type 0} (cs : List Check) (n k : ℕ) (t : Bool) (s : S) (a : A) → before (suc k) cs ≡ true → n ≡ firstFailed cs → (n ≡ 0 → ⊥) → refused n s ≡ decided (firstFailed (cs ++ (check (suc k) t ∷ []))) s a
-first-refused cs n k t s a b p z = is-refused n (firstFailed (cs ++ (check (suc k) t ∷ []))) s a (p ∙ sym (failed-append cs (check (suc k) t ∷ []) ∙ ap (earlier (firstFailed cs)) (single t) ∙ keeps t)) z
+pub first-refused : {S A : Type 0} (cs : List Check) (n k : ℕ) (t : Bool) (s : S) (a : A) → before (suc k) cs ≡ true → n ≡ firstFailed cs → (n ≡ 0 → ⊥)
+    → refused n s ≡ decided (firstFailed (cs ++ (check (suc k) t ∷ []))) s a
+first-refused cs n k t s a b p z =
+    is-refused n (firstFailed (cs ++ (check (suc k) t ∷ []))) s a (p ∙ sym (failed-append cs (check (suc k) t ∷ []) ∙ ap (earlier (firstFailed cs)) (single t) ∙ keeps t)) z
   where
     single : (t : Bool) → firstFailed (check (suc k) t ∷ []) ≡ cond t 0 (suc k)
     single t = sym (one-check (cond t 0 (suc k)) (suc k) t t refl refl)
@@ -326,20 +330,9 @@ exact-words n more = omega arith
 
 -- ---- the two promises of a call that may write: its answer and its bytes
 
-kept-old : {B : Type 0} (r : ℕ) (new old : B) → (r ≡ 0 → ⊥) → old ≡ kept r new old
-unfolding kept
-kept-old zero new old h = absurd (h refl)
-kept-old (suc r) new old h = refl
-
 module _ {S A B : Type 0} (r m : ℕ) (s : S) (old : B) (e : r ≡ m) where
   pub refused-way : (a : A) (new : B) → (r ≡ 0 → ⊥) → (refused r s ≡ decided m s a) × (old ≡ kept m new old)
-  refused-way a new h = (is-refused r m s a e h, kept-old r new old h ∙ ap (λ (x : ℕ). kept x new old) e)
+  refused-way a new h = (is-refused r m s a e h, is-kept r m new old e h)
 
   pub given-way : (a a′ : A) (out new : B) → r ≡ 0 → a ≡ a′ → out ≡ new → (given a ≡ decided m s a′) × (out ≡ kept m new old)
-  unfolding kept
-  given-way a a′ out new h p q = (ap given p ∙ is-given r m s a′ e h, q ∙ ap (λ (x : ℕ). kept x new old) (sym h ∙ e))
-
--- a check before others
-pub more-check : (r a b n : ℕ) (t u : Bool) (cs : List Check) → r ≡ earlier a b → a ≡ cond t 0 n → t ≡ u → b ≡ firstFailed cs → r ≡ firstFailed (check n u ∷ cs)
-unfolding firstFailed
-more-check r a b n t u cs e p h q = e ∙ ap₂ earlier (p ∙ ap (λ (x : Bool). cond x 0 n) h) q
+  given-way a a′ out new h p q = (ap given p ∙ is-given r m s a′ e h, q ∙ is-new r m new old e h)

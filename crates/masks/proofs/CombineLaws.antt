@@ -113,21 +113,28 @@ pair-lengths a aBytes b bBytes size e =
 module _ (op : Op) (a : Bitmap) (aBytes : List ℕ) (b : Bitmap) (bBytes out : List ℕ) (k : ℕ) (e : k ≡ firstFailed (pairChecks a aBytes b bBytes (length out))) where
   pub pair-refused : (k ≡ 0 → ⊥) → (refused k tt ≡ pairOf op a aBytes b bBytes out) × (out ≡ pairBytes op a aBytes b bBytes out)
   unfolding pairOf pairBytes
-  pair-refused h = (is-refused k (firstFailed (pairChecks a aBytes b bBytes (length out))) tt (pairMask op a aBytes b bBytes) e h, is-kept k (firstFailed (pairChecks a aBytes b bBytes (length out))) (over out (frozen (pairFlags op a aBytes b bBytes))) out e h)
+  pair-refused h =
+      let number = firstFailed (pairChecks a aBytes b bBytes (length out)) in
+      (is-refused k number tt (pairMask op a aBytes b bBytes) e h, is-kept k number (over out (frozen (pairFlags op a aBytes b bBytes))) out e h)
 
-  pub pair-given : (by : Shortcut) (u : Unset) → k ≡ 0 → by ≡ pairShortcut op a aBytes b bBytes → u ≡ resultCount by (a .length) → given (maskOf 0 (a .length) u) ≡ pairOf op a aBytes b bBytes out
+  pub pair-given : (by : Shortcut) (u : Unset) → k ≡ 0 → by ≡ pairShortcut op a aBytes b bBytes → u ≡ resultCount by (a .length)
+      → given (maskOf 0 (a .length) u) ≡ pairOf op a aBytes b bBytes out
   unfolding pairOf pairMask
   pair-given by u z p q =
       ap (λ (v : Unset). given (maskOf 0 (a .length) v)) (q ∙ ap (λ (s : Shortcut). resultCount s (a .length)) p)
       ∙ is-given k (firstFailed (pairChecks a aBytes b bBytes (length out))) tt (pairMask op a aBytes b bBytes) e z
 
   pub pair-written : (by : Shortcut) (out′ : List ℕ) → k ≡ 0 → by ≡ pairShortcut op a aBytes b bBytes
-      → out′ ≡ over out (frozen (resultFlags by (a .length) (combined op aBytes (a .start) bBytes (b .start) bBytes (b .start) (a .length)))) → out′ ≡ pairBytes op a aBytes b bBytes out
+      → out′ ≡ over out (frozen (resultFlags by (a .length) (combined op aBytes (a .start) bBytes (b .start) bBytes (b .start) (a .length))))
+      → out′ ≡ pairBytes op a aBytes b bBytes out
   unfolding pairBytes pairFlags
   pair-written by out′ z p q =
       let same : a .length ≡ b .length = pair-lengths a aBytes b bBytes (length out) (sym e ∙ z) in
-      q ∙ ap₂ (λ (s : Shortcut) (n : ℕ). over out (frozen (resultFlags s (a .length) (zip3 (opOf op) (stretch aBytes (a .start) (a .length)) (stretch bBytes (b .start) n) (stretch bBytes (b .start) n))))) p same
-      ∙ is-new k (firstFailed (pairChecks a aBytes b bBytes (length out))) (over out (frozen (resultFlags (pairShortcut op a aBytes b bBytes) (a .length) (pairEach op a aBytes b bBytes)))) out e z
+      let number = firstFailed (pairChecks a aBytes b bBytes (length out)) in
+      q
+      ∙ ap₂ (λ (s : Shortcut) (n : ℕ).
+      over out (frozen (resultFlags s (a .length) (zip3 (opOf op) (stretch aBytes (a .start) (a .length)) (stretch bBytes (b .start) n) (stretch bBytes (b .start) n))))) p same
+      ∙ is-new k number (over out (frozen (resultFlags (pairShortcut op a aBytes b bBytes) (a .length) (pairEach op a aBytes b bBytes)))) out e z
 
 -- ---- the answer of a combination with no shortcut
 
@@ -164,19 +171,33 @@ unfolding selectChecks
 select-lengths s sBytes t tBytes f fBytes size e =
     let last : List Check = check 5 (eqb (s .length) (f .length)) ∷ outputChecks (s .length) size in
     let rest : List Check = check 5 (eqb (s .length) (t .length)) ∷ last in
-    let passed = both-right (maskChecks f fBytes) rest (both-right (maskChecks t tBytes) (maskChecks f fBytes ++ rest) (both-right (maskChecks s sBytes) (maskChecks t tBytes ++ (maskChecks f fBytes ++ rest)) e)) in (
+    let third = maskChecks f fBytes ++ rest in
+    let second = maskChecks t tBytes ++ third in
+    let passed = both-right (maskChecks f fBytes) rest (both-right (maskChecks t tBytes) third (both-right (maskChecks s sBytes) second e)) in (
       eqb-true (s .length) (t .length) (first-allowed 4 (eqb (s .length) (t .length)) last passed),
-      eqb-true (s .length) (f .length) (first-allowed 4 (eqb (s .length) (f .length)) (outputChecks (s .length) size) (rest-allowed (check 5 (eqb (s .length) (t .length))) last passed)),
+      eqb-true (s .length) (f .length)
+          (first-allowed 4 (eqb (s .length) (f .length)) (outputChecks (s .length) size) (rest-allowed (check 5 (eqb (s .length) (t .length))) last passed)),
     )
 
-pub select-each : (A B C : List Bool) (s t u n m k : ℕ) → n ≡ m → n ≡ k → zip3 (opOf Select) (window A s n) (window B t n) (window C u n) ≡ zip3 cond (window A s n) (window B t m) (window C u k)
+pub select-each : (A B C : List Bool) (s t u n m k : ℕ) → n ≡ m → n ≡ k
+    → zip3 (opOf Select) (window A s n) (window B t n) (window C u n) ≡ zip3 cond (window A s n) (window B t m) (window C u k)
 select-each A B C s t u n m k p q = ap₂ (λ (x y : ℕ). zip3 cond (window A s n) (window B t x) (window C u y)) p q
 
-pub constant-length : (A B : List Bool) (x : Bool) (s t n m : ℕ) → n ≡ m → zipWith (λ p q. cond p q x) (window A s n) (window B t n) ≡ zipWith (λ p q. cond p q x) (window A s n) (window B t m)
+pub constant-length : (A B : List Bool) (x : Bool) (s t n m : ℕ) → n ≡ m
+    → zipWith (λ p q. cond p q x) (window A s n) (window B t n) ≡ zipWith (λ p q. cond p q x) (window A s n) (window B t m)
 constant-length A B x s t n m p = ap (λ (k : ℕ). zipWith (λ p q. cond p q x) (window A s n) (window B t k)) p
 
-pub written-set : (a b : List ℕ) (sa sb n : ℕ) (x : Bool) (out out′ : List ℕ) → x ≡ true → out′ ≡ over out (frozen (combined OrNot b sb a sa a sa n)) → out′ ≡ over out (frozen (zipWith (λ p q. cond p q x) (stretch a sa n) (stretch b sb n)))
-written-set a b sa sb n x out out′ h e = e ∙ ap (λ (l : List Bool). over out (frozen l)) (constant-set (flagsOf a) (flagsOf b) sa sb n ∙ ap (λ (y : Bool). zipWith (λ p q. cond p q y) (stretch a sa n) (stretch b sb n)) (sym h))
+-- what a kernel wrote is what `select_constant` is to write
+as-constant : (F : List Bool) (a b : List ℕ) (sa sb n : ℕ) (x y : Bool) (out out′ : List ℕ) → F ≡ zipWith (λ p q. cond p q y) (stretch a sa n) (stretch b sb n) → x ≡ y
+    → out′ ≡ over out (frozen F) → out′ ≡ over out (frozen (zipWith (λ p q. cond p q x) (stretch a sa n) (stretch b sb n)))
+as-constant F a b sa sb n x y out out′ f h e =
+    let same : F ≡ zipWith (λ p q. cond p q x) (stretch a sa n) (stretch b sb n) = f ∙ ap (λ (z : Bool). zipWith (λ p q. cond p q z) (stretch a sa n) (stretch b sb n)) (sym h) in
+    e ∙ ap (λ (l : List Bool). over out (frozen l)) same
 
-pub written-clear : (a b : List ℕ) (sa sb n : ℕ) (x : Bool) (out out′ : List ℕ) → x ≡ false → out′ ≡ over out (frozen (combined And a sa b sb b sb n)) → out′ ≡ over out (frozen (zipWith (λ p q. cond p q x) (stretch a sa n) (stretch b sb n)))
-written-clear a b sa sb n x out out′ h e = e ∙ ap (λ (l : List Bool). over out (frozen l)) (constant-clear (flagsOf a) (flagsOf b) sa sb n ∙ ap (λ (y : Bool). zipWith (λ p q. cond p q y) (stretch a sa n) (stretch b sb n)) (sym h))
+pub written-set : (a b : List ℕ) (sa sb n : ℕ) (x : Bool) (out out′ : List ℕ) → x ≡ true → out′ ≡ over out (frozen (combined OrNot b sb a sa a sa n))
+    → out′ ≡ over out (frozen (zipWith (λ p q. cond p q x) (stretch a sa n) (stretch b sb n)))
+written-set a b sa sb n x out out′ = as-constant (combined OrNot b sb a sa a sa n) a b sa sb n x true out out′ (constant-set (flagsOf a) (flagsOf b) sa sb n)
+
+pub written-clear : (a b : List ℕ) (sa sb n : ℕ) (x : Bool) (out out′ : List ℕ) → x ≡ false → out′ ≡ over out (frozen (combined And a sa b sb b sb n))
+    → out′ ≡ over out (frozen (zipWith (λ p q. cond p q x) (stretch a sa n) (stretch b sb n)))
+written-clear a b sa sb n x out out′ = as-constant (combined And a sa b sb b sb n) a b sa sb n x false out out′ (constant-clear (flagsOf a) (flagsOf b) sa sb n)

@@ -1,16 +1,16 @@
 -- What is known of a cursor whose checks have passed, and where they pass. Assumes nothing.
-use mathlib.Core.Path.{_≡_, refl, sym}
-use mathlib.Core.Bool.{true}
+use mathlib.Core.Path.{_≡_}
 use mathlib.Core.List.{List, [], _∷_}
 use Prim.Native.Nat.{ℕ, _+_, _*_, _≤_}
 use lib.Dec.{leb}
 use lib.ListN.{length}
-use borrow.Author.Tests.{le-leb, leb-true}
+use borrow.Author.Tests.{leb-true}
 use Rattle.masks.specs.Checks.{check, firstFailed, limit, spanChecks}
 use Rattle.masks.specs.Cursor.{cursorChecks}
 use Rattle.masks.specs.Mask.{countValid, maskChecks}
 use Rattle.masks.specs.declared.bitmap.Bitmap.{Bitmap}
-use Rattle.masks.proofs.CheckLaws.{SpanAllowed, span-allowed, check-allowed, both-left, both-right, one-check, passed-before}
+use Rattle.masks.proofs.CheckLaws.{SpanAllowed, span-allowed, check-allowed, both-left, both-right}
+use Rattle.masks.proofs.Listing.{place-accepted}
 
 pub record CursorAllowed (start n place size : ℕ) : Type 0 where
   pub starts : start ≤ limit
@@ -30,9 +30,9 @@ cursor-allowed start n place size e =
     }
 
 -- a mask that has passed its checks: a cursor over it passes them at each of its places
-pub over-mask : (m : Bitmap) (bytes : List ℕ) (place : ℕ) → firstFailed (maskChecks m bytes) ≡ 0 → place ≤ m .length → firstFailed (cursorChecks (m .start) (m .length) place (length bytes)) ≡ 0
+pub over-mask : (m : Bitmap) (bytes : List ℕ) (place : ℕ) → firstFailed (maskChecks m bytes) ≡ 0 → place ≤ m .length
+    → firstFailed (cursorChecks (m .start) (m .length) place (length bytes)) ≡ 0
 unfolding maskChecks cursorChecks
 over-mask m bytes place e h =
-    let span = both-left (spanChecks (m .start) (m .length) (length bytes)) (check 3 (countValid m bytes) ∷ []) e in
-    sym (passed-before (spanChecks (m .start) (m .length) (length bytes)) (check 6 (leb place (m .length)) ∷ []) 0 0 (sym span) refl
-    (one-check 0 6 true (leb place (m .length)) refl (sym (le-leb place (m .length) h))))
+    place-accepted (spanChecks (m .start) (m .length) (length bytes)) place (m .length)
+    (both-left (spanChecks (m .start) (m .length) (length bytes)) (check 3 (countValid m bytes) ∷ []) e) h

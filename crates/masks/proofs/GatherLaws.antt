@@ -16,7 +16,7 @@ use Rattle.words.proofs.Windows.{at-window}
 use Rattle.masks.specs.Appends.{gathered, allBelow}
 use Rattle.masks.specs.Builder.{Filling, appended, Room}
 use Rattle.masks.proofs.AppendLaws.{append-then, take-copies, one-copy}
-use Rattle.masks.proofs.PushLaws.{length-low}
+use Rattle.masks.proofs.PartLaws.{length-low}
 use Rattle.masks.proofs.RoomLaws.{room-after}
 
 gathered-append : (l : List Bool) (a b : List ℕ) → gathered l (a ++ b) ≡ gathered l a ++ gathered l b

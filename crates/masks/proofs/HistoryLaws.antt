@@ -31,6 +31,7 @@ use Rattle.masks.proofs.CheckLaws.{both-left, both-right, first-allowed
 use Rattle.masks.proofs.FreezeLaws.{frozen-flags, frozen-front, true-zeros}
 use Rattle.masks.proofs.GatherLaws.{length-gathered}
 use Rattle.masks.proofs.MaskLaws.{piece-allowed}
+use Rattle.masks.proofs.PartLaws.{length-low}
 use Rattle.masks.proofs.RepeatLaws.{length-repeated}
 use Rattle.masks.proofs.RoomLaws.{finished, flags-after, ones-after, room-after, room-of, word-allowed}
 use Rattle.masks.proofs.SliceTruth.{slice-accepted, slice-flags, slice-true}
@@ -60,9 +61,6 @@ Holds ended l = Unit {0}
 sized : (b : BitmapBuilder) (n m size : ℕ) → m ≡ n → firstFailed (builderChecks b (b .length + n) size) ≡ 0 → firstFailed (builderChecks b (b .length + m) size) ≡ 0
 sized b n m size p e = ap (λ (x : ℕ). firstFailed (builderChecks b (b .length + x) size)) p ∙ e
 
-word-long : (w n : ℕ) → n ≤ 64 → length (take n (bits 64 w)) ≡ n
-word-long w n h = length-take-le n (bits 64 w) (omega (arith, length-bits 64 w))
-
 -- every append has passed the builder's checks for its own flags
 grows : (a : Append) (b : BitmapBuilder) (buf : List ℕ) → firstFailed (appendChecks a b buf) ≡ 0 → firstFailed (builderChecks b (b .length + length (appendFlags a)) (length buf)) ≡ 0
 unfolding constantChecks wordChecks spanGrowChecks subsliceChecks gatherChecks
@@ -70,7 +68,7 @@ grows (pushFlag x) b buf e = e
 grows (extendConstant n x) b buf e = sized b n (length (copies n x)) (length buf) (length-copies n x) (both-left (growChecks b n (length buf)) (withinLimit n ∷ []) e)
 grows (pushWord w n) b buf e =
     let rest : List Check = withinLimit n ∷ check 6 (leb n 64 && noneFrom w n) ∷ [] in
-    sized b n (length (take n (wordFlags w))) (length buf) (word-long w n (word-allowed w n (both-right (growChecks b n (length buf)) rest e)))
+    sized b n (length (take n (wordFlags w))) (length buf) (length-low n w (word-allowed w n (both-right (growChecks b n (length buf)) rest e)))
     (both-left (growChecks b n (length buf)) rest e)
 grows (extendSlice bytes start n) b buf e =
     sized b n (length (stretch bytes start n)) (length buf) (length-window (flagsOf bytes) start n) (both-right (spanChecks start n (length bytes)) (growChecks b n (length buf)) e)

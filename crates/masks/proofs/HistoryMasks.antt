@@ -156,11 +156,13 @@ module _ (m : Bitmap) (bytes : List ℕ) (l : List Bool) (s : Stands m bytes l) 
   flags-at own = s .flags
   flags-at (other n its) = refl
 
-  pub select-written : (p q r : Argument) → selectFlags (maskAt m p) (bytesAt bytes p) (maskAt m q) (bytesAt bytes q) (maskAt m r) (bytesAt bytes r) ≡ zip3 cond (flagsAt l p) (flagsAt l q) (flagsAt l r)
+  pub select-written : (p q r : Argument)
+      → selectFlags (maskAt m p) (bytesAt bytes p) (maskAt m q) (bytesAt bytes q) (maskAt m r) (bytesAt bytes r) ≡ zip3 cond (flagsAt l p) (flagsAt l q) (flagsAt l r)
   select-written p q r =
       ap₂ (λ (x y : List Bool). zip3 cond x y (maskFlags (maskAt m r) (bytesAt bytes r))) (flags-at p) (flags-at q) ∙ ap (zip3 cond (flagsAt l p) (flagsAt l q)) (flags-at r)
 
-  pub constant-written : (p q : Argument) (x : Bool) → selectConstantFlags (maskAt m p) (bytesAt bytes p) (maskAt m q) (bytesAt bytes q) x ≡ zipWith (λ s t. cond s t x) (flagsAt l p) (flagsAt l q)
+  pub constant-written : (p q : Argument) (x : Bool)
+      → selectConstantFlags (maskAt m p) (bytesAt bytes p) (maskAt m q) (bytesAt bytes q) x ≡ zipWith (λ s t. cond s t x) (flagsAt l p) (flagsAt l q)
   constant-written p q x = ap₂ (zipWith (λ s t. cond s t x)) (flags-at p) (flags-at q)
 
   -- where the checks have passed and the counts are true: the flags written are the reference list's

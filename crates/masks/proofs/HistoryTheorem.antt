@@ -77,7 +77,8 @@ constant-known a aB b bB x out e =
 
 -- ---- one call
 
-combination-holds : (m : Bitmap) (bytes : List ℕ) (l : List Bool) (c : Combination) (out : List ℕ) → Stands m bytes l → (step (masked m bytes) (combine c out) .accepted ≡ true → FairCall (combine c out))
+combination-holds : (m : Bitmap) (bytes : List ℕ) (l : List Bool) (c : Combination) (out : List ℕ) → Stands m bytes l
+    → (step (masked m bytes) (combine c out) .accepted ≡ true → FairCall (combine c out))
     → Holds (step (masked m bytes) (combine c out) .state) (listStep l (record { call = combine c out; accepted = step (masked m bytes) (combine c out) .accepted }))
 unfolding pairOf pairBytes eachOf eachBytes
 combination-holds m bytes l (pair op p q) out s fair =
@@ -125,7 +126,8 @@ step-holds waiting (combine c out) l i fair = tt
 step-holds (building f) (tryNew bytes start n) l i fair = i
 step-holds (building f) (append a) l i fair = append-holds a f l (firstFailed (appendChecks a (f .builder) (f .bytes))) refl i
 step-holds (building f) freeze l i fair = freeze-holds f l (firstFailed (freezeChecks (f .builder) (length (f .bytes)))) i
-step-holds (building f) intoOptValidity l i fair = validity-holds f l (firstFailed (freezeChecks (f .builder) (length (f .bytes)))) (eqb (allOnes (f .builder)) (f .builder .length)) i
+step-holds (building f) intoOptValidity l i fair =
+    validity-holds f l (firstFailed (freezeChecks (f .builder) (length (f .bytes)))) (eqb (allOnes (f .builder)) (f .builder .length)) i
 step-holds (building f) (slice offset n) l i fair = i
 step-holds (building f) unsetBits l i fair = i
 step-holds (building f) (combine c out) l i fair = i

@@ -48,10 +48,14 @@ recounts-by old n z p h k e = rw (ne-eqb z 0 h, ne-eqb z old k, e)
 -- recounted, kept, and not known
 pub cut-known : (old n cut x z : ℕ) (u : Unset) (r : Cut) → u ≡ Known z → recounts old n z ≡ true → r ≡ recountedOf z x n → x ≡ cut → r ≡ cutOf old n cut u
 unfolding recountedOf
-cut-known old n cut x z u r k t e h = e ∙ ap (λ (y : ℕ). recountedOf z y n) h ∙ sym (ap (cutOf old n cut) k ∙ ap (λ (b : Bool). cond (cond b (leb cut z && leb (z - cut) n) true) (Cut.Count (cond b (Known (z - cut)) (keptCount z old n))) Cut.Wrong) t)
+cut-known old n cut x z u r k t e h =
+    e ∙ ap (λ (y : ℕ). recountedOf z y n) h
+    ∙ sym (ap (cutOf old n cut) k ∙ ap (λ (b : Bool). cond (cond b (leb cut z && leb (z - cut) n) true) (Cut.Count (cond b (Known (z - cut)) (keptCount z old n))) Cut.Wrong) t)
 
 pub cut-kept : (old n cut z : ℕ) (u : Unset) (r : Cut) → u ≡ Known z → recounts old n z ≡ false → r ≡ Cut.Count (keptCount z old n) → r ≡ cutOf old n cut u
-cut-kept old n cut z u r k t e = e ∙ sym (ap (cutOf old n cut) k ∙ ap (λ (b : Bool). cond (cond b (leb cut z && leb (z - cut) n) true) (Cut.Count (cond b (Known (z - cut)) (keptCount z old n))) Cut.Wrong) t)
+cut-kept old n cut z u r k t e =
+    e
+    ∙ sym (ap (cutOf old n cut) k ∙ ap (λ (b : Bool). cond (cond b (leb cut z && leb (z - cut) n) true) (Cut.Count (cond b (Known (z - cut)) (keptCount z old n))) Cut.Wrong) t)
 
 pub cut-unknown : (old n cut : ℕ) (u : Unset) → u ≡ Unknown → Cut.Count Unknown ≡ cutOf old n cut u
 cut-unknown old n cut u k = sym (ap (cutOf old n cut) k)
@@ -93,13 +97,16 @@ piece-before m bytes offset n = refl
 module _ (m : Bitmap) (bytes : List ℕ) (offset n k : ℕ) (piece : k ≡ firstFailed (pieceChecks m bytes offset n)) where
   pub slice-refused : (k ≡ 0 → ⊥) → refused k m ≡ sliceOf m bytes offset n
   unfolding sliceOf sliceChecks
-  slice-refused h = first-refused (pieceChecks m bytes offset n) k 6 (recountValid (m .length) n (cutZeros m bytes offset n) (m .unset)) m (slicedMask m bytes offset n) (piece-before m bytes offset n) piece h
+  slice-refused h =
+      first-refused (pieceChecks m bytes offset n) k 6 (recountValid (m .length) n (cutZeros m bytes offset n) (m .unset)) m (slicedMask m bytes offset n) (piece-before m bytes offset n) piece h
 
   pub slice-wrong : k ≡ 0 → Cut.Wrong ≡ cutOf (m .length) n (cutZeros m bytes offset n) (m .unset) → refused 7 m ≡ sliceOf m bytes offset n
   unfolding sliceOf sliceChecks
-  slice-wrong z e = last-refused (pieceChecks m bytes offset n) k 6 (recountValid (m .length) n (cutZeros m bytes offset n) (m .unset)) m (slicedMask m bytes offset n) piece z (cut-wrong (m .length) n (cutZeros m bytes offset n) (m .unset) e)
+  slice-wrong z e =
+      last-refused (pieceChecks m bytes offset n) k 6 (recountValid (m .length) n (cutZeros m bytes offset n) (m .unset)) m (slicedMask m bytes offset n) piece z (cut-wrong (m .length) n (cutZeros m bytes offset n) (m .unset) e)
 
-  pub slice-right : (v : Unset) → k ≡ 0 → Cut.Count v ≡ cutOf (m .length) n (cutZeros m bytes offset n) (m .unset) → given (maskOf (m .start + offset) n v) ≡ sliceOf m bytes offset n
+  pub slice-right : (v : Unset) → k ≡ 0 → Cut.Count v ≡ cutOf (m .length) n (cutZeros m bytes offset n) (m .unset)
+      → given (maskOf (m .start + offset) n v) ≡ sliceOf m bytes offset n
   unfolding sliceOf sliceChecks
   slice-right v z e =
       let known = cut-right (m .length) n (cutZeros m bytes offset n) (m .unset) v e in

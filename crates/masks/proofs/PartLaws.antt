@@ -25,9 +25,6 @@ count-taken k w r c p q = q ∙ ap count p ∙ count-padded (take k (bits 64 w))
 pub count-three : (A B C : List Bool) (a b c : ℕ) → a ≡ count A → b ≡ count B → c ≡ count C → a + b + c ≡ count (A ++ (B ++ C))
 count-three A B C a b c p q r = omega (arith, count-append A (B ++ C), count-append B C)
 
-pub most-three : (A B C : List Bool) (a b c m : ℕ) → a ≡ count A → b ≡ count B → c ≡ count C → length A + (length B + length C) ≤ m → a + b + c ≤ m
-most-three A B C a b c m p q r h = omega (arith, count-le A, count-le B, count-le C)
-
 -- ---- flags alike at the front of three parts
 
 module _ (x : Bool) (A B C : List Bool) where
@@ -96,7 +93,8 @@ module _ (x : Bool) (l : List Bool) (s n : ℕ) where
       let n : 64 * (i + 1) ≡ 64 * i + 64 = omega arith in
       let here : a ≡ leading x (window l (s + 64 * i) 64) = u ∙ ap (leading x) (whole-word w ∙ q ∙ ap (λ (z : ℕ). window l z 64) e) in
       let all : leading x (window l s (64 * (i + 1))) ≡ length (window l s (64 * i)) + leading x (window l (s + 64 * i) 64) =
-      ap (λ (m : ℕ). leading x (window l s m)) n ∙ ap (leading x) (window-add l s (64 * i) 64) ∙ leading-all x (window l s (64 * i)) (window l (s + 64 * i) 64) (omega (arith, length-window l s (64 * i))) in
+      ap (λ (m : ℕ). leading x (window l s m)) n ∙ ap (leading x) (window-add l s (64 * i) 64)
+      ∙ leading-all x (window l s (64 * i)) (window l (s + 64 * i) 64) (omega (arith, length-window l s (64 * i))) in
       omega (arith, length-window l s (64 * i))
 
   pub front-all : (i : ℕ) → 64 * i ≤ leading x (window l s (64 * i)) → i ≤ n → n ≤ i → 64 * n ≡ leading x (window l s (64 * n))
@@ -116,7 +114,8 @@ module _ (x : Bool) (l : List Bool) (s n : ℕ) where
   pub end-none : 64 * 0 ≤ trailing x (window l (s + 64 * (n - 0)) (64 * 0))
   end-none = omega arith
 
-  pub end-exit : (i k p w a : ℕ) → i + k + 1 ≡ n → 64 * i ≤ trailing x (window l (s + 64 * (n - i)) (64 * i)) → bits 64 w ≡ window l p 64 → p ≡ s + 64 * k → a ≡ trailing x (take 64 (bits 64 w)) → a < 64
+  pub end-exit : (i k p w a : ℕ) → i + k + 1 ≡ n → 64 * i ≤ trailing x (window l (s + 64 * (n - i)) (64 * i)) → bits 64 w ≡ window l p 64 → p ≡ s + 64 * k
+      → a ≡ trailing x (take 64 (bits 64 w)) → a < 64
       → 64 * i + a ≡ trailing x (window l s (64 * n))
   end-exit i k p w a h inv q e u b =
       let here : a ≡ trailing x (window l (s + 64 * k) 64) = u ∙ ap (trailing x) (whole-word w ∙ q ∙ ap (λ (z : ℕ). window l z 64) e) in
@@ -124,7 +123,8 @@ module _ (x : Bool) (l : List Bool) (s n : ℕ) where
       (trailing x (window l (s + 64 * (n - i)) (64 * i))) (64 * i) a 64 refl (length-window l (s + 64 * (n - i)) (64 * i)) inv here (length-window l (s + 64 * k) 64) b
       ∙ ap (trailing x) (sym (end-cut i k h))
 
-  pub end-step : (i k p w a : ℕ) → i + k + 1 ≡ n → 64 * i ≤ trailing x (window l (s + 64 * (n - i)) (64 * i)) → bits 64 w ≡ window l p 64 → p ≡ s + 64 * k → a ≡ trailing x (take 64 (bits 64 w)) → 64 ≤ a
+  pub end-step : (i k p w a : ℕ) → i + k + 1 ≡ n → 64 * i ≤ trailing x (window l (s + 64 * (n - i)) (64 * i)) → bits 64 w ≡ window l p 64 → p ≡ s + 64 * k
+      → a ≡ trailing x (take 64 (bits 64 w)) → 64 ≤ a
       → 64 * (i + 1) ≤ trailing x (window l (s + 64 * (n - (i + 1))) (64 * (i + 1)))
   end-step i k p w a h inv q e u b =
       let m : 64 * (i + 1) ≡ 64 + 64 * i = omega arith in
@@ -141,11 +141,13 @@ module _ (x : Bool) (l : List Bool) (s n : ℕ) where
   end-all i inv h k =
       let e : i ≡ n = omega arith in
       let f : s + 64 * (n - i) ≡ s = omega arith in
-      let all : 64 * i ≡ trailing x (window l (s + 64 * (n - i)) (64 * i)) = omega (arith, trailing-le x (window l (s + 64 * (n - i)) (64 * i)), length-window l (s + 64 * (n - i)) (64 * i)) in
+      let last = window l (s + 64 * (n - i)) (64 * i) in
+      let all : 64 * i ≡ trailing x last = omega (arith, trailing-le x last, length-window l (s + 64 * (n - i)) (64 * i)) in
       ap (λ (m : ℕ). 64 * m) (sym e) ∙ all ∙ ap₂ (λ (y m : ℕ). trailing x (window l y (64 * m))) f e
 
 -- the ones of a span that fits a word
-pub short-count : (bytes : List ℕ) (start n x r c : ℕ) → start % 8 + n ≤ 64 → bits 64 x ≡ window (flagsOf bytes) (8 * (start / 8)) 64 → bits 64 r ≡ window (bits 64 x) (start % 8) 64
+pub short-count : (bytes : List ℕ) (start n x r c : ℕ) → start % 8 + n ≤ 64 → bits 64 x ≡ window (flagsOf bytes) (8 * (start / 8)) 64
+    → bits 64 r ≡ window (bits 64 x) (start % 8) 64
     → c ≡ count (take n (bits 64 r)) → c ≡ count (window (flagsOf bytes) start n)
 short-count bytes start n x r c h p q e =
     let at : 8 * (start / 8) + (start % 8 + 0) ≡ start = omega arith in

@@ -17,6 +17,7 @@ use Rattle.masks.specs.Frozen.{packed, overFrom}
 use Rattle.masks.specs.declared.builder.BitmapBuilder.{BitmapBuilder}
 use Rattle.masks.proofs.AppendLaws.{Parts, appended-grown, length-progress, no-count, no-bytes}
 use Rattle.masks.proofs.FrozenLaws.{Small, overFrom-none, written-bytes}
+use Rattle.masks.proofs.PartLaws.{length-low}
 
 -- ---- windows of two lists in a row
 
@@ -39,9 +40,6 @@ window-padded p t n = window-ext (p ++ window t 0 n) (p ++ t) 0 0 n (λ j h. ⊎
     (lt-or-le (0 + j) (length p)))
 
 -- ---- the word with the new flags
-
-pub length-low : (k w : ℕ) → k ≤ 64 → length (take k (bits 64 w)) ≡ k
-length-low k w h = length-take-le k (bits 64 w) (omega (arith, length-bits 64 w))
 
 module _ (b : BitmapBuilder) (bytes : List ℕ) (word v low k : ℕ) (few : k ≤ 64) (flags : bits 64 v ≡ window (take k (bits 64 word)) 0 64)
     (merged : bits 64 low ≡ window (take (b .length % 64) (bits 64 (b .word)) ++ bits 64 v) 0 64) where

@@ -21,7 +21,7 @@ use Rattle.masks.specs.Mask.{maskChecks, countValid}
 use Rattle.masks.specs.declared.bitmap.Bitmap.{Bitmap}
 use Rattle.masks.specs.declared.builder.BitmapBuilder.{BitmapBuilder}
 use Rattle.masks.proofs.AppendLaws.{Parts, grown, appended-grown, parts-of, parts-long, progress-of, word-back, length-progress}
-use Rattle.masks.proofs.CheckLaws.{and-left, and-right, head-passed, tail-passed, both-left, span-allowed}
+use Rattle.masks.proofs.CheckLaws.{and-left, and-right, first-allowed, rest-allowed, both-left, span-allowed}
 use Rattle.masks.proofs.FrozenLaws.{flags-packed, length-overFrom, flags-overFrom}
 
 -- ---- what the checks give
@@ -29,21 +29,21 @@ use Rattle.masks.proofs.FrozenLaws.{flags-packed, length-overFrom, flag
 pub room-of : (b : BitmapBuilder) (n size : ℕ) → firstFailed (builderChecks b (b .length + n) size) ≡ 0 → Room b n size
 unfolding builderChecks possible outputChecks
 room-of b n size e =
-    let two = tail-passed (withinLimit (b .length)) (withinLimit (b .length + n) ∷ check 4 (possible b size) ∷ outputChecks (b .length + n) size) e in
-    let three = tail-passed (withinLimit (b .length + n)) (check 4 (possible b size) ∷ outputChecks (b .length + n) size) two in
-    let four = tail-passed (check 4 (possible b size)) (outputChecks (b .length + n) size) three in
-    let poss = head-passed 3 (possible b size) (outputChecks (b .length + n) size) three in
+    let two = rest-allowed (withinLimit (b .length)) (withinLimit (b .length + n) ∷ check 4 (possible b size) ∷ outputChecks (b .length + n) size) e in
+    let three = rest-allowed (withinLimit (b .length + n)) (check 4 (possible b size) ∷ outputChecks (b .length + n) size) two in
+    let four = rest-allowed (check 4 (possible b size)) (outputChecks (b .length + n) size) three in
+    let poss = first-allowed 3 (possible b size) (outputChecks (b .length + n) size) three in
     let rest = and-right (noneFrom (b .word) (b .length % 64)) (leb (b .ones) (64 * (b .length / 64)) && leb (8 * (b .length / 64)) size) poss in
     record {
-      short = leb-true (b .length + n) limit (head-passed 0 (leb (b .length + n) limit) (check 4 (possible b size) ∷ outputChecks (b .length + n) size) two);
+      short = leb-true (b .length + n) limit (first-allowed 0 (leb (b .length + n) limit) (check 4 (possible b size) ∷ outputChecks (b .length + n) size) two);
       low = and-left (noneFrom (b .word) (b .length % 64)) (leb (b .ones) (64 * (b .length / 64)) && leb (8 * (b .length / 64)) size) poss;
       few = leb-true (b .ones) (64 * (b .length / 64)) (and-left (leb (b .ones) (64 * (b .length / 64))) (leb (8 * (b .length / 64)) size) rest);
-      holds = leb-true (8 * ((b .length + n + 63) / 64)) size (head-passed 8 (leb (8 * ((b .length + n + 63) / 64)) size) [] four);
+      holds = leb-true (8 * ((b .length + n + 63) / 64)) size (first-allowed 8 (leb (8 * ((b .length + n + 63) / 64)) size) [] four);
     }
 
 pub word-allowed : (w k : ℕ) → firstFailed (withinLimit k ∷ check 6 (leb k 64 && noneFrom w k) ∷ []) ≡ 0 → k ≤ 64
 word-allowed w k e =
-    leb-true k 64 (and-left (leb k 64) (noneFrom w k) (head-passed 5 (leb k 64 && noneFrom w k) [] (tail-passed (withinLimit k) (check 6 (leb k 64 && noneFrom w k) ∷ []) e)))
+    leb-true k 64 (and-left (leb k 64) (noneFrom w k) (first-allowed 5 (leb k 64 && noneFrom w k) [] (rest-allowed (withinLimit k) (check 6 (leb k 64 && noneFrom w k) ∷ []) e)))
 
 pub room-less : (b : BitmapBuilder) (m n size : ℕ) → m ≤ n → Room b n size → Room b m size
 room-less b m n size h r =
@@ -95,10 +95,6 @@ pub size-after : (f g : Filling) (l : List Bool) → g ≡ appended f l → leng
 unfolding appended
 size-after f g l e = ap (λ (x : Filling). length (x .bytes)) e
     ∙ length-overFrom (f .bytes) (8 * (f .builder .length / 64)) (packed (8 * (length (inProgress (f .builder) ++ l) / 64)) (inProgress (f .builder) ++ l))
-
-pub length-after : (f g : Filling) (l : List Bool) → g ≡ appended f l → g .builder .length ≡ f .builder .length + length l
-unfolding appended
-length-after f g l e = ap (λ (x : Filling). x .builder .length) e
 
 -- ---- the flags of the builder, and the count of its finished words
 
@@ -179,6 +175,6 @@ pub inner-allowed : (m : Bitmap) (bytes : List ℕ) (start n : ℕ) → firstFai
 unfolding maskChecks innerChecks
 inner-allowed m bytes start n e p =
     let span = span-allowed (m .start) (m .length) (length bytes) (both-left (spanChecks (m .start) (m .length) (length bytes)) (check 3 (countValid m bytes) ∷ []) e) in
-    let two = tail-passed (withinLimit start) (withinLimit n ∷ check 6 (leb (start + n) (m .length)) ∷ []) p in
-    let three = tail-passed (withinLimit n) (check 6 (leb (start + n) (m .length)) ∷ []) two in
-    record { starts = span .starts; short = span .short; inside = leb-true (start + n) (m .length) (head-passed 5 (leb (start + n) (m .length)) [] three) }
+    let two = rest-allowed (withinLimit start) (withinLimit n ∷ check 6 (leb (start + n) (m .length)) ∷ []) p in
+    let three = rest-allowed (withinLimit n) (check 6 (leb (start + n) (m .length)) ∷ []) two in
+    record { starts = span .starts; short = span .short; inside = leb-true (start + n) (m .length) (first-allowed 5 (leb (start + n) (m .length)) [] three) }

@@ -22,7 +22,8 @@ use Rattle.masks.specs.declared.bitmap.Bitmap.{Bitmap}
 use Rattle.masks.specs.declared.slice_iterator.Run.{Run}
 use Rattle.masks.specs.declared.slice_iterator.SlicesIterator.{SlicesIterator}
 use Rattle.masks.proofs.CheckLaws.{both-left, is-given}
-use Rattle.masks.proofs.Listing.{Moves, gives, ends, lists, place-accepted, place-again}
+use Rattle.masks.proofs.CursorLaws.{over-mask}
+use Rattle.masks.proofs.Listing.{Moves, gives, ends, lists, place-again}
 use Rattle.masks.proofs.SpanLaws.{not-both}
 use Rattle.masks.proofs.RunsPlain.{FirstRun, first-run, no-ones, next-lists, none-left, behind, a-run-first}
 
@@ -160,10 +161,5 @@ lists-runs bytes c ok k h = lists (answer-of bytes) (left-of bytes) (accepted by
 -- So a new cursor lists all runs of its mask.
 pub new-lists-runs : (m : Bitmap) (bytes : List ℕ) → firstFailed (maskChecks m bytes) ≡ 0
     → listing (λ (d : SlicesIterator). nextSlice d bytes) (suc (m .length)) (slicesAt (m .start) (m .length) 0) ≡ runsFrom 0 (maskFlags m bytes)
-unfolding maskChecks cursorChecks
 new-lists-runs m bytes e =
-    let span : firstFailed (spanChecks (m .start) (m .length) (length bytes)) ≡ 0 =
-    both-left (spanChecks (m .start) (m .length) (length bytes)) (check 3 (countValid m bytes) ∷ []) e in
-    let ok : accepted bytes (slicesAt (m .start) (m .length) 0) =
-    place-accepted (spanChecks (m .start) (m .length) (length bytes)) 0 (m .length) span (omega arith) in
-    lists-runs bytes (slicesAt (m .start) (m .length) 0) ok (suc (m .length)) (omega arith) ∙ from-first (maskFlags m bytes)
+    lists-runs bytes (slicesAt (m .start) (m .length) 0) (over-mask m bytes 0 e (omega arith)) (suc (m .length)) (omega arith) ∙ from-first (maskFlags m bytes)

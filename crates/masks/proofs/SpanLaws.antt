@@ -6,8 +6,7 @@ use Prim.Native.Nat.{ℕ, _+_, _-_, _*_, _^_, _≤_, _<_}
 use native.Mathlib.Omega.{arith}
 use lib.ListN.{length, take, drop}
 use Rattle.words.specs.Flags.{bits, flagsOf, window, wordOf}
-use Rattle.words.proofs.Bytes.{flags-drop, mid-from}
-use Rattle.words.proofs.Windows.{in-window, length-window, window-drop, window-take, word-value}
+use Rattle.words.proofs.Windows.{in-window, length-window, window-take, word-value}
 
 -- the first k flags of a word that was read from a flag on
 pub low-value : (l : List Bool) (bit k w r : ℕ) → r < 2 ^ 64 → k ≤ 64 → bits 64 w ≡ window l bit 64 → bits 64 r ≡ window (take k (bits 64 w)) 0 64 → r ≡ wordOf (window l bit k)
@@ -20,13 +19,6 @@ pub inner-value : (l : List Bool) (bit s k w v r : ℕ) → r < 2 ^ 64 → s + k
     → bits 64 r ≡ window (take k (bits 64 v)) 0 64 → r ≡ wordOf (window l (bit + s) k)
 inner-value l bit s k w v r b h p q e =
     low-value (bits 64 w) s k v r b (omega arith) q e ∙ ap wordOf (ap (λ (t : List Bool). window t s k) p ∙ in-window l bit 64 s k h)
-
--- a word loaded from the part of the bytes from `at` on
-pub load-from : (bytes : List ℕ) (at r : ℕ) → bits 64 r ≡ window (flagsOf (take (length bytes - at) (drop at bytes))) 0 64 → bits 64 r ≡ window (flagsOf bytes) (8 * at) 64
-load-from bytes at r p =
-    let z : 8 * at + 0 ≡ 8 * at = omega arith in
-    p ∙ ap (λ (l : List Bool). window l 0 64) (ap flagsOf (mid-from at bytes) ∙ flags-drop at bytes)
-    ∙ window-drop (flagsOf bytes) (8 * at) 0 64 ∙ ap (λ (x : ℕ). window (flagsOf bytes) x 64) z
 
 -- a flag is not both
 pub not-both : {x : Bool} → x ≡ true → x ≡ false → ⊥

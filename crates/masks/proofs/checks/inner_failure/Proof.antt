@@ -1,5 +1,5 @@
 use Rattle.masks.specs.Appends.{innerChecks}
-use Rattle.masks.proofs.CheckLaws.{more-check, one-check}
+use Rattle.masks.proofs.CheckLaws.{check-before, one-check}
 use borrow.Author.Needs.{needs}
 use Rattle.masks.proofs.checks.inner_failure.Statement.{statement}
 use Rattle.masks.proofs.checks.inner_failure.Tie as tie
@@ -34,8 +34,8 @@ returns c =
     let three = c .before .before in
     let two = three .before .before in
     let one = two .before .before in
-    more-check _ _ _ _ _ _ _ (c .earlier2 .ensures) (one .failed .ensures) (one .before .within-limit .ensures)
-    (more-check _ _ _ _ _ _ _ (c .before .earlier .ensures) (two .failed2 .ensures) (two .before .within-limit2 .ensures)
+    check-before _ _ _ _ _ _ _ (c .earlier2 .ensures) (one .failed .ensures) (one .before .within-limit .ensures)
+    (check-before _ _ _ _ _ _ _ (c .before .earlier .ensures) (two .failed2 .ensures) (two .before .within-limit2 .ensures)
     (one-check _ _ _ _ (three .failed3 .ensures) (three .before .sum-at-most .ensures)))
 
 pub inner-failure-spec : {M : Type 1} → statement M

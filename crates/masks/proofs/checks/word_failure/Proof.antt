@@ -1,7 +1,7 @@
 use mathlib.Core.Path.{ap, _∙_}
 use mathlib.Core.Bool.{Bool, _&&_}
 use lib.Dec.{leb}
-use Rattle.masks.proofs.CheckLaws.{more-check, one-check}
+use Rattle.masks.proofs.CheckLaws.{check-before, one-check}
 use borrow.Author.Needs.{needs}
 use Rattle.masks.proofs.checks.word_failure.Statement.{statement}
 use Rattle.masks.proofs.checks.word_failure.Tie as tie
@@ -27,7 +27,7 @@ earlier-requires c κs = search needs
 returns : tie.Need-returns
 returns c =
     let one = c .before .before .before .before in
-    more-check _ _ _ _ _ _ _ (c .earlier .ensures) (one .failed .ensures) (one .before .within-limit .ensures)
+    check-before _ _ _ _ _ _ _ (c .earlier .ensures) (one .failed .ensures) (one .before .within-limit .ensures)
     (one-check _ _ _ _ (c .before .failed2 .ensures)
     (c .before .before .both .ensures ∙ ap (λ (t : Bool). leb (one .before .before .args .k) 64 && t) (c .before .before .before .none-from .ensures)))
 

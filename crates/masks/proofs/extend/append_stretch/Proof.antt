@@ -4,7 +4,7 @@ use native.Mathlib.Omega.{arith}
 use Rattle.words.proofs.Windows.{length-window}
 use Rattle.masks.specs.Builder.{appended}
 use Rattle.masks.proofs.ExtendLaws.{append-three, window-three, stretch-front}
-use Rattle.masks.proofs.PushLaws.{length-low}
+use Rattle.masks.proofs.PartLaws.{length-low}
 use Rattle.masks.proofs.RoomLaws.{room-less, room-then, length-then}
 use borrow.Author.Needs.{needs}
 use Rattle.masks.proofs.extend.append_stretch.Statement.{statement}
