@@ -101,7 +101,8 @@ module _ {M : Type 1} (𝓤 : URA M) (H : Heap 𝓤) (A : Atoms 𝓤) (W : Given
   abbrev to-change : PushChange 𝓤 H A at-mem run .Ghost
   to-change = (((κ′, tt), (q′, tt), tt, (h, (buf, (flag, tt))), (recordVal h ∷ [], (s ∷ [], (vbool flag ∷ [], tt)))), tt)
 
-  goes : Is T.the-row h (recordVal h ∷ []) → ent 𝓤 (sep 𝓤 (sep 𝓤 (A .lft κ′ q′) (sem 𝓤 H A ftrue)) (sem 𝓤 H A (MutSlice (named 1) κ′ u8 .own buf (s ∷ [])))) (PushChange 𝓤 H A at-mem run .pre to-change)
+  goes : Is T.the-row h (recordVal h ∷ [])
+      → ent 𝓤 (sep 𝓤 (sep 𝓤 (A .lft κ′ q′) (sem 𝓤 H A ftrue)) (sem 𝓤 H A (MutSlice (named 1) κ′ u8 .own buf (s ∷ [])))) (PushChange 𝓤 H A at-mem run .pre to-change)
   goes was =
       qed W ((‵ (flft κ′ q′) ⊛ ‵ ftrue) ∷ ‵ (MutSlice (named 1) κ′ u8 .own buf (s ∷ [])) ∷ []) ∵
       nothing ! $ owned ! bool (Is bool) (bool-makes 𝓤 H A W) flag _ refl $ fjoin ! $ move ! (2 ∷ 0 ∷ []) $ fjoin ! $
@@ -112,10 +113,12 @@ module _ {M : Type 1} (𝓤 : URA M) (H : Heap 𝓤) (A : Atoms 𝓤) (W : Given
   exits k h′ zs answered written l is =
       qed W (‵ (fobs γ (T.the-row .coded .code h′)) ∷ ‵ (fbor κ (Body (mem T.the-row) b o γ)) ∷ ‵ (flft κ q) ∷ (‵ (flft κ′ q′) ⊛ ‵ ftrue) ∷ ‵ (finally u8 γ′ zs) ∷ []) ∵
       suffices ! _ (ends-at 𝓤 H A push-mut.ended stayed (push-mut.clauses 𝓤 H A at-mem run) W (((κ, (κ′, tt)), (q, (q′, tt)), tt, a, vals), tt) (vint w8 k) k (h′, (zs, (tt, tt))) (tt, (l, (tt, tt)))) $
-      suffices ! _ (assoc∗ 𝓤 (onExit 𝓤 H A push-mut.ended stayed (κ, (κ′, tt)) (q, (q′, tt)) vals (vint w8 k) k a (h′, (zs, (tt, tt)))) (fact 𝓤 (Answered h′ k)) (fact 𝓤 (Written zs))) $ says ! written $ says ! answered $
+      suffices ! _ (assoc∗ 𝓤 (onExit 𝓤 H A push-mut.ended stayed (κ, (κ′, tt)) (q, (q′, tt)) vals (vint w8 k) k a (h′, (zs, (tt, tt)))) (fact 𝓤 (Answered h′ k)) (fact 𝓤 (Written zs))) $
+      says ! written $ says ! answered $
       move ! (2 ∷ 3 ∷ []) $ join ! $ frame ! $
       -- [obs; the borrow; the last list]
-      feqI ! (List Val) (vptr b o ∷ []) (vptr b o ∷ []) refl $ fjoin3 ! $ nothing ! $ owned ! bool (Is bool) (bool-makes 𝓤 H A W) flag _ refl $ fjoin ! $ move ! (2 ∷ 0 ∷ []) $ fjoin ! $ move ! (1 ∷ 0 ∷ []) $ fjoin ! $
+      feqI ! (List Val) (vptr b o ∷ []) (vptr b o ∷ []) refl $ fjoin3 ! $ nothing ! $ owned ! bool (Is bool) (bool-makes 𝓤 H A W) flag _ refl $ fjoin ! $
+      move ! (2 ∷ 0 ∷ []) $ fjoin ! $ move ! (1 ∷ 0 ∷ []) $ fjoin ! $
       owned ! u8 (Is u8) (uint-makes 𝓤 H A W w8) k _ is $ move ! (1 ∷ 0 ∷ []) $ done !
 
   module _ (C : Calls 𝓤 H) (Λ : Loops 𝓤 H) (fm : FmC 𝓤 H (W .laws) C) (known : Triple 𝓤 (C #push-change) (PushChange 𝓤 H A at-mem run)) where
@@ -135,24 +138,33 @@ module _ {M : Type 1} (𝓤 : URA M) (H : Heap 𝓤) (A : Atoms 𝓤) (W : Given
         -- the call: [what buf owns; what flag owns; the record's cell; what the record owns; the open borrow; obs; auth; buf's token; _7; …]
         move ! (6 ∷ []) $ fsplit ! $ move ! (7 ∷ 0 ∷ []) $ use2 W (raw (PushChange 𝓤 H A at-mem run .pre to-change)) (goes was) $
         calls-at ! fm (PushChange 𝓤 H A at-mem run) known to-change (and-then ! (load ! (from ! (stop !)) (look ! 11 refl)) (and-then ! (load ! (from ! (stop !)) (look ! 7 refl)) (and-then ! (load ! (from ! (stop !)) (look ! 15 refl)) (no-more !)))) (λ w.
-        use1 W (later (some (λ (r : Change). ((‵ (flft κ′ q′) ⊛ ‵ ftrue) ⊛ ‵ (N.the-row .own r (w ∷ []))) ⊛ raw (ensured 𝓤 H A push-change.ended (push-change.clauses 𝓤 H A at-mem run) (κ′, tt) (h, (buf, (flag, tt))) tt r)))) (id⊢ 𝓤 _) $ await ! tt $ pick ! (λ r.
-        split ! $ move ! (1 ∷ []) $ use1 W (some (λ (zs : Unit {0} × (List ℕ × (Unit {0} × Unit {0}))). ‵ (lasts push-change.ended (κ′, tt) (h, (buf, (flag, tt))) zs) ⊛ raw (fact 𝓤 (Answered (r .builder) (r .number))) ⊛ raw (fact 𝓤 (Written (zs .1 .0))))) (id⊢ 𝓤 _) $ pick ! (λ zs.
+        use1 W (later (some (λ (r : Change). ((‵ (flft κ′ q′) ⊛ ‵ ftrue) ⊛ ‵ (N.the-row .own r (w ∷ []))) ⊛ raw (ensured 𝓤 H A push-change.ended (push-change.clauses 𝓤 H A at-mem run) (κ′, tt) (h, (buf, (flag, tt))) tt r)))) (id⊢ 𝓤 _) $
+        await ! tt $ pick ! (λ r.
+        split ! $ move ! (1 ∷ []) $
+        use1 W (some (λ (zs : Unit {0} × (List ℕ × (Unit {0} × Unit {0}))). ‵ (lasts push-change.ended (κ′, tt) (h, (buf, (flag, tt))) zs) ⊛ raw (fact 𝓤 (Answered (r .builder) (r .number))) ⊛ raw (fact 𝓤 (Written (zs .1 .0))))) (id⊢ 𝓤 _) $
+        pick ! (λ zs.
         -- [its last values; the two facts; buf's token and what r owns; what flag owns; the record's cell; …]
         split3 ! $ move ! (1 ∷ []) $ heard ! (Answered (r .builder) (r .number)) (λ answered. move ! (1 ∷ []) $ heard ! (Written (zs .1 .0)) (λ written.
-        fsplit ! $ drop ! $ fsplit ! $ fsplit ! $ move ! (1 ∷ []) $ feqL ! (λ l. move ! (2 ∷ []) $ split ! $ move ! (1 ∷ []) $ peeks ! N.the-row (Is N.the-row) (shows 𝓤 H A N.the-row) r (w ∷ []) (λ is.
+        fsplit ! $ drop ! $ fsplit ! $ fsplit ! $ move ! (1 ∷ []) $
+        feqL ! (λ l. move ! (2 ∷ []) $ split ! $ move ! (1 ∷ []) $ peeks ! N.the-row (Is N.the-row) (shows 𝓤 H A N.the-row) r (w ∷ []) (λ is.
         let parts = LL.owed N.the-type N′.the-laws r _ is in
         -- [what r owns; buf's token; buf's last bytes; …; …; the record's cell; what the record owned; the open borrow; obs; auth; _7; …; _6; …; _5; …; room for _4; …; _3; …; _2; …; _1; …; room for _0; …]
-        land ! (from ! (stop !)) (init ! 16 refl (LL.lawful N.the-type N′.the-laws 𝓤 H A W .typed r _ is .0)) $ rewrite ! 16 (λ (u : Val). ‵ (fat fullShare N′.mir l₄ 0 u)) (ap only (LL.tells N.the-type N′.the-laws r _ is)) refl $
+        land ! (from ! (stop !)) (init ! 16 refl (LL.lawful N.the-type N′.the-laws 𝓤 H A W .typed r _ is .0)) $
+        rewrite ! 16 (λ (u : Val). ‵ (fat fullShare N′.mir l₄ 0 u)) (ap only (LL.tells N.the-type N′.the-laws r _ is)) refl $
         assigns ! (of-opd ! (load ! (from ! (fld ! refl (stop !))) (look-in ! 16 (sub ! 0 refl (whole !))))) (from ! (hop ! (look ! 22 refl) (stop !))) (store-raw ! 5 refl (LL.lawful T.the-type T′.the-laws 𝓤 H A W .typed (r .builder) _ (parts .0) .0)) $
         assigns ! (of-opd ! (load ! (from ! (fld ! refl (stop !))) (look-in ! 16 (sub ! 1 refl (whole !))))) (from ! (stop !)) (init ! 24 refl (tt, record { fits = parts .1 .0 .1 })) $
         -- the borrow is closed at the record that came back
-        owned ! T.the-row (Is T.the-row) (LL.makes T.the-type T′.the-plain 𝓤 H A) (r .builder) _ (parts .0) $ move ! (6 ∷ 0 ∷ 8 ∷ 9 ∷ 10 ∷ []) $ closes ! tt T.the-row (r .builder) (recordVal (r .builder) ∷ []) b o $
-        returns ! (look ! 23 refl) $ forget ! 9 refl $ forget ! 11 refl $ forget ! 13 refl $ forget ! 15 refl $ forget ! 17 refl $ forget ! 19 refl $ forget ! 21 refl $ forget ! 23 refl $
-        move ! (23 ∷ 24 ∷ []) $ free1 ! $ move ! (21 ∷ 22 ∷ []) $ free1 ! $ move ! (19 ∷ 20 ∷ []) $ free1 ! $ move ! (17 ∷ 18 ∷ []) $ free1 ! $ move ! (15 ∷ 16 ∷ []) $ free1 ! $ move ! (13 ∷ 14 ∷ []) $ free1 ! $ move ! (11 ∷ 12 ∷ []) $ free1 ! $ move ! (9 ∷ 10 ∷ []) $ free1 ! $ free0 ! $
+        owned ! T.the-row (Is T.the-row) (LL.makes T.the-type T′.the-plain 𝓤 H A) (r .builder) _ (parts .0) $ move ! (6 ∷ 0 ∷ 8 ∷ 9 ∷ 10 ∷ []) $
+        closes ! tt T.the-row (r .builder) (recordVal (r .builder) ∷ []) b o $
+        returns ! (look ! 23 refl) $ forget ! 9 refl $ forget ! 11 refl $ forget ! 13 refl $ forget ! 15 refl $ forget ! 17 refl $ forget ! 19 refl $
+        forget ! 21 refl $ forget ! 23 refl $
+        move ! (23 ∷ 24 ∷ []) $ free1 ! $ move ! (21 ∷ 22 ∷ []) $ free1 ! $ move ! (19 ∷ 20 ∷ []) $ free1 ! $ move ! (17 ∷ 18 ∷ []) $ free1 ! $ move ! (15 ∷ 16 ∷ []) $
+        free1 ! $ move ! (13 ∷ 14 ∷ []) $ free1 ! $ move ! (11 ∷ 12 ∷ []) $ free1 ! $ move ! (9 ∷ 10 ∷ []) $ free1 ! $ free0 ! $
         keep ! (0 ∷ 1 ∷ 2 ∷ 4 ∷ 5 ∷ []) $ by ! (exits (r .number) (r .builder) (zs .1 .0) answered written l (parts .1 .0)))))))))))))))))))
 
 module _ {M : Type 1} (𝓤 : URA M) (H : Heap 𝓤) (A : Atoms 𝓤) (W : Given 𝓤 H A) (at-mem : Memory → SProp 𝓤) (run : Routine → Fun 𝓤) where
-  push-mut-walks : (C : Calls 𝓤 H) (Λ : Loops 𝓤 H) → FmC 𝓤 H (W .laws) C → Triple 𝓤 (C #push-change) (PushChange 𝓤 H A at-mem run) → Walks 𝓤 H A push-mut.ended stayed (WpFn 𝓤 H C Λ code.function) (push-mut.clauses 𝓤 H A at-mem run)
+  push-mut-walks : (C : Calls 𝓤 H) (Λ : Loops 𝓤 H) → FmC 𝓤 H (W .laws) C → Triple 𝓤 (C #push-change) (PushChange 𝓤 H A at-mem run)
+      → Walks 𝓤 H A push-mut.ended stayed (WpFn 𝓤 H C Λ code.function) (push-mut.clauses 𝓤 H A at-mem run)
   push-mut-walks C Λ fm known = walked 𝓤 H A push-mut.ended stayed (push-mut.clauses 𝓤 H A at-mem run) (WpFn 𝓤 H C Λ code.function)
       (λ κs. (ptr-vals, (slice-vals, (bool-vals, tt)))) (λ κs. (mut-tells (named 0) (κs .0) T.the-row, (mut-slice-tells (named 1) (κs .1 .0) u8, (bool-tells, tt))))
       (λ κs qs bounds a _ are. via 𝓤 _ (fst∗ 𝓤 _ (emp 𝓤))
@@ -161,7 +173,8 @@ module _ {M : Type 1} (𝓤 : URA M) (H : Heap 𝓤) (A : Atoms 𝓤) (W : Given
   goes-all : AllGo 𝓤 H A W 2 (push-mut.signature .params) (push-mut.ended .kept) stayed
   goes-all = (goes-ref 𝓤 H A W 2 0 tt (plain (λ _. T.the-row)), (goes-gave-slice 𝓤 H A W 2 1 tt (plain (λ _. u8)), (goes-none 𝓤 H A W 2 (λ _. bool) yes (λ κs x f. refl), tt)))
 
-push-mut-meets : {M : Type 1} (𝓤 : URA M) (H : Heap 𝓤) (A : Atoms 𝓤) → Given 𝓤 H A → (at-mem : Memory → SProp 𝓤) (run : Routine → Fun 𝓤) (𝓣 : Tables 𝓤 H) → Triple 𝓤 (𝓣 .C #push-change) (PushChange 𝓤 H A at-mem run)
+push-mut-meets : {M : Type 1} (𝓤 : URA M) (H : Heap 𝓤) (A : Atoms 𝓤) → Given 𝓤 H A → (at-mem : Memory → SProp 𝓤) (run : Routine → Fun 𝓤) (𝓣 : Tables 𝓤 H)
+    → Triple 𝓤 (𝓣 .C #push-change) (PushChange 𝓤 H A at-mem run)
     → Meets 𝓤 H A push-mut.signature (WpFn 𝓤 H (𝓣 .C) (𝓣 .Λ) code.function) (push-mut.spec 𝓤 H A at-mem run)
 push-mut-meets 𝓤 H A W at-mem run 𝓣 known =
     walk-meets 𝓤 H A push-mut.ended stayed W (goes-all 𝓤 H A W at-mem run) (push-mut.clauses 𝓤 H A at-mem run)
