@@ -1,0 +1,2 @@
+pub mod calls;
+mod ffi;

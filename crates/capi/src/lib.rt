@@ -1,0 +1,13 @@
+// The calls of words, masks and dispatch as functions that C and Rust link. Records cross as numbers, a slice as its pointer and
+// its count of elements; include/poruwhina.h declares them all.
+//
+// Nothing is decided here: each export turns its numbers into the call's records, makes the call, and turns the answer into
+// numbers.
+pub mod builder;
+pub mod combine;
+pub mod cursors;
+pub mod mask;
+mod records;
+pub mod search;
+pub mod spans;
+pub mod words_calls;
