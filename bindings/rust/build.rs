@@ -1,10 +1,24 @@
+//! Finds the static library: in the folder that the environment variable PORUWHINA_LIB names, else where the repository
+//! builds it. Without it the build stops and says how to make it.
+
+use std::env;
+use std::path::PathBuf;
+
 fn main() {
-    println!("cargo:rerun-if-env-changed=PORUWHINA_LIB");
-    let dir = std::env::var("PORUWHINA_LIB").unwrap_or_else(|_| {
-        let here = std::env::var("CARGO_MANIFEST_DIR").unwrap();
-        format!("{here}/../../target/staticlib")
-    });
-    println!("cargo:rustc-link-search=native={dir}");
-    println!("cargo:rustc-link-lib=static=capi");
-    println!("cargo:rerun-if-changed={dir}/libcapi.a");
+    println!("cargo::rerun-if-env-changed=PORUWHINA_LIB");
+    let folder = match env::var_os("PORUWHINA_LIB") {
+        Some(folder) => PathBuf::from(folder),
+        None => PathBuf::from(env::var_os("CARGO_MANIFEST_DIR").expect("cargo sets it")).join("../../target/staticlib"),
+    };
+    let library = folder.join("libcapi.a");
+    println!("cargo::rerun-if-changed={}", library.display());
+    if !library.is_file() {
+        println!(
+            "cargo::error=no {}: run `rt staticlib capi` in the repository, or set PORUWHINA_LIB to the folder that has libcapi.a",
+            library.display()
+        );
+        return;
+    }
+    println!("cargo::rustc-link-search=native={}", folder.display());
+    println!("cargo::rustc-link-lib=static=capi");
 }

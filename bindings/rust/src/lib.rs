@@ -1,2 +1,136 @@
+//! Permission masks: lists of flags, one for each haul truck that an operator may reassign, over a library whose every call is
+//! proved against its contract.
+//!
+//! A [`Bitmap`] is made from bytes, from flags or by a [`BitmapBuilder`], cut, combined with others, counted, searched and
+//! walked; [`may_reassign`] answers for one truck. The names are those of polars-arrow's bitmap module, of which the library is
+//! a port. What a call cannot do it refuses, by a [`Refusal`] with its number and words, and nothing has changed then.
+//!
+//! ```
+//! use poruwhina::{Bitmap, BitmapBuilder, may_reassign};
+//!
+//! // Trucks 0 to 59 and 62 are permitted, 60 and 61 are not.
+//! let mut builder = BitmapBuilder::new();
+//! builder.extend_constant(60, true)?;
+//! builder.push_word_with_len(0b100, 3)?;
+//! let permission = builder.freeze();
+//! assert_eq!(permission.unset_bits(), 2);
+//!
+//! // Truck 62 is revoked.
+//! let revocation: Bitmap = (0..63).map(|truck| truck == 62).collect();
+//! assert!(!may_reassign(Some(&permission), Some(&revocation), 62)?);
+//!
+//! // The trucks of the pit that has numbers 58 to 62.
+//! let allowed = permission.and_not(&revocation)?.sliced(58, 5)?;
+//! assert_eq!(allowed, Bitmap::from([true, true, false, false, false]));
+//! assert!(allowed.slices().eq([(0, 2)]));
+//! # Ok::<(), poruwhina::Refusal>(())
+//! ```
+//!
+//! Flag j of a byte buffer is bit j mod 8 of byte j div 8, least significant bit first, as in the Apache Arrow columnar format.
+//!
+//! # Why safe code cannot break what is proved
+//!
+//! What is proved of a call holds for every record and every slice. What is proved of a mask's whole history (that its flags,
+//! counts, runs, searches and combinations are those of the plain list of flags, however it came about) presumes three things,
+//! and this crate's types see to them:
+//!
+//! - **A record stays with the bytes that it was made for.** Both are private fields of one value, and are read together.
+//! - **Nobody alters the bytes.** A `Bitmap` takes them by value, hands them out as `&[u8]` alone and has no method that writes
+//!   them. Clones and slices share them in an [`Arc`](std::sync::Arc) that is never handed out.
+//! - **A known count is true.** It comes from the library's own answers for these bytes; a caller can neither set it nor reach
+//!   the field. So no mask that is given to a combination has a false one.
+//!
+//! Beside these, what each call needs from its caller:
+//!
+//! - **Outputs and inputs do not overlap.** A result is written to a new `Vec`, a builder's flags to the builder's own, borrowed
+//!   `&mut` for the call.
+//! - **Lengths.** Each length that safe code gives is put to the library's checks; the crate computes sizes only from lengths
+//!   that it has first bounded by [`Bitmap::LIMIT`], so no sum wraps and no size is asked for that is not needed.
+//! - **Threads.** The library has no state of its own: calls read and write the slices lent to them alone. [`Bitmap`] and the
+//!   iterators are `Send` and `Sync` by what they are made of. The one field that changes behind `&self` is the kept count, in
+//!   a [`OnceLock`](std::sync::OnceLock): a thread sees it unset or whole, and every thread would set the same number.
+//! - **`unsafe`** stands in the module [`calls`] alone, which says why each use is sound.
+//!
+//! ```
+//! # use poruwhina::{Bitmap, BitmapBuilder, BitmapIter, SlicesIterator, TrueIdxIter, BitChunks};
+//! fn shared<T: Send + Sync>() {}
+//! shared::<(Bitmap, BitmapBuilder)>();
+//! shared::<(BitmapIter, SlicesIterator, TrueIdxIter, BitChunks)>();
+//! ```
+//!
+//! Bytes that went into a mask are out of reach:
+//!
+//! ```compile_fail,E0382
+//! let mut bytes = vec![0x2D];
+//! let mask = poruwhina::Bitmap::try_new(bytes, 6).unwrap();
+//! bytes[0] = 0xFF;
+//! ```
+//!
+//! and those that it lends cannot be written:
+//!
+//! ```compile_fail,E0594
+//! let mask = poruwhina::Bitmap::try_new(vec![0x2D], 6).unwrap();
+//! mask.as_slice().0[0] = 0xFF;
+//! ```
+//!
+//! A count cannot be stated:
+//!
+//! ```compile_fail,E0616
+//! let mut mask = poruwhina::Bitmap::try_new(vec![0x2D], 6).unwrap();
+//! mask.zeros = 0.into();
+//! ```
+//!
+//! A mask cannot be replaced under an iterator:
+//!
+//! ```compile_fail,E0506
+//! let mut mask = poruwhina::Bitmap::try_new(vec![0x2D], 6).unwrap();
+//! let flags = mask.iter();
+//! mask = poruwhina::Bitmap::new();
+//! flags.count();
+//! ```
+//!
+//! A frozen builder cannot write on in the mask's bytes:
+//!
+//! ```compile_fail,E0382
+//! let mut builder = poruwhina::BitmapBuilder::new();
+//! let mask = builder.freeze();
+//! builder.push(true).unwrap();
+//! ```
+//!
+//! # What is not proved
+//!
+//! The Rust of this crate. It keeps records and bytes, allocates, computes how many bytes so many flags take, subtracts the zeros
+//! from the length for [`Bitmap::set_bits`] and a place from a length for the iterators' `size_hint`, chooses the number of an
+//! operation, and turns answers into `Option`, `Result` and text. It reads and writes no flag by itself.
+//!
+//! # What a call costs
+//!
+//! Every step of an iterator is one call of the library, which checks its cursor anew, rather than a shortcut in Rust that
+//! nothing proves. Measured by `examples/costs.rs` on one x86-64 machine, shared with other work, in nanoseconds:
+//!
+//! | call | cost |
+//! |---|---|
+//! | [`Bitmap::iter`], per flag | 14 |
+//! | [`Bitmap::slices`], per run, half the flags ones at random | 27 |
+//! | [`Bitmap::true_idx_iter`], per position | 17 |
+//! | [`Bitmap::chunks`], per word of 64 flags | 13 |
+//! | [`BitmapBuilder::push`], per flag | 14 |
+//! | [`Bitmap::get`], [`may_reassign`], of 1,000,000 flags | 18, 20 |
+//! | [`Bitmap::sliced`], of 40 flags | 28 |
+//! | [`Bitmap::and`], of 40 and of 1,000,000 flags | 78, 3,800 |
+//!
+//! Whoever goes through many flags takes runs, positions or words where these will do, and appends by spans and words.
+#![deny(unsafe_code, missing_docs)]
+
+mod bitmap;
+mod builder;
 pub mod calls;
-mod ffi;
+mod dispatch;
+mod iterator;
+mod refusal;
+
+pub use bitmap::Bitmap;
+pub use builder::BitmapBuilder;
+pub use dispatch::may_reassign;
+pub use iterator::{BitChunks, BitmapIter, SlicesIterator, TrueIdxIter};
+pub use refusal::Refusal;

@@ -1,8 +1,8 @@
-// The exports of the static library, as crates/capi declares them. tests/declarations.py compares the two.
+//! The exports of the static library, as the crate capi of the repository declares them.
 
-use crate::calls::*;
+use super::*;
 
-extern "C" {
+unsafe extern "C" {
     pub fn pw_load_padded_le_u64(part: *const u8, part_len: usize) -> u64;
     pub fn pw_merge_reversed(current: u64, next: u64, offset: usize) -> u64;
     pub fn pw_nth_set_bit_u64(w: u64, n: u64) -> Position;
@@ -17,16 +17,31 @@ extern "C" {
     pub fn pw_get_u32(bytes: *const u8, bytes_len: usize, start: usize, length: usize, index: usize) -> Number;
     pub fn pw_nth_set_bit_idx(bytes: *const u8, bytes_len: usize, start: usize, length: usize, n: usize, from: usize) -> Position;
     pub fn pw_nth_set_bit_idx_rev(bytes: *const u8, bytes_len: usize, start: usize, length: usize, n: usize, end: usize) -> Position;
-    pub fn pw_may_reassign(permitted: bool, permission: Mask, permission_bytes: *const u8, permission_bytes_len: usize, revoked: bool, revocation: Mask, revocation_bytes: *const u8, revocation_bytes_len: usize, truck: usize) -> Flag;
+    pub fn pw_may_reassign(
+        permitted: bool, permission: Mask, permission_bytes: *const u8, permission_bytes_len: usize, revoked: bool, revocation: Mask,
+        revocation_bytes: *const u8, revocation_bytes_len: usize, truck: usize,
+    ) -> Flag;
     pub fn pw_builder_new() -> Builder;
     pub fn pw_push(builder: Builder, buf: *mut u8, buf_len: usize, flag: bool) -> BuilderAnswer;
     pub fn pw_extend_constant(builder: Builder, buf: *mut u8, buf_len: usize, n: usize, flag: bool) -> BuilderAnswer;
     pub fn pw_push_word_with_len_unchecked(builder: Builder, buf: *mut u8, buf_len: usize, word: u64, n: usize) -> BuilderAnswer;
-    pub fn pw_extend_from_slice(builder: Builder, buf: *mut u8, buf_len: usize, bytes: *const u8, bytes_len: usize, start: usize, n: usize) -> BuilderAnswer;
-    pub fn pw_extend_each_repeated_from_slice_unchecked(builder: Builder, buf: *mut u8, buf_len: usize, bytes: *const u8, bytes_len: usize, start: usize, n: usize, repeats: usize) -> BuilderAnswer;
-    pub fn pw_subslice_extend_from_bitmap(builder: Builder, buf: *mut u8, buf_len: usize, mask: Mask, bytes: *const u8, bytes_len: usize, start: usize, n: usize) -> BuilderAnswer;
-    pub fn pw_gather_extend_from_slice(builder: Builder, buf: *mut u8, buf_len: usize, bytes: *const u8, bytes_len: usize, start: usize, n: usize, idxs: *const u32, idxs_len: usize) -> BuilderAnswer;
-    pub fn pw_opt_gather_extend_from_slice(builder: Builder, buf: *mut u8, buf_len: usize, bytes: *const u8, bytes_len: usize, start: usize, n: usize, idxs: *const u32, idxs_len: usize) -> BuilderAnswer;
+    pub fn pw_extend_from_slice(
+        builder: Builder, buf: *mut u8, buf_len: usize, bytes: *const u8, bytes_len: usize, start: usize, n: usize,
+    ) -> BuilderAnswer;
+    pub fn pw_extend_each_repeated_from_slice_unchecked(
+        builder: Builder, buf: *mut u8, buf_len: usize, bytes: *const u8, bytes_len: usize, start: usize, n: usize, repeats: usize,
+    ) -> BuilderAnswer;
+    pub fn pw_subslice_extend_from_bitmap(
+        builder: Builder, buf: *mut u8, buf_len: usize, mask: Mask, bytes: *const u8, bytes_len: usize, start: usize, n: usize,
+    ) -> BuilderAnswer;
+    pub fn pw_gather_extend_from_slice(
+        builder: Builder, buf: *mut u8, buf_len: usize, bytes: *const u8, bytes_len: usize, start: usize, n: usize, idxs: *const u32,
+        idxs_len: usize,
+    ) -> BuilderAnswer;
+    pub fn pw_opt_gather_extend_from_slice(
+        builder: Builder, buf: *mut u8, buf_len: usize, bytes: *const u8, bytes_len: usize, start: usize, n: usize, idxs: *const u32,
+        idxs_len: usize,
+    ) -> BuilderAnswer;
     pub fn pw_freeze(builder: Builder, buf: *mut u8, buf_len: usize) -> MaskAnswer;
     pub fn pw_into_opt_validity(builder: Builder, buf: *mut u8, buf_len: usize) -> ValidityAnswer;
     pub fn pw_bitmap_new() -> Mask;
@@ -37,10 +52,18 @@ extern "C" {
     pub fn pw_eq(lhs: Mask, left: *const u8, left_len: usize, rhs: Mask, right: *const u8, right_len: usize) -> Flag;
     pub fn pw_num_edges(mask: Mask, bytes: *const u8, bytes_len: usize) -> Number;
     pub fn pw_num_intersections_with(lhs: Mask, left: *const u8, left_len: usize, rhs: Mask, right: *const u8, right_len: usize) -> Number;
-    pub fn pw_combine(op: u8, lhs: Mask, left: *const u8, left_len: usize, rhs: Mask, right: *const u8, right_len: usize, out: *mut u8, out_len: usize) -> MaskAnswer;
+    pub fn pw_combine(
+        op: u8, lhs: Mask, left: *const u8, left_len: usize, rhs: Mask, right: *const u8, right_len: usize, out: *mut u8, out_len: usize,
+    ) -> MaskAnswer;
     pub fn pw_not(mask: Mask, bytes: *const u8, bytes_len: usize, out: *mut u8, out_len: usize) -> MaskAnswer;
-    pub fn pw_select(selector: Mask, by: *const u8, by_len: usize, truthy: Mask, yes: *const u8, yes_len: usize, falsy: Mask, no: *const u8, no_len: usize, out: *mut u8, out_len: usize) -> MaskAnswer;
-    pub fn pw_select_constant(selector: Mask, by: *const u8, by_len: usize, truthy: Mask, yes: *const u8, yes_len: usize, flag: bool, out: *mut u8, out_len: usize) -> MaskAnswer;
+    pub fn pw_select(
+        selector: Mask, by: *const u8, by_len: usize, truthy: Mask, yes: *const u8, yes_len: usize, falsy: Mask, no: *const u8,
+        no_len: usize, out: *mut u8, out_len: usize,
+    ) -> MaskAnswer;
+    pub fn pw_select_constant(
+        selector: Mask, by: *const u8, by_len: usize, truthy: Mask, yes: *const u8, yes_len: usize, flag: bool, out: *mut u8,
+        out_len: usize,
+    ) -> MaskAnswer;
     pub fn pw_slices_new(mask: Mask, bytes: *const u8, bytes_len: usize) -> CursorAnswer;
     pub fn pw_slices_next(cursor: Cursor, bytes: *const u8, bytes_len: usize) -> StepAnswer;
     pub fn pw_iter_new(bytes: *const u8, bytes_len: usize, start: usize, length: usize) -> CursorAnswer;

@@ -1,0 +1,243 @@
+//! The mask that owns its bytes: made, cut, counted and read.
+
+mod combine;
+mod counts;
+mod traits;
+
+use std::sync::{Arc, OnceLock};
+
+use crate::builder::BitmapBuilder;
+use crate::calls;
+use crate::refusal::{Refusal, check, check_passed};
+
+/// A list of flags in shared bytes that nobody alters, with a zero count that is known or not.
+///
+/// Cloning and slicing share the bytes. The zero count is kept once it is known: [`unset_bits`](Bitmap::unset_bits) takes
+/// `&self` and keeps it in a [`OnceLock`], so that a mask can be counted where it is only borrowed, by several threads too.
+/// The count of given bytes is one number, so it does not matter which thread kept it.
+///
+/// Two masks are equal where their lengths and flags are, whatever their bytes and start bits.
+///
+/// ```
+/// use poruwhina::Bitmap;
+///
+/// let permitted = Bitmap::from([true, false, true, true, false, true]);
+/// let pit = permitted.sliced(2, 4)?;
+/// assert_eq!(pit, Bitmap::try_new([0x0B], 4)?);
+/// assert_eq!(pit.unset_bits(), 1);
+/// assert_eq!(format!("{pit:?}"), "Bitmap(len 4, [1, 1, 0, 1])");
+/// # Ok::<(), poruwhina::Refusal>(())
+/// ```
+#[derive(Clone)]
+pub struct Bitmap {
+    bytes: Arc<Vec<u8>>,
+    start: usize,
+    length: usize,
+    zeros: OnceLock<usize>,
+}
+
+/// The bytes that the frozen form of so many flags takes.
+pub(crate) const fn frozen_len(length: usize) -> usize {
+    length.div_ceil(64) * 8
+}
+
+impl Bitmap {
+    /// The most flags that a mask can have, and the last bit at which it can start.
+    ///
+    /// ```
+    /// use poruwhina::{Bitmap, Refusal};
+    ///
+    /// assert!(Bitmap::new_zeroed(Bitmap::LIMIT).is_ok());
+    /// assert_eq!(Bitmap::new_zeroed(Bitmap::LIMIT + 1), Err(Refusal::AboveLimit));
+    /// ```
+    pub const LIMIT: usize = 4_194_304;
+
+    /// The mask of no flags.
+    ///
+    /// ```
+    /// assert!(poruwhina::Bitmap::new().is_empty());
+    /// ```
+    pub fn new() -> Bitmap {
+        Bitmap::from_record(Arc::default(), calls::bitmap_new())
+    }
+
+    /// A mask of so many zeros. Refused with 1 above [`LIMIT`](Bitmap::LIMIT).
+    ///
+    /// ```
+    /// assert_eq!(poruwhina::Bitmap::new_zeroed(70)?.unset_bits(), 70);
+    /// # Ok::<(), poruwhina::Refusal>(())
+    /// ```
+    pub fn new_zeroed(length: usize) -> Result<Bitmap, Refusal> {
+        Bitmap::written(length, |out| calls::new_zeroed(length, out))
+    }
+
+    /// The first `length` flags of the bytes, least significant bit first. Refused with 1 and 2.
+    ///
+    /// A `Vec<u8>` is taken as it is; an array or a slice is copied.
+    ///
+    /// ```
+    /// use poruwhina::{Bitmap, Refusal};
+    ///
+    /// let mask = Bitmap::try_new(vec![0x2D], 6)?;
+    /// assert!(mask.iter().eq([true, false, true, true, false, true]));
+    /// assert_eq!(Bitmap::try_new(vec![0x2D], 9), Err(Refusal::OutsideBytes));
+    /// # Ok::<(), Refusal>(())
+    /// ```
+    pub fn try_new(bytes: impl Into<Vec<u8>>, length: usize) -> Result<Bitmap, Refusal> {
+        Bitmap::try_from_span(bytes, 0, length)
+    }
+
+    /// `length` flags of the bytes from bit `start` on. Refused with 1 and 2.
+    ///
+    /// ```
+    /// use poruwhina::{Bitmap, Refusal};
+    ///
+    /// assert_eq!(Bitmap::try_from_span([0x2D], 2, 4)?, Bitmap::try_new([0x0B], 4)?);
+    /// assert_eq!(Bitmap::try_from_span([0x2D], 2, 7), Err(Refusal::OutsideBytes));
+    /// # Ok::<(), Refusal>(())
+    /// ```
+    pub fn try_from_span(bytes: impl Into<Vec<u8>>, start: usize, length: usize) -> Result<Bitmap, Refusal> {
+        let bytes = bytes.into();
+        let answer = calls::try_new(&bytes, start, length);
+        check(answer.refusal)?;
+        Ok(Bitmap::from_record(Arc::new(bytes), answer.mask))
+    }
+
+    /// The number of flags.
+    ///
+    /// ```
+    /// assert_eq!(poruwhina::Bitmap::from([true, false]).len(), 2);
+    /// ```
+    pub fn len(&self) -> usize {
+        self.length
+    }
+
+    /// Are there no flags.
+    ///
+    /// ```
+    /// assert!(!poruwhina::Bitmap::from([false]).is_empty());
+    /// ```
+    pub fn is_empty(&self) -> bool {
+        self.length == 0
+    }
+
+    /// Flag `i`, or none from the length on.
+    ///
+    /// ```
+    /// let mask = poruwhina::Bitmap::from([true, false]);
+    /// assert_eq!((mask.get(0), mask.get(1), mask.get(2)), (Some(true), Some(false), None));
+    /// ```
+    pub fn get(&self, i: usize) -> Option<bool> {
+        self.iter().nth(i)
+    }
+
+    /// 32 flags from `index` on, the first in the lowest bit, zeros past the end.
+    ///
+    /// ```
+    /// let mask = poruwhina::Bitmap::try_new([0x2D], 6)?;
+    /// assert_eq!((mask.get_u32(2), mask.get_u32(usize::MAX)), (0x0B, 0));
+    /// # Ok::<(), poruwhina::Refusal>(())
+    /// ```
+    pub fn get_u32(&self, index: usize) -> u32 {
+        let answer = calls::get_u32(&self.bytes, self.start, self.length, index);
+        check_passed(answer.refusal);
+        answer.value as u32
+    }
+
+    /// The bytes, the bit at which the first flag stands, and the length.
+    ///
+    /// ```
+    /// let mask = poruwhina::Bitmap::try_new([0x2D, 0xFF], 16)?.sliced(2, 4)?;
+    /// assert_eq!(mask.as_slice(), (&[0x2D, 0xFF][..], 2, 4));
+    /// # Ok::<(), poruwhina::Refusal>(())
+    /// ```
+    pub fn as_slice(&self) -> (&[u8], usize, usize) {
+        (&self.bytes, self.start, self.length)
+    }
+
+    /// The flags from bit 0 on in 8 × ceil(length / 64) bytes, zero past the end: equal for equal masks, and with the length
+    /// different for different ones.
+    ///
+    /// ```
+    /// let mask = poruwhina::Bitmap::try_from_span([0x2D], 2, 4)?;
+    /// assert_eq!(mask.frozen_bytes(), [0x0B, 0, 0, 0, 0, 0, 0, 0]);
+    /// # Ok::<(), poruwhina::Refusal>(())
+    /// ```
+    pub fn frozen_bytes(&self) -> Vec<u8> {
+        let mut builder = BitmapBuilder::new();
+        builder.extend_from_bitmap(self).expect("a mask is at most as long as the limit");
+        Arc::unwrap_or_clone(builder.freeze().bytes)
+    }
+
+    /// The `length` flags from `offset` on, over the same bytes. Refused with 1 and 6.
+    ///
+    /// A known count of 0 or of all stays known; another is recounted where few flags are cut off, and else is forgotten.
+    ///
+    /// ```
+    /// use poruwhina::{Bitmap, Refusal};
+    ///
+    /// let mask = Bitmap::from([true, false, true, true, false, true]);
+    /// assert_eq!(mask.sliced(2, 4)?, Bitmap::from([true, true, false, true]));
+    /// assert_eq!(mask.sliced(2, 5), Err(Refusal::OutsideMask));
+    /// # Ok::<(), Refusal>(())
+    /// ```
+    pub fn sliced(&self, offset: usize, length: usize) -> Result<Bitmap, Refusal> {
+        let answer = calls::slice(self.record(), &self.bytes, offset, length);
+        check(answer.refusal)?;
+        Ok(Bitmap::from_record(Arc::clone(&self.bytes), answer.mask))
+    }
+
+    /// Keeps the `length` flags from `offset` on. Refused as [`sliced`](Bitmap::sliced) is, and then unchanged.
+    ///
+    /// ```
+    /// let mut mask = poruwhina::Bitmap::from([true, false, true]);
+    /// assert!(mask.slice(2, 2).is_err());
+    /// assert_eq!(mask.len(), 3);
+    /// mask.slice(2, 1)?;
+    /// assert_eq!(mask.get(0), Some(true));
+    /// # Ok::<(), poruwhina::Refusal>(())
+    /// ```
+    pub fn slice(&mut self, offset: usize, length: usize) -> Result<(), Refusal> {
+        *self = self.sliced(offset, length)?;
+        Ok(())
+    }
+
+    /// The flags before flag `at` and those from it on. Refused with 1 and 6.
+    ///
+    /// ```
+    /// use poruwhina::Bitmap;
+    ///
+    /// let (first, second) = Bitmap::from([true, false, true]).split_at(1)?;
+    /// assert_eq!((first, second), (Bitmap::from([true]), Bitmap::from([false, true])));
+    /// # Ok::<(), poruwhina::Refusal>(())
+    /// ```
+    pub fn split_at(&self, at: usize) -> Result<(Bitmap, Bitmap), Refusal> {
+        let first = self.sliced(0, at)?;
+        let second = self.sliced(at, self.length - at)?;
+        Ok((first, second))
+    }
+
+    /// A mask in bytes of its own, room for `length` flags, which `call` writes.
+    pub(crate) fn written(length: usize, call: impl FnOnce(&mut [u8]) -> calls::MaskAnswer) -> Result<Bitmap, Refusal> {
+        let mut bytes = vec![0; frozen_len(length.min(Bitmap::LIMIT))];
+        let answer = call(&mut bytes);
+        check(answer.refusal)?;
+        Ok(Bitmap::from_record(Arc::new(bytes), answer.mask))
+    }
+
+    /// The mask of a record that the library gave for these bytes.
+    pub(crate) fn from_record(bytes: Arc<Vec<u8>>, mask: calls::Mask) -> Bitmap {
+        let zeros = if mask.known == 0 { OnceLock::new() } else { OnceLock::from(mask.zeros) };
+        Bitmap { bytes, start: mask.start, length: mask.length, zeros }
+    }
+
+    /// The record for the library, to be used with `bytes` alone.
+    pub(crate) fn record(&self) -> calls::Mask {
+        let zeros = self.lazy_unset_bits();
+        calls::Mask { start: self.start, length: self.length, zeros: zeros.unwrap_or(0), known: u8::from(zeros.is_some()) }
+    }
+
+    pub(crate) fn bytes(&self) -> &[u8] {
+        &self.bytes
+    }
+}

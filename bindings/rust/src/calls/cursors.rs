@@ -1,0 +1,116 @@
+//! The cursors over runs, flags and positions.
+
+use super::exports;
+use super::records::*;
+
+/// A cursor before the first run of ones.
+///
+/// ```
+/// use poruwhina::calls::{slices_new, try_new};
+///
+/// let mask = try_new(&[0x2D], 0, 6).mask;
+/// assert_eq!(slices_new(mask, &[0x2D]).cursor.length, 6);
+/// assert_eq!(slices_new(mask, &[]).refusal, 2);
+/// ```
+#[inline]
+pub fn slices_new(mask: Mask, bytes: &[u8]) -> CursorAnswer {
+    unsafe { exports::pw_slices_new(mask, bytes.as_ptr(), bytes.len()) }
+}
+
+/// The next run of ones: its start in `value` and its length in `count`.
+///
+/// ```
+/// use poruwhina::calls::{slices_new, slices_next, try_new};
+///
+/// let bytes = [0x2D];
+/// let first = slices_next(slices_new(try_new(&bytes, 0, 6).mask, &bytes).cursor, &bytes);
+/// let second = slices_next(first.cursor, &bytes);
+/// assert_eq!((first.value, first.count), (0, 1));
+/// assert_eq!((second.value, second.count), (2, 2));
+/// ```
+#[inline]
+pub fn slices_next(cursor: Cursor, bytes: &[u8]) -> StepAnswer {
+    unsafe { exports::pw_slices_next(cursor, bytes.as_ptr(), bytes.len()) }
+}
+
+/// A cursor before the first flag of a span.
+///
+/// ```
+/// use poruwhina::calls::iter_new;
+///
+/// assert_eq!(iter_new(&[0x2D], 2, 4).cursor.start, 2);
+/// // No flags: the answer comes before any check.
+/// assert_eq!(iter_new(&[], usize::MAX, 0).cursor.start, 0);
+/// ```
+#[inline]
+pub fn iter_new(bytes: &[u8], start: usize, length: usize) -> CursorAnswer {
+    unsafe { exports::pw_iter_new(bytes.as_ptr(), bytes.len(), start, length) }
+}
+
+/// The next flag, 0 or 1 in `value`.
+///
+/// ```
+/// use poruwhina::calls::{iter_new, iter_next};
+///
+/// let step = iter_next(iter_new(&[0x2D], 0, 6).cursor, &[0x2D]);
+/// assert_eq!((step.found, step.value, step.cursor.place), (true, 1, 1));
+/// ```
+#[inline]
+pub fn iter_next(cursor: Cursor, bytes: &[u8]) -> StepAnswer {
+    unsafe { exports::pw_iter_next(cursor, bytes.as_ptr(), bytes.len()) }
+}
+
+/// The flag n places on.
+///
+/// ```
+/// use poruwhina::calls::{iter_new, iter_nth};
+///
+/// let cursor = iter_new(&[0x2D], 0, 6).cursor;
+/// assert_eq!(iter_nth(cursor, &[0x2D], 4).value, 0);
+/// assert!(!iter_nth(cursor, &[0x2D], usize::MAX).found);
+/// ```
+#[inline]
+pub fn iter_nth(cursor: Cursor, bytes: &[u8], n: usize) -> StepAnswer {
+    unsafe { exports::pw_iter_nth(cursor, bytes.as_ptr(), bytes.len(), n) }
+}
+
+/// In `count`, how many flags that equal `flag` stand next; the cursor moves past them.
+///
+/// ```
+/// use poruwhina::calls::{iter_new, take_leading};
+///
+/// let taken = take_leading(true, iter_new(&[0x07], 0, 6).cursor, &[0x07]);
+/// assert_eq!((taken.count, taken.cursor.place), (3, 3));
+/// assert_eq!(take_leading(false, taken.cursor, &[0x07]).count, 3);
+/// ```
+#[inline]
+pub fn take_leading(flag: bool, cursor: Cursor, bytes: &[u8]) -> StepAnswer {
+    unsafe { exports::pw_take_leading(flag, cursor, bytes.as_ptr(), bytes.len()) }
+}
+
+/// A cursor before the first position. Without a mask (`present` is false) every position is given.
+///
+/// ```
+/// use poruwhina::calls::{bitmap_new, true_idx_new};
+///
+/// assert_eq!(true_idx_new(3, false, bitmap_new(), &[]).cursor.masked, 0);
+/// assert_eq!(true_idx_new(3, true, bitmap_new(), &[]).refusal, 5);
+/// ```
+#[inline]
+pub fn true_idx_new(length: usize, present: bool, mask: Mask, bytes: &[u8]) -> CursorAnswer {
+    unsafe { exports::pw_true_idx_new(length, present, mask, bytes.as_ptr(), bytes.len()) }
+}
+
+/// The next position of a one.
+///
+/// ```
+/// use poruwhina::calls::{true_idx_new, true_idx_next, try_new};
+///
+/// let mask = try_new(&[0x2C], 0, 6).mask;
+/// let step = true_idx_next(true_idx_new(6, true, mask, &[0x2C]).cursor, &[0x2C]);
+/// assert_eq!((step.found, step.value), (true, 2));
+/// ```
+#[inline]
+pub fn true_idx_next(cursor: Cursor, bytes: &[u8]) -> StepAnswer {
+    unsafe { exports::pw_true_idx_next(cursor, bytes.as_ptr(), bytes.len()) }
+}

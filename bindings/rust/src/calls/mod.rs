@@ -1,0 +1,42 @@
+//! The calls of the library one by one, over plain records and lent bytes: the layer below [`Bitmap`](crate::Bitmap).
+//!
+//! Every call is total. Any record, a damaged one too, and any bytes get an answer, or in the field `refusal` the number of
+//! the first check that fails ([`Refusal`](crate::Refusal) has the words; 0 says that none did), and after a refusal no lent
+//! byte has changed. So these functions are safe, whatever the numbers are. What they do not do is keep a record and its bytes
+//! together, which is the caller's part here and that of the types above elsewhere: a mask whose known count is false for the
+//! bytes it is given with gets the answer that the library's definitions give for that count.
+//!
+//! This is the one module with `unsafe`. Each use is a call of an export, and the argument is the same for all: an export is
+//! proved to return on every input, reading and writing nothing but the slices lent to it. A slice crosses as its pointer and
+//! its count of elements, which a Rust reference makes valid for the time of the call, and exclusive where it is `&mut`; an
+//! empty slice has a pointer that is not null and not read. All else crosses by value. A `bool` that comes back is 0 or 1, as
+//! the C interface has it.
+//!
+//! ```
+//! use poruwhina::calls;
+//!
+//! let bytes = [0x2D];
+//! let mask = calls::try_new(&bytes, 0, 6).mask;
+//! let counted = calls::unset_bits(mask, &bytes);
+//! assert_eq!((counted.refusal, counted.zeros), (0, 2));
+//!
+//! // A record that does not fit its bytes is told apart by a number.
+//! let damaged = calls::Mask { length: 9, ..mask };
+//! assert_eq!(calls::unset_bits(damaged, &bytes).refusal, 2);
+//! ```
+#![allow(unsafe_code, clippy::too_many_arguments)]
+
+mod builder;
+mod cursors;
+mod exports;
+mod mask;
+mod records;
+mod spans;
+mod words;
+
+pub use builder::*;
+pub use cursors::*;
+pub use mask::*;
+pub use records::*;
+pub use spans::*;
+pub use words::*;

@@ -1,0 +1,271 @@
+//! The records that cross. In each answer `refusal` is the number of the first check that failed, or 0. On refusal a record in
+//! the answer is the one that the call got, where it got one of that kind; every other field is 0.
+
+/// A mask: a span of its bytes and its zero count. The count is read where `known` is not 0; an unknown one is given as 0.
+///
+/// ```
+/// use poruwhina::calls::{try_new, Mask};
+///
+/// assert_eq!(try_new(&[0x2D], 2, 4).mask, Mask { start: 2, length: 4, zeros: 0, known: 0 });
+/// ```
+#[repr(C)]
+#[derive(Clone, Copy, Debug, PartialEq, Eq, Default)]
+pub struct Mask {
+    /// The bit of its bytes at which its first flag stands.
+    pub start: usize,
+    /// The number of its flags.
+    pub length: usize,
+    /// The number of its zeros, where known.
+    pub zeros: usize,
+    /// Not 0 where the zeros are known.
+    pub known: u8,
+}
+
+/// A builder: its length, the word in progress and the ones in the finished words.
+///
+/// ```
+/// use poruwhina::calls::{builder_new, extend_constant, Builder};
+///
+/// let longer = extend_constant(builder_new(), &mut [0; 16], 66, true).builder;
+/// assert_eq!(longer, Builder { length: 66, word: 0b11, ones: 64 });
+/// ```
+#[repr(C)]
+#[derive(Clone, Copy, Debug, PartialEq, Eq, Default)]
+pub struct Builder {
+    /// The number of its flags.
+    pub length: usize,
+    /// The flags behind the last finished word, zero above.
+    pub word: u64,
+    /// The ones in the finished words.
+    pub ones: usize,
+}
+
+/// A cursor: a span and the next place in it. `masked` is read by [`true_idx_next`](super::true_idx_next) alone, where 0 says
+/// that there is no mask; every other call gives it as 1.
+///
+/// ```
+/// use poruwhina::calls::{iter_next, Cursor};
+///
+/// // A cursor that a caller made up is answered too.
+/// let step = iter_next(Cursor { start: 0, length: 6, place: 7, masked: 1 }, &[0x2D]);
+/// assert_eq!(step.refusal, 6);
+/// ```
+#[repr(C)]
+#[derive(Clone, Copy, Debug, PartialEq, Eq, Default)]
+pub struct Cursor {
+    /// The first bit of its span.
+    pub start: usize,
+    /// The length of its span.
+    pub length: usize,
+    /// The next place, counted in flags, for chunks in words.
+    pub place: usize,
+    /// 0 where there is no mask.
+    pub masked: u8,
+}
+
+/// A number or a refusal.
+///
+/// ```
+/// use poruwhina::calls::{get_u32, Number};
+///
+/// assert_eq!(get_u32(&[0x2D], 0, 9, 0), Number { refusal: 2, value: 0 });
+/// ```
+#[repr(C)]
+#[derive(Clone, Copy, Debug, PartialEq, Eq, Default)]
+pub struct Number {
+    /// The number of the first check that failed, or 0.
+    pub refusal: u8,
+    /// The answer.
+    pub value: usize,
+}
+
+/// A flag or a refusal.
+///
+/// ```
+/// use poruwhina::calls::{bitmap_new, eq, Flag};
+///
+/// assert_eq!(eq(bitmap_new(), &[], bitmap_new(), &[]), Flag { refusal: 0, value: true });
+/// ```
+#[repr(C)]
+#[derive(Clone, Copy, Debug, PartialEq, Eq, Default)]
+pub struct Flag {
+    /// The number of the first check that failed, or 0.
+    pub refusal: u8,
+    /// The answer.
+    pub value: bool,
+}
+
+/// A position, none, or a refusal.
+///
+/// ```
+/// use poruwhina::calls::{nth_set_bit_idx, Position};
+///
+/// assert_eq!(nth_set_bit_idx(&[0x20], 0, 8, 0, 0), Position { refusal: 0, found: true, value: 5 });
+/// ```
+#[repr(C)]
+#[derive(Clone, Copy, Debug, PartialEq, Eq, Default)]
+pub struct Position {
+    /// The number of the first check that failed, or 0.
+    pub refusal: u8,
+    /// Is there such a position.
+    pub found: bool,
+    /// The position.
+    pub value: usize,
+}
+
+/// A mask or a refusal.
+///
+/// ```
+/// use poruwhina::calls::{try_new, Mask, MaskAnswer};
+///
+/// assert_eq!(try_new(&[0x2D], 2, 7), MaskAnswer { refusal: 2, mask: Mask::default() });
+/// ```
+#[repr(C)]
+#[derive(Clone, Copy, Debug, PartialEq, Eq, Default)]
+pub struct MaskAnswer {
+    /// The number of the first check that failed, or 0.
+    pub refusal: u8,
+    /// The mask.
+    pub mask: Mask,
+}
+
+/// A mask, none where all flags are set, or a refusal.
+///
+/// ```
+/// use poruwhina::calls::{builder_new, into_opt_validity, ValidityAnswer};
+///
+/// assert_eq!(into_opt_validity(builder_new(), &mut []), ValidityAnswer::default());
+/// ```
+#[repr(C)]
+#[derive(Clone, Copy, Debug, PartialEq, Eq, Default)]
+pub struct ValidityAnswer {
+    /// The number of the first check that failed, or 0.
+    pub refusal: u8,
+    /// Is there a mask, so a zero among the flags.
+    pub present: bool,
+    /// The mask.
+    pub mask: Mask,
+}
+
+/// The zeros of a mask and the mask with its count known, or a refusal.
+///
+/// ```
+/// use poruwhina::calls::{try_new, unset_bits, Mask, ZerosAnswer};
+///
+/// let mask = Mask { start: 0, length: 6, zeros: 2, known: 1 };
+/// assert_eq!(unset_bits(try_new(&[0x2D], 0, 6).mask, &[0x2D]), ZerosAnswer { refusal: 0, zeros: 2, mask });
+/// ```
+#[repr(C)]
+#[derive(Clone, Copy, Debug, PartialEq, Eq, Default)]
+pub struct ZerosAnswer {
+    /// The number of the first check that failed, or 0.
+    pub refusal: u8,
+    /// How many flags are 0.
+    pub zeros: usize,
+    /// The mask with its count known.
+    pub mask: Mask,
+}
+
+/// The builder after a call, or a refusal and the builder as it came.
+///
+/// ```
+/// use poruwhina::calls::{builder_new, push, BuilderAnswer};
+///
+/// assert_eq!(push(builder_new(), &mut [], true), BuilderAnswer { refusal: 9, builder: builder_new() });
+/// ```
+#[repr(C)]
+#[derive(Clone, Copy, Debug, PartialEq, Eq, Default)]
+pub struct BuilderAnswer {
+    /// The number of the first check that failed, or 0.
+    pub refusal: u8,
+    /// The builder.
+    pub builder: Builder,
+}
+
+/// A new cursor or a refusal.
+///
+/// ```
+/// use poruwhina::calls::{chunks_new, Cursor, CursorAnswer};
+///
+/// assert_eq!(chunks_new(&[], 0, 1), CursorAnswer { refusal: 2, cursor: Cursor::default() });
+/// ```
+#[repr(C)]
+#[derive(Clone, Copy, Debug, PartialEq, Eq, Default)]
+pub struct CursorAnswer {
+    /// The number of the first check that failed, or 0.
+    pub refusal: u8,
+    /// The cursor.
+    pub cursor: Cursor,
+}
+
+/// What a cursor gives and the cursor behind it, or a refusal and the cursor as it came. `value` is a word, a run's start, a
+/// flag or a position; `count` is a run's length, the flags of a remainder or the flags taken.
+///
+/// ```
+/// use poruwhina::calls::{iter_next, Cursor, StepAnswer};
+///
+/// let end = Cursor { start: 0, length: 6, place: 6, masked: 1 };
+/// assert_eq!(iter_next(end, &[0x2D]), StepAnswer { refusal: 0, found: false, value: 0, count: 0, cursor: end });
+/// ```
+#[repr(C)]
+#[derive(Clone, Copy, Debug, PartialEq, Eq, Default)]
+pub struct StepAnswer {
+    /// The number of the first check that failed, or 0.
+    pub refusal: u8,
+    /// Is there an answer, or has the cursor come to its end.
+    pub found: bool,
+    /// A word, a run's start, a flag or a position.
+    pub value: u64,
+    /// A run's length, the flags of a remainder or the flags taken.
+    pub count: usize,
+    /// The cursor just past what it gave.
+    pub cursor: Cursor,
+}
+
+/// The parts of an aligned split, or a refusal.
+///
+/// ```
+/// // A span that fits one word is all prefix.
+/// let split = poruwhina::calls::aligned_new(&[0x2D], 0, 6, 0);
+/// assert_eq!((split.prefix, split.prefix_len, split.bulk_len, split.suffix_len), (0x2D, 6, 0, 0));
+/// ```
+#[repr(C)]
+#[derive(Clone, Copy, Debug, PartialEq, Eq, Default)]
+pub struct SplitAnswer {
+    /// The number of the first check that failed, or 0.
+    pub refusal: u8,
+    /// The flags before the whole words.
+    pub prefix: u64,
+    /// How many flags the prefix has.
+    pub prefix_len: usize,
+    /// The first byte of the whole words.
+    pub bulk_start: usize,
+    /// The number of whole words.
+    pub bulk_len: usize,
+    /// The flags behind the whole words.
+    pub suffix: u64,
+    /// How many flags the suffix has.
+    pub suffix_len: usize,
+}
+
+/// Two spans, or a refusal.
+///
+/// ```
+/// use poruwhina::calls::{split_at_unchecked, SpansAnswer};
+///
+/// assert_eq!(split_at_unchecked(&[0x2D], 0, 6, 7), SpansAnswer { refusal: 6, ..SpansAnswer::default() });
+/// ```
+#[repr(C)]
+#[derive(Clone, Copy, Debug, PartialEq, Eq, Default)]
+pub struct SpansAnswer {
+    /// The number of the first check that failed, or 0.
+    pub refusal: u8,
+    /// The first bit of the first span.
+    pub first_start: usize,
+    /// The length of the first span.
+    pub first_length: usize,
+    /// The first bit of the second span.
+    pub second_start: usize,
+    /// The length of the second span.
+    pub second_length: usize,
+}

@@ -1,0 +1,53 @@
+//! Single words of 64 flags.
+
+use super::exports;
+use super::records::*;
+
+/// The first eight bytes as a word, absent ones zero.
+///
+/// ```
+/// assert_eq!(poruwhina::calls::load_padded_le_u64(&[0x2D, 0x01]), 0x012D);
+/// ```
+#[inline]
+pub fn load_padded_le_u64(part: &[u8]) -> u64 {
+    unsafe { exports::pw_load_padded_le_u64(part.as_ptr(), part.len()) }
+}
+
+/// The flags of `current` from `offset` on, then the low flags of `next`; `current` at offset 0 and from 64 on.
+///
+/// ```
+/// use poruwhina::calls::merge_reversed;
+///
+/// assert_eq!(merge_reversed(0xA0, 0x03, 4), 0x3000_0000_0000_000A);
+/// assert_eq!(merge_reversed(0xA0, 0x03, 64), 0xA0);
+/// ```
+#[inline]
+pub fn merge_reversed(current: u64, next: u64, offset: usize) -> u64 {
+    unsafe { exports::pw_merge_reversed(current, next, offset) }
+}
+
+/// The position of set bit n of a word, counted from 0.
+///
+/// ```
+/// use poruwhina::calls::nth_set_bit_u64;
+///
+/// assert_eq!(nth_set_bit_u64(0x2D, 2).value, 3);
+/// assert!(!nth_set_bit_u64(0x2D, 4).found);
+/// ```
+#[inline]
+pub fn nth_set_bit_u64(w: u64, n: u64) -> Position {
+    unsafe { exports::pw_nth_set_bit_u64(w, n) }
+}
+
+/// The position of set bit n of a word of 32 flags, counted from 0.
+///
+/// ```
+/// use poruwhina::calls::nth_set_bit_u32;
+///
+/// assert_eq!(nth_set_bit_u32(0x8000_0001, 1).value, 31);
+/// assert!(!nth_set_bit_u32(0x8000_0001, 2).found);
+/// ```
+#[inline]
+pub fn nth_set_bit_u32(w: u32, n: u32) -> Position {
+    unsafe { exports::pw_nth_set_bit_u32(w, n) }
+}

@@ -1,0 +1,137 @@
+//! The numbers by which the library refuses, with their words.
+
+use std::error::Error;
+use std::fmt;
+
+/// Why a call was refused: the first check that failed, in one order for all calls. After a refusal nothing has changed.
+///
+/// | number | the question that was answered no | from [`Bitmap`](crate::Bitmap) and [`BitmapBuilder`](crate::BitmapBuilder) |
+/// |---|---|---|
+/// | 1 | Is each start and length, stated or resulting, at most 4,194,304? | yes |
+/// | 2 | Is start + length at most 8 × the bytes lent? | yes |
+/// | 3 | Is a known zero count at most the length? | never |
+/// | 4 | Is the builder possible: no bit in its word from length mod 64 up, ones at most 64 × (length div 64), buffer at least 8 × (length div 64) bytes? | never |
+/// | 5 | Are the masks combined, or a mask and the length stated for it, equal in length? | yes |
+/// | 6 | Does the inner piece lie in its mask: slice end and split point at most the length, a cursor's place too, gather index and truck below it, pushed word of at most 64 flags with none beyond? | yes |
+/// | 7 | Where `slice` recounts, is the known count at least the zeros cut off, and the rest at most the new length? | never |
+/// | 8 | Is the address remainder at most 7? | never |
+/// | 9 | Does the output, the builder's buffer included, hold 8 × ceil(new length / 64) bytes? | never |
+/// | 255 | Is there an operation of this number? | never |
+///
+/// "Never": the types keep their records true and give each call the room that it needs. [`calls`](crate::calls) can give
+/// every number.
+///
+/// ```
+/// use poruwhina::{Bitmap, Refusal};
+///
+/// let refused = Bitmap::try_new([0x2D], 9).unwrap_err();
+/// assert_eq!(refused, Refusal::OutsideBytes);
+/// assert_eq!(refused.number(), 2);
+/// assert_eq!(refused.to_string(), "refused with 2: start + length is above 8 × the bytes lent");
+/// ```
+#[non_exhaustive]
+#[repr(u8)]
+#[derive(Clone, Copy, Debug, PartialEq, Eq, Hash)]
+pub enum Refusal {
+    /// 1: a start or a length, stated or resulting, is above 4,194,304.
+    AboveLimit = 1,
+    /// 2: start + length is above 8 × the bytes lent.
+    OutsideBytes = 2,
+    /// 3: a known zero count is above the length.
+    CountAboveLength = 3,
+    /// 4: no calls can have made the builder.
+    ImpossibleBuilder = 4,
+    /// 5: the masks combined, or a mask and the length stated for it, are not equal in length.
+    UnequalLengths = 5,
+    /// 6: an inner piece, an index, a truck or a cursor's place lies outside its mask, or a pushed word has flags beyond its
+    /// length.
+    OutsideMask = 6,
+    /// 7: the known count does not agree with the zeros that a slice cuts off.
+    CountNotOfSlice = 7,
+    /// 8: the address remainder is above 7.
+    AddressRemainder = 8,
+    /// 9: the output, or the builder's buffer, does not hold the result.
+    OutputTooSmall = 9,
+    /// 255: [`calls::count`](crate::calls::count) or [`calls::combine`](crate::calls::combine) got the number of no operation.
+    NoSuchOperation = 255,
+}
+
+const ALL: [Refusal; 10] = [
+    Refusal::AboveLimit,
+    Refusal::OutsideBytes,
+    Refusal::CountAboveLength,
+    Refusal::ImpossibleBuilder,
+    Refusal::UnequalLengths,
+    Refusal::OutsideMask,
+    Refusal::CountNotOfSlice,
+    Refusal::AddressRemainder,
+    Refusal::OutputTooSmall,
+    Refusal::NoSuchOperation,
+];
+
+impl Refusal {
+    /// The number, 1 to 9 or 255.
+    ///
+    /// ```
+    /// assert_eq!(poruwhina::Refusal::OutputTooSmall.number(), 9);
+    /// ```
+    pub const fn number(self) -> u8 {
+        self as u8
+    }
+
+    /// The refusal of a number that a record of [`calls`](crate::calls) carries; none for 0, which says that all checks
+    /// passed, and for a number that no check has.
+    ///
+    /// ```
+    /// use poruwhina::{calls, Refusal};
+    ///
+    /// assert_eq!(Refusal::from_number(calls::try_new(&[], 0, 1).refusal), Some(Refusal::OutsideBytes));
+    /// assert_eq!(Refusal::from_number(calls::try_new(&[], 0, 0).refusal), None);
+    /// ```
+    pub fn from_number(number: u8) -> Option<Refusal> {
+        ALL.into_iter().find(|refusal| refusal.number() == number)
+    }
+
+    fn words(self) -> &'static str {
+        match self {
+            Refusal::AboveLimit => "a start or a length is above 4,194,304",
+            Refusal::OutsideBytes => "start + length is above 8 × the bytes lent",
+            Refusal::CountAboveLength => "a known zero count is above the length",
+            Refusal::ImpossibleBuilder => "the builder is not possible: its word, ones or buffer do not fit its length",
+            Refusal::UnequalLengths => "the masks combined, or a mask and the length stated for it, are not equal in length",
+            Refusal::OutsideMask => "the inner piece does not lie in its mask",
+            Refusal::CountNotOfSlice => "the known count is below the zeros cut off, or the rest above the new length",
+            Refusal::AddressRemainder => "the address remainder is above 7",
+            Refusal::OutputTooSmall => "the output does not hold 8 × ceil(new length / 64) bytes",
+            Refusal::NoSuchOperation => "there is no operation of this number",
+        }
+    }
+}
+
+impl fmt::Display for Refusal {
+    fn fmt(&self, f: &mut fmt::Formatter<'_>) -> fmt::Result {
+        write!(f, "refused with {}: {}", self.number(), self.words())
+    }
+}
+
+impl Error for Refusal {}
+
+/// What the field `refusal` of an answer says.
+#[inline]
+pub(crate) fn check(number: u8) -> Result<(), Refusal> {
+    match number {
+        0 => Ok(()),
+        _ => Err(refusal(number)),
+    }
+}
+
+#[cold]
+fn refusal(number: u8) -> Refusal {
+    Refusal::from_number(number).unwrap_or_else(|| panic!("no check has the number {number}"))
+}
+
+/// For calls that cannot be refused, because the records of this crate's types pass every check that they make.
+#[inline]
+pub(crate) fn check_passed(number: u8) {
+    check(number).expect("a record of this crate passes its checks");
+}
