@@ -1,0 +1,123 @@
+//! Each refusal, the limit of 4,194,304 flags on both sides, and that nothing has changed after a refusal.
+
+use poruwhina::{Bitmap, BitmapBuilder, Refusal, TrueIdxIter, calls, may_reassign};
+
+use crate::flags_of;
+
+#[test]
+fn from_the_types() {
+    let mask = Bitmap::from([true, false, true]);
+    let other = Bitmap::from([true]);
+    let above = Bitmap::LIMIT + 1;
+
+    assert_eq!(Bitmap::new_zeroed(above), Err(Refusal::AboveLimit));
+    assert_eq!(Bitmap::new_zeroed(usize::MAX), Err(Refusal::AboveLimit));
+    assert_eq!(Bitmap::try_from_span([0], above, 0), Err(Refusal::AboveLimit));
+    assert_eq!(mask.sliced(usize::MAX, 2), Err(Refusal::AboveLimit));
+    assert_eq!(TrueIdxIter::new(above, None).err(), Some(Refusal::AboveLimit));
+
+    assert_eq!(Bitmap::try_new([], 1), Err(Refusal::OutsideBytes));
+    assert_eq!(Bitmap::try_from_span([0], 2, 7), Err(Refusal::OutsideBytes));
+
+    let unequal = Err(Refusal::UnequalLengths);
+    for refused in [mask.and(&other), mask.and_not(&other), mask.or(&other), mask.or_not(&other), mask.xor(&other)] {
+        assert_eq!(refused, unequal);
+    }
+    assert_eq!(other.and(&mask), unequal);
+    assert_eq!(mask.select(&other, &mask), unequal);
+    assert_eq!(mask.select(&mask, &other), unequal);
+    assert_eq!(mask.select_constant(&other, true), unequal);
+    assert_eq!(mask.num_intersections_with(&other), Err(Refusal::UnequalLengths));
+    assert_eq!(may_reassign(Some(&mask), Some(&other), 0), Err(Refusal::UnequalLengths));
+    assert_eq!(TrueIdxIter::new(2, Some(&mask)).err(), Some(Refusal::UnequalLengths));
+
+    assert_eq!(mask.sliced(2, 2), Err(Refusal::OutsideMask));
+    assert_eq!(mask.split_at(4), Err(Refusal::OutsideMask));
+    assert_eq!(may_reassign(Some(&mask), None, 3), Err(Refusal::OutsideMask));
+    assert_eq!(may_reassign(Some(&mask), None, usize::MAX), Err(Refusal::OutsideMask));
+}
+
+#[test]
+fn a_refused_call_changes_nothing() {
+    let mut mask = Bitmap::from([true, false, true]);
+    assert_eq!(mask.slice(1, 3), Err(Refusal::OutsideMask));
+    assert_eq!((flags_of(&mask), mask.lazy_unset_bits()), (vec![true, false, true], Some(1)));
+
+    let mut builder = BitmapBuilder::new();
+    builder.extend_from_bitmap(&mask).unwrap();
+    let refused = [
+        (builder.extend_constant(Bitmap::LIMIT - 2, true), Refusal::AboveLimit),
+        (builder.extend_constant(usize::MAX, true), Refusal::AboveLimit),
+        (builder.extend_each_repeated_from_slice(&[1], 0, 8, usize::MAX), Refusal::AboveLimit),
+        (builder.extend_from_slice(&[0xFF; 100], usize::MAX, 8), Refusal::AboveLimit),
+        (builder.extend_from_slice(&[0xFF; 100], 1, 800), Refusal::OutsideBytes),
+        (builder.push_word_with_len(0, 65), Refusal::OutsideMask),
+        (builder.push_word_with_len(2, 1), Refusal::OutsideMask),
+        (builder.subslice_extend_from_bitmap(&mask, 1, 3), Refusal::OutsideMask),
+        (builder.gather_extend_from_slice(&[0xFF; 9], 0, 70, &[0, 69, 70]), Refusal::OutsideMask),
+        (builder.opt_gather_extend_from_slice(&[0xFF; 9], 0, 73, &[0]), Refusal::OutsideBytes),
+    ];
+    for (answer, refusal) in refused {
+        assert_eq!(answer, Err(refusal));
+    }
+    let frozen = builder.freeze();
+    assert_eq!(frozen, mask);
+    assert_eq!(frozen.as_slice().0, [0b101, 0, 0, 0, 0, 0, 0, 0]);
+}
+
+/// The types cannot be brought to these; the plain calls can, by records that a caller made up.
+#[test]
+fn from_the_plain_calls() {
+    let mask = calls::Mask { start: 0, length: 100, zeros: 101, known: 1 };
+    let bytes = [0xFF; 13];
+    let builder = calls::Builder { length: 1, word: 2, ones: 0 };
+    let small = calls::Mask { start: 0, length: 1, zeros: 0, known: 0 };
+    let numbers = [
+        (calls::unset_bits(mask, &bytes).refusal, Refusal::CountAboveLength),
+        (calls::push(builder, &mut [0; 8], true).refusal, Refusal::ImpossibleBuilder),
+        (calls::slice(calls::Mask { zeros: 31, ..mask }, &[0; 13], 0, 68).refusal, Refusal::CountNotOfSlice),
+        (calls::count(0, &bytes, 0, 1, 8).refusal, Refusal::AddressRemainder),
+        (calls::not(small, &bytes, &mut [0; 7]).refusal, Refusal::OutputTooSmall),
+        (calls::combine(9, small, &bytes, small, &bytes, &mut [0; 8]).refusal, Refusal::NoSuchOperation),
+    ];
+    for (number, refusal) in numbers {
+        assert_eq!(Refusal::from_number(number), Some(refusal));
+    }
+}
+
+#[test]
+fn numbers_and_words() {
+    let known: Vec<u8> = (0..=255).filter(|&number| Refusal::from_number(number).is_some()).collect();
+    assert_eq!(known, [1, 2, 3, 4, 5, 6, 7, 8, 9, 255]);
+    for number in known {
+        let refusal = Refusal::from_number(number).unwrap();
+        assert_eq!(refusal.number(), number);
+        assert!(refusal.to_string().starts_with(&format!("refused with {number}: ")));
+    }
+    let error: Box<dyn std::error::Error> = Refusal::AboveLimit.into();
+    assert_eq!(error.to_string(), "refused with 1: a start or a length is above 4,194,304");
+}
+
+#[test]
+fn the_limit() -> Result<(), Refusal> {
+    let limit = Bitmap::LIMIT;
+    let bytes = vec![0xFF; 2 * limit / 8 + 1];
+    let widest = Bitmap::try_from_span(bytes.clone(), limit, limit)?;
+    assert_eq!(Bitmap::try_new(bytes, limit + 1), Err(Refusal::AboveLimit));
+    assert_eq!((widest.unset_bits(), widest.not().unset_bits()), (0, limit));
+    assert_eq!(widest.sliced(1, 1), Err(Refusal::AboveLimit), "it would start past the limit");
+
+    let mut builder = BitmapBuilder::with_capacity(usize::MAX);
+    builder.extend_constant(limit - 1, true)?;
+    builder.push(true)?;
+    assert_eq!(builder.push(true), Err(Refusal::AboveLimit));
+    builder.extend_constant(0, true)?;
+    assert_eq!(builder.freeze(), widest);
+    Ok(())
+}
+
+#[test]
+#[should_panic(expected = "refused with 1")]
+fn collecting_too_many_flags_panics() {
+    let _: Bitmap = std::iter::repeat_n(true, Bitmap::LIMIT + 1).collect();
+}
