@@ -134,3 +134,8 @@ pub use builder::BitmapBuilder;
 pub use dispatch::may_reassign;
 pub use iterator::{BitChunks, BitmapIter, SlicesIterator, TrueIdxIter};
 pub use refusal::Refusal;
+
+/// The example of the README, run with those of the documentation.
+#[cfg(doctest)]
+#[doc = include_str!("../README.md")]
+struct Readme;

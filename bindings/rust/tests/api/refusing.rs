@@ -113,6 +113,10 @@ fn the_limit() -> Result<(), Refusal> {
     assert_eq!(builder.push(true), Err(Refusal::AboveLimit));
     builder.extend_constant(0, true)?;
     assert_eq!(builder.freeze(), widest);
+
+    let mut at_once = BitmapBuilder::new();
+    at_once.extend_constant(limit, true)?;
+    assert_eq!(at_once.freeze(), widest);
     Ok(())
 }
 
