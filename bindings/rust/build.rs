@@ -19,6 +19,8 @@ fn main() {
         );
         return;
     }
+    // A relative folder would be looked for in another place by the compiler.
+    let folder = folder.canonicalize().expect("the folder of a file that is there");
     println!("cargo::rustc-link-search=native={}", folder.display());
     println!("cargo::rustc-link-lib=static=capi");
 }

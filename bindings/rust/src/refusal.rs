@@ -3,23 +3,11 @@
 use std::error::Error;
 use std::fmt;
 
-/// Why a call was refused: the first check that failed, in one order for all calls. After a refusal nothing has changed.
+/// Why a call was refused: the first of the library's questions that was answered no. They are put in the order of their
+/// numbers, the same for all calls. After a refusal nothing has changed.
 ///
-/// | number | the question that was answered no | from [`Bitmap`](crate::Bitmap) and [`BitmapBuilder`](crate::BitmapBuilder) |
-/// |---|---|---|
-/// | 1 | Is each start and length, stated or resulting, at most 4,194,304? | yes |
-/// | 2 | Is start + length at most 8 × the bytes lent? | yes |
-/// | 3 | Is a known zero count at most the length? | never |
-/// | 4 | Is the builder possible: no bit in its word from length mod 64 up, ones at most 64 × (length div 64), buffer at least 8 × (length div 64) bytes? | never |
-/// | 5 | Are the masks combined, or a mask and the length stated for it, equal in length? | yes |
-/// | 6 | Does the inner piece lie in its mask: slice end and split point at most the length, a cursor's place too, gather index and truck below it, pushed word of at most 64 flags with none beyond? | yes |
-/// | 7 | Where `slice` recounts, is the known count at least the zeros cut off, and the rest at most the new length? | never |
-/// | 8 | Is the address remainder at most 7? | never |
-/// | 9 | Does the output, the builder's buffer included, hold 8 × ceil(new length / 64) bytes? | never |
-/// | 255 | Is there an operation of this number? | never |
-///
-/// "Never": the types keep their records true and give each call the room that it needs. [`calls`](crate::calls) can give
-/// every number.
+/// From [`Bitmap`](crate::Bitmap), [`BitmapBuilder`](crate::BitmapBuilder) and what stands beside them come 1, 2, 5 and 6 alone:
+/// the types keep their records true and give each call the room that it needs. [`calls`](crate::calls) can give every number.
 ///
 /// ```
 /// use poruwhina::{Bitmap, Refusal};
@@ -33,26 +21,29 @@ use std::fmt;
 #[repr(u8)]
 #[derive(Clone, Copy, Debug, PartialEq, Eq, Hash)]
 pub enum Refusal {
-    /// 1: a start or a length, stated or resulting, is above 4,194,304.
+    /// 1: Is each start and length of a span, mask, cursor or inner piece, each stated length, the builder's length, and the
+    /// resulting start and length at most 4,194,304?
     AboveLimit = 1,
-    /// 2: start + length is above 8 × the bytes lent.
+    /// 2: Is start + length at most 8 × the bytes lent?
     OutsideBytes = 2,
-    /// 3: a known zero count is above the length.
+    /// 3: Is a known zero count at most the length?
     CountAboveLength = 3,
-    /// 4: no calls can have made the builder.
+    /// 4: Is the builder possible: no bit in its word from length mod 64 up, ones at most 64 × (length div 64), buffer at least
+    /// 8 × (length div 64) bytes?
     ImpossibleBuilder = 4,
-    /// 5: the masks combined, or a mask and the length stated for it, are not equal in length.
+    /// 5: Are the masks combined, or a mask and the length stated for it, equal in length?
     UnequalLengths = 5,
-    /// 6: an inner piece, an index, a truck or a cursor's place lies outside its mask, or a pushed word has flags beyond its
-    /// length.
+    /// 6: Does the inner piece lie in its mask: slice end and split point at most the length, a cursor's place too, gather
+    /// index and truck below it, pushed word of at most 64 flags with none beyond?
     OutsideMask = 6,
-    /// 7: the known count does not agree with the zeros that a slice cuts off.
+    /// 7: Where a slice recounts, is the known count at least the zeros cut off, and the rest at most the new length?
     CountNotOfSlice = 7,
-    /// 8: the address remainder is above 7.
+    /// 8: Is the address remainder at most 7?
     AddressRemainder = 8,
-    /// 9: the output, or the builder's buffer, does not hold the result.
+    /// 9: Does the output, the builder's buffer included, hold 8 × ceil(new length / 64) bytes?
     OutputTooSmall = 9,
-    /// 255: [`calls::count`](crate::calls::count) or [`calls::combine`](crate::calls::combine) got the number of no operation.
+    /// 255: Is there an operation of this number? Put by [`calls::count`](crate::calls::count) and
+    /// [`calls::combine`](crate::calls::combine), before the others.
     NoSuchOperation = 255,
 }
 
