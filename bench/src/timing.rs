@@ -76,10 +76,7 @@ impl<'a, T, I: Iterator<Item = u64>, M: FnMut(&'a T) -> (u64, I)> Side for Walk<
 }
 
 /// A side that goes through all items of an iterator, after a first number: timed with their sum, compared item by item.
-pub fn walk<'a, T, I: Iterator<Item = u64> + 'a>(
-    input: &'a T,
-    make: impl FnMut(&'a T) -> (u64, I) + 'a,
-) -> Box<dyn Side + 'a> {
+pub fn walk<'a, T, I: Iterator<Item = u64> + 'a>(input: &'a T, make: impl FnMut(&'a T) -> (u64, I) + 'a) -> Box<dyn Side + 'a> {
     Box::new(Walk { input, make })
 }
 

@@ -44,9 +44,7 @@ pub fn run(driver: &Driver) {
                 let cursor = calls::slices_new(m.mask(), m.bytes()).cursor;
                 (0, steps(cursor, m.bytes(), calls::slices_next).map(|step| run_of(step.value as usize, step.count)))
             }),
-            original: Some(walk(&m[0], |m| {
-                (0, SlicesIterator::new(&m.bitmap).map(|(start, length)| run_of(start, length)))
-            })),
+            original: Some(walk(&m[0], |m| (0, SlicesIterator::new(&m.bitmap).map(|(start, length)| run_of(start, length))))),
             plain: None,
         });
     }

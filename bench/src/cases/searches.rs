@@ -62,13 +62,8 @@ pub fn run(driver: &Driver) {
     driver.each("may_reassign", Kind::Half, &[1, 2], |m| Sides {
         ours: side((&m[0], &m[1]), |(p, r)| may_reassign(p, r), |_, may| vec![may as u64]),
         original: None,
-        plain: Some(side(
-            (&m[0], &m[1]),
-            |(p, r)| flag(p, p.length / 2) && !flag(r, p.length / 2),
-            |_, may| vec![may as u64],
-        )),
+        plain: Some(side((&m[0], &m[1]), |(p, r)| flag(p, p.length / 2) && !flag(r, p.length / 2), |_, may| vec![may as u64])),
     });
-    boundary(driver);
 }
 
 fn may_reassign(permission: &Input, revocation: &Input) -> bool {
@@ -77,7 +72,7 @@ fn may_reassign(permission: &Input, revocation: &Input) -> bool {
 }
 
 /// A call that does next to nothing, beside the same two shifts in place.
-fn boundary(driver: &Driver) {
+pub fn boundary(driver: &Driver) {
     let call = "merge_reversed";
     if !driver.wants(call) {
         return;
