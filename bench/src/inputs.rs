@@ -74,6 +74,9 @@ pub struct Input {
     pub start: usize,
     pub length: usize,
     pub zeros: usize,
+    /// The mask with its zeros counted, as the original has it after its first count, and the one with its zeros not counted.
+    pub mask: Mask,
+    pub uncounted: Mask,
     pub bitmap: Bitmap,
     /// The bitmap before its zeros were counted. A clone of it has no count either.
     pub uncounted_bitmap: Bitmap,
@@ -95,7 +98,9 @@ impl Input {
         let uncounted_bitmap = bitmap.clone();
         let zeros = bitmap.unset_bits();
         assert_eq!(zeros, flags.iter().filter(|flag| !**flag).count());
-        Input { padded, lent, start, length, zeros, bitmap, uncounted_bitmap }
+        let uncounted = Mask { start, length, zeros: 0, known: 0 };
+        let mask = Mask { zeros, known: 1, ..uncounted };
+        Input { padded, lent, start, length, zeros, mask, uncounted, bitmap, uncounted_bitmap }
     }
 
     /// The bytes lent: whole words, as a frozen mask has them.
@@ -106,16 +111,6 @@ impl Input {
     /// The same bytes with a further word behind them, which spares the plain loops the care at the end.
     pub fn padded(&self) -> &[u8] {
         &self.padded
-    }
-
-    /// The mask with its zeros counted, as the original has it after its first count.
-    pub fn mask(&self) -> Mask {
-        Mask { start: self.start, length: self.length, zeros: self.zeros, known: 1 }
-    }
-
-    /// The mask with its zeros not counted.
-    pub fn uncounted(&self) -> Mask {
-        Mask { zeros: 0, known: 0, ..self.mask() }
     }
 }
 

@@ -47,7 +47,7 @@ fn pair(
     word: impl Fn(u64, u64) -> u64 + Copy + 'static,
 ) {
     driver.each(call, Kind::Half, &[1, 2], |m| Sides {
-        ours: writing(m, move |m, out| combine(op, m, Input::mask, out).refusal),
+        ours: writing(m, move |m, out| combine(op, m, |m| m.mask, out).refusal),
         original: Some(allocating(m, move |m| original(&m[0].bitmap, &m[1].bitmap))),
         plain: Some(plainly(m, move |m, out| plain::combine(span(&m[0]), span(&m[1]), out, word))),
     });
@@ -56,7 +56,7 @@ fn pair(
 pub fn run(driver: &Driver) {
     pair(driver, ("and", 0), bitmap::and, |x, y| x & y);
     driver.each("and, zeros not counted", Kind::Half, &[1, 2], |m| Sides {
-        ours: writing(m, |m, out| combine(0, m, Input::uncounted, out).refusal),
+        ours: writing(m, |m, out| combine(0, m, |m| m.uncounted, out).refusal),
         original: Some(allocating(m, |m| bitmap::and(&m[0].uncounted_bitmap.clone(), &m[1].uncounted_bitmap.clone()))),
         plain: None,
     });
@@ -64,7 +64,7 @@ pub fn run(driver: &Driver) {
     pair(driver, ("or_not", 3), bitmap::or_not, |x, y| x | !y);
     pair(driver, ("xor", 4), bitmap::xor, |x, y| x ^ y);
     driver.each("not", Kind::Half, &[1], |m| Sides {
-        ours: writing(m, |m, out| calls::not(m[0].mask(), m[0].bytes(), out).refusal),
+        ours: writing(m, |m, out| calls::not(m[0].mask, m[0].bytes(), out).refusal),
         original: Some(allocating(m, |m| (&m[0].bitmap).not())),
         plain: Some(plainly(m, |m, out| plain::map(span(&m[0]), out, |x| !x))),
     });
@@ -76,5 +76,5 @@ pub fn run(driver: &Driver) {
 }
 
 fn ours_select(by: &Input, yes: &Input, no: &Input, out: &mut [u8]) -> MaskAnswer {
-    calls::select(by.mask(), by.bytes(), yes.mask(), yes.bytes(), no.mask(), no.bytes(), out)
+    calls::select(by.mask, by.bytes(), yes.mask, yes.bytes(), no.mask, no.bytes(), out)
 }

@@ -40,17 +40,17 @@ pub fn run(driver: &Driver) {
     end(driver, "trailing_ones", 4, Kind::Ones, utils::trailing_ones);
 
     driver.each("eq", Kind::Half, &[1, 1], |m| Sides {
-        ours: of_two(m, |a, b| calls::eq(a.mask(), a.bytes(), b.mask(), b.bytes()).value as usize),
+        ours: of_two(m, |a, b| calls::eq(a.mask, a.bytes(), b.mask, b.bytes()).value as usize),
         original: Some(of_two(m, |a, b| (a.bitmap == b.bitmap) as usize)),
         plain: Some(of_two(m, |a, b| plain::eq(span(a), span(b)) as usize)),
     });
     driver.each("num_edges", Kind::Half, &[1], |m| Sides {
-        ours: number(&m[0], |m| calls::num_edges(m.mask(), m.bytes()).value),
+        ours: number(&m[0], |m| calls::num_edges(m.mask, m.bytes()).value),
         original: Some(number(&m[0], |m| m.bitmap.num_edges())),
         plain: Some(number(&m[0], plain_edges)),
     });
     driver.each("num_intersections_with", Kind::Half, &[1, 2], |m| Sides {
-        ours: of_two(m, |a, b| calls::num_intersections_with(a.mask(), a.bytes(), b.mask(), b.bytes()).value),
+        ours: of_two(m, |a, b| calls::num_intersections_with(a.mask, a.bytes(), b.mask, b.bytes()).value),
         original: Some(of_two(m, |a, b| a.bitmap.num_intersections_with(&b.bitmap))),
         plain: Some(of_two(m, |a, b| plain::count(span(a), span(b), |x, y| x & y))),
     });

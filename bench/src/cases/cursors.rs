@@ -41,7 +41,7 @@ pub fn run(driver: &Driver) {
     for kind in [Kind::Half, Kind::Runs] {
         driver.each("SlicesIterator, all runs", kind, &[1], |m| Sides {
             ours: walk(&m[0], |m| {
-                let cursor = calls::slices_new(m.mask(), m.bytes()).cursor;
+                let cursor = calls::slices_new(m.mask, m.bytes()).cursor;
                 (0, steps(cursor, m.bytes(), calls::slices_next).map(|step| run_of(step.value as usize, step.count)))
             }),
             original: Some(walk(&m[0], |m| (0, SlicesIterator::new(&m.bitmap).map(|(start, length)| run_of(start, length))))),
@@ -51,7 +51,7 @@ pub fn run(driver: &Driver) {
     for kind in [Kind::Sparse, Kind::Half, Kind::Dense] {
         driver.each("TrueIdxIter, all positions", kind, &[1], |m| Sides {
             ours: walk(&m[0], |m| {
-                let cursor = calls::true_idx_new(m.length, true, m.mask(), m.bytes()).cursor;
+                let cursor = calls::true_idx_new(m.length, true, m.mask, m.bytes()).cursor;
                 (0, steps(cursor, m.bytes(), calls::true_idx_next).map(|step| step.value))
             }),
             original: Some(walk(&m[0], |m| (0, TrueIdxIter::new(m.length, Some(&m.bitmap)).map(|at| at as u64)))),

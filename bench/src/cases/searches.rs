@@ -47,11 +47,7 @@ pub fn run(driver: &Driver) {
         plain: None,
     });
     driver.each("slice, a tenth off each end", Kind::Half, &[1], |m| Sides {
-        ours: side(
-            &m[0],
-            |m| calls::slice(m.mask(), m.bytes(), cut(m).0, cut(m).1).mask,
-            |_, cut| vec![cut.length as u64, cut.zeros as u64],
-        ),
+        ours: side(&m[0], |m| calls::slice(m.mask, m.bytes(), cut(m).0, cut(m).1).mask, |_, cut| vec![cut.length as u64, cut.zeros as u64]),
         original: Some(side(
             &m[0],
             |m| m.bitmap.clone().sliced(cut(m).0, cut(m).1),
@@ -68,7 +64,7 @@ pub fn run(driver: &Driver) {
 
 fn may_reassign(permission: &Input, revocation: &Input) -> bool {
     let truck = permission.length / 2;
-    calls::may_reassign(true, permission.mask(), permission.bytes(), true, revocation.mask(), revocation.bytes(), truck).value
+    calls::may_reassign(true, permission.mask, permission.bytes(), true, revocation.mask, revocation.bytes(), truck).value
 }
 
 /// A call that does next to nothing, beside the same two shifts in place.
