@@ -8,12 +8,17 @@ pub mod slice {
     /// text is not at hand, so this call alone is compared with the model only.
     #[inline]
     pub fn load_padded_le_u64(bytes: &[u8]) -> u64 {
-        if let Some(first) = bytes.first_chunk::<8>() {
-            return u64::from_le_bytes(*first);
+        bytes.first_chunk::<8>().map_or_else(|| load_short(bytes), |first| u64::from_le_bytes(*first))
+    }
+
+    /// At most seven bytes, with no copy of variable length, so that the crate loses no time by its stand-in.
+    #[inline(never)]
+    fn load_short(bytes: &[u8]) -> u64 {
+        if let (Some(low), Some(high)) = (bytes.first_chunk::<4>(), bytes.last_chunk::<4>()) {
+            let high = u64::from(u32::from_le_bytes(*high)) << (8 * (bytes.len() - 4));
+            return u64::from(u32::from_le_bytes(*low)) | high;
         }
-        let mut padded = [0; 8];
-        padded[..bytes.len()].copy_from_slice(bytes);
-        u64::from_le_bytes(padded)
+        bytes.iter().rev().fold(0, |word, byte| word << 8 | u64::from(*byte))
     }
 }
 
