@@ -29,7 +29,7 @@ pub struct Driver {
 impl Driver {
     /// `names` pick the calls whose name contains one of them; none picks all.
     pub fn new(quick: bool, names: Vec<String>) -> Self {
-        let (millis, batches) = if quick { (1, 3) } else { (3, 11) };
+        let (millis, batches) = if quick { (1, 3) } else { (2, 15) };
         Driver { effort: Effort { batch: Duration::from_millis(millis), batches }, names }
     }
 

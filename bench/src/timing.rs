@@ -1,7 +1,29 @@
 //! Timing: the sides of one case run in turn, so that noise of a shared machine falls on all of them, and the best batch counts.
+//!
+//! The clock is the processor time of this thread: time in which other programs have the processor does not count. Linux only.
 
 use std::hint::black_box;
-use std::time::{Duration, Instant};
+use std::time::Duration;
+
+#[repr(C)]
+struct Timespec {
+    seconds: i64,
+    nanoseconds: i64,
+}
+
+extern "C" {
+    fn clock_gettime(clock: i32, time: *mut Timespec) -> i32;
+}
+
+const CLOCK_THREAD_CPUTIME_ID: i32 = 3;
+
+fn processor_time() -> Duration {
+    let mut time = Timespec { seconds: 0, nanoseconds: 0 };
+    // SAFETY: `time` has the layout of C's timespec on 64-bit Linux and outlives the call.
+    let failed = unsafe { clock_gettime(CLOCK_THREAD_CPUTIME_ID, &mut time) };
+    assert_eq!(failed, 0);
+    Duration::new(time.seconds as u64, time.nanoseconds as u32)
+}
 
 /// What a call answers and writes, as words, so that the sides can be compared before they are timed.
 pub type Answer = Vec<u64>;
@@ -13,11 +35,11 @@ pub trait Side {
 }
 
 fn timed(calls: u64, mut call: impl FnMut()) -> Duration {
-    let began = Instant::now();
+    let began = processor_time();
     for _ in 0..calls {
         call();
     }
-    began.elapsed()
+    processor_time() - began
 }
 
 struct Stateful<S, R, A> {
