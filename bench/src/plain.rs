@@ -2,7 +2,7 @@
 //!
 //! A span's range is tested once, when it is made; the loops then read whole words, also past the last flag, and cut the last one.
 
-/// The words of a span. Behind its last word follow at least nine bytes.
+/// A span, with at least one further byte behind its words.
 #[derive(Clone, Copy)]
 pub struct Span<'a> {
     bytes: &'a [u8],
@@ -13,7 +13,7 @@ pub struct Span<'a> {
 impl<'a> Span<'a> {
     pub fn new(bytes: &'a [u8], start: usize, length: usize) -> Self {
         let bytes = &bytes[start / 8..];
-        assert!(8 * length.div_ceil(64) + 1 <= bytes.len());
+        assert!(8 * length.div_ceil(64) < bytes.len());
         Span { bytes, shift: start % 8, length }
     }
 
@@ -33,6 +33,7 @@ impl<'a> Span<'a> {
     }
 
     pub fn first_word(self) -> u64 {
+        assert!(self.length > 0);
         self.word::<false>(0)
     }
 

@@ -33,9 +33,9 @@ fn line(text: &str) -> Line {
     }
 }
 
-/// Three digits, with commas between thousands.
+/// One decimal below 10, else a whole number with commas between thousands.
 fn nanoseconds(value: f64) -> String {
-    if value < 10.0 {
+    if value < 9.95 {
         return format!("{value:.1}");
     }
     let digits = format!("{value:.0}");
@@ -75,11 +75,12 @@ fn table(baseline: &[Line], native: &[Line]) -> String {
     text
 }
 
-/// The table, and the document with it between its two marks.
+/// The table of the lines in two files.
 pub fn make(baseline: &str, native: &str) -> String {
     table(&lines(baseline), &lines(native))
 }
 
+/// Puts the table between the two marks of a document.
 pub fn write(document: &str, table: &str) {
     let text = fs::read_to_string(document).unwrap_or_else(|error| panic!("{document}: {error}"));
     let (before, rest) = text.split_once(BEGIN).expect("the document has the first mark");

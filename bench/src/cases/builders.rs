@@ -16,6 +16,8 @@ struct Source {
     indices: Vec<u32>,
     flags: Vec<bool>,
     before: usize,
+    /// The builder of ours: so many ones, fewer than 64.
+    builder: Builder,
 }
 
 impl Source {
@@ -26,12 +28,8 @@ impl Source {
             indices: (0..1_000).map(|_| words.below(length as u64) as u32).collect(),
             flags: (0..1_000).map(|_| words.below(2) == 1).collect(),
             before,
+            builder: Builder { length: before, word: (1 << before) - 1, ones: 0 },
         }
-    }
-
-    /// A builder of so many ones, fewer than 64.
-    fn builder(&self) -> Builder {
-        Builder { length: self.before, word: (1 << self.before) - 1, ones: 0 }
     }
 }
 
@@ -44,7 +42,7 @@ fn frozen(builder: Builder, buf: &mut [u8]) -> Answer {
 fn ours<'a>(source: &'a Source, append: impl Fn(&Source, Builder, &mut [u8]) -> BuilderAnswer + 'a) -> Box<dyn Side + 'a> {
     side(
         (source, vec![0u8; 1 << 20]),
-        move |(source, buf)| append(source, source.builder(), buf),
+        move |(source, buf)| append(source, source.builder, buf),
         |(_, buf), done| {
             assert_eq!(done.refusal, 0);
             frozen(done.builder, buf)
@@ -84,10 +82,7 @@ pub fn run(driver: &Driver) {
     push(driver);
     each(driver, "extend_constant", "builder 3", (3, 0), |source, _| Sides {
         ours: ours(source, |s, b, buf| calls::extend_constant(b, buf, s.mask.length, true)),
-        original: Some(original(source, |s, b| {
-            b.reserve(s.mask.length);
-            b.extend_constant(s.mask.length, true)
-        })),
+        original: Some(original(source, |s, b| b.extend_constant(s.mask.length, true))),
         plain: None,
     });
     for (at, before, start) in [("builder 0, source 0", 0, 0), ("builder 5, source 3", 5, 3)] {
