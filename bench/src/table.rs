@@ -75,9 +75,16 @@ fn table(baseline: &[Line], native: &[Line]) -> String {
     text
 }
 
-/// The table of the lines in two files.
+/// The table of the lines in two files, and how busy the machine was.
 pub fn make(baseline: &str, native: &str) -> String {
-    table(&lines(baseline), &lines(native))
+    format!("{}\n{}\n", table(&lines(baseline), &lines(native)), load())
+}
+
+fn load() -> String {
+    let text = fs::read_to_string("/proc/loadavg").unwrap_or_default();
+    let averages: Vec<&str> = text.split_whitespace().take(3).collect();
+    let processors = std::thread::available_parallelism().map_or(0, usize::from);
+    format!("Load averages at the end of the runs: {}; processors: {processors}.", averages.join(", "))
 }
 
 /// Puts the table between the two marks of a document.
