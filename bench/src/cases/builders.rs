@@ -68,25 +68,30 @@ fn plainly<'a>(source: &'a Source, length: usize, write: impl Fn(&Source, &mut [
 }
 
 /// A case for each size, where the builder ends with that many flags.
-fn each(driver: &Driver, call: &str, at: &str, (before, start): (usize, usize), sides: impl for<'a> Fn(&'a Source, usize) -> Sides<'a>) {
+fn each(
+    driver: &Driver,
+    (call, kind, at): (&str, Kind, &str),
+    (before, start): (usize, usize),
+    sides: impl for<'a> Fn(&'a Source, usize) -> Sides<'a>,
+) {
     if !driver.wants(call) {
         return;
     }
     for length in SIZES {
         let source = Source::new(start, length - before, before);
-        driver.case(Label { call, kind: Kind::Half.name(), at, length }, sides(&source, length));
+        driver.case(Label { call, kind: kind.name(), at, length }, sides(&source, length));
     }
 }
 
 pub fn run(driver: &Driver) {
     push(driver);
-    each(driver, "extend_constant", "builder 3", (3, 0), |source, _| Sides {
+    each(driver, ("extend_constant", Kind::Ones, "builder 3"), (3, 0), |source, _| Sides {
         ours: ours(source, |s, b, buf| calls::extend_constant(b, buf, s.mask.length, true)),
         original: Some(original(source, |s, b| b.extend_constant(s.mask.length, true))),
         plain: None,
     });
     for (at, before, start) in [("builder 0, source 0", 0, 0), ("builder 5, source 3", 5, 3)] {
-        each(driver, "extend_from_slice", at, (before, start), |source, length| Sides {
+        each(driver, ("extend_from_slice", Kind::Half, at), (before, start), |source, length| Sides {
             ours: ours(source, |s, b, buf| calls::extend_from_slice(b, buf, s.mask.bytes(), s.mask.start, s.mask.length)),
             original: Some(original(source, |s, b| b.extend_from_slice(s.mask.bytes(), s.mask.start, s.mask.length))),
             plain: Some(plainly(source, length, copy)),
@@ -156,7 +161,7 @@ fn repeated(driver: &Driver) {
 fn gather(driver: &Driver) {
     for start in STARTS {
         let at = format!("builder 0, source {start}");
-        each(driver, "gather, 1,000 indices", &at, (0, start), |source, _| Sides {
+        each(driver, ("gather, 1,000 indices", Kind::Half, &at), (0, start), |source, _| Sides {
             ours: ours(source, |s, b, buf| {
                 calls::gather_extend_from_slice(b, buf, s.mask.bytes(), s.mask.start, s.mask.length, &s.indices)
             }),
@@ -166,7 +171,7 @@ fn gather(driver: &Driver) {
             })),
             plain: None,
         });
-        each(driver, "opt_gather, 1,000 indices", &at, (0, start), |source, _| Sides {
+        each(driver, ("opt_gather, 1,000 indices", Kind::Half, &at), (0, start), |source, _| Sides {
             ours: ours(source, |s, b, buf| {
                 calls::opt_gather_extend_from_slice(b, buf, s.mask.bytes(), s.mask.start, s.mask.length, &s.indices)
             }),
@@ -182,7 +187,7 @@ fn gather(driver: &Driver) {
 fn from_nothing(driver: &Driver) {
     for start in STARTS {
         let at = format!("source {start}");
-        each(driver, "new, extend_from_slice, freeze", &at, (0, start), |source, _| Sides {
+        each(driver, ("new, extend_from_slice, freeze", Kind::Half, &at), (0, start), |source, _| Sides {
             ours: side(
                 (source, vec![0u8; 1 << 20]),
                 |(s, buf)| {
