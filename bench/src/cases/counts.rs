@@ -1,0 +1,64 @@
+//! Counts over one span or two masks, and the comparison of two masks.
+
+use original::bitmap::utils;
+use poruwhina::calls;
+
+use crate::cases::span;
+use crate::driver::{Driver, Sides};
+use crate::inputs::{Input, Kind};
+use crate::plain;
+use crate::timing::{number, side, Side};
+
+fn ours(what: u8, input: &Input) -> Box<dyn Side + '_> {
+    number(input, move |m| calls::count(what, m.bytes(), m.start, m.length, m.bytes().as_ptr() as usize % 8).value)
+}
+
+fn end(driver: &Driver, call: &str, what: u8, kind: Kind, original: impl Fn(&[u8], usize, usize) -> usize + Copy + 'static) {
+    driver.each(call, kind, &[1], |m| Sides {
+        ours: ours(what, &m[0]),
+        original: Some(number(&m[0], move |m| original(m.bytes(), m.start, m.length))),
+        plain: None,
+    });
+}
+
+/// A count over two masks, or whether they are equal as 1 or 0.
+fn of_two<'a>(m: &'a [Input], call: impl Fn(&Input, &Input) -> usize + 'a) -> Box<dyn Side + 'a> {
+    side((&m[0], &m[1]), move |(a, b)| call(a, b), |_, n| vec![n as u64])
+}
+
+pub fn run(driver: &Driver) {
+    driver.each("count_zeros", Kind::Half, &[1], |m| Sides {
+        ours: ours(0, &m[0]),
+        original: Some(number(&m[0], |m| utils::count_zeros(m.bytes(), m.start, m.length))),
+        plain: Some(number(&m[0], |m| m.length - plain::count(span(m), span(m), |x, _| x))),
+    });
+    end(driver, "leading_zeros", 1, Kind::Zeros, utils::leading_zeros);
+    end(driver, "leading_ones", 2, Kind::Ones, utils::leading_ones);
+    end(driver, "leading_ones", 2, Kind::Half, utils::leading_ones);
+    end(driver, "trailing_zeros", 3, Kind::Zeros, utils::trailing_zeros);
+    end(driver, "trailing_zeros", 3, Kind::Half, utils::trailing_zeros);
+    end(driver, "trailing_ones", 4, Kind::Ones, utils::trailing_ones);
+
+    driver.each("eq", Kind::Half, &[1, 1], |m| Sides {
+        ours: of_two(m, |a, b| calls::eq(a.mask, a.bytes(), b.mask, b.bytes()).value as usize),
+        original: Some(of_two(m, |a, b| (a.bitmap == b.bitmap) as usize)),
+        plain: Some(of_two(m, |a, b| plain::eq(span(a), span(b)) as usize)),
+    });
+    driver.each("num_edges", Kind::Half, &[1], |m| Sides {
+        ours: number(&m[0], |m| calls::num_edges(m.mask, m.bytes()).value),
+        original: Some(number(&m[0], |m| m.bitmap.num_edges())),
+        plain: Some(number(&m[0], plain_edges)),
+    });
+    driver.each("num_intersections_with", Kind::Half, &[1, 2], |m| Sides {
+        ours: of_two(m, |a, b| calls::num_intersections_with(a.mask, a.bytes(), b.mask, b.bytes()).value),
+        original: Some(of_two(m, |a, b| a.bitmap.num_intersections_with(&b.bitmap))),
+        plain: Some(of_two(m, |a, b| plain::count(span(a), span(b), |x, y| x & y))),
+    });
+}
+
+fn plain_edges(m: &Input) -> usize {
+    let shorter = m.length - 1;
+    let here = plain::Span::new(m.padded(), m.start, shorter);
+    let next = plain::Span::new(m.padded(), m.start + 1, shorter);
+    plain::count(here, next, |x, y| x ^ y)
+}

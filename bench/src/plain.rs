@@ -1,0 +1,125 @@
+//! Plain word loops: what one would write by hand with no checks, as a measure of what the machine gives.
+//!
+//! A span's range is tested once, when it is made; the loops then read whole words, also past the last flag, and cut the last one.
+
+/// A span, with at least one further byte behind its words.
+#[derive(Clone, Copy)]
+pub struct Span<'a> {
+    bytes: &'a [u8],
+    shift: usize,
+    length: usize,
+}
+
+impl<'a> Span<'a> {
+    pub fn new(bytes: &'a [u8], start: usize, length: usize) -> Self {
+        let bytes = &bytes[start / 8..];
+        assert!(8 * length.div_ceil(64) < bytes.len());
+        Span { bytes, shift: start % 8, length }
+    }
+
+    fn words(self) -> usize {
+        self.length.div_ceil(64)
+    }
+
+    /// Word number i, below the number of words. Where the span starts inside a byte, two loads one byte apart cover the 64 flags.
+    #[inline(always)]
+    fn word<const BYTE_START: bool>(self, i: usize) -> u64 {
+        // SAFETY: `new` tested that the bytes go one byte past the last word.
+        let load = |at: usize| unsafe { u64::from_le(self.bytes.as_ptr().add(at).cast::<u64>().read_unaligned()) };
+        if BYTE_START {
+            return load(8 * i);
+        }
+        load(8 * i) >> self.shift | load(8 * i + 1) << (8 - self.shift)
+    }
+
+    pub fn first_word(self) -> u64 {
+        assert!(self.length > 0);
+        self.word::<false>(0)
+    }
+
+    /// The bits of word number i that are flags.
+    fn cut(self, i: usize) -> u64 {
+        u64::MAX >> (64 - (self.length - 64 * i).min(64))
+    }
+}
+
+fn put(out: &mut [u8], i: usize, word: u64) {
+    out[8 * i..8 * i + 8].copy_from_slice(&word.to_le_bytes());
+}
+
+#[inline(always)]
+fn write<const BYTE_STARTS: bool>(a: Span, b: Span, out: &mut [u8], op: impl Fn(u64, u64) -> u64) {
+    for (i, place) in out[..8 * a.words()].chunks_exact_mut(8).enumerate() {
+        let word = op(a.word::<BYTE_STARTS>(i), b.word::<BYTE_STARTS>(i));
+        place.copy_from_slice(&word.to_le_bytes());
+    }
+    if let Some(i) = a.words().checked_sub(1) {
+        put(out, i, op(a.word::<BYTE_STARTS>(i), b.word::<BYTE_STARTS>(i)) & a.cut(i));
+    }
+}
+
+/// The frozen bytes of `op` over two spans of one length.
+pub fn combine(a: Span, b: Span, out: &mut [u8], op: impl Fn(u64, u64) -> u64) {
+    assert_eq!(a.length, b.length);
+    if a.shift == 0 && b.shift == 0 {
+        write::<true>(a, b, out, op)
+    } else {
+        write::<false>(a, b, out, op)
+    }
+}
+
+pub fn map(a: Span, out: &mut [u8], op: impl Fn(u64) -> u64) {
+    combine(a, a, out, |x, _| op(x))
+}
+
+#[inline(always)]
+fn ones<const BYTE_STARTS: bool>(a: Span, b: Span, op: impl Fn(u64, u64) -> u64) -> usize {
+    let Some(end) = a.words().checked_sub(1) else { return 0 };
+    let word = |i| op(a.word::<BYTE_STARTS>(i), b.word::<BYTE_STARTS>(i));
+    let before: u64 = (0..end).map(|i| u64::from(word(i).count_ones())).sum();
+    before as usize + (word(end) & a.cut(end)).count_ones() as usize
+}
+
+/// The ones of `op` over two spans of one length.
+pub fn count(a: Span, b: Span, op: impl Fn(u64, u64) -> u64) -> usize {
+    assert_eq!(a.length, b.length);
+    if a.shift == 0 && b.shift == 0 {
+        ones::<true>(a, b, op)
+    } else {
+        ones::<false>(a, b, op)
+    }
+}
+
+#[inline(always)]
+fn equal<const BYTE_STARTS: bool>(a: Span, b: Span) -> bool {
+    let Some(end) = a.words().checked_sub(1) else { return true };
+    let differ = |i| a.word::<BYTE_STARTS>(i) ^ b.word::<BYTE_STARTS>(i);
+    (0..end).all(|i| differ(i) == 0) && differ(end) & a.cut(end) == 0
+}
+
+pub fn eq(a: Span, b: Span) -> bool {
+    if a.length != b.length {
+        return false;
+    }
+    if a.shift == 0 && b.shift == 0 {
+        equal::<true>(a, b)
+    } else {
+        equal::<false>(a, b)
+    }
+}
+
+/// The position of the n-th set flag: words are counted and left behind, the one that has it loses its lower ones.
+pub fn nth_set_bit(a: Span, mut n: usize) -> Option<usize> {
+    for i in 0..a.words() {
+        let mut word = a.word::<false>(i) & a.cut(i);
+        let ones = word.count_ones() as usize;
+        if n < ones {
+            for _ in 0..n {
+                word &= word - 1;
+            }
+            return Some(64 * i + word.trailing_zeros() as usize);
+        }
+        n -= ones;
+    }
+    None
+}
