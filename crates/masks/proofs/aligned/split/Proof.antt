@@ -1,3 +1,4 @@
+-- The fields are what the calls ensure (congruence); `placed` says that the prefix fits in the span and in a word.
 use mathlib.Core.Path.{ap, ap₂, _∙_}
 use native.Mathlib.Omega.{arith}
 use Rattle.masks.proofs.SplitLaws.{placed}

@@ -1,3 +1,4 @@
+-- The checks of two masks, of the lengths and of the output, in order: `two-pieces` and `check-before`.
 use Rattle.masks.specs.Combine.{pairChecks}
 use mathlib.Core.Path.{refl}
 use Rattle.masks.proofs.CheckLaws.{two-pieces, check-before}

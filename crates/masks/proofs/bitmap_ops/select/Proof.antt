@@ -1,3 +1,4 @@
+-- The number of the checks decides; where all have passed the lengths are equal (`select-lengths`), and the kernel's flags are those chosen.
 use mathlib.Core.Path.{sym, _∙_}
 use Rattle.masks.proofs.CombineLaws.{each-refused, each-given, select-lengths, select-each}
 use borrow.Author.Needs.{needs}

@@ -1,3 +1,4 @@
+-- The checks of three masks, of two lengths and of the output, in order: `two-pieces` and `check-before`.
 use mathlib.Core.Path.{refl}
 use Rattle.masks.specs.Combine.{selectChecks}
 use Rattle.masks.proofs.CheckLaws.{two-pieces, check-before}

@@ -1,3 +1,4 @@
+-- The span's checks, then that of the count: `two-pieces` and `one-check`.
 use Rattle.masks.specs.Mask.{maskChecks}
 use Rattle.masks.proofs.CheckLaws.{two-pieces, one-check}
 use borrow.Author.Needs.{needs}

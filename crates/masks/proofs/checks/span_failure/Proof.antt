@@ -1,3 +1,4 @@
+-- Where both numbers are within the limit check 2 decides (`span-within`), else 1 is the first that fails (`span-over`).
 use Rattle.masks.proofs.CheckLaws.{both-within, span-over, span-within}
 use borrow.Author.Needs.{needs}
 use Rattle.masks.proofs.checks.span_failure.Statement.{statement}

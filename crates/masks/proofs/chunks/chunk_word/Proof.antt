@@ -1,3 +1,4 @@
+-- A start at a byte is one load (`whole-bytes`); inside a byte two neighbouring words are merged (`inside-byte`).
 use Rattle.masks.proofs.ChunkLaws.{whole-bytes, inside-byte}
 use borrow.Author.Needs.{needs}
 use Rattle.masks.proofs.chunks.chunk_word.Statement.{statement}

@@ -1,3 +1,4 @@
+-- The number of the checks decides; then unequal lengths say no (`lengths-differ`), and under one length the flags do (`same-length-eq`).
 use mathlib.Core.Bool.{Bool}
 use mathlib.Core.Path.{_≡_, sym, ap, _∙_}
 use Prim.Native.Nat.{ℕ}

@@ -1,3 +1,4 @@
+-- Each path through the tests decides enough of the four comparisons that `xor-by` takes.
 use lib.Dec.{eqb}
 use mathlib.Core.Path.{refl, sym, _∙_}
 use Rattle.masks.proofs.CombineLaws.{xor-by, xor-each}

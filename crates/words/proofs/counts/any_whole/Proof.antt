@@ -1,3 +1,4 @@
+-- The invariant: no flag of the first i words is set. A block with one ends the loop (`any-exit`), one without is passed over (`any-more`).
 use mathlib.Core.Path.{_≡_, ap, sym, _∙_}
 use Prim.Native.Nat.{ℕ, _≤_, _*_, _-_, _+_}
 use native.Mathlib.Omega.{arith}

@@ -1,3 +1,4 @@
+-- At most a word by `count-low`; else in three parts, whose counts `count-parts` adds. Each is at most its part's length, so the sums fit.
 use mathlib.Core.Path.{_≡_, refl, _∙_}
 use native.Mathlib.Omega.{arith}
 use Rattle.words.proofs.Bytes.{length-flags}

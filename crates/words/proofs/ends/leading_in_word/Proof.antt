@@ -1,3 +1,4 @@
+-- `leading-take`: the least of the word's count and k is that of the first k flags; ones are the zeros of the inverted word (`leading-inverted`).
 use mathlib.Core.Path.{ap, _∙_}
 use Prim.Native.Nat.{ℕ, min}
 use Rattle.words.proofs.EndLaws.{leading-take, leading-inverted}

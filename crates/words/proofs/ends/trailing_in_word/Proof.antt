@@ -1,3 +1,4 @@
+-- The first k flags are shifted to the top, zeros below them (`trailing-shifted`); ones are the zeros of the inverted word (`trailing-inverted`).
 use mathlib.Core.Path.{refl, sym, _∙_}
 use Rattle.words.proofs.EndLaws.{trailing-shifted, trailing-inverted, take-none}
 use borrow.Author.Needs.{needs}

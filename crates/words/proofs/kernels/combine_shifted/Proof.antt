@@ -1,3 +1,4 @@
+-- The invariant: i words are written. One more is the law `write-step`, of the word that `zip-word` gives.
 use Prim.Native.Nat.{_≤_, _*_, _-_, _+_}
 use mathlib.Core.Path.{_≡_, refl}
 use native.Mathlib.Omega.{arith}

@@ -1,3 +1,4 @@
+-- The invariant: `ones` counts i words. One more is the law `count-step`; a count is at most the flags counted, so the sum fits.
 use Prim.Native.Nat.{_≤_, _*_, _-_, _+_}
 use mathlib.Core.Path.{_≡_}
 use native.Mathlib.Omega.{arith}

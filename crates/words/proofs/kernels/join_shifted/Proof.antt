@@ -1,3 +1,4 @@
+-- The invariant: a flag of `all` is set just where one of the first i words is. One more is the law `any-step`.
 use Prim.Native.Nat.{_≤_, _*_, _-_, _+_}
 use mathlib.Core.Path.{_≡_}
 use native.Mathlib.Omega.{arith}

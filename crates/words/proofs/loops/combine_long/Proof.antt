@@ -1,3 +1,4 @@
+-- The invariant: where the loop began with the whole words over flags F, i words are over F. One more is `write-step`, the end `write-end`.
 use Prim.Native.Nat.{ℕ, _≤_, _*_, _-_, _+_}
 use mathlib.Core.Bool.{Bool}
 use mathlib.Core.List.{List}

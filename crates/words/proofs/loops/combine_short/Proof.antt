@@ -1,3 +1,4 @@
+-- One word has all flags (`write-once`); where there are none nothing is written (`write-nothing`).
 use native.Mathlib.Omega.{arith}
 use Rattle.words.proofs.Combining.{length-zip}
 use Rattle.words.proofs.Writing.{write-once, write-nothing}

@@ -1,3 +1,4 @@
+-- A list joined by `or` with itself is that list: `zip-self`.
 use Rattle.words.specs.Flags.{flagsOf, over}
 use Rattle.words.specs.Loops.{stretch, wholeWords}
 use mathlib.Core.Bool.{Bool, true, false, _||_}

@@ -1,3 +1,4 @@
+-- `cut-word`: three windows of 64 flags are combined, and cut where the length ends.
 use native.Mathlib.Omega.{arith}
 use Rattle.words.proofs.Combining.{cut-word}
 use borrow.Author.Needs.{needs}

@@ -1,3 +1,4 @@
+-- In each branch the flag is known: `bits-ones` or `bits-zero`.
 use mathlib.Core.Bool.{true, false}
 use Rattle.words.proofs.Bits.{bits-zero, bits-ones}
 use mathlib.Core.Path.{_∙_}

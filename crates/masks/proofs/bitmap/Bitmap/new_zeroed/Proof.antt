@@ -1,3 +1,4 @@
+-- The number of the two checks (`check-before`) decides the answer and the bytes.
 use Rattle.masks.specs.Mask.{newZeroedOf, newZeroedBytes, zeroedChecks}
 use mathlib.Core.Path.{_∙_}
 use Rattle.masks.proofs.CheckLaws.{check-before, is-refused, is-given, is-kept, is-new}
