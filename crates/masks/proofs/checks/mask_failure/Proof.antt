@@ -19,7 +19,9 @@ earlier-requires c κs = search needs
 
 returns : tie.Need-returns
 unfolding maskChecks
-returns c = two-pieces _ _ _ _ _ (c .earlier .ensures) (c .before .before .before .span-failure .ensures) (one-check _ _ _ _ (c .before .failed .ensures) (c .before .before .count-fits .ensures))
+returns c =
+    two-pieces _ _ _ _ _ (c .earlier .ensures) (c .before .before .before .span-failure .ensures)
+    (one-check _ _ _ _ (c .before .failed .ensures) (c .before .before .count-fits .ensures))
 
 pub mask-failure-spec : {M : Type 1} → statement M
 mask-failure-spec =

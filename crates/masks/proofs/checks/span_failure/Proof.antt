@@ -24,7 +24,8 @@ failed-requires c κs = search needs
 returns : tie.Need-returns
 returns c =
     let w = c .before .before .before in
-    span-within _ _ _ _ _ _ (w .before .before .within-limit .ensures) (w .before .within-limit2 .ensures) (w .both .ensures) _ _ (c .before .before .if1 .taken) (c .failed .ensures) (c .before .in-bytes .ensures)
+    span-within _ _ _ _ _ _ (w .before .before .within-limit .ensures) (w .before .within-limit2 .ensures)
+    (w .both .ensures) _ _ (c .before .before .if1 .taken) (c .failed .ensures) (c .before .in-bytes .ensures)
 
 returns-2 : tie.Need-returns-2
 returns-2 c =

@@ -24,7 +24,8 @@ least-requires-2 c κs = search needs
 returns : tie.Need-returns
 returns c =
     let k = c .before .before .before .before .args .k in
-    rw (c .before .before .before .if1 .taken) (leading-inverted k _ _ _ (c .before .before .not-word .ensures) (c .least .ensures ∙ ap (λ (x : ℕ). min x k) (c .before .front-zeros .ensures) ∙ leading-take _ k _))
+    rw (c .before .before .before .if1 .taken) (leading-inverted k _ _ _ (c .before .before .not-word .ensures)
+    (c .least .ensures ∙ ap (λ (x : ℕ). min x k) (c .before .front-zeros .ensures) ∙ leading-take _ k _))
 
 returns-2 : tie.Need-returns-2
 returns-2 c =

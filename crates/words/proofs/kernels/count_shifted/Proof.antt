@@ -63,7 +63,9 @@ loop-again c =
     let inv = op .before .before .before .before .before .loop .inv in (
       omega arith,
       count-step _ _ _ _ _ (inv .1)
-          (zip-word _ _ _ _ _ _ _ _ _ _ _ _ _ _ _ _ (omega arith) (omega arith) (omega arith) (omega arith) (op .before .before .before .shifted-word .ensures) (op .before .before .shifted-word2 .ensures) (op .before .shifted-word3 .ensures) (op .combine-word .ensures))
+          (zip-word _ _ _ _ _ _ _ _ _ _ _ _ _ _ _ _ (omega arith) (omega arith) (omega arith) (omega arith)
+          (op .before .before .before .shifted-word .ensures) (op .before .before .shifted-word2 .ensures)
+          (op .before .shifted-word3 .ensures) (op .combine-word .ensures))
           (c .ones-in-word .ensures),
     )
 

@@ -15,7 +15,9 @@ use Rattle.words.proofs.loops.combine_long.Statement.{statement}
 use Rattle.words.proofs.loops.combine_long.Tie as tie
 
 abbrev Inv-loop : tie.InvT-loop
-Inv-loop op a sa b sb c sc len out₀ n i₀ out i = (i ≤ n) × ((length out ≡ length out₀) × ((F : List Bool) → flagsOf out₀ ≡ over F (window (combined op a sa b sb c sc len) 0 (64 * i₀)) → flagsOf out ≡ over F (window (combined op a sa b sb c sc len) 0 (64 * i))))
+Inv-loop op a sa b sb c sc len out₀ n i₀ out i =
+    (i ≤ n) × ((length out ≡ length out₀) × ((F : List Bool) → flagsOf out₀ ≡ over F (window (combined op a sa b sb c sc len) 0 (64 * i₀))
+    → flagsOf out ≡ over F (window (combined op a sa b sb c sc len) 0 (64 * i))))
 
 abbrev μ-loop : tie.MeasureT-loop
 μ-loop op a sa b sb c sc len out₀ n i₀ out i = n - i
