@@ -1,4 +1,4 @@
--- The number of the checks decides; then unequal lengths say no (`lengths-differ`), and under one length the flags do (`same-length-eq`).
+-- The number of the checks decides; then masks of unequal lengths differ (`lengths-differ`), and of one length the flags are compared.
 use mathlib.Core.Bool.{Bool}
 use mathlib.Core.Path.{_≡_, sym, ap, _∙_}
 use Prim.Native.Nat.{ℕ}

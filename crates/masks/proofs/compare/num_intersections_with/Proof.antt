@@ -1,4 +1,4 @@
--- The number of the checks decides; where all have passed the lengths are equal (`common-lengths`), and `common-ones` counts both.
+-- The number of the checks decides; where all have passed the lengths are equal (`common-lengths`), and the ones of their `and` are counted.
 use mathlib.Core.Path.{refl, sym, ap, _∙_}
 use Rattle.masks.specs.Answer.{given}
 use Rattle.masks.specs.Compare.{commonOf, commonChecks}

@@ -1,4 +1,4 @@
--- At most a word is pushed at once; else `append-three`: up to a full word, whole words and the rest are all copies (`copies-three`).
+-- Up to 64 flags are pushed as one word; else `append-three`: up to a full word, whole words and the rest are all copies (`copies-three`).
 use Prim.Native.Nat.{_-_, _%_, _≤_}
 use mathlib.Core.Path.{ap, _∙_}
 use native.Mathlib.Omega.{arith}

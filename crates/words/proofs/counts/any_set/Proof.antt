@@ -1,4 +1,4 @@
--- The invariant: no flag of the first i words is set. Words with one end it (`any-exit`); behind n words all flags are alike (`any-finish`).
+-- The invariant: no flag of the first i words is set. One that is ends the search (`any-exit`); behind n words all are alike (`any-finish`).
 use Prim.Native.Nat.{_≤_, _*_, _-_, _+_}
 use mathlib.Core.Bool.{Bool, _&&_}
 use mathlib.Core.Path.{_≡_, ap, sym, _∙_}
