@@ -45,7 +45,8 @@ module _ (p : Bitmap) (pBytes : List ℕ) (r : Bitmap) (rBytes : List ℕ) (t : 
   pub flag-of-and-not : mayReassign (Present p) pBytes (Present r) rBytes t ≡ given (getD (pairFlags AndNot p pBytes r rBytes) t false)
   unfolding mayReassign reassignable flagOr
   flag-of-and-not =
-      sym (is-given 0 (firstFailed (reassignChecks (Present p) pBytes (Present r) rBytes t)) tt (getD (maskFlags p pBytes) t false && not (getD (maskFlags r rBytes) t false)) (sym accepted) refl)
+      sym (is-given 0 (firstFailed (reassignChecks (Present p) pBytes (Present r) rBytes t)) tt
+      (getD (maskFlags p pBytes) t false && not (getD (maskFlags r rBytes) t false)) (sym accepted) refl)
       ∙ ap given (sym (at-and-not p pBytes r rBytes one-length t truck-inside))
 
   -- and so flag t of the mask that it gives, in the bytes that it writes to an output that holds them

@@ -35,7 +35,8 @@ when-past a b x y h = ap (λ (t : Bool). cond t x y) (sym (le-ltb a b h))
 -- ---- a check that is put last
 
 -- made only where the others have passed
-pub last-number : (A : List Check) (r k : ℕ) (t : Bool) → before (suc k) A ≡ true → r ≡ firstFailed A → cond (eqb r 0) (cond t 0 (suc k)) r ≡ firstFailed (A ++ (check (suc k) t ∷ []))
+pub last-number : (A : List Check) (r k : ℕ) (t : Bool) → before (suc k) A ≡ true → r ≡ firstFailed A
+    → cond (eqb r 0) (cond t 0 (suc k)) r ≡ firstFailed (A ++ (check (suc k) t ∷ []))
 last-number A zero k t b p = passed-before A (check (suc k) t ∷ []) (cond t 0 (suc k)) 0 p refl (one-check (cond t 0 (suc k)) (suc k) t t refl refl)
 last-number A (suc n) k t b p =
     sym (when-ne (suc n) 0 (cond t 0 (suc k)) (suc n) (λ e. omega arith))
@@ -51,7 +52,8 @@ but-last A m k t b b′ h e = go (firstFailed A) t refl (e ∙ sym (last-number 
     go zero false p q = ap (λ (x : Bool). cond x 0 m) (eq-eqb m (suc k) q) ∙ p
     go (suc n) t p q =
         let number : m ≡ suc n = q ∙ sym (when-ne (suc n) 0 (cond t 0 (suc k)) (suc n) (λ e. omega arith)) in
-        let other : m ≡ suc k → ⊥ = λ (e : m ≡ suc k). (let same : rank (firstFailed A) ≡ rank (suc k) = ap rank (sym p ∙ sym number ∙ e) in omega (arith, failed-ranked A k b (λ z. omega arith))) in
+        let other : m ≡ suc k → ⊥ = λ (e : m ≡ suc k). (let same : rank (firstFailed A) ≡ rank (suc k) = ap rank (sym p ∙ sym number ∙ e) in
+        omega (arith, failed-ranked A k b (λ z. omega arith))) in
         ap (λ (x : Bool). cond x 0 m) (ne-eqb m (suc k) other) ∙ number ∙ p
 
 pair-regroup : (p : Bitmap) (pBytes : List ℕ) (r : Bitmap) (rBytes : List ℕ) (last : List Check)
@@ -109,12 +111,15 @@ unfolding reassignChecks firstFailed
 none-asked pBytes rBytes t = refl
 
 -- where all have passed each mask has
-pub passed-masks : (P : Optional) (pBytes : List ℕ) (R : Optional) (rBytes : List ℕ) (t : ℕ) → firstFailed (reassignChecks P pBytes R rBytes t) ≡ 0 → Readable P pBytes × Readable R rBytes
+pub passed-masks : (P : Optional) (pBytes : List ℕ) (R : Optional) (rBytes : List ℕ) (t : ℕ)
+    → firstFailed (reassignChecks P pBytes R rBytes t) ≡ 0 → Readable P pBytes × Readable R rBytes
 unfolding reassignChecks commonChecks
 passed-masks (Present p) pBytes (Present r) rBytes t e =
     let five : List Check = check 5 (eqb (p .length) (r .length)) ∷ [] in
-    let common = both-left (maskChecks p pBytes ++ (maskChecks r rBytes ++ five)) (truckInside t p ∷ []) e in
-    (both-left (maskChecks p pBytes) (maskChecks r rBytes ++ five) common, both-left (maskChecks r rBytes) five (both-right (maskChecks p pBytes) (maskChecks r rBytes ++ five) common))
+    let common = both-left (maskChecks p pBytes ++ (maskChecks r rBytes ++ five)) (truckInside t p ∷ []) e in (
+      both-left (maskChecks p pBytes) (maskChecks r rBytes ++ five) common,
+      both-left (maskChecks r rBytes) five (both-right (maskChecks p pBytes) (maskChecks r rBytes ++ five) common),
+    )
 passed-masks (Present p) pBytes Absent rBytes t e = (both-left (maskChecks p pBytes) (truckInside t p ∷ []) e, tt)
 passed-masks Absent pBytes (Present r) rBytes t e = (tt, both-left (maskChecks r rBytes) (truckInside t r ∷ []) e)
 passed-masks Absent pBytes Absent rBytes t e = (tt, tt)

@@ -47,7 +47,8 @@ mask-accepted m bytes a b c t =
 pub new-accepted : (bytes : List ℕ) (start n : ℕ) → firstFailed (spanChecks start n (length bytes)) ≡ 0 → 0 ≡ firstFailed (maskChecks (maskOf start n (uncounted n)) bytes)
 new-accepted bytes start n e =
     let a = span-allowed start n (length bytes) e in
-    mask-accepted (maskOf start n (uncounted n)) bytes (a .starts) (a .short) (a .inside) (none-true n (maskFlags (maskOf start n (uncounted n)) bytes) (length-window (flagsOf bytes) start n))
+    mask-accepted (maskOf start n (uncounted n)) bytes (a .starts) (a .short) (a .inside)
+    (none-true n (maskFlags (maskOf start n (uncounted n)) bytes) (length-window (flagsOf bytes) start n))
 
 -- ---- builders
 
@@ -75,7 +76,8 @@ pub whole-accepted : (b : BitmapBuilder) (buf : List ℕ) (m : Bitmap) (bytes : 
 unfolding subsliceChecks
 whole-accepted b buf m bytes a short r =
     passed-before (maskChecks m bytes) (innerChecks 0 (m .length) (m .length) ++ growChecks b (m .length) (length buf)) 0 0 a refl
-    (passed-before (innerChecks 0 (m .length) (m .length)) (growChecks b (m .length) (length buf)) 0 0 (inner-accepted 0 (m .length) (m .length) (omega arith) short (omega arith)) refl
+    (passed-before (innerChecks 0 (m .length) (m .length)) (growChecks b (m .length) (length buf)) 0 0
+    (inner-accepted 0 (m .length) (m .length) (omega arith) short (omega arith)) refl
     (builder-accepted b (m .length) (length buf) r))
 
 -- ---- the split

@@ -119,7 +119,8 @@ module _ (m : Bitmap) (bytes : List ℕ) (l : List Bool) (s : Stands m bytes l) 
   counted : countShown (unsetBitsOf m bytes) ≡ some (zeros l)
   unfolding unsetBitsOf
   counted =
-      ap countShown (sym (is-given 0 (firstFailed (maskChecks m bytes)) m (record { mask = maskOf (m .start) (m .length) (Known (zeroCount m bytes)); zeros = zeroCount m bytes }) whole refl))
+      ap countShown (sym (is-given 0 (firstFailed (maskChecks m bytes)) m
+      (record { mask = maskOf (m .start) (m .length) (Known (zeroCount m bytes)); zeros = zeroCount m bytes }) whole refl))
       ∙ ap some truth
 
   forward : (n from : ℕ) → searchFrom bytes (m .start) (m .length) n from ≡ given (nthFrom l n from)
@@ -142,7 +143,8 @@ module _ (m : Bitmap) (bytes : List ℕ) (l : List Bool) (s : Stands m bytes l) 
   runs k h =
       let c = slicesAt (m .start) (m .length) 0 in
       ap (runsOf k bytes) (sym (is-given 0 (firstFailed (maskChecks m bytes)) tt c whole refl))
-      ∙ ap some (lists-runs bytes c (sym (cursor-accepted (m .start) (m .length) 0 bytes in-span (omega arith))) k (omega (arith, long)) ∙ ap (λ (t : List Bool). runsFrom 0 (drop 0 t)) (s .flags))
+      ∙ ap some (lists-runs bytes c (sym (cursor-accepted (m .start) (m .length) 0 bytes in-span (omega arith))) k (omega (arith, long))
+      ∙ ap (λ (t : List Bool). runsFrom 0 (drop 0 t)) (s .flags))
 
   whole-flags : window (maskFlags m bytes) 0 (m .length) ≡ maskFlags m bytes
   whole-flags = ap (window (maskFlags m bytes) 0) (sym (length-window (flagsOf bytes) (m .start) (m .length))) ∙ window-all (maskFlags m bytes)

@@ -13,7 +13,8 @@ use Rattle.words.specs.Ops.{zip3}
 use Rattle.masks.specs.Agreement.{Combines, FitAt, Fits}
 use Rattle.masks.specs.Answer.{Answer, given, checked, decided, kept}
 use Rattle.masks.specs.Checks.{Check, check, earlier, firstFailed, outputChecks}
-use Rattle.masks.specs.Combine.{eachBytes, eachOf, notChecks, notFlags, pairBytes, pairChecks, pairFlags, pairMask, pairOf, pairShortcut, resultCount, selectChecks, selectConstantFlags, selectFlags}
+use Rattle.masks.specs.Combine.{eachBytes, eachOf, notChecks, notFlags, pairBytes, pairChecks, pairFlags, pairMask}
+use Rattle.masks.specs.Combine.{pairOf, pairShortcut, resultCount, selectChecks, selectConstantFlags, selectFlags}
 use Rattle.masks.specs.Frozen.{frozen, frozenSize}
 use Rattle.masks.specs.History.{Argument, own, other, Combination, pair, invert, select, selectConstant, FairAt, bytesAt, combinedFlags, flagsAt, maskAt, pairOp}
 use Rattle.masks.specs.Mask.{maskChecks, maskFlags, maskOf, uncounted}
@@ -76,7 +77,8 @@ module _ (m : Bitmap) (bytes : List ℕ) (l : List Bool) (s : Stands m bytes l) 
   output-at : (p : Argument) → FitAt (m .length) p → 0 ≡ firstFailed (outputChecks (maskAt m p .length) (length out))
   output-at p f = room-accepted (maskAt m p .length) (length out) (room-at p f)
 
-  pair-accepted : (p q : Argument) → FitAt (m .length) p → FitAt (m .length) q → 0 ≡ firstFailed (pairChecks (maskAt m p) (bytesAt bytes p) (maskAt m q) (bytesAt bytes q) (length out))
+  pair-accepted : (p q : Argument) → FitAt (m .length) p → FitAt (m .length) q
+      → 0 ≡ firstFailed (pairChecks (maskAt m p) (bytesAt bytes p) (maskAt m q) (bytesAt bytes q) (length out))
   unfolding pairChecks
   pair-accepted p q f g =
       let five : List Check = check 5 (eqb (maskAt m p .length) (maskAt m q .length)) ∷ outputChecks (maskAt m p .length) (length out) in

@@ -40,7 +40,8 @@ edges-few l s zero h = refl
 edges-few l s (suc zero) h = refl
 edges-few l s (suc (suc n)) h = absurd (omega arith)
 
-pub edges-many : (l : List Bool) (s n r : ℕ) → 1 < n → r ≡ count (zip3 (opOf Xor) (window l s (n - 1)) (window l (s + 1) (n - 1)) (window l (s + 1) (n - 1))) → r ≡ edges (window l s n)
+pub edges-many : (l : List Bool) (s n r : ℕ) → 1 < n
+    → r ≡ count (zip3 (opOf Xor) (window l s (n - 1)) (window l (s + 1) (n - 1)) (window l (s + 1) (n - 1))) → r ≡ edges (window l s n)
 edges-many l s n r h e =
     let m : suc (n - 1) ≡ n = omega arith in
     let o : s + 1 ≡ suc s = omega arith in
@@ -50,7 +51,8 @@ edges-many l s n r h e =
     same : length (window l s (n - 1)) ≡ length (window l (s + 1) (n - 1))
     same = length-window l s (n - 1) ∙ sym (length-window l (s + 1) (n - 1))
 
-pub common-ones : (A B : List Bool) (s t n m r : ℕ) → n ≡ m → r ≡ count (zip3 (opOf And) (window A s n) (window B t n) (window B t n)) → r ≡ count (zipWith _&&_ (window A s n) (window B t m))
+pub common-ones : (A B : List Bool) (s t n m r : ℕ) → n ≡ m → r ≡ count (zip3 (opOf And) (window A s n) (window B t n) (window B t n))
+    → r ≡ count (zipWith _&&_ (window A s n) (window B t m))
 common-ones A B s t n m r h e =
     e ∙ ap count (zip-two _&&_ (window A s n) (window B t n) (window B t n) same same)
     ∙ ap (λ (k : ℕ). count (zipWith _&&_ (window A s n) (window B t k))) h
@@ -62,7 +64,8 @@ pub common-lengths : (a : Bitmap) (aBytes : List ℕ) (b : Bitmap) (bBytes : Lis
 unfolding commonChecks
 common-lengths a aBytes b bBytes e =
     let last : List Check = check 5 (eqb (a .length) (b .length)) ∷ [] in
-    eqb-true (a .length) (b .length) (check-allowed 4 (eqb (a .length) (b .length)) (both-right (maskChecks b bBytes) last (both-right (maskChecks a aBytes) (maskChecks b bBytes ++ last) e)))
+    eqb-true (a .length) (b .length) (check-allowed 4 (eqb (a .length) (b .length))
+    (both-right (maskChecks b bBytes) last (both-right (maskChecks a aBytes) (maskChecks b bBytes ++ last) e)))
 
 pub same-length-eq : (A B : List Bool) (s t n m : ℕ) (r : Bool) → n ≡ m → r ≡ sameFlags (window A s n) (window B t n) → r ≡ sameFlags (window A s n) (window B t m)
 same-length-eq A B s t n m r h e = e ∙ ap (λ (k : ℕ). sameFlags (window A s n) (window B t k)) h

@@ -19,7 +19,9 @@ use Rattle.masks.proofs.HistoryLaws.{Holds}
 use Rattle.masks.proofs.HistoryTheorem.{run-holds, start-holds}
 
 comes-to : (h : History) (m : Bitmap) (bytes : List ℕ) → ComesTo h m bytes → Agrees m bytes (listOf h)
-comes-to h m bytes c = agrees m bytes (listOf h) (subst (λ (s : State). Holds s (listOf h)) (c .ends) (run-holds (h .calls) (startOf (h .start)) [] (start-holds (h .start)) (c .fair)))
+comes-to h m bytes c =
+    agrees m bytes (listOf h)
+    (subst (λ (s : State). Holds s (listOf h)) (c .ends) (run-holds (h .calls) (startOf (h .start)) [] (start-holds (h .start)) (c .fair)))
 
 -- two masks that agree with one list
 module _ (m m′ : Bitmap) (bytes bytes′ : List ℕ) (l : List Bool) (a : Agrees m bytes l) (a′ : Agrees m′ bytes′ l) where

@@ -14,7 +14,9 @@ use Rattle.words.specs.Loops.{stretch}
 use Rattle.words.proofs.Bits.{length-bits}
 use Rattle.words.proofs.Windows.{length-copies, length-over, length-window}
 use Rattle.masks.specs.Answer.{Answer, given, refused, decided, kept, checked}
-use Rattle.masks.specs.Appends.{Append, pushFlag, extendConstant, pushWord, extendSlice, extendRepeated, extendBitmap, extendGather, extendOptGather, appendChecks, appendFlags, constantChecks, gatherChecks, gathered, growChecks, innerChecks, repeated, spanGrowChecks, subsliceChecks, wordChecks, allBelow}
+use Rattle.masks.specs.Appends.{Append, pushFlag, extendConstant, pushWord, extendSlice, extendRepeated, extendBitmap}
+use Rattle.masks.specs.Appends.{extendGather, extendOptGather, appendChecks, appendFlags, constantChecks, gatherChecks, gathered}
+use Rattle.masks.specs.Appends.{growChecks, innerChecks, repeated, spanGrowChecks, subsliceChecks, wordChecks, allBelow}
 use Rattle.masks.specs.Builder.{Filling, filling, appended, builderChecks, builderFlags, noneFrom, Room}
 use Rattle.masks.specs.Checks.{Check, check, firstFailed, limit, spanChecks, withinLimit}
 use Rattle.masks.specs.Freeze.{allOnes, freezeChecks, frozenMask, frozenOver, validityOf}
@@ -62,7 +64,8 @@ sized : (b : BitmapBuilder) (n m size : ℕ) → m ≡ n → firstFailed (builde
 sized b n m size p e = ap (λ (x : ℕ). firstFailed (builderChecks b (b .length + x) size)) p ∙ e
 
 -- every append has passed the builder's checks for its own flags
-grows : (a : Append) (b : BitmapBuilder) (buf : List ℕ) → firstFailed (appendChecks a b buf) ≡ 0 → firstFailed (builderChecks b (b .length + length (appendFlags a)) (length buf)) ≡ 0
+grows : (a : Append) (b : BitmapBuilder) (buf : List ℕ) → firstFailed (appendChecks a b buf) ≡ 0
+    → firstFailed (builderChecks b (b .length + length (appendFlags a)) (length buf)) ≡ 0
 unfolding constantChecks wordChecks spanGrowChecks subsliceChecks gatherChecks
 grows (pushFlag x) b buf e = e
 grows (extendConstant n x) b buf e = sized b n (length (copies n x)) (length buf) (length-copies n x) (both-left (growChecks b n (length buf)) (withinLimit n ∷ []) e)

@@ -14,9 +14,11 @@ use Rattle.words.specs.declared.ops.Op.{Op}
 use Rattle.words.proofs.Windows.{length-copies, length-over, length-window}
 use Rattle.masks.specs.Answer.{Answer, given, refused, decided, kept, checked}
 use Rattle.masks.specs.Checks.{Check, check, firstFailed, limit, outputChecks, spanChecks, withinLimit}
-use Rattle.masks.specs.Combine.{notChecks, notFlags, pairChecks, pairEach, pairFlags, pairMask, pairShortcut, resultCount, resultFlags, selectChecks, selectConstantFlags, selectFlags}
+use Rattle.masks.specs.Combine.{notChecks, notFlags, pairChecks, pairEach, pairFlags, pairMask, pairShortcut}
+use Rattle.masks.specs.Combine.{resultCount, resultFlags, selectChecks, selectConstantFlags, selectFlags}
 use Rattle.masks.specs.Frozen.{frozen}
-use Rattle.masks.specs.History.{Argument, own, other, Pair, and, andNot, or, orNot, xor, FairAt, State, afterCombined, afterCount, afterSlice, bytesAt, flagsAt, maskAt, pairFlag, pairOp}
+use Rattle.masks.specs.History.{Argument, own, other, Pair, and, andNot, or, orNot, xor, FairAt, State}
+use Rattle.masks.specs.History.{afterCombined, afterCount, afterSlice, bytesAt, flagsAt, maskAt, pairFlag, pairOp}
 use Rattle.masks.specs.Mask.{Recounted, maskChecks, maskFlags, maskOf, pieceChecks, slicedMask, uncounted, zeroCount}
 use Rattle.masks.specs.TrueCounts.{Sound, TrueCount, Truthful}
 use Rattle.masks.specs.declared.bitmap.Bitmap.{Bitmap}
@@ -195,7 +197,8 @@ module _ (m : Bitmap) (bytes : List ℕ) (l : List Bool) (s : Stands m bytes l) 
       let same : a .length ≡ b .length = pair-lengths a aB b bB (length out) (sym e) in
       let written = pair-written op p q (length out) (sym e) (fair refl) in
       let long : length (pairFlags (pairOp op) a aB b bB) ≡ a .length = pair-long (pairOp op) a aB b bB same in
-      made-stands (a .length) (resultCount (pairShortcut (pairOp op) a aB b bB) (a .length)) (pairFlags (pairOp op) a aB b bB) (zipWith (pairFlag op) (flagsAt l p) (flagsAt l q)) out
+      made-stands (a .length) (resultCount (pairShortcut (pairOp op) a aB b bB) (a .length))
+      (pairFlags (pairOp op) a aB b bB) (zipWith (pairFlag op) (flagsAt l p) (flagsAt l q)) out
       long (mask-allowed a aB (both-left (maskChecks a aB) (maskChecks b bB ++ rest) (sym e)) .short) room written
       (pair-true (pairOp op) a aB b bB same)
   pair-holds op p q out (suc k) e fair = s

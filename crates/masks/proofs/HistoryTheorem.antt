@@ -18,13 +18,16 @@ use Rattle.masks.specs.Builder.{Filling, filling, builderFlags, inProgre
 use Rattle.masks.specs.Checks.{Check, check, firstFailed, limit, outputChecks, spanChecks}
 use Rattle.masks.specs.Combine.{eachBytes, eachOf, notChecks, notFlags, pairBytes, pairChecks, pairOf, selectChecks, selectConstantFlags, selectFlags}
 use Rattle.masks.specs.Freeze.{allOnes, freezeChecks}
-use Rattle.masks.specs.History.{Argument, Call, tryNew, append, freeze, intoOptValidity, slice, unsetBits, combine, Combination, pair, invert, select, selectConstant, FairCall, Fair, Outcome, Seen, Start, startOf, fromBuilder, fromSpan, State, waiting, building, masked, ended, afterSlice, afterTry, bytesAt, combinedFlags, flagsAt, listStep, maskAt, pairOp, reference, run, step, trace}
+use Rattle.masks.specs.History.{Argument, Call, tryNew, append, freeze, intoOptValidity, slice, unsetBits, combine, Combination, pair, invert, select}
+use Rattle.masks.specs.History.{selectConstant, FairCall, Fair, Outcome, Seen, Start, startOf, fromBuilder, fromSpan, State, waiting, building, masked}
+use Rattle.masks.specs.History.{ended, afterSlice, afterTry, bytesAt, combinedFlags, flagsAt, listStep, maskAt, pairOp, reference, run, step, trace}
 use Rattle.masks.specs.Mask.{maskChecks, maskFlags, maskOf, pieceChecks, sliceOf, tryNewOf, uncounted, unsetBitsOf}
 use Rattle.masks.specs.declared.bitmap.Bitmap.{Bitmap}
 use Rattle.masks.proofs.CheckLaws.{both-left, both-right, rest-allowed, span-allowed}
 use Rattle.masks.proofs.CombineLaws.{pair-lengths, select-lengths}
 use Rattle.masks.proofs.HistoryLaws.{Builds, Holds, Stands, append-holds, freeze-holds, validity-holds}
-use Rattle.masks.proofs.HistoryMasks.{constant-written, count-holds, each-holds, flags-at, length-not, length-zip2, length-zip3, output-allowed, pair-holds, select-written, slice-holds}
+use Rattle.masks.proofs.HistoryMasks.{constant-written, count-holds, each-holds, flags-at, length-not, length-zip2}
+use Rattle.masks.proofs.HistoryMasks.{length-zip3, output-allowed, pair-holds, select-written, slice-holds}
 use Rattle.masks.proofs.MaskLaws.{mask-allowed}
 use Rattle.masks.proofs.RoomLaws.{finished}
 use Rattle.masks.proofs.SliceTruth.{none-true, slice-accepted}
@@ -52,11 +55,13 @@ select-known a aB b bB c cB out e =
     let third = length-window (flagsOf cB) (c .start) (c .length) in
     let five : List Check = check 5 (eqb (a .length) (c .length)) ∷ outputChecks (a .length) (length out) in
     let rest : List Check = check 5 (eqb (a .length) (b .length)) ∷ five in
-    let all = both-right (maskChecks c cB) rest (both-right (maskChecks b bB) (maskChecks c cB ++ rest) (both-right (maskChecks a aB) (maskChecks b bB ++ (maskChecks c cB ++ rest)) e)) in (
+    let all = both-right (maskChecks c cB) rest (both-right (maskChecks b bB) (maskChecks c cB ++ rest)
+    (both-right (maskChecks a aB) (maskChecks b bB ++ (maskChecks c cB ++ rest)) e)) in (
       length-zip3 cond (maskFlags a aB) (maskFlags b bB) (maskFlags c cB) (first ∙ same .0 ∙ sym second) (first ∙ same .1 ∙ sym third) ∙ first,
       (
         mask-allowed a aB (both-left (maskChecks a aB) (maskChecks b bB ++ (maskChecks c cB ++ rest)) e) .short,
-        output-allowed (a .length) (length out) (rest-allowed (check 5 (eqb (a .length) (c .length))) (outputChecks (a .length) (length out)) (rest-allowed (check 5 (eqb (a .length) (b .length))) five all)),
+        output-allowed (a .length) (length out) (rest-allowed (check 5 (eqb (a .length) (c .length)))
+            (outputChecks (a .length) (length out)) (rest-allowed (check 5 (eqb (a .length) (b .length))) five all)),
       ),
     )
 
@@ -71,7 +76,8 @@ constant-known a aB b bB x out e =
       length-zip2 (λ p q. cond p q x) (maskFlags a aB) (maskFlags b bB) (first ∙ same ∙ sym second) ∙ first,
       (
         mask-allowed a aB (both-left (maskChecks a aB) (maskChecks b bB ++ rest) e) .short,
-        output-allowed (a .length) (length out) (rest-allowed (check 5 (eqb (a .length) (b .length))) (outputChecks (a .length) (length out)) (both-right (maskChecks b bB) rest (both-right (maskChecks a aB) (maskChecks b bB ++ rest) e))),
+        output-allowed (a .length) (length out) (rest-allowed (check 5 (eqb (a .length) (b .length))) (outputChecks (a .length) (length out))
+            (both-right (maskChecks b bB) rest (both-right (maskChecks a aB) (maskChecks b bB ++ rest) e))),
       ),
     )
 
@@ -136,7 +142,8 @@ step-holds (masked m bytes) (append a) l i fair = i
 step-holds (masked m bytes) freeze l i fair = i
 step-holds (masked m bytes) intoOptValidity l i fair = i
 step-holds (masked m bytes) (slice offset n) l i fair =
-    subst (λ (x : Answer Bitmap Bitmap). Holds (afterSlice bytes x .state) (cond (afterSlice bytes x .accepted) (window l offset n) l)) (sym (slice-accepted m bytes offset n (i .sound .counts)))
+    subst (λ (x : Answer Bitmap Bitmap). Holds (afterSlice bytes x .state) (cond (afterSlice bytes x .accepted) (window l offset n) l))
+    (sym (slice-accepted m bytes offset n (i .sound .counts)))
     (slice-holds m bytes l offset n (firstFailed (pieceChecks m bytes offset n)) refl i)
 step-holds (masked m bytes) unsetBits l i fair = count-holds m bytes l (firstFailed (maskChecks m bytes)) i
 step-holds (masked m bytes) (combine c out) l i fair = combination-holds m bytes l c out i fair

@@ -44,7 +44,9 @@ ended-step false y c d e p = refl
 
 pub flag-taken : (bytes : List ℕ) (c d : BitmapIter) (k : ℕ) (x : Bool) → item x d ≡ flagStep bytes c k → x ≡ getD (iterFlags c bytes) (c .place + k) false
 unfolding flagStep
-flag-taken bytes c d k x e = taken-step (ltb (c .place + k) (c .length)) x (getD (iterFlags c bytes) (c .place + k) false) d (movedTo c (c .place + k + 1)) (movedTo c (c .length)) e
+flag-taken bytes c d k x e =
+    taken-step (ltb (c .place + k) (c .length)) x (getD (iterFlags c bytes) (c .place + k) false) d
+    (movedTo c (c .place + k + 1)) (movedTo c (c .length)) e
 
 pub flag-ended : (bytes : List ℕ) (c d : BitmapIter) (k : ℕ) → ended d ≡ flagStep bytes c k → false ≡ getD (iterFlags c bytes) (c .place + k) false
 unfolding flagStep

@@ -9,12 +9,14 @@ use lib.ListN.{length}
 use borrow.Author.Tests.{le-leb, lt-leb, leb-true, leb-false, eq-eqb, ne-eqb}
 use Rattle.masks.specs.Answer.{Answer, given, refused, decided}
 use Rattle.masks.specs.Checks.{Check, check, firstFailed, limit, withinLimit, spanChecks}
-use Rattle.masks.specs.Mask.{maskOf, cutZeros, slicedMask, sliceOf, sliceChecks, countValid, maskChecks, pieceChecks, PieceAllowed, recounts, recountedOf, keptCount, slicedCount, recountValid, cutOf}
+use Rattle.masks.specs.Mask.{maskOf, cutZeros, slicedMask, sliceOf, sliceChecks, countValid, maskChecks, pieceChecks}
+use Rattle.masks.specs.Mask.{PieceAllowed, recounts, recountedOf, keptCount, slicedCount, recountValid, cutOf}
 use Rattle.masks.specs.declared.bitmap.Bitmap.{Bitmap}
 use Rattle.masks.specs.declared.bitmap.Cut.{Cut}
 use Rattle.masks.specs.declared.bitmap.Unset.{Unset}
 use Rattle.masks.specs.declared.bitmap.Unset.the-variants.{Known, Unknown}
-use Rattle.masks.proofs.CheckLaws.{before, first-refused, last-refused, last-given, both-left, both-right, span-allowed, SpanAllowed, first-allowed, rest-allowed, check-allowed}
+use Rattle.masks.proofs.CheckLaws.{before, first-refused, last-refused, last-given, both-left, both-right}
+use Rattle.masks.proofs.CheckLaws.{span-allowed, SpanAllowed, first-allowed, rest-allowed, check-allowed}
 
 -- what is known of a mask whose checks have passed
 pub mask-allowed : (m : Bitmap) (bytes : List ℕ) → firstFailed (maskChecks m bytes) ≡ 0 → SpanAllowed (m .start) (m .length) (length bytes)
@@ -98,12 +100,14 @@ module _ (m : Bitmap) (bytes : List ℕ) (offset n k : ℕ) (piece : k ≡ first
   pub slice-refused : (k ≡ 0 → ⊥) → refused k m ≡ sliceOf m bytes offset n
   unfolding sliceOf sliceChecks
   slice-refused h =
-      first-refused (pieceChecks m bytes offset n) k 6 (recountValid (m .length) n (cutZeros m bytes offset n) (m .unset)) m (slicedMask m bytes offset n) (piece-before m bytes offset n) piece h
+      first-refused (pieceChecks m bytes offset n) k 6 (recountValid (m .length) n (cutZeros m bytes offset n) (m .unset)) m
+      (slicedMask m bytes offset n) (piece-before m bytes offset n) piece h
 
   pub slice-wrong : k ≡ 0 → Cut.Wrong ≡ cutOf (m .length) n (cutZeros m bytes offset n) (m .unset) → refused 7 m ≡ sliceOf m bytes offset n
   unfolding sliceOf sliceChecks
   slice-wrong z e =
-      last-refused (pieceChecks m bytes offset n) k 6 (recountValid (m .length) n (cutZeros m bytes offset n) (m .unset)) m (slicedMask m bytes offset n) piece z (cut-wrong (m .length) n (cutZeros m bytes offset n) (m .unset) e)
+      last-refused (pieceChecks m bytes offset n) k 6 (recountValid (m .length) n (cutZeros m bytes offset n) (m .unset)) m
+      (slicedMask m bytes offset n) piece z (cut-wrong (m .length) n (cutZeros m bytes offset n) (m .unset) e)
 
   pub slice-right : (v : Unset) → k ≡ 0 → Cut.Count v ≡ cutOf (m .length) n (cutZeros m bytes offset n) (m .unset)
       → given (maskOf (m .start + offset) n v) ≡ sliceOf m bytes offset n

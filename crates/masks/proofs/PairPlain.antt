@@ -68,7 +68,8 @@ written-flags op a aBytes b bBytes out e =
     (both-right (maskChecks b bBytes) rest (both-right (maskChecks a aBytes) (maskChecks b bBytes ++ rest) e))) in
     let F = pairFlags op a aBytes b bBytes in
     let n : length F ≡ a .length = flags-length a aBytes b bBytes (pair-lengths a aBytes b bBytes (length out) e) op in
-    let new : kept (firstFailed (maskChecks a aBytes ++ (maskChecks b bBytes ++ rest))) (over out (frozen F)) out ≡ over out (frozen F) = when-passed (firstFailed (maskChecks a aBytes ++ (maskChecks b bBytes ++ rest))) (over out (frozen F)) out e in
+    let new : kept (firstFailed (maskChecks a aBytes ++ (maskChecks b bBytes ++ rest))) (over out (frozen F)) out ≡ over out (frozen F) =
+    when-passed (firstFailed (maskChecks a aBytes ++ (maskChecks b bBytes ++ rest))) (over out (frozen F)) out e in
     ap (λ (l : List ℕ). window (flagsOf l) 0 (a .length)) new
     ∙ ap (window (flagsOf (over out (frozen F))) 0) (sym n)
     ∙ frozen-front out F (omega arith)

@@ -12,7 +12,8 @@ use Rattle.masks.proofs.AnswerLaws.{refused-number, refused-state, refu
 use Rattle.masks.proofs.CheckLaws.{and-left, and-right, is-kept}
 use Rattle.masks.specs.Aligned.{alignedChecks, alignedOf}
 use Rattle.masks.specs.Answer.{Answer, given, refused, checked, kept, unlessEmpty}
-use Rattle.masks.specs.Appends.{Append, pushFlag, extendConstant, pushWord, extendSlice, extendRepeated, extendBitmap, extendGather, extendOptGather, appendChecks, wordChecks, constantChecks, spanGrowChecks, innerChecks, subsliceChecks, gatherChecks}
+use Rattle.masks.specs.Appends.{Append, pushFlag, extendConstant, pushWord, extendSlice, extendRepeated, extendBitmap, extendGather, extendOptGather}
+use Rattle.masks.specs.Appends.{appendChecks, wordChecks, constantChecks, spanGrowChecks, innerChecks, subsliceChecks, gatherChecks}
 use Rattle.masks.specs.Bitmask.{splitChecks, splitAt, windowAt}
 use Rattle.masks.specs.Builder.{builderChecks}
 use Rattle.masks.specs.Checks.{Check, rank, earlier, failure, firstFailed, spanChecks, addressChecks, outputChecks}
@@ -24,7 +25,8 @@ use Rattle.masks.specs.Freeze.{freezeChecks}
 use Rattle.masks.specs.Iterator.{iterChecks, newIter, nthFlag, takeLeading}
 use Rattle.masks.specs.Mask.{maskChecks, zeroedChecks, pieceChecks, sliceChecks, tryNewOf, newZeroedOf, newZeroedBytes, unsetBitsOf, sliceOf}
 use Rattle.masks.specs.Refusals.{numbers, among, allAmong, Refuses, RefusesUnwritten, Refusals, mayGive, appendFamily}
-use Rattle.masks.specs.Refusals.{Family, addressed, spans, cursors, unmasked-cursors, splits, builders, pushed-words, span-appends, gathers, piece-appends, zeroed-masks, masks, slices, combinations, inversions, intersections, stated-masks, stated-lengths}
+use Rattle.masks.specs.Refusals.{Family, addressed, spans, cursors, unmasked-cursors, splits, builders, pushed-words, span-appends, gathers}
+use Rattle.masks.specs.Refusals.{piece-appends, zeroed-masks, masks, slices, combinations, inversions, intersections, stated-masks, stated-lengths}
 use Rattle.masks.specs.Search.{searchFrom, searchBack}
 use Rattle.masks.specs.SliceIterator.{runChecks, newSlices, nextSlice}
 use Rattle.masks.specs.TrueIdx.{trueAt, newTrueChecks, trueChecks, newTrue, nextTrue}

@@ -15,7 +15,8 @@ use Rattle.words.proofs.Windows.{in-window, length-copies, length-window}
 use Rattle.masks.specs.Answer.{Answer, given, refused, decided, checked}
 use Rattle.masks.specs.Checks.{Check, check, earlier, firstFailed, limit, spanChecks, withinLimit}
 use Rattle.masks.specs.Combine.{resultCount, resultFlags}
-use Rattle.masks.specs.Mask.{countFits, countValid, cutOf, cutZeros, keptCount, maskChecks, maskFlags, maskOf, pieceChecks, recounts, recountValid, sliceChecks, slicedCount, slicedMask, sliceOf, uncounted}
+use Rattle.masks.specs.Mask.{countFits, countValid, cutOf, cutZeros, keptCount, maskChecks, maskFlags, maskOf, pieceChecks}
+use Rattle.masks.specs.Mask.{recounts, recountValid, sliceChecks, slicedCount, slicedMask, sliceOf, uncounted}
 use Rattle.masks.specs.TrueCounts.{TrueCount, Truthful}
 use Rattle.masks.specs.Utils.{zeros}
 use Rattle.masks.specs.declared.bitmap.Bitmap.{Bitmap}
@@ -127,7 +128,8 @@ unfolding cutZeros
 valid-slice m bytes offset n h t = never-wrong (flagsOf bytes) (m .start) (m .length) offset n h (m .unset) t
 
 -- with a true count check 7 decides nothing
-pub slice-accepted : (m : Bitmap) (bytes : List ℕ) (offset n : ℕ) → Truthful m bytes → sliceOf m bytes offset n ≡ checked (pieceChecks m bytes offset n) m (slicedMask m bytes offset n)
+pub slice-accepted : (m : Bitmap) (bytes : List ℕ) (offset n : ℕ) → Truthful m bytes
+    → sliceOf m bytes offset n ≡ checked (pieceChecks m bytes offset n) m (slicedMask m bytes offset n)
 unfolding decided
 slice-accepted m bytes offset n t = go (firstFailed (pieceChecks m bytes offset n)) refl
   where

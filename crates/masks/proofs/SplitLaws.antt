@@ -12,7 +12,8 @@ use Rattle.words.specs.Loops.{stretch}
 use mathlib.Core.Logic.{_⊎_, inl, inr, ⊎-elim}
 use borrow.Author.Tests.{leb-true, leb-false}
 use Rattle.words.proofs.Windows.{length-window, window-add, window-cut, window-all, bits-window, in-window}
-use Rattle.masks.specs.Aligned.{bytesToAligned, bulkOffset, short, prefixLength, bulkStart, bulkLength, suffixLength, alignedSplit, emptySplit, splitFlags, alignedOf, alignedChecks, Bounded}
+use Rattle.masks.specs.Aligned.{bytesToAligned, bulkOffset, short, prefixLength, bulkStart, bulkLength, suffixLength}
+use Rattle.masks.specs.Aligned.{alignedSplit, emptySplit, splitFlags, alignedOf, alignedChecks, Bounded}
 use Rattle.masks.specs.declared.aligned.AlignedBitmapSlice.{AlignedBitmapSlice}
 use Rattle.masks.specs.Answer.{Answer, given, refused, decided, unlessEmpty}
 use Rattle.masks.specs.Checks.{firstFailed, limit, spanChecks, addressChecks}
@@ -134,7 +135,8 @@ split-known bytes start (suc n) address s e =
     }
 
 -- a count of the split's flags, and a refusal handed on
-pub counted : (bytes : List ℕ) (start n address v : ℕ) (s : AlignedBitmapSlice) → given s ≡ alignedOf bytes start n address → (n ≡ 0 → v ≡ 0) → given v ≡ spanCount bytes start n address v
+pub counted : (bytes : List ℕ) (start n address v : ℕ) (s : AlignedBitmapSlice)
+    → given s ≡ alignedOf bytes start n address → (n ≡ 0 → v ≡ 0) → given v ≡ spanCount bytes start n address v
 unfolding alignedOf spanCount unlessEmpty
 counted bytes start zero address v s e h = ap given (h refl)
 counted bytes start (suc n) address v s e h =
@@ -149,10 +151,12 @@ refused-only (suc f) k s a b e = let q : k ≡ suc f = cc in ap (λ (m : ℕ). r
 pub count-refused : (bytes : List ℕ) (start n address v k : ℕ) → refused k tt ≡ alignedOf bytes start n address → refused k tt ≡ spanCount bytes start n address v
 unfolding alignedOf spanCount unlessEmpty
 count-refused bytes start zero address v k e = absurd (let z : _≡_ {A = ℕ} 0 1 = cc in omega arith)
-count-refused bytes start (suc n) address v k e = refused-only (firstFailed (alignedChecks start (suc n) (length bytes) address)) k tt (alignedSplit bytes start (suc n) address) v e
+count-refused bytes start (suc n) address v k e =
+    refused-only (firstFailed (alignedChecks start (suc n) (length bytes) address)) k tt (alignedSplit bytes start (suc n) address) v e
 
 -- the ones of a split are the span's
-pub split-count : (bytes : List ℕ) (start n address c : ℕ) (s : AlignedBitmapSlice) → s ≡ alignedSplit bytes start n address → c ≡ count (splitFlags bytes s) → c ≡ count (stretch bytes start n)
+pub split-count : (bytes : List ℕ) (start n address c : ℕ) (s : AlignedBitmapSlice)
+    → s ≡ alignedSplit bytes start n address → c ≡ count (splitFlags bytes s) → c ≡ count (stretch bytes start n)
 split-count bytes start n address c s e p = p ∙ ap (λ (t : AlignedBitmapSlice). count (splitFlags bytes t)) e ∙ ap count (split-flags bytes start n address)
 
 -- what is known of a span whose checks have passed, with its address

@@ -55,7 +55,8 @@ zip-first-constant f x w h zero m e = refl
 zip-first-constant f x w h (suc n) [] e = absurd (omega arith)
 zip-first-constant f x w h (suc n) (y ∷ m) e = ap₂ (λ (b : Bool) (t : List Bool). b ∷ t) (h y y) (zip-first-constant f x w h n m (omega arith))
 
-zip-second-constant : (f : Bool → Bool → Bool → Bool) (y w : Bool) → ((x : Bool) → f x y y ≡ w) → (n : ℕ) (l : List Bool) → length l ≡ n → zip3 f l (copies n y) (copies n y) ≡ copies n w
+zip-second-constant : (f : Bool → Bool → Bool → Bool) (y w : Bool) → ((x : Bool) → f x y y ≡ w)
+    → (n : ℕ) (l : List Bool) → length l ≡ n → zip3 f l (copies n y) (copies n y) ≡ copies n w
 unfolding zip3 copies
 zip-second-constant f y w h zero [] e = refl
 zip-second-constant f y w h zero (x ∷ l) e = absurd (omega arith)
@@ -80,8 +81,12 @@ zip-constants f x y (suc n) = ap (λ (t : List Bool). f x y y ∷ t) (zip-consta
 
 module _ (l m : List Bool) (n : ℕ) (el : length l ≡ n) (em : length m ≡ n) where
   and-seen : (a b : Bool) → eqb (zeros l) n ≡ a → eqb (zeros m) n ≡ b → resultFlags (cond (a || b) (All false) Each) n (zip3 (opOf And) l m m) ≡ zip3 (opOf And) l m m
-  and-seen true b p q = sym (ap (λ (t : List Bool). zip3 (opOf And) t m m) (all-zero l n el (eqb-true (zeros l) n p)) ∙ zip-first-constant (opOf And) false false (λ y z. refl) n m em)
-  and-seen false true p q = sym (ap (λ (t : List Bool). zip3 (opOf And) l t t) (all-zero m n em (eqb-true (zeros m) n q)) ∙ zip-second-constant (opOf And) false false and-false n l el)
+  and-seen true b p q =
+      sym (ap (λ (t : List Bool). zip3 (opOf And) t m m) (all-zero l n el (eqb-true (zeros l) n p))
+      ∙ zip-first-constant (opOf And) false false (λ y z. refl) n m em)
+  and-seen false true p q =
+      sym (ap (λ (t : List Bool). zip3 (opOf And) l t t) (all-zero m n em (eqb-true (zeros m) n q))
+      ∙ zip-second-constant (opOf And) false false and-false n l el)
   and-seen false false p q = refl
 
   or-seen : (a b : Bool) → eqb (zeros l) 0 ≡ a → eqb (zeros m) 0 ≡ b → resultFlags (cond (a || b) (All true) Each) n (zip3 (opOf Or) l m m) ≡ zip3 (opOf Or) l m m

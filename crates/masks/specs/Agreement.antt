@@ -14,7 +14,8 @@ use Rattle.masks.specs.Builder.{newBuilder}
 use Rattle.masks.specs.Cursor.{Step, item, ended, listing}
 use Rattle.masks.specs.Freeze.{freezeBytes, freezeOf}
 use Rattle.masks.specs.Frozen.{frozen, frozenSize}
-use Rattle.masks.specs.History.{Argument, own, other, Combination, pair, invert, select, selectConstant, History, FairHistory, combinedBytes, combinedFlags, combinedOf, endOf, listOf, masked}
+use Rattle.masks.specs.History.{Argument, own, other, Combination, pair, invert, select, selectConstant, History}
+use Rattle.masks.specs.History.{FairHistory, combinedBytes, combinedFlags, combinedOf, endOf, listOf, masked}
 use Rattle.masks.specs.Iterator.{newIter, nthFlag}
 use Rattle.masks.specs.Mask.{maskFlags, Recounted, unsetBitsOf}
 use Rattle.masks.specs.Search.{nthBack, nthFrom, searchBack, searchFrom}

@@ -11,7 +11,8 @@ use lib.ListN.{length}
 use Rattle.words.specs.declared.ops.Op.{Op}
 use Rattle.masks.specs.Aligned.{alignedOf}
 use Rattle.masks.specs.Answer.{Answer, refused}
-use Rattle.masks.specs.Appends.{Append, pushFlag, extendConstant, pushWord, extendSlice, extendRepeated, extendBitmap, extendGather, extendOptGather, appendAnswer, appendBytes}
+use Rattle.masks.specs.Appends.{Append, pushFlag, extendConstant, pushWord, extendSlice, extendRepeated}
+use Rattle.masks.specs.Appends.{extendBitmap, extendGather, extendOptGather, appendAnswer, appendBytes}
 use Rattle.masks.specs.Bitmask.{splitAt, windowAt}
 use Rattle.masks.specs.Checks.{Check}
 use Rattle.masks.specs.Chunks.{newChunks, nextChunk, chunksRemainder}

@@ -18,7 +18,8 @@ use Rattle.masks.specs.Freeze.{freezeOf, intoOptValidityOf}
 use Rattle.masks.specs.Iterator.{iterAt, newIter, nthFlag, takeLeading}
 use Rattle.masks.specs.Mask.{maskOf, tryNewOf, newZeroedOf, unsetBitsOf, sliceOf}
 use Rattle.masks.specs.Refusals.{mayGive}
-use Rattle.masks.specs.Refusals.{Family, addressed, spans, cursors, unmasked-cursors, splits, builders, pushed-words, span-appends, gathers, piece-appends, zeroed-masks, masks, slices, combinations, inversions, intersections, stated-masks, stated-lengths}
+use Rattle.masks.specs.Refusals.{Family, addressed, spans, cursors, unmasked-cursors, splits, builders, pushed-words, span-appends, gathers}
+use Rattle.masks.specs.Refusals.{piece-appends, zeroed-masks, masks, slices, combinations, inversions, intersections, stated-masks, stated-lengths}
 use Rattle.masks.specs.Search.{searchFrom, searchBack}
 use Rattle.masks.specs.SliceIterator.{slicesAt, newSlices, nextSlice}
 use Rattle.masks.specs.TrueIdx.{trueAt, newTrue, nextTrue}

@@ -98,7 +98,8 @@ module _ (m : Bitmap) (bytes : List ℕ) (place runs : ℕ) (readable : firstFai
       let at : c .place ≡ first + n = ap (λ (d : SlicesIterator). d .place) (seen .1) in
       (omega (arith, run .after, run .some), omega (arith, run .inside, flags-length))
 
-  pub run-passed : (r : Run) (c : SlicesIterator) → given (item r c) ≡ nextSlice (slicesAt (m .start) (m .length) place) bytes → RunsCounted m bytes (c .place) (runs + 1) × (place < c .place)
+  pub run-passed : (r : Run) (c : SlicesIterator) → given (item r c) ≡ nextSlice (slicesAt (m .start) (m .length) place) bytes
+      → RunsCounted m bytes (c .place) (runs + 1) × (place < c .place)
   unfolding nextSlice
   run-passed r c e =
       let step = given-value _ _ _ _ e in
@@ -110,7 +111,12 @@ module _ (m : Bitmap) (bytes : List ℕ) (place runs : ℕ) (readable : firstFai
   pub no-run : (c : SlicesIterator) → given (ended c) ≡ nextSlice (slicesAt (m .start) (m .length) place) bytes → runs ≡ length (runsFrom 0 (maskFlags m bytes))
   unfolding nextSlice
   no-run c e =
-      omega (arith, a .sum, ap length (next-lists (slicesAt (m .start) (m .length) place) (maskFlags m bytes) flags-length ∙ ap (listed (maskFlags m bytes)) (sym (given-value _ _ _ _ e))))
+      omega (
+        arith,
+        a .sum,
+        ap length (next-lists (slicesAt (m .start) (m .length) place) (maskFlags m bytes) flags-length
+            ∙ ap (listed (maskFlags m bytes)) (sym (given-value _ _ _ _ e))),
+      )
 
   pub not-refused : (n : ℕ) (c : SlicesIterator) → refused n c ≡ nextSlice (slicesAt (m .start) (m .length) place) bytes → ⊥
   unfolding nextSlice

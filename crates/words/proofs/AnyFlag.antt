@@ -62,7 +62,8 @@ unfolding window anySet
 any-none Z = ap anySet (bits-zero 64) ∙ any-copies 64 false
 
 -- one more word joined
-pub any-step : (Z : List Bool) (i v w r : ℕ) → anySet (bits 64 v) ≡ anySet (window Z 0 (64 * i)) → bits 64 w ≡ window Z (64 * i) 64 → bits 64 r ≡ zipWith _||_ (bits 64 v) (bits 64 w)
+pub any-step : (Z : List Bool) (i v w r : ℕ) → anySet (bits 64 v) ≡ anySet (window Z 0 (64 * i))
+    → bits 64 w ≡ window Z (64 * i) 64 → bits 64 r ≡ zipWith _||_ (bits 64 v) (bits 64 w)
     → anySet (bits 64 r) ≡ anySet (window Z 0 (64 * (i + 1)))
 any-step Z i v w r inv new op =
     let n : 64 * i + 64 ≡ 64 * (i + 1) = omega arith in
@@ -135,7 +136,8 @@ any-more Z m n k t inv p e h =
     c ∙ ap (λ (x : ℕ). count (window Z 0 x)) h
 
 -- a list of m flags with none set among the first n, whose flags behind n are one flag, over and over
-pub any-behind : (Z : List Bool) (m n : ℕ) (x t : Bool) → 0 ≡ count (window Z 0 n) → length Z ≡ m → t ≡ (ltb n m && x) → (n < m → window Z n (m - n) ≡ copies (m - n) x) → t ≡ anySet Z
+pub any-behind : (Z : List Bool) (m n : ℕ) (x t : Bool) → 0 ≡ count (window Z 0 n) → length Z ≡ m
+    → t ≡ (ltb n m && x) → (n < m → window Z n (m - n) ≡ copies (m - n) x) → t ≡ anySet Z
 any-behind Z m n x t p e q h = q ∙ go x refl (lt-or-le n m) ∙ sym (any-count Z)
   where
     all : 0 + (m - n) * digit x ≡ count Z

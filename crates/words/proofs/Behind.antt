@@ -24,12 +24,16 @@ module _ (f : Bool → Bool → Bool → Bool) (a b c : List ℕ) (p q r len n :
   flags-end : (l : List ℕ) (k : ℕ) → length l ≤ 8 * n → length (flagsOf l) ≤ k + 64 * n
   flags-end l k h = omega (arith, length-flags l)
 
-  behind : 64 * n < len → window (zip3 f (window (flagsOf a) p len) (window (flagsOf b) q len) (window (flagsOf c) r len)) (64 * n) (len - 64 * n) ≡ copies (len - 64 * n) (f false false false)
+  behind : 64 * n < len
+      → window (zip3 f (window (flagsOf a) p len) (window (flagsOf b) q len) (window (flagsOf c) r len)) (64 * n) (len - 64 * n)
+      ≡ copies (len - 64 * n) (f false false false)
   behind h =
       zip-behind f (flagsOf a) (flagsOf b) (flagsOf c) p q r len (64 * n) (omega arith)
       (flags-end a p (ended h .inA)) (flags-end b q (ended h .inB)) (flags-end c r (ended h .inC))
 
-  pub count-finish : (i x d : ℕ) → x ≡ count (window (zip3 f (window (flagsOf a) p len) (window (flagsOf b) q len) (window (flagsOf c) r len)) 0 (64 * i)) → i ≤ n → n ≤ i → d ≡ (len - 64 * n) * digit (f false false false)
+  pub count-finish : (i x d : ℕ)
+      → x ≡ count (window (zip3 f (window (flagsOf a) p len) (window (flagsOf b) q len) (window (flagsOf c) r len)) 0 (64 * i))
+      → i ≤ n → n ≤ i → d ≡ (len - 64 * n) * digit (f false false false)
       → x + d ≡ count (zip3 f (window (flagsOf a) p len) (window (flagsOf b) q len) (window (flagsOf c) r len))
   count-finish i x d e h k u =
       let m : i ≡ n = omega arith in
@@ -37,7 +41,9 @@ module _ (f : Bool → Bool → Bool → Bool) (a b c : List ℕ) (p q r len n :
       (e ∙ ap (λ (j : ℕ). count (window (zip3 f (window (flagsOf a) p len) (window (flagsOf b) q len) (window (flagsOf c) r len)) 0 (64 * j))) m)
       (length-zip f (flagsOf a) (flagsOf b) (flagsOf c) p q r len) u behind
 
-  pub any-finish : (i : ℕ) (t : Bool) → 0 ≡ count (window (zip3 f (window (flagsOf a) p len) (window (flagsOf b) q len) (window (flagsOf c) r len)) 0 (64 * i)) → i ≤ n → n ≤ i → t ≡ (ltb (64 * n) len && f false false false)
+  pub any-finish : (i : ℕ) (t : Bool)
+      → 0 ≡ count (window (zip3 f (window (flagsOf a) p len) (window (flagsOf b) q len) (window (flagsOf c) r len)) 0 (64 * i))
+      → i ≤ n → n ≤ i → t ≡ (ltb (64 * n) len && f false false false)
       → t ≡ anySet (zip3 f (window (flagsOf a) p len) (window (flagsOf b) q len) (window (flagsOf c) r len))
   any-finish i t e h k u =
       let m : i ≡ n = omega arith in

@@ -3,7 +3,8 @@ use mathlib.Core.Path.{_≡_, refl, sym, ap, ap₂, _∙_}
 use mathlib.Core.Bool.{Bool, true, false, not, _&&_, _||_, xor}
 use mathlib.Core.List.{List, [], _∷_, _++_, map, zipWith}
 use Prim.Native.Nat.{ℕ, zero, suc, _+_, _-_, _*_, _/_, _%_, _^_, _≤_, _<_, min, max}
-use native.Mathlib.Nat.{suc-add, zero-add, add-zero, pow-suc, mod-lt, zero-lt-suc, div-add-mod', zero-min, min-zero, zero-max, max-zero, suc-min-suc, suc-max-suc, div-one, mul-assoc}
+use native.Mathlib.Nat.{suc-add, zero-add, add-zero, pow-suc, mod-lt, zero-lt-suc, div-add-mod', zero-min}
+use native.Mathlib.Nat.{min-zero, zero-max, max-zero, suc-min-suc, suc-max-suc, div-one, mul-assoc}
 use native.Mathlib.Numerals.{one-add, add-one}
 use native.Mathlib.Omega.{arith}
 use lib.Arith.{digits-div, digits-mod, digits-lt, lt-one}
@@ -62,7 +63,8 @@ module _ (op f : ℕ → ℕ → ℕ) (g : Bool → Bool → Bool) (step : (a b 
   unfolding bits zipWith
   bits-op zero a b = refl
   bits-op (suc d) a b =
-      let h : (f (a % 2) (b % 2) < 2) × (isOne (f (a % 2) (b % 2)) ≡ g (isOne (a % 2)) (isOne (b % 2))) = on (a % 2) (b % 2) (mod-lt a (zero-lt-suc 1)) (mod-lt b (zero-lt-suc 1)) in
+      let h : (f (a % 2) (b % 2) < 2) × (isOne (f (a % 2) (b % 2)) ≡ g (isOne (a % 2)) (isOne (b % 2))) =
+      on (a % 2) (b % 2) (mod-lt a (zero-lt-suc 1)) (mod-lt b (zero-lt-suc 1)) in
       ap₂ (λ (x : Bool) (l : List Bool). x ∷ l)
       (ap (λ (x : ℕ). isOne (x % 2)) (step a b) ∙ ap isOne (digits-mod (op (a / 2) (b / 2)) (h .0)) ∙ h .1)
       (ap (λ (x : ℕ). bits d (x / 2)) (step a b) ∙ ap (bits d) (digits-div (op (a / 2) (b / 2)) (h .0)) ∙ bits-op d (a / 2) (b / 2))

@@ -49,7 +49,9 @@ pub flags-over : (l m : List ℕ) → flagsOf (over l m) ≡ over (flagsOf l) (f
 unfolding over flagsOf
 flags-over [] m = refl
 flags-over (x ∷ l) [] = sym (over-none (bits 8 x ++ flagsOf l))
-flags-over (x ∷ l) (y ∷ m) = ap (λ (t : List Bool). bits 8 y ++ t) (flags-over l m) ∙ sym (over-append (bits 8 x) (bits 8 y) (flagsOf l) (flagsOf m) (length-bits 8 x ∙ sym (length-bits 8 y)))
+flags-over (x ∷ l) (y ∷ m) =
+    ap (λ (t : List Bool). bits 8 y ++ t) (flags-over l m)
+    ∙ sym (over-append (bits 8 x) (bits 8 y) (flagsOf l) (flagsOf m) (length-bits 8 x ∙ sym (length-bits 8 y)))
 
 -- bytes with the same flags are the same bytes
 pub flags-inj : (a b : List ℕ) → ((k : ℕ) → getD a k 0 < 256) → ((k : ℕ) → getD b k 0 < 256) → flagsOf a ≡ flagsOf b → a ≡ b
@@ -71,7 +73,8 @@ flags-inj (x ∷ a) (y ∷ b) p q e =
 -- ---- a part that was lent, written and came back
 
 -- what is written over a part of n bytes is written over the whole
-pub over-part : (n : ℕ) (m : List Bool) (out part : List ℕ) → n ≤ length out → length m ≡ 8 * n → flagsOf part ≡ over (flagsOf (take n out)) m → flagsOf (part ++ drop n out) ≡ over (flagsOf out) m
+pub over-part : (n : ℕ) (m : List Bool) (out part : List ℕ) → n ≤ length out → length m ≡ 8 * n
+    → flagsOf part ≡ over (flagsOf (take n out)) m → flagsOf (part ++ drop n out) ≡ over (flagsOf out) m
 over-part n m out part h k e =
     flags-append part (drop n out) ∙ ap (λ (x : List Bool). x ++ flagsOf (drop n out)) e
     ∙ sym (over-left (flagsOf (take n out)) (flagsOf (drop n out)) m (length-flags (take n out) ∙ ap (λ (x : ℕ). 8 * x) (length-take-le n out h) ∙ sym k))

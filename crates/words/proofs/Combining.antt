@@ -83,7 +83,8 @@ module _ (f : Bool → Bool → Bool → Bool) (A B C : List Bool) where
   length-zip p q r (suc n) = ap suc (length-zip (suc p) (suc q) (suc r) n)
 
   -- flag j
-  pub at-zip : (p q r n j : ℕ) → getD (zip3 f (window A p n) (window B q n) (window C r n)) j false ≡ (ltb j n && f (getD A (p + j) false) (getD B (q + j) false) (getD C (r + j) false))
+  pub at-zip : (p q r n j : ℕ) → getD (zip3 f (window A p n) (window B q n) (window C r n)) j false
+      ≡ (ltb j n && f (getD A (p + j) false) (getD B (q + j) false) (getD C (r + j) false))
   unfolding zip3 window
   at-zip p q r zero j = rw (le-ltb j 0 zero-le)
   at-zip p q r (suc n) zero = rw (lt-ltb 0 (suc n) (omega arith), add-zero, add-zero, add-zero)
@@ -93,11 +94,13 @@ module _ (f : Bool → Bool → Bool → Bool) (A B C : List Bool) where
       let ec : suc r + j ≡ r + suc j = omega arith in
       at-zip (suc p) (suc q) (suc r) n j ∙ rw (ea, eb, ec, leb·suc-suc (suc j) n)
 
-  pub at-zip-in : (p q r n j : ℕ) → j < n → getD (zip3 f (window A p n) (window B q n) (window C r n)) j false ≡ f (getD A (p + j) false) (getD B (q + j) false) (getD C (r + j) false)
+  pub at-zip-in : (p q r n j : ℕ) → j < n → getD (zip3 f (window A p n) (window B q n) (window C r n)) j false
+      ≡ f (getD A (p + j) false) (getD B (q + j) false) (getD C (r + j) false)
   at-zip-in p q r n j h = at-zip p q r n j ∙ ap (λ (t : Bool). t && f (getD A (p + j) false) (getD B (q + j) false) (getD C (r + j) false)) (lt-ltb j n h)
 
   -- the same flag seen from k flags on
-  at-later : (p q r k j : ℕ) → f (getD A (p + k + j) false) (getD B (q + k + j) false) (getD C (r + k + j) false) ≡ f (getD A (p + (k + j)) false) (getD B (q + (k + j)) false) (getD C (r + (k + j)) false)
+  at-later : (p q r k j : ℕ) → f (getD A (p + k + j) false) (getD B (q + k + j) false) (getD C (r + k + j) false)
+      ≡ f (getD A (p + (k + j)) false) (getD B (q + (k + j)) false) (getD C (r + (k + j)) false)
   at-later p q r k j =
       let ea : p + k + j ≡ p + (k + j) = omega arith in
       let eb : q + k + j ≡ q + (k + j) = omega arith in
@@ -113,7 +116,9 @@ module _ (f : Bool → Bool → Bool → Bool) (A B C : List Bool) where
   -- a part cut at the end, with zeros behind it
   pub zip-cut : (p q r m k n : ℕ)
       → window (take (m - k) (zip3 f (window A (p + k) n) (window B (q + k) n) (window C (r + k) n))) 0 n ≡ window (zip3 f (window A p m) (window B q m) (window C r m)) k n
-  zip-cut p q r m k n = window-ext (take (m - k) (zip3 f (window A (p + k) n) (window B (q + k) n) (window C (r + k) n))) (zip3 f (window A p m) (window B q m) (window C r m)) 0 k n (λ j h.
+  zip-cut p q r m k n =
+      window-ext (take (m - k) (zip3 f (window A (p + k) n) (window B (q + k) n) (window C (r + k) n)))
+      (zip3 f (window A p m) (window B q m) (window C r m)) 0 k n (λ j h.
       let z : 0 + j ≡ j = omega arith in
       ap (λ (x : ℕ). getD (take (m - k) (zip3 f (window A (p + k) n) (window B (q + k) n) (window C (r + k) n))) x false) z
       ∙ at-take (m - k) (zip3 f (window A (p + k) n) (window B (q + k) n) (window C (r + k) n)) j

@@ -86,7 +86,9 @@ trailing-some x a b h = ap (leading x) (reverse-append a b) ∙ leading-some x (
 
 pub trailing-all : (x : Bool) (a b : List Bool) → length b ≤ trailing x b → trailing x (a ++ b) ≡ length b + trailing x a
 unfolding trailing
-trailing-all x a b h = ap (leading x) (reverse-append a b) ∙ leading-all x (reverse b) (reverse a) (omega (arith, length-reverse b)) ∙ ap (λ (n : ℕ). n + leading x (reverse a)) (length-reverse b)
+trailing-all x a b h =
+    ap (leading x) (reverse-append a b) ∙ leading-all x (reverse b) (reverse a) (omega (arith, length-reverse b))
+    ∙ ap (λ (n : ℕ). n + leading x (reverse a)) (length-reverse b)
 
 -- of the last part of a joined list
 trailing-last : (x : Bool) (a b : List Bool) → min (trailing x (a ++ b)) (length b) ≡ trailing x b
@@ -167,7 +169,8 @@ end-bits (suc d) (suc n) b =
     (λ (h : length (bits d (suc n / 2)) ≤ trailing false (bits d (suc n / 2))).
     let z : suc n / 2 ≡ 0 = zero-bits d (suc n / 2) low h in
     let o : trailing false (isOne (suc n % 2) ∷ []) ≡ 0 = last-one (suc n % 2) (omega arith) in
-    let e : trailing false (bits (suc d) (suc n)) ≡ length (bits d (suc n / 2)) + trailing false (isOne (suc n % 2) ∷ []) = ap (trailing false) (bits-cons d (suc n)) ∙ trailing-all false (isOne (suc n % 2) ∷ []) (bits d (suc n / 2)) h in
+    let e : trailing false (bits (suc d) (suc n)) ≡ length (bits d (suc n / 2)) + trailing false (isOne (suc n % 2) ∷ []) =
+    ap (trailing false) (bits-cons d (suc n)) ∙ trailing-all false (isOne (suc n % 2) ∷ []) (bits d (suc n / 2)) h in
     omega (arith, trailing-le false (bits d (suc n / 2))))
     (lt-or-le (trailing false (bits d (suc n / 2))) (length (bits d (suc n / 2))))
 

@@ -17,7 +17,8 @@ use Rattle.words.specs.Flags.{bits, wordOf, flagsOf, window, over, overA
 use Rattle.words.specs.Merge.{merged}
 use Rattle.words.proofs.Bits.{length-bits, bits-add, bits-take, bits-zero, bits-mod, bits-shl, bits-or, wordOf-bits, or-append, bits-join}
 use Rattle.words.proofs.Bytes.{flags-append, flags-take, flags-drop, flags-one, flags-more, flags-over, length-flags, over-part}
-use Rattle.words.proofs.Windows.{lt-or-le, length-window, window-add, window-cut, window-drop, window-past, window-ext, at-window, in-window, window-take, bits-window, over-none, over-enough, set-over}
+use Rattle.words.proofs.Windows.{lt-or-le, length-window, window-add, window-cut, window-drop, window-past, window-ext}
+use Rattle.words.proofs.Windows.{at-window, in-window, window-take, bits-window, over-none, over-enough, set-over}
 
 -- ---- byte by byte
 
@@ -83,7 +84,8 @@ written-more l w i =
 pub written-step : (l : List ℕ) (w i v : ℕ) (out out′ : List ℕ) → out ≡ written l w i → v ≡ w / 2 ^ (8 * i) % 256 → out′ ≡ set out i v → out′ ≡ written l w (i + 1)
 written-step l w i v out out′ p q r = r ∙ ap₂ (λ (x : List ℕ) (y : ℕ). set x i y) p q ∙ written-more l w i
 
-pub written-all : (l : List ℕ) (w i : ℕ) (out : List ℕ) → length l ≤ 8 → length out ≡ length l → out ≡ written l w i → i ≤ length out → length out ≤ i → flagsOf out ≡ over (flagsOf l) (bits 64 w)
+pub written-all : (l : List ℕ) (w i : ℕ) (out : List ℕ) → length l ≤ 8 → length out ≡ length l
+    → out ≡ written l w i → i ≤ length out → length out ≤ i → flagsOf out ≡ over (flagsOf l) (bits 64 w)
 unfolding written
 written-all l w i out h e p k m =
     let long : length (flagsOf l) ≤ length (bits (8 * i) w) = rw (length-flags, length-bits) (omega arith) in
@@ -99,7 +101,9 @@ pub load-first : (bs : List ℕ) (r : ℕ) → bits 64 r ≡ window (flagsOf (ta
 load-first bs r p = p ∙ ap (λ (l : List Bool). window l 0 64) (flags-take 8 bs) ∙ front (flagsOf bs)
   where
     front : (l : List Bool) → window (take 64 l) 0 64 ≡ window l 0 64
-    front l = window-ext (take 64 l) l 0 0 64 (λ j h. let z : 0 + j ≡ j = omega arith in ap (λ (x : ℕ). getD (take 64 l) x false) z ∙ getD-take 64 l j false h ∙ sym (ap (λ (x : ℕ). getD l x false) z))
+    front l =
+        window-ext (take 64 l) l 0 0 64 (λ j h. let z : 0 + j ≡ j = omega arith in ap (λ (x : ℕ). getD (take 64 l) x false) z
+        ∙ getD-take 64 l j false h ∙ sym (ap (λ (x : ℕ). getD l x false) z))
 
 pub load-mid : (bs : List ℕ) (at r : ℕ) → bits 64 r ≡ window (flagsOf (take (at + 8 - at) (drop at bs))) 0 64 → bits 64 r ≡ window (flagsOf bs) (8 * at) 64
 load-mid bs at r p =

@@ -67,7 +67,8 @@ overlap d o s k x y l hs ho hx px py =
     (bits-shr d s x hx ∙ ap (λ (t : List Bool). window t s d) px ∙ ap (λ (n : ℕ). window (window l k d) s n) e ∙ window-add (window l k d) s (o - s) (d - (o - s))
     ∙ ap₂ (λ (t : List Bool) (n : ℕ). t ++ window (window l k d) n (d - (o - s))) (in-window l k d s (o - s) (omega arith)) a)
     (bits-up d (o - s) y (k + o) l (omega arith) py)
-    ∙ zip-append _||_ (window l (k + s) (o - s)) (window (window l k d) o (d - (o - s))) (copies (o - s) false) (window l (k + o) (d - (o - s))) (length-window l (k + s) (o - s) ∙ sym (length-copies (o - s) false))
+    ∙ zip-append _||_ (window l (k + s) (o - s)) (window (window l k d) o (d - (o - s))) (copies (o - s) false)
+    (window l (k + o) (d - (o - s))) (length-window l (k + s) (o - s) ∙ sym (length-copies (o - s) false))
     ∙ ap₂ (λ (t u : List Bool). t ++ u) (or-none l (k + s) (o - s)) (or-same l k d o (d - (o - s)) ∙ ap (λ (n : ℕ). window l n (d - (o - s))) b)
     ∙ sym (ap (window l (k + s)) e ∙ window-add l (k + s) (o - s) (d - (o - s)))
 
@@ -83,7 +84,8 @@ shifted l at s x y h b p q =
 merge-at : (j o c n : ℕ) → c < 2 ^ (j + o) → bits (j + o) (bitOr (c / 2 ^ o) (n * 2 ^ j % 2 ^ (j + o))) ≡ take (j + o) (drop o (bits (j + o) c ++ bits (j + o) n))
 merge-at j o c n h =
     let cut : (x : ℕ) → bits (j + o) x ≡ bits o x ++ bits j (x / 2 ^ o) = λ x. ap (λ (d : ℕ). bits d x) (add-comm j o) ∙ bits-add o j x in
-    let long : length (bits j (c / 2 ^ o) ++ bits o n) ≡ j + o = length-append (bits j (c / 2 ^ o)) (bits o n) ∙ ap₂ (λ (x y : ℕ). x + y) (length-bits j (c / 2 ^ o)) (length-bits o n) in
+    let long : length (bits j (c / 2 ^ o) ++ bits o n) ≡ j + o =
+    length-append (bits j (c / 2 ^ o)) (bits o n) ∙ ap₂ (λ (x y : ℕ). x + y) (length-bits j (c / 2 ^ o)) (length-bits o n) in
     bits-join j o (c / 2 ^ o) n (shr-lt j o h)
     ∙ sym (rw (cut c, cut n, append-assoc, drop-at (bits o c) _ o (length-bits o c), ← append-assoc) (take-at (bits j (c / 2 ^ o) ++ bits o n) (bits j (n / 2 ^ o)) (j + o) long))
 
@@ -91,7 +93,8 @@ pub merge-bits : (d o c n : ℕ) → o < d → c < 2 ^ d → bits d (bitOr (c / 
 unfolding merged
 merge-bits d o c n h k =
     rw (length-bits d c, lt-ltb o d h)
-    (subst (λ (w : ℕ). c < 2 ^ w → bits w (bitOr (c / 2 ^ o) (n * 2 ^ (d - o) % 2 ^ w)) ≡ take w (drop o (bits w c ++ bits w n))) (sub-add-cancel (le-of-lt h)) (merge-at (d - o) o c n) k)
+    (subst (λ (w : ℕ). c < 2 ^ w → bits w (bitOr (c / 2 ^ o) (n * 2 ^ (d - o) % 2 ^ w)) ≡ take w (drop o (bits w c ++ bits w n)))
+    (sub-add-cancel (le-of-lt h)) (merge-at (d - o) o c n) k)
 
 pub merge-none : (a b : List Bool) → a ≡ merged a b 0
 unfolding merged

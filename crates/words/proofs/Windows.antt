@@ -94,7 +94,9 @@ pub at-window : (l : List Bool) (k n j : ℕ) → getD (window l k n) j false �
 unfolding window
 at-window l k zero j = rw (le-ltb j 0 zero-le)
 at-window l k (suc n) zero = rw (lt-ltb 0 (suc n) (omega arith), add-zero)
-at-window l k (suc n) (suc j) = at-window l (suc k) n j ∙ ap₂ (λ (x : Bool) (y : ℕ). x && getD l y false) (sym (leb·suc-suc (suc j) n)) (let e : suc k + j ≡ k + suc j = omega arith in e)
+at-window l k (suc n) (suc j) =
+    at-window l (suc k) n j
+    ∙ ap₂ (λ (x : Bool) (y : ℕ). x && getD l y false) (sym (leb·suc-suc (suc j) n)) (let e : suc k + j ≡ k + suc j = omega arith in e)
 
 pub at-in : (l : List Bool) (k n j : ℕ) → j < n → getD (window l k n) j false ≡ getD l (k + j) false
 at-in l k n j h = at-window l k n j ∙ ap (λ (t : Bool). t && getD l (k + j) false) (lt-ltb j n h)

@@ -35,14 +35,16 @@ write-all F G i n out p l h k =
     p ∙ ap (λ (x : ℕ). over F (window G 0 x)) e ∙ ap (over F) (window-all G)
 
 -- all words of a stretch that is whole words
-pub write-stretch : (F l : List Bool) (k x len n : ℕ) (out : List ℕ) → flagsOf out ≡ over F (window l x n) → x ≡ k → n ≡ len → len % 64 ≡ 0 → flagsOf out ≡ over F (wholeWords (window l k len))
+pub write-stretch : (F l : List Bool) (k x len n : ℕ) (out : List ℕ) → flagsOf out ≡ over F (window l x n)
+    → x ≡ k → n ≡ len → len % 64 ≡ 0 → flagsOf out ≡ over F (wholeWords (window l k len))
 unfolding wholeWords
 write-stretch F l k x len n out p ex en h =
     let e : 64 * ((length (window l k len) + 63) / 64) ≡ length (window l k len) = omega (arith, length-window l k len) in
     p ∙ ap₂ (λ (i m : ℕ). over F (window l i m)) ex en ∙ ap (over F) (sym (ap (window (window l k len) 0) e ∙ window-all (window l k len)))
 
 -- all words of a list of len flags, or as many as the output's m flags have room for
-pub write-end : (F G : List Bool) (len m i : ℕ) (out : List ℕ) → flagsOf out ≡ over F (window G 0 (64 * i)) → length F ≡ m → length G ≡ len → (i < (len + 63) / 64 → m ≤ 64 * i) → i ≤ (len + 63) / 64
+pub write-end : (F G : List Bool) (len m i : ℕ) (out : List ℕ) → flagsOf out ≡ over F (window G 0 (64 * i))
+    → length F ≡ m → length G ≡ len → (i < (len + 63) / 64 → m ≤ 64 * i) → i ≤ (len + 63) / 64
     → flagsOf out ≡ over F (wholeWords G)
 unfolding wholeWords
 write-end F G len m i out p lF lG full h =
@@ -57,7 +59,8 @@ write-end F G len m i out p lF lG full h =
     ∙ ap (λ (n : ℕ). over F (window G 0 (64 * ((n + 63) / 64)))) (sym lG)
 
 -- the last, cut word of copies
-pub copies-cut : (len : ℕ) (x : Bool) (k w r : ℕ) → k ≤ len → bits 64 w ≡ copies 64 x → bits 64 r ≡ window (take (len - k) (bits 64 w)) 0 64 → bits 64 r ≡ window (copies len x) k 64
+pub copies-cut : (len : ℕ) (x : Bool) (k w r : ℕ) → k ≤ len → bits 64 w ≡ copies 64 x
+    → bits 64 r ≡ window (take (len - k) (bits 64 w)) 0 64 → bits 64 r ≡ window (copies len x) k 64
 copies-cut len x k w r h q p = p ∙ ap (λ (t : List Bool). window (take (len - k) t) 0 64) q ∙ window-ext (take (len - k) (copies 64 x)) (copies len x) 0 k 64 (λ j b.
     let z : 0 + j ≡ j = omega arith in
     ap (λ (i : ℕ). getD (take (len - k) (copies 64 x)) i false) z ∙ at-take (len - k) (copies 64 x) j

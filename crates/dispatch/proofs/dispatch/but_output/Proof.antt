@@ -1,3 +1,4 @@
+-- The test decides the contract's choice.
 use Rattle.masks.proofs.CheckLaws.{when-eq, when-ne}
 use Rattle.dispatch.proofs.dispatch.but_output.Statement.{statement}
 use Rattle.dispatch.proofs.dispatch.but_output.Tie as tie

@@ -1,3 +1,4 @@
+-- A cursor at place 0 gives flag `truck` (`flag-there`) or ends before it (`flag-past`); over a readable mask it is not refused.
 use mathlib.Core.Path.{sym, ap, _∙_}
 use Rattle.masks.specs.Iterator.{flagAnswer}
 use Rattle.dispatch.proofs.DispatchLaws.{flag-there, flag-past, flag-refused}

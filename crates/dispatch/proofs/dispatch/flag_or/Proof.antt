@@ -1,3 +1,4 @@
+-- In each arm the mask is known: a present one is readable by `requires` (`present-readable`), an absent one gives `absent`.
 use Rattle.dispatch.specs.Dispatch.{flagOr}
 use Rattle.dispatch.proofs.DispatchLaws.{present-readable}
 use borrow.Author.Needs.{needs}

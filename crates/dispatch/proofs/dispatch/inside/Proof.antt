@@ -1,3 +1,4 @@
+-- The two tests decide the contract's two choices.
 use mathlib.Core.Path.{_∙_}
 use Rattle.masks.proofs.CheckLaws.{when-eq, when-ne}
 use Rattle.dispatch.proofs.DispatchLaws.{when-lt, when-past}

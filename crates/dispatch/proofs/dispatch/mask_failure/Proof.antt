@@ -1,3 +1,4 @@
+-- A cursor that is given tells that all checks passed (`given-number`), a refusal tells their number (`refused-number`).
 use mathlib.Core.Path.{sym, ap, _∙_}
 use Rattle.masks.specs.SliceIterator.{newSlices, slicesAnswer}
 use Rattle.masks.proofs.AnswerLaws.{given-number, refused-number}

@@ -1,3 +1,4 @@
+-- The number of the checks decides: `is-refused` or `is-given`; where all have passed each mask is readable (`passed-masks`).
 use mathlib.Core.Path.{sym, ap, ap₂, _∙_}
 use mathlib.Core.Bool.{Bool, not, _&&_}
 use Rattle.masks.specs.Answer.{given}

@@ -1,3 +1,4 @@
+-- The answer of `and_not` tells the number of its checks; of these 9 is the last, and `pair-number` takes it away.
 use mathlib.Core.Path.{sym, ap, _∙_}
 use Rattle.masks.specs.Combine.{combinedAnswer, pairOf}
 use Rattle.masks.proofs.AnswerLaws.{given-number, refused-number}

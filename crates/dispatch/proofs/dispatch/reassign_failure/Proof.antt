@@ -1,3 +1,4 @@
+-- In each arm it is known which masks are there; with the revocation mask alone, check 6 comes behind its checks (`revocation-inside`).
 use mathlib.Core.Path.{_∙_}
 use Rattle.dispatch.proofs.DispatchLaws.{none-asked, revocation-inside}
 use borrow.Author.Needs.{needs}

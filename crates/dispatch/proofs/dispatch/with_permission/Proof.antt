@@ -1,3 +1,4 @@
+-- In each arm the revocation mask is known; check 6 comes behind the checks of two masks (`pair-inside`) or of one (`permission-inside`).
 use mathlib.Core.Path.{_∙_}
 use Rattle.dispatch.proofs.DispatchLaws.{pair-inside, permission-inside}
 use borrow.Author.Needs.{needs}

@@ -1,3 +1,4 @@
+-- The span's checks, then the address's: `two-pieces`.
 use Rattle.masks.specs.Aligned.{alignedChecks}
 use Rattle.masks.proofs.CheckLaws.{two-pieces}
 use borrow.Author.Needs.{needs}

@@ -1,3 +1,4 @@
+-- The test decides the definition's choice.
 use Rattle.masks.specs.Aligned.{bulkOffset}
 use Rattle.masks.proofs.CheckLaws.{when-le, when-gt}
 use borrow.Author.Needs.{needs}

@@ -1,3 +1,4 @@
+-- The test decides the definition's choice; `offset-of` bounds the offset, so that the sum fits.
 use mathlib.Core.Path.{ap, _∙_}
 use Prim.Native.Nat.{ℕ, _+_, _/_}
 use native.Mathlib.Omega.{arith}

@@ -1,3 +1,4 @@
+-- The fields are what the calls ensure (congruence); `placed` says that the prefix fits in the span and in a word.
 use mathlib.Core.Path.{ap, ap₂, _∙_}
 use native.Mathlib.Omega.{arith}
 use Rattle.masks.proofs.SplitLaws.{placed}
@@ -12,10 +13,22 @@ bulk-start-requires : tie.Need-bulk-start-requires
 bulk-start-requires c κs = search needs
 
 sub-rest : tie.Need-sub-rest
-sub-rest c = omega (arith, c .before .prefix-length .ensures, placed (c .before .before .before .args .start) (c .before .before .before .args .length) (c .before .before .before .args .address) .fits)
+sub-rest c =
+    omega (
+      arith,
+      c .before .prefix-length .ensures,
+      placed (c .before .before .before .args .start)
+          (c .before .before .before .args .length) (c .before .before .before .args .address) .fits,
+    )
 
 flags-word-requires : tie.Need-flags-word-requires
-flags-word-requires c κs = omega (arith, c .before .prefix-length .ensures, placed (c .before .before .before .args .start) (c .before .before .before .args .length) (c .before .before .before .args .address) .word)
+flags-word-requires c κs =
+    omega (
+      arith,
+      c .before .prefix-length .ensures,
+      placed (c .before .before .before .args .start)
+          (c .before .before .before .args .length) (c .before .before .before .args .address) .word,
+    )
 
 add-flags-word : tie.Need-add-flags-word
 add-flags-word c = search needs

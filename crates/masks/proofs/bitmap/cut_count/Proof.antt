@@ -1,3 +1,4 @@
+-- By the mask's count: unknown (`cut-unknown`), recounted (`cut-known`) or kept (`cut-kept`).
 use Rattle.masks.proofs.MaskLaws.{cut-known, cut-kept, cut-unknown}
 use mathlib.Core.Path.{ap, _∙_}
 use Rattle.masks.specs.Mask.{cutOf, recountedOf}

@@ -1,3 +1,4 @@
+-- The sum of what the two calls ensure; zeros are at most the flags counted (`zeros-most`), so it fits.
 use Rattle.words.proofs.Windows.{length-window}
 use Rattle.masks.proofs.PartLaws.{zeros-most}
 use mathlib.Core.Path.{ap₂}
@@ -29,7 +30,13 @@ zeros-at-requires-2 c κs = search needs
 add-result : tie.Need-add-result
 add-result c =
     let start = c .before .before .before .before .before in
-    omega (arith, zeros-most _ _ _ (length-window _ _ _) (c .before .before .before .zeros-at .ensures), zeros-most _ _ _ (length-window _ _ _) (c .zeros-at2 .ensures), start .pre .short, start .pre .inside)
+    omega (
+      arith,
+      zeros-most _ _ _ (length-window _ _ _) (c .before .before .before .zeros-at .ensures),
+      zeros-most _ _ _ (length-window _ _ _) (c .zeros-at2 .ensures),
+      start .pre .short,
+      start .pre .inside,
+    )
 
 returns : tie.Need-returns
 unfolding cutZeros

@@ -1,3 +1,4 @@
+-- The tests decide the definition's choices.
 use mathlib.Core.Path.{ap, _∙_}
 use Rattle.masks.specs.Mask.{keptCount}
 use Rattle.masks.specs.declared.bitmap.Cut.{Cut}

@@ -1,3 +1,4 @@
+-- The test decides the definition's choice.
 use Rattle.masks.proofs.CheckLaws.{when-eq, when-ne}
 use Rattle.masks.proofs.bitmap.not_counted.Statement.{statement}
 use Rattle.masks.proofs.bitmap.not_counted.Tie as tie

@@ -1,3 +1,4 @@
+-- The mask's checks, then the four of the piece, in order: `two-pieces`, `check-before` and `one-check`.
 use Rattle.masks.specs.Mask.{pieceChecks}
 use Rattle.masks.proofs.CheckLaws.{two-pieces, check-before, one-check}
 use borrow.Author.Needs.{needs}

@@ -1,3 +1,4 @@
+-- One law for each branch: fewer zeros than were cut off, more left than the piece has flags, or a count that is possible.
 use Rattle.masks.proofs.MaskLaws.{below-cut, above-length, within-both}
 use Rattle.masks.proofs.bitmap.recount.Statement.{statement}
 use Rattle.masks.proofs.bitmap.recount.Tie as tie

@@ -1,3 +1,4 @@
+-- One law for each branch: no zeros, all zeros, or the comparison with the threshold.
 use native.Mathlib.Omega.{arith}
 use Rattle.masks.proofs.MaskLaws.{recounts-no, recounts-all, recounts-by}
 use borrow.Author.Needs.{needs}

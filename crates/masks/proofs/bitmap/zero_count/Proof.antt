@@ -1,3 +1,4 @@
+-- In each arm the count is known: it is the answer, or the zeros are counted as the definition says.
 use Rattle.masks.specs.Mask.{zeroCount}
 use borrow.Author.Needs.{needs}
 use Rattle.masks.proofs.bitmap.zero_count.Statement.{statement}

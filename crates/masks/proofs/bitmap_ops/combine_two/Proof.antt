@@ -1,3 +1,4 @@
+-- The number of the checks decides; where all have passed, count and bytes follow from the shortcut (`pair-given`, `pair-written`).
 use mathlib.Core.Path.{sym, _∙_}
 use Rattle.masks.proofs.CombineLaws.{pair-in-limit, pair-refused, pair-given, pair-written}
 use borrow.Author.Needs.{needs}

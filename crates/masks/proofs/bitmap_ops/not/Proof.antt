@@ -1,3 +1,4 @@
+-- The number of the checks decides; the operation `Not` reads the first of three lists alone (`not-each`).
 use Rattle.masks.proofs.CombineLaws.{each-refused, each-given, not-each}
 use borrow.Author.Needs.{needs}
 use Rattle.masks.proofs.bitmap_ops.not.Statement.{statement}

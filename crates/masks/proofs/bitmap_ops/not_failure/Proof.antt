@@ -1,3 +1,4 @@
+-- The mask's checks, then the output's: `two-pieces`.
 use Rattle.masks.specs.Combine.{notChecks}
 use Rattle.masks.proofs.CheckLaws.{two-pieces}
 use borrow.Author.Needs.{needs}

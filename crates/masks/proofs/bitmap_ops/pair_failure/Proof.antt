@@ -1,3 +1,4 @@
+-- The checks of two masks, of the lengths and of the output, in order: `two-pieces` and `check-before`.
 use Rattle.masks.specs.Combine.{pairChecks}
 use mathlib.Core.Path.{refl}
 use Rattle.masks.proofs.CheckLaws.{two-pieces, check-before}
@@ -32,7 +33,8 @@ returns c =
     let masks = c .before .before .before in
     two-pieces _ _ _ _ _ (c .earlier3 .ensures) (masks .mask-failure2 .ensures)
     (two-pieces _ _ _ _ _ (c .before .earlier2 .ensures) (masks .before .mask-failure .ensures)
-    (check-before _ _ _ _ _ _ _ (c .before .before .earlier .ensures) (masks .before .before .failed .ensures) refl (masks .before .before .before .before .before .frozen-failure .ensures)))
+    (check-before _ _ _ _ _ _ _ (c .before .before .earlier .ensures) (masks .before .before .failed .ensures) refl
+    (masks .before .before .before .before .before .frozen-failure .ensures)))
 
 pub pair-failure-spec : {M : Type 1} → statement M
 pair-failure-spec =

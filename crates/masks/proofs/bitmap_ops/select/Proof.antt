@@ -1,3 +1,4 @@
+-- The number of the checks decides; where all have passed the lengths are equal (`select-lengths`), and the kernel's flags are those chosen.
 use mathlib.Core.Path.{sym, _∙_}
 use Rattle.masks.proofs.CombineLaws.{each-refused, each-given, select-lengths, select-each}
 use borrow.Author.Needs.{needs}
@@ -24,7 +25,8 @@ returns-2 c =
     let write = c .before .before .before in
     let known = write .before .before in
     let same = select-lengths _ _ _ _ _ _ _ (sym (known .before .select-failure .ensures) ∙ known .if1 .left) in
-    each-given _ _ _ _ _ _ (known .before .select-failure .ensures) _ _ _ (known .if1 .left) (c .not-counted .ensures) (write .combine-frozen .ensures) (select-each _ _ _ _ _ _ _ _ _ (same .0) (same .1))
+    each-given _ _ _ _ _ _ (known .before .select-failure .ensures) _ _ _ (known .if1 .left)
+    (c .not-counted .ensures) (write .combine-frozen .ensures) (select-each _ _ _ _ _ _ _ _ _ (same .0) (same .1))
 
 pub select-spec : {M : Type 1} → statement M
 select-spec =

@@ -1,3 +1,4 @@
+-- The number of the checks decides; where all have passed both masks have one length (`pair-lengths`), so the flags written are the contract's.
 use mathlib.Core.Path.{sym, _∙_}
 use Rattle.masks.proofs.CombineLaws.{each-refused, each-given, pair-lengths, constant-length}
 use borrow.Author.Needs.{needs}

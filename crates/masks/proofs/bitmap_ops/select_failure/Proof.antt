@@ -1,3 +1,4 @@
+-- The checks of three masks, of two lengths and of the output, in order: `two-pieces` and `check-before`.
 use mathlib.Core.Path.{refl}
 use Rattle.masks.specs.Combine.{selectChecks}
 use Rattle.masks.proofs.CheckLaws.{two-pieces, check-before}
@@ -49,7 +50,8 @@ returns c =
     (two-pieces _ _ _ _ _ (c .before .earlier4 .ensures) (two .mask-failure3 .ensures)
     (two-pieces _ _ _ _ _ (three .earlier3 .ensures) (three .before .mask-failure .ensures)
     (check-before _ _ _ _ _ _ _ (lengths .earlier2 .ensures) (second .failed2 .ensures) refl
-    (check-before _ _ _ _ _ _ _ (lengths .before .earlier .ensures) (second .before .before .before .failed .ensures) refl (second .before .before .before .before .before .before .frozen-failure .ensures)))))
+    (check-before _ _ _ _ _ _ _ (lengths .before .earlier .ensures) (second .before .before .before .failed .ensures) refl
+    (second .before .before .before .before .before .before .frozen-failure .ensures)))))
 
 pub select-failure-spec : {M : Type 1} → statement M
 select-failure-spec =

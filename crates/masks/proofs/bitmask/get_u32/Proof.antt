@@ -1,3 +1,4 @@
+-- The number of the span's checks decides: `is-refused` or `is-given`; where all have passed `span_window` may be called (`span-allowed`).
 use mathlib.Core.Path.{sym, ap, _∙_}
 use Rattle.masks.specs.Answer.{given}
 use Rattle.masks.specs.Bitmask.{windowAt}

@@ -1,3 +1,4 @@
+-- At most 32 flags are a number below 2 ^ 32 (`narrow`), so that the cast keeps it.
 use mathlib.Core.Path.{ap, _∙_}
 use Prim.Native.Nat.{ℕ}
 use native.Mathlib.Omega.{arith}

@@ -1,3 +1,4 @@
+-- No window has a set flag from number 32 on, so that the least of n and 32 is asked for in place of n: `see-there`, `see-only`.
 use mathlib.Core.Path.{sym, ap, _∙_}
 use Rattle.masks.specs.declared.bitmask.Seen.the-variants.{There}
 use Rattle.words.proofs.Counting.{ones-bits}

@@ -1,3 +1,4 @@
+-- The number of the span's checks decides: `is-refused` or `is-given`; where all have passed `search_from` may be called (`span-allowed`).
 use mathlib.Core.Path.{sym, _∙_}
 use Rattle.masks.specs.Search.{searchFrom}
 use Rattle.masks.proofs.CheckLaws.{is-refused, is-given, span-allowed}

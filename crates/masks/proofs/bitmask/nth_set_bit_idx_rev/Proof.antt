@@ -1,3 +1,4 @@
+-- The number of the span's checks decides; an end past the length is the length (`span-most`).
 use mathlib.Core.Path.{sym, ap, _∙_}
 use native.Mathlib.Omega.{arith}
 use Rattle.masks.specs.Answer.{given}

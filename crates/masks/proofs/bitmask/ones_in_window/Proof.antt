@@ -1,3 +1,4 @@
+-- A window of 32 flags has no set flag number 32, so that the answer is their number (`seen-only`).
 use mathlib.Core.Path.{sym, _∙_}
 use native.Mathlib.Omega.{arith}
 use Rattle.words.specs.Flags.{bits}

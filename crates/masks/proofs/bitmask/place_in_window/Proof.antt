@@ -1,3 +1,4 @@
+-- By `requires` more than n flags are set, so that the answer is a place (`seen-there`).
 use mathlib.Core.Path.{sym, _∙_}
 use native.Mathlib.Omega.{arith}
 use Rattle.masks.proofs.SearchLaws.{seen-there, seen-only}

@@ -1,3 +1,5 @@
+-- The invariant: the search for `left` down from `below` is the one asked for.
+-- A window has the flag (`turn-back`) or not (`turn-down`), or nothing is below (`back-none`).
 use mathlib.Core.Path.{_≡_, refl, ap, _∙_}
 use Prim.Native.Nat.{_≤_}
 use native.Mathlib.Omega.{arith}

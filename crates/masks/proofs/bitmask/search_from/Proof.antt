@@ -1,3 +1,5 @@
+-- The invariant: the search for `left` from `at` on is the one asked for.
+-- A window has the flag (`turn-there`) or not (`turn-only`), or the span ends (`turn-end`).
 use mathlib.Core.Path.{_≡_, refl, sym, ap, _∙_}
 use Prim.Native.Nat.{_-_}
 use native.Mathlib.Omega.{arith}

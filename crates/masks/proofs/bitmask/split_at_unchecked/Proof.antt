@@ -1,3 +1,4 @@
+-- The number of the checks decides; where all have passed, sum and difference fit (`split-allowed`).
 use mathlib.Core.Path.{sym, _∙_}
 use native.Mathlib.Omega.{arith}
 use Rattle.masks.specs.Bitmask.{splitAt}

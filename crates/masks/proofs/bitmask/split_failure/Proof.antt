@@ -1,3 +1,4 @@
+-- The span's checks, the second part's start, and that the cut is inside, in order: `two-pieces` and `one-check`.
 use mathlib.Core.Path.{refl}
 use Rattle.masks.specs.Bitmask.{splitChecks}
 use Rattle.masks.proofs.CheckLaws.{two-pieces, one-check}

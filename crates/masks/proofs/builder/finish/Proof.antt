@@ -1,3 +1,4 @@
+-- A word in progress is stored behind the finished ones (`freeze-word`); without one the buffer is frozen as it is (`freeze-whole`).
 use Rattle.masks.proofs.FreezeLaws.{freeze-word, freeze-whole}
 use borrow.Author.Needs.{needs}
 use Rattle.masks.proofs.builder.finish.Statement.{statement}

@@ -1,3 +1,4 @@
+-- The definition's record, with the ones that `all_ones` ensures.
 use borrow.Author.Needs.{needs}
 use Rattle.masks.proofs.builder.frozen_mask.Statement.{statement}
 use Rattle.masks.proofs.builder.frozen_mask.Tie as tie

@@ -1,3 +1,4 @@
+-- In each arm the answer of `push` is known: `change-done`, or `change-refused`, since a refusal's number is never 0.
 use mathlib.Core.Path.{sym, ap, _∙_}
 use borrow.Author.Needs.{needs}
 use Rattle.masks.specs.Appends.{pushedAnswer}

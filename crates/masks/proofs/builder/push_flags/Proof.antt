@@ -1,3 +1,4 @@
+-- The word in progress has room for all flags (`push-short`), or is full, stored and counted, and the rest begins the next (`push-full`).
 use Rattle.words.specs.Flags.{wordFlags}
 use native.Mathlib.Omega.{arith}
 use Rattle.words.proofs.Counting.{count-le}

@@ -1,3 +1,4 @@
+-- `one-check` at number 8.
 use Rattle.masks.specs.Checks.{addressChecks}
 use mathlib.Core.Path.{refl}
 use Rattle.masks.proofs.CheckLaws.{one-check}

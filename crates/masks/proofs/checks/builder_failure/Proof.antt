@@ -1,3 +1,4 @@
+-- Unfolded, `firstFailed` of the checks is the nested `earlier` of the code: congruence over what the calls ensure.
 use Rattle.masks.specs.Builder.{builderChecks}
 use Rattle.masks.specs.Checks.{firstFailed}
 use borrow.Author.Needs.{needs}

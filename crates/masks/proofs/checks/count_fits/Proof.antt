@@ -1,3 +1,4 @@
+-- In each arm the count is known, and `countFits` is computed.
 use borrow.Author.Needs.{needs}
 use Rattle.masks.proofs.checks.count_fits.Statement.{statement}
 use Rattle.masks.proofs.checks.count_fits.Tie as tie

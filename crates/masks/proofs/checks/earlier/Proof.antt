@@ -1,3 +1,4 @@
+-- One law for each branch: a number of 0 gives the other (`none-earlier`, `earlier-none`), else the ranks decide (`first-least`, `second-least`).
 use mathlib.Core.Path.{sym, ap, _∙_}
 use native.Mathlib.Omega.{arith}
 use Rattle.masks.proofs.CheckLaws.{none-earlier, earlier-none, first-least, second-least}

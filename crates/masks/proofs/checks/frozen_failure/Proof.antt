@@ -1,3 +1,4 @@
+-- `one-check`, and `output-test`: the comparison in words is the one in bytes.
 use Rattle.masks.specs.Checks.{outputChecks}
 use Rattle.masks.proofs.CheckLaws.{one-check, output-test}
 use borrow.Author.Needs.{needs}

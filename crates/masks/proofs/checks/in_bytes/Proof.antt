@@ -1,3 +1,4 @@
+-- `sum-in-bytes`: the sum in bytes, rounded up, is within `size` just where the sum is within its flags.
 use Rattle.masks.proofs.CheckLaws.{sum-in-bytes}
 use borrow.Author.Needs.{needs}
 use Rattle.masks.proofs.checks.in_bytes.Statement.{statement}

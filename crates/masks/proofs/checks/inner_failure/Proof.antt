@@ -1,3 +1,4 @@
+-- The limit of both numbers, then that the piece is inside, in order: `check-before` and `one-check`.
 use Rattle.masks.specs.Appends.{innerChecks}
 use Rattle.masks.proofs.CheckLaws.{check-before, one-check}
 use borrow.Author.Needs.{needs}

@@ -1,3 +1,4 @@
+-- Unfolded, `possible` is the code's three tests: congruence over what the calls ensure.
 use Rattle.masks.specs.Builder.{possible}
 use borrow.Author.Needs.{needs}
 use Rattle.masks.proofs.checks.is_possible.Statement.{statement}

@@ -1,3 +1,4 @@
+-- `one-check` at number 1.
 use Rattle.masks.proofs.CheckLaws.{one-check}
 use borrow.Author.Needs.{needs}
 use Rattle.masks.proofs.checks.limit_failure.Statement.{statement}

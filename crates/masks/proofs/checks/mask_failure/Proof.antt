@@ -1,3 +1,4 @@
+-- The span's checks, then that of the count: `two-pieces` and `one-check`.
 use Rattle.masks.specs.Mask.{maskChecks}
 use Rattle.masks.proofs.CheckLaws.{two-pieces, one-check}
 use borrow.Author.Needs.{needs}
@@ -18,7 +19,9 @@ earlier-requires c κs = search needs
 
 returns : tie.Need-returns
 unfolding maskChecks
-returns c = two-pieces _ _ _ _ _ (c .earlier .ensures) (c .before .before .before .span-failure .ensures) (one-check _ _ _ _ (c .before .failed .ensures) (c .before .before .count-fits .ensures))
+returns c =
+    two-pieces _ _ _ _ _ (c .earlier .ensures) (c .before .before .before .span-failure .ensures)
+    (one-check _ _ _ _ (c .before .failed .ensures) (c .before .before .count-fits .ensures))
 
 pub mask-failure-spec : {M : Type 1} → statement M
 mask-failure-spec =

@@ -1,3 +1,4 @@
+-- `one-check`, and `exact-words`: the words taken by parts are those of the sum.
 use mathlib.Core.Path.{ap}
 use Prim.Native.Nat.{ℕ, _*_}
 use lib.Dec.{leb}

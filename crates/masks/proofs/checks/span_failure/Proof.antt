@@ -1,3 +1,4 @@
+-- Where both numbers are within the limit check 2 decides (`span-within`), else 1 is the first that fails (`span-over`).
 use Rattle.masks.proofs.CheckLaws.{both-within, span-over, span-within}
 use borrow.Author.Needs.{needs}
 use Rattle.masks.proofs.checks.span_failure.Statement.{statement}
@@ -23,7 +24,8 @@ failed-requires c κs = search needs
 returns : tie.Need-returns
 returns c =
     let w = c .before .before .before in
-    span-within _ _ _ _ _ _ (w .before .before .within-limit .ensures) (w .before .within-limit2 .ensures) (w .both .ensures) _ _ (c .before .before .if1 .taken) (c .failed .ensures) (c .before .in-bytes .ensures)
+    span-within _ _ _ _ _ _ (w .before .before .within-limit .ensures) (w .before .within-limit2 .ensures)
+    (w .both .ensures) _ _ (c .before .before .if1 .taken) (c .failed .ensures) (c .before .in-bytes .ensures)
 
 returns-2 : tie.Need-returns-2
 returns-2 c =

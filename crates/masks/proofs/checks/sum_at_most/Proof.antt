@@ -1,3 +1,4 @@
+-- Where a is at most c the difference is taken (`sum-test`), else the sum is over c (`sum-over`).
 use Rattle.masks.proofs.CheckLaws.{sum-test, sum-over}
 use Rattle.masks.proofs.checks.sum_at_most.Statement.{statement}
 use Rattle.masks.proofs.checks.sum_at_most.Tie as tie

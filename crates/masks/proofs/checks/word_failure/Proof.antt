@@ -1,3 +1,4 @@
+-- The limit, then the word, in order: `check-before` and `one-check`.
 use mathlib.Core.Path.{ap, _∙_}
 use mathlib.Core.Bool.{Bool, _&&_}
 use lib.Dec.{leb}

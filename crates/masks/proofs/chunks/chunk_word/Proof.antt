@@ -1,3 +1,4 @@
+-- A start at a byte is one load (`whole-bytes`); inside a byte two neighbouring words are merged (`inside-byte`).
 use Rattle.masks.proofs.ChunkLaws.{whole-bytes, inside-byte}
 use borrow.Author.Needs.{needs}
 use Rattle.masks.proofs.chunks.chunk_word.Statement.{statement}
@@ -29,7 +30,8 @@ merge-reversed-requires c κs = search needs
 
 returns-2 : tie.Need-returns-2
 returns-2 c =
-    inside-byte _ _ (c .before .before .before .before .before .args .k) _ _ _ (c .before .before .byte-word2 .ensures) (c .before .byte-word3 .ensures) (c .merge-reversed .ensures)
+    inside-byte _ _ (c .before .before .before .before .before .args .k) _ _ _
+    (c .before .before .byte-word2 .ensures) (c .before .byte-word3 .ensures) (c .merge-reversed .ensures)
 
 pub chunk-word-spec : {M : Type 1} → statement M
 chunk-word-spec =

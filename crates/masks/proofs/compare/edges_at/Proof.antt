@@ -1,3 +1,4 @@
+-- At most one flag has no edge (`edges-few`); else the edges are the ones of the `xor` with the list one flag on (`edges-many`).
 use Rattle.masks.proofs.CompareLaws.{edges-few, edges-many}
 use borrow.Author.Needs.{needs}
 use Rattle.masks.proofs.compare.edges_at.Statement.{statement}

@@ -1,3 +1,4 @@
+-- The number of the checks decides; then masks of unequal lengths differ (`lengths-differ`), and of one length the flags are compared.
 use mathlib.Core.Bool.{Bool}
 use mathlib.Core.Path.{_≡_, sym, ap, _∙_}
 use Prim.Native.Nat.{ℕ}
@@ -42,7 +43,8 @@ unfolding eqOf
 returns-3 c =
     let e = c .before .before .before .before in
     ap given (same-length-eq _ _ _ _ _ _ _ (c .before .if2 .left) (c .equal .ensures))
-    ∙ is-given _ _ _ _ (two-pieces _ _ _ _ _ (e .earlier .ensures) (e .before .before .mask-failure .ensures) (e .before .mask-failure2 .ensures)) (c .before .before .before .if1 .left)
+    ∙ is-given _ _ _ _ (two-pieces _ _ _ _ _ (e .earlier .ensures) (e .before .before .mask-failure .ensures)
+    (e .before .mask-failure2 .ensures)) (c .before .before .before .if1 .left)
 
 pub eq-spec : {M : Type 1} → statement M
 eq-spec =

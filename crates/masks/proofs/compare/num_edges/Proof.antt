@@ -1,3 +1,4 @@
+-- The number of the mask's checks decides; where all have passed the start is within the limit (`mask-allowed`), as `edges_at` asks.
 use mathlib.Core.Path.{sym, ap, _∙_}
 use Rattle.masks.specs.Answer.{given}
 use Rattle.masks.specs.Compare.{edgesOf}

@@ -1,3 +1,4 @@
+-- The number of the checks decides; where all have passed the lengths are equal (`common-lengths`), and the ones of their `and` are counted.
 use mathlib.Core.Path.{refl, sym, ap, _∙_}
 use Rattle.masks.specs.Answer.{given}
 use Rattle.masks.specs.Compare.{commonOf, commonChecks}
@@ -27,7 +28,9 @@ unfolding commonOf commonChecks
 returns c =
     let e = c .before in
     let f = e .before .before in
-    is-refused _ _ _ _ (two-pieces _ _ _ _ _ (e .earlier2 .ensures) (f .mask-failure2 .ensures) (two-pieces _ _ _ _ _ (e .before .earlier .ensures) (f .before .mask-failure .ensures) (one-check _ _ _ _ (f .before .before .failed .ensures) refl))) (c .if1 .taken)
+    is-refused _ _ _ _ (two-pieces _ _ _ _ _ (e .earlier2 .ensures) (f .mask-failure2 .ensures)
+    (two-pieces _ _ _ _ _ (e .before .earlier .ensures) (f .before .mask-failure .ensures)
+    (one-check _ _ _ _ (f .before .before .failed .ensures) refl))) (c .if1 .taken)
 
 count-ones-of-requires : tie.Need-count-ones-of-requires
 count-ones-of-requires c κs = search needs
@@ -37,7 +40,9 @@ unfolding commonOf commonChecks
 returns-2 c =
     let e = c .before .before in
     let f = e .before .before in
-    let number = two-pieces _ _ _ _ _ (e .earlier2 .ensures) (f .mask-failure2 .ensures) (two-pieces _ _ _ _ _ (e .before .earlier .ensures) (f .before .mask-failure .ensures) (one-check _ _ _ _ (f .before .before .failed .ensures) refl)) in
+    let number = two-pieces _ _ _ _ _ (e .earlier2 .ensures) (f .mask-failure2 .ensures)
+    (two-pieces _ _ _ _ _ (e .before .earlier .ensures) (f .before .mask-failure .ensures)
+    (one-check _ _ _ _ (f .before .before .failed .ensures) refl)) in
     ap given (common-ones _ _ _ _ _ _ _ (common-lengths _ _ _ _ (sym number ∙ c .before .if1 .left)) (c .count-ones-of .ensures)) ∙ is-given _ _ _ _ number (c .before .if1 .left)
 
 pub num-intersections-with-spec : {M : Type 1} → statement M

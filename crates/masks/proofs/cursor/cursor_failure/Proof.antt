@@ -1,3 +1,4 @@
+-- The span's checks, then that of the place: `two-pieces` and `one-check`.
 use mathlib.Core.Path.{refl}
 use Rattle.masks.specs.Cursor.{cursorChecks}
 use Rattle.masks.proofs.CheckLaws.{two-pieces, one-check}

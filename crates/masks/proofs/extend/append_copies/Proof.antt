@@ -1,3 +1,4 @@
+-- Up to 64 flags are pushed as one word; else `append-three`: up to a full word, whole words and the rest are all copies (`copies-three`).
 use Prim.Native.Nat.{_-_, _%_, _≤_}
 use mathlib.Core.Path.{ap, _∙_}
 use native.Mathlib.Omega.{arith}

@@ -1,3 +1,4 @@
+-- `append-whole`: with no word in progress, whole words stored from the first unfilled one on. Ones are at most the flags, so the sum fits.
 use Rattle.words.proofs.Counting.{count-within}
 use Rattle.words.specs.Flags.{flagsOf}
 use native.Mathlib.Omega.{arith}

@@ -1,3 +1,4 @@
+-- `append-whole`: with no word in progress, whole words stored from the first unfilled one on; `count-copies` counts their ones.
 use mathlib.Core.Path.{sym, _∙_}
 use native.Mathlib.Omega.{arith}
 use Rattle.words.proofs.Bytes.{over-from}

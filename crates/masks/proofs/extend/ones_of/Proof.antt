@@ -1,3 +1,4 @@
+-- In each branch the flag is known, and so is the product with its digit: n, or 0.
 use native.Mathlib.Omega.{arith}
 use Rattle.masks.proofs.extend.ones_of.Statement.{statement}
 use Rattle.masks.proofs.extend.ones_of.Tie as tie

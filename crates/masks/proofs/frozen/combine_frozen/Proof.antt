@@ -1,3 +1,4 @@
+-- `frozen-written`: bytes whose flags are whole words over the old flags are the frozen bytes over the old bytes.
 use Rattle.masks.proofs.CombineLaws.{frozen-written}
 use borrow.Author.Needs.{needs}
 use Rattle.masks.proofs.frozen.combine_frozen.Statement.{statement}

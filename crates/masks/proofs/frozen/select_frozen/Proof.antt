@@ -1,3 +1,4 @@
+-- In each branch the flag is known: `or_not` the other way round (`written-set`) or `and` (`written-clear`) is the choice.
 use Rattle.masks.proofs.CombineLaws.{written-set, written-clear}
 use borrow.Author.Needs.{needs}
 use Rattle.masks.proofs.frozen.select_frozen.Statement.{statement}

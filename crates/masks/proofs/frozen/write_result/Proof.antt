@@ -1,3 +1,4 @@
+-- In each arm the shortcut is known, and `resultFlags` is what the call writes.
 use borrow.Author.Needs.{needs}
 use Rattle.masks.proofs.frozen.write_result.Statement.{statement}
 use Rattle.masks.proofs.frozen.write_result.Tie as tie

@@ -1,3 +1,4 @@
+-- The invariant: the first i indices are below n. The next one is too (`below-next`), or ends the loop (`below-not`).
 use Prim.Native.Nat.{_-_, _≤_}
 use mathlib.Core.Path.{_≡_}
 use mathlib.Core.Bool.{true}

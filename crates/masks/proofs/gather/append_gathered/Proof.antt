@@ -1,3 +1,4 @@
+-- The invariant: the flags at the first i indices are appended. One more part is the law `part-step`, with the room that `part-room` gives.
 use Prim.Native.Nat.{_-_, _≤_}
 use mathlib.Core.Path.{_≡_, sym, ap, _∙_}
 use native.Mathlib.Omega.{arith}

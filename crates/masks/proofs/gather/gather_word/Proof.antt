@@ -1,3 +1,4 @@
+-- The invariant: the first i flags of w are those at the first i indices. One more is the law `word-step`.
 use Prim.Native.Nat.{_-_, _≤_}
 use mathlib.Core.Path.{_≡_}
 use native.Mathlib.Omega.{arith}

@@ -1,3 +1,4 @@
+-- Inside the span its flag is one of the bytes (`flag-inside`); past it there is none (`flag-past`).
 use Rattle.masks.proofs.GatherLaws.{flag-inside, flag-past}
 use borrow.Author.Needs.{needs}
 use Rattle.masks.proofs.gather.span_flag.Statement.{statement}

@@ -1,3 +1,4 @@
+-- The invariant: the first i flags are appended, each repeated. One more is the law `runs-step`, with the room that `runs-room` gives.
 use mathlib.Core.Path.{sym, ap, _∙_}
 use native.Mathlib.Omega.{arith}
 use Rattle.masks.proofs.AppendLaws.{append-none}

@@ -1,3 +1,4 @@
+-- With a factor of 0 the product is 0; with one over the limit and the other not 0 the product is over it too; else it is computed, and fits.
 use native.Mathlib.Omega.{arith}
 use mathlib.Core.Path.{refl}
 use mathlib.Core.Logic.{inl}

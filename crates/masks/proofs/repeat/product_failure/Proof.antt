@@ -1,3 +1,4 @@
+-- `exact-product`: where the product is over the limit either number fails check 1, which is the first.
 use Rattle.masks.proofs.RepeatLaws.{exact-product}
 use borrow.Author.Needs.{needs}
 use Rattle.masks.proofs.repeat.product_failure.Statement.{statement}

@@ -1,3 +1,4 @@
+-- With the counts that `zero_count` ensures `by_counts` gives the shortcut; an operation without one has none at any counts (`no-shortcut`).
 use mathlib.Core.Path.{sym, ap₂, _∙_}
 use Prim.Native.Nat.{ℕ}
 use Rattle.masks.specs.Combine.{shortcut}

@@ -1,3 +1,4 @@
+-- In each arm the shortcut is known, in its branches the flag, and `resultCount` is computed.
 use borrow.Author.Needs.{needs}
 use Rattle.masks.proofs.shortcuts.result_count.Statement.{statement}
 use Rattle.masks.proofs.shortcuts.result_count.Tie as tie

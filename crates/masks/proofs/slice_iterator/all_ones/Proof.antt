@@ -1,3 +1,4 @@
+-- The tests that were made decide the contract's conjunction.
 use borrow.Author.Tests.{eq-eqb, ne-eqb}
 use Rattle.masks.proofs.slice_iterator.all_ones.Statement.{statement}
 use Rattle.masks.proofs.slice_iterator.all_ones.Tie as tie

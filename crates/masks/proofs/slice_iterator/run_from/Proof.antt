@@ -1,3 +1,5 @@
+-- The invariant of both loops: the flags from `first` to `at` are ones. A byte (`run-byte`) or a bit (`run-more`) of ones keeps it;
+-- the run ends at a zero (`run-stop`) or at the span's end (`run-end`).
 use mathlib.Core.Path.{_≡_, refl}
 use mathlib.Core.Bool.{true}
 use Prim.Native.Nat.{_+_, _-_, _*_, _/_, _≤_}

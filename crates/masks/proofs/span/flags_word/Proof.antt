@@ -1,3 +1,4 @@
+-- `low-value`: the k low flags of the word read from `bit` on, as a number.
 use borrow.Author.Needs.{needs}
 use Rattle.masks.proofs.SpanLaws.{low-value}
 use Rattle.masks.proofs.span.flags_word.Statement.{statement}

@@ -1,3 +1,4 @@
+-- The invariant: the flags from `place` to `at` are alike. A word all alike keeps it (`alike-more`), another ends the loop (`alike-stop`).
 use Rattle.masks.proofs.IteratorLaws.{Alike, alike-none, alike-most, alike-stop, alike-more, alike-done}
 use Prim.Native.Nat.{_-_}
 use native.Mathlib.Omega.{arith}

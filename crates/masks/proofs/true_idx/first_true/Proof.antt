@@ -1,3 +1,4 @@
+-- In each arm the mask is known, and `firstTrue` is computed.
 use Rattle.masks.specs.TrueIdx.{firstTrue}
 use borrow.Author.Needs.{needs}
 use Rattle.masks.proofs.true_idx.first_true.Statement.{statement}

@@ -1,3 +1,4 @@
+-- In each arm the mask is known: the checks of `stated_failure`, or `one-check` of the length.
 use Rattle.masks.specs.TrueIdx.{newTrueChecks}
 use Rattle.masks.proofs.CheckLaws.{one-check}
 use borrow.Author.Needs.{needs}

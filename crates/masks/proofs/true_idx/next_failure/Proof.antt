@@ -1,3 +1,4 @@
+-- With a mask the cursor's checks; without one `firstFailed` unfolds to the nested `earlier` of the code (congruence).
 use Rattle.masks.specs.Checks.{firstFailed}
 use Rattle.masks.specs.TrueIdx.{trueChecks}
 use Rattle.masks.proofs.CheckLaws.{earlier-none}

@@ -1,3 +1,4 @@
+-- The stated length, the mask's checks, and that both agree, in order: `two-pieces` and `one-check`.
 use mathlib.Core.Path.{refl}
 use Rattle.masks.specs.TrueIdx.{newTrueChecks}
 use Rattle.masks.proofs.CheckLaws.{two-pieces, one-check}

@@ -1,3 +1,4 @@
+-- Of no flags 0 (`is-empty`); else the number of the checks decides (`not-empty`), and either call ensures the zeros.
 use mathlib.Core.Path.{sym, ap, _∙_}
 use native.Mathlib.Omega.{arith}
 use Rattle.masks.specs.Answer.{given}

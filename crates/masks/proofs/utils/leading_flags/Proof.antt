@@ -1,3 +1,4 @@
+-- A split that was given has the span's flags (`split-known`), so its count is the span's (`counted`); a refusal stays one (`count-refused`).
 use mathlib.Core.Path.{sym, ap, _∙_}
 use Rattle.words.specs.Ends.{leading}
 use Rattle.masks.specs.Answer.{given}

@@ -1,3 +1,4 @@
+-- The ones of the split are the span's (`split-count`), and its zeros are the other flags (`zeros-rest`).
 use native.Mathlib.Omega.{arith}
 use Rattle.words.proofs.Windows.{length-window}
 use Rattle.masks.proofs.PartLaws.{ones-most, zeros-rest}

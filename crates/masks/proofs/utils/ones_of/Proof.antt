@@ -1,3 +1,4 @@
+-- `count-three` adds the counts of the three parts; each is at most its part's length, so the sums fit.
 use native.Mathlib.Omega.{arith}
 use Rattle.masks.specs.Aligned.{splitFlags}
 use Rattle.words.proofs.Counting.{low-within, count-within}

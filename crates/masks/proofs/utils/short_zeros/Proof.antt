@@ -1,3 +1,4 @@
+-- All flags are in the one word that is loaded (`short-count`), and the zeros are the flags that are not set (`zeros-rest`).
 use Rattle.words.proofs.Windows.{length-window}
 use Rattle.masks.proofs.PartLaws.{ones-most, short-count, zeros-rest}
 use borrow.Author.Needs.{needs}

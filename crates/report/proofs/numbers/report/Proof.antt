@@ -1,3 +1,4 @@
+-- Too many bytes are refused (`too-long`); else they pass a mask's checks (`whole-accepted`), and the callees' numbers are the report's.
 use mathlib.Core.Path.{refl}
 use Rattle.report.proofs.NumberLaws.{numbers-given, too-long, whole-accepted}
 use borrow.Author.Needs.{needs}

@@ -1,3 +1,4 @@
+-- The invariant: the runs counted and those from `place` on are all. Each turn passes over one (`run-passed`); the cursor is not refused.
 use mathlib.Core.Path.{sym, ap, _∙_}
 use Prim.Native.Nat.{_-_}
 use native.Mathlib.Omega.{arith}

@@ -1,3 +1,4 @@
+-- A mask that passes its checks is not refused (`refused-failed`), so the answer has the value (`given-value`).
 use mathlib.Core.Path.{sym, ap, _∙_}
 use Rattle.masks.specs.Mask.{Recounted, countingAnswer, unsetBitsOf}
 use Rattle.masks.proofs.AnswerLaws.{given-value, refused-failed}

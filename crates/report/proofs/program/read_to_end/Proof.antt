@@ -1,3 +1,4 @@
+-- The invariant: `size` is at most the buffer's length, which does not change. So it counts bytes of the buffer at each exit (`counts`).
 use Rattle.io.proofs.Counting.{counts}
 use mathlib.Core.Path.{_≡_}
 use Prim.Native.Nat.{_-_, _≤_}

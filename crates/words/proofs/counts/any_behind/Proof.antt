@@ -1,3 +1,4 @@
+-- In each branch the flag is known: `and-true` or `and-false`; and where n is over len / 64 no flag is left behind the words.
 use mathlib.Core.Path.{sym, _∙_}
 use Prim.Native.Nat.{_*_}
 use native.Mathlib.Omega.{arith}

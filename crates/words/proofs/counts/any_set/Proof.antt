@@ -1,3 +1,4 @@
+-- The invariant: no flag of the first i words is set. One that is ends the search (`any-exit`); behind n words all are alike (`any-finish`).
 use Prim.Native.Nat.{_≤_, _*_, _-_, _+_}
 use mathlib.Core.Bool.{Bool, _&&_}
 use mathlib.Core.Path.{_≡_, ap, sym, _∙_}
@@ -55,10 +56,16 @@ any-whole-requires : tie.Need-any-whole-requires Inv-loop μ-loop
 any-whole-requires c κs = in-range _ _ _ _ _ _ _ (c .common-room .ensures .0)
 
 returns-2 : tie.Need-returns-2 Inv-loop μ-loop
-returns-2 c = any-exit _ 0 _ _ (c .before .any-whole .ensures ∙ ap anySet (zip-later _ _ _ _ _ _ _ _ _ _ _ 0 _ (omega arith) (omega arith) (omega arith) (omega arith))) (c .if2 .taken)
+returns-2 c =
+    any-exit _ 0 _ _ (c .before .any-whole .ensures
+    ∙ ap anySet (zip-later _ _ _ _ _ _ _ _ _ _ _ 0 _ (omega arith) (omega arith) (omega arith) (omega arith))) (c .if2 .taken)
 
 loop-holds : tie.Need-loop-holds Inv-loop μ-loop
-loop-holds c = (omega arith, sym (any-zero _ (sym (c .if2 .left) ∙ c .before .any-whole .ensures ∙ ap anySet (zip-later _ _ _ _ _ _ _ _ _ _ _ 0 _ (omega arith) (omega arith) (omega arith) (omega arith)))))
+loop-holds c = (
+  omega arith,
+  sym (any-zero _ (sym (c .if2 .left) ∙ c .before .any-whole .ensures
+      ∙ ap anySet (zip-later _ _ _ _ _ _ _ _ _ _ _ 0 _ (omega arith) (omega arith) (omega arith) (omega arith)))),
+)
 
 triple-word-requires-2 : tie.Need-triple-word-requires-2 Inv-loop μ-loop
 triple-word-requires-2 c κs = search needs
@@ -76,7 +83,11 @@ loop-less : tie.Need-loop-less Inv-loop μ-loop
 loop-less c = search needs
 
 loop-again : tie.Need-loop-again Inv-loop μ-loop
-loop-again c = (omega arith, any-more _ _ _ _ _ (c .before .before .before .before .loop .inv .1) (c .before .is-set2 .ensures ∙ ap anySet (c .before .before .triple-word2 .ensures)) (c .if3 .left) (omega arith))
+loop-again c = (
+  omega arith,
+  any-more _ _ _ _ _ (c .before .before .before .before .loop .inv .1)
+      (c .before .is-set2 .ensures ∙ ap anySet (c .before .before .triple-word2 .ensures)) (c .if3 .left) (omega arith),
+)
 
 past-end-requires : tie.Need-past-end-requires Inv-loop μ-loop
 past-end-requires c κs = search needs

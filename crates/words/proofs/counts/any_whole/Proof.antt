@@ -1,3 +1,4 @@
+-- The invariant: no flag of the first i words is set. A block with one ends the loop (`any-exit`), one without is passed over (`any-more`).
 use mathlib.Core.Path.{_≡_, ap, sym, _∙_}
 use Prim.Native.Nat.{ℕ, _≤_, _*_, _-_, _+_}
 use native.Mathlib.Omega.{arith}
@@ -48,7 +49,8 @@ is-set-requires c κs = search needs
 returns : tie.Need-returns Inv-loop μ-loop
 returns c =
     let block = c .before .before in
-    any-exit _ (64 * block .before .before .before .loop .i) _ _ (c .before .is-set .ensures ∙ block .each-join .ensures ∙ ap anySet (zip-later _ _ _ _ _ _ _ _ _ _ _ _ _ (omega arith) (omega arith) (omega arith) (omega arith))) (c .if1 .taken)
+    any-exit _ (64 * block .before .before .before .loop .i) _ _ (c .before .is-set .ensures ∙ block .each-join .ensures
+    ∙ ap anySet (zip-later _ _ _ _ _ _ _ _ _ _ _ _ _ (omega arith) (omega arith) (omega arith) (omega arith))) (c .if1 .taken)
 
 add-i : tie.Need-add-i Inv-loop μ-loop
 add-i c = search needs
@@ -59,8 +61,12 @@ loop-less c = search needs
 loop-again : tie.Need-loop-again Inv-loop μ-loop
 loop-again c =
     let block = c .before .before in
-    let at-loop = block .before .before .before in
-    (omega arith, any-more _ (64 * at-loop .loop .i) (64 * block .before .least .result) _ _ (at-loop .loop .inv .1) (c .before .is-set .ensures ∙ block .each-join .ensures ∙ ap anySet (zip-later _ _ _ _ _ _ _ _ _ _ _ _ _ (omega arith) (omega arith) (omega arith) (omega arith))) (c .if1 .left) (omega arith))
+    let at-loop = block .before .before .before in (
+      omega arith,
+      any-more _ (64 * at-loop .loop .i) (64 * block .before .least .result) _ _
+          (at-loop .loop .inv .1) (c .before .is-set .ensures ∙ block .each-join .ensures
+          ∙ ap anySet (zip-later _ _ _ _ _ _ _ _ _ _ _ _ _ (omega arith) (omega arith) (omega arith) (omega arith))) (c .if1 .left) (omega arith),
+    )
 
 returns-2 : tie.Need-returns-2 Inv-loop μ-loop
 returns-2 c = zero-any _ (sym (count-all _ _ _ _ (c .before .loop .inv .1) (length-zip _ _ _ _ _ _ _ _) (c .before .loop .inv .0) (c .loop-test .left)))

@@ -1,3 +1,4 @@
+-- Where all words are whole and in range the kernel's n words are the stretch (`count-stretch`, `write-stretch`); else by two passes.
 use native.Mathlib.Omega.{arith}
 use Rattle.words.proofs.Counting.{count-stretch}
 use Rattle.words.proofs.Writing.{write-stretch}

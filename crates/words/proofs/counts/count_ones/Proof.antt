@@ -1,3 +1,4 @@
+-- At most a word by `count-low`; else in three parts, whose counts `count-parts` adds. Each is at most its part's length, so the sums fit.
 use mathlib.Core.Path.{_≡_, refl, _∙_}
 use native.Mathlib.Omega.{arith}
 use Rattle.words.proofs.Bytes.{length-flags}
@@ -20,7 +21,9 @@ ones-in-word-requires : tie.Need-ones-in-word-requires
 ones-in-word-requires c κs = search needs
 
 returns : tie.Need-returns
-returns c = count-stretch _ _ _ _ _ _ (count-low _ _ _ _ _ _ (c .before .before .before .if1 .taken) (c .before .before .word-at .ensures) (c .before .low-flags .ensures) (c .ones-in-word .ensures)) (omega arith) refl
+returns c =
+    count-stretch _ _ _ _ _ _ (count-low _ _ _ _ _ _ (c .before .before .before .if1 .taken)
+    (c .before .before .word-at .ensures) (c .before .low-flags .ensures) (c .ones-in-word .ensures)) (omega arith) refl
 
 sub-h : tie.Need-sub-h
 sub-h c = search needs
@@ -80,7 +83,8 @@ ones-in-word-requires-3 c κs = search needs
 parts-sum : (start len r n : ℕ) → 64 < len → n ≡ min ((len - (8 - start % 8) % 8) / 64) r → len ≡ (8 - start % 8) % 8 + 64 * n + (len - (8 - start % 8) % 8 - 64 * n)
 parts-sum start len r n h e = omega arith
 
-parts-fit : (start len r n x y z : ℕ) → 64 < len → n ≡ min ((len - (8 - start % 8) % 8) / 64) r → x ≤ (8 - start % 8) % 8 → y ≤ 64 * n → z ≤ len - (8 - start % 8) % 8 - 64 * n → x + y + z ≤ len
+parts-fit : (start len r n x y z : ℕ) → 64 < len → n ≡ min ((len - (8 - start % 8) % 8) / 64) r
+    → x ≤ (8 - start % 8) % 8 → y ≤ 64 * n → z ≤ len - (8 - start % 8) % 8 - 64 * n → x + y + z ≤ len
 parts-fit start len r n x y z h e a b c = omega (arith, parts-sum start len r n h e)
 
 -- where more than a word is left, the bytes end within it
@@ -93,7 +97,8 @@ add-result c =
     let mid = c .before .before .before in
     let a = mid .before .before .before .before .before .before .before .before .args in
     let h : (8 - a .start % 8) % 8 ≤ 64 = omega arith in
-    let x = count-within _ _ _ _ (count-low (flagsOf (a .bytes .now)) _ _ _ _ _ h (mid .before .before .before .word-at2 .ensures) (mid .before .before .low-flags2 .ensures) (mid .before .ones-in-word2 .ensures)) in
+    let x = count-within _ _ _ _ (count-low (flagsOf (a .bytes .now)) _ _ _ _ _ h (mid .before .before .before .word-at2 .ensures)
+    (mid .before .before .low-flags2 .ensures) (mid .before .ones-in-word2 .ensures)) in
     let y = count-within _ _ _ _ (mid .ones-words .ensures) in
     omega arith
 
@@ -103,7 +108,8 @@ add-result-2 c =
     let least = mid .before .before .before .before in
     let a = least .before .before .before .before .args in
     let h : (8 - a .start % 8) % 8 ≤ 64 = omega arith in
-    let x = count-within _ _ _ _ (count-low (flagsOf (a .bytes .now)) _ _ _ _ _ h (mid .before .before .before .word-at2 .ensures) (mid .before .before .low-flags2 .ensures) (mid .before .ones-in-word2 .ensures)) in
+    let x = count-within _ _ _ _ (count-low (flagsOf (a .bytes .now)) _ _ _ _ _ h (mid .before .before .before .word-at2 .ensures)
+    (mid .before .before .low-flags2 .ensures) (mid .before .ones-in-word2 .ensures)) in
     let y = count-within _ _ _ _ (mid .ones-words .ensures) in
     let z = low-within _ _ _ _ (c .before .low-flags3 .ensures) (c .ones-in-word3 .ensures) in
     omega (arith, parts-fit (a .start) (a .len) _ _ _ _ _ (least .before .before .if1 .left) (least .least .ensures) x y z, least .before .before .before .before .fits .len .fits)
@@ -116,7 +122,8 @@ returns-2 c =
     count-parts (flagsOf (a .bytes .now)) _ _ _ _ _ _ _ _ _ _ _
     (count-low _ _ _ _ _ _ (omega arith) (mid .before .before .before .word-at2 .ensures) (mid .before .before .low-flags2 .ensures) (mid .before .ones-in-word2 .ensures))
     (mid .ones-words .ensures)
-    (count-rest _ _ _ _ _ _ (rest-ends (a .bytes .now) (a .start) (a .len) _ _ (least .least .ensures) (least .before .room .ensures)) (c .before .before .word-at3 .ensures) (c .before .low-flags3 .ensures) (c .ones-in-word3 .ensures))
+    (count-rest _ _ _ _ _ _ (rest-ends (a .bytes .now) (a .start) (a .len) _ _ (least .least .ensures) (least .before .room .ensures))
+    (c .before .before .word-at3 .ensures) (c .before .low-flags3 .ensures) (c .ones-in-word3 .ensures))
     (omega arith) (omega arith) (omega arith) (parts-sum (a .start) (a .len) _ _ (least .before .before .if1 .left) (least .least .ensures))
 
 pub count-ones-spec : {M : Type 1} → statement M

@@ -66,7 +66,12 @@ ones-in-word-requires-2 : tie.Need-ones-in-word-requires-2 Inv-loop μ-loop
 ones-in-word-requires-2 c κs = search needs
 
 add-ones : tie.Need-add-ones Inv-loop μ-loop
-add-ones c = omega (arith, count-fits _ _ _ _ _ (count-step _ _ _ _ _ (c .before .before .before .loop .inv .1) (c .before .triple-word2 .ensures) (c .ones-in-word2 .ensures)) (length-zip _ _ _ _ _ _ _ _))
+add-ones c =
+    omega (
+      arith,
+      count-fits _ _ _ _ _ (count-step _ _ _ _ _ (c .before .before .before .loop .inv .1)
+          (c .before .triple-word2 .ensures) (c .ones-in-word2 .ensures)) (length-zip _ _ _ _ _ _ _ _),
+    )
 
 add-i : tie.Need-add-i Inv-loop μ-loop
 add-i c = search needs

@@ -1,3 +1,4 @@
+-- `same-any`: lists of one length are the same just where no flag of their `xor` is set.
 use mathlib.Core.Bool.{not}
 use mathlib.Core.Path.{ap, sym, _∙_}
 use Rattle.words.proofs.AnyFlag.{same-any}

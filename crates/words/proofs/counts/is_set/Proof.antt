@@ -1,3 +1,4 @@
+-- `word-any`: a number is 0 just where no flag of its bits is set.
 use Rattle.words.proofs.AnyFlag.{word-any}
 use Rattle.words.proofs.counts.is_set.Statement.{statement}
 use Rattle.words.proofs.counts.is_set.Tie as tie

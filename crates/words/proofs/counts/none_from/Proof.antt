@@ -1,3 +1,4 @@
+-- `any-drop`: a window that reaches the word's end has a flag set just where the rest from k on has.
 use mathlib.Core.Path.{ap, _∙_}
 use mathlib.Core.Bool.{not}
 use native.Mathlib.Omega.{arith}

@@ -1,3 +1,4 @@
+-- In each branch the flag is known, and so is the product with its digit: the difference, or 0.
 use native.Mathlib.Omega.{arith}
 use borrow.Author.Needs.{needs}
 use Rattle.words.proofs.counts.ones_behind.Statement.{statement}

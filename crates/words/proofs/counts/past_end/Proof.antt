@@ -1,3 +1,4 @@
+-- In each arm the operation is known, and its value of three zeros is computed.
 use mathlib.Core.Bool.{xor}
 use mathlib.Core.Path.{refl}
 use borrow.Author.Needs.{needs}

@@ -1,3 +1,4 @@
+-- `end-bits` at width 64.
 use mathlib.Core.Path.{_∙_}
 use Rattle.words.proofs.EndLaws.{end-bits}
 use borrow.Author.Needs.{needs}

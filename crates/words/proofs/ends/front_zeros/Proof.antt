@@ -1,3 +1,4 @@
+-- `front-bits` at width 64.
 use mathlib.Core.Path.{_∙_}
 use Rattle.words.proofs.EndLaws.{front-bits}
 use borrow.Author.Needs.{needs}

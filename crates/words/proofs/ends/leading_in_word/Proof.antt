@@ -1,3 +1,4 @@
+-- `leading-take`: the least of the word's count and k is that of the first k flags; ones are the zeros of the inverted word (`leading-inverted`).
 use mathlib.Core.Path.{ap, _∙_}
 use Prim.Native.Nat.{ℕ, min}
 use Rattle.words.proofs.EndLaws.{leading-take, leading-inverted}
@@ -23,7 +24,8 @@ least-requires-2 c κs = search needs
 returns : tie.Need-returns
 returns c =
     let k = c .before .before .before .before .args .k in
-    rw (c .before .before .before .if1 .taken) (leading-inverted k _ _ _ (c .before .before .not-word .ensures) (c .least .ensures ∙ ap (λ (x : ℕ). min x k) (c .before .front-zeros .ensures) ∙ leading-take _ k _))
+    rw (c .before .before .before .if1 .taken) (leading-inverted k _ _ _ (c .before .before .not-word .ensures)
+    (c .least .ensures ∙ ap (λ (x : ℕ). min x k) (c .before .front-zeros .ensures) ∙ leading-take _ k _))
 
 returns-2 : tie.Need-returns-2
 returns-2 c =

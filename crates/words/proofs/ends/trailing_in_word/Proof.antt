@@ -1,3 +1,4 @@
+-- The first k flags are shifted to the top, zeros below them (`trailing-shifted`); ones are the zeros of the inverted word (`trailing-inverted`).
 use mathlib.Core.Path.{refl, sym, _∙_}
 use Rattle.words.proofs.EndLaws.{trailing-shifted, trailing-inverted, take-none}
 use borrow.Author.Needs.{needs}
@@ -40,7 +41,9 @@ least-requires-3 c κs = search needs
 returns-2 : tie.Need-returns-2
 returns-2 c =
     let known = c .before .before .before .before in
-    rw (c .before .before .before .if2 .taken) (trailing-inverted (known .before .before .args .k) _ _ _ (c .before .before .not-word .ensures) (c .least2 .ensures ∙ trailing-shifted 64 _ _ _ _ _ (known .before .least .ensures) (known .if1 .left) refl (c .before .end-zeros .ensures)))
+    rw (c .before .before .before .if2 .taken)
+    (trailing-inverted (known .before .before .args .k) _ _ _ (c .before .before .not-word .ensures) (c .least2 .ensures
+    ∙ trailing-shifted 64 _ _ _ _ _ (known .before .least .ensures) (known .if1 .left) refl (c .before .end-zeros .ensures)))
 
 returns-3 : tie.Need-returns-3
 returns-3 c =

@@ -1,3 +1,4 @@
+-- The invariant: i words are written. One more is the law `write-step`, of the word that `zip-word` gives.
 use Prim.Native.Nat.{_≤_, _*_, _-_, _+_}
 use mathlib.Core.Path.{_≡_, refl}
 use native.Mathlib.Omega.{arith}
@@ -11,7 +12,9 @@ use Rattle.words.proofs.kernels.combine_shifted.Statement.{statement}
 use Rattle.words.proofs.kernels.combine_shifted.Tie as tie
 
 abbrev Inv-loop : tie.InvT-loop
-Inv-loop op a pa s b pb t c pc u n out₀ i₀ out i = (i ≤ n) × ((length out ≡ length out₀) × (flagsOf out ≡ over (flagsOf out₀) (window (combined op a (8 * pa + s) b (8 * pb + t) c (8 * pc + u) (64 * n)) 0 (64 * i))))
+Inv-loop op a pa s b pb t c pc u n out₀ i₀ out i =
+    (i ≤ n) × ((length out ≡ length out₀)
+    × (flagsOf out ≡ over (flagsOf out₀) (window (combined op a (8 * pa + s) b (8 * pb + t) c (8 * pc + u) (64 * n)) 0 (64 * i))))
 
 abbrev μ-loop : tie.MeasureT-loop
 μ-loop op a pa s b pb t c pc u n out₀ i₀ out i = n - i
@@ -62,7 +65,9 @@ loop-again c =
       (
         search needs,
         write-step _ _ _ _ _ _ (inv .1 .1)
-            (zip-word _ _ _ _ _ _ _ _ _ _ _ _ _ _ _ _ (omega arith) (omega arith) (omega arith) (omega arith) (loads .before .before .shifted-word .ensures) (loads .before .shifted-word2 .ensures) (loads .shifted-word3 .ensures) (op .combine-word .ensures))
+            (zip-word _ _ _ _ _ _ _ _ _ _ _ _ _ _ _ _ (omega arith) (omega arith) (omega arith) (omega arith)
+            (loads .before .before .shifted-word .ensures) (loads .before .shifted-word2 .ensures)
+            (loads .shifted-word3 .ensures) (op .combine-word .ensures))
             (put .put-word .ensures),
       ),
     )

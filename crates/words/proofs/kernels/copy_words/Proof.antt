@@ -1,3 +1,4 @@
+-- The invariant: i words are written and counted. One more is the laws `write-step` and `count-step`, of the word that `span-word` gives.
 use Prim.Native.Nat.{_≤_, _*_, _-_, _+_}
 use mathlib.Core.Path.{_≡_, refl}
 use native.Mathlib.Omega.{arith}

@@ -1,3 +1,4 @@
+-- The invariant: `ones` counts i words. One more is the law `count-step`; a count is at most the flags counted, so the sum fits.
 use Prim.Native.Nat.{_≤_, _*_, _-_, _+_}
 use mathlib.Core.Path.{_≡_}
 use native.Mathlib.Omega.{arith}
@@ -62,7 +63,9 @@ loop-again c =
     let inv = op .before .before .before .before .before .loop .inv in (
       omega arith,
       count-step _ _ _ _ _ (inv .1)
-          (zip-word _ _ _ _ _ _ _ _ _ _ _ _ _ _ _ _ (omega arith) (omega arith) (omega arith) (omega arith) (op .before .before .before .shifted-word .ensures) (op .before .before .shifted-word2 .ensures) (op .before .shifted-word3 .ensures) (op .combine-word .ensures))
+          (zip-word _ _ _ _ _ _ _ _ _ _ _ _ _ _ _ _ (omega arith) (omega arith) (omega arith) (omega arith)
+          (op .before .before .before .shifted-word .ensures) (op .before .before .shifted-word2 .ensures)
+          (op .before .shifted-word3 .ensures) (op .combine-word .ensures))
           (c .ones-in-word .ensures),
     )
 

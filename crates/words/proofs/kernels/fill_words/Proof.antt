@@ -11,7 +11,9 @@ use Rattle.words.proofs.kernels.fill_words.Statement.{statement}
 use Rattle.words.proofs.kernels.fill_words.Tie as tie
 
 abbrev Inv-loop : tie.InvT-loop
-Inv-loop flag n out₀ w i₀ out i = (i ≤ n) × ((length out ≡ length out₀) × ((bits 64 w ≡ copies 64 flag) × (flagsOf out ≡ over (flagsOf out₀) (window (copies (64 * n) flag) 0 (64 * i)))))
+Inv-loop flag n out₀ w i₀ out i =
+    (i ≤ n) × ((length out ≡ length out₀)
+    × ((bits 64 w ≡ copies 64 flag) × (flagsOf out ≡ over (flagsOf out₀) (window (copies (64 * n) flag) 0 (64 * i)))))
 
 abbrev μ-loop : tie.MeasureT-loop
 μ-loop flag n out₀ w i₀ out i = n - i

@@ -1,3 +1,4 @@
+-- The invariant: a flag of `all` is set just where one of the first i words is. One more is the law `any-step`.
 use Prim.Native.Nat.{_≤_, _*_, _-_, _+_}
 use mathlib.Core.Path.{_≡_}
 use native.Mathlib.Omega.{arith}
@@ -58,7 +59,9 @@ loop-again c =
     let inv = op .before .before .before .before .before .loop .inv in (
       omega arith,
       any-step _ _ _ _ _ (inv .1)
-          (zip-word _ _ _ _ _ _ _ _ _ _ _ _ _ _ _ _ (omega arith) (omega arith) (omega arith) (omega arith) (op .before .before .before .shifted-word .ensures) (op .before .before .shifted-word2 .ensures) (op .before .shifted-word3 .ensures) (op .combine-word .ensures))
+          (zip-word _ _ _ _ _ _ _ _ _ _ _ _ _ _ _ _ (omega arith) (omega arith) (omega arith) (omega arith)
+          (op .before .before .before .shifted-word .ensures) (op .before .before .shifted-word2 .ensures)
+          (op .before .shifted-word3 .ensures) (op .combine-word .ensures))
           (c .or-word .ensures),
     )
 

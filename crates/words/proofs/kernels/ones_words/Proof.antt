@@ -1,3 +1,4 @@
+-- The invariant: `ones` counts i words. One more is the law `count-step`; a count is at most the flags counted, so the sum fits.
 use lib.ListN.{length}
 use Rattle.words.proofs.Windows.{length-window}
 use Prim.Native.Nat.{_≤_, _*_, _-_, _+_}
@@ -40,7 +41,11 @@ loop-less : tie.Need-loop-less Inv-loop μ-loop
 loop-less c = search needs
 
 loop-again : tie.Need-loop-again Inv-loop μ-loop
-loop-again c = (omega arith, count-step _ _ _ _ _ (c .before .before .before .loop .inv .1) (span-word _ _ _ _ _ _ (omega arith) (omega arith) (c .before .full-word .ensures)) (c .ones-in-word .ensures))
+loop-again c = (
+  omega arith,
+  count-step _ _ _ _ _ (c .before .before .before .loop .inv .1)
+      (span-word _ _ _ _ _ _ (omega arith) (omega arith) (c .before .full-word .ensures)) (c .ones-in-word .ensures),
+)
 
 returns : tie.Need-returns Inv-loop μ-loop
 returns c = count-all _ _ _ _ (c .before .loop .inv .1) (length-window _ _ _) (c .before .loop .inv .0) (c .loop-test .left)

@@ -1,3 +1,4 @@
+-- The invariant: where the loop began with the whole words over flags F, i words are over F. One more is `write-step`, the end `write-end`.
 use Prim.Native.Nat.{ℕ, _≤_, _*_, _-_, _+_}
 use mathlib.Core.Bool.{Bool}
 use mathlib.Core.List.{List}
@@ -14,7 +15,9 @@ use Rattle.words.proofs.loops.combine_long.Statement.{statement}
 use Rattle.words.proofs.loops.combine_long.Tie as tie
 
 abbrev Inv-loop : tie.InvT-loop
-Inv-loop op a sa b sb c sc len out₀ n i₀ out i = (i ≤ n) × ((length out ≡ length out₀) × ((F : List Bool) → flagsOf out₀ ≡ over F (window (combined op a sa b sb c sc len) 0 (64 * i₀)) → flagsOf out ≡ over F (window (combined op a sa b sb c sc len) 0 (64 * i))))
+Inv-loop op a sa b sb c sc len out₀ n i₀ out i =
+    (i ≤ n) × ((length out ≡ length out₀) × ((F : List Bool) → flagsOf out₀ ≡ over F (window (combined op a sa b sb c sc len) 0 (64 * i₀))
+    → flagsOf out ≡ over F (window (combined op a sa b sb c sc len) 0 (64 * i))))
 
 abbrev μ-loop : tie.MeasureT-loop
 μ-loop op a sa b sb c sc len out₀ n i₀ out i = n - i

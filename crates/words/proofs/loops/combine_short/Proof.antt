@@ -1,3 +1,4 @@
+-- One word has all flags (`write-once`); where there are none nothing is written (`write-nothing`).
 use native.Mathlib.Omega.{arith}
 use Rattle.words.proofs.Combining.{length-zip}
 use Rattle.words.proofs.Writing.{write-once, write-nothing}
@@ -17,7 +18,9 @@ same-length c = search needs
 returns : tie.Need-returns
 returns c =
     let put = c .before .before in
-    write-once _ _ _ _ _ (length-zip _ _ _ _ _ _ _ _) (put .before .before .before .if1 .taken) (put .before .before .before .before .before .before .before .before .pre) (put .before .triple-word .ensures) (put .store-le-u64 .ensures)
+    write-once _ _ _ _ _ (length-zip _ _ _ _ _ _ _ _) (put .before .before .before .if1 .taken)
+    (put .before .before .before .before .before .before .before .before .pre)
+    (put .before .triple-word .ensures) (put .store-le-u64 .ensures)
 
 returns-2 : tie.Need-returns-2
 returns-2 c = write-nothing _ _ _ (length-zip _ _ _ _ _ _ _ _) (c .if1 .left)

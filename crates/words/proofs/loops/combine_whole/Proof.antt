@@ -1,3 +1,4 @@
+-- What a kernel ensures, with its starts under other names: 8 * (s / 8) is s where all three are at bytes, and 8 * (s / 8) + s % 8 always.
 use Rattle.words.proofs.Ranges.{in-range}
 use mathlib.Core.Path.{ap, _∙_}
 use native.Mathlib.Omega.{arith}

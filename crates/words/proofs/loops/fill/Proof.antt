@@ -1,3 +1,4 @@
+-- Behind the whole words at most one more is stored (`write-step`); then the output is full or has all flags (`write-end`).
 use mathlib.Core.Path.{ap, _∙_, refl}
 use mathlib.Core.Bool.{Bool}
 use mathlib.Core.List.{List}

@@ -1,3 +1,4 @@
+-- `cut-word`: three windows of 64 flags are combined, and cut where the length ends.
 use native.Mathlib.Omega.{arith}
 use Rattle.words.proofs.Combining.{cut-word}
 use borrow.Author.Needs.{needs}
@@ -40,7 +41,8 @@ low-flags-requires c κs = search needs
 returns : tie.Need-returns
 returns c =
     let op = c .before in
-    cut-word _ _ _ _ _ _ _ _ _ _ _ _ _ _ _ _ _ (omega arith) (omega arith) (omega arith) (op .before .before .before .word-at .ensures) (op .before .before .word-at2 .ensures) (op .before .word-at3 .ensures) (op .combine-word .ensures) (c .low-flags .ensures)
+    cut-word _ _ _ _ _ _ _ _ _ _ _ _ _ _ _ _ _ (omega arith) (omega arith) (omega arith) (op .before .before .before .word-at .ensures)
+    (op .before .before .word-at2 .ensures) (op .before .word-at3 .ensures) (op .combine-word .ensures) (c .low-flags .ensures)
 
 pub triple-word-spec : {M : Type 1} → statement M
 triple-word-spec =

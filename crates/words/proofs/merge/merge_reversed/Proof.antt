@@ -1,3 +1,4 @@
+-- One law for each branch: an offset of 0, one from 64 on, or the high bits of one word beside the low bits of the next.
 use Rattle.words.proofs.Merging.{merge-bits, merge-none, merge-past}
 use borrow.Author.Needs.{needs}
 use Rattle.words.proofs.merge.merge_reversed.Statement.{statement}

@@ -1,3 +1,4 @@
+-- `bits-and` at width 64.
 use Rattle.words.proofs.Bits.{bits-and}
 use Rattle.words.proofs.ops.and_word.Statement.{statement}
 use Rattle.words.proofs.ops.and_word.Tie as tie

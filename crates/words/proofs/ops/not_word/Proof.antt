@@ -1,3 +1,4 @@
+-- `bits-not` at width 64.
 use Rattle.words.proofs.Bits.{bits-not}
 use Rattle.words.proofs.ops.not_word.Statement.{statement}
 use Rattle.words.proofs.ops.not_word.Tie as tie

@@ -1,3 +1,4 @@
+-- `bits-or` and `bits-not` at width 64; `zip-map` makes the two one operation.
 use Rattle.words.proofs.Bits.{bits-or, bits-not}
 use Rattle.words.proofs.Combining.{zip-map}
 use Rattle.words.proofs.ops.or_not_word.Statement.{statement}

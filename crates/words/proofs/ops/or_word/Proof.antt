@@ -1,3 +1,4 @@
+-- `bits-or` at width 64.
 use Rattle.words.proofs.Bits.{bits-or}
 use Rattle.words.proofs.ops.or_word.Statement.{statement}
 use Rattle.words.proofs.ops.or_word.Tie as tie

@@ -1,3 +1,4 @@
+-- In each branch the flag is known: `or_not` the other way round is the choice with ones (`else-set`), `and` that with zeros (`else-clear`).
 use mathlib.Core.Path.{_∙_}
 use mathlib.Core.Bool.{true, false, cond, _&&_}
 use Rattle.words.specs.Ops.{orNot}

@@ -1,3 +1,4 @@
+-- `bits-xor` at width 64.
 use Rattle.words.proofs.Bits.{bits-xor}
 use Rattle.words.proofs.ops.xor_word.Statement.{statement}
 use Rattle.words.proofs.ops.xor_word.Tie as tie

@@ -1,3 +1,4 @@
+-- Below 64 the low flags and the shifted ones do not overlap (`behind-some`); from 64 on the first word is the whole window (`behind-all`).
 use Rattle.words.proofs.Loads.{low-divisor}
 use Rattle.words.proofs.Merging.{behind-some, behind-all}
 use borrow.Author.Needs.{needs}

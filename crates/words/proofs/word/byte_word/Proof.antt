@@ -1,3 +1,4 @@
+-- By how many bytes are left: none, eight or more, or fewer; then all bytes, or the last eight, are loaded and moved down.
 use Rattle.words.proofs.Loads.{at-few, byte-last, byte-past}
 use borrow.Author.Needs.{needs}
 use Rattle.words.proofs.word.byte_word.Statement.{statement}

@@ -1,9 +1,5 @@
-use mathlib.Core.Bool.{true, false}
+-- In each branch the flag is known: `bits-ones` or `bits-zero`.
 use Rattle.words.proofs.Bits.{bits-zero, bits-ones}
-use mathlib.Core.Path.{_∙_}
-use mathlib.Core.Bool.{not, true, false}
-use lib.ListN.{replicate}
-use Rattle.words.proofs.Bits.{bits-zero, bits-not}
 use Rattle.words.proofs.word.constant_word.Statement.{statement}
 use Rattle.words.proofs.word.constant_word.Tie as tie
 

@@ -1,3 +1,4 @@
+-- `bits-shr` below 64; from there on the window is past the word's end (`down-all`).
 use Rattle.words.proofs.Loads.{bits-shr, down-all}
 use borrow.Author.Needs.{needs}
 use Rattle.words.proofs.word.down.Statement.{statement}

@@ -1,3 +1,4 @@
+-- `read-flag`: the flag is a bit of its byte; past the last byte there is none (`no-flag`).
 use Rattle.words.proofs.Plain.{read-flag, no-flag}
 use borrow.Author.Needs.{needs}
 use Rattle.words.proofs.word.flag_at.Statement.{statement}

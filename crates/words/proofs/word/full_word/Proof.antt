@@ -1,3 +1,4 @@
+-- `load-mid`: the flags of eight bytes from `at` on are those from 8 * at on.
 use Rattle.words.proofs.Loads.{load-mid}
 use borrow.Author.Needs.{needs}
 use Rattle.words.proofs.word.full_word.Statement.{statement}

@@ -1,3 +1,4 @@
+-- The first eight bytes have the first 64 flags (`load-first`); fewer bytes are joined as they are.
 use lib.ListN.{length-take}
 use mathlib.Core.Path.{sym}
 use native.Mathlib.Omega.{arith}

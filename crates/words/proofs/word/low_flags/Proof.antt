@@ -1,3 +1,4 @@
+-- Below 64 the remainder by 2 ^ k keeps the k low bits (`low-some`); from 64 on all are kept (`low-all`).
 use Rattle.words.proofs.Loads.{low-all, low-some, low-divisor}
 use borrow.Author.Needs.{needs}
 use Rattle.words.proofs.word.low_flags.Statement.{statement}

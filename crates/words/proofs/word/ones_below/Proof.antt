@@ -1,3 +1,4 @@
+-- One law for each branch: no flag, all flags of the word, or the k low ones, shifted to the top of the word and counted there.
 use Rattle.words.proofs.NthLaws.{ones-none, ones-taken, ones-whole}
 use borrow.Author.Needs.{needs}
 use Rattle.words.proofs.word.ones_below.Statement.{statement}

@@ -1,3 +1,4 @@
+-- `ones-bits` at width 64.
 use mathlib.Core.Path.{sym, _∙_}
 use Rattle.words.proofs.Counting.{ones-bits}
 use borrow.Author.Needs.{needs}

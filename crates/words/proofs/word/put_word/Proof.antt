@@ -1,3 +1,4 @@
+-- `put-mid`: what is written over eight bytes from `at` on is written over the flags from 8 * at on.
 use Rattle.words.proofs.Loads.{put-mid}
 use borrow.Author.Needs.{needs}
 use Rattle.words.proofs.word.put_word.Statement.{statement}

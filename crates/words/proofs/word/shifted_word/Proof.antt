@@ -1,3 +1,4 @@
+-- `shifted`: two windows of one list, eight flags apart, joined by `or`; they agree where they overlap.
 use Rattle.words.proofs.Merging.{shifted}
 use borrow.Author.Needs.{needs}
 use Rattle.words.proofs.word.shifted_word.Statement.{statement}

@@ -1,3 +1,4 @@
+-- Inside the output the rest from `at` on is lent (`over-from`); past its end there is nothing to write over (`overAt-past`).
 use native.Mathlib.Omega.{arith}
 use Rattle.words.proofs.Bytes.{over-from, length-flags}
 use Rattle.words.proofs.Windows.{overAt-past}

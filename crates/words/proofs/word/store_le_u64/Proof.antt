@@ -1,3 +1,4 @@
+-- With eight bytes or more the first eight are lent, and `over-part` says the same of the whole; with fewer it is what `split` ensures.
 use lib.ListN.{length-take}
 use mathlib.Core.Path.{sym}
 use native.Mathlib.Omega.{arith}

@@ -1,3 +1,4 @@
+-- By how many bytes are left: none, nine or more, or fewer; then all bytes, or the last eight, are loaded and moved down.
 use Rattle.words.proofs.Loads.{at-past, at-few, at-last}
 use borrow.Author.Needs.{needs}
 use Rattle.words.proofs.word.word_at.Statement.{statement}

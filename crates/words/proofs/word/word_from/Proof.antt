@@ -1,3 +1,4 @@
+-- `at-bit`: 8 * (bit / 8) + bit % 8 is `bit`.
 use Rattle.words.proofs.Loads.{at-bit}
 use borrow.Author.Needs.{needs}
 use Rattle.words.proofs.word.word_from.Statement.{statement}

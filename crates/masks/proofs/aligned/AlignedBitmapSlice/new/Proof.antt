@@ -1,3 +1,4 @@
+-- Of no flags the empty split (`is-empty`); else the number of the checks decides, and `aligned-allowed` gives what `split` asks for.
 use mathlib.Core.Path.{sym, ap, _∙_}
 use native.Mathlib.Omega.{arith}
 use Rattle.masks.specs.Aligned.{alignedOf}

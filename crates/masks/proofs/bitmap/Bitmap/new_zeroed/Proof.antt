@@ -1,3 +1,4 @@
+-- The number of the two checks (`check-before`) decides the answer and the bytes.
 use Rattle.masks.specs.Mask.{newZeroedOf, newZeroedBytes, zeroedChecks}
 use mathlib.Core.Path.{_∙_}
 use Rattle.masks.proofs.CheckLaws.{check-before, is-refused, is-given, is-kept, is-new}
@@ -21,7 +22,8 @@ returns : tie.Need-returns
 unfolding newZeroedOf newZeroedBytes zeroedChecks
 returns c =
     let e = c .before in
-    let number = check-before _ _ _ _ _ _ _ (e .earlier .ensures) (e .before .failed .ensures) (e .before .before .within-limit .ensures) (e .before .before .before .frozen-failure .ensures) in
+    let number = check-before _ _ _ _ _ _ _ (e .earlier .ensures) (e .before .failed .ensures)
+    (e .before .before .within-limit .ensures) (e .before .before .before .frozen-failure .ensures) in
     (is-refused _ _ _ _ number (c .if1 .taken), is-kept _ _ _ _ number (c .if1 .taken))
 
 fill-frozen-requires : tie.Need-fill-frozen-requires
@@ -36,7 +38,8 @@ returns-2 c =
     let fill = c .before .before in
     let known = fill .before .before in
     let e = known .before in
-    let number = check-before _ _ _ _ _ _ _ (e .earlier .ensures) (e .before .failed .ensures) (e .before .before .within-limit .ensures) (e .before .before .before .frozen-failure .ensures) in
+    let number = check-before _ _ _ _ _ _ _ (e .earlier .ensures) (e .before .failed .ensures)
+    (e .before .before .within-limit .ensures) (e .before .before .before .frozen-failure .ensures) in
     (is-given _ _ _ _ number (known .if1 .left), fill .fill-frozen .ensures ∙ is-new _ _ _ _ number (known .if1 .left))
 
 pub new-zeroed-spec : {M : Type 1} → statement M

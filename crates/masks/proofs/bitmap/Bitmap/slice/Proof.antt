@@ -1,3 +1,4 @@
+-- One law for each answer: refused by the piece's checks, refused by check 7 where the recount is wrong, or given.
 use native.Mathlib.Omega.{arith}
 use Rattle.masks.proofs.MaskLaws.{piece-allowed, slice-refused, slice-wrong, slice-right}
 use mathlib.Core.Path.{sym, ap, _∙_}

@@ -1,3 +1,4 @@
+-- The number of the span's checks decides: `is-refused` or `is-given`.
 use mathlib.Core.Path.{ap, _∙_}
 use Rattle.masks.specs.Answer.{given}
 use Rattle.masks.specs.Mask.{tryNewOf, maskOf}

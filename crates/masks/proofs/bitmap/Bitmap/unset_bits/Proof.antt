@@ -1,3 +1,4 @@
+-- The number of the mask's checks decides; where all have passed, the span is within the limit (`mask-allowed`), as `zero_count` asks.
 use mathlib.Core.Path.{sym, ap, _∙_}
 use Rattle.masks.specs.Answer.{given}
 use Rattle.masks.specs.Mask.{unsetBitsOf, maskOf, Recounted}

@@ -1,3 +1,4 @@
+-- The number of the checks decides: `refused-way` or `given-way`; where all have passed the ones are at most the length (`ones-fit`).
 use mathlib.Core.Path.{sym, _∙_}
 use Rattle.masks.proofs.CheckLaws.{refused-way, given-way}
 use Rattle.masks.proofs.FreezeLaws.{same-checks, ones-fit}

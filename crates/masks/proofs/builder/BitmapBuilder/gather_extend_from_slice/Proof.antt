@@ -1,3 +1,4 @@
+-- The number of the checks decides: `refused-way` or `append-way`; where all have passed there is room for the flags (`room-of`).
 use mathlib.Core.Path.{sym, _∙_}
 use native.Mathlib.Omega.{arith}
 use Rattle.masks.specs.Appends.{spanGrowChecks, gatherChecks}

@@ -1,3 +1,4 @@
+-- The number of the checks decides: `refused-way` or `given-way`; then the ones against the length: `all-set` or `not-all-set`.
 use mathlib.Core.Path.{sym, _∙_}
 use Rattle.masks.proofs.CheckLaws.{refused-way, given-way}
 use Rattle.masks.proofs.FreezeLaws.{same-checks, ones-fit, all-set, not-all-set}

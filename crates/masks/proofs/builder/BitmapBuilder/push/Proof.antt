@@ -1,3 +1,4 @@
+-- The number of the checks decides: `refused-way` or `append-way`; the first flag of a word of one flag is that flag (`constant-front`).
 use mathlib.Core.Path.{sym, ap, _∙_}
 use native.Mathlib.Omega.{arith}
 use Rattle.masks.specs.Builder.{appended}

@@ -1,7 +1,8 @@
--- `push_mut` meets its contract: a walk of its MIR, by hand, since the borrow checker covers no reference to a struct. The borrow of the record is opened, the record is read
--- whole and passed to `push_change` with the buffer, what came back is stored whole, and the borrow is closed at it. Of `push_change` the proof knows only that it meets its
--- contract. It is called at the buffer's own lifetime, share and name, so the buffer's borrow is given up for good (`gave-slice`).
--- No line names a field of the record: the struct's laws, which the check makes, say how a record lies in memory. Assumes nothing.
+-- `push_mut` meets its contract: a walk of its MIR, by hand, since the borrow checker covers no reference to a struct. The borrow of the
+-- record is opened, the record is read whole and passed to `push_change` with the buffer, what came back is stored whole, and the borrow
+-- is closed at it. Of `push_change` the proof knows only that it meets its contract. It is called at the buffer's own lifetime, share and
+-- name, so the buffer's borrow is given up for good (`gave-slice`). No line names a field of the record: the struct's laws, which the
+-- check makes, say how a record lies in memory. Assumes nothing.
 use mathlib.Core.Path.{_≡_, refl, ap}
 use Prim.Native.Nat.{ℕ}
 use mathlib.Core.Bool.{Bool}
@@ -19,8 +20,10 @@ use prog.Wp.{Heap, Calls, Loops, WpFn, Tables}
 use ghost.Atoms.{Atoms, sem}
 use contract.Monad.{Fun, fact}
 use contract.Running.{givenOf, tables, tablesOf}
-use types.Kit.{Given, ‵, raw, some, later, _⊛_, ⋆, _$_, _∵_, !, qed, by, move, keep, drop, use1, use2, split, split3, join, pick, rewrite, fsplit, fsplit3, fjoin, fjoin3, feqL, feqI, suffices, frame, await, done}
-use types.Run.{look, look-raw, init, store-raw, forget, stop, hop, fld, from, load, addr, of-opd, and-then, no-more, assigns, land, returns, enter, alloc1, alloc0, params1, pass1, pass0, free1, free0}
+use types.Kit.{Given, ‵, raw, some, later, _⊛_, ⋆, _$_, _∵_, !, qed, by, move, keep, drop, use1, use2, split, split3}
+use types.Kit.{join, pick, rewrite, fsplit, fsplit3, fjoin, fjoin3, feqL, feqI, suffices, frame, await, done}
+use types.Run.{look, look-raw, init, store-raw, forget, stop, hop, fld, from, load, addr, of-opd, and-then}
+use types.Run.{no-more, assigns, land, returns, enter, alloc1, alloc0, params1, pass1, pass0, free1, free0}
 use types.Part.{agg, whole, sub, look-in}
 use types.SemTy.{Body}
 use sound.WpLaws.{FmC, fmOf, WpFn-mono}
@@ -70,7 +73,8 @@ PushChange 𝓤 H A at-mem run = tripleOf 𝓤 H A push-change.signature (push-c
 abbrev recordVal : BitmapBuilder → Val
 recordVal h = LL.val T.the-type T′.the-laws h
 
-module _ {M : Type 1} (𝓤 : URA M) (H : Heap 𝓤) (A : Atoms 𝓤) (W : Given 𝓤 H A) (at-mem : Memory → SProp 𝓤) (run : Routine → Fun 𝓤) (κ κ′ : Lft) (q q′ : Share) (b o : ℕ) (γ : GName) (h : BitmapBuilder) (b′ o′ : ℕ) (γ′ : GName) (ys : List ℕ) (flag : Bool) where
+module _ {M : Type 1} (𝓤 : URA M) (H : Heap 𝓤) (A : Atoms 𝓤) (W : Given 𝓤 H A) (at-mem : Memory → SProp 𝓤) (run : Routine → Fun 𝓤)
+    (κ κ′ : Lft) (q q′ : Share) (b o : ℕ) (γ : GName) (h : BitmapBuilder) (b′ o′ : ℕ) (γ′ : GName) (ys : List ℕ) (flag : Bool) where
   abbrev buf : RefT (List ℕ)
   buf = record { ptr = (b′, o′); name = γ′; now = ys }
 
@@ -109,11 +113,14 @@ module _ {M : Type 1} (𝓤 : URA M) (H : Heap 𝓤) (A : Atoms 𝓤) (W : Given
       owned ! T.the-row (Is T.the-row) (LL.makes T.the-type T′.the-plain 𝓤 H A) h _ was $ fjoin ! $ move ! (1 ∷ 0 ∷ []) $ join ! $ nothing ! $ move ! (1 ∷ 0 ∷ []) $ join ! $ done !
 
   exits : (k : ℕ) (h′ : BitmapBuilder) (zs : List ℕ) → Answered h′ k → Written zs → length zs ≡ length ys → Is u8 k (vint w8 k ∷ [])
-      → ent 𝓤 (⋆ 𝓤 H A (‵ (fobs γ (T.the-row .coded .code h′)) ∷ ‵ (fbor κ (Body (mem T.the-row) b o γ)) ∷ ‵ (flft κ q) ∷ (‵ (flft κ′ q′) ⊛ ‵ ftrue) ∷ ‵ (finally u8 γ′ zs) ∷ [])) (Post (vint w8 k))
+      → ent 𝓤 (⋆ 𝓤 H A (‵ (fobs γ (T.the-row .coded .code h′)) ∷ ‵ (fbor κ (Body (mem T.the-row) b o γ))
+      ∷ ‵ (flft κ q) ∷ (‵ (flft κ′ q′) ⊛ ‵ ftrue) ∷ ‵ (finally u8 γ′ zs) ∷ [])) (Post (vint w8 k))
   exits k h′ zs answered written l is =
       qed W (‵ (fobs γ (T.the-row .coded .code h′)) ∷ ‵ (fbor κ (Body (mem T.the-row) b o γ)) ∷ ‵ (flft κ q) ∷ (‵ (flft κ′ q′) ⊛ ‵ ftrue) ∷ ‵ (finally u8 γ′ zs) ∷ []) ∵
-      suffices ! _ (ends-at 𝓤 H A push-mut.ended stayed (push-mut.clauses 𝓤 H A at-mem run) W (((κ, (κ′, tt)), (q, (q′, tt)), tt, a, vals), tt) (vint w8 k) k (h′, (zs, (tt, tt))) (tt, (l, (tt, tt)))) $
-      suffices ! _ (assoc∗ 𝓤 (onExit 𝓤 H A push-mut.ended stayed (κ, (κ′, tt)) (q, (q′, tt)) vals (vint w8 k) k a (h′, (zs, (tt, tt)))) (fact 𝓤 (Answered h′ k)) (fact 𝓤 (Written zs))) $
+      suffices ! _ (ends-at 𝓤 H A push-mut.ended stayed (push-mut.clauses 𝓤 H A at-mem run) W
+      (((κ, (κ′, tt)), (q, (q′, tt)), tt, a, vals), tt) (vint w8 k) k (h′, (zs, (tt, tt))) (tt, (l, (tt, tt)))) $
+      suffices ! _ (assoc∗ 𝓤 (onExit 𝓤 H A push-mut.ended stayed (κ, (κ′, tt)) (q, (q′, tt)) vals (vint w8 k) k a (h′, (zs, (tt, tt))))
+      (fact 𝓤 (Answered h′ k)) (fact 𝓤 (Written zs))) $
       says ! written $ says ! answered $
       move ! (2 ∷ 3 ∷ []) $ join ! $ frame ! $
       -- [obs; the borrow; the last list]
@@ -124,35 +131,48 @@ module _ {M : Type 1} (𝓤 : URA M) (H : Heap 𝓤) (A : Atoms 𝓤) (W : Given
   module _ (C : Calls 𝓤 H) (Λ : Loops 𝓤 H) (fm : FmC 𝓤 H (W .laws) C) (known : Triple 𝓤 (C #push-change) (PushChange 𝓤 H A at-mem run)) where
     walk : Room u8 (length ys) → ent 𝓤 (onEntry 𝓤 H A push-mut.signature (κ, (κ′, tt)) (q, (q′, tt)) a vals) (WpFn 𝓤 H C Λ code.function (vptr b o ∷ s ∷ vbool flag ∷ []) Post)
     walk room =
-        qed W ((‵ (flft κ q) ⊛ ‵ (flft κ′ q′) ⊛ ‵ ftrue) ∷ ‵ (owns (MutRef (named 0) κ T.the-row ∷ MutSlice (named 1) κ′ u8 ∷ bool ∷ []) a vals) ∷ []) ∵ enter ! C Λ code.function (vptr b o ∷ s ∷ vbool flag ∷ []) _ $
+        qed W ((‵ (flft κ q) ⊛ ‵ (flft κ′ q′) ⊛ ‵ ftrue)
+        ∷ ‵ (owns (MutRef (named 0) κ T.the-row ∷ MutSlice (named 1) κ′ u8 ∷ bool ∷ []) a vals) ∷ []) ∵
+        enter ! C Λ code.function (vptr b o ∷ s ∷ vbool flag ∷ []) _ $
         alloc1 ! (λ l₀. alloc1 ! (λ l₁. alloc1 ! (λ l₂. alloc1 ! (λ l₃. alloc1 ! (λ l₄. alloc1 ! (λ l₅. alloc1 ! (λ l₆. alloc1 ! (λ l₇. alloc0 ! $ params1 ! $
         pass1 ! (init ! 12 refl (tt, tt)) $ pass1 ! (init ! 10 refl (tt, (tt, (record { fits = room .0 }, tt)))) $ pass1 ! (init ! 8 refl (tt, tt)) $ pass0 ! $
         -- the borrow of the record is opened
         move ! (17 ∷ []) $ fsplit ! $ fsplit3 ! $ drop ! $ move ! (19 ∷ []) $ split ! $ move ! (2 ∷ 3 ∷ 0 ∷ []) $
-        opens ! tt T.the-row {h = h} b o (λ vs. spelt ! T.the-row (Is T.the-row) (shows 𝓤 H A T.the-row) (LL.vals T.the-type T′.the-laws) (LL.tells T.the-type T′.the-laws) fullShare h vs b o $
+        opens ! tt T.the-row {h = h} b o (λ vs. spelt ! T.the-row (Is T.the-row) (shows 𝓤 H A T.the-row)
+        (LL.vals T.the-type T′.the-laws) (LL.tells T.the-type T′.the-laws) fullShare h vs b o $
         move ! (1 ∷ []) $ peeks ! T.the-row (Is T.the-row) (shows 𝓤 H A T.the-row) h (recordVal h ∷ []) (λ was. move ! (1 ∷ 0 ∷ []) $
         -- [the record's cell; what a record owns; the open borrow; obs; auth; buf's token; what buf and flag own; _7; …; _6; …; _5; …; _4; …; _3; …; _2; …; _1; …; room for _0; …]
-        assigns ! (of-opd ! (load ! (from ! (hop ! (look ! 19 refl) (stop !))) (look-raw ! 0 refl))) (from ! (stop !)) (init ! 11 refl (LL.lawful T.the-type T′.the-laws 𝓤 H A W .typed h _ was .0)) $
+        assigns ! (of-opd ! (load ! (from ! (hop ! (look ! 19 refl) (stop !))) (look-raw ! 0 refl)))
+        (from ! (stop !)) (init ! 11 refl (LL.lawful T.the-type T′.the-laws 𝓤 H A W .typed h _ was .0)) $
         assigns ! (addr ! (from ! (fld ! refl (hop ! (look-in ! 17 (sub ! 0 refl (whole !))) (stop !))))) (from ! (stop !)) (init ! 9 refl (tt, tt)) $
-        assigns ! (agg ! (and-then ! (load ! (from ! (stop !)) (look ! 9 refl)) (and-then ! (load ! (from ! (fld ! refl (stop !))) (look-in ! 17 (sub ! 1 refl (whole !)))) (no-more !)))) (from ! (stop !)) (init ! 7 refl (tt, (tt, (record { fits = room .0 }, tt)))) $
+        assigns ! (agg ! (and-then ! (load ! (from ! (stop !)) (look ! 9 refl))
+        (and-then ! (load ! (from ! (fld ! refl (stop !))) (look-in ! 17 (sub ! 1 refl (whole !)))) (no-more !))))
+        (from ! (stop !)) (init ! 7 refl (tt, (tt, (record { fits = room .0 }, tt)))) $
         -- the call: [what buf owns; what flag owns; the record's cell; what the record owns; the open borrow; obs; auth; buf's token; _7; …]
         move ! (6 ∷ []) $ fsplit ! $ move ! (7 ∷ 0 ∷ []) $ use2 W (raw (PushChange 𝓤 H A at-mem run .pre to-change)) (goes was) $
-        calls-at ! fm (PushChange 𝓤 H A at-mem run) known to-change (and-then ! (load ! (from ! (stop !)) (look ! 11 refl)) (and-then ! (load ! (from ! (stop !)) (look ! 7 refl)) (and-then ! (load ! (from ! (stop !)) (look ! 15 refl)) (no-more !)))) (λ w.
-        use1 W (later (some (λ (r : Change). ((‵ (flft κ′ q′) ⊛ ‵ ftrue) ⊛ ‵ (N.the-row .own r (w ∷ []))) ⊛ raw (ensured 𝓤 H A push-change.ended (push-change.clauses 𝓤 H A at-mem run) (κ′, tt) (h, (buf, (flag, tt))) tt r)))) (id⊢ 𝓤 _) $
+        calls-at ! fm (PushChange 𝓤 H A at-mem run) known to-change (and-then ! (load ! (from ! (stop !)) (look ! 11 refl))
+        (and-then ! (load ! (from ! (stop !)) (look ! 7 refl)) (and-then ! (load ! (from ! (stop !)) (look ! 15 refl)) (no-more !)))) (λ w.
+        use1 W (later (some (λ (r : Change). ((‵ (flft κ′ q′) ⊛ ‵ ftrue) ⊛ ‵ (N.the-row .own r (w ∷ [])))
+        ⊛ raw (ensured 𝓤 H A push-change.ended (push-change.clauses 𝓤 H A at-mem run) (κ′, tt) (h, (buf, (flag, tt))) tt r)))) (id⊢ 𝓤 _) $
         await ! tt $ pick ! (λ r.
         split ! $ move ! (1 ∷ []) $
-        use1 W (some (λ (zs : Unit {0} × (List ℕ × (Unit {0} × Unit {0}))). ‵ (lasts push-change.ended (κ′, tt) (h, (buf, (flag, tt))) zs) ⊛ raw (fact 𝓤 (Answered (r .builder) (r .number))) ⊛ raw (fact 𝓤 (Written (zs .1 .0))))) (id⊢ 𝓤 _) $
+        use1 W (some (λ (zs : Unit {0} × (List ℕ × (Unit {0} × Unit {0}))). ‵ (lasts push-change.ended (κ′, tt) (h, (buf, (flag, tt))) zs)
+        ⊛ raw (fact 𝓤 (Answered (r .builder) (r .number))) ⊛ raw (fact 𝓤 (Written (zs .1 .0))))) (id⊢ 𝓤 _) $
         pick ! (λ zs.
         -- [its last values; the two facts; buf's token and what r owns; what flag owns; the record's cell; …]
         split3 ! $ move ! (1 ∷ []) $ heard ! (Answered (r .builder) (r .number)) (λ answered. move ! (1 ∷ []) $ heard ! (Written (zs .1 .0)) (λ written.
         fsplit ! $ drop ! $ fsplit ! $ fsplit ! $ move ! (1 ∷ []) $
         feqL ! (λ l. move ! (2 ∷ []) $ split ! $ move ! (1 ∷ []) $ peeks ! N.the-row (Is N.the-row) (shows 𝓤 H A N.the-row) r (w ∷ []) (λ is.
         let parts = LL.owed N.the-type N′.the-laws r _ is in
-        -- [what r owns; buf's token; buf's last bytes; …; …; the record's cell; what the record owned; the open borrow; obs; auth; _7; …; _6; …; _5; …; room for _4; …; _3; …; _2; …; _1; …; room for _0; …]
+        -- [what r owns; buf's token; buf's last bytes; …; …; the record's cell; what the record owned; the open borrow; obs; auth; _7; …;
+        -- _6; …; _5; …; room for _4; …; _3; …; _2; …; _1; …; room for _0; …]
         land ! (from ! (stop !)) (init ! 16 refl (LL.lawful N.the-type N′.the-laws 𝓤 H A W .typed r _ is .0)) $
         rewrite ! 16 (λ (u : Val). ‵ (fat fullShare N′.mir l₄ 0 u)) (ap only (LL.tells N.the-type N′.the-laws r _ is)) refl $
-        assigns ! (of-opd ! (load ! (from ! (fld ! refl (stop !))) (look-in ! 16 (sub ! 0 refl (whole !))))) (from ! (hop ! (look ! 22 refl) (stop !))) (store-raw ! 5 refl (LL.lawful T.the-type T′.the-laws 𝓤 H A W .typed (r .builder) _ (parts .0) .0)) $
-        assigns ! (of-opd ! (load ! (from ! (fld ! refl (stop !))) (look-in ! 16 (sub ! 1 refl (whole !))))) (from ! (stop !)) (init ! 24 refl (tt, record { fits = parts .1 .0 .1 })) $
+        assigns ! (of-opd ! (load ! (from ! (fld ! refl (stop !))) (look-in ! 16 (sub ! 0 refl (whole !)))))
+        (from ! (hop ! (look ! 22 refl) (stop !)))
+        (store-raw ! 5 refl (LL.lawful T.the-type T′.the-laws 𝓤 H A W .typed (r .builder) _ (parts .0) .0)) $
+        assigns ! (of-opd ! (load ! (from ! (fld ! refl (stop !))) (look-in ! 16 (sub ! 1 refl (whole !)))))
+        (from ! (stop !)) (init ! 24 refl (tt, record { fits = parts .1 .0 .1 })) $
         -- the borrow is closed at the record that came back
         owned ! T.the-row (Is T.the-row) (LL.makes T.the-type T′.the-plain 𝓤 H A) (r .builder) _ (parts .0) $ move ! (6 ∷ 0 ∷ 8 ∷ 9 ∷ 10 ∷ []) $
         closes ! tt T.the-row (r .builder) (recordVal (r .builder) ∷ []) b o $
@@ -168,7 +188,8 @@ module _ {M : Type 1} (𝓤 : URA M) (H : Heap 𝓤) (A : Atoms 𝓤) (W : Given
   push-mut-walks C Λ fm known = walked 𝓤 H A push-mut.ended stayed (push-mut.clauses 𝓤 H A at-mem run) (WpFn 𝓤 H C Λ code.function)
       (λ κs. (ptr-vals, (slice-vals, (bool-vals, tt)))) (λ κs. (mut-tells (named 0) (κs .0) T.the-row, (mut-slice-tells (named 1) (κs .1 .0) u8, (bool-tells, tt))))
       (λ κs qs bounds a _ are. via 𝓤 _ (fst∗ 𝓤 _ (emp 𝓤))
-      (walk 𝓤 H A W at-mem run (κs .0) (κs .1 .0) (qs .0) (qs .1 .0) (a .0 .ptr .0) (a .0 .ptr .1) (a .0 .name) (a .0 .now) (a .1 .0 .ptr .0) (a .1 .0 .ptr .1) (a .1 .0 .name) (a .1 .0 .now) (a .1 .1 .0) C Λ fm known (are .1 .0 .0 .1)))
+      (walk 𝓤 H A W at-mem run (κs .0) (κs .1 .0) (qs .0) (qs .1 .0) (a .0 .ptr .0) (a .0 .ptr .1) (a .0 .name) (a .0 .now)
+      (a .1 .0 .ptr .0) (a .1 .0 .ptr .1) (a .1 .0 .name) (a .1 .0 .now) (a .1 .1 .0) C Λ fm known (are .1 .0 .0 .1)))
 
   goes-all : AllGo 𝓤 H A W 2 (push-mut.signature .params) (push-mut.ended .kept) stayed
   goes-all = (goes-ref 𝓤 H A W 2 0 tt (plain (λ _. T.the-row)), (goes-gave-slice 𝓤 H A W 2 1 tt (plain (λ _. u8)), (goes-none 𝓤 H A W 2 (λ _. bool) yes (λ κs x f. refl), tt)))

@@ -1,3 +1,4 @@
+-- The number of the checks decides: `refused-way` or `append-way`; where all have passed k is at most 64 (`word-allowed`), and there is room.
 use mathlib.Core.Path.{sym, _∙_}
 use Rattle.masks.specs.Appends.{wordChecks}
 use Rattle.masks.proofs.CheckLaws.{refused-way, two-pieces, passed-left, passed-right}

@@ -1,3 +1,4 @@
+-- The number of the checks decides: `refused-way` or `append-way`; a piece inside the mask is a stretch of the bytes (`in-window`).
 use mathlib.Core.Path.{sym, ap, _∙_}
 use native.Mathlib.Omega.{arith}
 use Rattle.words.proofs.Windows.{in-window}

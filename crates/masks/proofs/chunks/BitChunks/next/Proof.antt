@@ -1,3 +1,4 @@
+-- The number of the cursor's checks decides; then the place, against the number of words: `no-word` or `a-word`.
 use mathlib.Core.Path.{sym, ap, _∙_}
 use native.Mathlib.Omega.{arith}
 use Rattle.masks.specs.Answer.{given}

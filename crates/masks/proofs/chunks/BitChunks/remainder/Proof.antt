@@ -1,3 +1,4 @@
+-- The number of the cursor's checks decides; the rest begins `length % 64` flags before the span's end (`remainder-value`).
 use mathlib.Core.Path.{sym, ap, _∙_}
 use native.Mathlib.Omega.{arith}
 use Prim.Native.Nat.{ℕ, _%_}

@@ -1,3 +1,4 @@
+-- Of no flags the cursor is all 0 (`is-empty`); else the number of the span's checks decides (`not-empty`).
 use Rattle.masks.specs.Iterator.{newIter}
 use Rattle.masks.proofs.CheckLaws.{is-refused, is-given, is-empty, not-empty}
 use borrow.Author.Needs.{needs}

@@ -1,3 +1,4 @@
+-- The number of the cursor's checks decides; then n, against the flags that are left: `no-flag` or `a-flag`.
 use mathlib.Core.Path.{sym, ap, _∙_}
 use native.Mathlib.Omega.{arith}
 use Rattle.masks.specs.Answer.{given}

@@ -1,3 +1,4 @@
+-- The number of the cursor's checks decides; the flags alike end inside the span (`alike-inside`), so that the place fits.
 use mathlib.Core.Path.{sym, ap, _∙_}
 use Prim.Native.Nat.{ℕ, _+_}
 use native.Mathlib.Omega.{arith}

@@ -1,3 +1,4 @@
+-- The number of the mask's checks decides: `is-refused` or `is-given`.
 use Rattle.masks.specs.SliceIterator.{newSlices}
 use Rattle.masks.proofs.CheckLaws.{is-refused, is-given}
 use borrow.Author.Needs.{needs}

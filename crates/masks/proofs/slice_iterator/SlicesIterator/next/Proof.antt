@@ -1,3 +1,4 @@
+-- The number of the checks decides; behind the zeros from the place on the span ends (`no-run`) or a run begins (`a-run`).
 use mathlib.Core.Path.{sym, ap, _∙_}
 use native.Mathlib.Omega.{arith}
 use Rattle.masks.specs.Answer.{given}
@@ -57,7 +58,8 @@ unfolding nextSlice
 returns-3 c =
     let s = c .before .before in
     let z = s .before .before .before in
-    ap given (a-run _ _ _ _ (z .leading-from .ensures) (s .if2 .left) (c .before .run-from .ensures)) ∙ is-given _ _ _ _ (z .before .before .cursor-failure .ensures) (z .before .if1 .left)
+    ap given (a-run _ _ _ _ (z .leading-from .ensures) (s .if2 .left) (c .before .run-from .ensures))
+    ∙ is-given _ _ _ _ (z .before .before .cursor-failure .ensures) (z .before .if1 .left)
 
 pub next-spec : {M : Type 1} → statement M
 next-spec =

@@ -1,3 +1,4 @@
+-- The number of the checks decides; behind the zeros from the place on the span ends (`no-one`) or a one stands (`a-one`).
 use mathlib.Core.Path.{sym, ap, _∙_}
 use native.Mathlib.Omega.{arith}
 use Rattle.masks.specs.Answer.{given}
