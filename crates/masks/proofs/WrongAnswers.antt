@@ -1,13 +1,17 @@
 -- The wrong answers of the four `specs/Wrong..` tables are ruled out, by computation. Assumes nothing.
+--
+-- What a crate above needs for a table of its own is passed on: it may not use words.
 use Prim.Native.Nat.{ℕ}
 use mathlib.Core.Path.{refl}
 use mathlib.Core.Bool.{Bool, xor}
 use mathlib.Core.List.{List, [], _∷_, _++_, zipWith}
 use mathlib.Core.Option.{Option, none, some}
-use Rattle.words.proofs.WrongAnswers.{sameCode, tried}
+unfoldable pub use Rattle.words.proofs.WrongAnswers.{sameCode}
+pub use Rattle.words.proofs.WrongAnswers.{tried}
 use Rattle.words.specs.Counts.{anySet, sameFlags}
 use Rattle.words.specs.Ends.{leading, trailing}
-use Rattle.words.specs.Flags.{bits, copies, count, digit, flagsOf, over, window, wordOf}
+unfoldable pub use Rattle.words.specs.Flags.{bits, flagsOf, window}
+use Rattle.words.specs.Flags.{copies, count, digit, over, wordOf}
 use Rattle.words.specs.Nth.{nthPlace}
 use Rattle.words.specs.Ops.{zip3}
 use Rattle.masks.specs.Aligned.{alignedChecks, alignedOf, bulkOffset, bulkStart, prefixLength}

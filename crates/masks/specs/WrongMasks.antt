@@ -5,7 +5,7 @@ use Prim.Native.Nat.{ℕ}
 use mathlib.Core.Bool.{true, false}
 use mathlib.Core.List.{List, [], _∷_, _++_}
 use lib.ListN.{replicate}
-use Rattle.words.specs.WrongAnswers.{Tried}
+pub use Rattle.words.specs.WrongAnswers.{Tried}
 use Rattle.words.specs.declared.ops.Op.{Op}
 use Rattle.masks.specs.Answer.{Answer, given, refused}
 use Rattle.masks.specs.Combine.{And, AndNot, Or, OrNot, Xor, pairOf, pairBytes, pairChecks, eachOf, eachBytes, notChecks, notFlags, selectChecks, selectFlags, selectConstantFlags}
