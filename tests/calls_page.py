@@ -5,7 +5,8 @@
 
 Taken from the sources: a call's arguments and the definitions that its `ensures` cite (src/*.rt), the numbers by which it may
 refuse (specs/Refusals.antt), the wrong answers tried (specs/Wrong*.antt), and how many lines a file has. Written by hand are the
-column `answer` and the order of the rows. That each call that may refuse is named in specs/Witnesses.antt is checked too."""
+column `answer`, the order of the rows, and the table of edits. Checked besides: that each file of specs/ is named, that
+specs/Witnesses.antt names each call that may refuse, and that the wrong answer of each edit is one of its call's row."""
 import glob
 import os
 import re
@@ -25,6 +26,13 @@ def read(*path):
 def specs(crate, pattern):
     found = sorted(glob.glob(os.path.join(ROOT, "crates", crate, "specs", pattern)))
     return [read(path) for path in found]
+
+
+def definitions():
+    """The files of definitions, save the lists of modules."""
+    found = glob.glob(os.path.join(ROOT, "crates", "*", "specs", "*.antt"))
+    paths = sorted(os.path.relpath(path, os.path.join(ROOT, "crates")) for path in found)
+    return [path for path in paths if not path.endswith("/Lib.antt")]
 
 
 # ---- the functions of src/*.rt
@@ -150,16 +158,23 @@ def cells_of(line):
     return [cell.strip() for cell in re.split(r"(?<!\\)\|", line)[1:-1]]
 
 
-def renewed(line, columns, rows, seen):
+def renewed(line, columns, rows, seen, complaints):
     """A line of a table with the cells that the sources decide."""
     cells = cells_of(line)
     if len(cells) != len(columns):
-        return line + f" {len(cells)} cells under {len(columns)} columns"
+        complaints.append(f"{len(cells)} cells under {len(columns)} columns: {line}")
+        return line
     call = CALL.match(cells[0])
     if columns[0] == "call" and call:
         seen.append(call[1])
         known = rows.get(call[1], {"call": f"no public function {call[1]}"})
         cells = [known.get(column, cell) for column, cell in zip(columns, cells)]
+        if "wrong answers ruled out" in columns and "; " not in cells[columns.index("wrong answers ruled out")]:
+            complaints.append(f"{call[1]} has no two wrong answers")
+    elif columns[0] == "edited call":
+        faults = rows.get(call and call[1], {}).get("wrong answers ruled out", "")
+        if cells[1] not in faults.split("; "):
+            complaints.append(f"{cells[0]}: '{cells[1]}' is none of: {faults}")
     elif columns[:2] == ["file", "lines"]:
         cells[1] = size_of(cells[0].split("`")[1])
     return "| " + " | ".join(cells) + " |"
@@ -175,9 +190,10 @@ def main():
         elif columns == [""]:
             columns = cells_of(line)
         elif not line.startswith("|---"):
-            line = renewed(line, columns, rows, seen)
+            line = renewed(line, columns, rows, seen, complaints)
         out.append(line)
     complaints += [f"no row for {name}" for name in rows if name not in seen]
+    complaints += [f"{path} is not named" for path in definitions() if f"`{path}`" not in "\n".join(old)]
     complaints += [f"{seen.count(name)} rows for {name}" for name in sorted(set(seen)) if seen.count(name) > 1]
     if "--write" in sys.argv:
         with open(PAGE, "w", encoding="utf-8") as file:
