@@ -5,8 +5,9 @@
 
 Taken from the sources: a call's arguments and the definitions that its `ensures` cite (src/*.rt), the numbers by which it may
 refuse (specs/Refusals.antt), the wrong answers tried (specs/Wrong*.antt), and how many lines a file has. Written by hand are the
-column `answer`, the order of the rows, and the table of edits. Checked besides: that each file of specs/ is named, that
-specs/Witnesses.antt names each call that may refuse, and that the wrong answer of each edit is one of its call's row."""
+column `answer`, the order of the rows, and the table of edits. Checked besides: that the first table has just the files
+that public contracts reach, that each file of specs/ is named, that specs/Witnesses.antt names each call that may refuse, and
+that the wrong answer of each edit is one of its call's row."""
 import glob
 import os
 import re
@@ -81,6 +82,32 @@ def functions(crate):
             else:
                 head = head_of(text, match.start(3))
                 found[owner + match[3]] = arguments(head), cited(head)
+    return found
+
+
+# ---- the definitions that contracts reach
+
+
+def uses(text):
+    """The files of definitions that a source or such a file uses, with the names taken from each."""
+    found = re.findall(r"use Rattle·(\w+?)(?:·specs)?\.specs\.([A-Z]\w*)\.\{([^}]*)\}", text)
+    return [(f"{crate}/specs/{name}.antt", {n.split(" as ")[-1].strip() for n in names.split(",")}) for crate, name, names in found]
+
+
+def reached():
+    """The files that the clauses of public functions cite, and what these use in turn."""
+    waiting, found = [], set()
+    for crate in CRATES:
+        for path in glob.glob(os.path.join(ROOT, "crates", crate, "src", "*.rt")):
+            text = re.sub(r"//[^\n]*", "", read(path))
+            heads = [head_of(text, match.start(1)) for match in re.finditer(r"\bpub fn (\w+)", text)]
+            words = set(re.findall(r"[\w·]+", " ".join(re.findall(r"⌜(.*?)⌝", " ".join(heads), re.S))))
+            waiting += [file for file, names in uses(text) if names & words]
+    while waiting:
+        file = waiting.pop()
+        if file not in found:
+            found.add(file)
+            waiting += [used for used, _ in uses(read("crates", file))]
     return found
 
 
@@ -193,6 +220,9 @@ def main():
             line = renewed(line, columns, rows, seen, complaints)
         out.append(line)
     complaints += [f"no row for {name}" for name in rows if name not in seen]
+    first = "\n".join(old).split("| file | lines | what |")[1].split("\n\n")[0]
+    believed = set(re.findall(r"`(\S+\.antt)`", first))
+    complaints += [f"{path}: in the contracts or in the first table, not in both" for path in sorted(believed ^ reached())]
     complaints += [f"{path} is not named" for path in definitions() if f"`{path}`" not in "\n".join(old)]
     complaints += [f"{seen.count(name)} rows for {name}" for name in sorted(set(seen)) if seen.count(name) > 1]
     if "--write" in sys.argv:

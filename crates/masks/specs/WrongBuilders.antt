@@ -26,6 +26,10 @@ appending a b buf = (appendAnswer a b buf, appendBytes a b buf)
 abbrev pub inWord : ℕ → ℕ → Answer BitmapBuilder BitmapBuilder × List ℕ
 inWord n word = (given (builderOf n word 0), lent 8)
 
+-- an answer of freezing over eight lent bytes, and these
+abbrev pub freezing : {A : Type 0} → (BitmapBuilder → List ℕ → Answer BitmapBuilder A) → BitmapBuilder → Answer BitmapBuilder A × List ℕ
+freezing call b = (call b (lent 8), freezeBytes b (lent 8))
+
 pub record WrongBuilders : Type 0 where
   -- `BitmapBuilder::new`
   pub new : Tried newBuilder
@@ -98,14 +102,14 @@ pub record WrongBuilders : Type 0 where
       -- the index past the end left out
       (inWord 2 3)
   -- `BitmapBuilder::freeze` of the flags 1,0,1
-  pub freeze : Tried {A = Answer BitmapBuilder Bitmap × List ℕ} (freezeOf (builderOf 3 5 0) (lent 8), freezeBytes (builderOf 3 5 0) (lent 8))
+  pub freeze : Tried (freezing freezeOf (builderOf 3 5 0))
       (given (maskOf 0 3 (Known 1)), first 5)
       -- bytes behind the flags left as they were
       (given (maskOf 0 3 (Known 1)), 5 ∷ lent 7)
       -- ones given as zeros
       (given (maskOf 0 3 (Known 2)), first 5)
   -- `BitmapBuilder::into_opt_validity` of three ones
-  pub into-opt-validity : Tried {A = Answer BitmapBuilder (Option Bitmap) × List ℕ} (intoOptValidityOf (builderOf 3 7 0) (lent 8), freezeBytes (builderOf 3 7 0) (lent 8))
+  pub into-opt-validity : Tried (freezing intoOptValidityOf (builderOf 3 7 0))
       (given none, first 7)
       -- a mask of ones
       (given (some (maskOf 0 3 (Known 0))), first 7)

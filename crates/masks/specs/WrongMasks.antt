@@ -2,12 +2,13 @@
 --
 -- Rows as in `WrongAnswers` of words. An answer of a call that writes stands with what the lent output then holds.
 use Prim.Native.Nat.{ℕ}
-use mathlib.Core.Bool.{true, false}
+use mathlib.Core.Bool.{Bool, true, false}
 use mathlib.Core.List.{List, [], _∷_, _++_}
 use lib.ListN.{replicate}
 pub use Rattle.words.specs.WrongAnswers.{Tried}
 use Rattle.words.specs.declared.ops.Op.{Op}
 use Rattle.masks.specs.Answer.{Answer, given, refused}
+use Rattle.masks.specs.Checks.{Check}
 use Rattle.masks.specs.Combine.{And, AndNot, Or, OrNot, Xor, pairOf, pairBytes, pairChecks, eachOf, eachBytes, notChecks, notFlags, selectChecks, selectFlags, selectConstantFlags}
 use Rattle.masks.specs.Compare.{eqOf, edgesOf, commonOf}
 use Rattle.masks.specs.Examples.{first, lent}
@@ -45,9 +46,16 @@ onesBytes = 0xFF ∷ []
 abbrev pub Written : Type 0
 Written = Answer (Unit {0}) Bitmap × List ℕ
 
--- a combination of two masks over eight lent bytes
+-- a combination of two masks, and one over eight lent bytes
+abbrev pub pairedIn : Op → Bitmap → List ℕ → Bitmap → List ℕ → List ℕ → Written
+pairedIn op a aBytes b bBytes out = (pairOf op a aBytes b bBytes out, pairBytes op a aBytes b bBytes out)
+
 abbrev pub paired : Op → Bitmap → List ℕ → Bitmap → List ℕ → Written
-paired op a aBytes b bBytes = (pairOf op a aBytes b bBytes (lent 8), pairBytes op a aBytes b bBytes (lent 8))
+paired op a aBytes b bBytes = pairedIn op a aBytes b bBytes (lent 8)
+
+-- a combination with no shortcut, of these checks, masks of four flags and flags, over eight lent bytes
+abbrev pub eachIn : List Check → List Bitmap → List Bool → Written
+eachIn checks masks flags = (eachOf checks masks 4, eachBytes checks flags (lent 8))
 
 -- a mask of four flags with this count, and these bytes
 abbrev pub four : Unset → List ℕ → Written
@@ -107,7 +115,7 @@ pub record WrongMasks : Type 0 where
       -- the right mask's start ignored
       (four Unknown (first 0x00))
   -- `and` of 4 flags and of 3 with a count of 4, with no byte to write to
-  pub and-refused : Tried {A = Written} (pairOf And left leftBytes (maskOf 2 3 (Known 4)) rightBytes [], pairBytes And left leftBytes (maskOf 2 3 (Known 4)) rightBytes [])
+  pub and-refused : Tried (pairedIn And left leftBytes (maskOf 2 3 (Known 4)) rightBytes [])
       (refused 3 tt, [])
       -- the lengths compared first
       (refused 5 tt, [])
@@ -142,27 +150,24 @@ pub record WrongMasks : Type 0 where
       -- the count of the masks combined
       (four (Known 0) (first 0x00))
   -- `not` of a mask that begins at the flag 2
-  pub not : Tried {A = Written} (eachOf (notChecks right rightBytes 8) (right ∷ []) 4, eachBytes (notChecks right rightBytes 8) (notFlags right rightBytes) (lent 8))
+  pub not : Tried (eachIn (notChecks right rightBytes 8) (right ∷ []) (notFlags right rightBytes))
       (four Unknown (first 0x0A))
       -- zeros past the end inverted
       (four Unknown (0xFA ∷ replicate 7 0xFF))
       -- the start kept
       (given (maskOf 2 4 Unknown), first 0x0A)
   -- `select` by 1,1,0,0 from 1,0,1,0 and 1,1,1,1
-  pub select : Tried {A = Written} (
-    eachOf (selectChecks left leftBytes right rightBytes ones onesBytes 8) (left ∷ right ∷ ones ∷ []) 4,
-    eachBytes (selectChecks left leftBytes right rightBytes ones onesBytes 8) (selectFlags left leftBytes right rightBytes ones onesBytes) (lent 8),
-  )
+  pub select : Tried
+      (eachIn (selectChecks left leftBytes right rightBytes ones onesBytes 8) (left ∷ right ∷ ones ∷ [])
+      (selectFlags left leftBytes right rightBytes ones onesBytes))
       (four Unknown (first 0x0D))
       -- the two masks exchanged
       (four Unknown (first 0x07))
       -- the selector's own flags
       (four Unknown (first 0x03))
   -- `select_constant` by 1,1,0,0 from 1,0,1,0 and ones
-  pub select-constant : Tried {A = Written} (
-    eachOf (pairChecks left leftBytes right rightBytes 8) (left ∷ right ∷ []) 4,
-    eachBytes (pairChecks left leftBytes right rightBytes 8) (selectConstantFlags left leftBytes right rightBytes true) (lent 8),
-  )
+  pub select-constant : Tried
+      (eachIn (pairChecks left leftBytes right rightBytes 8) (left ∷ right ∷ []) (selectConstantFlags left leftBytes right rightBytes true))
       (four Unknown (first 0x0D))
       -- the constant inverted
       (four Unknown (first 0x01))
