@@ -2,3 +2,4 @@
 pub mod AndNotFlag
 pub mod DispatchLaws
 pub mod Refusals
+pub mod WrongAnswers

@@ -41,3 +41,4 @@ pub mod TrueIdxLaws
 pub mod TrueIdxPlain
 pub mod TrueLaws
 pub mod Witnesses
+pub mod WrongAnswers

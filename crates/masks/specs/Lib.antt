@@ -23,3 +23,7 @@ pub mod TrueCounts
 pub mod TrueIdx
 pub mod Utils
 pub mod Witnesses
+pub mod WrongBuilders
+pub mod WrongCursors
+pub mod WrongMasks
+pub mod WrongSpans

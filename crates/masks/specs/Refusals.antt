@@ -83,29 +83,32 @@ pub data Family : Type 0 where
 abbrev pub mayGive : Family → List ℕ
 -- `AlignedBitmapSlice::new`, `count_zeros`, `leading_zeros`, `leading_ones`, `trailing_zeros`, `trailing_ones`
 mayGive addressed = 1 ∷ 2 ∷ 8 ∷ []
--- `BitChunks::new`, `BitChunks::new_exact`, `get_u32`, both searches, `try_new`, `BitmapIter::new`
+-- `BitChunks::new`, `BitChunks::new_exact`, `get_u32`, `nth_set_bit_idx`, `nth_set_bit_idx_rev`, `Bitmap::try_new`, `BitmapIter::new`
 mayGive spans = 1 ∷ 2 ∷ []
--- `BitChunks::next`, `remainder`, `BitmapIter::next`, `nth`, both `take_leading_` calls, `SlicesIterator::next`, `TrueIdxIter::next`
+-- `BitChunks::next`, `BitChunks::remainder`, `BitmapIter::next`, `BitmapIter::nth`, `BitmapIter::take_leading_ones`,
+-- `BitmapIter::take_leading_zeros`, `SlicesIterator::next`, `TrueIdxIter::next` of a cursor with a mask
 mayGive cursors = 1 ∷ 2 ∷ 6 ∷ []
 -- `TrueIdxIter::next` of a cursor with no mask
 mayGive unmasked-cursors = 1 ∷ 6 ∷ []
 -- `split_at_unchecked`
 mayGive splits = 1 ∷ 2 ∷ 6 ∷ []
--- `push` both ways, `extend_constant`, `freeze`, `into_opt_validity`
+-- `BitmapBuilder::push`, `BitmapBuilder::push_mut`, `BitmapBuilder::extend_constant`, `BitmapBuilder::freeze`,
+-- `BitmapBuilder::into_opt_validity`
 mayGive builders = 1 ∷ 4 ∷ 9 ∷ []
--- `push_word_with_len_unchecked`
+-- `BitmapBuilder::push_word_with_len_unchecked`
 mayGive pushed-words = 1 ∷ 4 ∷ 6 ∷ 9 ∷ []
--- `extend_from_slice`, `extend_each_repeated_from_slice_unchecked`, `opt_gather_extend_from_slice`
+-- `BitmapBuilder::extend_from_slice`, `BitmapBuilder::extend_each_repeated_from_slice_unchecked`,
+-- `BitmapBuilder::opt_gather_extend_from_slice`
 mayGive span-appends = 1 ∷ 2 ∷ 4 ∷ 9 ∷ []
--- `gather_extend_from_slice`
+-- `BitmapBuilder::gather_extend_from_slice`
 mayGive gathers = 1 ∷ 2 ∷ 4 ∷ 6 ∷ 9 ∷ []
--- `subslice_extend_from_bitmap`
+-- `BitmapBuilder::subslice_extend_from_bitmap`
 mayGive piece-appends = 1 ∷ 2 ∷ 3 ∷ 4 ∷ 6 ∷ 9 ∷ []
--- `new_zeroed`
+-- `Bitmap::new_zeroed`
 mayGive zeroed-masks = 1 ∷ 9 ∷ []
--- `unset_bits`, `eq`, `num_edges`, `SlicesIterator::new`
+-- `Bitmap::unset_bits`, `eq`, `num_edges`, `SlicesIterator::new`
 mayGive masks = 1 ∷ 2 ∷ 3 ∷ []
--- `slice`
+-- `Bitmap::slice`
 mayGive slices = 1 ∷ 2 ∷ 3 ∷ 6 ∷ 7 ∷ []
 -- `and`, `and_not`, `or`, `or_not`, `xor`, `select`, `select_constant`
 mayGive combinations = 1 ∷ 2 ∷ 3 ∷ 5 ∷ 9 ∷ []

@@ -1,18 +1,22 @@
--- An input for each number by which a call may refuse, so that no number of the table `mayGive` is idle. Assumes nothing.
+-- For each call an input for each number by which it may refuse, so that no number of the table `mayGive` is idle. Assumes nothing.
 --
--- `proofs/Witnesses.antt` computes what the definitions that the contracts cite give at these inputs.
+-- `proofs/Witnesses.antt` computes what the definitions that the calls' contracts cite give at these inputs. The calls stand above
+-- their lists, in the order of these.
 use Prim.Native.Nat.{ℕ}
 use mathlib.Core.Path.{_≡_}
 use mathlib.Core.Bool.{true, false}
 use mathlib.Core.List.{List, [], _∷_, _++_}
 use lib.ListN.{length, drop, replicate}
+use Rattle.words.specs.Ends.{leading, trailing}
+use Rattle.words.specs.Loops.{stretch}
+use Rattle.words.specs.declared.ops.Op.{Op}
 use Rattle.masks.specs.Aligned.{alignedOf}
 use Rattle.masks.specs.Answer.{Answer, given, refused}
 use Rattle.masks.specs.Appends.{Append, pushFlag, extendConstant, pushWord, extendSlice, extendRepeated, extendBitmap, extendGather, extendOptGather, appendAnswer}
 use Rattle.masks.specs.Bitmask.{splitAt, windowAt}
 use Rattle.masks.specs.Builder.{builderOf, newBuilder}
 use Rattle.masks.specs.Chunks.{chunksAt, newChunks, nextChunk, chunksRemainder}
-use Rattle.masks.specs.Combine.{And, pairOf, pairChecks, eachOf, notChecks, selectChecks}
+use Rattle.masks.specs.Combine.{And, AndNot, Or, OrNot, Xor, pairOf, pairChecks, eachOf, notChecks, selectChecks}
 use Rattle.masks.specs.Compare.{eqOf, edgesOf, commonOf}
 use Rattle.masks.specs.Freeze.{freezeOf, intoOptValidityOf}
 use Rattle.masks.specs.Iterator.{iterAt, newIter, nthFlag, takeLeading}
@@ -23,7 +27,7 @@ use Rattle.masks.specs.Refusals.{piece-appends, zeroed-masks, masks, sli
 use Rattle.masks.specs.Search.{searchFrom, searchBack}
 use Rattle.masks.specs.SliceIterator.{slicesAt, newSlices, nextSlice}
 use Rattle.masks.specs.TrueIdx.{trueAt, newTrue, nextTrue}
-use Rattle.masks.specs.Utils.{spanCount}
+use Rattle.masks.specs.Utils.{spanCount, zeros}
 use Rattle.masks.specs.declared.bitmap.Bitmap.{Bitmap}
 use Rattle.masks.specs.declared.bitmap.Optional.the-variants.{Present, Absent}
 use Rattle.masks.specs.declared.bitmap.Unset.the-variants.{Known, Unknown}
@@ -94,54 +98,87 @@ atBuilders f = f (builderOf tooLong 0 0) buffer ∷ f impossible buffer ∷ f (b
 abbrev pub atPairs : (Bitmap → List ℕ → ℕ) → List ℕ
 atPairs f = atMasks (λ m. f m buffer) ++ (f shorter buffer ∷ f whole [] ∷ [])
 
--- the number of `not`
+-- the numbers of combinations of the mask of the byte with another, of `not`, and of selections whose last mask is another
+abbrev pub pairNumber : Op → Bitmap → List ℕ → ℕ
+pairNumber op m out = numberOf (pairOf op whole byte m byte out)
+
 abbrev pub notNumber : Bitmap → List ℕ → ℕ
 notNumber m out = numberOf (eachOf (notChecks m byte (length out)) (m ∷ []) (m .length))
 
--- ---- the table: for each definition a list, what it gives at one input for each number of its family
+abbrev pub selectNumber : Bitmap → List ℕ → ℕ
+selectNumber m out = numberOf (eachOf (selectChecks whole byte whole byte m byte (length out)) (whole ∷ whole ∷ m ∷ []) 8)
+
+abbrev pub selectConstantNumber : Bitmap → List ℕ → ℕ
+selectConstantNumber m out = numberOf (eachOf (pairChecks whole byte m byte (length out)) (whole ∷ m ∷ []) 8)
+
+-- ---- the table: for each call a list, what its definition gives at one input for each number of its family
 
 unfoldable pub witnesses : Family → List (List ℕ)
 witnesses addressed =
+    -- `AlignedBitmapSlice::new`
     atAddresses (λ s n a. numberOf (alignedOf byte s n a))
-    ∷ atAddresses (λ s n a. numberOf (spanCount byte s n a 0))
+    -- `count_zeros`, `leading_zeros`, `leading_ones`, `trailing_zeros`, `trailing_ones`
+    ∷ atAddresses (λ s n a. numberOf (spanCount byte s n a (zeros (stretch byte s n))))
+    ∷ atAddresses (λ s n a. numberOf (spanCount byte s n a (leading false (stretch byte s n))))
+    ∷ atAddresses (λ s n a. numberOf (spanCount byte s n a (leading true (stretch byte s n))))
+    ∷ atAddresses (λ s n a. numberOf (spanCount byte s n a (trailing false (stretch byte s n))))
+    ∷ atAddresses (λ s n a. numberOf (spanCount byte s n a (trailing true (stretch byte s n))))
     ∷ []
 witnesses spans =
+    -- `BitChunks::new`, `BitChunks::new_exact`
     atSpans (λ s n. numberOf (newChunks byte s n))
+    ∷ (numberOf (newChunks byte 0 tooLong) ∷ numberOf (newChunks byte 0 9) ∷ [])
+    -- `get_u32`, `nth_set_bit_idx`, `nth_set_bit_idx_rev`
     ∷ atSpans (λ s n. numberOf (windowAt byte s n 0))
     ∷ atSpans (λ s n. numberOf (searchFrom byte s n 0 0))
     ∷ atSpans (λ s n. numberOf (searchBack byte s n 0 8))
+    -- `Bitmap::try_new`, `BitmapIter::new`
     ∷ atSpans (λ s n. numberOf (tryNewOf byte s n))
     ∷ atSpans (λ s n. numberOf (newIter byte s n))
     ∷ []
 witnesses cursors =
+    -- `BitChunks::next`, `BitChunks::remainder`
     atCursors (λ s n p. numberOf (nextChunk (chunksAt s n p) byte))
     ∷ atCursors (λ s n p. numberOf (chunksRemainder (chunksAt s n p) byte))
+    -- `BitmapIter::next`, `BitmapIter::nth`, `BitmapIter::take_leading_ones`, `BitmapIter::take_leading_zeros`
     ∷ atCursors (λ s n p. numberOf (nthFlag (iterAt s n p) byte 0))
+    ∷ atCursors (λ s n p. numberOf (nthFlag (iterAt s n p) byte 3))
     ∷ atCursors (λ s n p. numberOf (takeLeading true (iterAt s n p) byte))
+    ∷ atCursors (λ s n p. numberOf (takeLeading false (iterAt s n p) byte))
+    -- `SlicesIterator::next`, `TrueIdxIter::next`
     ∷ atCursors (λ s n p. numberOf (nextSlice (slicesAt s n p) byte))
     ∷ atCursors (λ s n p. numberOf (nextTrue (trueAt s n p true) byte))
     ∷ []
 witnesses unmasked-cursors =
+    -- `TrueIdxIter::next`
     (numberOf (nextTrue (trueAt 0 tooLong 0 false) []) ∷ numberOf (nextTrue (trueAt 0 8 9 false) []) ∷ [])
     ∷ []
 witnesses splits =
+    -- `split_at_unchecked`
     atCursors (λ s n at. numberOf (splitAt byte s n at))
     ∷ []
 witnesses builders =
+    -- `BitmapBuilder::push` and `BitmapBuilder::push_mut`, by one definition
     (numberOf (appendAnswer (pushFlag true) (builderOf 4194304 0 0) buffer) ∷ toImpossible (pushFlag true) ∷ toNoBytes (pushFlag true) ∷ [])
+    -- `BitmapBuilder::extend_constant`
     ∷ (toNew (extendConstant tooLong true) ∷ toImpossible (extendConstant 1 true) ∷ toNoBytes (extendConstant 1 true) ∷ [])
+    -- `BitmapBuilder::freeze`, `BitmapBuilder::into_opt_validity`
     ∷ atBuilders (λ b buf. numberOf (freezeOf b buf))
     ∷ atBuilders (λ b buf. numberOf (intoOptValidityOf b buf))
     ∷ []
 witnesses pushed-words =
+    -- `BitmapBuilder::push_word_with_len_unchecked`
     (toNew (pushWord 0 tooLong) ∷ toImpossible (pushWord 1 1) ∷ toNew (pushWord 2 1) ∷ toNoBytes (pushWord 1 1) ∷ [])
     ∷ []
 witnesses span-appends =
+    -- `BitmapBuilder::extend_from_slice`, `BitmapBuilder::extend_each_repeated_from_slice_unchecked`
     atAppends (extendSlice byte)
     ∷ atAppends (λ s n. extendRepeated byte s n 2)
+    -- `BitmapBuilder::opt_gather_extend_from_slice`
     ∷ atAppends (λ s n. extendOptGather byte s n (8 ∷ []))
     ∷ []
 witnesses gathers =
+    -- `BitmapBuilder::gather_extend_from_slice`
     (toNew (extendGather byte tooLong 1 (0 ∷ []))
     ∷ toNew (extendGather byte 2 7 (0 ∷ []))
     ∷ toImpossible (extendGather byte 0 8 (0 ∷ []))
@@ -150,41 +187,53 @@ witnesses gathers =
     ∷ [])
     ∷ []
 witnesses piece-appends =
+    -- `BitmapBuilder::subslice_extend_from_bitmap`
     (atMasks (λ m. toNew (extendBitmap m byte 0 1))
     ++ (toImpossible (extendBitmap whole byte 0 8) ∷ toNew (extendBitmap whole byte 1 8) ∷ toNoBytes (extendBitmap whole byte 0 8) ∷ []))
     ∷ []
 witnesses zeroed-masks =
+    -- `Bitmap::new_zeroed`
     (numberOf (newZeroedOf tooLong buffer) ∷ numberOf (newZeroedOf 65 (replicate 15 0xAA)) ∷ [])
     ∷ []
 witnesses masks =
+    -- `Bitmap::unset_bits`, `eq`, `num_edges`, `SlicesIterator::new`
     atMasks (λ m. numberOf (unsetBitsOf m byte))
     ∷ atMasks (λ m. numberOf (eqOf whole byte m byte))
     ∷ atMasks (λ m. numberOf (edgesOf m byte))
     ∷ atMasks (λ m. numberOf (newSlices m byte))
     ∷ []
--- for 7: the first four flags of the byte have one zero, so a count of 7, which is false, leaves 6 for the other four
 witnesses slices =
+    -- `Bitmap::slice`. For 7: the first four flags of the byte have one zero, so a count of 7, which is false, leaves 6 for the other four
     (atMasks (λ m. numberOf (sliceOf m byte 0 1))
     ++ (numberOf (sliceOf whole byte 1 8) ∷ numberOf (sliceOf (maskOf 0 8 (Known 7)) byte 4 4) ∷ []))
     ∷ []
 witnesses combinations =
-    atPairs (λ m out. numberOf (pairOf And whole byte m byte out))
-    ∷ atPairs (λ m out. numberOf (eachOf (selectChecks whole byte whole byte m byte (length out)) (whole ∷ whole ∷ m ∷ []) 8))
-    ∷ atPairs (λ m out. numberOf (eachOf (pairChecks whole byte m byte (length out)) (whole ∷ m ∷ []) 8))
+    -- `and`, `and_not`, `or`, `or_not`, `xor`, `select`, `select_constant`
+    atPairs (pairNumber And)
+    ∷ atPairs (pairNumber AndNot)
+    ∷ atPairs (pairNumber Or)
+    ∷ atPairs (pairNumber OrNot)
+    ∷ atPairs (pairNumber Xor)
+    ∷ atPairs selectNumber
+    ∷ atPairs selectConstantNumber
     ∷ []
 witnesses inversions =
+    -- `not`
     (atMasks (λ m. notNumber m buffer) ++ (notNumber whole [] ∷ []))
     ∷ []
 witnesses intersections =
+    -- `num_intersections_with`
     (atMasks (λ m. numberOf (commonOf whole byte m byte)) ++ (numberOf (commonOf whole byte shorter byte) ∷ []))
     ∷ []
 witnesses stated-masks =
+    -- `TrueIdxIter::new`
     (atMasks (λ m. numberOf (newTrue 8 (Present m) byte)) ++ (numberOf (newTrue 8 (Present shorter) byte) ∷ []))
     ∷ []
 witnesses stated-lengths =
+    -- `TrueIdxIter::new`
     (numberOf (newTrue tooLong Absent []) ∷ [])
     ∷ []
 
--- the statement: each family has a definition, and each of these gives all the family's numbers
+-- the statement: each family has a call, and each of its calls gives all the family's numbers
 abbrev pub Witnessed : Type 0
 Witnessed = (f : Family) → witnesses f ≡ mayGive f ∷ replicate (length (drop 1 (witnesses f))) (mayGive f)

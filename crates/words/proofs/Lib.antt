@@ -13,3 +13,4 @@ pub mod Plain
 mod Ranges
 pub mod Windows
 pub mod Writing
+pub mod WrongAnswers

@@ -7,3 +7,4 @@ pub mod Loops
 pub mod Merge
 pub mod Nth
 pub mod Ops
+pub mod WrongAnswers

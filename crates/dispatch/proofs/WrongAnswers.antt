@@ -1,0 +1,21 @@
+-- The wrong answers of `specs/WrongAnswers.antt` are ruled out, by computation. Assumes nothing.
+use mathlib.Core.Path.{refl}
+use Rattle.masks.proofs.WrongAnswers.{sameCode, tried, plain, flag, bits, flagsOf, window}
+use Rattle.masks.specs.Answer.{decided}
+use Rattle.masks.specs.Checks.{earlier, firstFailed, spanChecks}
+use Rattle.masks.specs.Compare.{commonChecks}
+use Rattle.masks.specs.Mask.{maskChecks}
+use Rattle.dispatch.specs.Dispatch.{flagOr, mayReassign, reassignable, reassignChecks}
+use Rattle.dispatch.specs.WrongAnswers.{WrongAnswers}
+
+pub ruled-out : WrongAnswers
+unfolding
+    sameCode bits flagsOf window
+    firstFailed earlier spanChecks maskChecks commonChecks reassignChecks decided mayReassign reassignable flagOr
+ruled-out =
+    record {
+      with-both = tried (plain flag) refl refl refl;
+      with-revocation = tried (plain flag) refl refl refl;
+      with-none = tried (plain flag) refl refl refl;
+      behind-the-end = tried (plain flag) refl refl refl;
+    }

@@ -1,0 +1,41 @@
+-- Wrong answers that the contract of `may_reassign` rules out. Assumes nothing.
+--
+-- Rows as in `WrongAnswers` of words: the definition at one input, what it gives, and two answers of a faulty call.
+use Prim.Native.Nat.{ℕ}
+use mathlib.Core.Bool.{true, false}
+use mathlib.Core.List.{List, [], _∷_}
+use Rattle.masks.specs.Answer.{given, refused}
+use Rattle.masks.specs.WrongMasks.{Tried, left, leftBytes, right, rightBytes}
+use Rattle.masks.specs.declared.bitmap.Optional.the-variants.{Present, Absent}
+use Rattle.dispatch.specs.Dispatch.{mayReassign}
+
+-- the permission 1,1,0,0 and the revocation 1,0,1,0, which begins at the flag 2
+pub record WrongAnswers : Type 0 where
+  -- `may_reassign` of truck 0
+  pub with-both : Tried (mayReassign (Present left) leftBytes (Present right) rightBytes 0)
+      (given false)
+      -- the revocation ignored
+      (given true)
+      -- trucks counted from 1
+      (refused 6 tt)
+  -- `may_reassign` of truck 2 with no permission mask
+  pub with-revocation : Tried (mayReassign Absent [] (Present right) rightBytes 2)
+      (given false)
+      -- the revocation not inverted
+      (given true)
+      -- the bytes of the absent mask tested
+      (refused 2 tt)
+  -- `may_reassign` of truck 9 with no mask
+  pub with-none : Tried (mayReassign Absent [] Absent [] 9)
+      (given true)
+      -- an absent permission taken for zeros
+      (given false)
+      -- the truck held to the length of no mask
+      (refused 6 tt)
+  -- `may_reassign` of truck 4
+  pub behind-the-end : Tried (mayReassign (Present left) leftBytes (Present right) rightBytes 4)
+      (refused 6 tt)
+      -- the flags behind the end read
+      (given false)
+      -- lengths compared with the truck's number
+      (refused 5 tt)
