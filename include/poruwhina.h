@@ -26,20 +26,28 @@ extern "C" {
 #define PW_FLAG_LIMIT 4194304
 
 /* What a refusal says. */
-#define PW_REFUSED_LIMIT 1   /* a start or length of a span, mask, cursor or piece, a stated, new or resulting one is over the flag limit */
-#define PW_REFUSED_BYTES 2   /* start + length is over 8 * the bytes lent */
-#define PW_REFUSED_COUNT 3   /* a known zero count is over the length */
-#define PW_REFUSED_BUILDER 4 /* no builder has this record: a bit in its word from length mod 64 up, ones over 64 * (length div 64), or a
-                                buffer of less than 8 * (length div 64) bytes */
-#define PW_REFUSED_LENGTHS 5 /* masks, or a mask and the length stated for it, differ in length */
-#define PW_REFUSED_PIECE 6   /* a slice's end, a split point or a cursor's place is over the length, an index or truck not below it, or a
-                                pushed word has more than 64 flags or a set bit beyond them */
-#define PW_REFUSED_RECOUNT 7 /* a slice recounts, and the known count is below the zeros cut off, or what is left over the new length */
-#define PW_REFUSED_ADDRESS 8 /* the address remainder is over 7 */
-#define PW_REFUSED_OUTPUT 9  /* the output, the builder's buffer included, is below 8 * ceil(new length / 64) bytes */
 
-/* There is no operation or count of that number: given before any test. */
-#define PW_NO_SUCH_OPERATION 255
+/* A start or a length is over the flag limit: of a span, mask, cursor or piece, a stated or a new length, a resulting start. */
+#define PW_REFUSED_ABOVE_LIMIT 1
+/* start + length is over 8 * the bytes lent. */
+#define PW_REFUSED_OUTSIDE_BYTES 2
+/* A known zero count is over the length. */
+#define PW_REFUSED_COUNT_ABOVE_LENGTH 3
+/* A bit in the builder's word from length mod 64 up, ones over 64 * (length div 64), or a buffer of less than 8 * (length div 64) bytes. */
+#define PW_REFUSED_IMPOSSIBLE_BUILDER 4
+/* Masks, or a mask and the length stated for it, differ in length. */
+#define PW_REFUSED_UNEQUAL_LENGTHS 5
+/* A slice's end, a split point or a cursor's place is over the length; an index or a truck is not below it; a pushed word has more than
+ * 64 flags, or a set bit beyond them. */
+#define PW_REFUSED_OUTSIDE_MASK 6
+/* A slice recounts, and the known count is below the zeros cut off, or the rest of it over the new length. */
+#define PW_REFUSED_COUNT_NOT_OF_SLICE 7
+/* The address remainder is over 7. */
+#define PW_REFUSED_ADDRESS_REMAINDER 8
+/* The output, the builder's buffer included, is below 8 * ceil(new length / 64) bytes. */
+#define PW_REFUSED_OUTPUT_TOO_SMALL 9
+/* There is no operation or count of that number. It is given before any other. */
+#define PW_REFUSED_NO_SUCH_OPERATION 255
 
 /* The operations of pw_combine. */
 #define PW_AND 0
