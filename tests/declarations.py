@@ -10,20 +10,20 @@ import sys
 
 ROOT = pathlib.Path(__file__).resolve().parent.parent
 HEADER = ROOT / "include/poruwhina.h"
-MASKS = "crates/masks/src/"
+CHECKS = "crates/masks/specs/"
 
-# Each named number, and the line of a source that it is taken from.
+# Each named number, and the line of a definition or a source that it is taken from.
 NUMBERS = {
-    "PW_FLAG_LIMIT": (MASKS + "bitmap.rt", r"pub const LIMIT: usize = (\d+);"),
-    "PW_REFUSED_ABOVE_LIMIT": (MASKS + "true_idx.rt", r"failed\((\d+), within_limit\(length\)\)"),
-    "PW_REFUSED_OUTSIDE_BYTES": (MASKS + "checks.rt", r"failed\((\d+), in_bytes\("),
-    "PW_REFUSED_COUNT_ABOVE_LENGTH": (MASKS + "checks.rt", r"failed\((\d+), count_fits\("),
-    "PW_REFUSED_IMPOSSIBLE_BUILDER": (MASKS + "checks.rt", r"failed\((\d+), is_possible\("),
-    "PW_REFUSED_UNEQUAL_LENGTHS": (MASKS + "bitmap_ops.rt", r"failed\((\d+), lhs\.length == rhs\.length\)"),
-    "PW_REFUSED_OUTSIDE_MASK": (MASKS + "bitmask.rt", r"failed\((\d+), at <= length\)"),
-    "PW_REFUSED_COUNT_NOT_OF_SLICE": (MASKS + "bitmap.rt", r"Cut::Wrong => Sliced::Refused\((\d+), self\)"),
-    "PW_REFUSED_ADDRESS_REMAINDER": (MASKS + "checks.rt", r"failed\((\d+), address <= 7\)"),
-    "PW_REFUSED_OUTPUT_TOO_SMALL": (MASKS + "checks.rt", r"failed\((\d+), 8 \* words <= size\)"),
+    "PW_FLAG_LIMIT": ("crates/masks/src/bitmap.rt", r"pub const LIMIT: usize = (\d+);"),
+    "PW_REFUSED_ABOVE_LIMIT": (CHECKS + "Checks.antt", r"check (\d+) \(leb n limit\)"),
+    "PW_REFUSED_OUTSIDE_BYTES": (CHECKS + "Checks.antt", r"check (\d+) \(leb \(start \+ n\) \(8 \* size\)\)"),
+    "PW_REFUSED_COUNT_ABOVE_LENGTH": (CHECKS + "Mask.antt", r"check (\d+) \(countValid "),
+    "PW_REFUSED_IMPOSSIBLE_BUILDER": (CHECKS + "Builder.antt", r"check (\d+) \(possible "),
+    "PW_REFUSED_UNEQUAL_LENGTHS": (CHECKS + "Combine.antt", r"check (\d+) \(eqb \(\w \.length\) \(\w \.length\)\)"),
+    "PW_REFUSED_OUTSIDE_MASK": (CHECKS + "Mask.antt", r"check (\d+) \(leb \(offset \+ n\) \(m \.length\)\)"),
+    "PW_REFUSED_COUNT_NOT_OF_SLICE": (CHECKS + "Mask.antt", r"check (\d+) \(recountValid "),
+    "PW_REFUSED_ADDRESS_REMAINDER": (CHECKS + "Checks.antt", r"check (\d+) \(leb address 7\)"),
+    "PW_REFUSED_OUTPUT_TOO_SMALL": (CHECKS + "Checks.antt", r"check (\d+) \(leb \(8 \* \(\(n \+ 63\) / 64\)\) size\)"),
     "PW_REFUSED_NO_SUCH_OPERATION": ("crates/capi/src/answers.rt", r"pub const NO_SUCH_OPERATION: u8 = (\d+);"),
 }
 for name in ("and", "and_not", "or", "or_not", "xor"):
