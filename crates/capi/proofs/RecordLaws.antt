@@ -2,7 +2,10 @@
 use mathlib.Core.Path.{_≡_, refl}
 use mathlib.Core.Bool.{Bool, true, false}
 use Prim.Native.Nat.{ℕ}
+use Rattle.masks.specs.Chunks.{chunksAt}
+use Rattle.masks.specs.Iterator.{iterAt}
 use Rattle.masks.specs.Mask.{maskOf}
+use Rattle.masks.specs.SliceIterator.{slicesAt}
 use Rattle.masks.specs.TrueIdx.{trueAt}
 use Rattle.masks.specs.declared.bitmap.Bitmap.{Bitmap}
 use Rattle.masks.specs.declared.bitmap.Unset.{Unset}
@@ -12,7 +15,7 @@ use Rattle.masks.specs.declared.chunks.BitChunks.{BitChunks}
 use Rattle.masks.specs.declared.iterator.BitmapIter.{BitmapIter}
 use Rattle.masks.specs.declared.slice_iterator.SlicesIterator.{SlicesIterator}
 use Rattle.masks.specs.declared.true_idx.TrueIdxIter.{TrueIdxIter}
-use Rattle.capi.specs.Records.{builderIn, builderOut, chunksIn, chunksOut, countIn, iterIn, iterOut, maskIn, maskOut, maskWith, slicesIn, slicesOut, trueIn, trueOut}
+use Rattle.capi.specs.Records.{builderIn, builderOut, chunksOut, countIn, iterOut, maskIn, maskOut, maskWith, slicesOut, trueIn, trueOut}
 
 mask-with : (start n : ℕ) (u : Unset) → maskIn (maskWith start n u) ≡ maskOf start n u
 unfolding maskIn countIn
@@ -23,26 +26,28 @@ pub mask-back : (m : Bitmap) → maskIn (maskOut m) ≡ m
 unfolding maskOut
 mask-back m = mask-with (m .start) (m .length) (m .unset)
 
-pub builder-back : (b : BitmapBuilder) → builderIn (builderOut b) ≡ b
+pub builder-back : (b : BitmapBuilder) → builderIn (builderOut b .length) (builderOut b .word) (builderOut b .ones) ≡ b
 unfolding builderIn builderOut
 builder-back b = refl
 
-pub chunks-back : (c : BitChunks) → chunksIn (chunksOut c) ≡ c
-unfolding chunksIn chunksOut
+pub chunks-back : (c : BitChunks) → chunksAt (chunksOut c .start) (chunksOut c .length) (chunksOut c .place) ≡ c
+unfolding chunksOut
 chunks-back c = refl
 
-pub slices-back : (c : SlicesIterator) → slicesIn (slicesOut c) ≡ c
-unfolding slicesIn slicesOut
+pub slices-back : (c : SlicesIterator) → slicesAt (slicesOut c .start) (slicesOut c .length) (slicesOut c .place) ≡ c
+unfolding slicesOut
 slices-back c = refl
 
-pub iter-back : (c : BitmapIter) → iterIn (iterOut c) ≡ c
-unfolding iterIn iterOut
+pub iter-back : (c : BitmapIter) → iterAt (iterOut c .start) (iterOut c .length) (iterOut c .place) ≡ c
+unfolding iterOut
 iter-back c = refl
 
-true-with : (start n place : ℕ) (masked : Bool) → trueIn (trueOut (trueAt start n place masked)) ≡ trueAt start n place masked
+true-with : (start n place : ℕ) (masked : Bool)
+    → trueIn start n place (trueOut (trueAt start n place masked) .masked) ≡ trueAt start n place masked
 unfolding trueIn trueOut
 true-with start n place true = refl
 true-with start n place false = refl
 
-pub true-back : (c : TrueIdxIter) → trueIn (trueOut c) ≡ c
+pub true-back : (c : TrueIdxIter) → trueIn (trueOut c .start) (trueOut c .length) (trueOut c .place) (trueOut c .masked) ≡ c
+unfolding trueOut
 true-back c = true-with (c .start) (c .length) (c .place) (c .masked)

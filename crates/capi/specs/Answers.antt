@@ -113,34 +113,34 @@ unfoldable pub asCursor : {S C : Type 0} → (C → Cursor) → Answer S C → C
 asCursor out (given c) = cursorAnswer 0 (out c)
 asCursor out (refused k s) = cursorAnswer k noCursor
 
-abbrev pub stepOf : ℕ → Bool → ℕ → ℕ → Cursor → StepAnswer
-stepOf k found value n c = record { refusal = k; found = found; value = value; count = n; cursor = c }
+abbrev pub stepOf : ℕ → Bool → ℕ → ℕ → ℕ → StepAnswer
+stepOf k found value n place = record { refusal = k; found = found; value = value; count = n; place = place }
 
--- an item as `value` and `count`, and the cursor behind it
-unfoldable pub asStep : {C A : Type 0} → (A → ℕ) → (A → ℕ) → (C → Cursor) → Answer C (Step C A) → StepAnswer
-asStep value count out (given (item a c)) = stepOf 0 true (value a) (count a) (out c)
-asStep value count out (given (ended c)) = stepOf 0 false 0 0 (out c)
-asStep value count out (refused k c) = stepOf k false 0 0 (out c)
+-- an item as `value` and `count`, and where the cursor behind it stands
+unfoldable pub asStep : {C A : Type 0} → (A → ℕ) → (A → ℕ) → (C → ℕ) → Answer C (Step C A) → StepAnswer
+asStep value count place (given (item a c)) = stepOf 0 true (value a) (count a) (place c)
+asStep value count place (given (ended c)) = stepOf 0 false 0 0 (place c)
+asStep value count place (refused k c) = stepOf k false 0 0 (place c)
 
 -- the item is a number (a word, a position), a flag, a run
-unfoldable pub asWord : {C : Type 0} → (C → Cursor) → Answer C (Step C ℕ) → StepAnswer
-asWord out a = asStep (λ (n : ℕ). n) (λ (n : ℕ). 0) out a
+unfoldable pub asWord : {C : Type 0} → (C → ℕ) → Answer C (Step C ℕ) → StepAnswer
+asWord place a = asStep (λ (n : ℕ). n) (λ (n : ℕ). 0) place a
 
-unfoldable pub asBit : {C : Type 0} → (C → Cursor) → Answer C (Step C Bool) → StepAnswer
-asBit out a = asStep digit (λ (x : Bool). 0) out a
+unfoldable pub asBit : {C : Type 0} → (C → ℕ) → Answer C (Step C Bool) → StepAnswer
+asBit place a = asStep digit (λ (x : Bool). 0) place a
 
-unfoldable pub asRun : {C : Type 0} → (C → Cursor) → Answer C (Step C Run) → StepAnswer
-asRun out a = asStep (λ (r : Run). r .start) (λ (r : Run). r .length) out a
+unfoldable pub asRun : {C : Type 0} → (C → ℕ) → Answer C (Step C Run) → StepAnswer
+asRun place a = asStep (λ (r : Run). r .start) (λ (r : Run). r .length) place a
 
--- a number of flags as `count`, and the cursor past them
-unfoldable pub asTaken : {C : Type 0} → (C → Cursor) → Answer C (ℕ × C) → StepAnswer
-asTaken out (given (n, c)) = stepOf 0 true 0 n (out c)
-asTaken out (refused k c) = stepOf k false 0 0 (out c)
+-- a number of flags as `count`, and where the cursor past them stands
+unfoldable pub asTaken : {C : Type 0} → (C → ℕ) → Answer C (ℕ × C) → StepAnswer
+asTaken place (given (n, c)) = stepOf 0 true 0 n (place c)
+asTaken place (refused k c) = stepOf k false 0 0 (place c)
 
--- a word as `value`, the number of its flags as `count`; the call moves no cursor and gives none
-unfoldable pub asRemainder : {C : Type 0} → (C → Cursor) → Answer C (ℕ × ℕ) → StepAnswer
-asRemainder out (given (w, n)) = stepOf 0 true w n noCursor
-asRemainder out (refused k c) = stepOf k false 0 0 (out c)
+-- a word as `value`, the number of its flags as `count`; the call moves no cursor, and gives no place
+unfoldable pub asRemainder : {C : Type 0} → Answer C (ℕ × ℕ) → StepAnswer
+asRemainder (given (w, n)) = stepOf 0 true w n 0
+asRemainder (refused k c) = stepOf k false 0 0 0
 
 -- ---- a span cut in parts
 

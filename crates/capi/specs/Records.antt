@@ -49,13 +49,15 @@ optionalIn present m = cond present (Present (maskIn m)) Absent
 
 -- ---- the builder
 
-unfoldable pub builderIn : Builder → BitmapBuilder
-builderIn b = record { length = b .length; word = b .word; ones = b .ones }
+unfoldable pub builderIn : ℕ → ℕ → ℕ → BitmapBuilder
+builderIn n word ones = record { length = n; word = word; ones = ones }
 
 unfoldable pub builderOut : BitmapBuilder → Builder
 builderOut b = record { length = b .length; word = b .word; ones = b .ones }
 
 -- ---- the cursors: one record for all, of which only that over positions says whether there is a mask
+--
+-- A cursor goes in as its numbers. A call that moves it gives its new place alone: what else it holds stays.
 
 abbrev pub cursorOf : ℕ → ℕ → ℕ → ℕ → Cursor
 cursorOf start n place masked = record { start = start; length = n; place = place; masked = masked }
@@ -64,26 +66,31 @@ cursorOf start n place masked = record { start = start; length = n; place = plac
 abbrev pub noCursor : Cursor
 noCursor = cursorOf 0 0 0 0
 
-unfoldable pub chunksIn : Cursor → BitChunks
-chunksIn c = chunksAt (c .start) (c .length) (c .place)
-
 unfoldable pub chunksOut : BitChunks → Cursor
 chunksOut c = cursorOf (c .start) (c .length) (c .place) 1
-
-unfoldable pub slicesIn : Cursor → SlicesIterator
-slicesIn c = slicesAt (c .start) (c .length) (c .place)
 
 unfoldable pub slicesOut : SlicesIterator → Cursor
 slicesOut c = cursorOf (c .start) (c .length) (c .place) 1
 
-unfoldable pub iterIn : Cursor → BitmapIter
-iterIn c = iterAt (c .start) (c .length) (c .place)
-
 unfoldable pub iterOut : BitmapIter → Cursor
 iterOut c = cursorOf (c .start) (c .length) (c .place) 1
 
-unfoldable pub trueIn : Cursor → TrueIdxIter
-trueIn c = trueAt (c .start) (c .length) (c .place) (not (eqb (c .masked) 0))
+unfoldable pub trueIn : ℕ → ℕ → ℕ → ℕ → TrueIdxIter
+trueIn start n place masked = trueAt start n place (not (eqb masked 0))
 
 unfoldable pub trueOut : TrueIdxIter → Cursor
 trueOut c = cursorOf (c .start) (c .length) (c .place) (digit (c .masked))
+
+-- where a cursor stands
+
+abbrev pub chunksPlace : BitChunks → ℕ
+chunksPlace c = c .place
+
+abbrev pub slicesPlace : SlicesIterator → ℕ
+slicesPlace c = c .place
+
+abbrev pub iterPlace : BitmapIter → ℕ
+iterPlace c = c .place
+
+abbrev pub truePlace : TrueIdxIter → ℕ
+truePlace c = c .place

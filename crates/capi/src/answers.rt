@@ -58,15 +58,15 @@ pub struct CursorAnswer {
     pub cursor: Cursor,
 }
 
-// What a cursor gives, and the cursor behind it. `value` is a word, a run's start, a flag or a position; `count` is a run's
-// length, the flags of a remainder or the flags taken.
+// What a cursor gives, and the place at which it then stands. `value` is a word, a run's start, a flag or a position; `count` is
+// a run's length, the flags of a remainder or the flags taken.
 #[repr(C)]
 pub struct StepAnswer {
     pub refusal: u8,
     pub found: bool,
     pub value: u64,
     pub count: usize,
-    pub cursor: Cursor,
+    pub place: usize,
 }
 
 #[repr(C)]
@@ -143,15 +143,15 @@ pub(crate) fn step_of(
     found: bool,
     value: u64,
     count: usize,
-    cursor: Cursor,
+    place: usize,
 ) -> StepAnswer
-    ensures { λ r. ⌜ r ≡ stepOf refusal found value count cursor ⌝ }
+    ensures { λ r. ⌜ r ≡ stepOf refusal found value count place ⌝ }
 {
     StepAnswer {
         refusal: refusal,
         found: found,
         value: value,
         count: count,
-        cursor: cursor,
+        place: place,
     }
 }

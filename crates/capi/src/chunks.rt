@@ -1,8 +1,8 @@
 // The words of a span, and the flags behind the last whole one.
 ghost use mathlib.Core.Path.{_≡_};
-ghost use Rattle.masks.specs.Chunks.{chunkAnswer, chunksAnswer, chunksRemainder, newChunks, nextChunk, remainderAnswer};
+ghost use Rattle.masks.specs.Chunks.{chunkAnswer, chunksAnswer, chunksAt, chunksRemainder, newChunks, nextChunk, remainderAnswer};
 ghost use Rattle.capi.specs.Answers.{asCursor, asRemainder, asWord};
-ghost use Rattle.capi.specs.Records.{chunksIn, chunksOut};
+ghost use Rattle.capi.specs.Records.{chunksOut, chunksPlace};
 use crate::answers::CursorAnswer;
 use crate::answers::StepAnswer;
 use crate::answers::cursor_answer;
@@ -15,13 +15,13 @@ use masks::chunks::Chunk;
 use masks::chunks::Chunks;
 use masks::chunks::Remainder;
 
-fn chunks_in(c: Cursor) -> BitChunks
-    ensures { λ r. ⌜ r ≡ chunksIn c ⌝ }
+fn chunks_in(start: usize, length: usize, place: usize) -> BitChunks
+    ensures { λ r. ⌜ r ≡ chunksAt start length place ⌝ }
 {
     BitChunks {
-        start: c.start,
-        length: c.length,
-        place: c.place,
+        start: start,
+        length: length,
+        place: place,
     }
 }
 
@@ -41,21 +41,21 @@ fn new_out(r: Chunks) -> CursorAnswer
 }
 
 fn chunk_out(r: Chunk) -> StepAnswer
-    ensures { λ a. ⌜ a ≡ asWord chunksOut (chunkAnswer r) ⌝ }
+    ensures { λ a. ⌜ a ≡ asWord chunksPlace (chunkAnswer r) ⌝ }
 {
     match r {
-        Chunk::Word(w, c) => step_of(0, true, w, 0, chunks_out(c)),
-        Chunk::Done(c) => step_of(0, false, 0, 0, chunks_out(c)),
-        Chunk::Refused(k, c) => step_of(k, false, 0, 0, chunks_out(c)),
+        Chunk::Word(w, c) => step_of(0, true, w, 0, c.place),
+        Chunk::Done(c) => step_of(0, false, 0, 0, c.place),
+        Chunk::Refused(k, c) => step_of(k, false, 0, 0, c.place),
     }
 }
 
 fn remainder_out(r: Remainder) -> StepAnswer
-    ensures { λ a. ⌜ a ≡ asRemainder chunksOut (remainderAnswer r) ⌝ }
+    ensures { λ a. ⌜ a ≡ asRemainder (remainderAnswer r) ⌝ }
 {
     match r {
-        Remainder::Rest(w, n) => step_of(0, true, w, n, no_cursor()),
-        Remainder::Refused(k, c) => step_of(k, false, 0, 0, chunks_out(c)),
+        Remainder::Rest(w, n) => step_of(0, true, w, n, 0),
+        Remainder::Refused(k, _) => step_of(k, false, 0, 0, 0),
     }
 }
 
@@ -77,16 +77,26 @@ pub extern "C" fn pw_chunks_new_exact(bytes: &[u8], length: usize) -> CursorAnsw
 
 // The next word.
 #[no_mangle]
-pub extern "C" fn pw_chunks_next(cursor: Cursor, bytes: &[u8]) -> StepAnswer
-    ensures { λ r. ⌜ r ≡ asWord chunksOut (nextChunk (chunksIn cursor) (now (bytes .entry))) ⌝ }
+pub extern "C" fn pw_chunks_next(
+    start: usize,
+    length: usize,
+    place: usize,
+    bytes: &[u8],
+) -> StepAnswer
+    ensures { λ r. ⌜ r ≡ asWord chunksPlace (nextChunk (chunksAt start length place) (now (bytes .entry))) ⌝ }
 {
-    chunk_out(chunks_in(cursor).next(bytes))
+    chunk_out(chunks_in(start, length, place).next(bytes))
 }
 
 // The flags behind the last whole word, as a word, and their number. No cursor is given: that of the caller stays as it is.
 #[no_mangle]
-pub extern "C" fn pw_chunks_remainder(cursor: Cursor, bytes: &[u8]) -> StepAnswer
-    ensures { λ r. ⌜ r ≡ asRemainder chunksOut (chunksRemainder (chunksIn cursor) (now (bytes .entry))) ⌝ }
+pub extern "C" fn pw_chunks_remainder(
+    start: usize,
+    length: usize,
+    place: usize,
+    bytes: &[u8],
+) -> StepAnswer
+    ensures { λ r. ⌜ r ≡ asRemainder (chunksRemainder (chunksAt start length place) (now (bytes .entry))) ⌝ }
 {
-    remainder_out(chunks_in(cursor).remainder(bytes))
+    remainder_out(chunks_in(start, length, place).remainder(bytes))
 }

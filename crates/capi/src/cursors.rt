@@ -2,11 +2,11 @@
 ghost use mathlib.Core.Path.{_≡_};
 ghost use mathlib.Core.Bool.{true, false};
 ghost use Rattle.words.specs.Flags.{digit};
-ghost use Rattle.masks.specs.Iterator.{flagAnswer, iterAnswer, newIter, nthFlag, takeLeading, takenAnswer};
-ghost use Rattle.masks.specs.SliceIterator.{newSlices, nextSlice, sliceAnswer, slicesAnswer};
+ghost use Rattle.masks.specs.Iterator.{flagAnswer, iterAnswer, iterAt, newIter, nthFlag, takeLeading, takenAnswer};
+ghost use Rattle.masks.specs.SliceIterator.{newSlices, nextSlice, sliceAnswer, slicesAnswer, slicesAt};
 ghost use Rattle.masks.specs.TrueIdx.{newTrue, nextTrue, trueIdxAnswer, trueIterAnswer};
 ghost use Rattle.capi.specs.Answers.{asBit, asCursor, asRun, asTaken, asWord};
-ghost use Rattle.capi.specs.Records.{iterIn, iterOut, maskIn, optionalIn, slicesIn, slicesOut, trueIn, trueOut};
+ghost use Rattle.capi.specs.Records.{iterOut, iterPlace, maskIn, optionalIn, slicesOut, slicesPlace, trueIn, trueOut, truePlace};
 use crate::answers::CursorAnswer;
 use crate::answers::StepAnswer;
 use crate::answers::cursor_answer;
@@ -30,13 +30,13 @@ use masks::true_idx::TrueIter;
 
 // ---- runs
 
-fn slices_in(c: Cursor) -> SlicesIterator
-    ensures { λ r. ⌜ r ≡ slicesIn c ⌝ }
+fn slices_in(start: usize, length: usize, place: usize) -> SlicesIterator
+    ensures { λ r. ⌜ r ≡ slicesAt start length place ⌝ }
 {
     SlicesIterator {
-        start: c.start,
-        length: c.length,
-        place: c.place,
+        start: start,
+        length: length,
+        place: place,
     }
 }
 
@@ -56,12 +56,12 @@ fn new_slices_out(r: Slices) -> CursorAnswer
 }
 
 fn slice_out(r: Slice) -> StepAnswer
-    ensures { λ a. ⌜ a ≡ asRun slicesOut (sliceAnswer r) ⌝ }
+    ensures { λ a. ⌜ a ≡ asRun slicesPlace (sliceAnswer r) ⌝ }
 {
     match r {
-        Slice::Next(run, c) => step_of(0, true, run.start as u64, run.length, slices_out(c)),
-        Slice::Done(c) => step_of(0, false, 0, 0, slices_out(c)),
-        Slice::Refused(k, c) => step_of(k, false, 0, 0, slices_out(c)),
+        Slice::Next(run, c) => step_of(0, true, run.start as u64, run.length, c.place),
+        Slice::Done(c) => step_of(0, false, 0, 0, c.place),
+        Slice::Refused(k, c) => step_of(k, false, 0, 0, c.place),
     }
 }
 
@@ -75,21 +75,26 @@ pub extern "C" fn pw_slices_new(mask: Mask, bytes: &[u8]) -> CursorAnswer
 
 // The next run of ones: its start and its length.
 #[no_mangle]
-pub extern "C" fn pw_slices_next(cursor: Cursor, bytes: &[u8]) -> StepAnswer
-    ensures { λ r. ⌜ r ≡ asRun slicesOut (nextSlice (slicesIn cursor) (now (bytes .entry))) ⌝ }
+pub extern "C" fn pw_slices_next(
+    start: usize,
+    length: usize,
+    place: usize,
+    bytes: &[u8],
+) -> StepAnswer
+    ensures { λ r. ⌜ r ≡ asRun slicesPlace (nextSlice (slicesAt start length place) (now (bytes .entry))) ⌝ }
 {
-    slice_out(slices_in(cursor).next(bytes))
+    slice_out(slices_in(start, length, place).next(bytes))
 }
 
 // ---- flags
 
-fn iter_in(c: Cursor) -> BitmapIter
-    ensures { λ r. ⌜ r ≡ iterIn c ⌝ }
+fn iter_in(start: usize, length: usize, place: usize) -> BitmapIter
+    ensures { λ r. ⌜ r ≡ iterAt start length place ⌝ }
 {
     BitmapIter {
-        start: c.start,
-        length: c.length,
-        place: c.place,
+        start: start,
+        length: length,
+        place: place,
     }
 }
 
@@ -115,21 +120,21 @@ fn flag_value(x: bool) -> u64
 }
 
 fn flag_out(r: Flag) -> StepAnswer
-    ensures { λ a. ⌜ a ≡ asBit iterOut (flagAnswer r) ⌝ }
+    ensures { λ a. ⌜ a ≡ asBit iterPlace (flagAnswer r) ⌝ }
 {
     match r {
-        Flag::Next(x, c) => step_of(0, true, flag_value(x), 0, iter_out(c)),
-        Flag::Done(c) => step_of(0, false, 0, 0, iter_out(c)),
-        Flag::Refused(k, c) => step_of(k, false, 0, 0, iter_out(c)),
+        Flag::Next(x, c) => step_of(0, true, flag_value(x), 0, c.place),
+        Flag::Done(c) => step_of(0, false, 0, 0, c.place),
+        Flag::Refused(k, c) => step_of(k, false, 0, 0, c.place),
     }
 }
 
 fn taken_out(r: Taken) -> StepAnswer
-    ensures { λ a. ⌜ a ≡ asTaken iterOut (takenAnswer r) ⌝ }
+    ensures { λ a. ⌜ a ≡ asTaken iterPlace (takenAnswer r) ⌝ }
 {
     match r {
-        Taken::Took(n, c) => step_of(0, true, 0, n, iter_out(c)),
-        Taken::Refused(k, c) => step_of(k, false, 0, 0, iter_out(c)),
+        Taken::Took(n, c) => step_of(0, true, 0, n, c.place),
+        Taken::Refused(k, c) => step_of(k, false, 0, 0, c.place),
     }
 }
 
@@ -143,41 +148,58 @@ pub extern "C" fn pw_iter_new(bytes: &[u8], start: usize, length: usize) -> Curs
 
 // The next flag.
 #[no_mangle]
-pub extern "C" fn pw_iter_next(cursor: Cursor, bytes: &[u8]) -> StepAnswer
-    ensures { λ r. ⌜ r ≡ asBit iterOut (nthFlag (iterIn cursor) (now (bytes .entry)) 0) ⌝ }
+pub extern "C" fn pw_iter_next(
+    start: usize,
+    length: usize,
+    place: usize,
+    bytes: &[u8],
+) -> StepAnswer
+    ensures { λ r. ⌜ r ≡ asBit iterPlace (nthFlag (iterAt start length place) (now (bytes .entry)) 0) ⌝ }
 {
-    flag_out(iter_in(cursor).next(bytes))
+    flag_out(iter_in(start, length, place).next(bytes))
 }
 
 // The flag n places on.
 #[no_mangle]
-pub extern "C" fn pw_iter_nth(cursor: Cursor, bytes: &[u8], n: usize) -> StepAnswer
-    ensures { λ r. ⌜ r ≡ asBit iterOut (nthFlag (iterIn cursor) (now (bytes .entry)) n) ⌝ }
+pub extern "C" fn pw_iter_nth(
+    start: usize,
+    length: usize,
+    place: usize,
+    bytes: &[u8],
+    n: usize,
+) -> StepAnswer
+    ensures { λ r. ⌜ r ≡ asBit iterPlace (nthFlag (iterAt start length place) (now (bytes .entry)) n) ⌝ }
 {
-    flag_out(iter_in(cursor).nth(bytes, n))
+    flag_out(iter_in(start, length, place).nth(bytes, n))
 }
 
 // How many flags that equal `flag` stand next; the cursor moves past them.
 #[no_mangle]
-pub extern "C" fn pw_take_leading(flag: bool, cursor: Cursor, bytes: &[u8]) -> StepAnswer
-    ensures { λ r. ⌜ r ≡ asTaken iterOut (takeLeading flag (iterIn cursor) (now (bytes .entry))) ⌝ }
+pub extern "C" fn pw_take_leading(
+    flag: bool,
+    start: usize,
+    length: usize,
+    place: usize,
+    bytes: &[u8],
+) -> StepAnswer
+    ensures { λ r. ⌜ r ≡ asTaken iterPlace (takeLeading flag (iterAt start length place) (now (bytes .entry))) ⌝ }
 {
     if flag {
-        return taken_out(iter_in(cursor).take_leading_ones(bytes));
+        return taken_out(iter_in(start, length, place).take_leading_ones(bytes));
     }
-    taken_out(iter_in(cursor).take_leading_zeros(bytes))
+    taken_out(iter_in(start, length, place).take_leading_zeros(bytes))
 }
 
 // ---- positions of ones
 
-fn true_in(c: Cursor) -> TrueIdxIter
-    ensures { λ r. ⌜ r ≡ trueIn c ⌝ }
+fn true_in(start: usize, length: usize, place: usize, masked: u8) -> TrueIdxIter
+    ensures { λ r. ⌜ r ≡ trueIn start length place masked ⌝ }
 {
     TrueIdxIter {
-        start: c.start,
-        length: c.length,
-        place: c.place,
-        masked: c.masked != 0,
+        start: start,
+        length: length,
+        place: place,
+        masked: masked != 0,
     }
 }
 
@@ -203,12 +225,12 @@ fn new_true_out(r: TrueIter) -> CursorAnswer
 }
 
 fn true_idx_out(r: TrueIdx) -> StepAnswer
-    ensures { λ a. ⌜ a ≡ asWord trueOut (trueIdxAnswer r) ⌝ }
+    ensures { λ a. ⌜ a ≡ asWord truePlace (trueIdxAnswer r) ⌝ }
 {
     match r {
-        TrueIdx::Index(p, c) => step_of(0, true, p as u64, 0, true_out(c)),
-        TrueIdx::Done(c) => step_of(0, false, 0, 0, true_out(c)),
-        TrueIdx::Refused(k, c) => step_of(k, false, 0, 0, true_out(c)),
+        TrueIdx::Index(p, c) => step_of(0, true, p as u64, 0, c.place),
+        TrueIdx::Done(c) => step_of(0, false, 0, 0, c.place),
+        TrueIdx::Refused(k, c) => step_of(k, false, 0, 0, c.place),
     }
 }
 
@@ -227,8 +249,14 @@ pub extern "C" fn pw_true_idx_new(
 
 // The next position of a one.
 #[no_mangle]
-pub extern "C" fn pw_true_idx_next(cursor: Cursor, bytes: &[u8]) -> StepAnswer
-    ensures { λ r. ⌜ r ≡ asWord trueOut (nextTrue (trueIn cursor) (now (bytes .entry))) ⌝ }
+pub extern "C" fn pw_true_idx_next(
+    start: usize,
+    length: usize,
+    place: usize,
+    masked: u8,
+    bytes: &[u8],
+) -> StepAnswer
+    ensures { λ r. ⌜ r ≡ asWord truePlace (nextTrue (trueIn start length place masked) (now (bytes .entry))) ⌝ }
 {
-    true_idx_out(true_in(cursor).next(bytes))
+    true_idx_out(true_in(start, length, place, masked).next(bytes))
 }

@@ -26,6 +26,9 @@ pub struct Builder {
 
 // A cursor: a span and the next place in it. `masked` is read by `pw_true_idx_next` alone, where 0 says that there is no mask;
 // every other call gives it as 1.
+//
+// A builder and a cursor are given as a record and go in again as its numbers, which stay in registers: a record that is handed on
+// from call to call through memory costs several times the call.
 #[repr(C)]
 pub struct Cursor {
     pub start: usize,
@@ -97,13 +100,13 @@ pub(crate) fn optional_in(present: bool, m: Mask) -> Optional
     }
 }
 
-pub(crate) fn builder_in(b: Builder) -> BitmapBuilder
-    ensures { λ r. ⌜ r ≡ builderIn b ⌝ }
+pub(crate) fn builder_in(length: usize, word: u64, ones: usize) -> BitmapBuilder
+    ensures { λ r. ⌜ r ≡ builderIn length word ones ⌝ }
 {
     BitmapBuilder {
-        length: b.length,
-        word: b.word,
-        ones: b.ones,
+        length: length,
+        word: word,
+        ones: ones,
     }
 }
 

@@ -9,17 +9,11 @@ enum-known-r c = search needs
 flag-value-requires : tie.Need-flag-value-requires
 flag-value-requires c κs = search needs
 
-iter-out-requires : tie.Need-iter-out-requires
-iter-out-requires c κs = search needs
-
 step-of-requires : tie.Need-step-of-requires
 step-of-requires c κs = search needs
 
 enum-known-r-2 : tie.Need-enum-known-r-2
 enum-known-r-2 c = search needs
-
-iter-out-requires-2 : tie.Need-iter-out-requires-2
-iter-out-requires-2 c κs = search needs
 
 step-of-requires-2 : tie.Need-step-of-requires-2
 step-of-requires-2 c κs = search needs
@@ -27,23 +21,20 @@ step-of-requires-2 c κs = search needs
 enum-known-r-3 : tie.Need-enum-known-r-3
 enum-known-r-3 c = search needs
 
-iter-out-requires-3 : tie.Need-iter-out-requires-3
-iter-out-requires-3 c κs = search needs
-
 step-of-requires-3 : tie.Need-step-of-requires-3
 step-of-requires-3 c κs = search needs
 
 returns : tie.Need-returns
 unfolding asBit asStep
-returns c = rw (c .before .before .before .before .r .given .1) (cc)
+returns c = rw (c .before .before .before .r .given .1) (cc)
 
 returns-2 : tie.Need-returns-2
 unfolding asBit asStep
-returns-2 c = rw (c .before .before .before .r2 .given .1) (cc)
+returns-2 c = rw (c .before .before .r2 .given .1) (cc)
 
 returns-3 : tie.Need-returns-3
 unfolding asBit asStep
-returns-3 c = rw (c .before .before .before .r3 .given .1) (cc)
+returns-3 c = rw (c .before .before .r3 .given .1) (cc)
 
 pub flag-out-spec : {M : Type 1} → statement M
 flag-out-spec =
@@ -51,13 +42,10 @@ flag-out-spec =
     (tie.spec
     enum-known-r
     flag-value-requires
-    iter-out-requires
     step-of-requires
     enum-known-r-2
-    iter-out-requires-2
     step-of-requires-2
     enum-known-r-3
-    iter-out-requires-3
     step-of-requires-3
     returns
     returns-2
