@@ -5,10 +5,11 @@
  * bit and a length in flags over a buffer. The frozen bytes of n flags are 8 * ceil(n / 64) bytes with zero bits from n on.
  *
  * A buffer is a pointer and the number of its elements, which must be there; the pointer may be NULL only where that number is 0. A
- * buffer that is written must overlap no other buffer of the call; buffers that are only read may overlap. Nothing is allocated, kept
- * or freed, and there is no state between calls: a record goes in and comes back by value, and any numbers in it are allowed. Each call
- * tests its arguments and answers in `refusal` 0, or one of the numbers listed for it; it has then written nothing. Where several tests
- * fail, the answer is the one that stands first in 1, 2, 3, 4, 5, 6, 7, 8, 9. */
+ * buffer that is written must overlap no other buffer of the call; buffers that are only read may overlap. Nothing is allocated, kept or
+ * freed, and there is no state between calls: a record goes in and comes back by value, and any numbers in it are allowed. A builder and
+ * a cursor go in as their numbers, which are quicker to hand from call to call than a record. Each call tests its arguments and answers
+ * in `refusal` 0, or one of the numbers listed for it; it has then written nothing. Where several tests fail, the answer is the one that
+ * stands first in 1, 2, 3, 4, 5, 6, 7, 8, 9. */
 #ifndef PORUWHINA_H
 #define PORUWHINA_H
 
@@ -137,14 +138,14 @@ typedef struct {
     pw_cursor cursor;
 } pw_cursor_answer;
 
-/* What a cursor gives where `found`, and the cursor behind it. `value` is a word, a run's start, a flag as 0 or 1, or a position;
- * `count` is a run's length, the flags of a remainder or the flags taken. */
+/* What a cursor gives where `found`, and the place at which the cursor then stands; start and length stay. `value` is a word, a run's
+ * start, a flag as 0 or 1, or a position; `count` is a run's length, the flags of a remainder or the flags taken. */
 typedef struct {
     uint8_t refusal;
     bool found;
     uint64_t value;
     size_t count;
-    pw_cursor cursor;
+    size_t place;
 } pw_step_answer;
 
 /* Lengths in flags; `bulk_start` is a byte of the buffer, `bulk_len` a number of words. */
@@ -208,11 +209,11 @@ pw_cursor_answer pw_chunks_new(const uint8_t *bytes, size_t bytes_len, size_t st
 pw_cursor_answer pw_chunks_new_exact(const uint8_t *bytes, size_t bytes_len, size_t length);
 
 /* The next word in `value`; none from word length div 64 on, where the cursor stays. Refuses with 1, 2, 6. */
-pw_step_answer pw_chunks_next(pw_cursor cursor, const uint8_t *bytes, size_t bytes_len);
+pw_step_answer pw_chunks_next(size_t start, size_t length, size_t place, const uint8_t *bytes, size_t bytes_len);
 
-/* The last length mod 64 flags as a word in `value`, and their number in `count`, wherever the cursor stands. It gives no cursor: all
- * fields of the answer's are 0, save on refusal. Refuses with 1, 2, 6. */
-pw_step_answer pw_chunks_remainder(pw_cursor cursor, const uint8_t *bytes, size_t bytes_len);
+/* The last length mod 64 flags as a word in `value`, and their number in `count`, wherever the cursor stands. The
+ * cursor stays there: `place` is given as 0. Refuses with 1, 2, 6. */
+pw_step_answer pw_chunks_remainder(size_t start, size_t length, size_t place, const uint8_t *bytes, size_t bytes_len);
 
 /* ---- the builder. Each call appends to `buf` and gives the builder to go on with. All refuse with 1, 4, 9 and what they list besides.
  * Finished words are written to the buffer, and nothing else of it; pw_freeze writes the frozen bytes over its front. */
@@ -221,43 +222,45 @@ pw_step_answer pw_chunks_remainder(pw_cursor cursor, const uint8_t *bytes, size_
 pw_builder pw_builder_new(void);
 
 /* Appends a flag. */
-pw_builder_answer pw_push(pw_builder builder, uint8_t *buf, size_t buf_len, bool flag);
+pw_builder_answer pw_push(size_t length, uint64_t word, size_t ones, uint8_t *buf, size_t buf_len, bool flag);
 
 /* Appends n copies of a flag. */
-pw_builder_answer pw_extend_constant(pw_builder builder, uint8_t *buf, size_t buf_len, size_t n, bool flag);
+pw_builder_answer pw_extend_constant(size_t length, uint64_t word, size_t ones, uint8_t *buf, size_t buf_len, size_t n,
+                                     bool flag);
 
 /* Appends the first n flags of a word, whose bits from n on must be 0. Also refuses with 6. */
-pw_builder_answer pw_push_word_with_len_unchecked(pw_builder builder, uint8_t *buf, size_t buf_len, uint64_t word,
-                                                  size_t n);
+pw_builder_answer pw_push_word_with_len_unchecked(size_t length, uint64_t word, size_t ones, uint8_t *buf,
+                                                  size_t buf_len, uint64_t flags, size_t n);
 
 /* Appends a span. Also refuses with 2. */
-pw_builder_answer pw_extend_from_slice(pw_builder builder, uint8_t *buf, size_t buf_len, const uint8_t *bytes,
-                                       size_t bytes_len, size_t start, size_t n);
+pw_builder_answer pw_extend_from_slice(size_t length, uint64_t word, size_t ones, uint8_t *buf, size_t buf_len,
+                                       const uint8_t *bytes, size_t bytes_len, size_t start, size_t n);
 
 /* Appends each flag of a span, `repeats` times in turn. Also refuses with 2. */
-pw_builder_answer pw_extend_each_repeated_from_slice_unchecked(pw_builder builder, uint8_t *buf, size_t buf_len,
-                                                               const uint8_t *bytes, size_t bytes_len, size_t start,
-                                                               size_t n, size_t repeats);
+pw_builder_answer pw_extend_each_repeated_from_slice_unchecked(size_t length, uint64_t word, size_t ones, uint8_t *buf,
+                                                            size_t buf_len, const uint8_t *bytes, size_t bytes_len,
+                                                            size_t start, size_t n, size_t repeats);
 
 /* Appends n flags of a mask from its flag `start` on. Also refuses with 2, 3, 6. */
-pw_builder_answer pw_subslice_extend_from_bitmap(pw_builder builder, uint8_t *buf, size_t buf_len, pw_mask mask,
-                                                 const uint8_t *bytes, size_t bytes_len, size_t start, size_t n);
+pw_builder_answer pw_subslice_extend_from_bitmap(size_t length, uint64_t word, size_t ones, uint8_t *buf,
+                                                 size_t buf_len, pw_mask mask, const uint8_t *bytes, size_t bytes_len,
+                                                 size_t start, size_t n);
 
 /* Appends the flag of a span at each index. Also refuses with 2, 6. */
-pw_builder_answer pw_gather_extend_from_slice(pw_builder builder, uint8_t *buf, size_t buf_len, const uint8_t *bytes,
-                                              size_t bytes_len, size_t start, size_t n, const uint32_t *idxs,
-                                              size_t idxs_len);
+pw_builder_answer pw_gather_extend_from_slice(size_t length, uint64_t word, size_t ones, uint8_t *buf, size_t buf_len,
+                                              const uint8_t *bytes, size_t bytes_len, size_t start, size_t n,
+                                              const uint32_t *idxs, size_t idxs_len);
 
 /* The same, with 0 for an index at or past the span's length. Also refuses with 2. */
-pw_builder_answer pw_opt_gather_extend_from_slice(pw_builder builder, uint8_t *buf, size_t buf_len, const uint8_t *bytes,
-                                                  size_t bytes_len, size_t start, size_t n, const uint32_t *idxs,
-                                                  size_t idxs_len);
+pw_builder_answer pw_opt_gather_extend_from_slice(size_t length, uint64_t word, size_t ones, uint8_t *buf,
+                                                  size_t buf_len, const uint8_t *bytes, size_t bytes_len, size_t start,
+                                                  size_t n, const uint32_t *idxs, size_t idxs_len);
 
 /* The mask of the builder's flags over the frozen bytes, its zeros counted. */
-pw_mask_answer pw_freeze(pw_builder builder, uint8_t *buf, size_t buf_len);
+pw_mask_answer pw_freeze(size_t length, uint64_t word, size_t ones, uint8_t *buf, size_t buf_len);
 
 /* The same bytes; no mask where all flags are set, so for no flags too. */
-pw_validity_answer pw_into_opt_validity(pw_builder builder, uint8_t *buf, size_t buf_len);
+pw_validity_answer pw_into_opt_validity(size_t length, uint64_t word, size_t ones, uint8_t *buf, size_t buf_len);
 
 /* ---- the mask */
 
@@ -283,8 +286,8 @@ pw_flag pw_eq(pw_mask lhs, const uint8_t *left, size_t left_len, pw_mask rhs, co
 pw_number pw_num_edges(pw_mask mask, const uint8_t *bytes, size_t bytes_len);
 
 /* How many flags are set in both masks. Refuses with 1, 2, 3, 5. */
-pw_number pw_num_intersections_with(pw_mask lhs, const uint8_t *left, size_t left_len, pw_mask rhs, const uint8_t *right,
-                                    size_t right_len);
+pw_number pw_num_intersections_with(pw_mask lhs, const uint8_t *left, size_t left_len, pw_mask rhs,
+                                    const uint8_t *right, size_t right_len);
 
 /* ---- combinations: each writes frozen bytes over the front of `out` and gives the mask over them. They refuse with 1, 2, 3, 5, 9. */
 
@@ -297,46 +300,47 @@ pw_mask_answer pw_not(pw_mask mask, const uint8_t *bytes, size_t bytes_len, uint
 
 /* The flag of `truthy` where the selector's is set, else that of `falsy`. */
 pw_mask_answer pw_select(pw_mask selector, const uint8_t *by, size_t by_len, pw_mask truthy, const uint8_t *yes,
-                         size_t yes_len, pw_mask falsy, const uint8_t *no, size_t no_len, uint8_t *out,
-                         size_t out_len);
+                         size_t yes_len, pw_mask falsy, const uint8_t *no, size_t no_len, uint8_t *out, size_t out_len);
 
 /* The flag of `truthy` where the selector's is set, else `flag`. */
 pw_mask_answer pw_select_constant(pw_mask selector, const uint8_t *by, size_t by_len, pw_mask truthy,
                                   const uint8_t *yes, size_t yes_len, bool flag, uint8_t *out, size_t out_len);
 
-/* ---- cursors. A step that finds nothing gives the cursor at the length; a refused one gives it as it came. */
+/* ---- cursors. A step that finds nothing gives the length as the place; a refused one gives the place that it got. */
 
 /* A cursor before the first run of ones of a mask. Refuses with 1, 2, 3. */
 pw_cursor_answer pw_slices_new(pw_mask mask, const uint8_t *bytes, size_t bytes_len);
 
 /* The next run of ones, its start in `value` and its length in `count`. Refuses with 1, 2, 6. */
-pw_step_answer pw_slices_next(pw_cursor cursor, const uint8_t *bytes, size_t bytes_len);
+pw_step_answer pw_slices_next(size_t start, size_t length, size_t place, const uint8_t *bytes, size_t bytes_len);
 
 /* A cursor before the first flag of a span; with length 0, before any test, one that is all 0. Refuses with 1, 2. */
 pw_cursor_answer pw_iter_new(const uint8_t *bytes, size_t bytes_len, size_t start, size_t length);
 
 /* The next flag in `value`, and the one n flags behind that. Refuse with 1, 2, 6. */
-pw_step_answer pw_iter_next(pw_cursor cursor, const uint8_t *bytes, size_t bytes_len);
-pw_step_answer pw_iter_nth(pw_cursor cursor, const uint8_t *bytes, size_t bytes_len, size_t n);
+pw_step_answer pw_iter_next(size_t start, size_t length, size_t place, const uint8_t *bytes, size_t bytes_len);
+pw_step_answer pw_iter_nth(size_t start, size_t length, size_t place, const uint8_t *bytes, size_t bytes_len, size_t n);
 
 /* How many flags that equal `flag` stand next, in `count`; the cursor moves past them. Refuses with 1, 2, 6. */
-pw_step_answer pw_take_leading(bool flag, pw_cursor cursor, const uint8_t *bytes, size_t bytes_len);
+pw_step_answer pw_take_leading(bool flag, size_t start, size_t length, size_t place, const uint8_t *bytes,
+                               size_t bytes_len);
 
 /* A cursor before the first position of a one in a mask of `length` flags. Where not `present` there is no mask: record and buffer are
  * not read, and every position is given. Refuses with 1, 2, 3, 5; without a mask with 1. */
 pw_cursor_answer pw_true_idx_new(size_t length, bool present, pw_mask mask, const uint8_t *bytes, size_t bytes_len);
 
 /* The next position in `value`. Refuses with 1, 2, 6; without a mask with 1, 6. */
-pw_step_answer pw_true_idx_next(pw_cursor cursor, const uint8_t *bytes, size_t bytes_len);
+pw_step_answer pw_true_idx_next(size_t start, size_t length, size_t place, uint8_t masked, const uint8_t *bytes,
+                                size_t bytes_len);
 
 /* ---- dispatch */
 
 /* Whether truck number `truck` may be reassigned: its flag in the permission mask, and not in the revocation mask. Where not `permitted`
  * there is no permission mask, which stands for all ones; where not `revoked` no revocation mask, which stands for all zeros: record and
  * buffer are then not read. Refuses with 1, 2, 3, 6, with both masks also 5, with none never. */
-pw_flag pw_may_reassign(bool permitted, pw_mask permission, const uint8_t *permission_bytes, size_t permission_bytes_len,
-                        bool revoked, pw_mask revocation, const uint8_t *revocation_bytes, size_t revocation_bytes_len,
-                        size_t truck);
+pw_flag pw_may_reassign(bool permitted, pw_mask permission, const uint8_t *permission_bytes,
+                        size_t permission_bytes_len, bool revoked, pw_mask revocation, const uint8_t *revocation_bytes,
+                        size_t revocation_bytes_len, size_t truck);
 
 #ifdef __cplusplus
 }
