@@ -1,9 +1,16 @@
 // The builder's calls: each appends to the lent buffer and gives the builder back.
+ghost use mathlib.Core.Path.{_≡_};
+ghost use Rattle.masks.specs.Appends.{appendAnswer, appendBytes, extendBitmap, extendConstant, extendGather, extendOptGather, extendRepeated, extendSlice, pushedAnswer, pushFlag, pushWord};
+ghost use Rattle.masks.specs.Builder.{newBuilder};
+ghost use Rattle.masks.specs.Freeze.{freezeBytes, freezeOf, intoOptValidityOf, madeAnswer, validityAnswer};
+ghost use Rattle.capi.specs.Answers.{asBuilder, asMask, asValidity};
+ghost use Rattle.capi.specs.Records.{builderIn, builderOut, maskIn};
+use crate::answers::BuilderAnswer;
+use crate::answers::MaskAnswer;
+use crate::answers::ValidityAnswer;
+use crate::answers::mask_answer;
 use crate::records::Builder;
-use crate::records::BuilderAnswer;
 use crate::records::Mask;
-use crate::records::MaskAnswer;
-use crate::records::ValidityAnswer;
 use crate::records::builder_in;
 use crate::records::builder_out;
 use crate::records::mask_in;
@@ -14,7 +21,9 @@ use masks::builder::Made;
 use masks::builder::Pushed;
 use masks::builder::Validity;
 
-fn pushed_out(r: Pushed) -> BuilderAnswer {
+fn pushed_out(r: Pushed) -> BuilderAnswer
+    ensures { λ a. ⌜ a ≡ asBuilder (pushedAnswer r) ⌝ }
+{
     match r {
         Pushed::Done(b) => BuilderAnswer {
             refusal: 0,
@@ -27,129 +36,19 @@ fn pushed_out(r: Pushed) -> BuilderAnswer {
     }
 }
 
-// The builder of no flags.
-#[no_mangle]
-pub extern "C" fn pw_builder_new() -> Builder {
-    builder_out(BitmapBuilder::new())
-}
-
-// Appends a flag.
-#[no_mangle]
-pub extern "C" fn pw_push(builder: Builder, buf: &mut [u8], flag: bool) -> BuilderAnswer {
-    pushed_out(builder_in(builder).push(buf, flag))
-}
-
-// Appends `n` copies of a flag.
-#[no_mangle]
-pub extern "C" fn pw_extend_constant(
-    builder: Builder,
-    buf: &mut [u8],
-    n: usize,
-    flag: bool,
-) -> BuilderAnswer {
-    pushed_out(builder_in(builder).extend_constant(buf, n, flag))
-}
-
-// Appends the first `n` flags of a word, whose bits from there on are 0.
-#[no_mangle]
-pub extern "C" fn pw_push_word_with_len_unchecked(
-    builder: Builder,
-    buf: &mut [u8],
-    word: u64,
-    n: usize,
-) -> BuilderAnswer {
-    pushed_out(builder_in(builder).push_word_with_len_unchecked(buf, word, n))
-}
-
-// Appends a span.
-#[no_mangle]
-pub extern "C" fn pw_extend_from_slice(
-    builder: Builder,
-    buf: &mut [u8],
-    bytes: &[u8],
-    start: usize,
-    n: usize,
-) -> BuilderAnswer {
-    pushed_out(builder_in(builder).extend_from_slice(buf, bytes, start, n))
-}
-
-// Appends each flag of a span, `repeats` times in turn.
-#[no_mangle]
-pub extern "C" fn pw_extend_each_repeated_from_slice_unchecked(
-    builder: Builder,
-    buf: &mut [u8],
-    bytes: &[u8],
-    start: usize,
-    n: usize,
-    repeats: usize,
-) -> BuilderAnswer {
-    pushed_out(builder_in(builder).extend_each_repeated_from_slice_unchecked(
-        buf,
-        bytes,
-        start,
-        n,
-        repeats,
-    ))
-}
-
-// Appends `n` flags of a mask from its flag `start` on.
-#[no_mangle]
-pub extern "C" fn pw_subslice_extend_from_bitmap(
-    builder: Builder,
-    buf: &mut [u8],
-    mask: Mask,
-    bytes: &[u8],
-    start: usize,
-    n: usize,
-) -> BuilderAnswer {
-    pushed_out(builder_in(builder).subslice_extend_from_bitmap(buf, mask_in(mask), bytes, start, n))
-}
-
-// Appends the flag at each index of a span.
-#[no_mangle]
-pub extern "C" fn pw_gather_extend_from_slice(
-    builder: Builder,
-    buf: &mut [u8],
-    bytes: &[u8],
-    start: usize,
-    n: usize,
-    idxs: &[u32],
-) -> BuilderAnswer {
-    pushed_out(builder_in(builder).gather_extend_from_slice(buf, bytes, start, n, idxs))
-}
-
-// The same, with 0 for an index at or past the span's length.
-#[no_mangle]
-pub extern "C" fn pw_opt_gather_extend_from_slice(
-    builder: Builder,
-    buf: &mut [u8],
-    bytes: &[u8],
-    start: usize,
-    n: usize,
-    idxs: &[u32],
-) -> BuilderAnswer {
-    pushed_out(builder_in(builder).opt_gather_extend_from_slice(buf, bytes, start, n, idxs))
-}
-
-// The mask of the builder's flags, written as frozen bytes over the front of the buffer.
-#[no_mangle]
-pub extern "C" fn pw_freeze(builder: Builder, buf: &mut [u8]) -> MaskAnswer {
-    match builder_in(builder).freeze(buf) {
-        Made::Mask(m) => MaskAnswer {
-            refusal: 0,
-            mask: mask_out(m),
-        },
-        Made::Refused(k, _) => MaskAnswer {
-            refusal: k,
-            mask: no_mask(),
-        },
+fn frozen_out(r: Made) -> MaskAnswer
+    ensures { λ a. ⌜ a ≡ asMask (madeAnswer r) ⌝ }
+{
+    match r {
+        Made::Mask(m) => mask_answer(0, mask_out(m)),
+        Made::Refused(k, _) => mask_answer(k, no_mask()),
     }
 }
 
-// The same, with no mask where all flags are set.
-#[no_mangle]
-pub extern "C" fn pw_into_opt_validity(builder: Builder, buf: &mut [u8]) -> ValidityAnswer {
-    match builder_in(builder).into_opt_validity(buf) {
+fn validity_out(r: Validity) -> ValidityAnswer
+    ensures { λ a. ⌜ a ≡ asValidity (validityAnswer r) ⌝ }
+{
+    match r {
         Validity::Mask(m) => ValidityAnswer {
             refusal: 0,
             present: true,
@@ -166,4 +65,189 @@ pub extern "C" fn pw_into_opt_validity(builder: Builder, buf: &mut [u8]) -> Vali
             mask: no_mask(),
         },
     }
+}
+
+// The builder of no flags.
+#[no_mangle]
+pub extern "C" fn pw_builder_new() -> Builder
+    ensures { λ r. ⌜ r ≡ builderOut newBuilder ⌝ }
+{
+    builder_out(BitmapBuilder::new())
+}
+
+// Appends a flag.
+#[no_mangle]
+pub extern "C" fn pw_push(
+    length: usize,
+    word: u64,
+    ones: usize,
+    buf: &mut [u8],
+    flag: bool,
+) -> BuilderAnswer
+    ensures answer { λ r. ⌜ r ≡ asBuilder (appendAnswer (pushFlag flag) (builderIn length word ones) (now (buf .entry))) ⌝ }
+    ensures bytes { λ _. ⌜ now (buf .exit) ≡ appendBytes (pushFlag flag) (builderIn length word ones) (now (buf .entry)) ⌝ }
+{
+    pushed_out(builder_in(length, word, ones).push(buf, flag))
+}
+
+// Appends `n` copies of a flag.
+#[no_mangle]
+pub extern "C" fn pw_extend_constant(
+    length: usize,
+    word: u64,
+    ones: usize,
+    buf: &mut [u8],
+    n: usize,
+    flag: bool,
+) -> BuilderAnswer
+    ensures answer { λ r. ⌜ r ≡ asBuilder (appendAnswer (extendConstant n flag) (builderIn length word ones) (now (buf .entry))) ⌝ }
+    ensures bytes { λ _. ⌜ now (buf .exit) ≡ appendBytes (extendConstant n flag) (builderIn length word ones) (now (buf .entry)) ⌝ }
+{
+    pushed_out(builder_in(length, word, ones).extend_constant(buf, n, flag))
+}
+
+// Appends the first `n` flags of a word, whose bits from there on are 0.
+#[no_mangle]
+pub extern "C" fn pw_push_word_with_len_unchecked(
+    length: usize,
+    word: u64,
+    ones: usize,
+    buf: &mut [u8],
+    flags: u64,
+    n: usize,
+) -> BuilderAnswer
+    ensures answer { λ r. ⌜ r ≡ asBuilder (appendAnswer (pushWord flags n) (builderIn length word ones) (now (buf .entry))) ⌝ }
+    ensures bytes { λ _. ⌜ now (buf .exit) ≡ appendBytes (pushWord flags n) (builderIn length word ones) (now (buf .entry)) ⌝ }
+{
+    pushed_out(builder_in(length, word, ones).push_word_with_len_unchecked(buf, flags, n))
+}
+
+// Appends a span.
+#[no_mangle]
+pub extern "C" fn pw_extend_from_slice(
+    length: usize,
+    word: u64,
+    ones: usize,
+    buf: &mut [u8],
+    bytes: &[u8],
+    start: usize,
+    n: usize,
+) -> BuilderAnswer
+    ensures answer { λ r. ⌜ r ≡ asBuilder (appendAnswer (extendSlice (now (bytes .entry)) start n) (builderIn length word ones) (now (buf .entry))) ⌝ }
+    ensures bytes { λ _. ⌜ now (buf .exit) ≡ appendBytes (extendSlice (now (bytes .entry)) start n) (builderIn length word ones) (now (buf .entry)) ⌝ }
+{
+    pushed_out(builder_in(length, word, ones).extend_from_slice(buf, bytes, start, n))
+}
+
+// Appends each flag of a span, `repeats` times in turn.
+#[no_mangle]
+pub extern "C" fn pw_extend_each_repeated_from_slice_unchecked(
+    length: usize,
+    word: u64,
+    ones: usize,
+    buf: &mut [u8],
+    bytes: &[u8],
+    start: usize,
+    n: usize,
+    repeats: usize,
+) -> BuilderAnswer
+    ensures answer { λ r. ⌜ r ≡ asBuilder (appendAnswer (extendRepeated (now (bytes .entry)) start n repeats) (builderIn length word ones) (now (buf .entry))) ⌝ }
+    ensures bytes { λ _. ⌜ now (buf .exit) ≡ appendBytes (extendRepeated (now (bytes .entry)) start n repeats) (builderIn length word ones) (now (buf .entry)) ⌝ }
+{
+    pushed_out(builder_in(length, word, ones).extend_each_repeated_from_slice_unchecked(
+        buf,
+        bytes,
+        start,
+        n,
+        repeats,
+    ))
+}
+
+// Appends `n` flags of a mask from its flag `start` on.
+#[no_mangle]
+pub extern "C" fn pw_subslice_extend_from_bitmap(
+    length: usize,
+    word: u64,
+    ones: usize,
+    buf: &mut [u8],
+    mask: Mask,
+    bytes: &[u8],
+    start: usize,
+    n: usize,
+) -> BuilderAnswer
+    ensures answer { λ r. ⌜ r ≡ asBuilder (appendAnswer (extendBitmap (maskIn mask) (now (bytes .entry)) start n) (builderIn length word ones) (now (buf .entry))) ⌝ }
+    ensures bytes { λ _. ⌜ now (buf .exit) ≡ appendBytes (extendBitmap (maskIn mask) (now (bytes .entry)) start n) (builderIn length word ones) (now (buf .entry)) ⌝ }
+{
+    pushed_out(builder_in(length, word, ones).subslice_extend_from_bitmap(
+        buf,
+        mask_in(mask),
+        bytes,
+        start,
+        n,
+    ))
+}
+
+// Appends the flag at each index of a span.
+#[no_mangle]
+pub extern "C" fn pw_gather_extend_from_slice(
+    length: usize,
+    word: u64,
+    ones: usize,
+    buf: &mut [u8],
+    bytes: &[u8],
+    start: usize,
+    n: usize,
+    idxs: &[u32],
+) -> BuilderAnswer
+    ensures answer { λ r. ⌜ r ≡ asBuilder (appendAnswer (extendGather (now (bytes .entry)) start n (now (idxs .entry))) (builderIn length word ones) (now (buf .entry))) ⌝ }
+    ensures bytes { λ _. ⌜ now (buf .exit) ≡ appendBytes (extendGather (now (bytes .entry)) start n (now (idxs .entry))) (builderIn length word ones) (now (buf .entry)) ⌝ }
+{
+    pushed_out(builder_in(length, word, ones).gather_extend_from_slice(buf, bytes, start, n, idxs))
+}
+
+// The same, with 0 for an index at or past the span's length.
+#[no_mangle]
+pub extern "C" fn pw_opt_gather_extend_from_slice(
+    length: usize,
+    word: u64,
+    ones: usize,
+    buf: &mut [u8],
+    bytes: &[u8],
+    start: usize,
+    n: usize,
+    idxs: &[u32],
+) -> BuilderAnswer
+    ensures answer { λ r. ⌜ r ≡ asBuilder (appendAnswer (extendOptGather (now (bytes .entry)) start n (now (idxs .entry))) (builderIn length word ones) (now (buf .entry))) ⌝ }
+    ensures bytes { λ _. ⌜ now (buf .exit) ≡ appendBytes (extendOptGather (now (bytes .entry)) start n (now (idxs .entry))) (builderIn length word ones) (now (buf .entry)) ⌝ }
+{
+    pushed_out(builder_in(length, word, ones).opt_gather_extend_from_slice(
+        buf,
+        bytes,
+        start,
+        n,
+        idxs,
+    ))
+}
+
+// The mask of the builder's flags, written as frozen bytes over the front of the buffer.
+#[no_mangle]
+pub extern "C" fn pw_freeze(length: usize, word: u64, ones: usize, buf: &mut [u8]) -> MaskAnswer
+    ensures answer { λ r. ⌜ r ≡ asMask (freezeOf (builderIn length word ones) (now (buf .entry))) ⌝ }
+    ensures bytes { λ _. ⌜ now (buf .exit) ≡ freezeBytes (builderIn length word ones) (now (buf .entry)) ⌝ }
+{
+    frozen_out(builder_in(length, word, ones).freeze(buf))
+}
+
+// The same, with no mask where all flags are set.
+#[no_mangle]
+pub extern "C" fn pw_into_opt_validity(
+    length: usize,
+    word: u64,
+    ones: usize,
+    buf: &mut [u8],
+) -> ValidityAnswer
+    ensures answer { λ r. ⌜ r ≡ asValidity (intoOptValidityOf (builderIn length word ones) (now (buf .entry))) ⌝ }
+    ensures bytes { λ _. ⌜ now (buf .exit) ≡ freezeBytes (builderIn length word ones) (now (buf .entry)) ⌝ }
+{
+    validity_out(builder_in(length, word, ones).into_opt_validity(buf))
 }

@@ -1,7 +1,15 @@
 // The combinations: flag by flag into a lent output, as frozen bytes.
+ghost use mathlib.Core.Path.{_≡_};
+ghost use mathlib.Core.List.{[], _∷_};
+ghost use lib.ListN.{length};
+ghost use Rattle.masks.specs.Combine.{combinedAnswer, eachBytes, eachOf, notChecks, notFlags, pairChecks, selectChecks, selectConstantFlags, selectFlags};
+ghost use Rattle.capi.specs.Answers.{asMask};
+ghost use Rattle.capi.specs.Combine.{combineBytes, combineOf, opNumbered};
+ghost use Rattle.capi.specs.Records.{maskIn};
+use crate::answers::MaskAnswer;
+use crate::answers::NO_SUCH_OPERATION;
+use crate::answers::mask_answer;
 use crate::records::Mask;
-use crate::records::MaskAnswer;
-use crate::records::NO_SUCH_OPERATION;
 use crate::records::mask_in;
 use crate::records::mask_out;
 use crate::records::no_mask;
@@ -15,16 +23,12 @@ use masks::bitmap_ops::select;
 use masks::bitmap_ops::select_constant;
 use masks::bitmap_ops::xor;
 
-fn combined_out(r: Combined) -> MaskAnswer {
+fn combined_out(r: Combined) -> MaskAnswer
+    ensures { λ a. ⌜ a ≡ asMask (combinedAnswer r) ⌝ }
+{
     match r {
-        Combined::Mask(m) => MaskAnswer {
-            refusal: 0,
-            mask: mask_out(m),
-        },
-        Combined::Refused(k) => MaskAnswer {
-            refusal: k,
-            mask: no_mask(),
-        },
+        Combined::Mask(m) => mask_answer(0, mask_out(m)),
+        Combined::Refused(k) => mask_answer(k, no_mask()),
     }
 }
 
@@ -37,31 +41,36 @@ pub extern "C" fn pw_combine(
     rhs: Mask,
     right: &[u8],
     out: &mut [u8],
-) -> MaskAnswer {
+) -> MaskAnswer
+    ensures answer { λ r. ⌜ r ≡ asMask (combineOf (opNumbered op) (maskIn lhs) (now (left .entry)) (maskIn rhs) (now (right .entry)) (now (out .entry))) ⌝ }
+    ensures bytes { λ _. ⌜ now (out .exit) ≡ combineBytes (opNumbered op) (maskIn lhs) (now (left .entry)) (maskIn rhs) (now (right .entry)) (now (out .entry)) ⌝ }
+{
+    let a = mask_in(lhs);
+    let b = mask_in(rhs);
     if op == 0 {
-        return combined_out(and(mask_in(lhs), left, mask_in(rhs), right, out));
+        return combined_out(and(a, left, b, right, out));
     }
     if op == 1 {
-        return combined_out(and_not(mask_in(lhs), left, mask_in(rhs), right, out));
+        return combined_out(and_not(a, left, b, right, out));
     }
     if op == 2 {
-        return combined_out(or(mask_in(lhs), left, mask_in(rhs), right, out));
+        return combined_out(or(a, left, b, right, out));
     }
     if op == 3 {
-        return combined_out(or_not(mask_in(lhs), left, mask_in(rhs), right, out));
+        return combined_out(or_not(a, left, b, right, out));
     }
     if op == 4 {
-        return combined_out(xor(mask_in(lhs), left, mask_in(rhs), right, out));
+        return combined_out(xor(a, left, b, right, out));
     }
-    MaskAnswer {
-        refusal: NO_SUCH_OPERATION,
-        mask: no_mask(),
-    }
+    mask_answer(NO_SUCH_OPERATION, no_mask())
 }
 
 // Each flag turned.
 #[no_mangle]
-pub extern "C" fn pw_not(mask: Mask, bytes: &[u8], out: &mut [u8]) -> MaskAnswer {
+pub extern "C" fn pw_not(mask: Mask, bytes: &[u8], out: &mut [u8]) -> MaskAnswer
+    ensures answer { λ r. ⌜ r ≡ asMask (eachOf (notChecks (maskIn mask) (now (bytes .entry)) (length (now (out .entry)))) (maskIn mask ∷ []) (maskIn mask .length)) ⌝ }
+    ensures bytes { λ _. ⌜ now (out .exit) ≡ eachBytes (notChecks (maskIn mask) (now (bytes .entry)) (length (now (out .entry)))) (notFlags (maskIn mask) (now (bytes .entry))) (now (out .entry)) ⌝ }
+{
     combined_out(not(mask_in(mask), bytes, out))
 }
 
@@ -75,7 +84,12 @@ pub extern "C" fn pw_select(
     falsy: Mask,
     no: &[u8],
     out: &mut [u8],
-) -> MaskAnswer {
+) -> MaskAnswer
+    ensures answer { λ r. ⌜ r ≡ asMask (eachOf (selectChecks (maskIn selector) (now (by .entry)) (maskIn truthy) (now (yes .entry)) (maskIn falsy) (now (no .entry)) (length (now (out .entry))))
+        (maskIn selector ∷ maskIn truthy ∷ maskIn falsy ∷ []) (maskIn selector .length)) ⌝ }
+    ensures bytes { λ _. ⌜ now (out .exit) ≡ eachBytes (selectChecks (maskIn selector) (now (by .entry)) (maskIn truthy) (now (yes .entry)) (maskIn falsy) (now (no .entry)) (length (now (out .entry))))
+        (selectFlags (maskIn selector) (now (by .entry)) (maskIn truthy) (now (yes .entry)) (maskIn falsy) (now (no .entry))) (now (out .entry)) ⌝ }
+{
     combined_out(select(
         mask_in(selector),
         by,
@@ -96,6 +110,10 @@ pub extern "C" fn pw_select_constant(
     yes: &[u8],
     flag: bool,
     out: &mut [u8],
-) -> MaskAnswer {
+) -> MaskAnswer
+    ensures answer { λ r. ⌜ r ≡ asMask (eachOf (pairChecks (maskIn selector) (now (by .entry)) (maskIn truthy) (now (yes .entry)) (length (now (out .entry)))) (maskIn selector ∷ maskIn truthy ∷ []) (maskIn selector .length)) ⌝ }
+    ensures bytes { λ _. ⌜ now (out .exit) ≡ eachBytes (pairChecks (maskIn selector) (now (by .entry)) (maskIn truthy) (now (yes .entry)) (length (now (out .entry))))
+        (selectConstantFlags (maskIn selector) (now (by .entry)) (maskIn truthy) (now (yes .entry)) flag) (now (out .entry)) ⌝ }
+{
     combined_out(select_constant(mask_in(selector), by, mask_in(truthy), yes, flag, out))
 }

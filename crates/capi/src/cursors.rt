@@ -1,12 +1,22 @@
 // The cursors over runs, flags and positions.
+ghost use mathlib.Core.Path.{_≡_};
+ghost use mathlib.Core.Bool.{true, false};
+ghost use Rattle.words.specs.Flags.{digit};
+ghost use Rattle.masks.specs.Iterator.{flagAnswer, iterAnswer, iterAt, newIter, nthFlag, takeLeading, takenAnswer};
+ghost use Rattle.masks.specs.SliceIterator.{newSlices, nextSlice, sliceAnswer, slicesAnswer, slicesAt};
+ghost use Rattle.masks.specs.TrueIdx.{newTrue, nextTrue, trueIdxAnswer, trueIterAnswer};
+ghost use Rattle.capi.specs.Answers.{asBit, asCursor, asRun, asTaken, asWord};
+ghost use Rattle.capi.specs.Records.{iterOut, iterPlace, maskIn, optionalIn, slicesOut, slicesPlace, trueIn, trueOut, truePlace};
+use crate::answers::CursorAnswer;
+use crate::answers::StepAnswer;
+use crate::answers::cursor_answer;
+use crate::answers::step_of;
 use crate::records::Cursor;
-use crate::records::CursorAnswer;
 use crate::records::Mask;
-use crate::records::StepAnswer;
-use crate::records::cursor_at;
+use crate::records::cursor_of;
 use crate::records::mask_in;
+use crate::records::no_cursor;
 use crate::records::optional_in;
-use crate::records::step;
 use masks::iterator::BitmapIter;
 use masks::iterator::Flag;
 use masks::iterator::Iter;
@@ -18,118 +28,210 @@ use masks::true_idx::TrueIdx;
 use masks::true_idx::TrueIdxIter;
 use masks::true_idx::TrueIter;
 
-fn new_cursor(refusal: u8, cursor: Cursor) -> CursorAnswer {
-    CursorAnswer {
-        refusal: refusal,
-        cursor: cursor,
+// ---- runs
+
+fn slices_in(start: usize, length: usize, place: usize) -> SlicesIterator
+    ensures { λ r. ⌜ r ≡ slicesAt start length place ⌝ }
+{
+    SlicesIterator {
+        start: start,
+        length: length,
+        place: place,
     }
 }
 
-fn no_cursor(refusal: u8) -> CursorAnswer {
-    new_cursor(refusal, cursor_at(0, 0, 0, 0))
+fn slices_out(c: SlicesIterator) -> Cursor
+    ensures { λ r. ⌜ r ≡ slicesOut c ⌝ }
+{
+    cursor_of(c.start, c.length, c.place, 1)
 }
 
-// ---- runs
+fn new_slices_out(r: Slices) -> CursorAnswer
+    ensures { λ a. ⌜ a ≡ asCursor slicesOut (slicesAnswer r) ⌝ }
+{
+    match r {
+        Slices::Cursor(c) => cursor_answer(0, slices_out(c)),
+        Slices::Refused(k) => cursor_answer(k, no_cursor()),
+    }
+}
 
-fn slices_out(c: SlicesIterator) -> Cursor {
-    cursor_at(c.start, c.length, c.place, 1)
+fn slice_out(r: Slice) -> StepAnswer
+    ensures { λ a. ⌜ a ≡ asRun slicesPlace (sliceAnswer r) ⌝ }
+{
+    match r {
+        Slice::Next(run, c) => step_of(0, true, run.start as u64, run.length, c.place),
+        Slice::Done(c) => step_of(0, false, 0, 0, c.place),
+        Slice::Refused(k, c) => step_of(k, false, 0, 0, c.place),
+    }
 }
 
 // A cursor before the first run of ones.
 #[no_mangle]
-pub extern "C" fn pw_slices_new(mask: Mask, bytes: &[u8]) -> CursorAnswer {
-    match SlicesIterator::new(mask_in(mask), bytes) {
-        Slices::Cursor(c) => new_cursor(0, slices_out(c)),
-        Slices::Refused(k) => no_cursor(k),
-    }
+pub extern "C" fn pw_slices_new(mask: Mask, bytes: &[u8]) -> CursorAnswer
+    ensures { λ r. ⌜ r ≡ asCursor slicesOut (newSlices (maskIn mask) (now (bytes .entry))) ⌝ }
+{
+    new_slices_out(SlicesIterator::new(mask_in(mask), bytes))
 }
 
 // The next run of ones: its start and its length.
 #[no_mangle]
-pub extern "C" fn pw_slices_next(cursor: Cursor, bytes: &[u8]) -> StepAnswer {
-    let own = SlicesIterator {
-        start: cursor.start,
-        length: cursor.length,
-        place: cursor.place,
-    };
-    match own.next(bytes) {
-        Slice::Next(run, c) => step(0, true, run.start as u64, run.length, slices_out(c)),
-        Slice::Done(c) => step(0, false, 0, 0, slices_out(c)),
-        Slice::Refused(k, c) => step(k, false, 0, 0, slices_out(c)),
-    }
+pub extern "C" fn pw_slices_next(
+    start: usize,
+    length: usize,
+    place: usize,
+    bytes: &[u8],
+) -> StepAnswer
+    ensures { λ r. ⌜ r ≡ asRun slicesPlace (nextSlice (slicesAt start length place) (now (bytes .entry))) ⌝ }
+{
+    slice_out(slices_in(start, length, place).next(bytes))
 }
 
 // ---- flags
 
-fn iter_in(c: Cursor) -> BitmapIter {
+fn iter_in(start: usize, length: usize, place: usize) -> BitmapIter
+    ensures { λ r. ⌜ r ≡ iterAt start length place ⌝ }
+{
     BitmapIter {
-        start: c.start,
-        length: c.length,
-        place: c.place,
+        start: start,
+        length: length,
+        place: place,
     }
 }
 
-fn iter_out(c: BitmapIter) -> Cursor {
-    cursor_at(c.start, c.length, c.place, 1)
+fn iter_out(c: BitmapIter) -> Cursor
+    ensures { λ r. ⌜ r ≡ iterOut c ⌝ }
+{
+    cursor_of(c.start, c.length, c.place, 1)
 }
 
-fn flag_value(x: bool) -> u64 {
+fn new_iter_out(r: Iter) -> CursorAnswer
+    ensures { λ a. ⌜ a ≡ asCursor iterOut (iterAnswer r) ⌝ }
+{
+    match r {
+        Iter::Cursor(c) => cursor_answer(0, iter_out(c)),
+        Iter::Refused(k) => cursor_answer(k, no_cursor()),
+    }
+}
+
+fn flag_value(x: bool) -> u64
+    ensures { λ r. ⌜ r ≡ digit x ⌝ }
+{
     if x { 1 } else { 0 }
 }
 
-fn flag_out(r: Flag) -> StepAnswer {
+fn flag_out(r: Flag) -> StepAnswer
+    ensures { λ a. ⌜ a ≡ asBit iterPlace (flagAnswer r) ⌝ }
+{
     match r {
-        Flag::Next(x, c) => step(0, true, flag_value(x), 0, iter_out(c)),
-        Flag::Done(c) => step(0, false, 0, 0, iter_out(c)),
-        Flag::Refused(k, c) => step(k, false, 0, 0, iter_out(c)),
+        Flag::Next(x, c) => step_of(0, true, flag_value(x), 0, c.place),
+        Flag::Done(c) => step_of(0, false, 0, 0, c.place),
+        Flag::Refused(k, c) => step_of(k, false, 0, 0, c.place),
     }
 }
 
-fn taken_out(r: Taken) -> StepAnswer {
+fn taken_out(r: Taken) -> StepAnswer
+    ensures { λ a. ⌜ a ≡ asTaken iterPlace (takenAnswer r) ⌝ }
+{
     match r {
-        Taken::Took(n, c) => step(0, true, 0, n, iter_out(c)),
-        Taken::Refused(k, c) => step(k, false, 0, 0, iter_out(c)),
+        Taken::Took(n, c) => step_of(0, true, 0, n, c.place),
+        Taken::Refused(k, c) => step_of(k, false, 0, 0, c.place),
     }
 }
 
 // A cursor before the first flag of a span.
 #[no_mangle]
-pub extern "C" fn pw_iter_new(bytes: &[u8], start: usize, length: usize) -> CursorAnswer {
-    match BitmapIter::new(bytes, start, length) {
-        Iter::Cursor(c) => new_cursor(0, iter_out(c)),
-        Iter::Refused(k) => no_cursor(k),
-    }
+pub extern "C" fn pw_iter_new(bytes: &[u8], start: usize, length: usize) -> CursorAnswer
+    ensures { λ r. ⌜ r ≡ asCursor iterOut (newIter (now (bytes .entry)) start length) ⌝ }
+{
+    new_iter_out(BitmapIter::new(bytes, start, length))
 }
 
 // The next flag.
 #[no_mangle]
-pub extern "C" fn pw_iter_next(cursor: Cursor, bytes: &[u8]) -> StepAnswer {
-    flag_out(iter_in(cursor).next(bytes))
+pub extern "C" fn pw_iter_next(
+    start: usize,
+    length: usize,
+    place: usize,
+    bytes: &[u8],
+) -> StepAnswer
+    ensures { λ r. ⌜ r ≡ asBit iterPlace (nthFlag (iterAt start length place) (now (bytes .entry)) 0) ⌝ }
+{
+    flag_out(iter_in(start, length, place).next(bytes))
 }
 
 // The flag n places on.
 #[no_mangle]
-pub extern "C" fn pw_iter_nth(cursor: Cursor, bytes: &[u8], n: usize) -> StepAnswer {
-    flag_out(iter_in(cursor).nth(bytes, n))
+pub extern "C" fn pw_iter_nth(
+    start: usize,
+    length: usize,
+    place: usize,
+    bytes: &[u8],
+    n: usize,
+) -> StepAnswer
+    ensures { λ r. ⌜ r ≡ asBit iterPlace (nthFlag (iterAt start length place) (now (bytes .entry)) n) ⌝ }
+{
+    flag_out(iter_in(start, length, place).nth(bytes, n))
 }
 
 // How many flags that equal `flag` stand next; the cursor moves past them.
 #[no_mangle]
-pub extern "C" fn pw_take_leading(flag: bool, cursor: Cursor, bytes: &[u8]) -> StepAnswer {
+pub extern "C" fn pw_take_leading(
+    flag: bool,
+    start: usize,
+    length: usize,
+    place: usize,
+    bytes: &[u8],
+) -> StepAnswer
+    ensures { λ r. ⌜ r ≡ asTaken iterPlace (takeLeading flag (iterAt start length place) (now (bytes .entry))) ⌝ }
+{
     if flag {
-        return taken_out(iter_in(cursor).take_leading_ones(bytes));
+        return taken_out(iter_in(start, length, place).take_leading_ones(bytes));
     }
-    taken_out(iter_in(cursor).take_leading_zeros(bytes))
+    taken_out(iter_in(start, length, place).take_leading_zeros(bytes))
 }
 
 // ---- positions of ones
 
-fn masked_value(x: bool) -> u8 {
+fn true_in(start: usize, length: usize, place: usize, masked: u8) -> TrueIdxIter
+    ensures { λ r. ⌜ r ≡ trueIn start length place masked ⌝ }
+{
+    TrueIdxIter {
+        start: start,
+        length: length,
+        place: place,
+        masked: masked != 0,
+    }
+}
+
+fn masked_value(x: bool) -> u8
+    ensures { λ r. ⌜ r ≡ digit x ⌝ }
+{
     if x { 1 } else { 0 }
 }
 
-fn true_out(c: TrueIdxIter) -> Cursor {
-    cursor_at(c.start, c.length, c.place, masked_value(c.masked))
+fn true_out(c: TrueIdxIter) -> Cursor
+    ensures { λ r. ⌜ r ≡ trueOut c ⌝ }
+{
+    cursor_of(c.start, c.length, c.place, masked_value(c.masked))
+}
+
+fn new_true_out(r: TrueIter) -> CursorAnswer
+    ensures { λ a. ⌜ a ≡ asCursor trueOut (trueIterAnswer r) ⌝ }
+{
+    match r {
+        TrueIter::Cursor(c) => cursor_answer(0, true_out(c)),
+        TrueIter::Refused(k) => cursor_answer(k, no_cursor()),
+    }
+}
+
+fn true_idx_out(r: TrueIdx) -> StepAnswer
+    ensures { λ a. ⌜ a ≡ asWord truePlace (trueIdxAnswer r) ⌝ }
+{
+    match r {
+        TrueIdx::Index(p, c) => step_of(0, true, p as u64, 0, c.place),
+        TrueIdx::Done(c) => step_of(0, false, 0, 0, c.place),
+        TrueIdx::Refused(k, c) => step_of(k, false, 0, 0, c.place),
+    }
 }
 
 // A cursor before the first position. Without a mask every position is given.
@@ -139,25 +241,22 @@ pub extern "C" fn pw_true_idx_new(
     present: bool,
     mask: Mask,
     bytes: &[u8],
-) -> CursorAnswer {
-    match TrueIdxIter::new(length, optional_in(present, mask), bytes) {
-        TrueIter::Cursor(c) => new_cursor(0, true_out(c)),
-        TrueIter::Refused(k) => no_cursor(k),
-    }
+) -> CursorAnswer
+    ensures { λ r. ⌜ r ≡ asCursor trueOut (newTrue length (optionalIn present mask) (now (bytes .entry))) ⌝ }
+{
+    new_true_out(TrueIdxIter::new(length, optional_in(present, mask), bytes))
 }
 
 // The next position of a one.
 #[no_mangle]
-pub extern "C" fn pw_true_idx_next(cursor: Cursor, bytes: &[u8]) -> StepAnswer {
-    let own = TrueIdxIter {
-        start: cursor.start,
-        length: cursor.length,
-        place: cursor.place,
-        masked: cursor.masked != 0,
-    };
-    match own.next(bytes) {
-        TrueIdx::Index(p, c) => step(0, true, p as u64, 0, true_out(c)),
-        TrueIdx::Done(c) => step(0, false, 0, 0, true_out(c)),
-        TrueIdx::Refused(k, c) => step(k, false, 0, 0, true_out(c)),
-    }
+pub extern "C" fn pw_true_idx_next(
+    start: usize,
+    length: usize,
+    place: usize,
+    masked: u8,
+    bytes: &[u8],
+) -> StepAnswer
+    ensures { λ r. ⌜ r ≡ asWord truePlace (nextTrue (trueIn start length place masked) (now (bytes .entry))) ⌝ }
+{
+    true_idx_out(true_in(start, length, place, masked).next(bytes))
 }

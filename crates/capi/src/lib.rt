@@ -3,11 +3,14 @@
 //
 // Nothing is decided here: each export turns its numbers into the call's records, makes the call, and turns the answer into
 // numbers.
+mod answers;
 pub mod builder;
+pub mod chunks;
 pub mod combine;
 pub mod cursors;
 pub mod mask;
+pub mod reassign;
 mod records;
 pub mod search;
 pub mod spans;
-pub mod words_calls;
+pub mod word;

@@ -1,9 +1,16 @@
 // The calls that make a mask, cut it, count it and compare it.
-use crate::records::Flag;
+ghost use mathlib.Core.Path.{_≡_};
+ghost use Rattle.masks.specs.Compare.{commonOf, comparedAnswer, edgesOf, eqOf};
+ghost use Rattle.masks.specs.Mask.{countingAnswer, emptyMask, madeAnswer, newZeroedBytes, newZeroedOf, slicedAnswer, sliceOf, tryNewOf, unsetBitsOf};
+ghost use Rattle.capi.specs.Answers.{asFlag, asMask, asNumber, asSameMask, asZeros};
+ghost use Rattle.capi.specs.Records.{maskIn, maskOut};
+use crate::answers::Flag;
+use crate::answers::MaskAnswer;
+use crate::answers::Number;
+use crate::answers::ZerosAnswer;
+use crate::answers::flag_of;
+use crate::answers::mask_answer;
 use crate::records::Mask;
-use crate::records::MaskAnswer;
-use crate::records::Number;
-use crate::records::ZerosAnswer;
 use crate::records::mask_in;
 use crate::records::mask_out;
 use crate::records::no_mask;
@@ -17,56 +24,28 @@ use masks::compare::eq;
 use masks::compare::num_edges;
 use masks::compare::num_intersections_with;
 
-fn made_out(r: Made) -> MaskAnswer {
+fn made_out(r: Made) -> MaskAnswer
+    ensures { λ a. ⌜ a ≡ asMask (madeAnswer r) ⌝ }
+{
     match r {
-        Made::Mask(m) => MaskAnswer {
-            refusal: 0,
-            mask: mask_out(m),
-        },
-        Made::Refused(k) => MaskAnswer {
-            refusal: k,
-            mask: no_mask(),
-        },
+        Made::Mask(m) => mask_answer(0, mask_out(m)),
+        Made::Refused(k) => mask_answer(k, no_mask()),
     }
 }
 
-// The empty mask.
-#[no_mangle]
-pub extern "C" fn pw_bitmap_new() -> Mask {
-    mask_out(Bitmap::new())
-}
-
-// A mask of so many zeros, written as frozen bytes over the front of the output.
-#[no_mangle]
-pub extern "C" fn pw_new_zeroed(length: usize, out: &mut [u8]) -> MaskAnswer {
-    made_out(Bitmap::new_zeroed(length, out))
-}
-
-// A mask over lent bytes, its zeros not counted yet.
-#[no_mangle]
-pub extern "C" fn pw_try_new(bytes: &[u8], start: usize, length: usize) -> MaskAnswer {
-    made_out(Bitmap::try_new(bytes, start, length))
-}
-
-// The piece of `length` flags from `offset` on.
-#[no_mangle]
-pub extern "C" fn pw_slice(mask: Mask, bytes: &[u8], offset: usize, length: usize) -> MaskAnswer {
-    match mask_in(mask).slice(bytes, offset, length) {
-        Sliced::Mask(m) => MaskAnswer {
-            refusal: 0,
-            mask: mask_out(m),
-        },
-        Sliced::Refused(k, m) => MaskAnswer {
-            refusal: k,
-            mask: mask_out(m),
-        },
+fn sliced_out(r: Sliced) -> MaskAnswer
+    ensures { λ a. ⌜ a ≡ asSameMask (slicedAnswer r) ⌝ }
+{
+    match r {
+        Sliced::Mask(m) => mask_answer(0, mask_out(m)),
+        Sliced::Refused(k, m) => mask_answer(k, mask_out(m)),
     }
 }
 
-// The zeros of a mask, and the mask with its count known.
-#[no_mangle]
-pub extern "C" fn pw_unset_bits(mask: Mask, bytes: &[u8]) -> ZerosAnswer {
-    match mask_in(mask).unset_bits(bytes) {
+fn counting_out(r: Counting) -> ZerosAnswer
+    ensures { λ a. ⌜ a ≡ asZeros (countingAnswer r) ⌝ }
+{
+    match r {
         Counting::Zeros(z, m) => ZerosAnswer {
             refusal: 0,
             zeros: z,
@@ -80,24 +59,69 @@ pub extern "C" fn pw_unset_bits(mask: Mask, bytes: &[u8]) -> ZerosAnswer {
     }
 }
 
+fn compared_out(r: Compared) -> Flag
+    ensures { λ a. ⌜ a ≡ asFlag (comparedAnswer r) ⌝ }
+{
+    match r {
+        Compared::Equal(x) => flag_of(0, x),
+        Compared::Refused(k) => flag_of(k, false),
+    }
+}
+
+// The empty mask.
+#[no_mangle]
+pub extern "C" fn pw_bitmap_new() -> Mask
+    ensures { λ r. ⌜ r ≡ maskOut emptyMask ⌝ }
+{
+    mask_out(Bitmap::new())
+}
+
+// A mask of so many zeros, written as frozen bytes over the front of the output.
+#[no_mangle]
+pub extern "C" fn pw_new_zeroed(length: usize, out: &mut [u8]) -> MaskAnswer
+    ensures answer { λ r. ⌜ r ≡ asMask (newZeroedOf length (now (out .entry))) ⌝ }
+    ensures bytes { λ _. ⌜ now (out .exit) ≡ newZeroedBytes length (now (out .entry)) ⌝ }
+{
+    made_out(Bitmap::new_zeroed(length, out))
+}
+
+// A mask over lent bytes, its zeros not counted yet.
+#[no_mangle]
+pub extern "C" fn pw_try_new(bytes: &[u8], start: usize, length: usize) -> MaskAnswer
+    ensures { λ r. ⌜ r ≡ asMask (tryNewOf (now (bytes .entry)) start length) ⌝ }
+{
+    made_out(Bitmap::try_new(bytes, start, length))
+}
+
+// The piece of `length` flags from `offset` on.
+#[no_mangle]
+pub extern "C" fn pw_slice(mask: Mask, bytes: &[u8], offset: usize, length: usize) -> MaskAnswer
+    ensures { λ r. ⌜ r ≡ asSameMask (sliceOf (maskIn mask) (now (bytes .entry)) offset length) ⌝ }
+{
+    sliced_out(mask_in(mask).slice(bytes, offset, length))
+}
+
+// The zeros of a mask, and the mask with its count known.
+#[no_mangle]
+pub extern "C" fn pw_unset_bits(mask: Mask, bytes: &[u8]) -> ZerosAnswer
+    ensures { λ r. ⌜ r ≡ asZeros (unsetBitsOf (maskIn mask) (now (bytes .entry))) ⌝ }
+{
+    counting_out(mask_in(mask).unset_bits(bytes))
+}
+
 // Are the lengths and all flags equal.
 #[no_mangle]
-pub extern "C" fn pw_eq(lhs: Mask, left: &[u8], rhs: Mask, right: &[u8]) -> Flag {
-    match eq(mask_in(lhs), left, mask_in(rhs), right) {
-        Compared::Equal(x) => Flag {
-            refusal: 0,
-            value: x,
-        },
-        Compared::Refused(k) => Flag {
-            refusal: k,
-            value: false,
-        },
-    }
+pub extern "C" fn pw_eq(lhs: Mask, left: &[u8], rhs: Mask, right: &[u8]) -> Flag
+    ensures { λ r. ⌜ r ≡ asFlag (eqOf (maskIn lhs) (now (left .entry)) (maskIn rhs) (now (right .entry))) ⌝ }
+{
+    compared_out(eq(mask_in(lhs), left, mask_in(rhs), right))
 }
 
 // How many neighbours differ.
 #[no_mangle]
-pub extern "C" fn pw_num_edges(mask: Mask, bytes: &[u8]) -> Number {
+pub extern "C" fn pw_num_edges(mask: Mask, bytes: &[u8]) -> Number
+    ensures { λ r. ⌜ r ≡ asNumber (edgesOf (maskIn mask) (now (bytes .entry))) ⌝ }
+{
     counted_out(num_edges(mask_in(mask), bytes))
 }
 
@@ -108,6 +132,8 @@ pub extern "C" fn pw_num_intersections_with(
     left: &[u8],
     rhs: Mask,
     right: &[u8],
-) -> Number {
+) -> Number
+    ensures { λ r. ⌜ r ≡ asNumber (commonOf (maskIn lhs) (now (left .entry)) (maskIn rhs) (now (right .entry))) ⌝ }
+{
     counted_out(num_intersections_with(mask_in(lhs), left, mask_in(rhs), right))
 }

@@ -1,5 +1,7 @@
 // The records that cross, and what each is as a record of masks.
-use masks::aligned::AlignedBitmapSlice;
+ghost use mathlib.Core.Path.{_≡_};
+ghost use Rattle.words.specs.Flags.{digit};
+ghost use Rattle.capi.specs.Records.{builderIn, builderOut, countIn, cursorOf, maskIn, maskOut, noCursor, noMask, optionalIn};
 use masks::bitmap::Bitmap;
 use masks::bitmap::Optional;
 use masks::bitmap::Unset;
@@ -24,6 +26,9 @@ pub struct Builder {
 
 // A cursor: a span and the next place in it. `masked` is read by `pw_true_idx_next` alone, where 0 says that there is no mask;
 // every other call gives it as 1.
+//
+// A builder and a cursor are given as a record and go in again as its numbers, which stay in registers: a record that is handed on
+// from call to call through memory costs several times the call.
 #[repr(C)]
 pub struct Cursor {
     pub start: usize,
@@ -32,96 +37,9 @@ pub struct Cursor {
     pub masked: u8,
 }
 
-// In each answer `refusal` is the number of the first check that failed, or 0. On refusal a record is the one that the call got,
-// where it got one of that kind; every other field is 0.
-
-#[repr(C)]
-pub struct Number {
-    pub refusal: u8,
-    pub value: usize,
-}
-
-#[repr(C)]
-pub struct Flag {
-    pub refusal: u8,
-    pub value: bool,
-}
-
-#[repr(C)]
-pub struct Position {
-    pub refusal: u8,
-    pub found: bool,
-    pub value: usize,
-}
-
-#[repr(C)]
-pub struct MaskAnswer {
-    pub refusal: u8,
-    pub mask: Mask,
-}
-
-// No mask where all flags are set.
-#[repr(C)]
-pub struct ValidityAnswer {
-    pub refusal: u8,
-    pub present: bool,
-    pub mask: Mask,
-}
-
-#[repr(C)]
-pub struct ZerosAnswer {
-    pub refusal: u8,
-    pub zeros: usize,
-    pub mask: Mask,
-}
-
-#[repr(C)]
-pub struct BuilderAnswer {
-    pub refusal: u8,
-    pub builder: Builder,
-}
-
-#[repr(C)]
-pub struct CursorAnswer {
-    pub refusal: u8,
-    pub cursor: Cursor,
-}
-
-// What a cursor gives, and the cursor behind it. `value` is a word, a run's start, a flag or a position; `count` is a run's
-// length, the flags of a remainder or the flags taken.
-#[repr(C)]
-pub struct StepAnswer {
-    pub refusal: u8,
-    pub found: bool,
-    pub value: u64,
-    pub count: usize,
-    pub cursor: Cursor,
-}
-
-#[repr(C)]
-pub struct SplitAnswer {
-    pub refusal: u8,
-    pub prefix: u64,
-    pub prefix_len: usize,
-    pub bulk_start: usize,
-    pub bulk_len: usize,
-    pub suffix: u64,
-    pub suffix_len: usize,
-}
-
-#[repr(C)]
-pub struct SpansAnswer {
-    pub refusal: u8,
-    pub first_start: usize,
-    pub first_length: usize,
-    pub second_start: usize,
-    pub second_length: usize,
-}
-
-// The number for an operation that there is none of.
-pub const NO_SUCH_OPERATION: u8 = 255;
-
-fn count_in(zeros: usize, known: u8) -> Unset {
+fn count_in(zeros: usize, known: u8) -> Unset
+    ensures { λ r. ⌜ r ≡ countIn zeros known ⌝ }
+{
     if known == 0 {
         Unset::Unknown
     } else {
@@ -129,7 +47,9 @@ fn count_in(zeros: usize, known: u8) -> Unset {
     }
 }
 
-pub(crate) fn mask_in(m: Mask) -> Bitmap {
+pub(crate) fn mask_in(m: Mask) -> Bitmap
+    ensures { λ r. ⌜ r ≡ maskIn m ⌝ }
+{
     let unset = count_in(m.zeros, m.known);
     Bitmap {
         start: m.start,
@@ -138,7 +58,9 @@ pub(crate) fn mask_in(m: Mask) -> Bitmap {
     }
 }
 
-pub(crate) fn mask_out(m: Bitmap) -> Mask {
+pub(crate) fn mask_out(m: Bitmap) -> Mask
+    ensures { λ r. ⌜ r ≡ maskOut m ⌝ }
+{
     let unset = m.unset;
     match unset {
         Unset::Known(z) => Mask {
@@ -156,15 +78,9 @@ pub(crate) fn mask_out(m: Bitmap) -> Mask {
     }
 }
 
-pub(crate) fn optional_in(present: bool, m: Mask) -> Optional {
-    if present {
-        Optional::Present(mask_in(m))
-    } else {
-        Optional::Absent
-    }
-}
-
-pub(crate) fn no_mask() -> Mask {
+pub(crate) fn no_mask() -> Mask
+    ensures { λ r. ⌜ r ≡ noMask ⌝ }
+{
     Mask {
         start: 0,
         length: 0,
@@ -173,15 +89,30 @@ pub(crate) fn no_mask() -> Mask {
     }
 }
 
-pub(crate) fn builder_in(b: Builder) -> BitmapBuilder {
-    BitmapBuilder {
-        length: b.length,
-        word: b.word,
-        ones: b.ones,
+// The record of an absent mask is not read.
+pub(crate) fn optional_in(present: bool, m: Mask) -> Optional
+    ensures { λ r. ⌜ r ≡ optionalIn present m ⌝ }
+{
+    if present {
+        Optional::Present(mask_in(m))
+    } else {
+        Optional::Absent
     }
 }
 
-pub(crate) fn builder_out(b: BitmapBuilder) -> Builder {
+pub(crate) fn builder_in(length: usize, word: u64, ones: usize) -> BitmapBuilder
+    ensures { λ r. ⌜ r ≡ builderIn length word ones ⌝ }
+{
+    BitmapBuilder {
+        length: length,
+        word: word,
+        ones: ones,
+    }
+}
+
+pub(crate) fn builder_out(b: BitmapBuilder) -> Builder
+    ensures { λ r. ⌜ r ≡ builderOut b ⌝ }
+{
     Builder {
         length: b.length,
         word: b.word,
@@ -189,19 +120,9 @@ pub(crate) fn builder_out(b: BitmapBuilder) -> Builder {
     }
 }
 
-pub(crate) fn split_out(s: AlignedBitmapSlice) -> SplitAnswer {
-    SplitAnswer {
-        refusal: 0,
-        prefix: s.prefix,
-        prefix_len: s.prefix_len,
-        bulk_start: s.bulk_start,
-        bulk_len: s.bulk_len,
-        suffix: s.suffix,
-        suffix_len: s.suffix_len,
-    }
-}
-
-pub(crate) fn cursor_at(start: usize, length: usize, place: usize, masked: u8) -> Cursor {
+pub(crate) fn cursor_of(start: usize, length: usize, place: usize, masked: u8) -> Cursor
+    ensures { λ r. ⌜ r ≡ cursorOf start length place masked ⌝ }
+{
     Cursor {
         start: start,
         length: length,
@@ -210,25 +131,8 @@ pub(crate) fn cursor_at(start: usize, length: usize, place: usize, masked: u8) -
     }
 }
 
-pub(crate) fn number_of(refusal: u8, value: usize) -> Number {
-    Number {
-        refusal: refusal,
-        value: value,
-    }
-}
-
-pub(crate) fn step(
-    refusal: u8,
-    found: bool,
-    value: u64,
-    count: usize,
-    cursor: Cursor,
-) -> StepAnswer {
-    StepAnswer {
-        refusal: refusal,
-        found: found,
-        value: value,
-        count: count,
-        cursor: cursor,
-    }
+pub(crate) fn no_cursor() -> Cursor
+    ensures { λ r. ⌜ r ≡ noCursor ⌝ }
+{
+    cursor_of(0, 0, 0, 0)
 }

@@ -1,31 +1,20 @@
-// The searches for the n-th set flag, and whether a truck may be reassigned.
-use crate::records::Flag;
-use crate::records::Mask;
-use crate::records::Position;
-use crate::records::optional_in;
-use dispatch::dispatch::Reassign;
-use dispatch::dispatch::may_reassign;
+// The searches for the n-th set flag of a span.
+ghost use mathlib.Core.Path.{_≡_};
+ghost use Rattle.masks.specs.Search.{positionAnswer, searchBack, searchFrom};
+ghost use Rattle.capi.specs.Answers.{asPosition};
+use crate::answers::Position;
+use crate::answers::position_of;
 use masks::bitmask::Position as Found;
 use masks::bitmask::nth_set_bit_idx;
 use masks::bitmask::nth_set_bit_idx_rev;
 
-fn position_out(r: Found) -> Position {
+fn position_out(r: Found) -> Position
+    ensures { λ a. ⌜ a ≡ asPosition (positionAnswer r) ⌝ }
+{
     match r {
-        Found::At(p) => Position {
-            refusal: 0,
-            found: true,
-            value: p,
-        },
-        Found::Missing => Position {
-            refusal: 0,
-            found: false,
-            value: 0,
-        },
-        Found::Refused(k) => Position {
-            refusal: k,
-            found: false,
-            value: 0,
-        },
+        Found::At(p) => position_of(0, true, p),
+        Found::Missing => position_of(0, false, 0),
+        Found::Refused(k) => position_of(k, false, 0),
     }
 }
 
@@ -37,7 +26,9 @@ pub extern "C" fn pw_nth_set_bit_idx(
     length: usize,
     n: usize,
     from: usize,
-) -> Position {
+) -> Position
+    ensures { λ r. ⌜ r ≡ asPosition (searchFrom (now (bytes .entry)) start length n from) ⌝ }
+{
     position_out(nth_set_bit_idx(bytes, start, length, n, from))
 }
 
@@ -49,35 +40,8 @@ pub extern "C" fn pw_nth_set_bit_idx_rev(
     length: usize,
     n: usize,
     end: usize,
-) -> Position {
+) -> Position
+    ensures { λ r. ⌜ r ≡ asPosition (searchBack (now (bytes .entry)) start length n end) ⌝ }
+{
     position_out(nth_set_bit_idx_rev(bytes, start, length, n, end))
-}
-
-// May truck number `truck` be reassigned. An absent permission stands for ones, an absent revocation for zeros.
-#[no_mangle]
-pub extern "C" fn pw_may_reassign(
-    permitted: bool,
-    permission: Mask,
-    permission_bytes: &[u8],
-    revoked: bool,
-    revocation: Mask,
-    revocation_bytes: &[u8],
-    truck: usize,
-) -> Flag {
-    match may_reassign(
-        optional_in(permitted, permission),
-        permission_bytes,
-        optional_in(revoked, revocation),
-        revocation_bytes,
-        truck,
-    ) {
-        Reassign::May(x) => Flag {
-            refusal: 0,
-            value: x,
-        },
-        Reassign::Refused(k) => Flag {
-            refusal: k,
-            value: false,
-        },
-    }
 }

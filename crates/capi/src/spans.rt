@@ -1,25 +1,21 @@
-// The calls over bare spans: the aligned split, the counts, the words of a span, its two parts, a window.
-use crate::records::Cursor;
-use crate::records::CursorAnswer;
-use crate::records::NO_SUCH_OPERATION;
-use crate::records::Number;
-use crate::records::SpansAnswer;
-use crate::records::SplitAnswer;
-use crate::records::StepAnswer;
-use crate::records::cursor_at;
-use crate::records::number_of;
-use crate::records::split_out;
-use crate::records::step;
+// The calls over bare spans: the aligned split, the counts, a span cut in two, a window.
+ghost use mathlib.Core.Path.{_≡_};
+ghost use Rattle.masks.specs.Aligned.{alignedAnswer, alignedOf};
+ghost use Rattle.masks.specs.Bitmask.{partsAnswer, splitAt, windowAnswer, windowAt};
+ghost use Rattle.masks.specs.Utils.{countedAnswer};
+ghost use Rattle.capi.specs.Answers.{asNumber, asSpans, asSplit};
+ghost use Rattle.capi.specs.Spans.{countNumbered, countOf};
+use crate::answers::NO_SUCH_OPERATION;
+use crate::answers::Number;
+use crate::answers::SpansAnswer;
+use crate::answers::SplitAnswer;
+use crate::answers::number_of;
 use masks::aligned::Aligned;
 use masks::aligned::AlignedBitmapSlice;
 use masks::bitmask::Parts;
 use masks::bitmask::Window;
 use masks::bitmask::get_u32;
 use masks::bitmask::split_at_unchecked;
-use masks::chunks::BitChunks;
-use masks::chunks::Chunk;
-use masks::chunks::Chunks;
-use masks::chunks::Remainder;
 use masks::utils::Counted;
 use masks::utils::count_zeros;
 use masks::utils::leading_ones;
@@ -27,16 +23,19 @@ use masks::utils::leading_zeros;
 use masks::utils::trailing_ones;
 use masks::utils::trailing_zeros;
 
-// The span's prefix, whole words and suffix, where the first byte stands at an address whose remainder by 8 is `address`.
-#[no_mangle]
-pub extern "C" fn pw_aligned_new(
-    bytes: &[u8],
-    start: usize,
-    length: usize,
-    address: usize,
-) -> SplitAnswer {
-    match AlignedBitmapSlice::new(bytes, start, length, address) {
-        Aligned::Split(s) => split_out(s),
+fn aligned_out(r: Aligned) -> SplitAnswer
+    ensures { λ a. ⌜ a ≡ asSplit (alignedAnswer r) ⌝ }
+{
+    match r {
+        Aligned::Split(s) => SplitAnswer {
+            refusal: 0,
+            prefix: s.prefix,
+            prefix_len: s.prefix_len,
+            bulk_start: s.bulk_start,
+            bulk_len: s.bulk_len,
+            suffix: s.suffix,
+            suffix_len: s.suffix_len,
+        },
         Aligned::Refused(k) => SplitAnswer {
             refusal: k,
             prefix: 0,
@@ -49,11 +48,56 @@ pub extern "C" fn pw_aligned_new(
     }
 }
 
-pub(crate) fn counted_out(r: Counted) -> Number {
+pub(crate) fn counted_out(r: Counted) -> Number
+    ensures { λ a. ⌜ a ≡ asNumber (countedAnswer r) ⌝ }
+{
     match r {
         Counted::Count(n) => number_of(0, n),
         Counted::Refused(k) => number_of(k, 0),
     }
+}
+
+fn parts_out(r: Parts) -> SpansAnswer
+    ensures { λ a. ⌜ a ≡ asSpans (partsAnswer r) ⌝ }
+{
+    match r {
+        Parts::Two(a, b) => SpansAnswer {
+            refusal: 0,
+            first_start: a.start,
+            first_length: a.length,
+            second_start: b.start,
+            second_length: b.length,
+        },
+        Parts::Refused(k) => SpansAnswer {
+            refusal: k,
+            first_start: 0,
+            first_length: 0,
+            second_start: 0,
+            second_length: 0,
+        },
+    }
+}
+
+fn window_out(r: Window) -> Number
+    ensures { λ a. ⌜ a ≡ asNumber (windowAnswer r) ⌝ }
+{
+    match r {
+        Window::Flags(w) => number_of(0, w as usize),
+        Window::Refused(k) => number_of(k, 0),
+    }
+}
+
+// The span's prefix, whole words and suffix, where the first byte stands at an address whose remainder by 8 is `address`.
+#[no_mangle]
+pub extern "C" fn pw_aligned_new(
+    bytes: &[u8],
+    start: usize,
+    length: usize,
+    address: usize,
+) -> SplitAnswer
+    ensures { λ r. ⌜ r ≡ asSplit (alignedOf (now (bytes .entry)) start length address) ⌝ }
+{
+    aligned_out(AlignedBitmapSlice::new(bytes, start, length, address))
 }
 
 // The count number `what`: 0 all zeros, 1 leading zeros, 2 leading ones, 3 trailing zeros, 4 trailing ones.
@@ -64,7 +108,9 @@ pub extern "C" fn pw_count(
     start: usize,
     length: usize,
     address: usize,
-) -> Number {
+) -> Number
+    ensures { λ r. ⌜ r ≡ asNumber (countOf (countNumbered what) (now (bytes .entry)) start length address) ⌝ }
+{
     if what == 0 {
         return counted_out(count_zeros(bytes, start, length, address));
     }
@@ -83,62 +129,6 @@ pub extern "C" fn pw_count(
     number_of(NO_SUCH_OPERATION, 0)
 }
 
-fn chunks_in(c: Cursor) -> BitChunks {
-    BitChunks {
-        start: c.start,
-        length: c.length,
-        place: c.place,
-    }
-}
-
-fn chunks_cursor(c: BitChunks) -> Cursor {
-    cursor_at(c.start, c.length, c.place, 1)
-}
-
-fn chunks_out(r: Chunks) -> CursorAnswer {
-    match r {
-        Chunks::Cursor(c) => CursorAnswer {
-            refusal: 0,
-            cursor: chunks_cursor(c),
-        },
-        Chunks::Refused(k) => CursorAnswer {
-            refusal: k,
-            cursor: cursor_at(0, 0, 0, 0),
-        },
-    }
-}
-
-// A cursor at the first word of a span.
-#[no_mangle]
-pub extern "C" fn pw_chunks_new(bytes: &[u8], start: usize, length: usize) -> CursorAnswer {
-    chunks_out(BitChunks::new(bytes, start, length))
-}
-
-// A cursor at the first word of the first flags of the bytes.
-#[no_mangle]
-pub extern "C" fn pw_chunks_new_exact(bytes: &[u8], length: usize) -> CursorAnswer {
-    chunks_out(BitChunks::new_exact(bytes, length))
-}
-
-// The next word.
-#[no_mangle]
-pub extern "C" fn pw_chunks_next(cursor: Cursor, bytes: &[u8]) -> StepAnswer {
-    match chunks_in(cursor).next(bytes) {
-        Chunk::Word(w, c) => step(0, true, w, 0, chunks_cursor(c)),
-        Chunk::Done(c) => step(0, false, 0, 0, chunks_cursor(c)),
-        Chunk::Refused(k, c) => step(k, false, 0, 0, chunks_cursor(c)),
-    }
-}
-
-// The flags behind the last whole word, as a word, and their number. The cursor stays where it is.
-#[no_mangle]
-pub extern "C" fn pw_chunks_remainder(cursor: Cursor, bytes: &[u8]) -> StepAnswer {
-    match chunks_in(cursor).remainder(bytes) {
-        Remainder::Rest(w, n) => step(0, true, w, n, cursor_at(0, 0, 0, 0)),
-        Remainder::Refused(k, c) => step(k, false, 0, 0, chunks_cursor(c)),
-    }
-}
-
 // The spans before and behind flag `at`.
 #[no_mangle]
 pub extern "C" fn pw_split_at_unchecked(
@@ -146,30 +136,16 @@ pub extern "C" fn pw_split_at_unchecked(
     start: usize,
     length: usize,
     at: usize,
-) -> SpansAnswer {
-    match split_at_unchecked(bytes, start, length, at) {
-        Parts::Two(a, b) => SpansAnswer {
-            refusal: 0,
-            first_start: a.start,
-            first_length: a.length,
-            second_start: b.start,
-            second_length: b.length,
-        },
-        Parts::Refused(k) => SpansAnswer {
-            refusal: k,
-            first_start: 0,
-            first_length: 0,
-            second_start: 0,
-            second_length: 0,
-        },
-    }
+) -> SpansAnswer
+    ensures { λ r. ⌜ r ≡ asSpans (splitAt (now (bytes .entry)) start length at) ⌝ }
+{
+    parts_out(split_at_unchecked(bytes, start, length, at))
 }
 
 // 32 flags from `index` on, zeros past the end.
 #[no_mangle]
-pub extern "C" fn pw_get_u32(bytes: &[u8], start: usize, length: usize, index: usize) -> Number {
-    match get_u32(bytes, start, length, index) {
-        Window::Flags(w) => number_of(0, w as usize),
-        Window::Refused(k) => number_of(k, 0),
-    }
+pub extern "C" fn pw_get_u32(bytes: &[u8], start: usize, length: usize, index: usize) -> Number
+    ensures { λ r. ⌜ r ≡ asNumber (windowAt (now (bytes .entry)) start length index) ⌝ }
+{
+    window_out(get_u32(bytes, start, length, index))
 }

@@ -1,0 +1,3 @@
+-- The laws of the crate.
+pub mod NumberLaws
+pub mod RecordLaws

@@ -1,0 +1,23 @@
+use borrow.Author.Needs.{needs}
+use Rattle.capi.proofs.builder.pw_extend_constant.Statement.{statement}
+use Rattle.capi.proofs.builder.pw_extend_constant.Tie as tie
+
+builder-in-requires : tie.Need-builder-in-requires
+builder-in-requires c κs = search needs
+
+extend-constant-requires : tie.Need-extend-constant-requires
+extend-constant-requires c κs = search needs
+
+pushed-out-requires : tie.Need-pushed-out-requires
+pushed-out-requires c κs = search needs
+
+same-length : tie.Need-same-length
+same-length c = search needs
+
+returns : tie.Need-returns
+returns c = (cc, cc)
+
+pub pw-extend-constant-spec : {M : Type 1} → statement M
+pw-extend-constant-spec =
+    tie.close
+    (tie.spec builder-in-requires extend-constant-requires pushed-out-requires same-length returns)

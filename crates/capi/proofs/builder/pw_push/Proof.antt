@@ -1,0 +1,22 @@
+use borrow.Author.Needs.{needs}
+use Rattle.capi.proofs.builder.pw_push.Statement.{statement}
+use Rattle.capi.proofs.builder.pw_push.Tie as tie
+
+builder-in-requires : tie.Need-builder-in-requires
+builder-in-requires c κs = search needs
+
+push-requires : tie.Need-push-requires
+push-requires c κs = search needs
+
+pushed-out-requires : tie.Need-pushed-out-requires
+pushed-out-requires c κs = search needs
+
+same-length : tie.Need-same-length
+same-length c = search needs
+
+returns : tie.Need-returns
+returns c = (cc, cc)
+
+pub pw-push-spec : {M : Type 1} → statement M
+pw-push-spec =
+    tie.close (tie.spec builder-in-requires push-requires pushed-out-requires same-length returns)

@@ -1,0 +1,15 @@
+use borrow.Author.Needs.{needs}
+use Rattle.capi.proofs.chunks.pw_chunks_new.Statement.{statement}
+use Rattle.capi.proofs.chunks.pw_chunks_new.Tie as tie
+
+new-requires : tie.Need-new-requires
+new-requires c κs = search needs
+
+new-out-requires : tie.Need-new-out-requires
+new-out-requires c κs = search needs
+
+returns : tie.Need-returns
+returns c = cc
+
+pub pw-chunks-new-spec : {M : Type 1} → statement M
+pw-chunks-new-spec = tie.close (tie.spec new-requires new-out-requires returns)

@@ -1,0 +1,35 @@
+use Rattle.capi.specs.Answers.{asRemainder}
+use borrow.Author.Needs.{needs}
+use Rattle.capi.proofs.chunks.remainder_out.Statement.{statement}
+use Rattle.capi.proofs.chunks.remainder_out.Tie as tie
+
+enum-known-r : tie.Need-enum-known-r
+enum-known-r c = search needs
+
+step-of-requires : tie.Need-step-of-requires
+step-of-requires c κs = search needs
+
+enum-known-r-2 : tie.Need-enum-known-r-2
+enum-known-r-2 c = search needs
+
+step-of-requires-2 : tie.Need-step-of-requires-2
+step-of-requires-2 c κs = search needs
+
+returns : tie.Need-returns
+unfolding asRemainder
+returns c = rw (c .before .before .r .given .1) (cc)
+
+returns-2 : tie.Need-returns-2
+unfolding asRemainder
+returns-2 c = rw (c .before .before .r2 .given .1) (cc)
+
+pub remainder-out-spec : {M : Type 1} → statement M
+remainder-out-spec =
+    tie.close
+    (tie.spec
+    enum-known-r
+    step-of-requires
+    enum-known-r-2
+    step-of-requires-2
+    returns
+    returns-2)

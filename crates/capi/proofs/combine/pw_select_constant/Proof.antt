@@ -1,0 +1,32 @@
+use borrow.Author.Needs.{needs}
+use Rattle.capi.proofs.combine.pw_select_constant.Statement.{statement}
+use Rattle.capi.proofs.combine.pw_select_constant.Tie as tie
+
+mask-in-requires : tie.Need-mask-in-requires
+mask-in-requires c κs = search needs
+
+mask-in-requires-2 : tie.Need-mask-in-requires-2
+mask-in-requires-2 c κs = search needs
+
+select-constant-requires : tie.Need-select-constant-requires
+select-constant-requires c κs = search needs
+
+combined-out-requires : tie.Need-combined-out-requires
+combined-out-requires c κs = search needs
+
+same-length : tie.Need-same-length
+same-length c = search needs
+
+returns : tie.Need-returns
+returns c = (cc, cc)
+
+pub pw-select-constant-spec : {M : Type 1} → statement M
+pw-select-constant-spec =
+    tie.close
+    (tie.spec
+    mask-in-requires
+    mask-in-requires-2
+    select-constant-requires
+    combined-out-requires
+    same-length
+    returns)

@@ -1,0 +1,43 @@
+use Rattle.capi.specs.Answers.{asCursor}
+use borrow.Author.Needs.{needs}
+use Rattle.capi.proofs.cursors.new_iter_out.Statement.{statement}
+use Rattle.capi.proofs.cursors.new_iter_out.Tie as tie
+
+enum-known-r : tie.Need-enum-known-r
+enum-known-r c = search needs
+
+iter-out-requires : tie.Need-iter-out-requires
+iter-out-requires c κs = search needs
+
+cursor-answer-requires : tie.Need-cursor-answer-requires
+cursor-answer-requires c κs = search needs
+
+enum-known-r-2 : tie.Need-enum-known-r-2
+enum-known-r-2 c = search needs
+
+no-cursor-requires : tie.Need-no-cursor-requires
+no-cursor-requires c κs = search needs
+
+cursor-answer-requires-2 : tie.Need-cursor-answer-requires-2
+cursor-answer-requires-2 c κs = search needs
+
+returns : tie.Need-returns
+unfolding asCursor
+returns c = rw (c .before .before .before .r .given .1) (cc)
+
+returns-2 : tie.Need-returns-2
+unfolding asCursor
+returns-2 c = rw (c .before .before .before .r2 .given .1) (cc)
+
+pub new-iter-out-spec : {M : Type 1} → statement M
+new-iter-out-spec =
+    tie.close
+    (tie.spec
+    enum-known-r
+    iter-out-requires
+    cursor-answer-requires
+    enum-known-r-2
+    no-cursor-requires
+    cursor-answer-requires-2
+    returns
+    returns-2)

@@ -1,0 +1,18 @@
+use borrow.Author.Needs.{needs}
+use Rattle.capi.proofs.cursors.pw_iter_next.Statement.{statement}
+use Rattle.capi.proofs.cursors.pw_iter_next.Tie as tie
+
+iter-in-requires : tie.Need-iter-in-requires
+iter-in-requires c κs = search needs
+
+next-requires : tie.Need-next-requires
+next-requires c κs = search needs
+
+flag-out-requires : tie.Need-flag-out-requires
+flag-out-requires c κs = search needs
+
+returns : tie.Need-returns
+returns c = cc
+
+pub pw-iter-next-spec : {M : Type 1} → statement M
+pw-iter-next-spec = tie.close (tie.spec iter-in-requires next-requires flag-out-requires returns)

@@ -1,0 +1,17 @@
+use Rattle.capi.specs.Records.{trueOut}
+use borrow.Author.Needs.{needs}
+use Rattle.capi.proofs.cursors.true_out.Statement.{statement}
+use Rattle.capi.proofs.cursors.true_out.Tie as tie
+
+masked-value-requires : tie.Need-masked-value-requires
+masked-value-requires c κs = search needs
+
+cursor-of-requires : tie.Need-cursor-of-requires
+cursor-of-requires c κs = search needs
+
+returns : tie.Need-returns
+unfolding trueOut
+returns c = cc
+
+pub true-out-spec : {M : Type 1} → statement M
+true-out-spec = tie.close (tie.spec masked-value-requires cursor-of-requires returns)

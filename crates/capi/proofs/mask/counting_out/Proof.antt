@@ -1,0 +1,29 @@
+use Rattle.capi.specs.Answers.{asZeros}
+use borrow.Author.Needs.{needs}
+use Rattle.capi.proofs.mask.counting_out.Statement.{statement}
+use Rattle.capi.proofs.mask.counting_out.Tie as tie
+
+enum-known-r : tie.Need-enum-known-r
+enum-known-r c = search needs
+
+mask-out-requires : tie.Need-mask-out-requires
+mask-out-requires c κs = search needs
+
+enum-known-r-2 : tie.Need-enum-known-r-2
+enum-known-r-2 c = search needs
+
+mask-out-requires-2 : tie.Need-mask-out-requires-2
+mask-out-requires-2 c κs = search needs
+
+returns : tie.Need-returns
+unfolding asZeros
+returns c = rw (c .before .before .r .given .1) (cc)
+
+returns-2 : tie.Need-returns-2
+unfolding asZeros
+returns-2 c = rw (c .before .before .r2 .given .1) (cc)
+
+pub counting-out-spec : {M : Type 1} → statement M
+counting-out-spec =
+    tie.close
+    (tie.spec enum-known-r mask-out-requires enum-known-r-2 mask-out-requires-2 returns returns-2)

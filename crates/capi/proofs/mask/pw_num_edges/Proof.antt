@@ -1,0 +1,19 @@
+use borrow.Author.Needs.{needs}
+use Rattle.capi.proofs.mask.pw_num_edges.Statement.{statement}
+use Rattle.capi.proofs.mask.pw_num_edges.Tie as tie
+
+mask-in-requires : tie.Need-mask-in-requires
+mask-in-requires c κs = search needs
+
+num-edges-requires : tie.Need-num-edges-requires
+num-edges-requires c κs = search needs
+
+counted-out-requires : tie.Need-counted-out-requires
+counted-out-requires c κs = search needs
+
+returns : tie.Need-returns
+returns c = cc
+
+pub pw-num-edges-spec : {M : Type 1} → statement M
+pw-num-edges-spec =
+    tie.close (tie.spec mask-in-requires num-edges-requires counted-out-requires returns)

@@ -1,0 +1,28 @@
+use borrow.Author.Needs.{needs}
+use Rattle.capi.proofs.mask.pw_num_intersections_with.Statement.{statement}
+use Rattle.capi.proofs.mask.pw_num_intersections_with.Tie as tie
+
+mask-in-requires : tie.Need-mask-in-requires
+mask-in-requires c κs = search needs
+
+mask-in-requires-2 : tie.Need-mask-in-requires-2
+mask-in-requires-2 c κs = search needs
+
+num-intersections-with-requires : tie.Need-num-intersections-with-requires
+num-intersections-with-requires c κs = search needs
+
+counted-out-requires : tie.Need-counted-out-requires
+counted-out-requires c κs = search needs
+
+returns : tie.Need-returns
+returns c = cc
+
+pub pw-num-intersections-with-spec : {M : Type 1} → statement M
+pw-num-intersections-with-spec =
+    tie.close
+    (tie.spec
+    mask-in-requires
+    mask-in-requires-2
+    num-intersections-with-requires
+    counted-out-requires
+    returns)

@@ -1,0 +1,19 @@
+use borrow.Author.Needs.{needs}
+use Rattle.capi.proofs.mask.pw_unset_bits.Statement.{statement}
+use Rattle.capi.proofs.mask.pw_unset_bits.Tie as tie
+
+mask-in-requires : tie.Need-mask-in-requires
+mask-in-requires c κs = search needs
+
+unset-bits-requires : tie.Need-unset-bits-requires
+unset-bits-requires c κs = search needs
+
+counting-out-requires : tie.Need-counting-out-requires
+counting-out-requires c κs = search needs
+
+returns : tie.Need-returns
+returns c = cc
+
+pub pw-unset-bits-spec : {M : Type 1} → statement M
+pw-unset-bits-spec =
+    tie.close (tie.spec mask-in-requires unset-bits-requires counting-out-requires returns)

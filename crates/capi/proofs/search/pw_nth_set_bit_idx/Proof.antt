@@ -1,0 +1,16 @@
+use borrow.Author.Needs.{needs}
+use Rattle.capi.proofs.search.pw_nth_set_bit_idx.Statement.{statement}
+use Rattle.capi.proofs.search.pw_nth_set_bit_idx.Tie as tie
+
+nth-set-bit-idx-requires : tie.Need-nth-set-bit-idx-requires
+nth-set-bit-idx-requires c κs = search needs
+
+position-out-requires : tie.Need-position-out-requires
+position-out-requires c κs = search needs
+
+returns : tie.Need-returns
+returns c = cc
+
+pub pw-nth-set-bit-idx-spec : {M : Type 1} → statement M
+pw-nth-set-bit-idx-spec =
+    tie.close (tie.spec nth-set-bit-idx-requires position-out-requires returns)

@@ -1,0 +1,21 @@
+use Rattle.capi.specs.Answers.{asSpans}
+use borrow.Author.Needs.{needs}
+use Rattle.capi.proofs.spans.parts_out.Statement.{statement}
+use Rattle.capi.proofs.spans.parts_out.Tie as tie
+
+enum-known-r : tie.Need-enum-known-r
+enum-known-r c = search needs
+
+enum-known-r-2 : tie.Need-enum-known-r-2
+enum-known-r-2 c = search needs
+
+returns : tie.Need-returns
+unfolding asSpans
+returns c = rw (c .before .r .given .1) (cc)
+
+returns-2 : tie.Need-returns-2
+unfolding asSpans
+returns-2 c = rw (c .before .r2 .given .1) (cc)
+
+pub parts-out-spec : {M : Type 1} → statement M
+parts-out-spec = tie.close (tie.spec enum-known-r enum-known-r-2 returns returns-2)

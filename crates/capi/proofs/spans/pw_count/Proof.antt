@@ -1,0 +1,84 @@
+use borrow.Author.Needs.{needs}
+use Rattle.capi.specs.Answers.{asNumber, numbered}
+use Rattle.capi.proofs.NumberLaws.{past-five, past-numbered}
+use Rattle.capi.proofs.spans.pw_count.Statement.{statement}
+use Rattle.capi.proofs.spans.pw_count.Tie as tie
+
+count-zeros-requires : tie.Need-count-zeros-requires
+count-zeros-requires c κs = search needs
+
+counted-out-requires : tie.Need-counted-out-requires
+counted-out-requires c κs = search needs
+
+returns : tie.Need-returns
+unfolding numbered
+returns c = rw (c .before .before .if1 .taken) (cc)
+
+leading-zeros-requires : tie.Need-leading-zeros-requires
+leading-zeros-requires c κs = search needs
+
+counted-out-requires-2 : tie.Need-counted-out-requires-2
+counted-out-requires-2 c κs = search needs
+
+returns-2 : tie.Need-returns-2
+unfolding numbered
+returns-2 c = rw (c .before .before .if2 .taken) (cc)
+
+leading-ones-requires : tie.Need-leading-ones-requires
+leading-ones-requires c κs = search needs
+
+counted-out-requires-3 : tie.Need-counted-out-requires-3
+counted-out-requires-3 c κs = search needs
+
+returns-3 : tie.Need-returns-3
+unfolding numbered
+returns-3 c = rw (c .before .before .if3 .taken) (cc)
+
+trailing-zeros-requires : tie.Need-trailing-zeros-requires
+trailing-zeros-requires c κs = search needs
+
+counted-out-requires-4 : tie.Need-counted-out-requires-4
+counted-out-requires-4 c κs = search needs
+
+returns-4 : tie.Need-returns-4
+unfolding numbered
+returns-4 c = rw (c .before .before .if4 .taken) (cc)
+
+trailing-ones-requires : tie.Need-trailing-ones-requires
+trailing-ones-requires c κs = search needs
+
+counted-out-requires-5 : tie.Need-counted-out-requires-5
+counted-out-requires-5 c κs = search needs
+
+returns-5 : tie.Need-returns-5
+unfolding numbered
+returns-5 c = rw (c .before .before .if5 .taken) (cc)
+
+number-of-requires : tie.Need-number-of-requires
+number-of-requires c κs = search needs
+
+returns-6 : tie.Need-returns-6
+unfolding asNumber
+returns-6 c = rw (past-numbered _ _ (past-five _ (c .before .before .before .before .before .if1 .left) (c .before .before .before .before .if2 .left) (c .before .before .before .if3 .left) (c .before .before .if4 .left) (c .before .if5 .left))) (cc)
+
+pub pw-count-spec : {M : Type 1} → statement M
+pw-count-spec =
+    tie.close
+    (tie.spec
+    count-zeros-requires
+    counted-out-requires
+    returns
+    leading-zeros-requires
+    counted-out-requires-2
+    returns-2
+    leading-ones-requires
+    counted-out-requires-3
+    returns-3
+    trailing-zeros-requires
+    counted-out-requires-4
+    returns-4
+    trailing-ones-requires
+    counted-out-requires-5
+    returns-5
+    number-of-requires
+    returns-6)

@@ -1,0 +1,15 @@
+use borrow.Author.Needs.{needs}
+use Rattle.capi.proofs.word.pw_nth_set_bit_u32.Statement.{statement}
+use Rattle.capi.proofs.word.pw_nth_set_bit_u32.Tie as tie
+
+nth-set-bit-u32-requires : tie.Need-nth-set-bit-u32-requires
+nth-set-bit-u32-requires c κs = search needs
+
+nth-out-requires : tie.Need-nth-out-requires
+nth-out-requires c κs = search needs
+
+returns : tie.Need-returns
+returns c = cc
+
+pub pw-nth-set-bit-u32-spec : {M : Type 1} → statement M
+pw-nth-set-bit-u32-spec = tie.close (tie.spec nth-set-bit-u32-requires nth-out-requires returns)

@@ -1,0 +1,161 @@
+-- The records in which answers cross: a definition for each, whatever call gives it. Assumes nothing.
+--
+-- `refusal` is 0, or the number of the refusing check. On refusal a record is the one that the call got, where it got one of
+-- that kind; every other field is 0.
+use Prim.Native.Nat.{ℕ, zero, suc}
+use mathlib.Core.Bool.{Bool, true, false}
+use mathlib.Core.List.{List, [], _∷_}
+use mathlib.Core.Option.{Option, none, some}
+use Rattle.words.specs.Flags.{digit}
+use Rattle.words.specs.declared.nth.Nth.{Nth}
+use Rattle.words.specs.declared.nth.Nth.the-variants.{At, Missing}
+use Rattle.masks.specs.Answer.{Answer, given, refused}
+use Rattle.masks.specs.Cursor.{Step, item, ended}
+use Rattle.masks.specs.Mask.{Recounted}
+use Rattle.masks.specs.declared.aligned.AlignedBitmapSlice.{AlignedBitmapSlice}
+use Rattle.masks.specs.declared.bitmap.Bitmap.{Bitmap}
+use Rattle.masks.specs.declared.bitmask.Span.{Span}
+use Rattle.masks.specs.declared.builder.BitmapBuilder.{BitmapBuilder}
+use Rattle.masks.specs.declared.slice_iterator.Run.{Run}
+use Rattle.capi.specs.Records.{maskOut, noMask, builderOut, noCursor}
+use Rattle.capi.specs.declared.answers.BuilderAnswer.{BuilderAnswer}
+use Rattle.capi.specs.declared.answers.CursorAnswer.{CursorAnswer}
+use Rattle.capi.specs.declared.answers.Flag.{Flag}
+use Rattle.capi.specs.declared.answers.MaskAnswer.{MaskAnswer}
+use Rattle.capi.specs.declared.answers.Number.{Number}
+use Rattle.capi.specs.declared.answers.Position.{Position}
+use Rattle.capi.specs.declared.answers.SpansAnswer.{SpansAnswer}
+use Rattle.capi.specs.declared.answers.SplitAnswer.{SplitAnswer}
+use Rattle.capi.specs.declared.answers.StepAnswer.{StepAnswer}
+use Rattle.capi.specs.declared.answers.ValidityAnswer.{ValidityAnswer}
+use Rattle.capi.specs.declared.answers.ZerosAnswer.{ZerosAnswer}
+use Rattle.capi.specs.declared.records.Cursor.{Cursor}
+use Rattle.capi.specs.declared.records.Mask.{Mask}
+
+-- the number for an operation that there is none of, which no check has
+abbrev pub noSuchOperation : ℕ
+noSuchOperation = 255
+
+-- an operation by its number: the one at that place of a list, counted from 0
+unfoldable pub numbered : {A : Type 0} → List A → ℕ → Option A
+numbered [] n = none
+numbered (a ∷ l) zero = some a
+numbered (a ∷ l) (suc n) = numbered l n
+
+-- ---- a number, a flag, a position
+
+abbrev pub numberOf : ℕ → ℕ → Number
+numberOf k n = record { refusal = k; value = n }
+
+unfoldable pub asNumber : {S : Type 0} → Answer S ℕ → Number
+asNumber (given n) = numberOf 0 n
+asNumber (refused k s) = numberOf k 0
+
+abbrev pub flagOf : ℕ → Bool → Flag
+flagOf k x = record { refusal = k; value = x }
+
+unfoldable pub asFlag : {S : Type 0} → Answer S Bool → Flag
+asFlag (given x) = flagOf 0 x
+asFlag (refused k s) = flagOf k false
+
+abbrev pub positionOf : ℕ → Bool → ℕ → Position
+positionOf k found p = record { refusal = k; found = found; value = p }
+
+unfoldable pub asPosition : {S : Type 0} → Answer S (Option ℕ) → Position
+asPosition (given (some p)) = positionOf 0 true p
+asPosition (given none) = positionOf 0 false 0
+asPosition (refused k s) = positionOf k false 0
+
+-- the set bit of a word, whose call refuses nothing
+unfoldable pub nthAnswer : Nth → Answer (Unit {0}) (Option ℕ)
+nthAnswer (At p) = given (some p)
+nthAnswer Missing = given none
+
+-- ---- a mask
+
+abbrev pub maskAnswer : ℕ → Mask → MaskAnswer
+maskAnswer k m = record { refusal = k; mask = m }
+
+-- of a call that got no mask, or gives none back
+unfoldable pub asMask : {S : Type 0} → Answer S Bitmap → MaskAnswer
+asMask (given m) = maskAnswer 0 (maskOut m)
+asMask (refused k s) = maskAnswer k noMask
+
+-- of a call that gives the mask that it got back
+unfoldable pub asSameMask : Answer Bitmap Bitmap → MaskAnswer
+asSameMask (given m) = maskAnswer 0 (maskOut m)
+asSameMask (refused k m) = maskAnswer k (maskOut m)
+
+abbrev pub validityOf : ℕ → Bool → Mask → ValidityAnswer
+validityOf k present m = record { refusal = k; present = present; mask = m }
+
+unfoldable pub asValidity : {S : Type 0} → Answer S (Option Bitmap) → ValidityAnswer
+asValidity (given (some m)) = validityOf 0 true (maskOut m)
+asValidity (given none) = validityOf 0 false noMask
+asValidity (refused k s) = validityOf k false noMask
+
+unfoldable pub asZeros : Answer Bitmap Recounted → ZerosAnswer
+asZeros (given r) = record { refusal = 0; zeros = r .zeros; mask = maskOut (r .mask) }
+asZeros (refused k m) = record { refusal = k; zeros = 0; mask = maskOut m }
+
+-- ---- a builder
+
+unfoldable pub asBuilder : Answer BitmapBuilder BitmapBuilder → BuilderAnswer
+asBuilder (given b) = record { refusal = 0; builder = builderOut b }
+asBuilder (refused k b) = record { refusal = k; builder = builderOut b }
+
+-- ---- a cursor, and what it gives
+
+abbrev pub cursorAnswer : ℕ → Cursor → CursorAnswer
+cursorAnswer k c = record { refusal = k; cursor = c }
+
+unfoldable pub asCursor : {S C : Type 0} → (C → Cursor) → Answer S C → CursorAnswer
+asCursor out (given c) = cursorAnswer 0 (out c)
+asCursor out (refused k s) = cursorAnswer k noCursor
+
+abbrev pub stepOf : ℕ → Bool → ℕ → ℕ → ℕ → StepAnswer
+stepOf k found value n place = record { refusal = k; found = found; value = value; count = n; place = place }
+
+-- an item as `value` and `count`, and where the cursor behind it stands
+unfoldable pub asStep : {C A : Type 0} → (A → ℕ) → (A → ℕ) → (C → ℕ) → Answer C (Step C A) → StepAnswer
+asStep value count place (given (item a c)) = stepOf 0 true (value a) (count a) (place c)
+asStep value count place (given (ended c)) = stepOf 0 false 0 0 (place c)
+asStep value count place (refused k c) = stepOf k false 0 0 (place c)
+
+-- the item is a number (a word, a position), a flag, a run
+unfoldable pub asWord : {C : Type 0} → (C → ℕ) → Answer C (Step C ℕ) → StepAnswer
+asWord place a = asStep (λ (n : ℕ). n) (λ (n : ℕ). 0) place a
+
+unfoldable pub asBit : {C : Type 0} → (C → ℕ) → Answer C (Step C Bool) → StepAnswer
+asBit place a = asStep digit (λ (x : Bool). 0) place a
+
+unfoldable pub asRun : {C : Type 0} → (C → ℕ) → Answer C (Step C Run) → StepAnswer
+asRun place a = asStep (λ (r : Run). r .start) (λ (r : Run). r .length) place a
+
+-- a number of flags as `count`, and where the cursor past them stands
+unfoldable pub asTaken : {C : Type 0} → (C → ℕ) → Answer C (ℕ × C) → StepAnswer
+asTaken place (given (n, c)) = stepOf 0 true 0 n (place c)
+asTaken place (refused k c) = stepOf k false 0 0 (place c)
+
+-- a word as `value`, the number of its flags as `count`; the call moves no cursor, and gives no place
+unfoldable pub asRemainder : {C : Type 0} → Answer C (ℕ × ℕ) → StepAnswer
+asRemainder (given (w, n)) = stepOf 0 true w n 0
+asRemainder (refused k c) = stepOf k false 0 0 0
+
+-- ---- a span cut in parts
+
+abbrev pub splitOf : ℕ → ℕ → ℕ → ℕ → ℕ → ℕ → ℕ → SplitAnswer
+splitOf k prefix prefixLen bulkStart bulkLen suffix suffixLen =
+    record { refusal = k; prefix = prefix; «prefix_len» = prefixLen; «bulk_start» = bulkStart; «bulk_len» = bulkLen; suffix = suffix; «suffix_len» = suffixLen }
+
+unfoldable pub asSplit : {S : Type 0} → Answer S AlignedBitmapSlice → SplitAnswer
+asSplit (given s) = splitOf 0 (s .prefix) (s .«prefix_len») (s .«bulk_start») (s .«bulk_len») (s .suffix) (s .«suffix_len»)
+asSplit (refused k s) = splitOf k 0 0 0 0 0 0
+
+abbrev pub spansOf : ℕ → ℕ → ℕ → ℕ → ℕ → SpansAnswer
+spansOf k firstStart firstLength secondStart secondLength =
+    record { refusal = k; «first_start» = firstStart; «first_length» = firstLength; «second_start» = secondStart; «second_length» = secondLength }
+
+unfoldable pub asSpans : {S : Type 0} → Answer S (Span × Span) → SpansAnswer
+asSpans (given (a, b)) = spansOf 0 (a .start) (a .length) (b .start) (b .length)
+asSpans (refused k s) = spansOf k 0 0 0 0

@@ -1,0 +1,157 @@
+// The records in which answers cross. `refusal` is 0, or the number of the refusing check. On refusal a record is the one that
+// the call got, where it got one of that kind; every other field is 0.
+ghost use mathlib.Core.Path.{_≡_};
+ghost use Rattle.capi.specs.Answers.{cursorAnswer, flagOf, maskAnswer, numberOf, positionOf, stepOf};
+use crate::records::Builder;
+use crate::records::Cursor;
+use crate::records::Mask;
+
+#[repr(C)]
+pub struct Number {
+    pub refusal: u8,
+    pub value: usize,
+}
+
+#[repr(C)]
+pub struct Flag {
+    pub refusal: u8,
+    pub value: bool,
+}
+
+#[repr(C)]
+pub struct Position {
+    pub refusal: u8,
+    pub found: bool,
+    pub value: usize,
+}
+
+#[repr(C)]
+pub struct MaskAnswer {
+    pub refusal: u8,
+    pub mask: Mask,
+}
+
+// No mask where all flags are set.
+#[repr(C)]
+pub struct ValidityAnswer {
+    pub refusal: u8,
+    pub present: bool,
+    pub mask: Mask,
+}
+
+#[repr(C)]
+pub struct ZerosAnswer {
+    pub refusal: u8,
+    pub zeros: usize,
+    pub mask: Mask,
+}
+
+#[repr(C)]
+pub struct BuilderAnswer {
+    pub refusal: u8,
+    pub builder: Builder,
+}
+
+#[repr(C)]
+pub struct CursorAnswer {
+    pub refusal: u8,
+    pub cursor: Cursor,
+}
+
+// What a cursor gives, and the place at which it then stands. `value` is a word, a run's start, a flag or a position; `count` is
+// a run's length, the flags of a remainder or the flags taken.
+#[repr(C)]
+pub struct StepAnswer {
+    pub refusal: u8,
+    pub found: bool,
+    pub value: u64,
+    pub count: usize,
+    pub place: usize,
+}
+
+#[repr(C)]
+pub struct SplitAnswer {
+    pub refusal: u8,
+    pub prefix: u64,
+    pub prefix_len: usize,
+    pub bulk_start: usize,
+    pub bulk_len: usize,
+    pub suffix: u64,
+    pub suffix_len: usize,
+}
+
+#[repr(C)]
+pub struct SpansAnswer {
+    pub refusal: u8,
+    pub first_start: usize,
+    pub first_length: usize,
+    pub second_start: usize,
+    pub second_length: usize,
+}
+
+// The number for an operation that there is none of, which no check has.
+pub const NO_SUCH_OPERATION: u8 = 255;
+
+pub(crate) fn number_of(refusal: u8, value: usize) -> Number
+    ensures { λ r. ⌜ r ≡ numberOf refusal value ⌝ }
+{
+    Number {
+        refusal: refusal,
+        value: value,
+    }
+}
+
+pub(crate) fn flag_of(refusal: u8, value: bool) -> Flag
+    ensures { λ r. ⌜ r ≡ flagOf refusal value ⌝ }
+{
+    Flag {
+        refusal: refusal,
+        value: value,
+    }
+}
+
+pub(crate) fn position_of(refusal: u8, found: bool, value: usize) -> Position
+    ensures { λ r. ⌜ r ≡ positionOf refusal found value ⌝ }
+{
+    Position {
+        refusal: refusal,
+        found: found,
+        value: value,
+    }
+}
+
+pub(crate) fn mask_answer(refusal: u8, mask: Mask) -> MaskAnswer
+    ensures { λ r. ⌜ r ≡ maskAnswer refusal mask ⌝ }
+{
+    MaskAnswer {
+        refusal: refusal,
+        mask: mask,
+    }
+}
+
+pub(crate) fn cursor_answer(refusal: u8, cursor: Cursor) -> CursorAnswer
+    ensures { λ r. ⌜ r ≡ cursorAnswer refusal cursor ⌝ }
+{
+    CursorAnswer {
+        refusal: refusal,
+        cursor: cursor,
+    }
+}
+
+pub(crate) fn step_of(
+    refusal: u8,
+    found: bool,
+    value: u64,
+    count: usize,
+    place: usize,
+) -> StepAnswer
+    ensures { λ r. ⌜ r ≡ stepOf refusal found value count place ⌝ }
+{
+    StepAnswer {
+        refusal: refusal,
+        found: found,
+        value: value,
+        count: count,
+        place: place,
+    }
+}

@@ -1,0 +1,43 @@
+// Whether a truck may be reassigned.
+ghost use mathlib.Core.Path.{_≡_};
+ghost use Rattle.dispatch.specs.Dispatch.{mayReassign, reassignAnswer};
+ghost use Rattle.capi.specs.Answers.{asFlag};
+ghost use Rattle.capi.specs.Records.{optionalIn};
+use crate::answers::Flag;
+use crate::answers::flag_of;
+use crate::records::Mask;
+use crate::records::optional_in;
+use dispatch::dispatch::Reassign;
+use dispatch::dispatch::may_reassign;
+
+fn reassign_out(r: Reassign) -> Flag
+    ensures { λ a. ⌜ a ≡ asFlag (reassignAnswer r) ⌝ }
+{
+    match r {
+        Reassign::May(x) => flag_of(0, x),
+        Reassign::Refused(k) => flag_of(k, false),
+    }
+}
+
+// May truck number `truck` be reassigned. `permitted` and `revoked` say whether there is such a mask: an absent permission stands
+// for ones, an absent revocation for zeros.
+#[no_mangle]
+pub extern "C" fn pw_may_reassign(
+    permitted: bool,
+    permission: Mask,
+    permission_bytes: &[u8],
+    revoked: bool,
+    revocation: Mask,
+    revocation_bytes: &[u8],
+    truck: usize,
+) -> Flag
+    ensures { λ r. ⌜ r ≡ asFlag (mayReassign (optionalIn permitted permission) (now («permission_bytes» .entry)) (optionalIn revoked revocation) (now («revocation_bytes» .entry)) truck) ⌝ }
+{
+    reassign_out(may_reassign(
+        optional_in(permitted, permission),
+        permission_bytes,
+        optional_in(revoked, revocation),
+        revocation_bytes,
+        truck,
+    ))
+}

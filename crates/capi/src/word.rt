@@ -1,0 +1,53 @@
+// The calls of words, which refuse nothing.
+ghost use mathlib.Core.Path.{_≡_};
+ghost use Rattle.words.specs.Flags.{bits, flagsOf, window, wordFlags};
+ghost use Rattle.words.specs.Merge.{merged};
+ghost use Rattle.words.specs.Nth.{nthOne};
+ghost use Rattle.capi.specs.Answers.{asPosition, nthAnswer};
+use crate::answers::Position;
+use crate::answers::position_of;
+use words::merge::merge_reversed;
+use words::nth::Nth;
+use words::nth::nth_set_bit_u32;
+use words::nth::nth_set_bit_u64;
+use words::word::load_padded_le_u64;
+
+fn nth_out(r: Nth) -> Position
+    ensures { λ a. ⌜ a ≡ asPosition (nthAnswer r) ⌝ }
+{
+    match r {
+        Nth::At(p) => position_of(0, true, p as usize),
+        Nth::Missing => position_of(0, false, 0),
+    }
+}
+
+// The first eight bytes as a word, absent ones zero.
+#[no_mangle]
+pub extern "C" fn pw_load_padded_le_u64(part: &[u8]) -> u64
+    ensures { λ r. ⌜ wordFlags r ≡ window (flagsOf (now (part .entry))) 0 64 ⌝ }
+{
+    load_padded_le_u64(part)
+}
+
+// The flags of `current` from `offset` on, then the low flags of `next`; `current` at offset 0 and from 64 on.
+#[no_mangle]
+pub extern "C" fn pw_merge_reversed(current: u64, next: u64, offset: usize) -> u64
+    ensures { λ r. ⌜ wordFlags r ≡ merged (wordFlags current) (wordFlags next) offset ⌝ }
+{
+    merge_reversed(current, next, offset)
+}
+
+// The position of set bit n of a word, counted from 0.
+#[no_mangle]
+pub extern "C" fn pw_nth_set_bit_u64(w: u64, n: u64) -> Position
+    ensures { λ r. ⌜ r ≡ asPosition (nthAnswer (nthOne (bits 64 w) n)) ⌝ }
+{
+    nth_out(nth_set_bit_u64(w, n))
+}
+
+#[no_mangle]
+pub extern "C" fn pw_nth_set_bit_u32(w: u32, n: u32) -> Position
+    ensures { λ r. ⌜ r ≡ asPosition (nthAnswer (nthOne (bits 32 w) n)) ⌝ }
+{
+    nth_out(nth_set_bit_u32(w, n))
+}
