@@ -2,7 +2,7 @@
 
 use original::bitmap::iterator::TrueIdxIter;
 use original::bitmap::utils::{BitChunks, BitmapIter, SlicesIterator};
-use poruwhina::calls::{self, Cursor, StepAnswer};
+use poruwhina::calls::{self, Cursor, Step};
 
 use crate::driver::{Driver, Sides};
 use crate::inputs::{Input, Kind};
@@ -12,8 +12,8 @@ use crate::timing::walk;
 fn steps<'a>(
     mut cursor: Cursor,
     bytes: &'a [u8],
-    next: impl Fn(Cursor, &[u8]) -> StepAnswer + 'a,
-) -> impl Iterator<Item = StepAnswer> + 'a {
+    next: impl Fn(Cursor, &[u8]) -> Step + 'a,
+) -> impl Iterator<Item = Step> + 'a {
     std::iter::from_fn(move || {
         let step = next(cursor, bytes);
         cursor = step.cursor;

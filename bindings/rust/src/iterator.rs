@@ -26,14 +26,14 @@ impl<'a> Cursor<'a> {
 
     /// Takes the cursor on to where the answer left it.
     #[inline]
-    fn took(&mut self, answer: calls::StepAnswer) -> calls::StepAnswer {
+    fn took(&mut self, answer: calls::Step) -> calls::Step {
         check_passed(answer.refusal);
         self.record = answer.cursor;
         answer
     }
 
     #[inline]
-    fn step(&mut self, call: impl Fn(calls::Cursor, &[u8]) -> calls::StepAnswer) -> Option<calls::StepAnswer> {
+    fn step(&mut self, call: impl Fn(calls::Cursor, &[u8]) -> calls::Step) -> Option<calls::Step> {
         let answer = self.took(call(self.record, self.bytes));
         answer.found.then_some(answer)
     }
@@ -220,7 +220,7 @@ impl BitChunks<'_> {
         self.rest().count
     }
 
-    fn rest(&self) -> calls::StepAnswer {
+    fn rest(&self) -> calls::Step {
         let answer = calls::chunks_remainder(self.cursor.record, self.cursor.bytes);
         check_passed(answer.refusal);
         answer

@@ -22,7 +22,7 @@ pub fn builder_new() -> Builder {
 /// ```
 #[inline]
 pub fn push(builder: Builder, buf: &mut [u8], flag: bool) -> BuilderAnswer {
-    unsafe { exports::pw_push(builder, buf.as_mut_ptr(), buf.len(), flag) }
+    unsafe { exports::pw_push(builder.length, builder.word, builder.ones, buf.as_mut_ptr(), buf.len(), flag) }
 }
 
 /// Appends `n` copies of a flag.
@@ -37,7 +37,7 @@ pub fn push(builder: Builder, buf: &mut [u8], flag: bool) -> BuilderAnswer {
 /// ```
 #[inline]
 pub fn extend_constant(builder: Builder, buf: &mut [u8], n: usize, flag: bool) -> BuilderAnswer {
-    unsafe { exports::pw_extend_constant(builder, buf.as_mut_ptr(), buf.len(), n, flag) }
+    unsafe { exports::pw_extend_constant(builder.length, builder.word, builder.ones, buf.as_mut_ptr(), buf.len(), n, flag) }
 }
 
 /// Appends the first `n` flags of a word, whose bits from there on are 0.
@@ -51,7 +51,7 @@ pub fn extend_constant(builder: Builder, buf: &mut [u8], n: usize, flag: bool) -
 /// ```
 #[inline]
 pub fn push_word_with_len_unchecked(builder: Builder, buf: &mut [u8], word: u64, n: usize) -> BuilderAnswer {
-    unsafe { exports::pw_push_word_with_len_unchecked(builder, buf.as_mut_ptr(), buf.len(), word, n) }
+    unsafe { exports::pw_push_word_with_len_unchecked(builder.length, builder.word, builder.ones, buf.as_mut_ptr(), buf.len(), word, n) }
 }
 
 /// Appends a span.
@@ -63,7 +63,19 @@ pub fn push_word_with_len_unchecked(builder: Builder, buf: &mut [u8], word: u64,
 /// ```
 #[inline]
 pub fn extend_from_slice(builder: Builder, buf: &mut [u8], bytes: &[u8], start: usize, n: usize) -> BuilderAnswer {
-    unsafe { exports::pw_extend_from_slice(builder, buf.as_mut_ptr(), buf.len(), bytes.as_ptr(), bytes.len(), start, n) }
+    unsafe {
+        exports::pw_extend_from_slice(
+            builder.length,
+            builder.word,
+            builder.ones,
+            buf.as_mut_ptr(),
+            buf.len(),
+            bytes.as_ptr(),
+            bytes.len(),
+            start,
+            n,
+        )
+    }
 }
 
 /// Appends each flag of a span, `repeats` times in turn.
@@ -80,7 +92,9 @@ pub fn extend_each_repeated_from_slice_unchecked(
 ) -> BuilderAnswer {
     unsafe {
         exports::pw_extend_each_repeated_from_slice_unchecked(
-            builder,
+            builder.length,
+            builder.word,
+            builder.ones,
             buf.as_mut_ptr(),
             buf.len(),
             bytes.as_ptr(),
@@ -102,7 +116,20 @@ pub fn extend_each_repeated_from_slice_unchecked(
 /// ```
 #[inline]
 pub fn subslice_extend_from_bitmap(builder: Builder, buf: &mut [u8], mask: Mask, bytes: &[u8], start: usize, n: usize) -> BuilderAnswer {
-    unsafe { exports::pw_subslice_extend_from_bitmap(builder, buf.as_mut_ptr(), buf.len(), mask, bytes.as_ptr(), bytes.len(), start, n) }
+    unsafe {
+        exports::pw_subslice_extend_from_bitmap(
+            builder.length,
+            builder.word,
+            builder.ones,
+            buf.as_mut_ptr(),
+            buf.len(),
+            mask,
+            bytes.as_ptr(),
+            bytes.len(),
+            start,
+            n,
+        )
+    }
 }
 
 /// Appends the flag at each index of a span, all of them below its length.
@@ -117,7 +144,9 @@ pub fn subslice_extend_from_bitmap(builder: Builder, buf: &mut [u8], mask: Mask,
 pub fn gather_extend_from_slice(builder: Builder, buf: &mut [u8], bytes: &[u8], start: usize, n: usize, idxs: &[u32]) -> BuilderAnswer {
     unsafe {
         exports::pw_gather_extend_from_slice(
-            builder,
+            builder.length,
+            builder.word,
+            builder.ones,
             buf.as_mut_ptr(),
             buf.len(),
             bytes.as_ptr(),
@@ -141,7 +170,9 @@ pub fn gather_extend_from_slice(builder: Builder, buf: &mut [u8], bytes: &[u8], 
 pub fn opt_gather_extend_from_slice(builder: Builder, buf: &mut [u8], bytes: &[u8], start: usize, n: usize, idxs: &[u32]) -> BuilderAnswer {
     unsafe {
         exports::pw_opt_gather_extend_from_slice(
-            builder,
+            builder.length,
+            builder.word,
+            builder.ones,
             buf.as_mut_ptr(),
             buf.len(),
             bytes.as_ptr(),
@@ -166,7 +197,7 @@ pub fn opt_gather_extend_from_slice(builder: Builder, buf: &mut [u8], bytes: &[u
 /// ```
 #[inline]
 pub fn freeze(builder: Builder, buf: &mut [u8]) -> MaskAnswer {
-    unsafe { exports::pw_freeze(builder, buf.as_mut_ptr(), buf.len()) }
+    unsafe { exports::pw_freeze(builder.length, builder.word, builder.ones, buf.as_mut_ptr(), buf.len()) }
 }
 
 /// The mask of the builder's flags, written as [`freeze`] does, or none where all flags are set.
@@ -182,5 +213,5 @@ pub fn freeze(builder: Builder, buf: &mut [u8]) -> MaskAnswer {
 /// ```
 #[inline]
 pub fn into_opt_validity(builder: Builder, buf: &mut [u8]) -> ValidityAnswer {
-    unsafe { exports::pw_into_opt_validity(builder, buf.as_mut_ptr(), buf.len()) }
+    unsafe { exports::pw_into_opt_validity(builder.length, builder.word, builder.ones, buf.as_mut_ptr(), buf.len()) }
 }

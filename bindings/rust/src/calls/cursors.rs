@@ -29,8 +29,10 @@ pub fn slices_new(mask: Mask, bytes: &[u8]) -> CursorAnswer {
 /// assert_eq!((second.value, second.count), (2, 2));
 /// ```
 #[inline]
-pub fn slices_next(cursor: Cursor, bytes: &[u8]) -> StepAnswer {
-    unsafe { exports::pw_slices_next(cursor, bytes.as_ptr(), bytes.len()) }
+pub fn slices_next(cursor: Cursor, bytes: &[u8]) -> Step {
+    let Cursor { start, length, place, .. } = cursor;
+    let answer = unsafe { exports::pw_slices_next(start, length, place, bytes.as_ptr(), bytes.len()) };
+    answer.moving(cursor)
 }
 
 /// A cursor before the first flag of a span.
@@ -56,8 +58,10 @@ pub fn iter_new(bytes: &[u8], start: usize, length: usize) -> CursorAnswer {
 /// assert_eq!((step.found, step.value, step.cursor.place), (true, 1, 1));
 /// ```
 #[inline]
-pub fn iter_next(cursor: Cursor, bytes: &[u8]) -> StepAnswer {
-    unsafe { exports::pw_iter_next(cursor, bytes.as_ptr(), bytes.len()) }
+pub fn iter_next(cursor: Cursor, bytes: &[u8]) -> Step {
+    let Cursor { start, length, place, .. } = cursor;
+    let answer = unsafe { exports::pw_iter_next(start, length, place, bytes.as_ptr(), bytes.len()) };
+    answer.moving(cursor)
 }
 
 /// The flag n places on.
@@ -70,8 +74,10 @@ pub fn iter_next(cursor: Cursor, bytes: &[u8]) -> StepAnswer {
 /// assert!(!iter_nth(cursor, &[0x2D], usize::MAX).found);
 /// ```
 #[inline]
-pub fn iter_nth(cursor: Cursor, bytes: &[u8], n: usize) -> StepAnswer {
-    unsafe { exports::pw_iter_nth(cursor, bytes.as_ptr(), bytes.len(), n) }
+pub fn iter_nth(cursor: Cursor, bytes: &[u8], n: usize) -> Step {
+    let Cursor { start, length, place, .. } = cursor;
+    let answer = unsafe { exports::pw_iter_nth(start, length, place, bytes.as_ptr(), bytes.len(), n) };
+    answer.moving(cursor)
 }
 
 /// In `count`, how many flags that equal `flag` stand next; the cursor moves past them.
@@ -84,8 +90,10 @@ pub fn iter_nth(cursor: Cursor, bytes: &[u8], n: usize) -> StepAnswer {
 /// assert_eq!(take_leading(false, taken.cursor, &[0x07]).count, 3);
 /// ```
 #[inline]
-pub fn take_leading(flag: bool, cursor: Cursor, bytes: &[u8]) -> StepAnswer {
-    unsafe { exports::pw_take_leading(flag, cursor, bytes.as_ptr(), bytes.len()) }
+pub fn take_leading(flag: bool, cursor: Cursor, bytes: &[u8]) -> Step {
+    let Cursor { start, length, place, .. } = cursor;
+    let answer = unsafe { exports::pw_take_leading(flag, start, length, place, bytes.as_ptr(), bytes.len()) };
+    answer.moving(cursor)
 }
 
 /// A cursor before the first position. Without a mask (`present` is false) every position is given.
@@ -111,6 +119,8 @@ pub fn true_idx_new(length: usize, present: bool, mask: Mask, bytes: &[u8]) -> C
 /// assert_eq!((step.found, step.value), (true, 2));
 /// ```
 #[inline]
-pub fn true_idx_next(cursor: Cursor, bytes: &[u8]) -> StepAnswer {
-    unsafe { exports::pw_true_idx_next(cursor, bytes.as_ptr(), bytes.len()) }
+pub fn true_idx_next(cursor: Cursor, bytes: &[u8]) -> Step {
+    let Cursor { start, length, place, masked } = cursor;
+    let answer = unsafe { exports::pw_true_idx_next(start, length, place, masked, bytes.as_ptr(), bytes.len()) };
+    answer.moving(cursor)
 }

@@ -11,8 +11,8 @@ unsafe extern "C" {
     pub fn pw_count(what: u8, bytes: *const u8, bytes_len: usize, start: usize, length: usize, address: usize) -> Number;
     pub fn pw_chunks_new(bytes: *const u8, bytes_len: usize, start: usize, length: usize) -> CursorAnswer;
     pub fn pw_chunks_new_exact(bytes: *const u8, bytes_len: usize, length: usize) -> CursorAnswer;
-    pub fn pw_chunks_next(cursor: Cursor, bytes: *const u8, bytes_len: usize) -> StepAnswer;
-    pub fn pw_chunks_remainder(cursor: Cursor, bytes: *const u8, bytes_len: usize) -> StepAnswer;
+    pub fn pw_chunks_next(start: usize, length: usize, place: usize, bytes: *const u8, bytes_len: usize) -> StepAnswer;
+    pub fn pw_chunks_remainder(start: usize, length: usize, place: usize, bytes: *const u8, bytes_len: usize) -> StepAnswer;
     pub fn pw_split_at_unchecked(bytes: *const u8, bytes_len: usize, start: usize, length: usize, at: usize) -> SpansAnswer;
     pub fn pw_get_u32(bytes: *const u8, bytes_len: usize, start: usize, length: usize, index: usize) -> Number;
     pub fn pw_nth_set_bit_idx(bytes: *const u8, bytes_len: usize, start: usize, length: usize, n: usize, from: usize) -> Position;
@@ -22,28 +22,32 @@ unsafe extern "C" {
         revocation_bytes: *const u8, revocation_bytes_len: usize, truck: usize,
     ) -> Flag;
     pub fn pw_builder_new() -> Builder;
-    pub fn pw_push(builder: Builder, buf: *mut u8, buf_len: usize, flag: bool) -> BuilderAnswer;
-    pub fn pw_extend_constant(builder: Builder, buf: *mut u8, buf_len: usize, n: usize, flag: bool) -> BuilderAnswer;
-    pub fn pw_push_word_with_len_unchecked(builder: Builder, buf: *mut u8, buf_len: usize, word: u64, n: usize) -> BuilderAnswer;
+    pub fn pw_push(length: usize, word: u64, ones: usize, buf: *mut u8, buf_len: usize, flag: bool) -> BuilderAnswer;
+    pub fn pw_extend_constant(length: usize, word: u64, ones: usize, buf: *mut u8, buf_len: usize, n: usize, flag: bool) -> BuilderAnswer;
+    pub fn pw_push_word_with_len_unchecked(
+        length: usize, word: u64, ones: usize, buf: *mut u8, buf_len: usize, flags: u64, n: usize,
+    ) -> BuilderAnswer;
     pub fn pw_extend_from_slice(
-        builder: Builder, buf: *mut u8, buf_len: usize, bytes: *const u8, bytes_len: usize, start: usize, n: usize,
+        length: usize, word: u64, ones: usize, buf: *mut u8, buf_len: usize, bytes: *const u8, bytes_len: usize, start: usize, n: usize,
     ) -> BuilderAnswer;
     pub fn pw_extend_each_repeated_from_slice_unchecked(
-        builder: Builder, buf: *mut u8, buf_len: usize, bytes: *const u8, bytes_len: usize, start: usize, n: usize, repeats: usize,
+        length: usize, word: u64, ones: usize, buf: *mut u8, buf_len: usize, bytes: *const u8, bytes_len: usize, start: usize, n: usize,
+        repeats: usize,
     ) -> BuilderAnswer;
     pub fn pw_subslice_extend_from_bitmap(
-        builder: Builder, buf: *mut u8, buf_len: usize, mask: Mask, bytes: *const u8, bytes_len: usize, start: usize, n: usize,
+        length: usize, word: u64, ones: usize, buf: *mut u8, buf_len: usize, mask: Mask, bytes: *const u8, bytes_len: usize, start: usize,
+        n: usize,
     ) -> BuilderAnswer;
     pub fn pw_gather_extend_from_slice(
-        builder: Builder, buf: *mut u8, buf_len: usize, bytes: *const u8, bytes_len: usize, start: usize, n: usize, idxs: *const u32,
-        idxs_len: usize,
+        length: usize, word: u64, ones: usize, buf: *mut u8, buf_len: usize, bytes: *const u8, bytes_len: usize, start: usize, n: usize,
+        idxs: *const u32, idxs_len: usize,
     ) -> BuilderAnswer;
     pub fn pw_opt_gather_extend_from_slice(
-        builder: Builder, buf: *mut u8, buf_len: usize, bytes: *const u8, bytes_len: usize, start: usize, n: usize, idxs: *const u32,
-        idxs_len: usize,
+        length: usize, word: u64, ones: usize, buf: *mut u8, buf_len: usize, bytes: *const u8, bytes_len: usize, start: usize, n: usize,
+        idxs: *const u32, idxs_len: usize,
     ) -> BuilderAnswer;
-    pub fn pw_freeze(builder: Builder, buf: *mut u8, buf_len: usize) -> MaskAnswer;
-    pub fn pw_into_opt_validity(builder: Builder, buf: *mut u8, buf_len: usize) -> ValidityAnswer;
+    pub fn pw_freeze(length: usize, word: u64, ones: usize, buf: *mut u8, buf_len: usize) -> MaskAnswer;
+    pub fn pw_into_opt_validity(length: usize, word: u64, ones: usize, buf: *mut u8, buf_len: usize) -> ValidityAnswer;
     pub fn pw_bitmap_new() -> Mask;
     pub fn pw_new_zeroed(length: usize, out: *mut u8, out_len: usize) -> MaskAnswer;
     pub fn pw_try_new(bytes: *const u8, bytes_len: usize, start: usize, length: usize) -> MaskAnswer;
@@ -65,11 +69,11 @@ unsafe extern "C" {
         out_len: usize,
     ) -> MaskAnswer;
     pub fn pw_slices_new(mask: Mask, bytes: *const u8, bytes_len: usize) -> CursorAnswer;
-    pub fn pw_slices_next(cursor: Cursor, bytes: *const u8, bytes_len: usize) -> StepAnswer;
+    pub fn pw_slices_next(start: usize, length: usize, place: usize, bytes: *const u8, bytes_len: usize) -> StepAnswer;
     pub fn pw_iter_new(bytes: *const u8, bytes_len: usize, start: usize, length: usize) -> CursorAnswer;
-    pub fn pw_iter_next(cursor: Cursor, bytes: *const u8, bytes_len: usize) -> StepAnswer;
-    pub fn pw_iter_nth(cursor: Cursor, bytes: *const u8, bytes_len: usize, n: usize) -> StepAnswer;
-    pub fn pw_take_leading(flag: bool, cursor: Cursor, bytes: *const u8, bytes_len: usize) -> StepAnswer;
+    pub fn pw_iter_next(start: usize, length: usize, place: usize, bytes: *const u8, bytes_len: usize) -> StepAnswer;
+    pub fn pw_iter_nth(start: usize, length: usize, place: usize, bytes: *const u8, bytes_len: usize, n: usize) -> StepAnswer;
+    pub fn pw_take_leading(flag: bool, start: usize, length: usize, place: usize, bytes: *const u8, bytes_len: usize) -> StepAnswer;
     pub fn pw_true_idx_new(length: usize, present: bool, mask: Mask, bytes: *const u8, bytes_len: usize) -> CursorAnswer;
-    pub fn pw_true_idx_next(cursor: Cursor, bytes: *const u8, bytes_len: usize) -> StepAnswer;
+    pub fn pw_true_idx_next(start: usize, length: usize, place: usize, masked: u8, bytes: *const u8, bytes_len: usize) -> StepAnswer;
 }

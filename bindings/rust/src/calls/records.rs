@@ -202,14 +202,13 @@ pub struct CursorAnswer {
 /// flag or a position; `count` is a run's length, the flags of a remainder or the flags taken.
 ///
 /// ```
-/// use poruwhina::calls::{iter_next, Cursor, StepAnswer};
+/// use poruwhina::calls::{iter_next, Cursor, Step};
 ///
 /// let end = Cursor { start: 0, length: 6, place: 6, masked: 1 };
-/// assert_eq!(iter_next(end, &[0x2D]), StepAnswer { refusal: 0, found: false, value: 0, count: 0, cursor: end });
+/// assert_eq!(iter_next(end, &[0x2D]), Step { refusal: 0, found: false, value: 0, count: 0, cursor: end });
 /// ```
-#[repr(C)]
 #[derive(Clone, Copy, Debug, PartialEq, Eq, Default)]
-pub struct StepAnswer {
+pub struct Step {
     /// The number of the first check that failed, or 0.
     pub refusal: u8,
     /// Is there an answer, or has the cursor come to its end.
@@ -220,6 +219,32 @@ pub struct StepAnswer {
     pub count: usize,
     /// The cursor just past what it gave.
     pub cursor: Cursor,
+}
+
+/// A step as it crosses: of the cursor, only its place.
+#[repr(C)]
+#[derive(Clone, Copy)]
+pub(super) struct StepAnswer {
+    pub refusal: u8,
+    pub found: bool,
+    pub value: u64,
+    pub count: usize,
+    pub place: usize,
+}
+
+impl StepAnswer {
+    /// The step of a cursor that the call moves.
+    #[inline]
+    pub(super) fn moving(self, cursor: Cursor) -> Step {
+        self.beside(Cursor { place: self.place, ..cursor })
+    }
+
+    /// The step of a cursor that the call leaves where it is.
+    #[inline]
+    pub(super) fn beside(self, cursor: Cursor) -> Step {
+        let StepAnswer { refusal, found, value, count, .. } = self;
+        Step { refusal, found, value, count, cursor }
+    }
 }
 
 /// The parts of an aligned split, or a refusal.

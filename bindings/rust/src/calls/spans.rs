@@ -66,8 +66,10 @@ pub fn chunks_new_exact(bytes: &[u8], length: usize) -> CursorAnswer {
 /// assert!(!chunks_next(first.cursor, &bytes).found);
 /// ```
 #[inline]
-pub fn chunks_next(cursor: Cursor, bytes: &[u8]) -> StepAnswer {
-    unsafe { exports::pw_chunks_next(cursor, bytes.as_ptr(), bytes.len()) }
+pub fn chunks_next(cursor: Cursor, bytes: &[u8]) -> Step {
+    let Cursor { start, length, place, .. } = cursor;
+    let answer = unsafe { exports::pw_chunks_next(start, length, place, bytes.as_ptr(), bytes.len()) };
+    answer.moving(cursor)
 }
 
 /// The flags behind the last whole word, as a word in `value`, and in `count` their number.
@@ -80,8 +82,10 @@ pub fn chunks_next(cursor: Cursor, bytes: &[u8]) -> StepAnswer {
 /// assert_eq!((rest.value, rest.count), (0b11111, 5));
 /// ```
 #[inline]
-pub fn chunks_remainder(cursor: Cursor, bytes: &[u8]) -> StepAnswer {
-    unsafe { exports::pw_chunks_remainder(cursor, bytes.as_ptr(), bytes.len()) }
+pub fn chunks_remainder(cursor: Cursor, bytes: &[u8]) -> Step {
+    let Cursor { start, length, place, .. } = cursor;
+    let answer = unsafe { exports::pw_chunks_remainder(start, length, place, bytes.as_ptr(), bytes.len()) };
+    answer.beside(cursor)
 }
 
 /// The spans before and behind flag `at`.
