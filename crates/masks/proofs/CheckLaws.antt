@@ -324,10 +324,6 @@ output-test n size = ⊎-elim
     (λ (h : 8 * ((n + 63) / 64) ≤ size). le-leb (n / 64 + (n % 64 + 63) / 64) (size / 8) (omega arith) ∙ sym (le-leb (8 * ((n + 63) / 64)) size h))
     (lt-or-le size (8 * ((n + 63) / 64)))
 
--- words for n + more flags, taken by words and flags
-pub exact-words : (n more : ℕ) → n / 64 + more / 64 + (n % 64 + more % 64 + 63) / 64 ≡ (n + more + 63) / 64
-exact-words n more = omega arith
-
 -- ---- the two promises of a call that may write: its answer and its bytes
 
 module _ {S A B : Type 0} (r m : ℕ) (s : S) (old : B) (e : r ≡ m) where
