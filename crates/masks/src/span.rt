@@ -54,7 +54,7 @@ pub(crate) fn zeros_from(bytes: &[u8], start: usize, length: usize, place: usize
 }
 
 // The flags from `bit` on by one load: at least 57 of them, then zeros.
-fn near_word(bytes: &[u8], bit: usize) -> u64
+pub(crate) fn near_word(bytes: &[u8], bit: usize) -> u64
     ensures { λ r. ⌜ ((k : ℕ) → k ≤ 57 → take k (wordFlags r) ≡ stretch (now (bytes .entry)) bit k) ⌝ }
 {
     down(byte_word(bytes, bit / 8), bit % 8)
