@@ -6,13 +6,13 @@ use Prim.Native.Nat.{ℕ, zero, suc, _+_, _*_, _/_, _%_, _≤_, _<_}
 use native.Mathlib.Omega.{arith}
 use lib.Dec.{leb}
 use lib.ListN.{length, take, drop, getD, length-append, take-append-drop}
-use borrow.Author.Tests.{leb-true, le-leb, lt-leb}
+use borrow.Author.Tests.{leb-true, le-leb}
 use Rattle.words.specs.Flags.{bits, count, flagsOf, overAt, window, wordOf}
 use Rattle.words.proofs.AnyFlag.{zero-any}
 use Rattle.words.proofs.Bytes.{length-flags}
 use Rattle.words.proofs.Counting.{count-append, count-le, count-padded}
 use Rattle.words.proofs.Plain.{overAt-before, overAt-in}
-use Rattle.words.proofs.Windows.{lt-or-le, length-window, window-add, window-ext, as-window, at-in, bits-window}
+use Rattle.words.proofs.Windows.{length-window, window-add, window-ext, as-window, at-in, bits-window}
 use Rattle.masks.specs.Builder.{Filling, inProgress, appended, builderFlags, noneFrom, possible, builderChecks, Room}
 use Rattle.masks.specs.Appends.{innerChecks}
 use Rattle.masks.specs.Checks.{check, earlier, firstFailed, limit, withinLimit, spanChecks, outputChecks}
@@ -21,8 +21,7 @@ use Rattle.masks.specs.Mask.{maskChecks, countValid}
 use Rattle.masks.specs.declared.bitmap.Bitmap.{Bitmap}
 use Rattle.masks.specs.declared.builder.BitmapBuilder.{BitmapBuilder}
 use Rattle.masks.proofs.AppendLaws.{Parts, grown, appended-grown, parts-of, parts-long, progress-of, word-back, length-progress}
-use mathlib.Core.Logic.{⊎-elim}
-use Rattle.masks.proofs.CheckLaws.{when-le, one-check, and-left, and-right, first-allowed, rest-allowed, both-left, span-allowed}
+use Rattle.masks.proofs.CheckLaws.{when-le, words-test, one-check, and-left, and-right, first-allowed, rest-allowed, both-left, span-allowed}
 use Rattle.masks.proofs.FrozenLaws.{flags-packed, length-overFrom, flags-overFrom}
 
 -- ---- the number of a builder's checks, by the tests that decide it
@@ -58,16 +57,10 @@ impossible t n size e = last (leb (8 * ((n + 63) / 64)) size) ∙ ap (λ (s : Bo
     last true = refl
     last false = refl
 
-room-test : (n size : ℕ) → leb ((n + 63) / 64) (size / 8) ≡ leb (8 * ((n + 63) / 64)) size
-room-test n size = ⊎-elim
-    (λ (h : size < 8 * ((n + 63) / 64)). lt-leb ((n + 63) / 64) (size / 8) (omega arith) ∙ sym (lt-leb (8 * ((n + 63) / 64)) size h))
-    (λ (h : 8 * ((n + 63) / 64) ≤ size). le-leb ((n + 63) / 64) (size / 8) (omega arith) ∙ sym (le-leb (8 * ((n + 63) / 64)) size h))
-    (lt-or-le size (8 * ((n + 63) / 64)))
-
 pub room-decides : (p t : Bool) (n size r : ℕ) → p ≡ true → r ≡ cond t 0 9 → t ≡ leb ((n + 63) / 64) (size / 8) → r ≡ firstFailed (check 4 p ∷ outputChecks n size)
 unfolding firstFailed outputChecks earlier
 room-decides p t n size r e h k =
-    one-check r 9 t (leb (8 * ((n + 63) / 64)) size) h (k ∙ room-test n size) ∙ ap (λ (s : Bool). earlier (cond s 0 4) (firstFailed (outputChecks n size))) (sym e)
+    one-check r 9 t (leb (8 * ((n + 63) / 64)) size) h (k ∙ words-test n size) ∙ ap (λ (s : Bool). earlier (cond s 0 4) (firstFailed (outputChecks n size))) (sym e)
 
 -- ---- what the checks give
 
