@@ -318,15 +318,14 @@ first-refused cs n k t s a b p z =
     keeps false = first-least (firstFailed cs) (suc k) (λ e. z (p ∙ e)) (λ e. omega arith) (failed-ranked cs (suc k) b (λ e. z (p ∙ e)))
 
 -- the words of n flags, against those of an output
-pub output-test : (n size : ℕ) → leb (n / 64 + (n % 64 + 63) / 64) (size / 8) ≡ leb (8 * ((n + 63) / 64)) size
-output-test n size = ⊎-elim
-    (λ (h : size < 8 * ((n + 63) / 64)). lt-leb (n / 64 + (n % 64 + 63) / 64) (size / 8) (omega arith) ∙ sym (lt-leb (8 * ((n + 63) / 64)) size h))
-    (λ (h : 8 * ((n + 63) / 64) ≤ size). le-leb (n / 64 + (n % 64 + 63) / 64) (size / 8) (omega arith) ∙ sym (le-leb (8 * ((n + 63) / 64)) size h))
+pub words-test : (n size : ℕ) → leb ((n + 63) / 64) (size / 8) ≡ leb (8 * ((n + 63) / 64)) size
+words-test n size = ⊎-elim
+    (λ (h : size < 8 * ((n + 63) / 64)). lt-leb ((n + 63) / 64) (size / 8) (omega arith) ∙ sym (lt-leb (8 * ((n + 63) / 64)) size h))
+    (λ (h : 8 * ((n + 63) / 64) ≤ size). le-leb ((n + 63) / 64) (size / 8) (omega arith) ∙ sym (le-leb (8 * ((n + 63) / 64)) size h))
     (lt-or-le size (8 * ((n + 63) / 64)))
 
--- words for n + more flags, taken by words and flags
-pub exact-words : (n more : ℕ) → n / 64 + more / 64 + (n % 64 + more % 64 + 63) / 64 ≡ (n + more + 63) / 64
-exact-words n more = omega arith
+pub output-test : (n size : ℕ) → leb (n / 64 + (n % 64 + 63) / 64) (size / 8) ≡ leb (8 * ((n + 63) / 64)) size
+output-test n size = let e : n / 64 + (n % 64 + 63) / 64 ≡ (n + 63) / 64 = omega arith in ap (λ (x : ℕ). leb x (size / 8)) e ∙ words-test n size
 
 -- ---- the two promises of a call that may write: its answer and its bytes
 

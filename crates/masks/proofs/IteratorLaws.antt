@@ -115,23 +115,10 @@ module _ (l : List Bool) (x : Bool) (start size place at k w r : ℕ) (a : Alike
   alike-more h = record { low = omega (arith, a .low); inside = omega (arith, alike-most); sum = omega (arith, a .sum, every-alike (window l start size) x at k r fits in-span h) }
 
 -- the first k flags of a word that was read from `place` on
-pub word-alike : (l : List Bool) (x : Bool) (start size place k w r : ℕ) → place + k ≤ size → k ≤ 64 → bits 64 w ≡ window l (start + place) 64
+pub word-alike : (l : List Bool) (x : Bool) (start size place k w r : ℕ) → place + k ≤ size → take k (bits 64 w) ≡ window l (start + place) k
     → r ≡ leading x (take k (bits 64 w)) → r < k → r ≡ leadingFrom x (window l start size) place
-word-alike l x start size place k w r inside most p e h =
-    let same : r ≡ leading x (window (window l start size) place k) =
-    e ∙ ap (λ (t : List Bool). leading x (take k t)) p
-    ∙ ap (leading x)
-    (window-cut l (start + place) 64 0 k (omega arith) ∙ ap (λ (y : ℕ). window l y k) (add-zero (start + place)) ∙ sym (in-window l start size place k inside)) in
-    sym (some-alike (window l start size) x place k r (omega (arith, length-window l start size)) same h)
-
--- a word whose lowest byte is all ones begins with a one
-begins-one : (w : ℕ) → w % 256 ≡ 255 → 0 ≡ leading false (take 1 (bits 64 w))
-unfolding bits leading
-begins-one w e = let o : w % 2 ≡ 1 = omega arith in rw o
-
-pub word-ones : (l : List Bool) (start size place w : ℕ) → place < size → bits 64 w ≡ window l (start + place) 64 → w % 256 ≡ 255
-    → 0 ≡ leadingFrom false (window l start size) place
-word-ones l start size place w inside p e = word-alike l false start size place 1 w 0 (omega arith) (omega arith) p (begins-one w e) (omega arith)
+word-alike l x start size place k w r inside p e h =
+    sym (some-alike (window l start size) x place k r (omega (arith, length-window l start size)) (e ∙ ap (leading x) (p ∙ sym (in-window l start size place k inside))) h)
 
 pub alike-inside : (l : List Bool) (x : Bool) (start size place r : ℕ) → place ≤ size → r ≡ leadingFrom x (window l start size) place → place + r ≤ size
 unfolding leadingFrom

@@ -145,15 +145,19 @@ module _ (x : Bool) (l : List Bool) (s n : ℕ) where
       let all : 64 * i ≡ trailing x last = omega (arith, trailing-le x last, length-window l (s + 64 * (n - i)) (64 * i)) in
       ap (λ (m : ℕ). 64 * m) (sym e) ∙ all ∙ ap₂ (λ (y m : ℕ). trailing x (window l y (64 * m))) f e
 
--- the ones of a span that fits a word
+-- the flags of a span that fits the word from its first byte on
+pub near-flags : (l : List Bool) (start n x r : ℕ) → start % 8 + n ≤ 64 → bits 64 x ≡ window l (8 * (start / 8)) 64 → bits 64 r ≡ window (bits 64 x) (start % 8) 64
+    → take n (bits 64 r) ≡ window l start n
+near-flags l start n x r h p q =
+    let at : 8 * (start / 8) + (start % 8 + 0) ≡ start = omega arith in
+    ap (take n) q ∙ window-cut (bits 64 x) (start % 8) 64 0 n (omega arith) ∙ ap (λ (t : List Bool). window t (start % 8 + 0) n) p
+    ∙ in-window l (8 * (start / 8)) 64 (start % 8 + 0) n (omega arith) ∙ ap (λ (k : ℕ). window l k n) at
+
+-- and its ones
 pub short-count : (bytes : List ℕ) (start n x r c : ℕ) → start % 8 + n ≤ 64 → bits 64 x ≡ window (flagsOf bytes) (8 * (start / 8)) 64
     → bits 64 r ≡ window (bits 64 x) (start % 8) 64
     → c ≡ count (take n (bits 64 r)) → c ≡ count (window (flagsOf bytes) start n)
-short-count bytes start n x r c h p q e =
-    let at : 8 * (start / 8) + (start % 8 + 0) ≡ start = omega arith in
-    e ∙ ap count
-    (ap (take n) q ∙ window-cut (bits 64 x) (start % 8) 64 0 n (omega arith) ∙ ap (λ (t : List Bool). window t (start % 8 + 0) n) p
-    ∙ in-window (flagsOf bytes) (8 * (start / 8)) 64 (start % 8 + 0) n (omega arith) ∙ ap (λ (k : ℕ). window (flagsOf bytes) k n) at)
+short-count bytes start n x r c h p q e = e ∙ ap count (near-flags (flagsOf bytes) start n x r h p q)
 
 -- the zeros are what is not set
 pub zeros-rest : (l : List Bool) (n c : ℕ) → length l ≡ n → c ≡ count l → n - c ≡ zeros l

@@ -1,12 +1,12 @@
 -- Builders with room for what is appended: what the checks give, and what is left of it after an appending. Assumes nothing.
 use mathlib.Core.Path.{_≡_, refl, sym, ap, ap₂, _∙_, subst}
-use mathlib.Core.Bool.{Bool, true, false, not, _&&_}
+use mathlib.Core.Bool.{Bool, true, false, cond, not, _&&_}
 use mathlib.Core.List.{List, [], _∷_, _++_, append-assoc}
-use Prim.Native.Nat.{ℕ, _+_, _*_, _/_, _%_, _≤_, _<_}
+use Prim.Native.Nat.{ℕ, zero, suc, _+_, _*_, _/_, _%_, _≤_, _<_}
 use native.Mathlib.Omega.{arith}
 use lib.Dec.{leb}
 use lib.ListN.{length, take, drop, getD, length-append, take-append-drop}
-use borrow.Author.Tests.{leb-true}
+use borrow.Author.Tests.{leb-true, le-leb}
 use Rattle.words.specs.Flags.{bits, count, flagsOf, overAt, window, wordOf}
 use Rattle.words.proofs.AnyFlag.{zero-any}
 use Rattle.words.proofs.Bytes.{length-flags}
@@ -15,14 +15,52 @@ use Rattle.words.proofs.Plain.{overAt-before, overAt-in}
 use Rattle.words.proofs.Windows.{length-window, window-add, window-ext, as-window, at-in, bits-window}
 use Rattle.masks.specs.Builder.{Filling, inProgress, appended, builderFlags, noneFrom, possible, builderChecks, Room}
 use Rattle.masks.specs.Appends.{innerChecks}
-use Rattle.masks.specs.Checks.{check, firstFailed, limit, withinLimit, spanChecks, outputChecks}
+use Rattle.masks.specs.Checks.{check, earlier, firstFailed, limit, withinLimit, spanChecks, outputChecks}
 use Rattle.masks.specs.Frozen.{packed, overFrom}
 use Rattle.masks.specs.Mask.{maskChecks, countValid}
 use Rattle.masks.specs.declared.bitmap.Bitmap.{Bitmap}
 use Rattle.masks.specs.declared.builder.BitmapBuilder.{BitmapBuilder}
 use Rattle.masks.proofs.AppendLaws.{Parts, grown, appended-grown, parts-of, parts-long, progress-of, word-back, length-progress}
-use Rattle.masks.proofs.CheckLaws.{and-left, and-right, first-allowed, rest-allowed, both-left, span-allowed}
+use Rattle.masks.proofs.CheckLaws.{when-le, words-test, one-check, and-left, and-right, first-allowed, rest-allowed, both-left, span-allowed}
 use Rattle.masks.proofs.FrozenLaws.{flags-packed, length-overFrom, flags-overFrom}
+
+-- ---- the number of a builder's checks, by the tests that decide it
+
+one-first : (x : ℕ) → 1 ≡ earlier 1 x
+unfolding earlier
+one-first zero = refl
+one-first (suc x) = when-le 1 (suc x) 1 (suc x) (omega arith)
+
+pub over-limit : (b : BitmapBuilder) (n size : ℕ) → leb (b .length + n) limit ≡ false → 1 ≡ firstFailed (builderChecks b (b .length + n) size)
+unfolding firstFailed builderChecks earlier
+over-limit b n size e =
+    let behind = firstFailed (check 4 (possible b size) ∷ outputChecks (b .length + n) size) in
+    either (leb (b .length) limit) behind ∙ ap (λ (t : Bool). earlier (cond (leb (b .length) limit) 0 1) (earlier (cond t 0 1) behind)) (sym e)
+  where
+    either : (t : Bool) (x : ℕ) → 1 ≡ earlier (cond t 0 1) (earlier 1 x)
+    either true x = one-first x
+    either false x = one-first (earlier 1 x)
+
+pub in-limit : (b : BitmapBuilder) (n size r : ℕ) → leb (b .length + n) limit ≡ true → r ≡ firstFailed (check 4 (possible b size) ∷ outputChecks (b .length + n) size)
+    → r ≡ firstFailed (builderChecks b (b .length + n) size)
+unfolding firstFailed builderChecks earlier
+in-limit b n size r e p =
+    let short = leb-true (b .length + n) limit e in
+    p ∙ ap₂ (λ (s t : Bool). earlier (cond s 0 1) (earlier (cond t 0 1) (firstFailed (check 4 (possible b size) ∷ outputChecks (b .length + n) size))))
+    (sym (le-leb (b .length) limit (omega arith))) (sym e)
+
+pub impossible : (t : Bool) (n size : ℕ) → t ≡ false → 4 ≡ firstFailed (check 4 t ∷ outputChecks n size)
+unfolding firstFailed outputChecks earlier
+impossible t n size e = last (leb (8 * ((n + 63) / 64)) size) ∙ ap (λ (s : Bool). earlier (cond s 0 4) (firstFailed (outputChecks n size))) (sym e)
+  where
+    last : (t : Bool) → 4 ≡ earlier 4 (earlier (cond t 0 9) 0)
+    last true = refl
+    last false = refl
+
+pub room-decides : (p t : Bool) (n size r : ℕ) → p ≡ true → r ≡ cond t 0 9 → t ≡ leb ((n + 63) / 64) (size / 8) → r ≡ firstFailed (check 4 p ∷ outputChecks n size)
+unfolding firstFailed outputChecks earlier
+room-decides p t n size r e h k =
+    one-check r 9 t (leb (8 * ((n + 63) / 64)) size) h (k ∙ words-test n size) ∙ ap (λ (s : Bool). earlier (cond s 0 4) (firstFailed (outputChecks n size))) (sym e)
 
 -- ---- what the checks give
 

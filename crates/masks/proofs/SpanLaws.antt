@@ -6,7 +6,7 @@ use Prim.Native.Nat.{ℕ, _+_, _-_, _*_, _^_, _≤_, _<_}
 use native.Mathlib.Omega.{arith}
 use lib.ListN.{length, take, drop}
 use Rattle.words.specs.Flags.{bits, flagsOf, window, wordOf}
-use Rattle.words.proofs.Windows.{in-window, length-window, window-take, word-value}
+use Rattle.words.proofs.Windows.{length-window, window-take, word-value}
 
 -- the first k flags of a word that was read from a flag on
 pub low-value : (l : List Bool) (bit k w r : ℕ) → r < 2 ^ 64 → k ≤ 64 → bits 64 w ≡ window l bit 64 → bits 64 r ≡ window (take k (bits 64 w)) 0 64 → r ≡ wordOf (window l bit k)
@@ -14,11 +14,9 @@ low-value l bit k w r b h p q =
     word-value 64 (window l bit k) r b (omega (arith, length-window l bit k))
     (q ∙ ap (λ (t : List Bool). window (take k t) 0 64) p ∙ window-take l bit k 64)
 
--- k flags from the flag s on of a word that was read from a flag on
-pub inner-value : (l : List Bool) (bit s k w v r : ℕ) → r < 2 ^ 64 → s + k ≤ 64 → bits 64 w ≡ window l bit 64 → bits 64 v ≡ window (bits 64 w) s 64
-    → bits 64 r ≡ window (take k (bits 64 v)) 0 64 → r ≡ wordOf (window l (bit + s) k)
-inner-value l bit s k w v r b h p q e =
-    low-value (bits 64 w) s k v r b (omega arith) q e ∙ ap wordOf (ap (λ (t : List Bool). window t s k) p ∙ in-window l bit 64 s k h)
+-- the first k flags of a word that are those from a flag on
+pub near-value : (l : List Bool) (bit k w r : ℕ) → r < 2 ^ 64 → k ≤ 64 → take k (bits 64 w) ≡ window l bit k → bits 64 r ≡ window (take k (bits 64 w)) 0 64 → r ≡ wordOf (window l bit k)
+near-value l bit k w r b h p q = word-value 64 (window l bit k) r b (omega (arith, length-window l bit k)) (q ∙ ap (λ (t : List Bool). window t 0 64) p)
 
 -- a flag is not both
 pub not-both : {x : Bool} → x ≡ true → x ≡ false → ⊥

@@ -1,8 +1,8 @@
 // Spans cut in two, windows of 32 flags, and searches for the n-th set flag by such windows.
 ghost use mathlib.Core.Path.{_≡_};
-ghost use Prim.Native.Nat.{_+_, _*_, _/_, _≤_, _<_, min};
+ghost use Prim.Native.Nat.{_+_, _*_, _≤_, _<_};
 ghost use lib.ListN.{length as ListN·length};
-ghost use Rattle.words.specs.Flags.{bits, count, wordOf};
+ghost use Rattle.words.specs.Flags.{bits, count};
 ghost use Rattle.words.specs.Loops.{stretch};
 ghost use Rattle.words.specs.Nth.{nthPlace};
 ghost use Rattle.masks.specs.Answer.{given};
@@ -14,12 +14,10 @@ use crate::checks::earlier;
 use crate::checks::failed;
 use crate::checks::span_failure;
 use crate::checks::sum_at_most;
-use crate::span::flags_word;
 use crate::span::least;
+use crate::span::near_word;
 use words::nth::Nth;
 use words::nth::nth_set_bit_u32;
-use words::word::byte_word;
-use words::word::down;
 use words::word::low_flags;
 
 // A start bit and a length in bits. The Rust's `BitMask`, its bytes lent beside it.
@@ -83,7 +81,7 @@ pub fn get_u32(bytes: &[u8], start: usize, length: usize, index: usize) -> Windo
     Window::Flags(span_window(bytes, start, length, index))
 }
 
-// The same of a span whose checks have passed.
+// The same of a span whose checks have passed, by one load.
 pub(crate) fn span_window(bytes: &[u8], start: usize, length: usize, index: usize) -> u32
     requires { ⌜ (start ≤ 4194304) × ((length ≤ 4194304) × (start + length ≤ 8 * ListN·length (now bytes))) ⌝ }
     ensures { λ r. ⌜ r ≡ windowWord (now (bytes .entry)) start length index ⌝ }
@@ -91,28 +89,8 @@ pub(crate) fn span_window(bytes: &[u8], start: usize, length: usize, index: usiz
     if index >= length {
         return 0;
     }
-    let bit = start + index;
-    let left = length - index;
-    if left >= 64 {
-        return whole_window(bytes, bit);
-    }
-    last_window(bytes, bit, left)
-}
-
-// The same of at most 64 flags from `bit` on.
-fn last_window(bytes: &[u8], bit: usize, left: usize) -> u32
-    ensures { λ r. ⌜ r ≡ wordOf (stretch (now (bytes .entry)) bit (min 32 left)) ⌝ }
-{
-    let k = least(32, left);
-    flags_word(bytes, bit, k) as u32
-}
-
-// 32 flags from `bit` on, by one load.
-fn whole_window(bytes: &[u8], bit: usize) -> u32
-    requires { ⌜ bit / 8 + 8 ≤ ListN·length (now bytes) ⌝ }
-    ensures { λ r. ⌜ r ≡ wordOf (stretch (now (bytes .entry)) bit 32) ⌝ }
-{
-    low_flags(down(byte_word(bytes, bit / 8), bit % 8), 32) as u32
+    let k = least(32, length - index);
+    low_flags(near_word(bytes, start + index), k) as u32
 }
 
 // Where the n-th set flag is, if there are so many.

@@ -110,14 +110,6 @@ fn both(a: bool, b: bool) -> bool
     if a { b } else { false }
 }
 
-// Does an output of so many bytes hold n + more flags, taken exactly.
-pub(crate) fn output_failure(n: usize, more: usize, size: usize) -> u8
-    ensures { λ r. ⌜ r ≡ firstFailed (outputChecks (n + more) size) ⌝ }
-{
-    let words = n / 64 + more / 64 + (n % 64 + more % 64 + 63) / 64;
-    failed(9, 8 * words <= size)
-}
-
 // Is the builder one that the calls can have made, over a buffer of so many bytes.
 fn is_possible(b: BitmapBuilder, size: usize) -> bool
     ensures { λ r. ⌜ r ≡ possible b size ⌝ }
@@ -129,21 +121,26 @@ fn is_possible(b: BitmapBuilder, size: usize) -> bool
     )
 }
 
-// Of a call that appends so many flags to a builder with a buffer of so many bytes.
+// Of a builder over a buffer of so many bytes, made n flags long. The test that decides comes first: a call that is not
+// refused makes no number.
+fn room_failure(b: BitmapBuilder, n: usize, size: usize) -> u8
+    requires { ⌜ n ≤ limit ⌝ }
+    ensures { λ r. ⌜ r ≡ firstFailed (check 4 (possible b size) ∷ outputChecks n size) ⌝ }
+{
+    if is_possible(b, size) {
+        return failed(9, (n + 63) / 64 <= size / 8);
+    }
+    4
+}
+
+// Of a call that appends so many flags to it.
 pub(crate) fn builder_failure(b: BitmapBuilder, more: usize, size: usize) -> u8
     ensures { λ r. ⌜ r ≡ firstFailed (builderChecks b (b .length + more) size) ⌝ }
 {
-    let n = b.length;
-    earlier(
-        failed(1, within_limit(n)),
-        earlier(
-            failed(1, sum_at_most(n, more, Bitmap::LIMIT)),
-            earlier(
-                failed(4, is_possible(b, size)),
-                output_failure(n, more, size),
-            ),
-        ),
-    )
+    if sum_at_most(b.length, more, Bitmap::LIMIT) {
+        return room_failure(b, b.length + more, size);
+    }
+    1
 }
 
 // Of a pushed word: its stated length, and that it has at most 64 flags and none beyond.

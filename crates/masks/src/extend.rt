@@ -32,6 +32,9 @@ impl BitmapBuilder {
         if refusal != 0 {
             return Pushed::Refused(refusal, self);
         }
+        if n <= 64 {
+            return Pushed::Done(push_flags(self, buf, constant_word(flag), n));
+        }
         Pushed::Done(append_copies(self, buf, n, flag))
     }
 
@@ -46,6 +49,9 @@ impl BitmapBuilder {
         );
         if refusal != 0 {
             return Pushed::Refused(refusal, self);
+        }
+        if n <= 64 {
+            return Pushed::Done(push_flags(self, buf, word_from(bytes, start), n));
         }
         Pushed::Done(append_stretch(self, buf, bytes, start, n))
     }

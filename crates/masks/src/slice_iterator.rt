@@ -10,8 +10,8 @@ ghost use Rattle.masks.specs.SliceIterator.{slicesAnswer, newSlices, run
 use crate::bitmap::Bitmap;
 use crate::checks::mask_failure;
 use crate::cursor::cursor_failure;
-use crate::span::leading_from;
 use crate::span::least;
+use crate::span::zeros_from;
 
 // A cursor over the flags of a mask. The Rust's `SlicesIterator`, its bytes lent beside it.
 pub struct SlicesIterator {
@@ -111,7 +111,7 @@ impl SlicesIterator {
         if refusal != 0 {
             return Slice::Refused(refusal, self);
         }
-        let first = self.place + leading_from(false, bytes, self.start, self.length, self.place);
+        let first = self.place + zeros_from(bytes, self.start, self.length, self.place);
         if first >= self.length {
             return Slice::Done(SlicesIterator {
                 start: self.start,

@@ -1,12 +1,14 @@
 // Words of a span, and how many flags alike stand next in it.
-ghost use mathlib.Core.Bool.{true, false};
+ghost use mathlib.Core.Bool.{false};
 ghost use mathlib.Core.Path.{_≡_};
-ghost use Prim.Native.Nat.{_*_, _≤_, min};
-ghost use lib.ListN.{length as ListN·length};
+ghost use Prim.Native.Nat.{ℕ, _≤_, min};
+ghost use lib.ListN.{take};
 ghost use Rattle.words.specs.Flags.{wordOf, wordFlags};
 ghost use Rattle.words.specs.Loops.{stretch};
 ghost use Rattle.masks.specs.Iterator.{leadingFrom};
 use words::ends::leading_in_word;
+use words::word::byte_word;
+use words::word::down;
 use words::word::low_flags;
 use words::word::word_from;
 
@@ -37,16 +39,25 @@ pub(crate) fn leading_from(
     leading_by_words(flag, bytes, start, length, place)
 }
 
-// Are the eight flags from `place` on ones. Where it is often so, as in a mask with few zeros, the next one is known before the
-// load has come back.
-pub(crate) fn ones_follow(bytes: &[u8], start: usize, length: usize, place: usize) -> bool
+// The same of zeros, for the cursors that look for a one: it is mostly among the flags of one load, and the rest is left to
+// `leading_from`, so that this stands in the body of its caller.
+pub(crate) fn zeros_from(bytes: &[u8], start: usize, length: usize, place: usize) -> usize
     requires { ⌜ (start ≤ 4194304) × ((length ≤ 4194304) × (place ≤ length)) ⌝ }
-    ensures { λ r. ⌜ (r ≡ true → 0 ≡ leadingFrom false (stretch (now (bytes .entry)) start length) place) ⌝ }
+    ensures { λ r. ⌜ r ≡ leadingFrom false (stretch (now (bytes .entry)) start length) place ⌝ }
 {
-    if place >= length {
-        return false;
+    let k = least(57, length - place);
+    let same = leading_in_word(false, near_word(bytes, start + place), k);
+    if same < k {
+        return same;
     }
-    word_from(bytes, start + place) % 256 == 255
+    leading_from(false, bytes, start, length, place)
+}
+
+// The flags from `bit` on by one load: at least 57 of them, then zeros.
+pub(crate) fn near_word(bytes: &[u8], bit: usize) -> u64
+    ensures { λ r. ⌜ ((k : ℕ) → k ≤ 57 → take k (wordFlags r) ≡ stretch (now (bytes .entry)) bit k) ⌝ }
+{
+    down(byte_word(bytes, bit / 8), bit % 8)
 }
 
 // `leading_from` word by word, up to one that has another flag.

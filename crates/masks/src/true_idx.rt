@@ -13,8 +13,7 @@ use crate::checks::failed;
 use crate::checks::mask_failure;
 use crate::checks::within_limit;
 use crate::cursor::cursor_failure;
-use crate::span::leading_from;
-use crate::span::ones_follow;
+use crate::span::zeros_from;
 
 // A cursor over the flags of a mask or, where there is none, over positions alone. The Rust's `TrueIdxIter`.
 pub struct TrueIdxIter {
@@ -95,10 +94,7 @@ fn zeros_next(cursor: TrueIdxIter, bytes: &[u8]) -> usize
     ensures { λ r. ⌜ r ≡ leadingFrom false (trueFlags cursor (now (bytes .entry))) (cursor .place) ⌝ }
 {
     if cursor.masked {
-        if ones_follow(bytes, cursor.start, cursor.length, cursor.place) {
-            return 0;
-        }
-        return leading_from(false, bytes, cursor.start, cursor.length, cursor.place);
+        return zeros_from(bytes, cursor.start, cursor.length, cursor.place);
     }
     0
 }

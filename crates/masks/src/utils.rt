@@ -113,17 +113,17 @@ fn short_zeros(bytes: &[u8], start: usize, length: usize) -> usize
     length - few
 }
 
-// The zeros of any span, by the three parts of its split.
-fn long_zeros(bytes: &[u8], start: usize, length: usize, address: usize) -> usize
-    requires { ⌜ (start ≤ 8388608) × ((length ≤ 4194304) × (address ≤ 7)) ⌝ }
+// The zeros of any span, by the three parts of its split at the address remainder 0.
+fn long_zeros(bytes: &[u8], start: usize, length: usize) -> usize
+    requires { ⌜ (start ≤ 8388608) × (length ≤ 4194304) ⌝ }
     ensures { λ r. ⌜ r ≡ zeros (stretch (now (bytes .entry)) start length) ⌝ }
 {
-    let s = split(bytes, start, length, address);
+    let s = split(bytes, start, length, 0);
     let ones = ones_of(bytes, s);
     length - ones
 }
 
-// What the mask's own calls count by: the address remainder is 0.
+// The zeros of a span whose checks have passed. It is too large for the body of a call, which reads a short span itself.
 pub(crate) fn zeros_at(bytes: &[u8], start: usize, length: usize) -> usize
     requires { ⌜ (start ≤ 8388608) × (length ≤ 4194304) ⌝ }
     ensures { λ r. ⌜ r ≡ zeros (stretch (now (bytes .entry)) start length) ⌝ }
@@ -131,7 +131,7 @@ pub(crate) fn zeros_at(bytes: &[u8], start: usize, length: usize) -> usize
     if start % 8 + length <= 64 {
         return short_zeros(bytes, start, length);
     }
-    long_zeros(bytes, start, length, 0)
+    long_zeros(bytes, start, length)
 }
 
 // How many flags of a span are zero.
@@ -148,7 +148,7 @@ pub fn count_zeros(bytes: &[u8], start: usize, length: usize, address: usize) ->
     if start % 8 + length <= 64 {
         return Counted::Count(short_zeros(bytes, start, length));
     }
-    Counted::Count(long_zeros(bytes, start, length, address))
+    Counted::Count(zeros_at(bytes, start, length))
 }
 
 fn leading_flags(flag: bool, bytes: &[u8], start: usize, length: usize, address: usize) -> Counted

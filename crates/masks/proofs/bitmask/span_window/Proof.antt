@@ -1,40 +1,53 @@
--- Where 64 flags are left, eight bytes are in range, and one load reads a window of 32 flags.
-use mathlib.Core.Path.{refl}
 use native.Mathlib.Omega.{arith}
 use borrow.Author.Needs.{needs}
-use Rattle.masks.proofs.BitmaskLaws.{window-value, window-none}
+use Rattle.masks.proofs.BitmaskLaws.{narrow, window-value, window-none}
+use Rattle.masks.proofs.SpanLaws.{near-value}
 use Rattle.masks.proofs.bitmask.span_window.Statement.{statement}
 use Rattle.masks.proofs.bitmask.span_window.Tie as tie
 
 returns : tie.Need-returns
 returns c = window-none _ _ _ _ (c .if1 .taken)
 
-add-bit : tie.Need-add-bit
-add-bit c = search needs
+sub-least : tie.Need-sub-least
+sub-least c = search needs
 
-sub-left : tie.Need-sub-left
-sub-left c = search needs
+least-requires : tie.Need-least-requires
+least-requires c κs = search needs
 
-whole-window-requires : tie.Need-whole-window-requires
-whole-window-requires c κs = omega arith
+add-near-word : tie.Need-add-near-word
+add-near-word c = search needs
+
+near-word-requires : tie.Need-near-word-requires
+near-word-requires c κs = search needs
+
+low-flags-requires : tie.Need-low-flags-requires
+low-flags-requires c κs = search needs
+
+cast-result : tie.Need-cast-result
+cast-result c =
+    let w = c .before in
+    let few = w .before .least .ensures in
+    let k = w .before .least .result in
+    record {
+      fits =
+          narrow _ _ k 32 _ (near-value _ _ k _ _ (c .low-flags .ok) (omega (arith, few)) (w .near-word .ensures k (omega (arith, few))) (c .low-flags .ensures)) (omega (arith, few));
+    }
 
 returns-2 : tie.Need-returns-2
-returns-2 c = window-value _ _ _ _ 32 _ (omega arith) (c .whole-window .ensures)
-
-last-window-requires : tie.Need-last-window-requires
-last-window-requires c κs = search needs
-
-returns-3 : tie.Need-returns-3
-returns-3 c = window-value _ _ _ _ _ _ refl (c .last-window .ensures)
+returns-2 c =
+    let w = c .before in
+    let few = w .before .least .ensures in
+    window-value _ _ _ _ _ _ few (near-value _ _ _ _ _ (c .low-flags .ok) (omega (arith, few)) (w .near-word .ensures _ (omega (arith, few))) (c .low-flags .ensures))
 
 pub span-window-spec : {M : Type 1} → statement M
 span-window-spec =
     tie.close
     (tie.spec
     returns
-    add-bit
-    sub-left
-    whole-window-requires
-    returns-2
-    last-window-requires
-    returns-3)
+    sub-least
+    least-requires
+    add-near-word
+    near-word-requires
+    low-flags-requires
+    cast-result
+    returns-2)

@@ -1,56 +1,35 @@
--- Unfolded, `firstFailed` of the checks is the nested `earlier` of the code: congruence over what the calls ensure.
-use Rattle.masks.specs.Builder.{builderChecks}
-use Rattle.masks.specs.Checks.{firstFailed}
+-- The new length is within the limit (`in-limit`), or over it, and 1 stands first (`over-limit`).
+use mathlib.Core.Path.{sym, _∙_}
+use Prim.Native.Nat.{_+_}
+use native.Mathlib.Omega.{arith}
+use borrow.Author.Tests.{leb-true}
+use Rattle.masks.specs.Checks.{limit}
+use Rattle.masks.proofs.RoomLaws.{in-limit, over-limit}
 use borrow.Author.Needs.{needs}
 use Rattle.masks.proofs.checks.builder_failure.Statement.{statement}
 use Rattle.masks.proofs.checks.builder_failure.Tie as tie
 
-within-limit-requires : tie.Need-within-limit-requires
-within-limit-requires c κs = search needs
-
-failed-requires : tie.Need-failed-requires
-failed-requires c κs = search needs
-
 sum-at-most-requires : tie.Need-sum-at-most-requires
 sum-at-most-requires c κs = search needs
 
-failed-requires-2 : tie.Need-failed-requires-2
-failed-requires-2 c κs = search needs
+add-room-failure : tie.Need-add-room-failure
+add-room-failure c =
+    let t = c .before in
+    let a = t .before .before .args in
+    omega (arith, leb-true (a .b .length + a .more) limit (sym (t .before .sum-at-most .ensures) ∙ t .if1 .taken))
 
-is-possible-requires : tie.Need-is-possible-requires
-is-possible-requires c κs = search needs
-
-failed-requires-3 : tie.Need-failed-requires-3
-failed-requires-3 c κs = search needs
-
-output-failure-requires : tie.Need-output-failure-requires
-output-failure-requires c κs = search needs
-
-earlier-requires : tie.Need-earlier-requires
-earlier-requires c κs = search needs
-
-earlier-requires-2 : tie.Need-earlier-requires-2
-earlier-requires-2 c κs = search needs
-
-earlier-requires-3 : tie.Need-earlier-requires-3
-earlier-requires-3 c κs = search needs
+room-failure-requires : tie.Need-room-failure-requires
+room-failure-requires c κs =
+    let t = c .before in
+    leb-true _ _ (sym (t .before .sum-at-most .ensures) ∙ t .if1 .taken)
 
 returns : tie.Need-returns
-unfolding builderChecks firstFailed
-returns c = cc
+returns c =
+    let t = c .before .before in
+    in-limit _ _ _ _ (sym (t .before .sum-at-most .ensures) ∙ t .if1 .taken) (c .room-failure .ensures)
+
+returns-2 : tie.Need-returns-2
+returns-2 c = over-limit _ _ _ (sym (c .before .sum-at-most .ensures) ∙ c .if1 .left)
 
 pub builder-failure-spec : {M : Type 1} → statement M
-builder-failure-spec =
-    tie.close
-    (tie.spec
-    within-limit-requires
-    failed-requires
-    sum-at-most-requires
-    failed-requires-2
-    is-possible-requires
-    failed-requires-3
-    output-failure-requires
-    earlier-requires
-    earlier-requires-2
-    earlier-requires-3
-    returns)
+builder-failure-spec = tie.close (tie.spec sum-at-most-requires add-room-failure room-failure-requires returns returns-2)

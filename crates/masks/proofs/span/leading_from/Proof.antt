@@ -3,6 +3,7 @@ use mathlib.Core.Path.{_≡_, _∙_}
 use Prim.Native.Nat.{ℕ, _+_, _-_}
 use native.Mathlib.Omega.{arith}
 use borrow.Author.Needs.{needs}
+use Rattle.masks.proofs.ExtendLaws.{stretch-front}
 use Rattle.masks.proofs.IteratorLaws.{word-alike}
 use Rattle.masks.proofs.span.leading_from.Statement.{statement}
 use Rattle.masks.proofs.span.leading_from.Tie as tie
@@ -27,7 +28,7 @@ returns c =
     let d = c .before .before in
     let e = d .before in
     let a = e .before .before .args in
-    word-alike _ _ (a .start) (a .length) (a .place) _ _ _ (omega (arith, e .least .ensures)) (omega (arith, e .least .ensures)) (d .word-from .ensures)
+    word-alike _ _ (a .start) (a .length) (a .place) _ _ _ (omega (arith, e .least .ensures)) (stretch-front _ _ _ _ (omega (arith, e .least .ensures)) (d .word-from .ensures))
     (c .before .leading-in-word .ensures) (c .if1 .taken)
 
 leading-by-words-requires : tie.Need-leading-by-words-requires

@@ -8,26 +8,16 @@ use borrow.Author.Needs.{needs}
 use Rattle.masks.proofs.true_idx.zeros_next.Statement.{statement}
 use Rattle.masks.proofs.true_idx.zeros_next.Tie as tie
 
-ones-follow-requires : tie.Need-ones-follow-requires
-ones-follow-requires c κs = search needs
+zeros-from-requires : tie.Need-zeros-from-requires
+zeros-from-requires c κs = search needs
 
 returns : tie.Need-returns
 returns c =
-    let e = c .before .before in
-    c .before .ones-follow .ensures (c .if2 .taken)
-    ∙ ap (λ (l : List Bool). leadingFrom false l (e .before .before .args .cursor .place)) (sym (with-mask _ _ (e .if1 .taken)))
-
-leading-from-requires : tie.Need-leading-from-requires
-leading-from-requires c κs = search needs
+    let e = c .before in
+    c .zeros-from .ensures ∙ ap (λ (l : List Bool). leadingFrom false l (e .before .before .args .cursor .place)) (sym (with-mask _ _ (e .if1 .taken)))
 
 returns-2 : tie.Need-returns-2
-returns-2 c =
-    let e = c .before .before .before in
-    c .leading-from .ensures ∙ ap (λ (l : List Bool). leadingFrom false l (e .before .before .args .cursor .place)) (sym (with-mask _ _ (e .if1 .taken)))
-
-returns-3 : tie.Need-returns-3
-returns-3 c = without-mask _ _ (c .if1 .left)
+returns-2 c = without-mask _ _ (c .if1 .left)
 
 pub zeros-next-spec : {M : Type 1} → statement M
-zeros-next-spec =
-    tie.close (tie.spec ones-follow-requires returns leading-from-requires returns-2 returns-3)
+zeros-next-spec = tie.close (tie.spec zeros-from-requires returns returns-2)

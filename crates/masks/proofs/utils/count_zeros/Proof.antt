@@ -32,16 +32,18 @@ returns-3 c =
     let e = c .before .before .before in
     not-empty _ _ _ _ (e .before .if1 .left) (ap given (c .short-zeros .ensures) ∙ is-given _ _ _ _ (e .aligned-failure .ensures) (c .before .before .if2 .left))
 
-long-zeros-requires : tie.Need-long-zeros-requires
-long-zeros-requires c κs = aligned-allowed _ _ _ _ (sym (c .before .before .aligned-failure .ensures) ∙ c .before .if2 .left)
+zeros-at-requires : tie.Need-zeros-at-requires
+zeros-at-requires c κs =
+    let a = aligned-allowed _ _ _ _ (sym (c .before .before .aligned-failure .ensures) ∙ c .before .if2 .left) in
+    (omega (arith, a .0), a .1 .0)
 
 returns-4 : tie.Need-returns-4
 unfolding spanCount
 returns-4 c =
     let e = c .before .before .before in
-    not-empty _ _ _ _ (e .before .if1 .left) (ap given (c .long-zeros .ensures) ∙ is-given _ _ _ _ (e .aligned-failure .ensures) (c .before .before .if2 .left))
+    not-empty _ _ _ _ (e .before .if1 .left) (ap given (c .zeros-at .ensures) ∙ is-given _ _ _ _ (e .aligned-failure .ensures) (c .before .before .if2 .left))
 
 pub count-zeros-spec : {M : Type 1} → statement M
 count-zeros-spec =
     tie.close
-    (tie.spec returns aligned-failure-requires returns-2 add-if3 short-zeros-requires returns-3 long-zeros-requires returns-4)
+    (tie.spec returns aligned-failure-requires returns-2 add-if3 short-zeros-requires returns-3 zeros-at-requires returns-4)

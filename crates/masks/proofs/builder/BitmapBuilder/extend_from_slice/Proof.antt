@@ -1,9 +1,11 @@
--- The number of the checks decides: `refused-way` or `append-way`; where all have passed there is room for the flags (`room-of`).
-use mathlib.Core.Path.{sym, _∙_}
+-- The number of the checks decides: `refused-way` or `append-way`; flags that fit a word by `stretch-front`, more by the worker.
+use mathlib.Core.Path.{sym, ap, _∙_}
 use native.Mathlib.Omega.{arith}
 use Rattle.masks.specs.Appends.{spanGrowChecks}
+use Rattle.masks.specs.Builder.{appended}
 use Rattle.masks.proofs.CheckLaws.{refused-way, two-pieces, passed-left, passed-right, span-allowed}
 use Rattle.masks.proofs.AppendLaws.{append-way}
+use Rattle.masks.proofs.ExtendLaws.{stretch-front}
 use Rattle.masks.proofs.RoomLaws.{room-of}
 use borrow.Author.Needs.{needs}
 use Rattle.masks.proofs.builder.BitmapBuilder.extend_from_slice.Statement.{statement}
@@ -24,13 +26,15 @@ returns c =
     let e = c .before in
     refused-way _ _ _ _ (two-pieces _ _ _ _ _ (e .earlier .ensures) (e .before .before .span-failure .ensures) (e .before .builder-failure .ensures)) _ _ (c .if1 .taken)
 
-append-stretch-requires : tie.Need-append-stretch-requires
-append-stretch-requires c κs =
-    let no = c .before in
+word-from-requires : tie.Need-word-from-requires
+word-from-requires c κs = search needs
+
+push-flags-requires : tie.Need-push-flags-requires
+push-flags-requires c κs =
+    let short = c .before .before in
+    let no = short .before in
     let e = no .before in
-    let none = sym (e .earlier .ensures) ∙ no .if1 .left in
-    let span = span-allowed _ _ _ (sym (e .before .before .span-failure .ensures) ∙ passed-left _ _ none) in
-    (omega (arith, span .starts, span .short), room-of _ _ _ (sym (e .before .builder-failure .ensures) ∙ passed-right _ _ none))
+    (short .if2 .taken, room-of _ _ _ (sym (e .before .builder-failure .ensures) ∙ passed-right _ _ (sym (e .earlier .ensures) ∙ no .if1 .left)))
 
 same-length : tie.Need-same-length
 same-length c = search needs
@@ -39,7 +43,29 @@ returns-2 : tie.Need-returns-2
 unfolding spanGrowChecks
 returns-2 c =
     let did = c .before .before in
-    let no = did .before .before in
+    let word = did .before in
+    let short = word .before .before in
+    let no = short .before in
+    let e = no .before in
+    append-way _ _ _ _ _ _ _ _ (two-pieces _ _ _ _ _ (e .earlier .ensures) (e .before .before .span-failure .ensures) (e .before .builder-failure .ensures)) (no .if1 .left)
+    (did .push-flags .ensures ∙ ap (appended _) (stretch-front _ _ _ _ (short .if2 .taken) (word .word-from .ensures)))
+
+append-stretch-requires : tie.Need-append-stretch-requires
+append-stretch-requires c κs =
+    let no = c .before .before in
+    let e = no .before in
+    let none = sym (e .earlier .ensures) ∙ no .if1 .left in
+    let span = span-allowed _ _ _ (sym (e .before .before .span-failure .ensures) ∙ passed-left _ _ none) in
+    (omega (arith, span .starts, span .short), room-of _ _ _ (sym (e .before .builder-failure .ensures) ∙ passed-right _ _ none))
+
+same-length-2 : tie.Need-same-length-2
+same-length-2 c = search needs
+
+returns-3 : tie.Need-returns-3
+unfolding spanGrowChecks
+returns-3 c =
+    let did = c .before .before in
+    let no = did .before .before .before in
     let e = no .before in
     append-way _ _ _ _ _ _ _ _ (two-pieces _ _ _ _ _ (e .earlier .ensures) (e .before .before .span-failure .ensures) (e .before .builder-failure .ensures)) (no .if1 .left)
     (did .append-stretch .ensures)
@@ -52,6 +78,10 @@ extend-from-slice-spec =
     builder-failure-requires
     earlier-requires
     returns
-    append-stretch-requires
+    word-from-requires
+    push-flags-requires
     same-length
-    returns-2)
+    returns-2
+    append-stretch-requires
+    same-length-2
+    returns-3)

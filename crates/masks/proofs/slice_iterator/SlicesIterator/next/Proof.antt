@@ -19,8 +19,8 @@ returns : tie.Need-returns
 unfolding nextSlice
 returns c = is-refused _ _ _ _ (c .before .cursor-failure .ensures) (c .if1 .taken)
 
-leading-from-requires : tie.Need-leading-from-requires
-leading-from-requires c κs =
+zeros-from-requires : tie.Need-zeros-from-requires
+zeros-from-requires c κs =
     let span = cursor-allowed _ _ _ _ (sym (c .before .cursor-failure .ensures) ∙ c .if1 .left) in
     (span .starts, (span .short, span .reached))
 
@@ -28,13 +28,13 @@ add-first : tie.Need-add-first
 add-first c =
     let e = c .before .before in
     let span = cursor-allowed _ _ _ _ (sym (e .before .cursor-failure .ensures) ∙ e .if1 .left) in
-    omega (arith, alike-inside _ _ _ _ _ _ (span .reached) (c .before .leading-from .ensures), span .short)
+    omega (arith, alike-inside _ _ _ _ _ _ (span .reached) (c .before .zeros-from .ensures), span .short)
 
 returns-2 : tie.Need-returns-2
 unfolding nextSlice
 returns-2 c =
     let z = c .before .before .before in
-    ap given (no-run _ _ _ (z .leading-from .ensures) (c .if2 .taken)) ∙ is-given _ _ _ _ (z .before .before .cursor-failure .ensures) (z .before .if1 .left)
+    ap given (no-run _ _ _ (z .zeros-from .ensures) (c .if2 .taken)) ∙ is-given _ _ _ _ (z .before .before .cursor-failure .ensures) (z .before .if1 .left)
 
 run-from-requires : tie.Need-run-from-requires
 run-from-requires c κs =
@@ -58,8 +58,7 @@ unfolding nextSlice
 returns-3 c =
     let s = c .before .before in
     let z = s .before .before .before in
-    ap given (a-run _ _ _ _ (z .leading-from .ensures) (s .if2 .left) (c .before .run-from .ensures))
-    ∙ is-given _ _ _ _ (z .before .before .cursor-failure .ensures) (z .before .if1 .left)
+    ap given (a-run _ _ _ _ (z .zeros-from .ensures) (s .if2 .left) (c .before .run-from .ensures)) ∙ is-given _ _ _ _ (z .before .before .cursor-failure .ensures) (z .before .if1 .left)
 
 pub next-spec : {M : Type 1} → statement M
 next-spec =
@@ -67,7 +66,7 @@ next-spec =
     (tie.spec
     cursor-failure-requires
     returns
-    leading-from-requires
+    zeros-from-requires
     add-first
     returns-2
     run-from-requires
