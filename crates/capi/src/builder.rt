@@ -1,6 +1,7 @@
 // The builder's calls: each appends to the lent buffer and gives the builder back.
 ghost use mathlib.Core.Path.{_≡_};
-ghost use Rattle.masks.specs.Appends.{appendAnswer, appendBytes, extendBitmap, extendConstant, extendGather, extendOptGather, extendRepeated, extendSlice, pushedAnswer, pushFlag, pushWord};
+ghost use Rattle.masks.specs.Appends.{appendAnswer, appendBytes, extendBitmap, extendConstant, extendGather, extendOptGather};
+ghost use Rattle.masks.specs.Appends.{extendRepeated, extendSlice, pushedAnswer, pushFlag, pushWord};
 ghost use Rattle.masks.specs.Builder.{newBuilder};
 ghost use Rattle.masks.specs.Freeze.{freezeBytes, freezeOf, intoOptValidityOf, madeAnswer, validityAnswer};
 ghost use Rattle.capi.specs.Answers.{asBuilder, asMask, asValidity};
@@ -121,8 +122,10 @@ pub extern "C" fn pw_extend_from_slice(
     start: usize,
     n: usize,
 ) -> BuilderAnswer
-    ensures answer { λ r. ⌜ r ≡ asBuilder (appendAnswer (extendSlice (now (bytes .entry)) start n) (builderIn builder) (now (buf .entry))) ⌝ }
-    ensures bytes { λ _. ⌜ now (buf .exit) ≡ appendBytes (extendSlice (now (bytes .entry)) start n) (builderIn builder) (now (buf .entry)) ⌝ }
+    ensures answer { λ r. ⌜ r ≡
+        asBuilder (appendAnswer (extendSlice (now (bytes .entry)) start n) (builderIn builder) (now (buf .entry))) ⌝ }
+    ensures bytes { λ _. ⌜ now (buf .exit) ≡
+        appendBytes (extendSlice (now (bytes .entry)) start n) (builderIn builder) (now (buf .entry)) ⌝ }
 {
     pushed_out(builder_in(builder).extend_from_slice(buf, bytes, start, n))
 }
@@ -137,8 +140,10 @@ pub extern "C" fn pw_extend_each_repeated_from_slice_unchecked(
     n: usize,
     repeats: usize,
 ) -> BuilderAnswer
-    ensures answer { λ r. ⌜ r ≡ asBuilder (appendAnswer (extendRepeated (now (bytes .entry)) start n repeats) (builderIn builder) (now (buf .entry))) ⌝ }
-    ensures bytes { λ _. ⌜ now (buf .exit) ≡ appendBytes (extendRepeated (now (bytes .entry)) start n repeats) (builderIn builder) (now (buf .entry)) ⌝ }
+    ensures answer { λ r. ⌜ r ≡
+        asBuilder (appendAnswer (extendRepeated (now (bytes .entry)) start n repeats) (builderIn builder) (now (buf .entry))) ⌝ }
+    ensures bytes { λ _. ⌜ now (buf .exit) ≡
+        appendBytes (extendRepeated (now (bytes .entry)) start n repeats) (builderIn builder) (now (buf .entry)) ⌝ }
 {
     pushed_out(builder_in(builder).extend_each_repeated_from_slice_unchecked(
         buf,
@@ -159,8 +164,10 @@ pub extern "C" fn pw_subslice_extend_from_bitmap(
     start: usize,
     n: usize,
 ) -> BuilderAnswer
-    ensures answer { λ r. ⌜ r ≡ asBuilder (appendAnswer (extendBitmap (maskIn mask) (now (bytes .entry)) start n) (builderIn builder) (now (buf .entry))) ⌝ }
-    ensures bytes { λ _. ⌜ now (buf .exit) ≡ appendBytes (extendBitmap (maskIn mask) (now (bytes .entry)) start n) (builderIn builder) (now (buf .entry)) ⌝ }
+    ensures answer { λ r. ⌜ r ≡
+        asBuilder (appendAnswer (extendBitmap (maskIn mask) (now (bytes .entry)) start n) (builderIn builder) (now (buf .entry))) ⌝ }
+    ensures bytes { λ _. ⌜ now (buf .exit) ≡
+        appendBytes (extendBitmap (maskIn mask) (now (bytes .entry)) start n) (builderIn builder) (now (buf .entry)) ⌝ }
 {
     pushed_out(builder_in(builder).subslice_extend_from_bitmap(buf, mask_in(mask), bytes, start, n))
 }
@@ -175,8 +182,10 @@ pub extern "C" fn pw_gather_extend_from_slice(
     n: usize,
     idxs: &[u32],
 ) -> BuilderAnswer
-    ensures answer { λ r. ⌜ r ≡ asBuilder (appendAnswer (extendGather (now (bytes .entry)) start n (now (idxs .entry))) (builderIn builder) (now (buf .entry))) ⌝ }
-    ensures bytes { λ _. ⌜ now (buf .exit) ≡ appendBytes (extendGather (now (bytes .entry)) start n (now (idxs .entry))) (builderIn builder) (now (buf .entry)) ⌝ }
+    ensures answer { λ r. ⌜ r ≡
+        asBuilder (appendAnswer (extendGather (now (bytes .entry)) start n (now (idxs .entry))) (builderIn builder) (now (buf .entry))) ⌝ }
+    ensures bytes { λ _. ⌜ now (buf .exit) ≡
+        appendBytes (extendGather (now (bytes .entry)) start n (now (idxs .entry))) (builderIn builder) (now (buf .entry)) ⌝ }
 {
     pushed_out(builder_in(builder).gather_extend_from_slice(buf, bytes, start, n, idxs))
 }
@@ -191,8 +200,11 @@ pub extern "C" fn pw_opt_gather_extend_from_slice(
     n: usize,
     idxs: &[u32],
 ) -> BuilderAnswer
-    ensures answer { λ r. ⌜ r ≡ asBuilder (appendAnswer (extendOptGather (now (bytes .entry)) start n (now (idxs .entry))) (builderIn builder) (now (buf .entry))) ⌝ }
-    ensures bytes { λ _. ⌜ now (buf .exit) ≡ appendBytes (extendOptGather (now (bytes .entry)) start n (now (idxs .entry))) (builderIn builder) (now (buf .entry)) ⌝ }
+    ensures answer { λ r. ⌜ r ≡
+        asBuilder (appendAnswer (extendOptGather (now (bytes .entry)) start n (now (idxs .entry))) (builderIn builder)
+        (now (buf .entry))) ⌝ }
+    ensures bytes { λ _. ⌜ now (buf .exit) ≡
+        appendBytes (extendOptGather (now (bytes .entry)) start n (now (idxs .entry))) (builderIn builder) (now (buf .entry)) ⌝ }
 {
     pushed_out(builder_in(builder).opt_gather_extend_from_slice(buf, bytes, start, n, idxs))
 }

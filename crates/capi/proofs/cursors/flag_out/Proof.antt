@@ -9,6 +9,9 @@ enum-known-r c = search needs
 flag-value-requires : tie.Need-flag-value-requires
 flag-value-requires c κs = search needs
 
+cast-step-of : tie.Need-cast-step-of
+cast-step-of c = search needs
+
 iter-out-requires : tie.Need-iter-out-requires
 iter-out-requires c κs = search needs
 
@@ -51,6 +54,7 @@ flag-out-spec =
     (tie.spec
     enum-known-r
     flag-value-requires
+    cast-step-of
     iter-out-requires
     step-of-requires
     enum-known-r-2
