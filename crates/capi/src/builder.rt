@@ -1,6 +1,7 @@
 // The builder's calls: each appends to the lent buffer and gives the builder back.
 ghost use mathlib.Core.Path.{_≡_};
-ghost use Rattle.masks.specs.Appends.{appendAnswer, appendBytes, extendBitmap, extendConstant, extendGather, extendOptGather, extendRepeated, extendSlice, pushedAnswer, pushFlag, pushWord};
+ghost use Rattle.masks.specs.Appends.{appendAnswer, appendBytes, extendBitmap, extendConstant, extendGather, extendOptGather};
+ghost use Rattle.masks.specs.Appends.{extendRepeated, extendSlice, pushedAnswer, pushFlag, pushWord};
 ghost use Rattle.masks.specs.Builder.{newBuilder};
 ghost use Rattle.masks.specs.Freeze.{freezeBytes, freezeOf, intoOptValidityOf, madeAnswer, validityAnswer};
 ghost use Rattle.capi.specs.Answers.{asBuilder, asMask, asValidity};
@@ -133,8 +134,10 @@ pub extern "C" fn pw_extend_from_slice(
     start: usize,
     n: usize,
 ) -> BuilderAnswer
-    ensures answer { λ r. ⌜ r ≡ asBuilder (appendAnswer (extendSlice (now (bytes .entry)) start n) (builderIn length word ones) (now (buf .entry))) ⌝ }
-    ensures bytes { λ _. ⌜ now (buf .exit) ≡ appendBytes (extendSlice (now (bytes .entry)) start n) (builderIn length word ones) (now (buf .entry)) ⌝ }
+    ensures answer { λ r. ⌜ r ≡
+        asBuilder (appendAnswer (extendSlice (now (bytes .entry)) start n) (builderIn length word ones) (now (buf .entry))) ⌝ }
+    ensures bytes { λ _. ⌜ now (buf .exit) ≡
+        appendBytes (extendSlice (now (bytes .entry)) start n) (builderIn length word ones) (now (buf .entry)) ⌝ }
 {
     pushed_out(builder_in(length, word, ones).extend_from_slice(buf, bytes, start, n))
 }
@@ -151,8 +154,10 @@ pub extern "C" fn pw_extend_each_repeated_from_slice_unchecked(
     n: usize,
     repeats: usize,
 ) -> BuilderAnswer
-    ensures answer { λ r. ⌜ r ≡ asBuilder (appendAnswer (extendRepeated (now (bytes .entry)) start n repeats) (builderIn length word ones) (now (buf .entry))) ⌝ }
-    ensures bytes { λ _. ⌜ now (buf .exit) ≡ appendBytes (extendRepeated (now (bytes .entry)) start n repeats) (builderIn length word ones) (now (buf .entry)) ⌝ }
+    ensures answer { λ r. ⌜ r ≡
+        asBuilder (appendAnswer (extendRepeated (now (bytes .entry)) start n repeats) (builderIn length word ones) (now (buf .entry))) ⌝ }
+    ensures bytes { λ _. ⌜ now (buf .exit) ≡
+        appendBytes (extendRepeated (now (bytes .entry)) start n repeats) (builderIn length word ones) (now (buf .entry)) ⌝ }
 {
     pushed_out(builder_in(length, word, ones).extend_each_repeated_from_slice_unchecked(
         buf,
@@ -175,8 +180,10 @@ pub extern "C" fn pw_subslice_extend_from_bitmap(
     start: usize,
     n: usize,
 ) -> BuilderAnswer
-    ensures answer { λ r. ⌜ r ≡ asBuilder (appendAnswer (extendBitmap (maskIn mask) (now (bytes .entry)) start n) (builderIn length word ones) (now (buf .entry))) ⌝ }
-    ensures bytes { λ _. ⌜ now (buf .exit) ≡ appendBytes (extendBitmap (maskIn mask) (now (bytes .entry)) start n) (builderIn length word ones) (now (buf .entry)) ⌝ }
+    ensures answer { λ r. ⌜ r ≡
+        asBuilder (appendAnswer (extendBitmap (maskIn mask) (now (bytes .entry)) start n) (builderIn length word ones) (now (buf .entry))) ⌝ }
+    ensures bytes { λ _. ⌜ now (buf .exit) ≡
+        appendBytes (extendBitmap (maskIn mask) (now (bytes .entry)) start n) (builderIn length word ones) (now (buf .entry)) ⌝ }
 {
     pushed_out(builder_in(length, word, ones).subslice_extend_from_bitmap(
         buf,
@@ -199,8 +206,10 @@ pub extern "C" fn pw_gather_extend_from_slice(
     n: usize,
     idxs: &[u32],
 ) -> BuilderAnswer
-    ensures answer { λ r. ⌜ r ≡ asBuilder (appendAnswer (extendGather (now (bytes .entry)) start n (now (idxs .entry))) (builderIn length word ones) (now (buf .entry))) ⌝ }
-    ensures bytes { λ _. ⌜ now (buf .exit) ≡ appendBytes (extendGather (now (bytes .entry)) start n (now (idxs .entry))) (builderIn length word ones) (now (buf .entry)) ⌝ }
+    ensures answer { λ r. ⌜ r ≡
+        asBuilder (appendAnswer (extendGather (now (bytes .entry)) start n (now (idxs .entry))) (builderIn length word ones) (now (buf .entry))) ⌝ }
+    ensures bytes { λ _. ⌜ now (buf .exit) ≡
+        appendBytes (extendGather (now (bytes .entry)) start n (now (idxs .entry))) (builderIn length word ones) (now (buf .entry)) ⌝ }
 {
     pushed_out(builder_in(length, word, ones).gather_extend_from_slice(buf, bytes, start, n, idxs))
 }
@@ -217,8 +226,11 @@ pub extern "C" fn pw_opt_gather_extend_from_slice(
     n: usize,
     idxs: &[u32],
 ) -> BuilderAnswer
-    ensures answer { λ r. ⌜ r ≡ asBuilder (appendAnswer (extendOptGather (now (bytes .entry)) start n (now (idxs .entry))) (builderIn length word ones) (now (buf .entry))) ⌝ }
-    ensures bytes { λ _. ⌜ now (buf .exit) ≡ appendBytes (extendOptGather (now (bytes .entry)) start n (now (idxs .entry))) (builderIn length word ones) (now (buf .entry)) ⌝ }
+    ensures answer { λ r. ⌜ r ≡
+        asBuilder (appendAnswer (extendOptGather (now (bytes .entry)) start n (now (idxs .entry))) (builderIn length word ones)
+        (now (buf .entry))) ⌝ }
+    ensures bytes { λ _. ⌜ now (buf .exit) ≡
+        appendBytes (extendOptGather (now (bytes .entry)) start n (now (idxs .entry))) (builderIn length word ones) (now (buf .entry)) ⌝ }
 {
     pushed_out(builder_in(length, word, ones).opt_gather_extend_from_slice(
         buf,

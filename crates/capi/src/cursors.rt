@@ -1,7 +1,5 @@
 // The cursors over runs, flags and positions.
 ghost use mathlib.Core.Path.{_≡_};
-ghost use mathlib.Core.Bool.{true, false};
-ghost use Rattle.words.specs.Flags.{digit};
 ghost use Rattle.masks.specs.Iterator.{flagAnswer, iterAnswer, iterAt, newIter, nthFlag, takeLeading, takenAnswer};
 ghost use Rattle.masks.specs.SliceIterator.{newSlices, nextSlice, sliceAnswer, slicesAnswer, slicesAt};
 ghost use Rattle.masks.specs.TrueIdx.{newTrue, nextTrue, trueIdxAnswer, trueIterAnswer};
@@ -14,6 +12,7 @@ use crate::answers::step_of;
 use crate::records::Cursor;
 use crate::records::Mask;
 use crate::records::cursor_of;
+use crate::records::flag_value;
 use crate::records::mask_in;
 use crate::records::no_cursor;
 use crate::records::optional_in;
@@ -113,17 +112,11 @@ fn new_iter_out(r: Iter) -> CursorAnswer
     }
 }
 
-fn flag_value(x: bool) -> u64
-    ensures { λ r. ⌜ r ≡ digit x ⌝ }
-{
-    if x { 1 } else { 0 }
-}
-
 fn flag_out(r: Flag) -> StepAnswer
     ensures { λ a. ⌜ a ≡ asBit iterPlace (flagAnswer r) ⌝ }
 {
     match r {
-        Flag::Next(x, c) => step_of(0, true, flag_value(x), 0, c.place),
+        Flag::Next(x, c) => step_of(0, true, flag_value(x) as u64, 0, c.place),
         Flag::Done(c) => step_of(0, false, 0, 0, c.place),
         Flag::Refused(k, c) => step_of(k, false, 0, 0, c.place),
     }
@@ -203,16 +196,10 @@ fn true_in(start: usize, length: usize, place: usize, masked: u8) -> TrueIdxIter
     }
 }
 
-fn masked_value(x: bool) -> u8
-    ensures { λ r. ⌜ r ≡ digit x ⌝ }
-{
-    if x { 1 } else { 0 }
-}
-
 fn true_out(c: TrueIdxIter) -> Cursor
     ensures { λ r. ⌜ r ≡ trueOut c ⌝ }
 {
-    cursor_of(c.start, c.length, c.place, masked_value(c.masked))
+    cursor_of(c.start, c.length, c.place, flag_value(c.masked))
 }
 
 fn new_true_out(r: TrueIter) -> CursorAnswer

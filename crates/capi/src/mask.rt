@@ -1,7 +1,8 @@
 // The calls that make a mask, cut it, count it and compare it.
 ghost use mathlib.Core.Path.{_≡_};
 ghost use Rattle.masks.specs.Compare.{commonOf, comparedAnswer, edgesOf, eqOf};
-ghost use Rattle.masks.specs.Mask.{countingAnswer, emptyMask, madeAnswer, newZeroedBytes, newZeroedOf, slicedAnswer, sliceOf, tryNewOf, unsetBitsOf};
+ghost use Rattle.masks.specs.Mask.{countingAnswer, emptyMask, madeAnswer, newZeroedBytes, newZeroedOf, slicedAnswer, sliceOf, tryNewOf};
+ghost use Rattle.masks.specs.Mask.{unsetBitsOf};
 ghost use Rattle.capi.specs.Answers.{asFlag, asMask, asNumber, asSameMask, asZeros};
 ghost use Rattle.capi.specs.Records.{maskIn, maskOut};
 use crate::answers::Flag;

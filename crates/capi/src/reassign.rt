@@ -31,7 +31,9 @@ pub extern "C" fn pw_may_reassign(
     revocation_bytes: &[u8],
     truck: usize,
 ) -> Flag
-    ensures { λ r. ⌜ r ≡ asFlag (mayReassign (optionalIn permitted permission) (now («permission_bytes» .entry)) (optionalIn revoked revocation) (now («revocation_bytes» .entry)) truck) ⌝ }
+    ensures { λ r. ⌜ r ≡
+        asFlag (mayReassign (optionalIn permitted permission) (now («permission_bytes» .entry)) (optionalIn revoked revocation)
+        (now («revocation_bytes» .entry)) truck) ⌝ }
 {
     reassign_out(may_reassign(
         optional_in(permitted, permission),

@@ -136,3 +136,9 @@ pub(crate) fn no_cursor() -> Cursor
 {
     cursor_of(0, 0, 0, 0)
 }
+
+pub(crate) fn flag_value(x: bool) -> u8
+    ensures { λ r. ⌜ r ≡ digit x ⌝ }
+{
+    if x { 1 } else { 0 }
+}

@@ -83,7 +83,10 @@ mask-answer-requires c κs = search needs
 
 returns-6 : tie.Need-returns-6
 unfolding asMask
-returns-6 c = rw (past-numbered _ _ (past-five _ (c .before .before .before .before .before .before .if1 .left) (c .before .before .before .before .before .if2 .left) (c .before .before .before .before .if3 .left) (c .before .before .before .if4 .left) (c .before .before .if5 .left))) (cc, cc)
+returns-6 c =
+    let e = c .before .before in
+    let f = e .before .before in
+    rw (past-numbered _ _ (past-five _ (f .before .before .if1 .left) (f .before .if2 .left) (f .if3 .left) (e .before .if4 .left) (e .if5 .left))) (cc, cc)
 
 pub pw-combine-spec : {M : Type 1} → statement M
 pw-combine-spec =

@@ -9,6 +9,9 @@ enum-known-r c = search needs
 flag-value-requires : tie.Need-flag-value-requires
 flag-value-requires c κs = search needs
 
+cast-step-of : tie.Need-cast-step-of
+cast-step-of c = search needs
+
 step-of-requires : tie.Need-step-of-requires
 step-of-requires c κs = search needs
 
@@ -42,6 +45,7 @@ flag-out-spec =
     (tie.spec
     enum-known-r
     flag-value-requires
+    cast-step-of
     step-of-requires
     enum-known-r-2
     step-of-requires-2

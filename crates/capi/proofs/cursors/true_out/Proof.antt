@@ -3,8 +3,8 @@ use borrow.Author.Needs.{needs}
 use Rattle.capi.proofs.cursors.true_out.Statement.{statement}
 use Rattle.capi.proofs.cursors.true_out.Tie as tie
 
-masked-value-requires : tie.Need-masked-value-requires
-masked-value-requires c κs = search needs
+flag-value-requires : tie.Need-flag-value-requires
+flag-value-requires c κs = search needs
 
 cursor-of-requires : tie.Need-cursor-of-requires
 cursor-of-requires c κs = search needs
@@ -14,4 +14,4 @@ unfolding trueOut
 returns c = cc
 
 pub true-out-spec : {M : Type 1} → statement M
-true-out-spec = tie.close (tie.spec masked-value-requires cursor-of-requires returns)
+true-out-spec = tie.close (tie.spec flag-value-requires cursor-of-requires returns)
