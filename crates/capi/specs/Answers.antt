@@ -1,7 +1,7 @@
--- The records in which answers cross: a definition for each, whatever call gives it. Assumes nothing.
+-- The records in which answers cross, defined by what an answer holds and not call by call. Assumes nothing.
 --
 -- `refusal` is 0, or the number of the refusing check. On refusal a record is the one that the call got, where it got one of
--- that kind; every other field is 0.
+-- that kind and gives it back; every other field is 0.
 use Prim.Native.Nat.{ℕ, zero, suc}
 use mathlib.Core.Bool.{Bool, true, false}
 use mathlib.Core.List.{List, [], _∷_}

@@ -1,5 +1,5 @@
-// The records in which answers cross. `refusal` is 0, or the number of the refusing check. On refusal a record is the one that
-// the call got, where it got one of that kind; every other field is 0.
+// The records in which answers cross to C and Rust. `refusal` is 0, or the number of the refusing check. On refusal a record is
+// the one that the call got, where it got one of that kind and gives it back; every other field is 0.
 ghost use mathlib.Core.Path.{_≡_};
 ghost use Rattle.capi.specs.Answers.{cursorAnswer, flagOf, maskAnswer, numberOf, positionOf, stepOf};
 use crate::records::Builder;

@@ -1,4 +1,4 @@
-// The builder's calls: each appends to the lent buffer and gives the builder back.
+// Exported to C and Rust: the builder's calls. Each appends to the lent buffer and gives the builder back.
 ghost use mathlib.Core.Path.{_≡_};
 ghost use Rattle.masks.specs.Appends.{appendAnswer, appendBytes, extendBitmap, extendConstant, extendGather, extendOptGather};
 ghost use Rattle.masks.specs.Appends.{extendRepeated, extendSlice, pushedAnswer, pushFlag, pushWord};

@@ -1,4 +1,4 @@
-// The words of a span, and the flags behind the last whole one.
+// Exported to C and Rust: the words of a span, and the flags behind the last whole one.
 ghost use mathlib.Core.Path.{_≡_};
 ghost use Rattle.masks.specs.Chunks.{chunkAnswer, chunksAnswer, chunksAt, chunksRemainder, newChunks, nextChunk, remainderAnswer};
 ghost use Rattle.capi.specs.Answers.{asCursor, asRemainder, asWord};

@@ -1,4 +1,4 @@
-// The combinations: flag by flag into a lent output, as frozen bytes.
+// Exported to C and Rust: the combinations, flag by flag into a lent output, as frozen bytes.
 ghost use mathlib.Core.Path.{_≡_};
 ghost use mathlib.Core.List.{[], _∷_};
 ghost use lib.ListN.{length};

@@ -1,4 +1,4 @@
-// The cursors over runs, flags and positions.
+// Exported to C and Rust: the cursors over runs, flags and positions.
 ghost use mathlib.Core.Path.{_≡_};
 ghost use Rattle.masks.specs.Iterator.{flagAnswer, iterAnswer, iterAt, newIter, nthFlag, takeLeading, takenAnswer};
 ghost use Rattle.masks.specs.SliceIterator.{newSlices, nextSlice, sliceAnswer, slicesAnswer, slicesAt};

@@ -1,4 +1,4 @@
-// The calls that make a mask, cut it, count it and compare it.
+// Exported to C and Rust: the calls that make a mask, cut it, count it and compare it.
 ghost use mathlib.Core.Path.{_≡_};
 ghost use Rattle.masks.specs.Compare.{commonOf, comparedAnswer, edgesOf, eqOf};
 ghost use Rattle.masks.specs.Mask.{countingAnswer, emptyMask, madeAnswer, newZeroedBytes, newZeroedOf, slicedAnswer, sliceOf, tryNewOf};

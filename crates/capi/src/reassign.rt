@@ -1,4 +1,4 @@
-// Whether a truck may be reassigned.
+// Exported to C and Rust: whether a truck may be reassigned.
 ghost use mathlib.Core.Path.{_≡_};
 ghost use Rattle.dispatch.specs.Dispatch.{mayReassign, reassignAnswer};
 ghost use Rattle.capi.specs.Answers.{asFlag};

@@ -1,4 +1,4 @@
-// The records that cross, and what each is as a record of masks.
+// The records that cross to C and Rust, and what each is as a record of masks.
 ghost use mathlib.Core.Path.{_≡_};
 ghost use Rattle.words.specs.Flags.{digit};
 ghost use Rattle.capi.specs.Records.{builderIn, builderOut, countIn, cursorOf, maskIn, maskOut, noCursor, noMask, optionalIn};

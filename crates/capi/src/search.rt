@@ -1,4 +1,4 @@
-// The searches for the n-th set flag of a span.
+// Exported to C and Rust: the searches for the n-th set flag of a span.
 ghost use mathlib.Core.Path.{_≡_};
 ghost use Rattle.masks.specs.Search.{positionAnswer, searchBack, searchFrom};
 ghost use Rattle.capi.specs.Answers.{asPosition};

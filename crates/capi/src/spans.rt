@@ -1,4 +1,4 @@
-// The calls over bare spans: the aligned split, the counts, a span cut in two, a window.
+// Exported to C and Rust: the calls over bare spans, which are the aligned split, the counts, a span cut in two and a window.
 ghost use mathlib.Core.Path.{_≡_};
 ghost use Rattle.masks.specs.Aligned.{alignedAnswer, alignedOf};
 ghost use Rattle.masks.specs.Bitmask.{partsAnswer, splitAt, windowAnswer, windowAt};

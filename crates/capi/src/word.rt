@@ -1,4 +1,4 @@
-// The calls of words, which refuse nothing.
+// Exported to C and Rust: the calls of words, which refuse nothing.
 ghost use mathlib.Core.Path.{_≡_};
 ghost use Rattle.words.specs.Flags.{bits, flagsOf, window, wordFlags};
 ghost use Rattle.words.specs.Merge.{merged};
