@@ -44,6 +44,10 @@ static bool is_mask(pw_mask m, size_t start, size_t length, size_t zeros, uint8_
     return m.start == start && m.length == length && m.zeros == zeros && m.known == known;
 }
 
+/* The numbers of a record, as they go in. */
+#define BUILDER(b) (b).length, (b).word, (b).ones
+#define CURSOR(c) (c).start, (c).length, (c).place
+
 static bool is_builder(pw_builder b, size_t length, uint64_t word, size_t ones) {
     return b.length == length && b.word == word && b.ones == ones;
 }
@@ -53,10 +57,10 @@ static bool is_cursor(pw_cursor c, size_t start, size_t length, size_t place, ui
 }
 
 static bool is_step(pw_step_answer s, uint64_t value, size_t count, size_t place) {
-    return s.refusal == 0 && s.found && s.value == value && s.count == count && s.cursor.place == place;
+    return s.refusal == 0 && s.found && s.value == value && s.count == count && s.place == place;
 }
 
-static bool is_end(pw_step_answer s, size_t place) { return s.refusal == 0 && !s.found && s.cursor.place == place; }
+static bool is_end(pw_step_answer s, size_t place) { return s.refusal == 0 && !s.found && s.place == place; }
 
 static bool is_at(pw_position p, size_t value) { return p.refusal == 0 && p.found && p.value == value; }
 
@@ -65,7 +69,7 @@ static bool is_missing(pw_position p) { return p.refusal == 0 && !p.found; }
 /* Whether an append to a new builder freezes to these first flags. */
 static bool freezes_to(pw_builder_answer a, uint8_t first) {
     if (a.refusal != 0 || !untouched()) return false;
-    pw_mask_answer frozen = pw_freeze(a.builder, out, OUT);
+    pw_mask_answer frozen = pw_freeze(BUILDER(a.builder), out, OUT);
     bool right = frozen.refusal == 0 && frozen.mask.known == 1 && holds_word(first);
     clean();
     return right;
@@ -117,13 +121,13 @@ static void chunks(void) {
     const uint8_t bytes[9] = {0xFF, 0xFF, 0xFF, 0xFF, 0xFF, 0xFF, 0xFF, 0xFF, 0x2D};
     pw_cursor c = pw_chunks_new_exact(bytes, 9, 70).cursor;
     CHECK(is_cursor(c, 0, 70, 0, 1));
-    pw_step_answer s = pw_chunks_next(c, bytes, 9);
+    pw_step_answer s = pw_chunks_next(CURSOR(c), bytes, 9);
     CHECK(is_step(s, UINT64_MAX, 0, 1));
-    CHECK(is_end(pw_chunks_next(s.cursor, bytes, 9), 1));
-    s = pw_chunks_remainder(s.cursor, bytes, 9);
-    CHECK(s.refusal == 0 && s.found && s.value == 0x2D && s.count == 6 && is_cursor(s.cursor, 0, 0, 0, 0));
+    CHECK(is_end(pw_chunks_next(c.start, c.length, s.place, bytes, 9), 1));
+    s = pw_chunks_remainder(CURSOR(c), bytes, 9);
+    CHECK(s.refusal == 0 && s.found && s.value == 0x2D && s.count == 6 && s.place == 0);
     c = pw_chunks_new(bytes, 9, 4, 64).cursor;
-    CHECK(is_step(pw_chunks_next(c, bytes, 9), 0xDFFFFFFFFFFFFFFF, 0, 1));
+    CHECK(is_step(pw_chunks_next(CURSOR(c), bytes, 9), 0xDFFFFFFFFFFFFFFF, 0, 1));
 }
 
 static void builders(void) {
@@ -131,38 +135,38 @@ static void builders(void) {
     pw_builder_answer a = {0, pw_builder_new()};
     CHECK(is_builder(a.builder, 0, 0, 0));
     clean();
-    for (int i = 0; i < 6; i++) a = pw_push(a.builder, out, OUT, flags[i]);
+    for (int i = 0; i < 6; i++) a = pw_push(BUILDER(a.builder), out, OUT, flags[i]);
     CHECK(a.refusal == 0 && is_builder(a.builder, 6, 0x2D, 0) && untouched());
-    pw_mask_answer frozen = pw_freeze(a.builder, out, OUT); /* example 1 */
+    pw_mask_answer frozen = pw_freeze(BUILDER(a.builder), out, OUT); /* example 1 */
     CHECK(frozen.refusal == 0 && is_mask(frozen.mask, 0, 6, 2, 1) && holds_word(0x2D));
 
     clean(); /* example 5 */
     const uint8_t full[9] = {0xFF, 0xFF, 0xFF, 0xFF, 0xFF, 0xFF, 0xFF, 0xFF, 0x01};
-    a = pw_extend_constant(pw_builder_new(), out, OUT, 60, true);
-    a = pw_extend_constant(a.builder, out, OUT, 5, true);
+    a = pw_extend_constant(0, 0, 0, out, OUT, 60, true);
+    a = pw_extend_constant(BUILDER(a.builder), out, OUT, 5, true);
     CHECK(a.refusal == 0 && is_builder(a.builder, 65, 1, 64) && holds(full, 8, 8));
-    frozen = pw_freeze(a.builder, out, OUT);
+    frozen = pw_freeze(BUILDER(a.builder), out, OUT);
     CHECK(frozen.refusal == 0 && is_mask(frozen.mask, 0, 65, 0, 1) && holds(full, 9, 16));
-    pw_validity_answer valid = pw_into_opt_validity(a.builder, out, OUT);
+    pw_validity_answer valid = pw_into_opt_validity(BUILDER(a.builder), out, OUT);
     CHECK(valid.refusal == 0 && !valid.present && holds(full, 9, 16));
 
     clean();
     pw_builder none = pw_builder_new();
     const uint32_t strict[2] = {5, 4}, past[3] = {5, 6, 0};
-    CHECK(freezes_to(pw_push_word_with_len_unchecked(none, out, OUT, 0x2D, 6), 0x2D));
-    CHECK(freezes_to(pw_extend_from_slice(none, out, OUT, A, 1, 2, 4), 0x0B));
-    CHECK(freezes_to(pw_extend_each_repeated_from_slice_unchecked(none, out, OUT, A, 1, 2, 4, 2), 0xCF)); /* example 11 */
-    CHECK(freezes_to(pw_subslice_extend_from_bitmap(none, out, OUT, MASK_A, A, 1, 2, 4), 0x0B));
-    CHECK(freezes_to(pw_gather_extend_from_slice(none, out, OUT, A, 1, 0, 6, strict, 2), 0x01));
-    CHECK(freezes_to(pw_opt_gather_extend_from_slice(none, out, OUT, A, 1, 0, 6, past, 3), 0x05)); /* example 10 */
-    CHECK(pw_gather_extend_from_slice(none, out, OUT, A, 1, 0, 6, past, 3).refusal == PW_REFUSED_OUTSIDE_MASK);
-    CHECK(pw_gather_extend_from_slice(none, out, OUT, A, 1, 0, 6, NULL, 0).refusal == 0 && untouched());
+    CHECK(freezes_to(pw_push_word_with_len_unchecked(BUILDER(none), out, OUT, 0x2D, 6), 0x2D));
+    CHECK(freezes_to(pw_extend_from_slice(BUILDER(none), out, OUT, A, 1, 2, 4), 0x0B));
+    CHECK(freezes_to(pw_extend_each_repeated_from_slice_unchecked(BUILDER(none), out, OUT, A, 1, 2, 4, 2), 0xCF)); /* example 11 */
+    CHECK(freezes_to(pw_subslice_extend_from_bitmap(BUILDER(none), out, OUT, MASK_A, A, 1, 2, 4), 0x0B));
+    CHECK(freezes_to(pw_gather_extend_from_slice(BUILDER(none), out, OUT, A, 1, 0, 6, strict, 2), 0x01));
+    CHECK(freezes_to(pw_opt_gather_extend_from_slice(BUILDER(none), out, OUT, A, 1, 0, 6, past, 3), 0x05)); /* example 10 */
+    CHECK(pw_gather_extend_from_slice(BUILDER(none), out, OUT, A, 1, 0, 6, past, 3).refusal == PW_REFUSED_OUTSIDE_MASK);
+    CHECK(pw_gather_extend_from_slice(BUILDER(none), out, OUT, A, 1, 0, 6, NULL, 0).refusal == 0 && untouched());
 
-    frozen = pw_freeze(none, NULL, 0); /* example 6 */
+    frozen = pw_freeze(BUILDER(none), NULL, 0); /* example 6 */
     CHECK(frozen.refusal == 0 && is_mask(frozen.mask, 0, 0, 0, 1));
-    valid = pw_into_opt_validity(none, NULL, 0);
+    valid = pw_into_opt_validity(BUILDER(none), NULL, 0);
     CHECK(valid.refusal == 0 && !valid.present);
-    valid = pw_into_opt_validity(pw_push(none, out, OUT, false).builder, out, OUT);
+    valid = pw_into_opt_validity(1, 0, 0, out, OUT);
     CHECK(valid.refusal == 0 && valid.present && is_mask(valid.mask, 0, 1, 1, 1) && holds_word(0));
 }
 
@@ -226,29 +230,29 @@ static void cursors(void) {
     pw_cursor c = pw_slices_new(MASK_A, A, 1).cursor; /* example 3 */
     CHECK(is_cursor(c, 0, 6, 0, 1));
     for (int i = 0; i < 3; i++) {
-        pw_step_answer s = pw_slices_next(c, A, 1);
+        pw_step_answer s = pw_slices_next(CURSOR(c), A, 1);
         CHECK(is_step(s, runs[i][0], runs[i][1], runs[i][0] + runs[i][1]));
-        c = s.cursor;
+        c.place = s.place;
     }
-    CHECK(is_end(pw_slices_next(c, A, 1), 6));
+    CHECK(is_end(pw_slices_next(CURSOR(c), A, 1), 6));
 
     c = pw_iter_new(A, 1, 0, 6).cursor;
-    CHECK(is_step(pw_iter_next(c, A, 1), 1, 0, 1));
-    CHECK(is_step(pw_iter_nth(c, A, 1, 4), 0, 0, 5));
-    CHECK(is_end(pw_iter_nth(c, A, 1, SIZE_MAX), 6));
-    CHECK(is_step(pw_take_leading(true, c, A, 1), 0, 1, 1));
-    CHECK(is_step(pw_take_leading(false, c, A, 1), 0, 0, 0));
+    CHECK(is_step(pw_iter_next(CURSOR(c), A, 1), 1, 0, 1));
+    CHECK(is_step(pw_iter_nth(CURSOR(c), A, 1, 4), 0, 0, 5));
+    CHECK(is_end(pw_iter_nth(CURSOR(c), A, 1, SIZE_MAX), 6));
+    CHECK(is_step(pw_take_leading(true, CURSOR(c), A, 1), 0, 1, 1));
+    CHECK(is_step(pw_take_leading(false, CURSOR(c), A, 1), 0, 0, 0));
     CHECK(is_cursor(pw_iter_new(NULL, 0, 9, 0).cursor, 0, 0, 0, 1));
 
     c = pw_true_idx_new(6, true, MASK_A, A, 1).cursor;
     for (int i = 0; i < 4; i++) {
-        pw_step_answer s = pw_true_idx_next(c, A, 1);
-        CHECK(is_step(s, positions[i], 0, positions[i] + 1) && s.cursor.masked == 1);
-        c = s.cursor;
+        pw_step_answer s = pw_true_idx_next(CURSOR(c), c.masked, A, 1);
+        CHECK(is_step(s, positions[i], 0, positions[i] + 1));
+        c.place = s.place;
     }
-    CHECK(is_end(pw_true_idx_next(c, A, 1), 6));
+    CHECK(is_end(pw_true_idx_next(CURSOR(c), c.masked, A, 1), 6));
     c = pw_true_idx_new(2, false, MASK_A, NULL, 0).cursor;
-    CHECK(is_cursor(c, 0, 2, 0, 0) && is_step(pw_true_idx_next(c, NULL, 0), 0, 0, 1));
+    CHECK(is_cursor(c, 0, 2, 0, 0) && is_step(pw_true_idx_next(CURSOR(c), c.masked, NULL, 0), 0, 0, 1));
 }
 
 static void dispatch(void) {
@@ -265,8 +269,8 @@ static void dispatch(void) {
 /* Each number, beside the nearest arguments that pass; a refusal gives the record back and writes nothing. */
 static void refusals(void) {
     clean();
-    CHECK(pw_extend_constant(pw_builder_new(), out, OUT, PW_FLAG_LIMIT + 1, true).refusal == PW_REFUSED_ABOVE_LIMIT);
-    CHECK(pw_extend_constant(pw_builder_new(), out, OUT, PW_FLAG_LIMIT, true).refusal == PW_REFUSED_OUTPUT_TOO_SMALL);
+    CHECK(pw_extend_constant(0, 0, 0, out, OUT, PW_FLAG_LIMIT + 1, true).refusal == PW_REFUSED_ABOVE_LIMIT);
+    CHECK(pw_extend_constant(0, 0, 0, out, OUT, PW_FLAG_LIMIT, true).refusal == PW_REFUSED_OUTPUT_TOO_SMALL);
     CHECK(pw_try_new(A, 1, 2, 6).refusal == 0); /* edge */
     pw_mask_answer made = pw_try_new(A, 1, 2, 7);
     CHECK(made.refusal == PW_REFUSED_OUTSIDE_BYTES && is_mask(made.mask, 0, 0, 0, 0));
@@ -275,7 +279,7 @@ static void refusals(void) {
     CHECK(zeros.refusal == PW_REFUSED_COUNT_ABOVE_LENGTH && is_mask(zeros.mask, 0, 6, 7, 1));
     counted.zeros = 6;
     CHECK(pw_unset_bits(counted, A, 1).refusal == 0 && pw_unset_bits(counted, A, 1).zeros == 6);
-    pw_builder_answer b = pw_push((pw_builder){1, 2, 0}, out, OUT, true);
+    pw_builder_answer b = pw_push(1, 2, 0, out, OUT, true);
     CHECK(b.refusal == PW_REFUSED_IMPOSSIBLE_BUILDER && is_builder(b.builder, 1, 2, 0));
     pw_mask five = {0, 5, 0, 0};
     CHECK(pw_combine(PW_AND, MASK_A, A, 1, five, A, 1, out, OUT).refusal == PW_REFUSED_UNEQUAL_LENGTHS);
@@ -286,8 +290,8 @@ static void refusals(void) {
     CHECK(pw_count(PW_COUNT_ZEROS, A, 1, 0, 6, 8).refusal == PW_REFUSED_ADDRESS_REMAINDER); /* edge */
     CHECK(pw_new_zeroed(65, out, 15).refusal == PW_REFUSED_OUTPUT_TOO_SMALL); /* edge */
     pw_cursor past = {0, 6, 7, 1};
-    pw_step_answer s = pw_slices_next(past, A, 1);
-    CHECK(s.refusal == PW_REFUSED_OUTSIDE_MASK && !s.found && is_cursor(s.cursor, 0, 6, 7, 1));
+    pw_step_answer s = pw_slices_next(CURSOR(past), A, 1);
+    CHECK(s.refusal == PW_REFUSED_OUTSIDE_MASK && !s.found && s.place == 7);
     CHECK(untouched());
 }
 
