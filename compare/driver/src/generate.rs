@@ -15,7 +15,7 @@ pub fn generate(shape: Shape, style: &mut impl Style) -> Request {
         r.pieces[i] = piece(shape.kind, length, style);
     }
     for present in &mut r.present[..shape.optional] {
-        *present = style.below(4) > 0;
+        *present = style.flip();
     }
     if shape.kind == Kind::Walk {
         r.place = style.inside(length);
@@ -67,8 +67,7 @@ fn arguments(shape: Shape, length: usize, r: &mut Request, style: &mut impl Styl
         }
         Args::SameLength => r.n = style.beside(length),
         Args::Inner => {
-            r.n = style.inside(length);
-            r.m = style.inside(length.saturating_sub(r.n));
+            (r.n, r.m) = style.piece_of(length);
             return r.m as u128;
         }
         Args::Word => {

@@ -27,6 +27,12 @@ pub trait Style: Choices {
     /// A position that a call wants in its mask: mostly there.
     fn inside(&mut self, length: usize) -> usize;
 
+    /// Offset and length of a piece of a mask, mostly inside.
+    fn piece_of(&mut self, length: usize) -> (usize, usize) {
+        let offset = self.inside(length);
+        (offset, self.inside(length.saturating_sub(offset)))
+    }
+
     fn builder_length(&mut self) -> usize;
 
     /// How many bytes are lent where so many are needed.
@@ -52,14 +58,20 @@ impl<'a, C: Choices> Short<'a, C> {
         Self { choices, shape, around }
     }
 
+    /// Whether the request is one piece, read and nothing else.
+    fn alone(&self) -> bool {
+        self.shape.pieces == 1 && self.shape.target == Target::None
+    }
+
     /// The most flags: few enough for all combinations with the other choices.
     fn most(&self) -> usize {
         match (self.shape.pieces, self.shape.target, self.shape.args) {
-            (3, ..) | (2, _, Args::Inside) => 3,
+            (3, ..) | (2, _, Args::Inside) | (1, Target::Builder, Args::Indices | Args::Inner) => 3,
             (2, ..) => 4,
             (1, Target::Builder, _) | (1, _, Args::Inner) => 5,
             (1, _, Args::Search) => 7,
             (1, _, Args::Address | Args::SameLength) => 8,
+            (1, _, Args::None) => 10,
             (1, ..) => 9,
             _ => 130,
         }
@@ -83,14 +95,13 @@ impl<C: Choices> Style for Short<'_, C> {
     }
 
     fn start(&mut self) -> usize {
-        if self.shape.pieces == 1 { self.below(8) } else { self.one_of(&[0, 3, 7]) }
+        if self.alone() { self.below(8) } else { self.one_of(&[0, 3, 7]) }
     }
 
     fn bytes(&mut self, start: usize, length: usize) -> Vec<u8> {
         let flags = self.below(1 << length);
-        let alone = self.shape.pieces == 1 && self.shape.target == Target::None;
         let whole = (start + length).div_ceil(8);
-        let many = if alone { (whole + 1).saturating_sub(self.below(3)) } else { whole };
+        let many = if self.alone() { (whole + 1).saturating_sub(self.below(3)) } else { whole };
         let flag = |j: usize| if (start..start + length).contains(&j) { flags >> (j - start) & 1 == 1 } else { self.around };
         (0..many).map(|byte| (0..8).map(|bit| u8::from(flag(8 * byte + bit)) << bit).sum()).collect()
     }
@@ -124,7 +135,10 @@ impl<C: Choices> Style for Short<'_, C> {
     }
 
     fn word(&mut self) -> u64 {
-        (self.below(1 << 6) as u64) << self.one_of(&[0, 29, 58]) | self.one_of(&[0, 1 << 63])
+        match self.shape.args {
+            Args::Nth => (self.below(1 << 6) as u64) << self.one_of(&[0, 29, 58]) | self.one_of(&[0, 1 << 63]),
+            _ => self.one_of(&[0, 1, u64::MAX, 1 << 63, 0xA5C3_96E1_5A3C_691E]),
+        }
     }
 
     fn many(&mut self) -> usize {
@@ -184,20 +198,24 @@ impl Style for Wide<'_> {
         self.fill(many)
     }
 
-    /// Half of the bits set, few, nearly all, all or none, or runs of either.
+    /// Half of the bits set, few, nearly all, none, all, or runs of some words.
     fn fill(&mut self, many: usize) -> Vec<u8> {
-        let kind = self.below(7);
+        let kind = self.below(8);
         let mut run = 0;
         let mut words = std::iter::repeat_with(|| {
             let word = self.random.word();
-            run = if word.is_multiple_of(5) { !run } else { run };
             match kind {
                 0 | 1 => word,
                 2 => word & self.random.word() & self.random.word() & self.random.word(),
                 3 => word | self.random.word() | self.random.word() | self.random.word(),
                 4 => 0,
                 5 => u64::MAX,
-                _ => run << (word % 64),
+                _ if word.is_multiple_of(4) => {
+                    let begins = run ^ (u64::MAX << (word >> 58));
+                    run = !run;
+                    begins
+                }
+                _ => run,
             }
         });
         let mut bytes: Vec<u8> = words.by_ref().take(many.div_ceil(8)).flat_map(u64::to_le_bytes).collect();
@@ -226,6 +244,16 @@ impl Style for Wide<'_> {
 
     fn inside(&mut self, length: usize) -> usize {
         if self.random.once_in(8) { self.position(length) } else { self.below(length + 1) }
+    }
+
+    /// Often just so much that a slice counts again, or one flag more or less.
+    fn piece_of(&mut self, length: usize) -> (usize, usize) {
+        if self.random.once_in(3) {
+            let kept = (length.saturating_sub((length / 5).max(32)) + 1).saturating_sub(self.below(3)).min(length);
+            return (self.below(length - kept + 1), kept);
+        }
+        let offset = self.inside(length);
+        (offset, self.inside(length.saturating_sub(offset)))
     }
 
     fn builder_length(&mut self) -> usize {
