@@ -35,6 +35,9 @@ impl Outcome {
     }
 }
 
+/// Gets the answers of a walk, one after another.
+pub type Visit<'a> = &'a mut dyn FnMut(&[u64]);
+
 /// How the original is asked for a call. Save for `Refusing` it is asked only where the model accepts the request.
 pub enum Theirs {
     /// The original has no such call, or its text is not at hand.
@@ -48,7 +51,7 @@ pub enum Theirs {
     /// A builder's end; none where all flags are set.
     Finish(fn(BitmapBuilder) -> Option<Bitmap>),
     /// A new walk: our step, and the original's answers from first to last, each handed to the visitor.
-    Walk(fn(Walk, &[u8]) -> Answer, fn(&Request, &mut Met, &mut dyn FnMut(&[u64]))),
+    Walk(fn(Walk, &[u8]) -> Answer, fn(&Request, &mut Met, Visit)),
     /// A bitmap made from as many bitmaps as the call takes masks.
     Combine(fn(&Request, &[Bitmap]) -> Bitmap),
 }

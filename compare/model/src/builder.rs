@@ -77,7 +77,7 @@ pub fn opt_gather_extend_from_slice(b: Builder, buf: &mut [u8], span: Span, idxs
 fn finish(b: Builder, buf: &mut [u8], given: impl FnOnce(Mask, bool) -> State) -> Answer {
     let asked = Questions::default().builder(b, buf).holds(buf, b.length as u128);
     asked.answer(State::None, || {
-        if b.length % 64 > 0 {
+        if !b.length.is_multiple_of(64) {
             let at = 8 * (b.length / 64);
             buf[at..at + 8].copy_from_slice(&b.word.to_le_bytes());
         }

@@ -31,7 +31,7 @@ pub fn aligned_new(span: Span, address: usize) -> Answer {
         if span.start % 8 + span.length <= 64 {
             return vec![flags_word(&flags), span.length as u64, 0, 0, 0, 0];
         }
-        let first = (span.start.div_ceil(8)..).find(|byte| (address + byte) % 8 == 0).unwrap();
+        let first = (span.start.div_ceil(8)..).find(|byte| (address + byte).is_multiple_of(8)).unwrap();
         let (prefix, rest) = flags.split_at(8 * first - span.start);
         let words = rest.len() / 64;
         let suffix = &rest[64 * words..];

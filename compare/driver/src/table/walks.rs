@@ -4,7 +4,7 @@ use super::Call;
 use crate::listed::{Listed, Met};
 use crate::ours;
 use crate::request::{Args, Request, Shape};
-use crate::theirs::{Outcome, Theirs, bitmap, true_count};
+use crate::theirs::{Outcome, Theirs, Visit, bitmap, true_count};
 use model::{Answer, Lent, Mask, State, Walk, spans, walks};
 use original::bitmap::Bitmap;
 use original::bitmap::iterator::TrueIdxIter;
@@ -30,8 +30,6 @@ fn next_flag(walk: Walk, bytes: &[u8]) -> Answer {
 fn next_position(walk: Walk, bytes: &[u8]) -> Answer {
     ours::step(calls::true_idx_next(ours::cursor(walk), bytes))
 }
-
-type Visit<'a> = &'a mut dyn FnMut(&[u64]);
 
 fn their_words(r: &Request, _: &mut Met, visit: Visit) {
     BitChunks::<u64>::new(r.bytes(), r.span().start, r.span().length).for_each(|word| visit(&[word]));
