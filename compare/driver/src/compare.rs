@@ -11,7 +11,8 @@ use std::panic::{AssertUnwindSafe, catch_unwind};
 #[derive(Clone, Copy, Debug, Default)]
 pub struct Counts {
     pub requests: u64,
-    pub refused: u64,
+    /// How many were refused, by number.
+    pub refused: [u64; 10],
     /// How many the original answered too.
     pub theirs: u64,
 }
@@ -59,7 +60,9 @@ pub fn compare(call: &Call, request: &Request, counts: &mut Counts, met: &mut Me
         return Err(unequal("model", hex(&out), hex(&model_out)));
     }
     counts.requests += 1;
-    counts.refused += u64::from(model.refusal != 0);
+    if model.refusal != 0 {
+        counts.refused[usize::from(model.refusal)] += 1;
+    }
     if let (Theirs::Walk(step, all), 0) = (&call.theirs, model.refusal) {
         let mut walk = Stepped { answer: ours.clone(), bytes: request.bytes(), step: *step, listed: Ok(0) };
         all(request, met, &mut |values| walk.gives(values));

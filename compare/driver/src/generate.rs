@@ -54,7 +54,7 @@ pub fn piece(kind: Kind, length: usize, style: &mut impl Style) -> Piece {
 }
 
 /// Draws the call's numbers; gives how many flags it appends.
-fn arguments(shape: Shape, length: usize, r: &mut Request, style: &mut impl Style) -> u128 {
+pub fn arguments(shape: Shape, length: usize, r: &mut Request, style: &mut impl Style) -> u128 {
     match shape.args {
         Args::None => return if shape.pieces > 0 { length as u128 } else { u128::from(shape.flag) },
         Args::Address => r.n = style.below(9),

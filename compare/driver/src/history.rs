@@ -4,7 +4,7 @@
 use crate::choices::{Choices, Random};
 use crate::compare::{Counts, Difference, compare};
 use crate::damage::damage;
-use crate::generate::{generate, piece};
+use crate::generate::{arguments, generate, piece};
 use crate::listed::Met;
 use crate::request::{Kind, Piece, Request, Target};
 use crate::style::{Style, Wide};
@@ -65,11 +65,17 @@ impl<'a> History<'a> {
         };
         let these: Vec<usize> = (0..self.calls.len()).filter(|&i| fits(&self.calls[i])).collect();
         let call = random.one_of(&these);
-        let mut request = generate(self.calls[call].shape, &mut Wide { random, most: 1_000 });
-        if random.once_in(6) {
+        let shape = self.calls[call].shape;
+        let mut request = generate(shape, &mut Wide { random, most: 1_000 });
+        let damaged = random.once_in(6);
+        if damaged {
             damage(&mut request, random);
         }
-        self.lend(&mut request, self.calls[call].shape.pieces, random);
+        self.lend(&mut request, shape.pieces, random);
+        if !damaged && shape.kind == Kind::Mask {
+            let length = request.pieces[0].mask.length;
+            arguments(shape, length, &mut request, &mut Wide { random, most: 1_000 });
+        }
         Step { call, request }
     }
 

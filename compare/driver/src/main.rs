@@ -52,12 +52,18 @@ struct Run {
     calls: Vec<Call>,
     counts: Vec<Counts>,
     met: Met,
+    histories: u64,
     differences: usize,
 }
 
 impl Run {
-    fn total(&self) -> u64 {
-        self.counts.iter().map(|counts| counts.requests).sum()
+    /// The counts of all calls together.
+    fn all(&self) -> Counts {
+        self.counts.iter().fold(Counts::default(), |sum, counts| Counts {
+            requests: sum.requests + counts.requests,
+            theirs: sum.theirs + counts.theirs,
+            refused: std::array::from_fn(|number| sum.refused[number] + counts.refused[number]),
+        })
     }
 
     fn report(&mut self, place: &str, call: usize, request: &Request, difference: Difference) {
@@ -87,6 +93,7 @@ impl Run {
 
     /// A history of up to 20 calls.
     fn history(&mut self, place: &str, random: &mut Random) {
+        self.histories += 1;
         let calls = std::mem::take(&mut self.calls);
         let mut failed = None;
         let mut history = History::new(&calls, random);
@@ -127,17 +134,21 @@ impl Run {
     }
 
     fn print(&self, seconds: f64) {
-        println!("{:42} {:>12} {:>12} {:>12}", "call", "requests", "refused", "original");
-        for (call, counts) in self.calls.iter().zip(&self.counts).filter(|(_, counts)| counts.requests > 0) {
-            println!("{:42} {:>12} {:>12} {:>12}", call.name, counts.requests, counts.refused, counts.theirs);
-        }
-        let sum = |of: fn(&Counts) -> u64| self.counts.iter().map(of).sum::<u64>();
-        println!("{:42} {:>12} {:>12} {:>12}\n", "all", self.total(), sum(|c| c.refused), sum(|c| c.theirs));
+        println!("{:42}{:>10}{:>10}  refused by 1 to 9", "call", "requests", "original");
+        let rows = self.calls.iter().zip(&self.counts).filter(|(_, counts)| counts.requests > 0);
+        rows.for_each(|(call, counts)| print_row(call.name, counts));
+        print_row("all", &self.all());
+        println!("\n{} histories", self.histories);
         for (listed, text) in Listed::ALL {
-            println!("listed difference met {:>10} times: {text}", self.met.count(listed));
+            println!("listed difference met {:>8} times: {text}", self.met.count(listed));
         }
-        println!("\n{} requests in {seconds:.1} s, {} unlisted differences", self.total(), self.differences);
+        println!("{} requests in {seconds:.1} s, {} unlisted differences", self.all().requests, self.differences);
     }
+}
+
+fn print_row(name: &str, counts: &Counts) {
+    let refused: String = counts.refused[1..].iter().map(|many| format!("{many:>9}")).collect();
+    println!("{name:42}{:>10}{:>10}{refused}", counts.requests, counts.theirs);
 }
 
 fn main() {
@@ -149,14 +160,14 @@ fn main() {
         usage();
     }
     let begun = Instant::now();
-    let mut run = Run { counts: vec![Counts::default(); calls.len()], calls, met: Met::default(), differences: 0 };
+    let mut run = Run { counts: vec![Counts::default(); calls.len()], calls, met: Met::default(), histories: 0, differences: 0 };
     if options.every {
         these.iter().for_each(|&call| run.every(call));
     } else if let Some(index) = options.index {
         run.chance(options.seed, index, &these);
     } else {
         let mut index = 0;
-        while run.total() < options.requests && run.differences < ENOUGH {
+        while run.all().requests < options.requests && run.differences < ENOUGH {
             run.chance(options.seed, index, &these);
             index += 1;
         }
