@@ -1,7 +1,7 @@
 //! One request put to the library, the model and the original, and their answers compared.
 
 use crate::listed::{Listed, Met};
-use crate::request::Request;
+use crate::request::{Bytes, Request};
 use crate::table::Call;
 use crate::theirs::{self, Outcome, Theirs};
 use model::{Answer, State, Walk};
@@ -44,12 +44,15 @@ fn unequal(side: &str, ours: impl std::fmt::Debug, other: impl std::fmt::Debug) 
 }
 
 /// The library's answer and output, where all sides agree.
-pub fn compare(call: &Call, request: &Request, counts: &mut Counts, met: &mut Met) -> Result<(Answer, Vec<u8>), Difference> {
+pub fn compare(call: &Call, request: &Request, counts: &mut Counts, met: &mut Met) -> Result<(Answer, Bytes), Difference> {
     let lent = request.clone();
     let mut out = request.out.clone();
     let ours = (call.ours)(&lent, &mut out);
     if lent != *request {
         return Err(Difference("a byte lent for reading was written".to_string()));
+    }
+    if out.outside() != request.out.outside() {
+        return Err(Difference("a byte outside of the output was written".to_string()));
     }
     let mut model_out = request.out.clone();
     let model = (call.model)(request, &mut model_out);

@@ -1,8 +1,8 @@
 //! Records off a damaged tablet: numbers of a request changed, bytes cut short.
 
 use crate::choices::{Choices, Random};
-use crate::request::Request;
-use crate::style::extreme;
+use crate::request::{Bytes, Request};
+use crate::wide::extreme;
 
 /// A number near the old one, or at a limit.
 fn changed(old: usize, random: &mut Random) -> usize {
@@ -39,7 +39,7 @@ pub fn damage(r: &mut Request, random: &mut Random) {
 }
 
 /// Cuts bytes off the end, mostly one.
-fn cut(bytes: &mut Vec<u8>, random: &mut Random) {
+fn cut(bytes: &mut Bytes, random: &mut Random) {
     let many = if random.once_in(4) { random.below(bytes.len() + 1) } else { 1 };
     bytes.truncate(bytes.len().saturating_sub(many));
 }

@@ -1,6 +1,6 @@
 //! Makes a request of a shape in a style.
 
-use crate::request::{Args, Kind, Piece, Request, Shape, Target};
+use crate::request::{Args, Bytes, Kind, Piece, Request, Shape, Target};
 use crate::style::Style;
 use model::{Builder, LIMIT, Mask, frozen_size, zeros};
 
@@ -28,8 +28,7 @@ pub fn generate(shape: Shape, style: &mut impl Style) -> Request {
         Target::None => {}
         Target::Output => {
             let length = if shape.pieces > 0 { length } else { r.n };
-            let many = style.room(bytes_for(length as u128));
-            r.out = style.fill(many);
+            r.out = output(bytes_for(length as u128), style);
         }
         Target::Builder => builder(&mut r, appended, style),
     }
@@ -41,10 +40,16 @@ fn bytes_for(length: u128) -> usize {
     frozen_size(length).min(MOST) as usize
 }
 
+/// An output for so many bytes, or near it, of any content.
+pub fn output(needed: usize, style: &mut impl Style) -> Bytes {
+    let many = style.room(needed);
+    Bytes::new(&style.fill(many), style.address())
+}
+
 /// A span or a mask of so many flags.
 pub fn piece(kind: Kind, length: usize, style: &mut impl Style) -> Piece {
     let start = style.start();
-    let bytes = style.bytes(start, length);
+    let bytes = Bytes::new(&style.bytes(start, length), style.address());
     let mut piece = Piece { mask: Mask { start, length, zeros: None }, bytes };
     if kind == Kind::Mask {
         let zeros = if piece.inside() { zeros(&piece.lent().flags()) } else { 0 };
@@ -97,12 +102,11 @@ pub fn arguments(shape: Shape, length: usize, r: &mut Request, style: &mut impl 
     0
 }
 
-/// A possible builder with true ones, in a buffer for the flags to be appended.
+/// A builder with true ones, in a buffer for the flags to be appended, or near it.
 fn builder(r: &mut Request, appended: u128, style: &mut impl Style) {
     let length = style.builder_length();
     let word = style.word() & ((1 << (length % 64)) - 1);
-    let many = style.room(bytes_for(length as u128 + appended)).max(8 * (length / 64));
-    r.out = style.fill(many);
-    let ones: u32 = r.out[..8 * (length / 64)].iter().map(|byte| byte.count_ones()).sum();
+    r.out = output(bytes_for(length as u128 + appended), style);
+    let ones: u32 = r.out.iter().take(8 * (length / 64)).map(|byte| byte.count_ones()).sum();
     r.builder = Builder { length, word, ones: ones as usize };
 }

@@ -4,12 +4,13 @@
 use crate::choices::{Choices, Random};
 use crate::compare::{Counts, Difference, compare};
 use crate::damage::damage;
-use crate::generate::{arguments, generate, piece};
+use crate::generate::{arguments, generate, output, piece};
 use crate::listed::Met;
-use crate::request::{Kind, Piece, Request, Target};
-use crate::style::{Style, Wide};
+use crate::request::{Bytes, Kind, Piece, Request, Target};
+use crate::style::Style;
 use crate::table::Call;
 use crate::theirs::{self, Theirs};
+use crate::wide::Wide;
 use model::{Answer, Builder, Mask, State, flag_at, frozen, frozen_size, word_flags, zeros};
 use original::bitmap::{Bitmap, BitmapBuilder};
 
@@ -25,7 +26,7 @@ pub struct History<'a> {
     calls: &'a [Call],
     stage: Stage,
     /// The builder's buffer, then the mask's bytes.
-    bytes: Vec<u8>,
+    bytes: Bytes,
     list: Vec<bool>,
 }
 
@@ -37,7 +38,7 @@ pub struct Step {
 
 impl<'a> History<'a> {
     pub fn new(calls: &'a [Call], random: &mut Random) -> Self {
-        let mut style = Wide { random, most: 1_000 };
+        let mut style = Wide { random, longest: 1_000 };
         if style.random.once_in(4) {
             let Piece { mask, bytes } = piece(Kind::Span, style.length(), &mut style);
             let mask = Mask { zeros: if mask.length == 0 { Some(0) } else { None }, ..mask };
@@ -47,7 +48,7 @@ impl<'a> History<'a> {
         }
         let many = style.one_of(&[0, 8, 16, 40, 200, 1_000]);
         let stage = Stage::Building(Builder::default(), BitmapBuilder::new());
-        Self { calls, stage, bytes: style.fill(many), list: Vec::new() }
+        Self { calls, stage, bytes: Bytes::new(&style.fill(many), style.address()), list: Vec::new() }
     }
 
     pub fn over(&self) -> bool {
@@ -66,7 +67,7 @@ impl<'a> History<'a> {
         let these: Vec<usize> = (0..self.calls.len()).filter(|&i| fits(&self.calls[i])).collect();
         let call = random.one_of(&these);
         let shape = self.calls[call].shape;
-        let mut request = generate(shape, &mut Wide { random, most: 1_000 });
+        let mut request = generate(shape, &mut Wide { random, longest: 1_000 });
         let damaged = random.once_in(6);
         if damaged {
             damage(&mut request, random);
@@ -74,7 +75,7 @@ impl<'a> History<'a> {
         self.lend(&mut request, shape.pieces, random);
         if !damaged && shape.kind == Kind::Mask {
             let length = request.pieces[0].mask.length;
-            arguments(shape, length, &mut request, &mut Wide { random, most: 1_000 });
+            arguments(shape, length, &mut request, &mut Wide { random, longest: 1_000 });
         }
         Step { call, request }
     }
@@ -89,13 +90,12 @@ impl<'a> History<'a> {
             }
             Stage::Masked(mask, _) => {
                 let place = random.below(pieces);
-                let mut style = Wide { random, most: 1_000 };
+                let mut style = Wide { random, longest: 1_000 };
                 for i in 0..pieces {
                     request.pieces[i] = if i == place { self.piece(mask) } else { true_piece(mask.length, &mut style) };
                 }
                 if !request.out.is_empty() && !style.random.once_in(8) {
-                    let many = style.room(frozen_size(mask.length as u128) as usize);
-                    request.out = style.fill(many);
+                    request.out = output(frozen_size(mask.length as u128) as usize, &mut style);
                 }
             }
             Stage::Over => {}
@@ -122,7 +122,7 @@ impl<'a> History<'a> {
         self.held()
     }
 
-    fn built(&mut self, call: &Call, request: &Request, state: State, mut builder: BitmapBuilder, out: Vec<u8>) -> Stage {
+    fn built(&mut self, call: &Call, request: &Request, state: State, mut builder: BitmapBuilder, out: Bytes) -> Stage {
         self.bytes = out;
         match (&call.theirs, state) {
             (Theirs::Append(append), State::Builder(ours)) => {
@@ -139,7 +139,7 @@ impl<'a> History<'a> {
         }
     }
 
-    fn masked(&mut self, call: &Call, request: &Request, (mask, state): (Mask, State), mut bitmap: Bitmap, out: Vec<u8>) -> Stage {
+    fn masked(&mut self, call: &Call, request: &Request, (mask, state): (Mask, State), mut bitmap: Bitmap, out: Bytes) -> Stage {
         let State::Mask(ours) = state else {
             return Stage::Masked(mask, bitmap);
         };
@@ -199,9 +199,8 @@ fn true_piece(length: usize, style: &mut impl Style) -> Piece {
 
 /// The flags that a call appends: those that it leaves in a new builder.
 fn appended(call: &Call, request: &Request) -> Vec<bool> {
-    let mut alone = Request { builder: Builder::default(), ..request.clone() };
-    alone.out.resize(1 << 16, 0);
-    let mut out = alone.out.clone();
+    let alone = Request { builder: Builder::default(), ..request.clone() };
+    let mut out = vec![0; 1 << 16];
     let answer = (call.model)(&alone, &mut out);
     let State::Builder(builder) = answer.state else { panic!("no builder") };
     assert_eq!(answer.refusal, 0, "a new builder refuses what the history's took");
@@ -213,7 +212,7 @@ fn appended(call: &Call, request: &Request) -> Vec<bool> {
 fn combined(call: &Call, request: &Request, own: &Piece, list: &[bool]) -> Vec<bool> {
     let mut plain = request.clone();
     for piece in plain.pieces.iter_mut().filter(|piece| *piece == own) {
-        *piece = Piece { mask: Mask { start: 0, length: list.len(), zeros: None }, bytes: frozen(list) };
+        *piece = Piece { mask: Mask { start: 0, length: list.len(), zeros: None }, bytes: Bytes::new(&frozen(list), 0) };
     }
     let mut out = request.out.clone();
     let Answer { state: State::Mask(mask), .. } = (call.model)(&plain, &mut out) else { panic!("no mask") };

@@ -8,6 +8,8 @@ pub mod history;
 pub mod listed;
 pub mod ours;
 pub mod request;
+pub mod short;
 pub mod style;
 pub mod table;
 pub mod theirs;
+pub mod wide;

@@ -9,8 +9,9 @@ use driver::generate::generate;
 use driver::history::History;
 use driver::listed::{Listed, Met};
 use driver::request::Request;
-use driver::style::{Short, Wide};
+use driver::short::Short;
 use driver::table::{Call, calls};
+use driver::wide::Wide;
 use model::LIMIT;
 use std::time::Instant;
 
@@ -125,7 +126,7 @@ impl Run {
         let shape = self.calls[call].shape;
         let mut request = match random.below(8) {
             0 => generate(shape, &mut Short::new(shape, random)),
-            _ => generate(shape, &mut Wide { random, most: LIMIT }),
+            _ => generate(shape, &mut Wide { random, longest: LIMIT }),
         };
         if random.once_in(4) {
             damage(&mut request, random);

@@ -1,12 +1,62 @@
 //! A request: what is handed to a call. One record serves all calls; each takes of it what its shape names.
 
 use model::{Builder, Lent, Mask, Span, Walk};
+use std::ops::{Deref, DerefMut};
+
+/// Lent bytes. Up to 7 others stand before them, so that they begin at any address, and some behind them.
+#[derive(Clone, Default)]
+pub struct Bytes {
+    room: Vec<u8>,
+    before: usize,
+    many: usize,
+}
+
+impl Bytes {
+    pub fn new(bytes: &[u8], before: usize) -> Self {
+        Self { room: [&[0xEE; 7][..before], bytes, &[0xEE; 8]].concat(), before, many: bytes.len() }
+    }
+
+    pub fn truncate(&mut self, many: usize) {
+        self.many = self.many.min(many);
+    }
+
+    /// What stands before and behind the lent bytes.
+    pub fn outside(&self) -> (&[u8], &[u8]) {
+        (&self.room[..self.before], &self.room[self.before + self.many..])
+    }
+}
+
+impl Deref for Bytes {
+    type Target = [u8];
+
+    fn deref(&self) -> &[u8] {
+        &self.room[self.before..self.before + self.many]
+    }
+}
+
+impl DerefMut for Bytes {
+    fn deref_mut(&mut self) -> &mut [u8] {
+        &mut self.room[self.before..self.before + self.many]
+    }
+}
+
+impl PartialEq for Bytes {
+    fn eq(&self, other: &Self) -> bool {
+        **self == **other
+    }
+}
+
+impl std::fmt::Debug for Bytes {
+    fn fmt(&self, f: &mut std::fmt::Formatter<'_>) -> std::fmt::Result {
+        (**self).fmt(f)
+    }
+}
 
 /// A mask or a span with the bytes lent beside it.
 #[derive(Clone, Debug, PartialEq, Default)]
 pub struct Piece {
     pub mask: Mask,
-    pub bytes: Vec<u8>,
+    pub bytes: Bytes,
 }
 
 impl Piece {
@@ -30,7 +80,7 @@ pub struct Request {
     pub masked: bool,
     pub builder: Builder,
     /// The output, or the builder's buffer, as it is lent.
-    pub out: Vec<u8>,
+    pub out: Bytes,
     /// The call's numbers, in the order of its arguments.
     pub n: usize,
     pub m: usize,

@@ -4,19 +4,20 @@ use driver::choices::Random;
 use driver::compare::{Counts, compare};
 use driver::generate::generate;
 use driver::listed::Met;
-use driver::request::{Args, Request, Target};
-use driver::style::{Style, Wide};
+use driver::request::{Args, Bytes, Request, Target};
+use driver::style::Style;
 use driver::table::{Call, calls};
+use driver::wide::Wide;
 use model::{Builder, LIMIT, Mask};
 
 /// A request in which each piece, or each stated length, is of `length` flags; what a call appends goes to a builder with no flags.
 fn long(call: &Call, length: usize, random: &mut Random) -> Request {
     let shape = call.shape;
-    let mut style = Wide { random, most: LIMIT };
+    let mut style = Wide { random, longest: LIMIT };
     let mut request = generate(shape, &mut style);
     for piece in &mut request.pieces[..shape.pieces] {
         piece.mask = Mask { start: 0, length, zeros: None };
-        piece.bytes = style.fill(length / 8 + 1);
+        piece.bytes = Bytes::new(&style.fill(length / 8 + 1), style.address());
     }
     request.present = [true; 2];
     request.place = 0;
@@ -32,7 +33,7 @@ fn long(call: &Call, length: usize, random: &mut Random) -> Request {
         request.builder = Builder::default();
     }
     if shape.target != Target::None {
-        request.out = style.fill(length.div_ceil(64) * 8);
+        request.out = Bytes::new(&style.fill(length.div_ceil(64) * 8), style.address());
     }
     request
 }
