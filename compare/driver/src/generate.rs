@@ -72,7 +72,7 @@ pub fn arguments(shape: Shape, length: usize, r: &mut Request, style: &mut impl 
         }
         Args::SameLength => r.n = style.beside(length),
         Args::Inner => {
-            (r.n, r.m) = style.piece_of(length);
+            (r.n, r.m) = inner(length, style);
             return r.m as u128;
         }
         Args::Word => {
@@ -100,6 +100,15 @@ pub fn arguments(shape: Shape, length: usize, r: &mut Request, style: &mut impl 
         }
     }
     0
+}
+
+/// Offset and length of a piece of a mask, mostly inside.
+fn inner(length: usize, style: &mut impl Style) -> (usize, usize) {
+    if let Some(kept) = style.kept(length) {
+        return (style.below(length - kept + 1), kept);
+    }
+    let offset = style.inside(length);
+    (offset, style.inside(length.saturating_sub(offset)))
 }
 
 /// A builder with true ones, in a buffer for the flags to be appended, or near it.

@@ -28,10 +28,9 @@ pub trait Style: Choices {
     /// A position that a call wants in its mask: mostly there.
     fn inside(&mut self, length: usize) -> usize;
 
-    /// Offset and length of a piece of a mask, mostly inside.
-    fn piece_of(&mut self, length: usize) -> (usize, usize) {
-        let offset = self.inside(length);
-        (offset, self.inside(length.saturating_sub(offset)))
+    /// How much of a mask a slice keeps, where it is to be near the border of counting again.
+    fn kept(&mut self, _length: usize) -> Option<usize> {
+        None
     }
 
     fn builder_length(&mut self) -> usize;

@@ -107,14 +107,10 @@ impl Style for Wide<'_> {
         if self.random.once_in(8) { self.position(length) } else { self.below(length + 1) }
     }
 
-    /// Often just so much that a slice counts again, or one flag more or less.
-    fn piece_of(&mut self, length: usize) -> (usize, usize) {
-        if self.random.once_in(3) {
-            let kept = (length.saturating_sub((length / 5).max(32)) + 1).saturating_sub(self.below(3)).min(length);
-            return (self.below(length - kept + 1), kept);
-        }
-        let offset = self.inside(length);
-        (offset, self.inside(length.saturating_sub(offset)))
+    /// Just so much that a slice counts again, or one flag more or less.
+    fn kept(&mut self, length: usize) -> Option<usize> {
+        let border = length.saturating_sub((length / 5).max(32));
+        self.random.once_in(3).then(|| (border + 1).saturating_sub(self.below(3)).min(length))
     }
 
     fn builder_length(&mut self) -> usize {
