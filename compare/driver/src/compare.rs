@@ -4,7 +4,7 @@ use crate::listed::{Listed, Met};
 use crate::request::{Bytes, Request};
 use crate::table::Call;
 use crate::theirs::{self, Outcome, Theirs};
-use model::{Answer, State, Walk};
+use model::{Answer, Cursor, State};
 use std::panic::{AssertUnwindSafe, catch_unwind};
 
 /// What was compared of one call.
@@ -66,11 +66,11 @@ pub fn compare(call: &Call, request: &Request, counts: &mut Counts, met: &mut Me
     if model.refusal != 0 {
         counts.refused[usize::from(model.refusal)] += 1;
     }
-    if let (Theirs::Walk(step, all), 0) = (&call.theirs, model.refusal) {
-        let mut walk = Stepped { answer: ours.clone(), bytes: request.bytes(), step: *step, listed: Ok(0) };
-        all(request, met, &mut |values| walk.gives(values));
-        walk.gives(&[]);
-        walk.listed?;
+    if let (Theirs::Cursor(step, all), 0) = (&call.theirs, model.refusal) {
+        let mut cursor = Stepped { answer: ours.clone(), bytes: request.bytes(), step: *step, listed: Ok(0) };
+        all(request, met, &mut |values| cursor.gives(values));
+        cursor.gives(&[]);
+        cursor.listed?;
         counts.theirs += 1;
     } else if let Some(outcome) = ask_original(call, request, model.refusal, met) {
         agree(&ours, &request.out, &out, &outcome)?;
@@ -106,7 +106,7 @@ fn ask_original(call: &Call, request: &Request, refusal: u8, met: &mut Met) -> O
             }
             Some(theirs::result(&bitmap, met))
         }
-        Theirs::Absent | Theirs::Refusing(_) | Theirs::Walk(..) => None,
+        Theirs::Absent | Theirs::Refusing(_) | Theirs::Cursor(..) => None,
     }
 }
 
@@ -125,25 +125,25 @@ fn agree(ours: &Answer, before: &[u8], after: &[u8], theirs: &Outcome) -> Result
     Ok(())
 }
 
-/// Our walk, held against the original's answers one by one.
+/// Our cursor, held against the original's answers one by one.
 struct Stepped<'a> {
-    /// The last answer, with the walk behind it.
+    /// The last answer, with the cursor behind it.
     answer: Answer,
     bytes: &'a [u8],
-    step: fn(Walk, &[u8]) -> Answer,
+    step: fn(Cursor, &[u8]) -> Answer,
     listed: Result<usize, Difference>,
 }
 
 impl Stepped<'_> {
     /// Our next answer must be this one; no number stands for the end.
     fn gives(&mut self, theirs: &[u64]) {
-        let (Ok(listed), State::Walk(walk)) = (&mut self.listed, self.answer.state) else {
+        let (Ok(listed), State::Cursor(cursor)) = (&mut self.listed, self.answer.state) else {
             return;
         };
-        self.answer = (self.step)(walk, self.bytes);
+        self.answer = (self.step)(cursor, self.bytes);
         *listed += 1;
         if self.answer.refusal != 0 || self.answer.values != theirs {
-            self.listed = Err(unequal("original", (*listed, walk, &self.answer), theirs));
+            self.listed = Err(unequal("original", (*listed, cursor, &self.answer), theirs));
         }
     }
 }

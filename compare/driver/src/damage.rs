@@ -1,4 +1,4 @@
-//! Records off a damaged tablet: numbers of a request changed, bytes cut short.
+//! Damaged requests: numbers changed, bytes cut short.
 
 use crate::choices::{Choices, Random};
 use crate::request::{Bytes, Request};

@@ -17,7 +17,7 @@ pub fn generate(shape: Shape, style: &mut impl Style) -> Request {
     for present in &mut r.present[..shape.optional] {
         *present = style.flip();
     }
-    if shape.kind == Kind::Walk {
+    if shape.kind == Kind::Cursor {
         r.place = style.inside(length);
         r.masked = !(shape.maskless && style.flip());
     }

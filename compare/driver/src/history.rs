@@ -1,5 +1,5 @@
 //! Histories: a builder, then a mask, through many calls, refused ones included. Each call is compared by itself; and after each the
-//! library's state is held against document 01's plain list and against a builder or bitmap of the original that has gone the same way.
+//! library's state is held against document 01's reference list and against a builder or bitmap of the original that has gone the same way.
 
 use crate::choices::{Choices, Random};
 use crate::compare::{Counts, Difference, compare};
@@ -182,7 +182,7 @@ impl<'a> History<'a> {
             return Err(Difference("the original has come to another state".to_string()));
         }
         if flags != self.list || known.is_some_and(|known| known != zeros(&self.list)) {
-            return Err(Difference("the plain list is another".to_string()));
+            return Err(Difference("the reference list is another".to_string()));
         }
         Ok(())
     }
@@ -208,7 +208,7 @@ fn appended(call: &Call, request: &Request) -> Vec<bool> {
     finished.chain(word_flags(builder.word).into_iter().take(builder.length % 64)).collect()
 }
 
-/// The flags of a combination in which the plain list stands where the history's mask does.
+/// The flags of a combination in which the reference list stands where the history's mask does.
 fn combined(call: &Call, request: &Request, own: &Piece, list: &[bool]) -> Vec<bool> {
     let mut plain = request.clone();
     for piece in plain.pieces.iter_mut().filter(|piece| *piece == own) {

@@ -3,7 +3,7 @@
 //! What a refusal or an absence leaves out must be 0 in the library's record; anything else is reported as a difference, by a panic
 //! that the comparison catches.
 
-use model::{Answer, Builder, Mask, State, Walk};
+use model::{Answer, Builder, Cursor, Mask, State};
 use poruwhina::calls;
 
 /// Any number but 0 marks a known count, and the number beside an unknown one is not read: both vary here.
@@ -19,13 +19,13 @@ pub fn builder(b: Builder) -> calls::Builder {
     calls::Builder { length: b.length, word: b.word, ones: b.ones }
 }
 
-pub fn cursor(walk: Walk) -> calls::Cursor {
-    calls::Cursor { start: walk.start, length: walk.length, place: walk.place, masked: walk.masked.into() }
+pub fn cursor(cursor: Cursor) -> calls::Cursor {
+    calls::Cursor { start: cursor.start, length: cursor.length, place: cursor.place, masked: cursor.masked.into() }
 }
 
 /// A cursor for the calls that do not read `masked`: it says that there is no mask.
-pub fn unmarked(walk: Walk) -> calls::Cursor {
-    calls::Cursor { masked: 0, ..cursor(walk) }
+pub fn unmarked(cursor: Cursor) -> calls::Cursor {
+    calls::Cursor { start: cursor.start, length: cursor.length, place: cursor.place, masked: 0 }
 }
 
 fn mask_state(mask: calls::Mask) -> State {
@@ -33,9 +33,9 @@ fn mask_state(mask: calls::Mask) -> State {
     State::Mask(Mask { start: mask.start, length: mask.length, zeros: (mask.known == 1).then_some(mask.zeros) })
 }
 
-fn walk_state(cursor: calls::Cursor) -> State {
+fn cursor_state(cursor: calls::Cursor) -> State {
     assert!(cursor.masked <= 1, "no mark: {cursor:?}");
-    State::Walk(Walk { start: cursor.start, length: cursor.length, place: cursor.place, masked: cursor.masked == 1 })
+    State::Cursor(Cursor { start: cursor.start, length: cursor.length, place: cursor.place, masked: cursor.masked == 1 })
 }
 
 /// The numbers of an answer that is there, none of one that is not.
@@ -113,9 +113,9 @@ pub fn counted(a: calls::ZerosAnswer) -> Answer {
 }
 
 /// A new cursor: none where it is refused.
-pub fn walk(a: calls::CursorAnswer) -> Answer {
+pub fn new_cursor(a: calls::CursorAnswer) -> Answer {
     if a.refusal == 0 {
-        return answer(0, &[], walk_state(a.cursor));
+        return answer(0, &[], cursor_state(a.cursor));
     }
     assert_eq!(a.cursor, calls::Cursor::default(), "a cursor where there is none");
     answer(a.refusal, &[], State::None)
@@ -124,18 +124,18 @@ pub fn walk(a: calls::CursorAnswer) -> Answer {
 /// A step whose number stands in `value`; `count` is not used.
 pub fn step(a: calls::StepAnswer) -> Answer {
     assert_eq!(a.count, 0, "a count where there is none");
-    Answer { refusal: a.refusal, values: there(a.found, vec![a.value]), state: walk_state(a.cursor) }
+    Answer { refusal: a.refusal, values: there(a.found, vec![a.value]), state: cursor_state(a.cursor) }
 }
 
 /// A step with both numbers: a run.
 pub fn run(a: calls::StepAnswer) -> Answer {
-    Answer { refusal: a.refusal, values: there(a.found, vec![a.value, a.count as u64]), state: walk_state(a.cursor) }
+    Answer { refusal: a.refusal, values: there(a.found, vec![a.value, a.count as u64]), state: cursor_state(a.cursor) }
 }
 
 /// A step whose number stands in `count`; `value` is not used.
 pub fn taken(a: calls::StepAnswer) -> Answer {
     assert_eq!(a.value, 0, "a value where there is none");
-    Answer { refusal: a.refusal, values: there(a.found, vec![a.count as u64]), state: walk_state(a.cursor) }
+    Answer { refusal: a.refusal, values: there(a.found, vec![a.count as u64]), state: cursor_state(a.cursor) }
 }
 
 /// The remainder: the cursor is given back on a refusal alone.

@@ -1,6 +1,6 @@
 //! A request: what is handed to a call. One record serves all calls; each takes of it what its shape names.
 
-use model::{Builder, Lent, Mask, Span, Walk};
+use model::{Builder, Cursor, Lent, Mask, Span};
 use std::ops::{Deref, DerefMut};
 
 /// Lent bytes. Up to 7 others stand before them, so that they begin at any address, and some behind them.
@@ -75,7 +75,7 @@ pub struct Request {
     pub pieces: [Piece; 3],
     /// Whether the mask of a piece is there, where a call may do without.
     pub present: [bool; 2],
-    /// The place of a walk over the first piece, and whether it has a mask.
+    /// The place of a cursor over the first piece, and whether it has a mask.
     pub place: usize,
     pub masked: bool,
     pub builder: Builder,
@@ -104,9 +104,9 @@ impl Request {
         &self.pieces[0].bytes
     }
 
-    pub fn walk(&self) -> Walk {
+    pub fn cursor(&self) -> Cursor {
         let Mask { start, length, .. } = self.pieces[0].mask;
-        Walk { start, length, place: self.place, masked: self.masked }
+        Cursor { start, length, place: self.place, masked: self.masked }
     }
 
     pub fn optional(&self, i: usize) -> Option<Lent<'_>> {
@@ -144,12 +144,12 @@ pub enum Args {
     Nth,
 }
 
-/// What the first piece is: bytes with a span, with a mask, or with a walk.
+/// What the first piece is: bytes with a span, with a mask, or with a cursor.
 #[derive(Clone, Copy, Debug, PartialEq, Eq)]
 pub enum Kind {
     Span,
     Mask,
-    Walk,
+    Cursor,
 }
 
 /// What is lent to be written.
@@ -171,7 +171,7 @@ pub struct Shape {
     pub ops: u8,
     /// How many of the masks may be absent.
     pub optional: usize,
-    /// Whether the walk may be without a mask.
+    /// Whether the cursor may be without a mask.
     pub maskless: bool,
 }
 
@@ -179,7 +179,7 @@ impl Shape {
     pub const NOTHING: Shape =
         Shape { pieces: 0, kind: Kind::Span, target: Target::None, args: Args::None, flag: false, ops: 1, optional: 0, maskless: false };
     pub const SPAN: Shape = Shape { pieces: 1, ..Shape::NOTHING };
-    pub const WALK: Shape = Shape { kind: Kind::Walk, ..Shape::SPAN };
+    pub const CURSOR: Shape = Shape { kind: Kind::Cursor, ..Shape::SPAN };
     pub const BUILDER: Shape = Shape { target: Target::Builder, ..Shape::NOTHING };
 
     pub const fn masks(pieces: usize) -> Shape {

@@ -2,7 +2,7 @@
 
 use crate::listed::{Listed, Met};
 use crate::request::Request;
-use model::{Answer, Builder, Lent, Mask, State, Walk, frozen_size, zeros};
+use model::{Answer, Builder, Cursor, Lent, Mask, State, frozen_size, zeros};
 use original::SharedStorage;
 use original::bitmap::bitmask::BitMask;
 use original::bitmap::{Bitmap, BitmapBuilder};
@@ -35,7 +35,7 @@ impl Outcome {
     }
 }
 
-/// Gets the answers of a walk, one after another.
+/// Gets the answers of a cursor, one after another.
 pub type Visit<'a> = &'a mut dyn FnMut(&[u64]);
 
 /// How the original is asked for a call. Save for `Refusing` it is asked only where the model accepts the request.
@@ -50,8 +50,8 @@ pub enum Theirs {
     Append(fn(&Request, &mut BitmapBuilder)),
     /// A builder's end; none where all flags are set.
     Finish(fn(BitmapBuilder) -> Option<Bitmap>),
-    /// A new walk: our step, and the original's answers from first to last, each handed to the visitor.
-    Walk(fn(Walk, &[u8]) -> Answer, fn(&Request, &mut Met, Visit)),
+    /// A new cursor: our step, and the original's answers from first to last, each handed to the visitor.
+    Cursor(fn(Cursor, &[u8]) -> Answer, fn(&Request, &mut Met, Visit)),
     /// A bitmap made from as many bitmaps as the call takes masks.
     Combine(fn(&Request, &[Bitmap]) -> Bitmap),
 }

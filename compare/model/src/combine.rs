@@ -1,7 +1,7 @@
 //! The combinations: flag by flag into frozen bytes.
 
 use crate::mask::zero_count;
-use crate::{Answer, Lent, Mask, Questions, State, write_frozen};
+use crate::{Answer, Checks, Lent, Mask, State, write_frozen};
 
 /// The combinations of two masks, in the order of the interface's numbers.
 #[derive(Clone, Copy, Debug, PartialEq, Eq)]
@@ -47,15 +47,15 @@ impl Op {
     }
 }
 
-/// The questions of masks combined, 1, 2, 3, 5 and 9, and the result. `flags` gives the result's flags and whether a shortcut of `and`
+/// The checks of masks combined, 1, 2, 3, 5 and 9, and the result. `flags` gives the result's flags and whether a shortcut of `and`
 /// or `xor` made all of them zero.
 fn combined(masks: &[Lent], out: &mut [u8], flags: impl FnOnce() -> (Vec<bool>, bool)) -> Answer {
     let length = masks[0].mask.length;
-    let mut asked = Questions::default();
+    let mut checks = Checks::default();
     for lent in masks {
-        asked = asked.mask(*lent).ask(5, lent.mask.length == length);
+        checks = checks.mask(*lent).check(5, lent.mask.length == length);
     }
-    asked.holds(out, length as u128).answer(State::None, || {
+    checks.holds(out, length as u128).answer(State::None, || {
         let (flags, all_zero) = flags();
         write_frozen(&flags, out);
         let zeros = if all_zero || length == 0 { Some(length) } else { None };

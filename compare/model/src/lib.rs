@@ -4,15 +4,15 @@
 //! It is slow and meant to be read next to document 01.
 
 pub mod builder;
+mod checks;
 pub mod combine;
+pub mod cursors;
 pub mod dispatch;
 pub mod mask;
-mod questions;
 pub mod spans;
-pub mod walks;
 pub mod words;
 
-use questions::Questions;
+use checks::Checks;
 
 /// The most flags that a start or a length may name.
 pub const LIMIT: usize = 4_194_304;
@@ -33,9 +33,9 @@ pub struct Builder {
     pub ones: usize,
 }
 
-/// A walk: a span and the next place. Only the walk over positions may be without a mask.
+/// A cursor: a span and the next place. Only the cursor over positions may be without a mask.
 #[derive(Clone, Copy, Debug, PartialEq, Eq)]
-pub struct Walk {
+pub struct Cursor {
     pub start: usize,
     pub length: usize,
     pub place: usize,
@@ -81,10 +81,10 @@ pub enum State {
     None,
     Mask(Mask),
     Builder(Builder),
-    Walk(Walk),
+    Cursor(Cursor),
 }
 
-/// What a call answers: the number of the question that refuses it, or 0; its numbers, none of them where it finds nothing; and its
+/// What a call answers: the number of the check that refuses it, or 0; its numbers, none of them where it finds nothing; and its
 /// record.
 #[derive(Clone, Debug, PartialEq, Eq)]
 pub struct Answer {

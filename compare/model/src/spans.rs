@@ -1,6 +1,6 @@
 //! The calls over bare spans.
 
-use crate::{Answer, Questions, Span, State, Walk, flags_word, run_at_front, zeros};
+use crate::{Answer, Checks, Cursor, Span, State, flags_word, run_at_front, zeros};
 
 /// The five counts, in the order of the interface's numbers.
 #[derive(Clone, Copy, Debug, PartialEq, Eq)]
@@ -12,12 +12,12 @@ pub enum Count {
     TrailingOnes,
 }
 
-/// 1, 2 and 8; with length 0 `empty` is the answer before any question.
+/// 1, 2 and 8; with length 0 `empty` is the answer before any check.
 fn addressed(span: Span, address: usize, empty: &[usize], given: impl FnOnce(Vec<bool>) -> Vec<u64>) -> Answer {
     if span.length == 0 {
         return Answer::values(empty.iter().copied());
     }
-    Questions::default().span(span).ask(8, address <= 7).answer(State::None, || Answer {
+    Checks::default().span(span).check(8, address <= 7).answer(State::None, || Answer {
         refusal: 0,
         values: given(span.flags()),
         state: State::None,
@@ -52,29 +52,29 @@ pub fn count(what: Count, span: Span, address: usize) -> Answer {
     })
 }
 
-/// A walk over the span's words.
+/// A cursor over the span's words.
 pub fn chunks_new(span: Span) -> Answer {
-    let walk = Walk { start: span.start, length: span.length, place: 0, masked: true };
-    Questions::default().span(span).answer(State::None, || Answer::record(State::Walk(walk)))
+    let cursor = Cursor { start: span.start, length: span.length, place: 0, masked: true };
+    Checks::default().span(span).answer(State::None, || Answer::record(State::Cursor(cursor)))
 }
 
-pub fn chunks_next(walk: Walk, bytes: &[u8]) -> Answer {
-    let same = State::Walk(walk);
-    Questions::default().walk(walk, bytes).answer(same, || {
-        if walk.place >= walk.length / 64 {
+pub fn chunks_next(cursor: Cursor, bytes: &[u8]) -> Answer {
+    let same = State::Cursor(cursor);
+    Checks::default().cursor(cursor, bytes).answer(same, || {
+        if cursor.place >= cursor.length / 64 {
             return Answer::record(same);
         }
-        let word = Span { bytes, start: walk.start + 64 * walk.place, length: 64 }.flags();
-        let next = Walk { place: walk.place + 1, ..walk };
-        Answer { state: State::Walk(next), ..Answer::word(flags_word(&word)) }
+        let word = Span { bytes, start: cursor.start + 64 * cursor.place, length: 64 }.flags();
+        let next = Cursor { place: cursor.place + 1, ..cursor };
+        Answer { state: State::Cursor(next), ..Answer::word(flags_word(&word)) }
     })
 }
 
 /// The last length mod 64 flags as a word, and their number.
-pub fn chunks_remainder(walk: Walk, bytes: &[u8]) -> Answer {
-    Questions::default().walk(walk, bytes).answer(State::Walk(walk), || {
-        let whole = walk.length / 64 * 64;
-        let rest = Span { bytes, start: walk.start + whole, length: walk.length - whole }.flags();
+pub fn chunks_remainder(cursor: Cursor, bytes: &[u8]) -> Answer {
+    Checks::default().cursor(cursor, bytes).answer(State::Cursor(cursor), || {
+        let whole = cursor.length / 64 * 64;
+        let rest = Span { bytes, start: cursor.start + whole, length: cursor.length - whole }.flags();
         Answer { refusal: 0, values: vec![flags_word(&rest), rest.len() as u64], state: State::None }
     })
 }
@@ -82,13 +82,13 @@ pub fn chunks_remainder(walk: Walk, bytes: &[u8]) -> Answer {
 /// The spans before and behind flag `at`, each as its start and length.
 pub fn split_at_unchecked(span: Span, at: usize) -> Answer {
     let second = span.start as u128 + at as u128;
-    let asked = Questions::default().span(span).limited(&[second]).ask(6, at <= span.length);
-    asked.answer(State::None, || Answer::values([span.start, at, span.start + at, span.length - at]))
+    let checks = Checks::default().span(span).limited(&[second]).check(6, at <= span.length);
+    checks.answer(State::None, || Answer::values([span.start, at, span.start + at, span.length - at]))
 }
 
 /// 32 flags from `index` on, zeros past the end.
 pub fn get_u32(span: Span, index: usize) -> Answer {
-    Questions::default().span(span).answer(State::None, || {
+    Checks::default().span(span).answer(State::None, || {
         let from = index.min(span.length);
         let window = Span { start: span.start + from, length: (span.length - from).min(32), ..span };
         Answer::word(flags_word(&window.flags()))
@@ -96,7 +96,7 @@ pub fn get_u32(span: Span, index: usize) -> Answer {
 }
 
 fn search(span: Span, find: impl FnOnce(&mut dyn DoubleEndedIterator<Item = usize>) -> Option<usize>) -> Answer {
-    Questions::default().span(span).answer(State::None, || {
+    Checks::default().span(span).answer(State::None, || {
         let flags = span.flags();
         Answer::values(find(&mut (0..flags.len()).filter(|&j| flags[j])))
     })

@@ -1,4 +1,4 @@
-//! The calls on words. No question is put.
+//! The calls on words. No check is made.
 
 use crate::{Answer, flags_word, word_flags};
 

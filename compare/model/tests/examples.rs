@@ -2,7 +2,7 @@
 
 use model::combine::{Op, combine, select};
 use model::spans::{Count, count, nth_set_bit_idx, nth_set_bit_idx_rev};
-use model::{Answer, Builder, LIMIT, Lent, Mask, Span, State, Walk, builder, mask, walks};
+use model::{Answer, Builder, Cursor, LIMIT, Lent, Mask, Span, State, builder, cursors, mask};
 
 /// A = 1,0,1,1,0,1.
 const A: Span = Span { bytes: &[0x2D], start: 0, length: 6 };
@@ -53,12 +53,12 @@ fn appends_and_freezing() {
 
 #[test]
 fn runs_and_searches() {
-    let mut walk = Walk { start: 0, length: 6, place: 0, masked: true };
+    let mut cursor = Cursor { start: 0, length: 6, place: 0, masked: true };
     for run in [vec![0, 1], vec![2, 2], vec![5, 1], vec![]] {
-        let answer = walks::slices_next(walk, A.bytes);
+        let answer = cursors::slices_next(cursor, A.bytes);
         assert_eq!(answer.values, run);
-        let State::Walk(next) = answer.state else { panic!("no walk") };
-        walk = next;
+        let State::Cursor(next) = answer.state else { panic!("no cursor") };
+        cursor = next;
     }
     assert_eq!(nth_set_bit_idx(A, 2, 0).values, [3]);
     assert_eq!(nth_set_bit_idx(A, 4, 0).values, []);

@@ -1,9 +1,9 @@
 //! The calls: for each its name, what it takes, and how the library, the model and the original are asked.
 
 mod builder;
+mod cursors;
 mod masks;
 mod spans;
-mod walks;
 
 use crate::request::{Request, Shape};
 use crate::theirs::Theirs;
@@ -22,5 +22,5 @@ pub struct Call {
 
 /// Every call of the library's interface.
 pub fn calls() -> Vec<Call> {
-    [spans::calls(), builder::calls(), masks::calls(), walks::calls()].into_iter().flatten().collect()
+    [spans::calls(), builder::calls(), masks::calls(), cursors::calls()].into_iter().flatten().collect()
 }
