@@ -153,6 +153,7 @@ impl<'a> History<'a> {
                 self.bytes = out;
                 return Stage::Masked(ours, combine(request, &masks));
             }
+            // Of the calls on a mask only `slice` is such a one; of those that give a mask `unset_bits` is left.
             Theirs::Refusing(_) => {
                 bitmap.slice(request.n, request.m);
                 self.list = self.list[request.n..request.n + request.m].to_vec();
