@@ -1,0 +1,67 @@
+//! The nine checks, document 01's questions.
+
+use crate::{Answer, Builder, Cursor, LIMIT, Lent, Span, State, frozen_size};
+
+/// The checks made so far; keeps the least number that failed. The first failure decides, and the checks of one number are made of all
+/// arguments before the next number's are, so the order in which a call adds them here does not matter.
+#[derive(Default)]
+pub struct Checks {
+    failed: Option<u8>,
+}
+
+impl Checks {
+    pub fn check(mut self, number: u8, holds: bool) -> Self {
+        if !holds && self.failed.is_none_or(|first| number < first) {
+            self.failed = Some(number);
+        }
+        self
+    }
+
+    /// 1: is each at most the limit?
+    pub fn limited(self, numbers: &[u128]) -> Self {
+        self.check(1, numbers.iter().all(|&number| number <= LIMIT as u128))
+    }
+
+    /// 1 and 2 of a span.
+    pub fn span(self, span: Span) -> Self {
+        let (start, length) = (span.start as u128, span.length as u128);
+        self.limited(&[start, length]).check(2, start + length <= 8 * span.bytes.len() as u128)
+    }
+
+    /// 1, 2 and 3 of a mask.
+    pub fn mask(self, lent: Lent) -> Self {
+        self.span(lent.span()).check(3, lent.mask.zeros.is_none_or(|zeros| zeros <= lent.mask.length))
+    }
+
+    /// 1, 2 and 6 of a cursor; without a mask check 2 is not made.
+    pub fn cursor(self, cursor: Cursor, bytes: &[u8]) -> Self {
+        let span = Span { bytes, start: cursor.start, length: cursor.length };
+        let checks = if cursor.masked { self.span(span) } else { self.limited(&[cursor.start as u128, cursor.length as u128]) };
+        checks.check(6, cursor.place <= cursor.length)
+    }
+
+    /// 1 and 4 of a builder in its buffer.
+    pub fn builder(self, builder: Builder, buf: &[u8]) -> Self {
+        let words = builder.length / 64;
+        let beyond = builder.word >> (builder.length % 64) != 0;
+        let possible = !beyond && builder.ones as u128 <= 64 * words as u128 && buf.len() as u128 >= 8 * words as u128;
+        self.limited(&[builder.length as u128]).check(4, possible)
+    }
+
+    /// 9: does the output hold the frozen bytes of so many flags?
+    pub fn holds(self, out: &[u8], length: u128) -> Self {
+        self.check(9, out.len() as u128 >= frozen_size(length))
+    }
+
+    pub fn passed(&self) -> bool {
+        self.failed.is_none()
+    }
+
+    /// The answer of the call: what `given` makes, or the refusal with the record that came.
+    pub fn answer(self, came: State, given: impl FnOnce() -> Answer) -> Answer {
+        match self.failed {
+            Some(refusal) => Answer { refusal, values: Vec::new(), state: came },
+            None => given(),
+        }
+    }
+}
