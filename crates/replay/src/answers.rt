@@ -51,13 +51,9 @@ fn low(x: u64) -> u32 {
     (x % 4294967296) as u32
 }
 
-fn wide(x: u32) -> u64 {
-    x as u64
-}
-
 fn nth(r: Nth, list: &mut [u64]) -> usize {
     match r {
-        Nth::At(position) => values::put(list, 0, wide(position)),
+        Nth::At(position) => values::put(list, 0, values::wide(position)),
         Nth::Missing => 0,
     }
 }

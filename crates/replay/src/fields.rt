@@ -50,106 +50,52 @@ fn step(f: Fields, b: u8, list: &mut [u64]) -> Fields {
     }
 }
 
-fn bad(f: Fields) -> Fields {
-    Fields {
-        many: f.many,
-        args: f.args,
-        answered: f.answered,
-        good: false,
-        place: BETWEEN,
-        value: 0,
-    }
+fn begun(mut f: Fields, place: u8, value: u64) -> Fields {
+    f.good = f.good & (f.place == BETWEEN);
+    f.place = place;
+    f.value = value;
+    f
 }
 
-fn at_place(f: Fields, place: u8, value: u64) -> Fields {
-    Fields {
-        many: f.many,
-        args: f.args,
-        answered: f.answered,
-        good: f.good,
-        place: place,
-        value: value,
-    }
-}
-
-fn begun(f: Fields, place: u8, value: u64) -> Fields {
-    if f.place == BETWEEN {
-        at_place(f, place, value)
-    } else {
-        bad(f)
-    }
-}
-
-// A digit more, or none: 16.
-fn with_digit(f: Fields, digit: u64) -> Fields {
-    let place = f.place;
-    match place {
-        BETWEEN => decimal(f, digit),
-        DECIMAL => decimal(f, digit),
-        MARKED => hexadecimal(f, digit),
-        HEXADECIMAL => hexadecimal(f, digit),
-        _ => bad(f),
-    }
-}
-
-// A decimal number has at most nineteen digits, a hexadecimal one sixteen.
-fn decimal(f: Fields, digit: u64) -> Fields {
-    if digit < 10 {
-        if f.value < 1000000000000000000 {
-            return at_place(f, DECIMAL, 10 * f.value + digit);
+// A digit more, or what is none: 16. The numbers before it are below 2^60, so that the next one fits.
+fn with_digit(mut f: Fields, digit: u64) -> Fields {
+    let value = f.value;
+    if value < 1152921504606846976 {
+        if f.place <= DECIMAL {
+            if digit < 10 {
+                f.value = 10 * value + digit;
+                f.place = DECIMAL;
+                return f;
+            }
+        } else if f.place <= HEXADECIMAL {
+            if digit < 16 {
+                f.value = 16 * value + digit;
+                f.place = HEXADECIMAL;
+                return f;
+            }
         }
     }
-    bad(f)
-}
-
-fn hexadecimal(f: Fields, digit: u64) -> Fields {
-    if digit < 16 {
-        if f.value < 1152921504606846976 {
-            return at_place(f, HEXADECIMAL, 16 * f.value + digit);
-        }
-    }
-    bad(f)
+    f.good = false;
+    f
 }
 
 // The `=` stands by itself, once.
-fn equals(f: Fields) -> Fields {
-    if f.answered {
-        return bad(f);
-    }
-    if f.place != BETWEEN {
-        return bad(f);
-    }
-    Fields {
-        many: f.many,
-        args: f.many,
-        answered: true,
-        good: f.good,
-        place: BETWEEN,
-        value: 0,
-    }
+fn equals(mut f: Fields) -> Fields {
+    f.good = f.good & !f.answered & (f.place == BETWEEN);
+    f.args = f.many;
+    f.answered = true;
+    f
 }
 
 // The number in progress, if there is one, goes into the list.
-fn closed(f: Fields, list: &mut [u64]) -> Fields {
-    let place = f.place;
-    match place {
-        BETWEEN => f,
-        MARKED => bad(f),
-        _ => kept(f, list),
-    }
-}
-
-fn kept(f: Fields, list: &mut [u64]) -> Fields {
+fn closed(mut f: Fields, list: &mut [u64]) -> Fields {
     let many = f.many;
-    if list.len() <= many {
-        return bad(f);
+    if f.place == BETWEEN {
+        return f;
     }
-    Fields {
-        many: values::put(list, many, f.value),
-        args: f.args,
-        answered: f.answered,
-        good: f.good,
-        place: BETWEEN,
-        value: 0,
-    }
+    f.good = f.good & (f.place != MARKED) & (many < list.len());
+    f.many = values::put(list, many, f.value);
+    f.place = BETWEEN;
+    f.value = 0;
+    f
 }

@@ -1,5 +1,6 @@
 // Standard input, a window at a time, taken apart into lines.
 use crate::hex;
+use crate::names;
 use crate::record;
 use crate::record::Outcome;
 use crate::tally;
@@ -12,7 +13,8 @@ const READS: usize = 16777216;
 const ROOM: usize = 1024;
 
 // What is kept from one line to the next: how many bytes of x, y and z are lent; of the line in progress its bytes so far, and
-// whether it is too long; the number of lines before it; the malformed ones; and how many lines were printed.
+// whether it is too long; how many lines came before it, how many of them were malformed, records, records that differ; and how
+// many lines were printed.
 struct State {
     x: usize,
     y: usize,
@@ -21,6 +23,8 @@ struct State {
     long: bool,
     lines: u64,
     malformed: u64,
+    records: u64,
+    differing: u64,
     printed: u64,
 }
 
@@ -32,10 +36,19 @@ pub fn run() {
     let line: &mut [u8] = &mut line_space;
     let mut lent_space = [0u8; 3072];
     let lent: &mut [u8] = &mut lent_space;
-    let mut tally_space = [0u64; 88];
+    let mut tally_space = [0u64; 128];
     let tally: &mut [u64] = &mut tally_space;
     let s = read(window, line, lent, tally);
-    tally::print(tally, s.malformed);
+    tally::print(tally);
+    print_totals(s);
+}
+
+fn print_totals(s: State) {
+    io::write_all(1, b"total");
+    tally::numbers(s.records, s.differing);
+    io::write_all(1, b"malformed lines: ");
+    io::print_decimal(1, s.malformed);
+    io::write_all(1, b"\n");
 }
 
 fn new() -> State {
@@ -47,10 +60,13 @@ fn new() -> State {
         long: false,
         lines: 0,
         malformed: 0,
+        records: 0,
+        differing: 0,
         printed: 0,
     }
 }
 
+// A last line may have no line feed.
 fn read(window: &mut [u8], line: &mut [u8], lent: &mut [u8], tally: &mut [u64]) -> State {
     let mut s = new();
     let mut reads = 0;
@@ -71,8 +87,7 @@ fn read(window: &mut [u8], line: &mut [u8], lent: &mut [u8], tally: &mut [u64]) 
     s
 }
 
-// A last line that has no line feed.
-fn last(s: State, line: &mut [u8], lent: &mut [u8], tally: &mut [u64]) -> State {
+fn last(s: State, line: &[u8], lent: &mut [u8], tally: &mut [u64]) -> State {
     if s.fill == 0 {
         s
     } else {
@@ -98,66 +113,44 @@ fn byte(s: State, b: u8, line: &mut [u8], lent: &mut [u8], tally: &mut [u64]) ->
     }
 }
 
-fn longer(s: State, b: u8, line: &mut [u8]) -> State {
+fn longer(mut s: State, b: u8, line: &mut [u8]) -> State {
     let fill = s.fill;
     if fill < line.len() {
         line[fill] = b;
-        return with_fill(s, fill + 1, s.long);
+        s.fill = fill + 1;
+    } else {
+        s.long = true;
     }
-    with_fill(s, fill, true)
-}
-
-fn with_fill(s: State, fill: usize, long: bool) -> State {
-    State {
-        x: s.x,
-        y: s.y,
-        z: s.z,
-        fill: fill,
-        long: long,
-        lines: s.lines,
-        malformed: s.malformed,
-        printed: s.printed,
-    }
+    s
 }
 
 // A whole line: the next one begins empty.
-fn ended(s: State, line: &[u8], lent: &mut [u8], tally: &mut [u64]) -> State {
+fn ended(mut s: State, line: &[u8], lent: &mut [u8], tally: &mut [u64]) -> State {
     let fill = s.fill;
-    let next = counted(s);
-    if s.long {
-        return told(next, Outcome::Malformed, tally);
+    let long = s.long;
+    s.lines = tally::more(s.lines);
+    s.fill = 0;
+    s.long = false;
+    if long {
+        return malformed(s);
     }
     if fill <= line.len() {
-        return handled(next, &line[0..fill], lent, tally);
+        return handled(s, &line[0..fill], lent, tally);
     }
-    next
-}
-
-fn counted(s: State) -> State {
-    State {
-        x: s.x,
-        y: s.y,
-        z: s.z,
-        fill: 0,
-        long: false,
-        lines: tally::more(s.lines),
-        malformed: s.malformed,
-        printed: s.printed,
-    }
+    s
 }
 
 fn handled(s: State, text: &[u8], lent: &mut [u8], tally: &mut [u64]) -> State {
-    let kind = kind_of(text);
-    match kind {
+    match kind_of(text) {
         b'#' => s,
-        b'x' => bytes(s, kind, text, lent, tally),
-        b'y' => bytes(s, kind, text, lent, tally),
-        b'z' => bytes(s, kind, text, lent, tally),
-        _ => told(s, record(s, text, lent), tally),
+        b'x' => bytes(s, 0, text, lent),
+        b'y' => bytes(s, 1, text, lent),
+        b'z' => bytes(s, 2, text, lent),
+        _ => replayed(s, text, lent, tally),
     }
 }
 
-// The first byte of a comment, of an empty line as of a comment, and of a line of bytes; else 0.
+// The letter of a line of bytes, `#` of a comment and of an empty line, else 0.
 fn kind_of(text: &[u8]) -> u8 {
     if text.len() == 0 {
         return b'#';
@@ -166,72 +159,64 @@ fn kind_of(text: &[u8]) -> u8 {
     if first == b'#' {
         return first;
     }
-    if text.len() == 1 {
-        return first;
+    if text.len() < 2 {
+        return 0;
     }
     if text[1] == b' ' { first } else { 0 }
 }
 
-// What comes behind the letter and the space.
-fn behind(text: &[u8]) -> &[u8] {
-    if text.len() < 2 {
-        &text[0..0]
+// The bytes behind a letter and a space, into the place of that letter.
+fn bytes(mut s: State, room: usize, text: &[u8], lent: &mut [u8]) -> State {
+    let b = lend(room, text, lent);
+    if !b.good {
+        return malformed(s);
+    }
+    if room == 0 {
+        s.x = b.size;
+    } else if room == 1 {
+        s.y = b.size;
     } else {
-        &text[2..]
+        s.z = b.size;
     }
+    s
 }
 
-fn bytes(s: State, kind: u8, text: &[u8], lent: &mut [u8], tally: &mut [u64]) -> State {
-    let b = lend(kind, behind(text), lent);
-    if b.good {
-        with_bytes(s, kind, b.size)
-    } else {
-        told(with_bytes(s, kind, 0), Outcome::Malformed, tally)
-    }
-}
-
-// Where the bytes of a letter lie.
-fn room(kind: u8) -> usize {
-    match kind {
-        b'x' => 0,
-        b'y' => 1,
-        _ => 2,
-    }
-}
-
-fn lend(kind: u8, text: &[u8], lent: &mut [u8]) -> hex::Bytes {
-    let first = room(kind) % 3 * ROOM;
+fn lend(room: usize, text: &[u8], lent: &mut [u8]) -> hex::Bytes {
+    let first = room % 3 * ROOM;
     let end = first + ROOM;
     if end <= lent.len() {
-        hex::read(text, &mut lent[first..end])
-    } else {
-        hex::Bytes {
-            size: 0,
-            good: false,
+        if 2 <= text.len() {
+            return hex::read(&text[2..], &mut lent[first..end]);
         }
     }
-}
-
-fn with_bytes(s: State, kind: u8, size: usize) -> State {
-    State {
-        x: if kind == b'x' { size } else { s.x },
-        y: if kind == b'y' { size } else { s.y },
-        z: if kind == b'z' { size } else { s.z },
-        fill: s.fill,
-        long: s.long,
-        lines: s.lines,
-        malformed: s.malformed,
-        printed: s.printed,
+    hex::Bytes {
+        size: 0,
+        good: false,
     }
 }
 
-fn record(s: State, text: &[u8], lent: &[u8]) -> Outcome {
-    record::replay(
+fn replayed(mut s: State, text: &[u8], lent: &[u8], tally: &mut [u64]) -> State {
+    let outcome = record::replay(
         text,
         part(lent, 0, s.x),
         part(lent, 1, s.y),
         part(lent, 2, s.z),
-    )
+    );
+    match outcome {
+        Outcome::Malformed => malformed(s),
+        Outcome::Same(call) => {
+            s.records = tally::more(s.records);
+            tally::replayed(tally, call);
+            s
+        }
+        Outcome::Differs(call) => {
+            s.records = tally::more(s.records);
+            s.differing = tally::more(s.differing);
+            tally::replayed(tally, call);
+            tally::differs(tally, call);
+            shown(s, call)
+        }
+    }
 }
 
 // The first `size` of the bytes at a place.
@@ -245,33 +230,16 @@ fn part(lent: &[u8], room: usize, size: usize) -> &[u8] {
     }
 }
 
-// Counts what came of a line, and prints the line if it is among the first that are not as recorded.
-fn told(s: State, outcome: Outcome, tally: &mut [u64]) -> State {
-    match outcome {
-        Outcome::Same(call) => {
-            tally::same(tally, call);
-            s
-        }
-        Outcome::Differs(call) => {
-            tally::differs(tally, call);
-            shown(s, outcome, s.malformed)
-        }
-        Outcome::Malformed => shown(s, outcome, tally::more(s.malformed)),
-    }
+fn malformed(mut s: State) -> State {
+    s.malformed = tally::more(s.malformed);
+    shown(s, names::CALLS)
 }
 
-fn shown(s: State, outcome: Outcome, malformed: u64) -> State {
+// Prints the line if it is among the first that are not as recorded.
+fn shown(mut s: State, call: usize) -> State {
     if s.printed < 10 {
-        tally::print_line(s.lines, outcome);
+        tally::print_line(s.lines, call);
     }
-    State {
-        x: s.x,
-        y: s.y,
-        z: s.z,
-        fill: s.fill,
-        long: s.long,
-        lines: s.lines,
-        malformed: malformed,
-        printed: tally::more(s.printed),
-    }
+    s.printed = tally::more(s.printed);
+    s
 }

@@ -124,13 +124,9 @@ fn part(s: Span, x: &[u8], list: &mut [u64], n: usize) -> usize {
     values::flags(x, s.start, s.length, list, behind)
 }
 
-fn wide(x: u32) -> u64 {
-    x as u64
-}
-
 fn window(r: Window, list: &mut [u64]) -> usize {
     match r {
-        Window::Flags(w) => values::put(list, 0, wide(w)),
+        Window::Flags(w) => values::put(list, 0, values::wide(w)),
         Window::Refused(_) => values::refused(list),
     }
 }

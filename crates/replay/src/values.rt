@@ -71,6 +71,10 @@ pub fn big(n: usize) -> u64 {
     n as u64
 }
 
+pub fn wide(x: u32) -> u64 {
+    x as u64
+}
+
 pub fn digit(flag: bool) -> u64 {
     if flag { 1 } else { 0 }
 }

@@ -1,13 +1,11 @@
 -- The loop counts up to the number of calls.
 use Prim.Native.Nat.{_≤_, _-_}
 use borrow.Author.Needs.{needs}
-use Rattle.replay.proofs.tally.lines.Statement.{statement}
-use Rattle.replay.proofs.tally.lines.Tie as tie
+use Rattle.replay.proofs.tally.print.Statement.{statement}
+use Rattle.replay.proofs.tally.print.Tie as tie
 use Rattle.replay.proofs.names.print.Reads as print-reads
-use Rattle.replay.proofs.tally.differing.Reads as differing-reads
 use Rattle.replay.proofs.tally.number.Reads as number-reads
 use Rattle.replay.proofs.tally.numbers.Reads as numbers-reads
-use Rattle.replay.proofs.tally.records.Reads as records-reads
 
 abbrev Inv-loop : tie.InvT-loop
 Inv-loop tally call₀ call = call ≤ 44
@@ -21,14 +19,11 @@ loop-holds c = search needs
 print-requires : tie.Need-print-requires Inv-loop μ-loop
 print-requires c κs = search needs
 
-records-requires : tie.Need-records-requires Inv-loop μ-loop
-records-requires c κs = search needs
-
 number-requires : tie.Need-number-requires Inv-loop μ-loop
 number-requires c κs = search needs
 
-differing-requires : tie.Need-differing-requires Inv-loop μ-loop
-differing-requires c κs = search needs
+add-number : tie.Need-add-number Inv-loop μ-loop
+add-number c = search needs
 
 number-requires-2 : tie.Need-number-requires-2 Inv-loop μ-loop
 number-requires-2 c κs = search needs
@@ -48,17 +43,16 @@ loop-again c = search needs
 returns : tie.Need-returns Inv-loop μ-loop
 returns c = search needs
 
-pub lines-spec : {M : Type 1} → statement M
-lines-spec =
+pub print-spec : {M : Type 1} → statement M
+print-spec =
     tie.close
     (tie.spec
     Inv-loop
     μ-loop
     loop-holds
     print-requires
-    records-requires
     number-requires
-    differing-requires
+    add-number
     number-requires-2
     numbers-requires
     add-call
