@@ -10,6 +10,9 @@
 //
 // Printed are the first records whose answers differ and the first malformed lines, how many records of each call were replayed
 // and how many of these differ, and the totals. The file `stdout` has the counts of the whole list, so that a short one shows.
+//
+// `rt check` runs the compiled program. The interpreter of `rt try` stops after ten million steps; the three compiled runs of
+// `rt try` go to the end.
 mod answers;
 mod appends;
 mod combining;

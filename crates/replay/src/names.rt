@@ -1,9 +1,26 @@
 // The calls that are recorded, each by its number here: its name, the Rust's, and how many arguments a record of it has.
 //
-// Arguments, in this order: start and length of a span of x; the address's remainder by 8; what the call asks for. A mask is a
-// start, a length and a zero count, over x; a second and a third mask of one length are a start and a count, over y and z. A call
-// of the builder begins with the number of flags of z that are pushed before it. A missing answer is an empty one. Flags are
-// words of 64, in hexadecimal.
+// A span is a start and a length, in x. A mask is a span and its zero count; a second and a third mask are a start and a count, in y
+// and z, and of the first one's length. Flags are words of 64, in hexadecimal. A missing answer is an empty one.
+//
+//      0        merge_reversed: word, next word, offset = word
+//      1 to 2   nth_set_bit_u32, nth_set_bit_u64: word, n = position
+//      3 to 7   the counts: span, remainder of the address by 8 = count
+//      8        AlignedBitmapSlice: span, remainder of the address = prefix, its length, suffix, its length, whole words
+//      9 to 10  the chunks: span, of BitChunksExact the length alone = whole words, remainder, its length
+//     11        split_at_unchecked: span, point = length and flags of the first part, then of the second
+//     12        get_u32: span, index = flags
+//     13 to 14  the searches: span, n, from or end = position
+//     15        SlicesIterator: span = start and length of each run
+//     16        BitmapIter: span, steps: 0 take_leading_ones, 1 take_leading_zeros, n + 2 nth(n) = what each gives, ? for no flag
+//     17 to 18  TrueIdxIter: span, without a mask the length alone = positions
+//     19 to 28  the builder: how many flags of z are pushed first, arguments of the call = mask
+//     29 to 30  new_zeroed, try_new: length = mask: its length, its zero count, its flags
+//     31        slice: mask, offset, length = mask
+//     32        unset_bits: mask = count
+//     33 to 40  the combinations: mask, second mask, third mask, flag, as far as the call takes them = mask
+//     41        eq: mask, second mask with its own length = 1 or 0
+//     42 to 43  num_edges, num_intersections_with: mask, second mask = count
 
 pub const CALLS: usize = 44;
 
@@ -28,94 +45,112 @@ fn arguments(call: usize) -> usize {
     }
 }
 
-// Prints the name of a call, or else says whether it is the text: one table serves both.
-fn name(call: usize, text: &[u8], printing: bool) -> bool {
-    match call {
-        0..=14 => of_words_and_spans(call, text, printing),
-        15..=28 => of_cursors_and_builder(call, text, printing),
-        _ => of_masks(call, text, printing),
+// Prints the name of a call, or else says whether it is the text: one table, of four names a row, serves both.
+fn name(call: usize, text: &[u8], show: bool) -> bool {
+    let k = call % 4;
+    match call / 4 {
+        0 => word(
+            k,
+            b"merge_reversed nth_set_bit_u32 nth_set_bit_u64 count_zeros",
+            text,
+            show,
+        ),
+        1 => word(
+            k,
+            b"leading_zeros leading_ones trailing_zeros trailing_ones",
+            text,
+            show,
+        ),
+        2 => word(
+            k,
+            b"AlignedBitmapSlice BitChunks BitChunksExact split_at_unchecked",
+            text,
+            show,
+        ),
+        3 => word(
+            k,
+            b"get_u32 nth_set_bit_idx nth_set_bit_idx_rev SlicesIterator",
+            text,
+            show,
+        ),
+        4 => word(
+            k,
+            b"BitmapIter TrueIdxIter TrueIdxIter_without_mask push",
+            text,
+            show,
+        ),
+        5 => word(
+            k,
+            b"extend_constant push_word_with_len_unchecked extend_from_slice extend_each_repeated_from_slice_unchecked",
+            text,
+            show,
+        ),
+        6 => word(
+            k,
+            b"subslice_extend_from_bitmap gather_extend_from_slice opt_gather_extend_from_slice freeze",
+            text,
+            show,
+        ),
+        7 => word(k, b"into_opt_validity new_zeroed try_new slice", text, show),
+        8 => word(k, b"unset_bits and and_not or", text, show),
+        9 => word(k, b"or_not xor not select", text, show),
+        _ => word(
+            k,
+            b"select_constant eq num_edges num_intersections_with",
+            text,
+            show,
+        ),
     }
 }
 
-fn of_words_and_spans(call: usize, text: &[u8], printing: bool) -> bool {
-    match call {
-        // current word, next word, offset = word
-        0 => use_name(b"merge_reversed", text, printing),
-        // word, n = position
-        1 => use_name(b"nth_set_bit_u32", text, printing),
-        2 => use_name(b"nth_set_bit_u64", text, printing),
-        // start, length, address = count
-        3 => use_name(b"count_zeros", text, printing),
-        4 => use_name(b"leading_zeros", text, printing),
-        5 => use_name(b"leading_ones", text, printing),
-        6 => use_name(b"trailing_zeros", text, printing),
-        7 => use_name(b"trailing_ones", text, printing),
-        // start, length, address = prefix, its length, suffix, its length, whole words
-        8 => use_name(b"AlignedBitmapSlice", text, printing),
-        // start, length = whole words, remainder, its length; the exact one without the start
-        9 => use_name(b"BitChunks", text, printing),
-        10 => use_name(b"BitChunksExact", text, printing),
-        // start, length, point = length and flags of the one part, of the other
-        11 => use_name(b"split_at_unchecked", text, printing),
-        // start, length, index = flags
-        12 => use_name(b"get_u32", text, printing),
-        // start, length, n, from or end = position
-        13 => use_name(b"nth_set_bit_idx", text, printing),
-        _ => use_name(b"nth_set_bit_idx_rev", text, printing),
+fn word(k: usize, row: &[u8], text: &[u8], show: bool) -> bool {
+    let start = word_start(row, k);
+    let end = word_end(row, start);
+    if start <= end {
+        if end <= row.len() {
+            return use_name(&row[start..end], text, show);
+        }
     }
+    false
 }
 
-fn of_cursors_and_builder(call: usize, text: &[u8], printing: bool) -> bool {
-    match call {
-        // start, length = start and length of each run
-        15 => use_name(b"SlicesIterator", text, printing),
-        // start, length, steps = an answer for each: 0 take_leading_ones, 1 take_leading_zeros, n + 2 nth(n), which gives ? for none
-        16 => use_name(b"BitmapIter", text, printing),
-        // start, length = positions; without a mask the length alone
-        17 => use_name(b"TrueIdxIter", text, printing),
-        18 => use_name(b"TrueIdxIter_without_mask", text, printing),
-        // pushed flags, arguments of the append = length, zero count and flags of the frozen mask
-        19 => use_name(b"push", text, printing),
-        20 => use_name(b"extend_constant", text, printing),
-        21 => use_name(b"push_word_with_len_unchecked", text, printing),
-        22 => use_name(b"extend_from_slice", text, printing),
-        23 => use_name(b"extend_each_repeated_from_slice_unchecked", text, printing),
-        24 => use_name(b"subslice_extend_from_bitmap", text, printing),
-        25 => use_name(b"gather_extend_from_slice", text, printing),
-        26 => use_name(b"opt_gather_extend_from_slice", text, printing),
-        27 => use_name(b"freeze", text, printing),
-        _ => use_name(b"into_opt_validity", text, printing),
+// Where the word behind the first k spaces begins.
+fn word_start(row: &[u8], k: usize) -> usize {
+    let mut left = k;
+    let mut i = 0;
+    while i < row.len() {
+        if left == 0 {
+            return i;
+        }
+        left = spaces_left(left, row[i]);
+        i += 1;
     }
+    i
 }
 
-fn of_masks(call: usize, text: &[u8], printing: bool) -> bool {
-    match call {
-        // length = length, zero count and flags, as of each call below that gives a mask
-        29 => use_name(b"new_zeroed", text, printing),
-        30 => use_name(b"try_new", text, printing),
-        // mask, offset, length = mask
-        31 => use_name(b"slice", text, printing),
-        // mask = count
-        32 => use_name(b"unset_bits", text, printing),
-        // mask, second mask = mask
-        33 => use_name(b"and", text, printing),
-        34 => use_name(b"and_not", text, printing),
-        35 => use_name(b"or", text, printing),
-        36 => use_name(b"or_not", text, printing),
-        37 => use_name(b"xor", text, printing),
-        38 => use_name(b"not", text, printing),
-        39 => use_name(b"select", text, printing),
-        // mask, second mask, flag = mask
-        40 => use_name(b"select_constant", text, printing),
-        // mask, second mask with its own length = 1 or 0
-        41 => use_name(b"eq", text, printing),
-        42 => use_name(b"num_edges", text, printing),
-        _ => use_name(b"num_intersections_with", text, printing),
+fn spaces_left(left: usize, b: u8) -> usize {
+    if b == b' ' {
+        if 0 < left {
+            return left - 1;
+        }
     }
+    left
 }
 
-fn use_name(name: &[u8], text: &[u8], printing: bool) -> bool {
-    if printing {
+// Where the next space stands, or the text ends.
+pub fn word_end(text: &[u8], start: usize) -> usize {
+    let mut i = start;
+    while i < text.len() {
+        if text[i] == b' ' {
+            return i;
+        }
+        i += 1;
+    }
+    i
+}
+
+fn use_name(name: &[u8], text: &[u8], show: bool) -> bool {
+    if show {
         io::write_all(1, name)
     } else {
         check::same(text, name)

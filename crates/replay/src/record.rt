@@ -12,24 +12,12 @@ pub enum Outcome {
 }
 
 pub fn replay(text: &[u8], x: &[u8], y: &[u8], z: &[u8]) -> Outcome {
-    let end = name_end(text);
+    let end = names::word_end(text, 0);
     if end <= text.len() {
         named(names::call_of(&text[0..end]), &text[end..], x, y, z)
     } else {
         Outcome::Malformed
     }
-}
-
-// Where the first space stands, or the text ends.
-fn name_end(text: &[u8]) -> usize {
-    let mut i = 0;
-    while i < text.len() {
-        if text[i] == b' ' {
-            return i;
-        }
-        i += 1;
-    }
-    i
 }
 
 fn named(call: usize, text: &[u8], x: &[u8], y: &[u8], z: &[u8]) -> Outcome {

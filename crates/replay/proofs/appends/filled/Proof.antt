@@ -5,10 +5,6 @@ use lib.ListN.{length}
 use borrow.Author.Needs.{needs}
 use Rattle.replay.proofs.appends.filled.Statement.{statement}
 use Rattle.replay.proofs.appends.filled.Tie as tie
-use Rattle.masks.proofs.builder.BitmapBuilder.new.Reads as new-reads
-use Rattle.masks.proofs.builder.BitmapBuilder.push.Reads as push-reads
-use Rattle.replay.proofs.appends.after.Reads as after-reads
-use Rattle.words.proofs.word.flag_at.Reads as flag-at-reads
 
 abbrev Inv-loop : tie.InvT-loop
 Inv-loop z many buf₀ b₀ i₀ buf b i = (i ≤ many) × (length buf ≡ length buf₀)

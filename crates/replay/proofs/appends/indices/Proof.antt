@@ -5,7 +5,6 @@ use lib.ListN.{length}
 use borrow.Author.Needs.{needs}
 use Rattle.replay.proofs.appends.indices.Statement.{statement}
 use Rattle.replay.proofs.appends.indices.Tie as tie
-use Rattle.replay.proofs.appends.store.Reads as store-reads
 
 abbrev Inv-loop : tie.InvT-loop
 Inv-loop args out₀ n₀ out n = (n ≤ length args) × (length out ≡ length out₀)

@@ -4,10 +4,6 @@ use lib.ListN.{length}
 use borrow.Author.Needs.{needs}
 use Rattle.replay.proofs.cursors.ones.Statement.{statement}
 use Rattle.replay.proofs.cursors.ones.Tie as tie
-use Rattle.masks.proofs.true_idx.TrueIdxIter.next.Reads as next-reads
-use Rattle.replay.proofs.values.big.Reads as big-reads
-use Rattle.replay.proofs.values.put.Reads as put-reads
-use Rattle.replay.proofs.values.refused.Reads as refused-reads
 
 abbrev Inv-loop : tie.InvT-loop
 Inv-loop x list₀ c₀ n₀ left₀ list c n left = length list ≡ length list₀

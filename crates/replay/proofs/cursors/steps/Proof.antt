@@ -5,8 +5,6 @@ use lib.ListN.{length}
 use borrow.Author.Needs.{needs}
 use Rattle.replay.proofs.cursors.steps.Statement.{statement}
 use Rattle.replay.proofs.cursors.steps.Tie as tie
-use Rattle.replay.proofs.cursors.step.Reads as step-reads
-use Rattle.replay.proofs.values.put.Reads as put-reads
 
 abbrev Inv-loop : tie.InvT-loop
 Inv-loop args x list₀ c₀ n₀ i₀ list c n i = length list ≡ length list₀

@@ -5,8 +5,6 @@ use lib.ListN.{length}
 use borrow.Author.Needs.{needs}
 use Rattle.replay.proofs.fields.read.Statement.{statement}
 use Rattle.replay.proofs.fields.read.Tie as tie
-use Rattle.replay.proofs.fields.closed.Reads as closed-reads
-use Rattle.replay.proofs.fields.step.Reads as step-reads
 
 abbrev Inv-loop : tie.InvT-loop
 Inv-loop text list₀ f₀ i₀ list f i = (i ≤ length text) × (length list ≡ length list₀)

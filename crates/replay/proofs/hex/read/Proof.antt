@@ -5,8 +5,6 @@ use lib.ListN.{length}
 use borrow.Author.Needs.{needs}
 use Rattle.replay.proofs.hex.read.Statement.{statement}
 use Rattle.replay.proofs.hex.read.Tie as tie
-use Rattle.replay.proofs.hex.byte.Reads as byte-reads
-use Rattle.replay.proofs.hex.stored.Reads as stored-reads
 
 abbrev Inv-loop : tie.InvT-loop
 Inv-loop text out₀ good₀ i₀ out good i = (i ≤ length text / 2) × (length out ≡ length out₀)

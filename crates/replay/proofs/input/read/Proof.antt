@@ -5,12 +5,6 @@ use lib.ListN.{length}
 use borrow.Author.Needs.{needs}
 use Rattle.replay.proofs.input.read.Statement.{statement}
 use Rattle.replay.proofs.input.read.Tie as tie
-use Rattle.io.proofs.count.Reads as count-reads
-use Rattle.io.proofs.write_all.Reads as write-all-reads
-use Rattle.libc.proofs.read.Reads as read-reads
-use Rattle.replay.proofs.input.last.Reads as last-reads
-use Rattle.replay.proofs.input.new.Reads as new-reads
-use Rattle.replay.proofs.input.take.Reads as take-reads
 
 abbrev Inv-loop : tie.InvT-loop
 Inv-loop window₀ line₀ lent₀ tally₀ s₀ reads₀ t9 t10 window line lent tally s reads = (length window ≡ length window₀) × ((length line ≡ length line₀) × ((length lent ≡ length lent₀) × (length tally ≡ length tally₀)))

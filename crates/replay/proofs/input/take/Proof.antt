@@ -5,7 +5,6 @@ use lib.ListN.{length}
 use borrow.Author.Needs.{needs}
 use Rattle.replay.proofs.input.take.Statement.{statement}
 use Rattle.replay.proofs.input.take.Tie as tie
-use Rattle.replay.proofs.input.byte.Reads as byte-reads
 
 abbrev Inv-loop : tie.InvT-loop
 Inv-loop part line₀ lent₀ tally₀ now₀ i₀ line lent tally now i = (i ≤ length part) × ((length line ≡ length line₀) × ((length lent ≡ length lent₀) × (length tally ≡ length tally₀)))

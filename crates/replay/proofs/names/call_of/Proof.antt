@@ -3,7 +3,6 @@ use Prim.Native.Nat.{_≤_, _-_}
 use borrow.Author.Needs.{needs}
 use Rattle.replay.proofs.names.call_of.Statement.{statement}
 use Rattle.replay.proofs.names.call_of.Tie as tie
-use Rattle.replay.proofs.names.name.Reads as name-reads
 
 abbrev Inv-loop : tie.InvT-loop
 Inv-loop text call₀ call = call ≤ 44

@@ -4,11 +4,7 @@ use lib.ListN.{length}
 use borrow.Author.Needs.{needs}
 use Rattle.replay.proofs.spans.words.Statement.{statement}
 use Rattle.replay.proofs.spans.words.Tie as tie
-use Rattle.masks.proofs.chunks.BitChunks.next.Reads as next-reads
 use Rattle.masks.proofs.chunks.BitChunks.remainder.Reads as chunks-BitChunks-remainder-reads
-use Rattle.replay.proofs.spans.remainder.Reads as spans-remainder-reads
-use Rattle.replay.proofs.values.put.Reads as put-reads
-use Rattle.replay.proofs.values.refused.Reads as refused-reads
 
 abbrev Inv-loop : tie.InvT-loop
 Inv-loop x list₀ c₀ n₀ left₀ list c n left = length list ≡ length list₀

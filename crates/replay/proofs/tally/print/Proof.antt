@@ -3,9 +3,6 @@ use Prim.Native.Nat.{_≤_, _-_}
 use borrow.Author.Needs.{needs}
 use Rattle.replay.proofs.tally.print.Statement.{statement}
 use Rattle.replay.proofs.tally.print.Tie as tie
-use Rattle.replay.proofs.names.print.Reads as print-reads
-use Rattle.replay.proofs.tally.number.Reads as number-reads
-use Rattle.replay.proofs.tally.numbers.Reads as numbers-reads
 
 abbrev Inv-loop : tie.InvT-loop
 Inv-loop tally call₀ call = call ≤ 44

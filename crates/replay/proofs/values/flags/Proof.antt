@@ -4,11 +4,6 @@ use lib.ListN.{length}
 use borrow.Author.Needs.{needs}
 use Rattle.replay.proofs.values.flags.Statement.{statement}
 use Rattle.replay.proofs.values.flags.Tie as tie
-use Rattle.replay.proofs.values.less.Reads as less-reads
-use Rattle.replay.proofs.values.put.Reads as put-reads
-use Rattle.std.proofs.num.wrapping_add_usize.Reads as wrapping-add-usize-reads
-use Rattle.words.proofs.word.low_flags.Reads as low-flags-reads
-use Rattle.words.proofs.word.word_from.Reads as word-from-reads
 
 abbrev Inv-loop : tie.InvT-loop
 Inv-loop bytes start n-flags list₀ n many₀ from₀ left₀ list many from left = length list ≡ length list₀

@@ -1,3 +1,4 @@
+-- A store keeps the length, so that one number more lies within it.
 use native.Mathlib.Omega.{arith}
 use lib.ListN.{length-set}
 use borrow.Author.Needs.{needs}

@@ -2,23 +2,26 @@
 use Prim.Native.Nat.{_≤_, _-_}
 use lib.ListN.{length}
 use borrow.Author.Needs.{needs}
-use Rattle.replay.proofs.record.name_end.Statement.{statement}
-use Rattle.replay.proofs.record.name_end.Tie as tie
+use Rattle.replay.proofs.names.word_start.Statement.{statement}
+use Rattle.replay.proofs.names.word_start.Tie as tie
 
 abbrev Inv-loop : tie.InvT-loop
-Inv-loop text i₀ i = i ≤ length text
+Inv-loop row k left₀ i₀ left i = i ≤ length row
 
 abbrev μ-loop : tie.MeasureT-loop
-μ-loop text i₀ i = length text - i
+μ-loop row k left₀ i₀ left i = length row - i
 
 loop-holds : tie.Need-loop-holds Inv-loop μ-loop
 loop-holds c = search needs
 
-shared-slice-read-if1 : tie.Need-shared-slice-read-if1 Inv-loop μ-loop
-shared-slice-read-if1 c = search needs
-
 returns : tie.Need-returns Inv-loop μ-loop
 returns c = search needs
+
+shared-slice-read-spaces-left : tie.Need-shared-slice-read-spaces-left Inv-loop μ-loop
+shared-slice-read-spaces-left c = search needs
+
+spaces-left-requires : tie.Need-spaces-left-requires Inv-loop μ-loop
+spaces-left-requires c κs = search needs
 
 add-i : tie.Need-add-i Inv-loop μ-loop
 add-i c = search needs
@@ -32,15 +35,16 @@ loop-again c = search needs
 returns-2 : tie.Need-returns-2 Inv-loop μ-loop
 returns-2 c = search needs
 
-pub name-end-spec : {M : Type 1} → statement M
-name-end-spec =
+pub word-start-spec : {M : Type 1} → statement M
+word-start-spec =
     tie.close
     (tie.spec
     Inv-loop
     μ-loop
     loop-holds
-    shared-slice-read-if1
     returns
+    shared-slice-read-spaces-left
+    spaces-left-requires
     add-i
     loop-less
     loop-again
