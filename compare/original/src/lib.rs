@@ -43,3 +43,8 @@ pub fn merge_reversed(current: u64, next: u64, offset: usize) -> u64 {
 pub fn offset(bitmap: &bitmap::Bitmap) -> usize {
     bitmap.offset()
 }
+
+/// All bytes behind a bitmap, past its end too.
+pub fn storage(bitmap: &bitmap::Bitmap) -> SharedStorage<u8> {
+    bitmap.as_buffer().0.storage().clone()
+}

@@ -1,7 +1,7 @@
 //! Stands in for `bytemuck`: the bound `Pod` and the one cast that `AlignedBitmapSlice` makes.
 //!
 //! Assumed: `cast_slice` views the bytes as values in the machine's byte order, and panics where the address is not aligned or the
-//! bytes are no whole number of values.
+//! bytes are no whole number of values. No values stand at the address of the bytes.
 
 /// A type that any bit pattern fits.
 ///
@@ -17,10 +17,7 @@ unsafe impl Pod for u64 {}
 pub fn cast_slice<B: Pod>(bytes: &[u8]) -> &[B] {
     let size = size_of::<B>();
     assert!(bytes.len().is_multiple_of(size), "no whole number of values");
-    assert!(bytes.as_ptr().align_offset(align_of::<B>()) == 0 || bytes.is_empty(), "not aligned");
-    if bytes.is_empty() {
-        return &[];
-    }
+    assert!(bytes.as_ptr().cast::<B>().is_aligned(), "not aligned");
     // SAFETY: the length and the address were tested, and B takes any bits.
     unsafe { std::slice::from_raw_parts(bytes.as_ptr().cast::<B>(), bytes.len() / size) }
 }

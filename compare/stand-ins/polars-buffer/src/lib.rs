@@ -56,6 +56,12 @@ impl<T> Buffer<T> {
         self.storage
     }
 
+    /// The whole storage that the buffer is a range of. The crate has no such call: the comparison looks through it at the bytes of a
+    /// result that no call hands out.
+    pub fn storage(&self) -> &SharedStorage<T> {
+        &self.storage
+    }
+
     pub fn sliced(self, part: Range<usize>) -> Self {
         assert!(part.start <= part.end && part.end <= self.range.len());
         let range = self.range.start + part.start..self.range.start + part.end;

@@ -1,0 +1,173 @@
+//! The walks over words, runs, flags and positions. A new walk is compared whole, from its first answer to none.
+
+use super::Call;
+use crate::listed::{Listed, Met};
+use crate::ours;
+use crate::request::{Args, Request, Shape};
+use crate::theirs::{Outcome, Theirs, Visit, bitmap, true_count};
+use model::{Answer, Lent, Mask, State, Walk, spans, walks};
+use original::bitmap::Bitmap;
+use original::bitmap::iterator::TrueIdxIter;
+use original::bitmap::utils::{BitChunks, BitChunksExact, BitmapIter, SlicesIterator};
+use poruwhina::calls;
+
+pub fn calls() -> Vec<Call> {
+    new_walks().into_iter().chain(steps()).collect()
+}
+
+fn next_chunk(walk: Walk, bytes: &[u8]) -> Answer {
+    ours::step(calls::chunks_next(ours::cursor(walk), bytes))
+}
+
+fn next_run(walk: Walk, bytes: &[u8]) -> Answer {
+    ours::run(calls::slices_next(ours::unmarked(walk), bytes))
+}
+
+fn next_flag(walk: Walk, bytes: &[u8]) -> Answer {
+    ours::step(calls::iter_next(ours::unmarked(walk), bytes))
+}
+
+fn next_position(walk: Walk, bytes: &[u8]) -> Answer {
+    ours::step(calls::true_idx_next(ours::cursor(walk), bytes))
+}
+
+fn their_words(r: &Request, _: &mut Met, visit: Visit) {
+    BitChunks::<u64>::new(r.bytes(), r.span().start, r.span().length).for_each(|word| visit(&[word]));
+}
+
+fn their_exact_words(r: &Request, _: &mut Met, visit: Visit) {
+    BitChunksExact::<u64>::new(r.bytes(), r.span().length).for_each(|word| visit(&[word]));
+}
+
+fn their_runs(r: &Request, _: &mut Met, visit: Visit) {
+    SlicesIterator::new(&bitmap(r.lent(0))).for_each(|(start, length)| visit(&[start as u64, length as u64]));
+}
+
+fn their_flags(r: &Request, _: &mut Met, visit: Visit) {
+    BitmapIter::new(r.bytes(), r.span().start, r.span().length).for_each(|flag| visit(&[flag.into()]));
+}
+
+fn their_positions(r: &Request, met: &mut Met, visit: Visit) {
+    let lent = r.optional(0).map(bitmap);
+    let positions = TrueIdxIter::new(r.n, lent.as_ref());
+    let remaining = positions.size_hint().0;
+    let mut many = 0;
+    for position in positions {
+        visit(&[position as u64]);
+        many += 1;
+    }
+    if many != remaining {
+        assert!(!r.optional(0).is_none_or(true_count), "a remaining count that no false count explains");
+        met.note(Listed::FalseRemaining);
+    }
+}
+
+fn new_walks() -> [Call; 5] {
+    [
+        Call {
+            name: "chunks_new",
+            shape: Shape::SPAN,
+            ours: |r, _| ours::walk(calls::chunks_new(r.bytes(), r.span().start, r.span().length)),
+            model: |r, _| spans::chunks_new(r.span()),
+            theirs: Theirs::Walk(next_chunk, their_words),
+        },
+        Call {
+            name: "chunks_new_exact",
+            shape: Shape::SPAN,
+            ours: |r, _| ours::walk(calls::chunks_new_exact(r.bytes(), r.span().length)),
+            model: |r, _| spans::chunks_new(model::Span { start: 0, ..r.span() }),
+            theirs: Theirs::Walk(next_chunk, their_exact_words),
+        },
+        Call {
+            name: "slices_new",
+            shape: Shape::masks(1),
+            ours: |r, _| ours::walk(calls::slices_new(ours::mask(r.pieces[0].mask), r.bytes())),
+            model: |r, _| walks::slices_new(r.lent(0)),
+            theirs: Theirs::Walk(next_run, their_runs),
+        },
+        Call {
+            name: "iter_new",
+            shape: Shape::SPAN,
+            ours: |r, _| ours::walk(calls::iter_new(r.bytes(), r.span().start, r.span().length)),
+            model: |r, _| walks::iter_new(r.span()),
+            theirs: Theirs::Walk(next_flag, their_flags),
+        },
+        Call {
+            name: "true_idx_new",
+            shape: Shape::masks(1).args(Args::SameLength).optional(1),
+            ours: |r, _| ours::walk(calls::true_idx_new(r.n, r.present[0], ours::mask(r.pieces[0].mask), r.bytes())),
+            model: |r, _| walks::true_idx_new(r.n, r.optional(0)),
+            theirs: Theirs::Walk(next_position, their_positions),
+        },
+    ]
+}
+
+/// The original's walk over flags, moved to the place, for one more answer; its own place is what it has left.
+fn their_iter(r: &Request, answer: impl FnOnce(&mut BitmapIter) -> Option<usize>) -> Option<Outcome> {
+    let walk = r.walk();
+    let mut iter = BitmapIter::new(r.bytes(), walk.start, walk.length);
+    if walk.place > 0 {
+        iter.nth(walk.place - 1);
+    }
+    let values = answer(&mut iter);
+    let moved = Walk { place: walk.length - iter.num_remaining(), ..walk };
+    Some(Outcome::values(values).record(State::Walk(moved)))
+}
+
+/// The original's mask of the flags from the place on.
+fn rest(r: &Request) -> Bitmap {
+    let walk = r.walk();
+    let mask = Mask { start: walk.start + walk.place, length: walk.length - walk.place, zeros: None };
+    bitmap(Lent { mask, bytes: r.bytes() })
+}
+
+fn their_position(r: &Request, _: &mut Met) -> Option<Outcome> {
+    let left = r.walk().length - r.place;
+    let found = if r.masked { TrueIdxIter::new(left, Some(&rest(r))).next() } else { TrueIdxIter::new(left, None).next() };
+    Some(Outcome::values(found.map(|position| r.place + position)))
+}
+
+fn steps() -> [Call; 5] {
+    [
+        Call {
+            name: "slices_next",
+            shape: Shape::WALK,
+            ours: |r, _| next_run(r.walk(), r.bytes()),
+            model: |r, _| walks::slices_next(r.walk(), r.bytes()),
+            theirs: Theirs::Answer(|r, _| {
+                let run = SlicesIterator::new(&rest(r)).next();
+                Some(Outcome::values(run.into_iter().flat_map(|(start, length)| [r.place + start, length])))
+            }),
+        },
+        Call {
+            name: "iter_next",
+            shape: Shape::WALK,
+            ours: |r, _| next_flag(r.walk(), r.bytes()),
+            model: |r, _| walks::iter_next(r.walk(), r.bytes()),
+            theirs: Theirs::Answer(|r, _| their_iter(r, |iter| iter.next().map(usize::from))),
+        },
+        Call {
+            name: "iter_nth",
+            shape: Shape::WALK.args(Args::Position),
+            ours: |r, _| ours::step(calls::iter_nth(ours::unmarked(r.walk()), r.bytes(), r.n)),
+            model: |r, _| walks::iter_nth(r.walk(), r.bytes(), r.n),
+            theirs: Theirs::Answer(|r, _| their_iter(r, |iter| iter.nth(r.n).map(usize::from))),
+        },
+        Call {
+            name: "take_leading",
+            shape: Shape::WALK.flag(),
+            ours: |r, _| ours::taken(calls::take_leading(r.flag, ours::unmarked(r.walk()), r.bytes())),
+            model: |r, _| walks::take_leading(r.flag, r.walk(), r.bytes()),
+            theirs: Theirs::Answer(|r, _| {
+                their_iter(r, |iter| Some(if r.flag { iter.take_leading_ones() } else { iter.take_leading_zeros() }))
+            }),
+        },
+        Call {
+            name: "true_idx_next",
+            shape: Shape::WALK.maskless(),
+            ours: |r, _| next_position(r.walk(), r.bytes()),
+            model: |r, _| walks::true_idx_next(r.walk(), r.bytes()),
+            theirs: Theirs::Answer(their_position),
+        },
+    ]
+}
