@@ -122,27 +122,26 @@ pub fn new_cursor(a: calls::CursorAnswer) -> Answer {
 }
 
 /// A step whose number stands in `value`; `count` is not used.
-pub fn step(a: calls::StepAnswer) -> Answer {
+pub fn step(a: calls::Step) -> Answer {
     assert_eq!(a.count, 0, "a count where there is none");
     Answer { refusal: a.refusal, values: there(a.found, vec![a.value]), state: cursor_state(a.cursor) }
 }
 
 /// A step with both numbers: a run.
-pub fn run(a: calls::StepAnswer) -> Answer {
+pub fn run(a: calls::Step) -> Answer {
     Answer { refusal: a.refusal, values: there(a.found, vec![a.value, a.count as u64]), state: cursor_state(a.cursor) }
 }
 
 /// A step whose number stands in `count`; `value` is not used.
-pub fn taken(a: calls::StepAnswer) -> Answer {
+pub fn taken(a: calls::Step) -> Answer {
     assert_eq!(a.value, 0, "a value where there is none");
     Answer { refusal: a.refusal, values: there(a.found, vec![a.count as u64]), state: cursor_state(a.cursor) }
 }
 
-/// The remainder: the cursor is given back on a refusal alone.
-pub fn remainder(a: calls::StepAnswer) -> Answer {
+/// The remainder: the call moves no cursor; document 01 has it given back on a refusal alone.
+pub fn remainder(a: calls::Step) -> Answer {
     if a.refusal != 0 {
         return run(a);
     }
-    assert_eq!(a.cursor, calls::Cursor::default(), "a cursor where there is none");
-    Answer { refusal: 0, values: there(a.found, vec![a.value, a.count as u64]), state: State::None }
+    Answer { state: State::None, ..run(a) }
 }

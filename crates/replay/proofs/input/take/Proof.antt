@@ -1,0 +1,60 @@
+-- The loop counts up to the length.
+use mathlib.Core.Path.{_≡_}
+use Prim.Native.Nat.{_≤_, _-_}
+use lib.ListN.{length}
+use borrow.Author.Needs.{needs}
+use Rattle.replay.proofs.input.take.Statement.{statement}
+use Rattle.replay.proofs.input.take.Tie as tie
+
+abbrev Inv-loop : tie.InvT-loop
+Inv-loop part line₀ lent₀ tally₀ now₀ i₀ line lent tally now i = (i ≤ length part) × ((length line ≡ length line₀) × ((length lent ≡ length lent₀) × (length tally ≡ length tally₀)))
+
+abbrev μ-loop : tie.MeasureT-loop
+μ-loop part line₀ lent₀ tally₀ now₀ i₀ line lent tally now i = length part - i
+
+loop-holds : tie.Need-loop-holds Inv-loop μ-loop
+loop-holds c = search needs
+
+shared-slice-read-byte : tie.Need-shared-slice-read-byte Inv-loop μ-loop
+shared-slice-read-byte c = search needs
+
+byte-requires : tie.Need-byte-requires Inv-loop μ-loop
+byte-requires c κs = search needs
+
+add-i : tie.Need-add-i Inv-loop μ-loop
+add-i c = search needs
+
+loop-less : tie.Need-loop-less Inv-loop μ-loop
+loop-less c = search needs
+
+loop-again : tie.Need-loop-again Inv-loop μ-loop
+loop-again c = search needs
+
+same-length : tie.Need-same-length Inv-loop μ-loop
+same-length c = search needs
+
+same-length-2 : tie.Need-same-length-2 Inv-loop μ-loop
+same-length-2 c = search needs
+
+same-length-3 : tie.Need-same-length-3 Inv-loop μ-loop
+same-length-3 c = search needs
+
+returns : tie.Need-returns Inv-loop μ-loop
+returns c = search needs
+
+pub take-spec : {M : Type 1} → statement M
+take-spec =
+    tie.close
+    (tie.spec
+    Inv-loop
+    μ-loop
+    loop-holds
+    shared-slice-read-byte
+    byte-requires
+    add-i
+    loop-less
+    loop-again
+    same-length
+    same-length-2
+    same-length-3
+    returns)
