@@ -23,11 +23,6 @@ pub fn cursor(cursor: Cursor) -> calls::Cursor {
     calls::Cursor { start: cursor.start, length: cursor.length, place: cursor.place, masked: cursor.masked.into() }
 }
 
-/// A cursor for the calls that do not read `masked`: it says that there is no mask.
-pub fn unmarked(cursor: Cursor) -> calls::Cursor {
-    calls::Cursor { start: cursor.start, length: cursor.length, place: cursor.place, masked: 0 }
-}
-
 fn mask_state(mask: calls::Mask) -> State {
     assert!(mask.known == 1 || (mask.known == 0 && mask.zeros == 0), "no count: {mask:?}");
     State::Mask(Mask { start: mask.start, length: mask.length, zeros: (mask.known == 1).then_some(mask.zeros) })

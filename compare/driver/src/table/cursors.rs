@@ -20,11 +20,11 @@ fn next_chunk(cursor: Cursor, bytes: &[u8]) -> Answer {
 }
 
 fn next_run(cursor: Cursor, bytes: &[u8]) -> Answer {
-    ours::run(calls::slices_next(ours::unmarked(cursor), bytes))
+    ours::run(calls::slices_next(ours::cursor(cursor), bytes))
 }
 
 fn next_flag(cursor: Cursor, bytes: &[u8]) -> Answer {
-    ours::step(calls::iter_next(ours::unmarked(cursor), bytes))
+    ours::step(calls::iter_next(ours::cursor(cursor), bytes))
 }
 
 fn next_position(cursor: Cursor, bytes: &[u8]) -> Answer {
@@ -149,14 +149,14 @@ fn steps() -> [Call; 5] {
         Call {
             name: "iter_nth",
             shape: Shape::CURSOR.args(Args::Position),
-            ours: |r, _| ours::step(calls::iter_nth(ours::unmarked(r.cursor()), r.bytes(), r.n)),
+            ours: |r, _| ours::step(calls::iter_nth(ours::cursor(r.cursor()), r.bytes(), r.n)),
             model: |r, _| cursors::iter_nth(r.cursor(), r.bytes(), r.n),
             theirs: Theirs::Answer(|r, _| their_iter(r, |iter| iter.nth(r.n).map(usize::from))),
         },
         Call {
             name: "take_leading",
             shape: Shape::CURSOR.flag(),
-            ours: |r, _| ours::taken(calls::take_leading(r.flag, ours::unmarked(r.cursor()), r.bytes())),
+            ours: |r, _| ours::taken(calls::take_leading(r.flag, ours::cursor(r.cursor()), r.bytes())),
             model: |r, _| cursors::take_leading(r.flag, r.cursor(), r.bytes()),
             theirs: Theirs::Answer(|r, _| {
                 their_iter(r, |iter| Some(if r.flag { iter.take_leading_ones() } else { iter.take_leading_zeros() }))

@@ -132,14 +132,14 @@ fn over_spans() -> [Call; 8] {
         Call {
             name: "chunks_next",
             shape: Shape::CURSOR,
-            ours: |r, _| ours::step(calls::chunks_next(ours::unmarked(r.cursor()), r.bytes())),
+            ours: |r, _| ours::step(calls::chunks_next(ours::cursor(r.cursor()), r.bytes())),
             model: |r, _| spans::chunks_next(r.cursor(), r.bytes()),
             theirs: Theirs::Answer(|r, _| Some(Outcome::words(their_chunks(r).nth(r.place)))),
         },
         Call {
             name: "chunks_remainder",
             shape: Shape::CURSOR,
-            ours: |r, _| ours::remainder(calls::chunks_remainder(ours::unmarked(r.cursor()), r.bytes())),
+            ours: |r, _| ours::remainder(calls::chunks_remainder(ours::cursor(r.cursor()), r.bytes())),
             model: |r, _| spans::chunks_remainder(r.cursor(), r.bytes()),
             theirs: Theirs::Answer(their_remainder),
         },
