@@ -1,3 +1,4 @@
+-- The call answers by its definition, and the encoding of equal answers is equal: by congruence.
 use borrow.Author.Needs.{needs}
 use Rattle.capi.proofs.builder.pw_push_word_with_len_unchecked.Statement.{statement}
 use Rattle.capi.proofs.builder.pw_push_word_with_len_unchecked.Tie as tie

@@ -1,3 +1,4 @@
+-- The definition unfolded, field by field.
 use Rattle.capi.specs.Records.{chunksOut}
 use borrow.Author.Needs.{needs}
 use Rattle.capi.proofs.chunks.chunks_out.Statement.{statement}

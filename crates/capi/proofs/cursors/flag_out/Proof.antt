@@ -1,3 +1,4 @@
+-- Each case of the enum, with the encoding unfolded.
 use Rattle.capi.specs.Answers.{asBit, asStep}
 use borrow.Author.Needs.{needs}
 use Rattle.capi.proofs.cursors.flag_out.Statement.{statement}

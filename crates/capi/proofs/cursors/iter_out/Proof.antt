@@ -1,3 +1,4 @@
+-- The definition unfolded, field by field.
 use Rattle.capi.specs.Records.{iterOut}
 use borrow.Author.Needs.{needs}
 use Rattle.capi.proofs.cursors.iter_out.Statement.{statement}

@@ -1,3 +1,4 @@
+-- The call answers by its definition, and the encoding of equal answers is equal: by congruence.
 use borrow.Author.Needs.{needs}
 use Rattle.capi.proofs.cursors.pw_iter_nth.Statement.{statement}
 use Rattle.capi.proofs.cursors.pw_iter_nth.Tie as tie

@@ -1,3 +1,4 @@
+-- Each way of the flag is the call for it, by congruence.
 use borrow.Author.Needs.{needs}
 use Rattle.capi.proofs.cursors.pw_take_leading.Statement.{statement}
 use Rattle.capi.proofs.cursors.pw_take_leading.Tie as tie

@@ -1,3 +1,4 @@
+-- The definition unfolded, field by field.
 use Rattle.capi.specs.Records.{slicesOut}
 use borrow.Author.Needs.{needs}
 use Rattle.capi.proofs.cursors.slices_out.Statement.{statement}

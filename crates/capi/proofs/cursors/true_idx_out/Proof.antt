@@ -1,3 +1,4 @@
+-- Each case of the enum, with the encoding unfolded.
 use Rattle.capi.specs.Answers.{asStep, asWord}
 use borrow.Author.Needs.{needs}
 use Rattle.capi.proofs.cursors.true_idx_out.Statement.{statement}

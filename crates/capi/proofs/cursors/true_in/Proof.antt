@@ -1,3 +1,4 @@
+-- The definition unfolded, field by field.
 use mathlib.Core.Path.{refl}
 use Rattle.capi.specs.Records.{trueIn}
 use Rattle.capi.proofs.cursors.true_in.Statement.{statement}

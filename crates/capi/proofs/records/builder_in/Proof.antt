@@ -1,3 +1,4 @@
+-- The definition unfolded, field by field.
 use mathlib.Core.Path.{refl}
 use Rattle.capi.specs.Records.{builderIn}
 use Rattle.capi.proofs.records.builder_in.Statement.{statement}

@@ -1,3 +1,4 @@
+-- The definition unfolded, field by field.
 use Rattle.masks.proofs.CheckLaws.{when-eq, when-ne}
 use Rattle.capi.specs.Records.{countIn}
 use Rattle.capi.proofs.records.count_in.Statement.{statement}

@@ -1,3 +1,4 @@
+-- The definition unfolded, field by field.
 use Rattle.capi.specs.Records.{maskIn}
 use borrow.Author.Needs.{needs}
 use Rattle.capi.proofs.records.mask_in.Statement.{statement}

@@ -1,3 +1,4 @@
+-- Each case of the enum, with the encoding unfolded.
 use mathlib.Core.Path.{sym, ap}
 use Rattle.capi.specs.Records.{maskOut, maskWith}
 use borrow.Author.Needs.{needs}

@@ -1,3 +1,4 @@
+-- The definition unfolded, field by field.
 use Rattle.capi.specs.Records.{optionalIn}
 use borrow.Author.Needs.{needs}
 use Rattle.capi.proofs.records.optional_in.Statement.{statement}

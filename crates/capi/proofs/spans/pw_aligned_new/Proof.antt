@@ -1,3 +1,4 @@
+-- The call answers by its definition, and the encoding of equal answers is equal: by congruence.
 use borrow.Author.Needs.{needs}
 use Rattle.capi.proofs.spans.pw_aligned_new.Statement.{statement}
 use Rattle.capi.proofs.spans.pw_aligned_new.Tie as tie

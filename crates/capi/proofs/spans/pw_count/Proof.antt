@@ -1,3 +1,4 @@
+-- The tests of the number pick the operation of that number in the list; each call then answers by its own definition.
 use borrow.Author.Needs.{needs}
 use Rattle.capi.specs.Answers.{asNumber, numbered}
 use Rattle.capi.proofs.NumberLaws.{past-five, past-numbered}

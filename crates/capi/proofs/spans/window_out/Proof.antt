@@ -1,3 +1,4 @@
+-- Each case of the enum, with the encoding unfolded.
 use Rattle.capi.specs.Answers.{asNumber}
 use borrow.Author.Needs.{needs}
 use Rattle.capi.proofs.spans.window_out.Statement.{statement}

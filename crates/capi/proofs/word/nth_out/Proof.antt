@@ -1,3 +1,4 @@
+-- Each case of the enum, with the encoding unfolded.
 use Rattle.capi.specs.Answers.{asPosition, nthAnswer}
 use borrow.Author.Needs.{needs}
 use Rattle.capi.proofs.word.nth_out.Statement.{statement}

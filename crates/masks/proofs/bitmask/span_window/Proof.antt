@@ -1,3 +1,4 @@
+-- At most 32 flags are taken of a word that has 57 (`near-value`), so they fit 32 bits (`narrow`); past the length there are none.
 use native.Mathlib.Omega.{arith}
 use borrow.Author.Needs.{needs}
 use Rattle.masks.proofs.BitmaskLaws.{narrow, window-value, window-none}

@@ -1,3 +1,4 @@
+-- A builder that cannot be is refused by 4 (`impossible`); of another the room decides (`room-decides`).
 use mathlib.Core.Path.{refl, sym, _∙_}
 use Rattle.masks.proofs.RoomLaws.{impossible, room-decides}
 use borrow.Author.Needs.{needs}

@@ -1,3 +1,4 @@
+-- Eight bytes moved down by less than a byte keep 57 flags (`near-flags`).
 use native.Mathlib.Omega.{arith}
 use Rattle.masks.proofs.PartLaws.{near-flags}
 use borrow.Author.Needs.{needs}
