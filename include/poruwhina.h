@@ -185,6 +185,9 @@ pw_position pw_nth_set_bit_u32(uint32_t w, uint32_t n);
  * bytes[0]. Refuses with 1, 2, 8. */
 pw_split_answer pw_aligned_new(const uint8_t *bytes, size_t bytes_len, size_t start, size_t length, size_t address);
 
+/* How many of the span's flags are zero, whatever `address` is: PW_COUNT_ZEROS by itself. Refuses with 1, 2, 8. */
+pw_number pw_count_zeros(const uint8_t *bytes, size_t bytes_len, size_t start, size_t length, size_t address);
+
 /* The count `what` of the span's flags (PW_COUNT_ZEROS ..), whatever `address` is. Refuses with 255, 1, 2, 8. */
 pw_number pw_count(uint8_t what, const uint8_t *bytes, size_t bytes_len, size_t start, size_t length, size_t address);
 

@@ -98,6 +98,7 @@ static void spans(void) {
     CHECK(pw_aligned_new(NULL, 0, SIZE_MAX, 0, SIZE_MAX).refusal == 0);
 
     CHECK(pw_count(PW_COUNT_ZEROS, A, 1, 0, 6, 7).value == 2);
+    CHECK(pw_count_zeros(A, 1, 0, 6, 7).value == 2 && pw_count_zeros(A, 1, 2, 7, 0).refusal == PW_REFUSED_OUTSIDE_BYTES);
     CHECK(pw_count(PW_LEADING_ZEROS, A, 1, 1, 5, 0).value == 1);
     CHECK(pw_count(PW_LEADING_ONES, A, 1, 2, 4, 0).value == 2);
     CHECK(pw_count(PW_TRAILING_ZEROS, A, 1, 0, 5, 0).value == 1);

@@ -28,7 +28,7 @@ fn of_two<'a>(m: &'a [Input], call: impl Fn(&Input, &Input) -> usize + 'a) -> Bo
 
 pub fn run(driver: &Driver) {
     driver.each("count_zeros", Kind::Half, &[1], |m| Sides {
-        ours: ours(0, &m[0]),
+        ours: number(&m[0], |m| calls::count_zeros(m.bytes(), m.start, m.length, m.bytes().as_ptr() as usize % 8).value),
         original: Some(number(&m[0], |m| utils::count_zeros(m.bytes(), m.start, m.length))),
         plain: Some(number(&m[0], |m| m.length - plain::count(span(m), span(m), |x, _| x))),
     });

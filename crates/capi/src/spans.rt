@@ -2,7 +2,8 @@
 ghost use mathlib.Core.Path.{_≡_};
 ghost use Rattle.masks.specs.Aligned.{alignedAnswer, alignedOf};
 ghost use Rattle.masks.specs.Bitmask.{partsAnswer, splitAt, windowAnswer, windowAt};
-ghost use Rattle.masks.specs.Utils.{countedAnswer};
+ghost use Rattle.words.specs.Loops.{stretch};
+ghost use Rattle.masks.specs.Utils.{countedAnswer, spanCount, zeros};
 ghost use Rattle.capi.specs.Answers.{asNumber, asSpans, asSplit};
 ghost use Rattle.capi.specs.Spans.{countNumbered, countOf};
 use crate::answers::NO_SUCH_OPERATION;
@@ -98,6 +99,19 @@ pub extern "C" fn pw_aligned_new(
     ensures { λ r. ⌜ r ≡ asSplit (alignedOf (now (bytes .entry)) start length address) ⌝ }
 {
     aligned_out(AlignedBitmapSlice::new(bytes, start, length, address))
+}
+
+// How many flags of a span are zero: count number 0 by itself, which is the one that programs ask for again and again.
+#[no_mangle]
+pub extern "C" fn pw_count_zeros(
+    bytes: &[u8],
+    start: usize,
+    length: usize,
+    address: usize,
+) -> Number
+    ensures { λ r. ⌜ r ≡ asNumber (spanCount (now (bytes .entry)) start length address (zeros (stretch (now (bytes .entry)) start length))) ⌝ }
+{
+    counted_out(count_zeros(bytes, start, length, address))
 }
 
 // The count number `what`: 0 all zeros, 1 leading zeros, 2 leading ones, 3 trailing zeros, 4 trailing ones.

@@ -8,6 +8,7 @@ unsafe extern "C" {
     pub fn pw_nth_set_bit_u64(w: u64, n: u64) -> Position;
     pub fn pw_nth_set_bit_u32(w: u32, n: u32) -> Position;
     pub fn pw_aligned_new(bytes: *const u8, bytes_len: usize, start: usize, length: usize, address: usize) -> SplitAnswer;
+    pub fn pw_count_zeros(bytes: *const u8, bytes_len: usize, start: usize, length: usize, address: usize) -> Number;
     pub fn pw_count(what: u8, bytes: *const u8, bytes_len: usize, start: usize, length: usize, address: usize) -> Number;
     pub fn pw_chunks_new(bytes: *const u8, bytes_len: usize, start: usize, length: usize) -> CursorAnswer;
     pub fn pw_chunks_new_exact(bytes: *const u8, bytes_len: usize, length: usize) -> CursorAnswer;

@@ -17,6 +17,17 @@ pub fn aligned_new(bytes: &[u8], start: usize, length: usize, address: usize) ->
     unsafe { exports::pw_aligned_new(bytes.as_ptr(), bytes.len(), start, length, address) }
 }
 
+/// How many flags of a span are zero: the count number 0 of [`count`], by itself.
+///
+/// ```
+/// assert_eq!(poruwhina::calls::count_zeros(&[0x2D], 0, 6, 0).value, 2);
+/// assert_eq!(poruwhina::calls::count_zeros(&[0x2D], 2, 7, 0).refusal, 2);
+/// ```
+#[inline]
+pub fn count_zeros(bytes: &[u8], start: usize, length: usize, address: usize) -> Number {
+    unsafe { exports::pw_count_zeros(bytes.as_ptr(), bytes.len(), start, length, address) }
+}
+
 /// The count number `what`: 0 all zeros, 1 leading zeros, 2 leading ones, 3 trailing zeros, 4 trailing ones. Another number
 /// gives 255.
 ///

@@ -113,7 +113,7 @@ fn words() -> [Call; 4] {
     ]
 }
 
-fn over_spans() -> [Call; 8] {
+fn over_spans() -> [Call; 9] {
     [
         Call {
             name: "aligned_new",
@@ -121,6 +121,13 @@ fn over_spans() -> [Call; 8] {
             ours: |r, _| ours::split(calls::aligned_new(r.bytes(), r.span().start, r.span().length, r.n)),
             model: |r, _| spans::aligned_new(r.span(), r.n),
             theirs: Theirs::Answer(their_split),
+        },
+        Call {
+            name: "count_zeros",
+            shape: Shape::SPAN.args(Args::Address),
+            ours: |r, _| ours::number(calls::count_zeros(r.bytes(), r.span().start, r.span().length, r.n)),
+            model: |r, _| spans::count(COUNTS[0], r.span(), r.n),
+            theirs: Theirs::Answer(their_count),
         },
         Call {
             name: "count",
