@@ -24,9 +24,14 @@ use crate::refusal::{Refusal, check, check_passed};
 /// # Ok::<(), poruwhina::Refusal>(())
 /// ```
 #[derive(Clone)]
+#[repr(C)]
 pub struct BitmapBuilder {
-    record: calls::Builder,
+    // The library's record. `word` stands apart, so that an answer is taken over number by number: a compiler makes one load of two
+    // neighbours, which the processor cannot serve from the two stores that the call has just made.
+    length: usize,
+    ones: usize,
     buffer: Vec<u8>,
+    word: u64,
 }
 
 impl BitmapBuilder {
@@ -46,7 +51,8 @@ impl BitmapBuilder {
     /// ```
     pub fn with_capacity(flags: usize) -> BitmapBuilder {
         let bytes = frozen_len(flags.min(Bitmap::LIMIT));
-        BitmapBuilder { record: calls::builder_new(), buffer: Vec::with_capacity(bytes) }
+        let calls::Builder { length, word, ones } = calls::builder_new();
+        BitmapBuilder { length, ones, buffer: Vec::with_capacity(bytes), word }
     }
 
     /// The number of flags.
@@ -58,7 +64,7 @@ impl BitmapBuilder {
     /// # Ok::<(), poruwhina::Refusal>(())
     /// ```
     pub fn len(&self) -> usize {
-        self.record.length
+        self.length
     }
 
     /// Are there no flags.
@@ -70,7 +76,7 @@ impl BitmapBuilder {
     /// # Ok::<(), poruwhina::Refusal>(())
     /// ```
     pub fn is_empty(&self) -> bool {
-        self.record.length == 0
+        self.length == 0
     }
 
     /// Appends a flag.
@@ -225,7 +231,7 @@ impl BitmapBuilder {
     /// # Ok::<(), poruwhina::Refusal>(())
     /// ```
     pub fn freeze(mut self) -> Bitmap {
-        let answer = calls::freeze(self.record, &mut self.buffer);
+        let answer = calls::freeze(self.record(), &mut self.buffer);
         check_passed(answer.refusal);
         self.frozen(answer.mask)
     }
@@ -243,7 +249,7 @@ impl BitmapBuilder {
     /// # Ok::<(), poruwhina::Refusal>(())
     /// ```
     pub fn into_opt_validity(mut self) -> Option<Bitmap> {
-        let answer = calls::into_opt_validity(self.record, &mut self.buffer);
+        let answer = calls::into_opt_validity(self.record(), &mut self.buffer);
         check_passed(answer.refusal);
         answer.present.then(|| self.frozen(answer.mask))
     }
@@ -257,14 +263,21 @@ impl BitmapBuilder {
     /// Makes room for `more` flags, unless they come above the limit, and lets `call` append them.
     #[inline]
     fn append(&mut self, more: usize, call: impl FnOnce(calls::Builder, &mut [u8]) -> calls::BuilderAnswer) -> Result<(), Refusal> {
-        let length = self.record.length.saturating_add(more);
+        let length = self.length.saturating_add(more);
         if length <= Bitmap::LIMIT && self.buffer.len() < frozen_len(length) {
             self.buffer.resize(frozen_len(length), 0);
         }
-        let answer = call(self.record, &mut self.buffer);
+        let answer = call(self.record(), &mut self.buffer);
         check(answer.refusal)?;
-        self.record = answer.builder;
+        self.length = answer.builder.length;
+        self.ones = answer.builder.ones;
+        self.word = answer.builder.word;
         Ok(())
+    }
+
+    #[inline]
+    fn record(&self) -> calls::Builder {
+        calls::Builder { length: self.length, word: self.word, ones: self.ones }
     }
 }
 

@@ -111,13 +111,13 @@
 //!
 //! | call | cost |
 //! |---|---|
-//! | [`Bitmap::iter`], per flag | 14 |
-//! | [`Bitmap::slices`], per run, half the flags ones at random | 27 |
-//! | [`Bitmap::true_idx_iter`], per position | 17 |
-//! | [`Bitmap::chunks`], per word of 64 flags | 13 |
-//! | [`BitmapBuilder::push`], per flag | 14 |
-//! | [`Bitmap::get`], [`may_reassign`], of 1,000,000 flags | 18, 20 |
-//! | [`Bitmap::sliced`], of 40 flags | 28 |
+//! | [`Bitmap::iter`], per flag | 3 |
+//! | [`Bitmap::slices`], per run, half the flags ones at random | 15 |
+//! | [`Bitmap::true_idx_iter`], per position | 4 |
+//! | [`Bitmap::chunks`], per word of 64 flags | 3 |
+//! | [`BitmapBuilder::push`], per flag | 5 |
+//! | [`Bitmap::get`], [`may_reassign`], of 1,000,000 flags | 6, 21 |
+//! | [`Bitmap::sliced`], of 40 flags | 29 |
 //! | [`Bitmap::and`], of 40 and of 1,000,000 flags | 78, 3,800 |
 //!
 //! Whoever goes through many flags takes runs, positions or words where these will do, and appends by spans and words.
