@@ -70,16 +70,22 @@ def exports():
     return {name: (list(lowered(pairs(arguments))), result) for name, arguments, result in found}, records_of(text)
 
 
+def rust_text(folder):
+    text = "\n".join(path.read_text() for path in sorted((ROOT / folder).rglob("*.rs")))
+    return re.sub(r"//[^\n]*", "", text)
+
+
 def rust_declarations():
-    text = "\n".join(path.read_text() for path in sorted((ROOT / "bindings/rust/src").rglob("*.rs")))
-    text = re.sub(r"//[^\n]*", "", text)
+    """The functions and the refusals of the whole crate; the records of the module that crosses."""
+    text = rust_text("bindings/rust/src")
     functions = {}
     for block in re.findall(r'extern "C"\s*\{(.*?)\n\}', text, re.S):
         for name, arguments, result in re.findall(r"\bfn (\w+)\s*\((.*?)\)\s*(?:->\s*(\w+)\s*)?;", block, re.S):
             functions[name] = (pairs(arguments), result)
     refusals = re.search(r"pub enum Refusal\s*\{(.*?)\}", text, re.S)
     numbers = re.findall(r"(\w+)\s*=\s*(\d+)", refusals.group(1)) if refusals else []
-    return functions, records_of(text), {"PW_REFUSED" + c_name(name)[2:].upper(): int(n) for name, n in numbers}
+    records = records_of(rust_text("bindings/rust/src/calls"))
+    return functions, records, {"PW_REFUSED" + c_name(name)[2:].upper(): int(n) for name, n in numbers}
 
 
 def c_declarations(record_names):
