@@ -48,24 +48,29 @@ fn put(out: &mut [u8], i: usize, word: u64) {
 }
 
 #[inline(always)]
-fn write<const BYTE_STARTS: bool>(a: Span, b: Span, out: &mut [u8], op: impl Fn(u64, u64) -> u64) {
+fn write<const BYTE_STARTS: bool>([a, b, c]: [Span; 3], out: &mut [u8], op: impl Fn(u64, u64, u64) -> u64) {
+    let word = |i| op(a.word::<BYTE_STARTS>(i), b.word::<BYTE_STARTS>(i), c.word::<BYTE_STARTS>(i));
     for (i, place) in out[..8 * a.words()].chunks_exact_mut(8).enumerate() {
-        let word = op(a.word::<BYTE_STARTS>(i), b.word::<BYTE_STARTS>(i));
-        place.copy_from_slice(&word.to_le_bytes());
+        place.copy_from_slice(&word(i).to_le_bytes());
     }
     if let Some(i) = a.words().checked_sub(1) {
-        put(out, i, op(a.word::<BYTE_STARTS>(i), b.word::<BYTE_STARTS>(i)) & a.cut(i));
+        put(out, i, word(i) & a.cut(i));
     }
 }
 
-/// The frozen bytes of `op` over two spans of one length.
-pub fn combine(a: Span, b: Span, out: &mut [u8], op: impl Fn(u64, u64) -> u64) {
-    assert_eq!(a.length, b.length);
-    if a.shift == 0 && b.shift == 0 {
-        write::<true>(a, b, out, op)
+/// The frozen bytes of `op` over three spans of one length.
+pub fn combine_three(spans: [Span; 3], out: &mut [u8], op: impl Fn(u64, u64, u64) -> u64) {
+    assert!(spans.iter().all(|span| span.length == spans[0].length));
+    if spans.iter().all(|span| span.shift == 0) {
+        write::<true>(spans, out, op)
     } else {
-        write::<false>(a, b, out, op)
+        write::<false>(spans, out, op)
     }
+}
+
+/// The same over two.
+pub fn combine(a: Span, b: Span, out: &mut [u8], op: impl Fn(u64, u64) -> u64) {
+    combine_three([a, b, b], out, |x, y, _| op(x, y))
 }
 
 pub fn map(a: Span, out: &mut [u8], op: impl Fn(u64) -> u64) {

@@ -71,7 +71,9 @@ pub fn run(driver: &Driver) {
     driver.each("select", Kind::Half, &[1, 2, 3], |m| Sides {
         ours: writing(m, |m, out| ours_select(&m[0], &m[1], &m[2], out).refusal),
         original: Some(allocating(m, |m| m[0].bitmap.select(&m[1].bitmap, &m[2].bitmap))),
-        plain: None,
+        plain: Some(plainly(m, |m, out| {
+            plain::combine_three([span(&m[0]), span(&m[1]), span(&m[2])], out, |by, yes, no| (by & yes) | (!by & no))
+        })),
     });
 }
 

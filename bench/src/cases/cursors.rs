@@ -9,11 +9,7 @@ use crate::inputs::{Input, Kind};
 use crate::timing::walk;
 
 /// The answers of a cursor up to the first that has none.
-fn steps<'a>(
-    mut cursor: Cursor,
-    bytes: &'a [u8],
-    next: impl Fn(Cursor, &[u8]) -> Step + 'a,
-) -> impl Iterator<Item = Step> + 'a {
+fn steps<'a>(mut cursor: Cursor, bytes: &'a [u8], next: impl Fn(Cursor, &[u8]) -> Step + 'a) -> impl Iterator<Item = Step> + 'a {
     std::iter::from_fn(move || {
         let step = next(cursor, bytes);
         cursor = step.cursor;
