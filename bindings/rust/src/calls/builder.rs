@@ -3,6 +3,15 @@
 use super::exports;
 use super::records::*;
 
+/// Calls an export that takes a builder and its buffer: they go in as three numbers, and as a pointer and a count.
+macro_rules! append {
+    ($export:ident, $builder:ident, $buf:ident $(, $argument:expr)*) => {
+        unsafe {
+            exports::$export($builder.length, $builder.word, $builder.ones, $buf.as_mut_ptr(), $buf.len() $(, $argument)*)
+        }
+    };
+}
+
 /// The builder of no flags.
 ///
 /// ```
@@ -22,7 +31,7 @@ pub fn builder_new() -> Builder {
 /// ```
 #[inline]
 pub fn push(builder: Builder, buf: &mut [u8], flag: bool) -> BuilderAnswer {
-    unsafe { exports::pw_push(builder.length, builder.word, builder.ones, buf.as_mut_ptr(), buf.len(), flag) }
+    append!(pw_push, builder, buf, flag)
 }
 
 /// Appends `n` copies of a flag.
@@ -37,7 +46,7 @@ pub fn push(builder: Builder, buf: &mut [u8], flag: bool) -> BuilderAnswer {
 /// ```
 #[inline]
 pub fn extend_constant(builder: Builder, buf: &mut [u8], n: usize, flag: bool) -> BuilderAnswer {
-    unsafe { exports::pw_extend_constant(builder.length, builder.word, builder.ones, buf.as_mut_ptr(), buf.len(), n, flag) }
+    append!(pw_extend_constant, builder, buf, n, flag)
 }
 
 /// Appends the first `n` flags of a word, whose bits from there on are 0.
@@ -51,7 +60,7 @@ pub fn extend_constant(builder: Builder, buf: &mut [u8], n: usize, flag: bool) -
 /// ```
 #[inline]
 pub fn push_word_with_len_unchecked(builder: Builder, buf: &mut [u8], word: u64, n: usize) -> BuilderAnswer {
-    unsafe { exports::pw_push_word_with_len_unchecked(builder.length, builder.word, builder.ones, buf.as_mut_ptr(), buf.len(), word, n) }
+    append!(pw_push_word_with_len_unchecked, builder, buf, word, n)
 }
 
 /// Appends a span.
@@ -63,19 +72,7 @@ pub fn push_word_with_len_unchecked(builder: Builder, buf: &mut [u8], word: u64,
 /// ```
 #[inline]
 pub fn extend_from_slice(builder: Builder, buf: &mut [u8], bytes: &[u8], start: usize, n: usize) -> BuilderAnswer {
-    unsafe {
-        exports::pw_extend_from_slice(
-            builder.length,
-            builder.word,
-            builder.ones,
-            buf.as_mut_ptr(),
-            buf.len(),
-            bytes.as_ptr(),
-            bytes.len(),
-            start,
-            n,
-        )
-    }
+    append!(pw_extend_from_slice, builder, buf, bytes.as_ptr(), bytes.len(), start, n)
 }
 
 /// Appends each flag of a span, `repeats` times in turn.
@@ -90,20 +87,7 @@ pub fn extend_from_slice(builder: Builder, buf: &mut [u8], bytes: &[u8], start: 
 pub fn extend_each_repeated_from_slice_unchecked(
     builder: Builder, buf: &mut [u8], bytes: &[u8], start: usize, n: usize, repeats: usize,
 ) -> BuilderAnswer {
-    unsafe {
-        exports::pw_extend_each_repeated_from_slice_unchecked(
-            builder.length,
-            builder.word,
-            builder.ones,
-            buf.as_mut_ptr(),
-            buf.len(),
-            bytes.as_ptr(),
-            bytes.len(),
-            start,
-            n,
-            repeats,
-        )
-    }
+    append!(pw_extend_each_repeated_from_slice_unchecked, builder, buf, bytes.as_ptr(), bytes.len(), start, n, repeats)
 }
 
 /// Appends `n` flags of a mask from its flag `start` on.
@@ -116,20 +100,7 @@ pub fn extend_each_repeated_from_slice_unchecked(
 /// ```
 #[inline]
 pub fn subslice_extend_from_bitmap(builder: Builder, buf: &mut [u8], mask: Mask, bytes: &[u8], start: usize, n: usize) -> BuilderAnswer {
-    unsafe {
-        exports::pw_subslice_extend_from_bitmap(
-            builder.length,
-            builder.word,
-            builder.ones,
-            buf.as_mut_ptr(),
-            buf.len(),
-            mask,
-            bytes.as_ptr(),
-            bytes.len(),
-            start,
-            n,
-        )
-    }
+    append!(pw_subslice_extend_from_bitmap, builder, buf, mask, bytes.as_ptr(), bytes.len(), start, n)
 }
 
 /// Appends the flag at each index of a span, all of them below its length.
@@ -142,21 +113,7 @@ pub fn subslice_extend_from_bitmap(builder: Builder, buf: &mut [u8], mask: Mask,
 /// ```
 #[inline]
 pub fn gather_extend_from_slice(builder: Builder, buf: &mut [u8], bytes: &[u8], start: usize, n: usize, idxs: &[u32]) -> BuilderAnswer {
-    unsafe {
-        exports::pw_gather_extend_from_slice(
-            builder.length,
-            builder.word,
-            builder.ones,
-            buf.as_mut_ptr(),
-            buf.len(),
-            bytes.as_ptr(),
-            bytes.len(),
-            start,
-            n,
-            idxs.as_ptr(),
-            idxs.len(),
-        )
-    }
+    append!(pw_gather_extend_from_slice, builder, buf, bytes.as_ptr(), bytes.len(), start, n, idxs.as_ptr(), idxs.len())
 }
 
 /// Appends the flag at each index of a span, 0 for an index at or past its length.
@@ -168,21 +125,7 @@ pub fn gather_extend_from_slice(builder: Builder, buf: &mut [u8], bytes: &[u8], 
 /// ```
 #[inline]
 pub fn opt_gather_extend_from_slice(builder: Builder, buf: &mut [u8], bytes: &[u8], start: usize, n: usize, idxs: &[u32]) -> BuilderAnswer {
-    unsafe {
-        exports::pw_opt_gather_extend_from_slice(
-            builder.length,
-            builder.word,
-            builder.ones,
-            buf.as_mut_ptr(),
-            buf.len(),
-            bytes.as_ptr(),
-            bytes.len(),
-            start,
-            n,
-            idxs.as_ptr(),
-            idxs.len(),
-        )
-    }
+    append!(pw_opt_gather_extend_from_slice, builder, buf, bytes.as_ptr(), bytes.len(), start, n, idxs.as_ptr(), idxs.len())
 }
 
 /// The mask of the builder's flags, written as frozen bytes over the front of the buffer.
@@ -197,7 +140,7 @@ pub fn opt_gather_extend_from_slice(builder: Builder, buf: &mut [u8], bytes: &[u
 /// ```
 #[inline]
 pub fn freeze(builder: Builder, buf: &mut [u8]) -> MaskAnswer {
-    unsafe { exports::pw_freeze(builder.length, builder.word, builder.ones, buf.as_mut_ptr(), buf.len()) }
+    append!(pw_freeze, builder, buf)
 }
 
 /// The mask of the builder's flags, written as [`freeze`] does, or none where all flags are set.
@@ -213,5 +156,5 @@ pub fn freeze(builder: Builder, buf: &mut [u8]) -> MaskAnswer {
 /// ```
 #[inline]
 pub fn into_opt_validity(builder: Builder, buf: &mut [u8]) -> ValidityAnswer {
-    unsafe { exports::pw_into_opt_validity(builder.length, builder.word, builder.ones, buf.as_mut_ptr(), buf.len()) }
+    append!(pw_into_opt_validity, builder, buf)
 }
