@@ -111,7 +111,8 @@ fn not_failure(mask: Bitmap, bytes: &[u8], size: usize) -> u8
 // The flags of the mask, each inverted.
 pub fn not(mask: Bitmap, bytes: &[u8], out: &mut [u8]) -> Combined
     ensures answer { λ r. ⌜ combinedAnswer r ≡ eachOf (notChecks mask (now (bytes .entry)) (length (now (out .entry)))) (mask ∷ []) (mask .length) ⌝ }
-    ensures bytes { λ _. ⌜ now (out .exit) ≡ eachBytes (notChecks mask (now (bytes .entry)) (length (now (out .entry)))) (notFlags mask (now (bytes .entry))) (now (out .entry)) ⌝ }
+    ensures bytes { λ _. ⌜ now (out .exit) ≡
+        eachBytes (notChecks mask (now (bytes .entry)) (length (now (out .entry)))) (notFlags mask (now (bytes .entry))) (now (out .entry)) ⌝ }
 {
     let refusal = not_failure(mask, bytes, out.len());
     if refusal != 0 {
@@ -160,8 +161,12 @@ pub fn select(
     no: &[u8],
     out: &mut [u8],
 ) -> Combined
-    ensures answer { λ r. ⌜ combinedAnswer r ≡ eachOf (selectChecks selector (now (by .entry)) truthy (now (yes .entry)) falsy (now (no .entry)) (length (now (out .entry)))) (selector ∷ truthy ∷ falsy ∷ []) (selector .length) ⌝ }
-    ensures bytes { λ _. ⌜ now (out .exit) ≡ eachBytes (selectChecks selector (now (by .entry)) truthy (now (yes .entry)) falsy (now (no .entry)) (length (now (out .entry)))) (selectFlags selector (now (by .entry)) truthy (now (yes .entry)) falsy (now (no .entry))) (now (out .entry)) ⌝ }
+    ensures answer { λ r. ⌜ combinedAnswer r ≡
+        eachOf (selectChecks selector (now (by .entry)) truthy (now (yes .entry)) falsy (now (no .entry)) (length (now (out .entry))))
+        (selector ∷ truthy ∷ falsy ∷ []) (selector .length) ⌝ }
+    ensures bytes { λ _. ⌜ now (out .exit) ≡
+        eachBytes (selectChecks selector (now (by .entry)) truthy (now (yes .entry)) falsy (now (no .entry)) (length (now (out .entry))))
+        (selectFlags selector (now (by .entry)) truthy (now (yes .entry)) falsy (now (no .entry))) (now (out .entry)) ⌝ }
 {
     let refusal = select_failure(selector, by, truthy, yes, falsy, no, out.len());
     if refusal != 0 {
@@ -196,8 +201,12 @@ pub fn select_constant(
     flag: bool,
     out: &mut [u8],
 ) -> Combined
-    ensures answer { λ r. ⌜ combinedAnswer r ≡ eachOf (pairChecks selector (now (by .entry)) truthy (now (yes .entry)) (length (now (out .entry)))) (selector ∷ truthy ∷ []) (selector .length) ⌝ }
-    ensures bytes { λ _. ⌜ now (out .exit) ≡ eachBytes (pairChecks selector (now (by .entry)) truthy (now (yes .entry)) (length (now (out .entry)))) (selectConstantFlags selector (now (by .entry)) truthy (now (yes .entry)) flag) (now (out .entry)) ⌝ }
+    ensures answer { λ r. ⌜ combinedAnswer r ≡
+        eachOf (pairChecks selector (now (by .entry)) truthy (now (yes .entry)) (length (now (out .entry))))
+        (selector ∷ truthy ∷ []) (selector .length) ⌝ }
+    ensures bytes { λ _. ⌜ now (out .exit) ≡
+        eachBytes (pairChecks selector (now (by .entry)) truthy (now (yes .entry)) (length (now (out .entry))))
+        (selectConstantFlags selector (now (by .entry)) truthy (now (yes .entry)) flag) (now (out .entry)) ⌝ }
 {
     let refusal = pair_failure(selector, by, truthy, yes, out.len());
     if refusal != 0 {
