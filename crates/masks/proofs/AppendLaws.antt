@@ -246,6 +246,10 @@ take-copies (suc k) zero x h = absurd (omega arith)
 take-copies (suc k) (suc n) x h = ap (λ (t : List Bool). x ∷ t) (take-copies k n x (omega arith))
 
 -- the first flags of a word of one flag
+-- appending to a record that is equal
+pub append-same : (a b : BitmapBuilder) (bytes : List ℕ) (g : Filling) (l : List Bool) → g ≡ appended (filling a bytes) l → a ≡ b → g ≡ appended (filling b bytes) l
+append-same a b bytes g l p e = p ∙ ap (λ (x : BitmapBuilder). appended (filling x bytes) l) e
+
 pub constant-front : (k w : ℕ) (x : Bool) → k ≤ 64 → bits 64 w ≡ copies 64 x → take k (bits 64 w) ≡ copies k x
 constant-front k w x h e = ap (take k) e ∙ take-copies k 64 x h
 

@@ -1,11 +1,13 @@
 -- Long extensions: whole words written to the buffer, and a list appended in three parts. Assumes nothing.
 use mathlib.Core.Path.{_≡_, refl, sym, ap, ap₂, _∙_}
-use mathlib.Core.Bool.{Bool}
+use mathlib.Core.Bool.{Bool, true, _&&_}
 use mathlib.Core.List.{List, [], _∷_, _++_, append-nil}
-use Prim.Native.Nat.{ℕ, zero, suc, _+_, _*_, _/_, _%_, _≤_}
+use Prim.Native.Nat.{ℕ, zero, suc, _+_, _*_, _/_, _%_, _≤_, _<_}
 use native.Mathlib.Nat.{zero-add, suc-add, zero-lt-suc}
 use native.Mathlib.Omega.{arith}
+use lib.Dec.{leb, ltb}
 use lib.ListN.{length, take}
+use borrow.Author.Tests.{leb-true, ltb-true}
 use Rattle.words.specs.Flags.{bits, copies, count, flagsOf, overAt, window, wordOf}
 use Rattle.words.specs.Loops.{wholeWords}
 use Rattle.words.proofs.Windows.{window-add, window-cut}
@@ -13,6 +15,7 @@ use Rattle.masks.specs.Builder.{Filling, filling, builderOf, inProgress,
 use Rattle.masks.specs.Frozen.{packed, overFrom}
 use Rattle.masks.specs.declared.builder.BitmapBuilder.{BitmapBuilder}
 use Rattle.masks.proofs.AppendLaws.{Parts, appended-grown, append-then, length-progress}
+use Rattle.masks.proofs.CheckLaws.{and-left, and-right}
 use Rattle.masks.proofs.FrozenLaws.{Small, written-bytes}
 
 -- ---- whole words
@@ -61,6 +64,13 @@ pub window-three : (l : List Bool) (k a m c n x y : ℕ) → n ≡ a + m + c →
 window-three l k a m c n x y e ex ey =
     ap₂ (λ (i j : ℕ). (window l k a ++ window l i m) ++ window l j c) ex ey
     ∙ sym (ap (window l k) e ∙ window-add l k (a + m) c ∙ ap (λ (t : List Bool). t ++ window l (k + (a + m)) c) (window-add l k a m))
+
+-- what the test of the short path says: n flags are few, and the word in progress has room for them
+pub few-inside : (b : BitmapBuilder) (n : ℕ) (t : Bool) → t ≡ (leb n 57 && ltb (b .length % 64 + n) 64) → t ≡ true → (n ≤ 57) × (b .length % 64 + n < 64)
+few-inside b n t e h = (
+  leb-true n 57 (and-left (leb n 57) (ltb (b .length % 64 + n) 64) (sym e ∙ h)),
+  ltb-true (b .length % 64 + n) 64 (and-right (leb n 57) (ltb (b .length % 64 + n) 64) (sym e ∙ h)),
+)
 
 -- the first flags of a word that was read from a flag on
 pub stretch-front : (l : List Bool) (bit k w : ℕ) → k ≤ 64 → bits 64 w ≡ window l bit 64 → take k (bits 64 w) ≡ window l bit k

@@ -6,7 +6,7 @@ use Prim.Native.Nat.{ℕ, zero, suc, _+_, _*_, _/_, _%_, _≤_, _<_}
 use native.Mathlib.Omega.{arith}
 use lib.Dec.{leb}
 use lib.ListN.{length, take, drop, getD, length-append, take-append-drop}
-use borrow.Author.Tests.{leb-true, le-leb}
+use borrow.Author.Tests.{leb-true, le-leb, lt-leb}
 use Rattle.words.specs.Flags.{bits, count, flagsOf, overAt, window, wordOf}
 use Rattle.words.proofs.AnyFlag.{zero-any}
 use Rattle.words.proofs.Bytes.{length-flags}
@@ -21,10 +21,18 @@ use Rattle.masks.specs.Mask.{maskChecks, countValid}
 use Rattle.masks.specs.declared.bitmap.Bitmap.{Bitmap}
 use Rattle.masks.specs.declared.builder.BitmapBuilder.{BitmapBuilder}
 use Rattle.masks.proofs.AppendLaws.{Parts, grown, appended-grown, parts-of, parts-long, progress-of, word-back, length-progress}
-use Rattle.masks.proofs.CheckLaws.{when-le, words-test, one-check, and-left, and-right, first-allowed, rest-allowed, both-left, span-allowed}
+use Rattle.masks.proofs.CheckLaws.{when-le, one-check, earlier-none, and-left, and-right, first-allowed, rest-allowed, both-left, both-right, SpanAllowed, span-allowed}
 use Rattle.masks.proofs.FrozenLaws.{flags-packed, length-overFrom, flags-overFrom}
 
 -- ---- the number of a builder's checks, by the tests that decide it
+
+and-none : (t : Bool) → (t && (false && false)) ≡ false
+and-none true = refl
+and-none false = refl
+
+and-all : (t : Bool) → (t && (true && true)) ≡ t
+and-all true = refl
+and-all false = refl
 
 one-first : (x : ℕ) → 1 ≡ earlier 1 x
 unfolding earlier
@@ -57,10 +65,31 @@ impossible t n size e = last (leb (8 * ((n + 63) / 64)) size) ∙ ap (λ (s : Bo
     last true = refl
     last false = refl
 
-pub room-decides : (p t : Bool) (n size r : ℕ) → p ≡ true → r ≡ cond t 0 9 → t ≡ leb ((n + 63) / 64) (size / 8) → r ≡ firstFailed (check 4 p ∷ outputChecks n size)
+-- a buffer that does not hold n flags
+pub small-room : (p : Bool) (n size r : ℕ) → r ≡ cond p 9 4 → size / 8 < (n + 63) / 64 → r ≡ firstFailed (check 4 p ∷ outputChecks n size)
 unfolding firstFailed outputChecks earlier
-room-decides p t n size r e h k =
-    one-check r 9 t (leb (8 * ((n + 63) / 64)) size) h (k ∙ words-test n size) ∙ ap (λ (s : Bool). earlier (cond s 0 4) (firstFailed (outputChecks n size))) (sym e)
+small-room true n size r e h = one-check r 9 false (leb (8 * ((n + 63) / 64)) size) e (sym (lt-leb (8 * ((n + 63) / 64)) size (omega arith)))
+small-room false n size r e h = e ∙ impossible false n size refl
+
+-- one that does, and so holds the finished words: the rest of check 4 decides
+module _ (b : BitmapBuilder) (n size : ℕ) (holds : (n + 63) / 64 ≤ size / 8) (longer : b .length ≤ n) where
+  pub ones-over : 64 * (b .length / 64) < b .ones → 4 ≡ firstFailed (check 4 (possible b size) ∷ outputChecks n size)
+  unfolding possible
+  ones-over h = impossible (possible b size) n size (ap (λ (t : Bool). noneFrom (b .word) (b .length % 64) && (t && leb (8 * (b .length / 64)) size))
+      (lt-leb (b .ones) (64 * (b .length / 64)) h) ∙ and-none (noneFrom (b .word) (b .length % 64)))
+
+  pub word-decides : (t : Bool) (r : ℕ) → b .ones ≤ 64 * (b .length / 64) → r ≡ cond t 0 4 → t ≡ noneFrom (b .word) (b .length % 64)
+      → r ≡ firstFailed (check 4 (possible b size) ∷ outputChecks n size)
+  unfolding firstFailed possible outputChecks earlier
+  word-decides t r few e h =
+      let enough : 8 * (b .length / 64) ≤ size = omega arith in
+      let fits : 8 * ((n + 63) / 64) ≤ size = omega arith in
+      e ∙ ap (λ (x : Bool). cond x 0 4) (h ∙ sym (and-all (noneFrom (b .word) (b .length % 64))))
+      ∙ sym (earlier-none (cond (noneFrom (b .word) (b .length % 64) && (true && true)) 0 4))
+      ∙ ap₂ (λ (x y : Bool). earlier (cond (noneFrom (b .word) (b .length % 64) && (x && y)) 0 4) 0)
+      (sym (le-leb (b .ones) (64 * (b .length / 64)) few)) (sym (le-leb (8 * (b .length / 64)) size enough))
+      ∙ ap (λ (x : Bool). earlier (cond (noneFrom (b .word) (b .length % 64) && (leb (b .ones) (64 * (b .length / 64)) && leb (8 * (b .length / 64)) size)) 0 4)
+      (earlier (cond x 0 9) 0)) (sym (le-leb (8 * ((n + 63) / 64)) size fits))
 
 -- ---- what the checks give
 
@@ -78,6 +107,18 @@ room-of b n size e =
       few = leb-true (b .ones) (64 * (b .length / 64)) (and-left (leb (b .ones) (64 * (b .length / 64))) (leb (8 * (b .length / 64)) size) rest);
       holds = leb-true (8 * ((b .length + n + 63) / 64)) size (first-allowed 8 (leb (8 * ((b .length + n + 63) / 64)) size) [] four);
     }
+
+-- the same of a record that is equal
+pub room-same : (a b : BitmapBuilder) (n size : ℕ) → a ≡ b → Room b n size → Room a n size
+room-same a b n size e r = subst (λ (x : BitmapBuilder). Room x n size) (sym e) r
+
+-- of a span that is appended
+pub grow-allowed : (start n bytes size r : ℕ) (b : BitmapBuilder) → r ≡ firstFailed (spanChecks start n bytes ++ builderChecks b (b .length + n) size) → r ≡ 0
+    → SpanAllowed start n bytes × Room b n size
+grow-allowed start n bytes size r b e z = (
+  span-allowed start n bytes (both-left (spanChecks start n bytes) (builderChecks b (b .length + n) size) (sym e ∙ z)),
+  room-of b n size (both-right (spanChecks start n bytes) (builderChecks b (b .length + n) size) (sym e ∙ z)),
+)
 
 pub word-allowed : (w k : ℕ) → firstFailed (withinLimit k ∷ check 6 (leb k 64 && noneFrom w k) ∷ []) ≡ 0 → k ≤ 64
 word-allowed w k e =

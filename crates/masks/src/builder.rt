@@ -1,10 +1,11 @@
 // The builder: flags are appended to a lent buffer. A word is written when it is full.
 ghost use mathlib.Core.Path.{_≡_};
-ghost use mathlib.Core.List.{[], _∷_};
-ghost use Prim.Native.Nat.{_≤_, _-_};
+ghost use mathlib.Core.List.{List, [], _∷_};
+ghost use Prim.Native.Nat.{ℕ, _≤_, _<_, _+_, _-_, _%_};
 ghost use lib.ListN.{length, take};
 ghost use Rattle.words.specs.Flags.{wordFlags};
 ghost use Rattle.masks.specs.Appends.{pushedAnswer, appendAnswer, appendBytes, changeAnswer, pushFlag, pushWord};
+ghost use Rattle.masks.specs.Checks.{limit};
 ghost use Rattle.masks.specs.Builder.{Room, newBuilder, filling, appended};
 ghost use Rattle.masks.specs.Freeze.{allOnes, frozenMask, freezeBytes, freezeOf, frozenOver, intoOptValidityOf, madeAnswer, validityAnswer};
 use crate::bitmap::Bitmap;
@@ -126,8 +127,9 @@ struct Change {
     number: u8,
 }
 
-// The record taken apart into length, word and ones, and put together: a further field joins here.
-fn copied(b: BitmapBuilder) -> BitmapBuilder
+// The record taken apart into length, word and ones, and put together: a further field joins here. A record that goes to a function
+// outside the call's body is copied in the arm that calls it, so that the usual arm keeps its own in registers.
+pub(crate) fn copied(b: BitmapBuilder) -> BitmapBuilder
     ensures { λ r. ⌜ r ≡ b ⌝ }
 {
     BitmapBuilder {
@@ -154,22 +156,32 @@ fn push_change(b: BitmapBuilder, buf: &mut [u8], flag: bool) -> Change
     }
 }
 
+// Appends the first k flags of a word, for which the word in progress has room: no byte is written.
+pub(crate) fn push_inside(b: BitmapBuilder, word: u64, k: usize) -> BitmapBuilder
+    requires { ⌜ (b .length ≤ limit) × (b .length % 64 + k < 64) ⌝ }
+    ensures { λ r. ⌜ ((bytes : List ℕ) → filling r bytes ≡ appended (filling b bytes) (take k (wordFlags word))) ⌝ }
+{
+    let low = behind(b.word, b.length % 64, low_flags(word, k));
+    let longer = b.length + k;
+    BitmapBuilder {
+        length: longer,
+        word: low,
+        ones: b.ones,
+    }
+}
+
 // Appends the first k flags of a word: they go behind those in progress, and a full word is written.
 pub(crate) fn push_flags(b: BitmapBuilder, buf: &mut [u8], word: u64, k: usize) -> BitmapBuilder
     requires { ⌜ (k ≤ 64) × Room b k (length (now buf)) ⌝ }
     ensures { λ r. ⌜ filling r (now (buf .exit)) ≡ appended (filling b (now (buf .entry))) (take k (wordFlags word)) ⌝ }
 {
     let fill = b.length % 64;
+    if fill + k < 64 {
+        return push_inside(b, word, k);
+    }
     let flags = low_flags(word, k);
     let low = behind(b.word, fill, flags);
     let longer = b.length + k;
-    if fill + k < 64 {
-        return BitmapBuilder {
-            length: longer,
-            word: low,
-            ones: b.ones,
-        };
-    }
     store_at(buf, 8 * (b.length / 64), low);
     let ones = b.ones + ones_in_word(low);
     let rest = down(flags, 64 - fill);

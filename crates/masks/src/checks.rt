@@ -1,7 +1,7 @@
 // The checks that the calls share, and how a call puts them together: a number is 0 where nothing failed.
 ghost use mathlib.Core.Path.{_≡_};
 ghost use mathlib.Core.Bool.{cond, _&&_};
-ghost use mathlib.Core.List.{[], _∷_};
+ghost use mathlib.Core.List.{[], _∷_, _++_};
 ghost use Prim.Native.Nat.{_+_, _*_, _≤_};
 ghost use lib.Dec.{leb};
 ghost use lib.ListN.{length};
@@ -121,26 +121,56 @@ fn is_possible(b: BitmapBuilder, size: usize) -> bool
     )
 }
 
-// Of a builder over a buffer of so many bytes, made n flags long. The test that decides comes first: a call that is not
-// refused makes no number.
+// Of a builder over a buffer of so many bytes, made n flags long. The buffer is tested first: one that holds n flags holds the
+// finished words too, and a call that is not refused makes no number.
 fn room_failure(b: BitmapBuilder, n: usize, size: usize) -> u8
-    requires { ⌜ n ≤ limit ⌝ }
+    requires { ⌜ (n ≤ limit) × (b .length ≤ n) ⌝ }
     ensures { λ r. ⌜ r ≡ firstFailed (check 4 (possible b size) ∷ outputChecks n size) ⌝ }
 {
-    if is_possible(b, size) {
-        return failed(9, (n + 63) / 64 <= size / 8);
+    if size / 8 < (n + 63) / 64 {
+        return small_failure(b, size);
     }
-    4
+    if 64 * (b.length / 64) < b.ones {
+        return 4;
+    }
+    failed(4, none_from(b.word, b.length % 64))
+}
+
+// The same where the buffer does not hold n flags.
+fn small_failure(b: BitmapBuilder, size: usize) -> u8
+    ensures { λ r. ⌜ r ≡ cond (possible b size) 9 4 ⌝ }
+{
+    if is_possible(b, size) { 9 } else { 4 }
 }
 
 // Of a call that appends so many flags to it.
 pub(crate) fn builder_failure(b: BitmapBuilder, more: usize, size: usize) -> u8
     ensures { λ r. ⌜ r ≡ firstFailed (builderChecks b (b .length + more) size) ⌝ }
 {
-    if sum_at_most(b.length, more, Bitmap::LIMIT) {
-        return room_failure(b, b.length + more, size);
+    if Bitmap::LIMIT < b.length {
+        return 1;
     }
-    1
+    if Bitmap::LIMIT - b.length < more {
+        return 1;
+    }
+    room_failure(b, b.length + more, size)
+}
+
+// Of a call that appends a span of n flags to it. A span that is allowed leaves the builder's number: none is made for it.
+pub(crate) fn span_grow_failure(
+    start: usize,
+    n: usize,
+    bytes: usize,
+    b: BitmapBuilder,
+    size: usize,
+) -> u8
+    ensures { λ r. ⌜ r ≡ firstFailed (spanChecks start n bytes ++ builderChecks b (b .length + n) size) ⌝ }
+{
+    let span = span_failure(start, n, bytes);
+    if span == 0 {
+        return builder_failure(b, n, size);
+    }
+    earlier(span, builder_failure(b, n, size))
 }
 
 // Of a pushed word: its stated length, and that it has at most 64 flags and none beyond.

@@ -1,6 +1,8 @@
 // Long extensions of a builder: up to a full word, then whole words written straight to the buffer, then the rest.
+ghost use mathlib.Core.Bool.{_&&_};
 ghost use mathlib.Core.Path.{_≡_};
 ghost use Prim.Native.Nat.{_+_, _*_, _%_, _≤_};
+ghost use lib.Dec.{leb, ltb};
 ghost use lib.ListN.{length};
 ghost use Rattle.words.specs.Flags.{copies, digit, window};
 ghost use Rattle.words.specs.Loops.{stretch};
@@ -10,13 +12,16 @@ ghost use Rattle.masks.specs.Mask.{maskFlags};
 use crate::bitmap::Bitmap;
 use crate::builder::BitmapBuilder;
 use crate::builder::Pushed;
+use crate::builder::copied;
 use crate::builder::push_flags;
+use crate::builder::push_inside;
 use crate::checks::builder_failure;
 use crate::checks::earlier;
 use crate::checks::inner_failure;
 use crate::checks::limit_failure;
 use crate::checks::mask_failure;
-use crate::checks::span_failure;
+use crate::checks::span_grow_failure;
+use crate::span::near_word;
 use words::counts::copy_count;
 use words::loops::fill;
 use words::word::constant_word;
@@ -32,10 +37,10 @@ impl BitmapBuilder {
         if refusal != 0 {
             return Pushed::Refused(refusal, self);
         }
-        if n <= 64 {
-            return Pushed::Done(push_flags(self, buf, constant_word(flag), n));
+        if self.length % 64 + n < 64 {
+            return Pushed::Done(push_inside(self, constant_word(flag), n));
         }
-        Pushed::Done(append_copies(self, buf, n, flag))
+        Pushed::Done(append_copies(copied(self), buf, n, flag))
     }
 
     // Appends a span.
@@ -43,17 +48,14 @@ impl BitmapBuilder {
         ensures answer { λ r. ⌜ pushedAnswer r ≡ appendAnswer (extendSlice (now (bytes .entry)) start n) self (now (buf .entry)) ⌝ }
         ensures bytes { λ _. ⌜ now (buf .exit) ≡ appendBytes (extendSlice (now (bytes .entry)) start n) self (now (buf .entry)) ⌝ }
     {
-        let refusal = earlier(
-            span_failure(start, n, bytes.len()),
-            builder_failure(self, n, buf.len()),
-        );
+        let refusal = span_grow_failure(start, n, bytes.len(), self, buf.len());
         if refusal != 0 {
             return Pushed::Refused(refusal, self);
         }
-        if n <= 64 {
-            return Pushed::Done(push_flags(self, buf, word_from(bytes, start), n));
+        if stays_inside(self, n) {
+            return Pushed::Done(push_inside(self, near_word(bytes, start), n));
         }
-        Pushed::Done(append_stretch(self, buf, bytes, start, n))
+        Pushed::Done(append_stretch(copied(self), buf, &bytes[0..], start, n))
     }
 
     // Appends a piece of a mask.
@@ -79,6 +81,17 @@ impl BitmapBuilder {
             return Pushed::Refused(refusal, self);
         }
         Pushed::Done(append_stretch(self, buf, bytes, mask.start + start, n))
+    }
+}
+
+// Are n flags read by one load, and has the word in progress room for them.
+fn stays_inside(b: BitmapBuilder, n: usize) -> bool
+    ensures { λ r. ⌜ r ≡ (leb n 57 && ltb (b .length % 64 + n) 64) ⌝ }
+{
+    if n <= 57 {
+        b.length % 64 + n < 64
+    } else {
+        false
     }
 }
 

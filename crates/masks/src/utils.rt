@@ -134,7 +134,8 @@ pub(crate) fn zeros_at(bytes: &[u8], start: usize, length: usize) -> usize
     long_zeros(bytes, start, length)
 }
 
-// How many flags of a span are zero.
+// How many flags of a span are zero. `zeros_at` is outside this body and gets a slice of its own: the slice given here, which it
+// would otherwise take from memory, stays in registers for the short spans.
 pub fn count_zeros(bytes: &[u8], start: usize, length: usize, address: usize) -> Counted
     ensures { λ r. ⌜ countedAnswer r ≡ spanCount (now (bytes .entry)) start length address (zeros (stretch (now (bytes .entry)) start length)) ⌝ }
 {
@@ -148,7 +149,7 @@ pub fn count_zeros(bytes: &[u8], start: usize, length: usize, address: usize) ->
     if start % 8 + length <= 64 {
         return Counted::Count(short_zeros(bytes, start, length));
     }
-    Counted::Count(zeros_at(bytes, start, length))
+    Counted::Count(zeros_at(&bytes[0..], start, length))
 }
 
 fn leading_flags(flag: bool, bytes: &[u8], start: usize, length: usize, address: usize) -> Counted

@@ -10,6 +10,7 @@ ghost use Rattle.words.specs.Ops.{opOf};
 ghost use Rattle.words.specs.Kernels.{InRange};
 ghost use Rattle.words.specs.Loops.{stretch, combined, wholeWords};
 ghost use Rattle.words.specs.Counts.{anySet, sameFlags};
+use crate::kernels::copy_bytes;
 use crate::kernels::copy_words;
 use crate::kernels::each_count;
 use crate::kernels::each_join;
@@ -55,6 +56,9 @@ pub fn copy_count(bytes: &[u8], start: usize, len: usize, out: &mut [u8]) -> usi
     }
     if least(room(bytes.len(), start / 8 + 1), out.len() / 8) < len / 64 {
         return copy_then_count(bytes, start, len, out);
+    }
+    if start % 8 == 0 {
+        return copy_bytes(bytes, start / 8, len / 64, out);
     }
     copy_words(bytes, start / 8, start % 8, len / 64, out)
 }

@@ -257,7 +257,25 @@ pub(crate) fn ones_words(bytes: &[u8], p: usize, n: usize) -> usize
     ones
 }
 
-// n words of a stretch that begins s flags behind the byte p, over the front of out, and their ones: in one pass.
+// n words from the byte p on, over the front of out, and their ones: in one pass.
+pub(crate) fn copy_bytes(bytes: &[u8], p: usize, n: usize, out: &mut [u8]) -> usize
+    requires { ⌜ (8 * n ≤ length (now bytes) - p) × ((8 * n ≤ length (now out)) × (64 * n < 2 ^ 64)) ⌝ }
+    ensures ones { λ r. ⌜ r ≡ count (window (flagsOf (now (bytes .entry))) (8 * p) (64 * n)) ⌝ }
+    ensures flags { λ _. ⌜ flagsOf (now (out .exit)) ≡ over (flagsOf (now (out .entry))) (window (flagsOf (now (bytes .entry))) (8 * p) (64 * n)) ⌝ }
+{
+    let mut ones: usize = 0;
+    let mut i = 0;
+    while i < n {
+        let at = 8 * i;
+        let w = full_word(bytes, p + at);
+        put_word(out, at, w);
+        ones += ones_in_word(w);
+        i += 1;
+    }
+    ones
+}
+
+// The same of a stretch that begins s flags behind the byte p, with one byte more in range.
 pub(crate) fn copy_words(bytes: &[u8], p: usize, s: usize, n: usize, out: &mut [u8]) -> usize
     requires { ⌜ ((8 * n ≤ length (now bytes) - (p + 1)) × (s ≤ 8)) × ((8 * n ≤ length (now out)) × (64 * n < 2 ^ 64)) ⌝ }
     ensures ones { λ r. ⌜ r ≡ count (window (flagsOf (now (bytes .entry))) (8 * p + s) (64 * n)) ⌝ }

@@ -75,13 +75,22 @@ pub fn store_at(out: &mut [u8], at: usize, w: u64)
     }
 }
 
-// The eight bytes from `at` on, all in range: one load.
-pub(crate) fn full_word(bytes: &[u8], at: usize) -> u64
+// The eight bytes from `at` on, all in range.
+fn eight_bytes(bytes: &[u8], at: usize) -> u64
     requires { ⌜ at + 8 ≤ length (now bytes) ⌝ }
     ensures { λ r. ⌜ wordFlags r ≡ window (flagsOf (now (bytes .entry))) (8 * at) 64 ⌝ }
 {
     let end = at + 8;
     join(&bytes[at..end])
+}
+
+// The same as one load: the compiler joins the eight bytes here, before it sees what a caller does with the word. Where it sees
+// both at once, as in `select`, whose first word is used twice, the bytes stay apart and the caller's loop is not vectorised.
+pub(crate) fn full_word(bytes: &[u8], at: usize) -> u64
+    requires { ⌜ at + 8 ≤ length (now bytes) ⌝ }
+    ensures { λ r. ⌜ wordFlags r ≡ window (flagsOf (now (bytes .entry))) (8 * at) 64 ⌝ }
+{
+    eight_bytes(bytes, at)
 }
 
 // The eight bytes of w from `at` on, all in range: one store.

@@ -1,12 +1,21 @@
--- The word in progress has room for all flags (`push-short`), or is full, stored and counted, and the rest begins the next (`push-full`).
+-- The word in progress has room for all flags (`push_inside`), or is full, stored and counted, and the rest begins the next (`push-full`).
 use Rattle.words.specs.Flags.{wordFlags}
 use native.Mathlib.Omega.{arith}
 use Rattle.words.proofs.Counting.{count-le}
 use Rattle.words.proofs.Bits.{length-bits}
-use Rattle.masks.proofs.PushLaws.{push-short, push-full}
+use Rattle.masks.proofs.PushLaws.{push-full}
 use borrow.Author.Needs.{needs}
 use Rattle.masks.proofs.builder.push_flags.Statement.{statement}
 use Rattle.masks.proofs.builder.push_flags.Tie as tie
+
+add-if1 : tie.Need-add-if1
+add-if1 c = search needs
+
+push-inside-requires : tie.Need-push-inside-requires
+push-inside-requires c κs = (omega (arith, c .before .before .before .pre .1 .short), c .if1 .taken)
+
+returns : tie.Need-returns
+returns c = c .push-inside .ensures _
 
 low-flags-requires : tie.Need-low-flags-requires
 low-flags-requires c κs = search needs
@@ -16,14 +25,6 @@ behind-requires c κs = search needs
 
 add-longer : tie.Need-add-longer
 add-longer c = search needs
-
-add-if1 : tie.Need-add-if1
-add-if1 c = search needs
-
-returns : tie.Need-returns
-returns c =
-    let m = c .before .before in
-    push-short _ _ _ _ _ _ (m .before .before .before .before .pre .0) (m .before .low-flags .ensures) (m .behind .ensures) (m .behind .ok) (c .if1 .taken)
 
 mul-store-at : tie.Need-mul-store-at
 mul-store-at c = search needs
@@ -36,9 +37,10 @@ ones-in-word-requires c κs = search needs
 
 add-ones : tie.Need-add-ones
 add-ones c =
-    let m = c .before .before .before .before .before .before .before .before .before in
-    let few = m .before .before .before .before .pre .1 .few in
-    let short = m .before .before .before .before .pre .1 .short in
+    let m = c .before .before .before .before .before .before .before .before in
+    let s = m .before .before .before .before .before in
+    let few = s .pre .1 .few in
+    let short = s .pre .1 .short in
     omega (arith, c .before .ones-in-word .ensures, count-le (wordFlags (m .behind .result)), length-bits 64 (m .behind .result))
 
 sub-down : tie.Need-sub-down
@@ -53,21 +55,24 @@ same-length c = search needs
 returns-2 : tie.Need-returns-2
 returns-2 c =
     let put = c .before .before .before .before .before in
-    let m = put .before .before .before .before .before in
-    let s = m .before .before .before .before in
+    let m = put .before .before .before .before in
+    let t = m .before .before in
+    let known = t .before .before in
+    let s = known .before in
     push-full _ (s .args .buf .now) _ _ _ _ (s .pre .0) (m .before .low-flags .ensures) (m .behind .ensures) _ _ _
-    (put .before .before .before .if1 .left) (c .down .ok) (c .down .ensures) (c .before .before .ones-in-word .ensures)
-    (λ i. m .before .before .before .slice-known .given i .fits) (λ i. c .before .before .before .slice-known2 .given i .fits) (put .store-at .ensures)
+    (t .if1 .left) (c .down .ok) (c .down .ensures) (c .before .before .ones-in-word .ensures)
+    (λ i. known .slice-known .given i .fits) (λ i. c .before .before .before .slice-known2 .given i .fits) (put .store-at .ensures)
 
 pub push-flags-spec : {M : Type 1} → statement M
 push-flags-spec =
     tie.close
     (tie.spec
+    add-if1
+    push-inside-requires
+    returns
     low-flags-requires
     behind-requires
     add-longer
-    add-if1
-    returns
     mul-store-at
     store-at-requires
     ones-in-word-requires

@@ -2,8 +2,9 @@
 use mathlib.Core.Path.{sym, ap, _∙_}
 use native.Mathlib.Omega.{arith}
 use Rattle.masks.specs.Answer.{given}
-use Rattle.masks.specs.Utils.{spanCount}
+use Rattle.masks.specs.Utils.{spanCount, zeros}
 use Rattle.masks.proofs.CheckLaws.{is-refused, is-given, is-empty, not-empty}
+use Rattle.masks.proofs.SpanLaws.{whole-stretch}
 use Rattle.masks.proofs.SplitLaws.{aligned-allowed}
 use borrow.Author.Needs.{needs}
 use Rattle.masks.proofs.utils.count_zeros.Statement.{statement}
@@ -32,18 +33,31 @@ returns-3 c =
     let e = c .before .before .before in
     not-empty _ _ _ _ (e .before .if1 .left) (ap given (c .short-zeros .ensures) ∙ is-given _ _ _ _ (e .aligned-failure .ensures) (c .before .before .if2 .left))
 
+sub-zeros-at : tie.Need-sub-zeros-at
+sub-zeros-at c = search needs
+
+part-zeros-at-start : tie.Need-part-zeros-at-start
+part-zeros-at-start c = search needs
+
+part-zeros-at-end : tie.Need-part-zeros-at-end
+part-zeros-at-end c = search needs
+
 zeros-at-requires : tie.Need-zeros-at-requires
 zeros-at-requires c κs =
-    let a = aligned-allowed _ _ _ _ (sym (c .before .before .aligned-failure .ensures) ∙ c .before .if2 .left) in
+    let no = c .before .before in
+    let a = aligned-allowed _ _ _ _ (sym (no .before .aligned-failure .ensures) ∙ no .if2 .left) in
     (omega (arith, a .0), a .1 .0)
 
 returns-4 : tie.Need-returns-4
 unfolding spanCount
 returns-4 c =
-    let e = c .before .before .before in
-    not-empty _ _ _ _ (e .before .if1 .left) (ap given (c .zeros-at .ensures) ∙ is-given _ _ _ _ (e .aligned-failure .ensures) (c .before .before .if2 .left))
+    let no = c .before .before .before in
+    let e = no .before in
+    not-empty _ _ _ _ (e .before .if1 .left)
+    (ap given (c .zeros-at .ensures ∙ ap zeros (whole-stretch _ _ _)) ∙ is-given _ _ _ _ (e .aligned-failure .ensures) (no .if2 .left))
 
 pub count-zeros-spec : {M : Type 1} → statement M
 count-zeros-spec =
     tie.close
-    (tie.spec returns aligned-failure-requires returns-2 add-if3 short-zeros-requires returns-3 zeros-at-requires returns-4)
+    (tie.spec returns aligned-failure-requires returns-2 add-if3 short-zeros-requires returns-3 sub-zeros-at part-zeros-at-start part-zeros-at-end zeros-at-requires
+    returns-4)

@@ -33,14 +33,27 @@ same-length-2 c = search needs
 returns-2 : tie.Need-returns-2
 returns-2 c = search needs
 
-copy-words-requires : tie.Need-copy-words-requires
-copy-words-requires c κs = search needs
+copy-bytes-requires : tie.Need-copy-bytes-requires
+copy-bytes-requires c κs = search needs
 
 same-length-3 : tie.Need-same-length-3
 same-length-3 c = search needs
 
 returns-3 : tie.Need-returns-3
 returns-3 c =
+    let did = c .before .before in (
+      count-stretch _ _ _ _ _ _ (did .copy-bytes .ensures .0) (omega arith) (omega arith),
+      write-stretch _ _ _ _ _ _ _ (did .copy-bytes .ensures .1) (omega arith) (omega arith) (omega arith),
+    )
+
+copy-words-requires : tie.Need-copy-words-requires
+copy-words-requires c κs = search needs
+
+same-length-4 : tie.Need-same-length-4
+same-length-4 c = search needs
+
+returns-4 : tie.Need-returns-4
+returns-4 c =
     let did = c .before .before in (
       count-stretch _ _ _ _ _ _ (did .copy-words .ensures .0) (omega arith) (omega arith),
       write-stretch _ _ _ _ _ _ _ (did .copy-words .ensures .1) (omega arith) (omega arith) (omega arith),
@@ -59,6 +72,9 @@ copy-count-spec =
     copy-then-count-requires-2
     same-length-2
     returns-2
-    copy-words-requires
+    copy-bytes-requires
     same-length-3
-    returns-3)
+    returns-3
+    copy-words-requires
+    same-length-4
+    returns-4)

@@ -1,10 +1,11 @@
--- The number of the checks decides: `refused-way` or `append-way`; flags that fit a word by `constant-front`, more by the worker.
+-- The number of the checks decides: `refused-way` or `append-way`; flags for which the word in progress has room by `constant-front`, more by the worker.
 use mathlib.Core.Path.{sym, ap, _∙_}
+use native.Mathlib.Omega.{arith}
 use Rattle.masks.specs.Appends.{constantChecks}
 use Rattle.masks.specs.Builder.{appended}
 use Rattle.masks.proofs.CheckLaws.{refused-way, two-pieces, passed-left}
-use Rattle.masks.proofs.AppendLaws.{append-way, constant-front}
-use Rattle.masks.proofs.RoomLaws.{room-of}
+use Rattle.masks.proofs.AppendLaws.{append-way, append-same, constant-front}
+use Rattle.masks.proofs.RoomLaws.{room-of, room-same}
 use borrow.Author.Needs.{needs}
 use Rattle.masks.proofs.builder.BitmapBuilder.extend_constant.Statement.{statement}
 use Rattle.masks.proofs.builder.BitmapBuilder.extend_constant.Tie as tie
@@ -24,47 +25,54 @@ returns c =
     let e = c .before in
     refused-way _ _ _ _ (two-pieces _ _ _ _ _ (e .earlier .ensures) (e .before .before .builder-failure .ensures) (e .before .limit-failure .ensures)) _ _ (c .if1 .taken)
 
+add-if2 : tie.Need-add-if2
+add-if2 c =
+    let no = c .before in
+    let e = no .before in
+    omega (arith, room-of _ _ _ (sym (e .before .before .builder-failure .ensures) ∙ passed-left _ _ (sym (e .earlier .ensures) ∙ no .if1 .left)) .short)
+
 constant-word-requires : tie.Need-constant-word-requires
 constant-word-requires c κs = search needs
 
-push-flags-requires : tie.Need-push-flags-requires
-push-flags-requires c κs =
-    let short = c .before .before in
-    let no = short .before in
+push-inside-requires : tie.Need-push-inside-requires
+push-inside-requires c κs =
+    let no = c .before .before .before in
     let e = no .before in
-    (short .if2 .taken, room-of _ _ _ (sym (e .before .before .builder-failure .ensures) ∙ passed-left _ _ (sym (e .earlier .ensures) ∙ no .if1 .left)))
-
-same-length : tie.Need-same-length
-same-length c = search needs
+    let room = room-of _ _ _ (sym (e .before .before .builder-failure .ensures) ∙ passed-left _ _ (sym (e .earlier .ensures) ∙ no .if1 .left)) in
+    (omega (arith, room .short), c .before .if2 .taken)
 
 returns-2 : tie.Need-returns-2
 unfolding constantChecks
 returns-2 c =
-    let did = c .before .before in
-    let word = did .before in
-    let short = word .before .before in
-    let no = short .before in
+    let word = c .before in
+    let no = word .before .before .before in
     let e = no .before in
     append-way _ _ _ _ _ _ _ _ (two-pieces _ _ _ _ _ (e .earlier .ensures) (e .before .before .builder-failure .ensures) (e .before .limit-failure .ensures)) (no .if1 .left)
-    (did .push-flags .ensures ∙ ap (appended _) (constant-front _ _ _ (short .if2 .taken) (word .constant-word .ensures)))
+    (c .push-inside .ensures _ ∙ ap (appended _) (constant-front _ _ _ (omega (arith, word .before .if2 .taken)) (word .constant-word .ensures)))
+
+copied-requires : tie.Need-copied-requires
+copied-requires c κs = search needs
 
 append-copies-requires : tie.Need-append-copies-requires
 append-copies-requires c κs =
-    let no = c .before .before in
+    let own = c .before in
+    let no = own .before .before .before in
     let e = no .before in
-    room-of _ _ _ (sym (e .before .before .builder-failure .ensures) ∙ passed-left _ _ (sym (e .earlier .ensures) ∙ no .if1 .left))
+    room-same _ _ _ _ (own .copied .ensures)
+    (room-of _ _ _ (sym (e .before .before .builder-failure .ensures) ∙ passed-left _ _ (sym (e .earlier .ensures) ∙ no .if1 .left)))
 
-same-length-2 : tie.Need-same-length-2
-same-length-2 c = search needs
+same-length : tie.Need-same-length
+same-length c = search needs
 
 returns-3 : tie.Need-returns-3
 unfolding constantChecks
 returns-3 c =
     let did = c .before .before in
-    let no = did .before .before .before in
+    let own = did .before .before in
+    let no = own .before .before .before in
     let e = no .before in
     append-way _ _ _ _ _ _ _ _ (two-pieces _ _ _ _ _ (e .earlier .ensures) (e .before .before .builder-failure .ensures) (e .before .limit-failure .ensures)) (no .if1 .left)
-    (did .append-copies .ensures)
+    (append-same _ _ _ _ _ (did .append-copies .ensures) (own .copied .ensures))
 
 pub extend-constant-spec : {M : Type 1} → statement M
 extend-constant-spec =
@@ -74,10 +82,11 @@ extend-constant-spec =
     limit-failure-requires
     earlier-requires
     returns
+    add-if2
     constant-word-requires
-    push-flags-requires
-    same-length
+    push-inside-requires
     returns-2
+    copied-requires
     append-copies-requires
-    same-length-2
+    same-length
     returns-3)

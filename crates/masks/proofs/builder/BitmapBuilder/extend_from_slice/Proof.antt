@@ -1,87 +1,94 @@
--- The number of the checks decides: `refused-way` or `append-way`; flags that fit a word by `stretch-front`, more by the worker.
-use mathlib.Core.Path.{sym, ap, _∙_}
+-- The number of the checks decides: `refused-way` or `append-way`; flags of one load for which the word in progress has room by themselves, more by
+-- the worker.
+use mathlib.Core.Path.{ap, _∙_}
 use native.Mathlib.Omega.{arith}
 use Rattle.masks.specs.Appends.{spanGrowChecks}
 use Rattle.masks.specs.Builder.{appended}
-use Rattle.masks.proofs.CheckLaws.{refused-way, two-pieces, passed-left, passed-right, span-allowed}
-use Rattle.masks.proofs.AppendLaws.{append-way}
-use Rattle.masks.proofs.ExtendLaws.{stretch-front}
-use Rattle.masks.proofs.RoomLaws.{room-of}
+use Rattle.masks.proofs.CheckLaws.{refused-way}
+use Rattle.masks.proofs.AppendLaws.{append-way, append-same}
+use Rattle.masks.proofs.ExtendLaws.{few-inside}
+use Rattle.masks.proofs.RoomLaws.{grow-allowed, room-same}
+use Rattle.masks.proofs.SpanLaws.{whole-stretch}
 use borrow.Author.Needs.{needs}
 use Rattle.masks.proofs.builder.BitmapBuilder.extend_from_slice.Statement.{statement}
 use Rattle.masks.proofs.builder.BitmapBuilder.extend_from_slice.Tie as tie
 
-span-failure-requires : tie.Need-span-failure-requires
-span-failure-requires c κs = search needs
-
-builder-failure-requires : tie.Need-builder-failure-requires
-builder-failure-requires c κs = search needs
-
-earlier-requires : tie.Need-earlier-requires
-earlier-requires c κs = search needs
+span-grow-failure-requires : tie.Need-span-grow-failure-requires
+span-grow-failure-requires c κs = search needs
 
 returns : tie.Need-returns
 unfolding spanGrowChecks
-returns c =
-    let e = c .before in
-    refused-way _ _ _ _ (two-pieces _ _ _ _ _ (e .earlier .ensures) (e .before .before .span-failure .ensures) (e .before .builder-failure .ensures)) _ _ (c .if1 .taken)
+returns c = refused-way _ _ _ _ (c .before .span-grow-failure .ensures) _ _ (c .if1 .taken)
 
-word-from-requires : tie.Need-word-from-requires
-word-from-requires c κs = search needs
+stays-inside-requires : tie.Need-stays-inside-requires
+stays-inside-requires c κs = search needs
 
-push-flags-requires : tie.Need-push-flags-requires
-push-flags-requires c κs =
-    let short = c .before .before in
-    let no = short .before in
-    let e = no .before in
-    (short .if2 .taken, room-of _ _ _ (sym (e .before .builder-failure .ensures) ∙ passed-right _ _ (sym (e .earlier .ensures) ∙ no .if1 .left)))
+near-word-requires : tie.Need-near-word-requires
+near-word-requires c κs = search needs
 
-same-length : tie.Need-same-length
-same-length c = search needs
+push-inside-requires : tie.Need-push-inside-requires
+push-inside-requires c κs =
+    let fits = c .before in
+    let no = fits .before .before in
+    let room = grow-allowed _ _ _ _ _ _ (no .before .span-grow-failure .ensures) (no .if1 .left) .1 in
+    let a = no .before .before .before .before .args in
+    (omega (arith, room .short), few-inside (a .self) (a .n) _ (fits .before .stays-inside .ensures) (fits .if2 .taken) .1)
 
 returns-2 : tie.Need-returns-2
 unfolding spanGrowChecks
 returns-2 c =
-    let did = c .before .before in
-    let word = did .before in
-    let short = word .before .before in
-    let no = short .before in
-    let e = no .before in
-    append-way _ _ _ _ _ _ _ _ (two-pieces _ _ _ _ _ (e .earlier .ensures) (e .before .before .span-failure .ensures) (e .before .builder-failure .ensures)) (no .if1 .left)
-    (did .push-flags .ensures ∙ ap (appended _) (stretch-front _ _ _ _ (short .if2 .taken) (word .word-from .ensures)))
+    let fits = c .before .before in
+    let no = fits .before .before in
+    let a = no .before .before .before .before .args in
+    let few = few-inside (a .self) (a .n) _ (fits .before .stays-inside .ensures) (fits .if2 .taken) .0 in
+    append-way _ _ _ _ _ _ _ _ (no .before .span-grow-failure .ensures) (no .if1 .left)
+    (c .push-inside .ensures _ ∙ ap (appended _) (c .before .near-word .ensures _ few))
+
+copied-requires : tie.Need-copied-requires
+copied-requires c κs = search needs
+
+sub-append-stretch : tie.Need-sub-append-stretch
+sub-append-stretch c = search needs
+
+part-append-stretch-start : tie.Need-part-append-stretch-start
+part-append-stretch-start c = search needs
+
+part-append-stretch-end : tie.Need-part-append-stretch-end
+part-append-stretch-end c = search needs
 
 append-stretch-requires : tie.Need-append-stretch-requires
 append-stretch-requires c κs =
-    let no = c .before .before in
-    let e = no .before in
-    let none = sym (e .earlier .ensures) ∙ no .if1 .left in
-    let span = span-allowed _ _ _ (sym (e .before .before .span-failure .ensures) ∙ passed-left _ _ none) in
-    (omega (arith, span .starts, span .short), room-of _ _ _ (sym (e .before .builder-failure .ensures) ∙ passed-right _ _ none))
+    let own = c .before .before in
+    let no = own .before .before .before in
+    let allowed = grow-allowed _ _ _ _ _ _ (no .before .span-grow-failure .ensures) (no .if1 .left) in
+    (omega (arith, allowed .0 .starts, allowed .0 .short), room-same _ _ _ _ (own .copied .ensures) (allowed .1))
 
-same-length-2 : tie.Need-same-length-2
-same-length-2 c = search needs
+same-length : tie.Need-same-length
+same-length c = search needs
 
 returns-3 : tie.Need-returns-3
 unfolding spanGrowChecks
 returns-3 c =
     let did = c .before .before in
-    let no = did .before .before .before in
-    let e = no .before in
-    append-way _ _ _ _ _ _ _ _ (two-pieces _ _ _ _ _ (e .earlier .ensures) (e .before .before .span-failure .ensures) (e .before .builder-failure .ensures)) (no .if1 .left)
-    (did .append-stretch .ensures)
+    let own = did .before .before .before in
+    let no = own .before .before .before in
+    append-way _ _ _ _ _ _ _ _ (no .before .span-grow-failure .ensures) (no .if1 .left)
+    (append-same _ _ _ _ _ (did .append-stretch .ensures) (own .copied .ensures) ∙ ap (appended _) (whole-stretch _ _ _))
 
 pub extend-from-slice-spec : {M : Type 1} → statement M
 extend-from-slice-spec =
     tie.close
     (tie.spec
-    span-failure-requires
-    builder-failure-requires
-    earlier-requires
+    span-grow-failure-requires
     returns
-    word-from-requires
-    push-flags-requires
-    same-length
+    stays-inside-requires
+    near-word-requires
+    push-inside-requires
     returns-2
+    copied-requires
+    sub-append-stretch
+    part-append-stretch-start
+    part-append-stretch-end
     append-stretch-requires
-    same-length-2
+    same-length
     returns-3)

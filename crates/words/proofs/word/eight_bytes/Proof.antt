@@ -1,8 +1,8 @@
 -- `load-mid`: the flags of eight bytes from `at` on are those from 8 * at on.
 use Rattle.words.proofs.Loads.{load-mid}
 use borrow.Author.Needs.{needs}
-use Rattle.words.proofs.word.full_word.Statement.{statement}
-use Rattle.words.proofs.word.full_word.Tie as tie
+use Rattle.words.proofs.word.eight_bytes.Statement.{statement}
+use Rattle.words.proofs.word.eight_bytes.Tie as tie
 
 add-end : tie.Need-add-end
 add-end c = search needs
@@ -22,6 +22,6 @@ join-requires c κs = search needs
 returns : tie.Need-returns
 returns c = load-mid _ _ _ (c .join .ensures)
 
-pub full-word-spec : {M : Type 1} → statement M
-full-word-spec =
+pub eight-bytes-spec : {M : Type 1} → statement M
+eight-bytes-spec =
     tie.close (tie.spec add-end sub-join part-join-start part-join-end join-requires returns)
