@@ -1,7 +1,8 @@
 // A span appended with each flag repeated.
 ghost use mathlib.Core.Path.{_≡_};
-ghost use Prim.Native.Nat.{_+_, _*_, _≤_, _<_};
+ghost use Prim.Native.Nat.{_+_, _*_, _%_, _≤_, _<_};
 ghost use lib.ListN.{length};
+ghost use Rattle.words.specs.Flags.{copies};
 ghost use Rattle.words.specs.Loops.{stretch};
 ghost use Rattle.masks.specs.Appends.{pushedAnswer, appendAnswer, appendBytes, extendRepeated, growChecks, repeated, SameOrOver};
 ghost use Rattle.masks.specs.Builder.{Room, filling, appended};
@@ -9,11 +10,14 @@ ghost use Rattle.masks.specs.Checks.{firstFailed};
 use crate::bitmap::Bitmap;
 use crate::builder::BitmapBuilder;
 use crate::builder::Pushed;
+use crate::builder::copied;
+use crate::builder::push_inside;
 use crate::checks::builder_failure;
 use crate::checks::earlier;
 use crate::checks::span_failure;
 use crate::extend::append_copies;
 use crate::extend::append_stretch;
+use words::word::constant_word;
 use words::word::flag_at;
 
 impl BitmapBuilder {
@@ -86,6 +90,17 @@ fn append_repeated(
     append_runs(b, buf, bytes, start, n, repeats)
 }
 
+// Copies of one flag: mostly few, for which the word in progress has room.
+fn append_run(b: BitmapBuilder, buf: &mut [u8], n: usize, flag: bool) -> BitmapBuilder
+    requires { ⌜ Room b n (length (now buf)) ⌝ }
+    ensures { λ r. ⌜ filling r (now (buf .exit)) ≡ appended (filling b (now (buf .entry))) (copies n flag) ⌝ }
+{
+    if b.length % 64 + n < 64 {
+        return push_inside(b, constant_word(flag), n);
+    }
+    append_copies(copied(b), buf, n, flag)
+}
+
 // Run by run: each flag is extended at once.
 fn append_runs(
     b: BitmapBuilder,
@@ -101,7 +116,7 @@ fn append_runs(
     let mut grown = b;
     let mut i = 0;
     while i < n {
-        grown = append_copies(grown, buf, repeats, flag_at(bytes, start + i));
+        grown = append_run(grown, buf, repeats, flag_at(bytes, start + i));
         i += 1;
     }
     grown

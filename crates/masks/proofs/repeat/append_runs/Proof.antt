@@ -30,8 +30,8 @@ add-flag-at c = search needs
 flag-at-requires : tie.Need-flag-at-requires Inv-loop μ-loop
 flag-at-requires c κs = search needs
 
-append-copies-requires : tie.Need-append-copies-requires Inv-loop μ-loop
-append-copies-requires c κs =
+append-run-requires : tie.Need-append-run-requires Inv-loop μ-loop
+append-run-requires c κs =
     let turn = c .before .before in
     runs-room _ _ _ _ _ _ _ (turn .before .loop .inv .1) (turn .loop-test .taken) (turn .before .before .before .before .pre .1)
 
@@ -45,7 +45,7 @@ loop-again : tie.Need-loop-again Inv-loop μ-loop
 loop-again c =
     let did = c .before .before in
     let turn = did .before .before .before in
-    (omega arith, runs-step _ _ _ _ _ _ _ _ (turn .before .loop .inv .1) (did .before .flag-at .ensures) (did .append-copies .ensures))
+    (omega arith, runs-step _ _ _ _ _ _ _ _ (turn .before .loop .inv .1) (did .before .flag-at .ensures) (did .append-run .ensures))
 
 same-length : tie.Need-same-length Inv-loop μ-loop
 same-length c = size-after _ _ _ (c .before .loop .inv .1)
@@ -62,7 +62,7 @@ append-runs-spec =
     loop-holds
     add-flag-at
     flag-at-requires
-    append-copies-requires
+    append-run-requires
     add-i
     loop-less
     loop-again
