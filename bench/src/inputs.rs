@@ -78,6 +78,8 @@ pub struct Input {
     pub mask: Mask,
     pub uncounted: Mask,
     pub bitmap: Bitmap,
+    /// The mask as the Rust crate over the library has it.
+    pub held: poruwhina::Bitmap,
     /// The bitmap before its zeros were counted. A clone of it has no count either.
     pub uncounted_bitmap: Bitmap,
 }
@@ -98,9 +100,10 @@ impl Input {
         let uncounted_bitmap = bitmap.clone();
         let zeros = bitmap.unset_bits();
         assert_eq!(zeros, flags.iter().filter(|flag| !**flag).count());
+        let held = poruwhina::Bitmap::try_from_span(padded[..lent].to_vec(), start, length).unwrap();
         let uncounted = Mask { start, length, zeros: 0, known: 0 };
         let mask = Mask { zeros, known: 1, ..uncounted };
-        Input { padded, lent, start, length, zeros, mask, uncounted, bitmap, uncounted_bitmap }
+        Input { padded, lent, start, length, zeros, mask, uncounted, bitmap, held, uncounted_bitmap }
     }
 
     /// The bytes lent: whole words, as a frozen mask has them.

@@ -21,6 +21,10 @@ fn run_of(start: usize, length: usize) -> u64 {
     start as u64 ^ (length as u64) << 32
 }
 
+fn original_positions(m: &Input) -> (u64, impl Iterator<Item = u64> + '_) {
+    (0, TrueIdxIter::new(m.length, Some(&m.bitmap)).map(|at| at as u64))
+}
+
 pub fn run(driver: &Driver) {
     driver.each("BitChunks, all words", Kind::Half, &[1], |m| Sides {
         ours: walk(&m[0], |m| {
@@ -46,11 +50,16 @@ pub fn run(driver: &Driver) {
     }
     for kind in [Kind::Sparse, Kind::Half, Kind::Dense] {
         driver.each("TrueIdxIter, all positions", kind, &[1], |m| Sides {
+            ours: walk(&m[0], |m| (0, m.held.true_idx_iter().map(|at| at as u64))),
+            original: Some(walk(&m[0], original_positions)),
+            plain: None,
+        });
+        driver.each("TrueIdxIter, each position by a call", kind, &[1], |m| Sides {
             ours: walk(&m[0], |m| {
                 let cursor = calls::true_idx_new(m.length, true, m.mask, m.bytes()).cursor;
                 (0, steps(cursor, m.bytes(), calls::true_idx_next).map(|step| step.value))
             }),
-            original: Some(walk(&m[0], |m| (0, TrueIdxIter::new(m.length, Some(&m.bitmap)).map(|at| at as u64)))),
+            original: Some(walk(&m[0], original_positions)),
             plain: None,
         });
     }

@@ -1,4 +1,5 @@
-//! Cursors over a borrowed mask: its flags, runs of ones, positions of ones and words. Each step is one call of the library.
+//! Cursors over a borrowed mask: its flags, runs of ones, positions of ones and words. Each step is a call of the library, but for
+//! positions inside a run of ones whose length a call gave.
 
 use std::iter::FusedIterator;
 
@@ -144,6 +145,10 @@ impl FusedIterator for SlicesIterator<'_> {}
 #[derive(Clone, Debug)]
 pub struct TrueIdxIter<'a> {
     cursor: Cursor<'a>,
+    /// The flags from the cursor's place up to here are ones, as the library said.
+    ones_end: usize,
+    /// How many of the last positions that calls gave stood right behind the one before.
+    adjacent: u32,
 }
 
 impl<'a> TrueIdxIter<'a> {
@@ -162,7 +167,22 @@ impl<'a> TrueIdxIter<'a> {
     pub fn new(length: usize, mask: Option<&'a Bitmap>) -> Result<TrueIdxIter<'a>, Refusal> {
         let (record, bytes) = record_or_absent(mask);
         let cursor = Cursor::new(bytes, calls::true_idx_new(length, mask.is_some(), record, bytes))?;
-        Ok(TrueIdxIter { cursor })
+        Ok(TrueIdxIter { cursor, ones_end: 0, adjacent: 0 })
+    }
+
+    /// The next one by a call. Where it stands right behind the last, more may follow: a second call says how many, and the
+    /// positions of those need none.
+    fn next_by_call(&mut self) -> Option<usize> {
+        let place = self.cursor.record.place;
+        let position = self.cursor.step(calls::true_idx_next)?.value as usize;
+        self.adjacent = if position == place { self.adjacent + 1 } else { 0 };
+        if self.adjacent == 2 && self.cursor.record.masked != 0 {
+            self.adjacent = 0;
+            let ones = calls::take_leading(true, self.cursor.record, self.cursor.bytes);
+            check_passed(ones.refusal);
+            self.ones_end = self.cursor.record.place + ones.count;
+        }
+        Some(position)
     }
 }
 
@@ -176,7 +196,12 @@ impl Iterator for TrueIdxIter<'_> {
 
     #[inline]
     fn next(&mut self) -> Option<usize> {
-        self.cursor.step(calls::true_idx_next).map(|step| step.value as usize)
+        let place = self.cursor.record.place;
+        if place < self.ones_end {
+            self.cursor.record.place = place + 1;
+            return Some(place);
+        }
+        self.next_by_call()
     }
 
     fn size_hint(&self) -> (usize, Option<usize>) {

@@ -11,6 +11,7 @@ use Rattle.words.specs.Flags.{bits, count, flagsOf, overAt, window, wordOf}
 use Rattle.words.proofs.AnyFlag.{zero-any}
 use Rattle.words.proofs.Bytes.{length-flags}
 use Rattle.words.proofs.Counting.{count-append, count-le, count-padded}
+use Rattle.words.proofs.Loads.{had-room}
 use Rattle.words.proofs.Plain.{overAt-before, overAt-in}
 use Rattle.words.proofs.Windows.{length-window, window-add, window-ext, as-window, at-in, bits-window}
 use Rattle.masks.specs.Builder.{Filling, inProgress, appended, builderFlags, noneFrom, possible, builderChecks, Room}
@@ -107,6 +108,13 @@ room-of b n size e =
       few = leb-true (b .ones) (64 * (b .length / 64)) (and-left (leb (b .ones) (64 * (b .length / 64))) (leb (8 * (b .length / 64)) size) rest);
       holds = leb-true (8 * ((b .length + n + 63) / 64)) size (first-allowed 8 (leb (8 * ((b .length + n + 63) / 64)) size) [] four);
     }
+
+-- the word behind the finished ones has room where the flags reach into it
+pub word-stored : (b : BitmapBuilder) (k size : ℕ) (out new old : List Bool) → Room b k size → b .length / 64 < (b .length + k + 63) / 64
+    → out ≡ cond (leb (8 * (b .length / 64) + 8) size) new old → out ≡ new
+word-stored b k size out new old r h e =
+    let holds : 8 * ((b .length + k + 63) / 64) ≤ size = r .holds in
+    had-room (8 * (b .length / 64)) size out new old e (omega arith)
 
 -- the same of a record that is equal
 pub room-same : (a b : BitmapBuilder) (n size : ℕ) → a ≡ b → Room b n size → Room a n size

@@ -18,7 +18,7 @@ use words::word::constant_word;
 use words::word::down;
 use words::word::low_flags;
 use words::word::ones_in_word;
-use words::word::store_at;
+use words::word::store_whole;
 
 // The length, the word in progress and the ones in the finished words. The Rust's `BitmapBuilder`, its buffer lent beside it.
 pub struct BitmapBuilder {
@@ -182,7 +182,7 @@ pub(crate) fn push_flags(b: BitmapBuilder, buf: &mut [u8], word: u64, k: usize) 
     let flags = low_flags(word, k);
     let low = behind(b.word, fill, flags);
     let longer = b.length + k;
-    store_at(buf, 8 * (b.length / 64), low);
+    store_whole(buf, 8 * (b.length / 64), low);
     let ones = b.ones + ones_in_word(low);
     let rest = down(flags, 64 - fill);
     BitmapBuilder {
@@ -198,7 +198,7 @@ fn finish(b: BitmapBuilder, buf: &mut [u8])
     ensures { λ _. ⌜ now (buf .exit) ≡ frozenOver b (now (buf .entry)) ⌝ }
 {
     if b.length % 64 != 0 {
-        store_at(buf, 8 * (b.length / 64), b.word);
+        store_whole(buf, 8 * (b.length / 64), b.word);
     }
 }
 

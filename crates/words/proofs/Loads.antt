@@ -1,6 +1,6 @@
 -- Loads and stores of words: byte by byte, whole in range, from any bit, and two loads that overlap. Assumes nothing.
 use mathlib.Core.Path.{_≡_, refl, sym, ap, ap₂, _∙_, subst}
-use mathlib.Core.Bool.{Bool, true, false, _&&_, _||_}
+use mathlib.Core.Bool.{Bool, true, false, cond, _&&_, _||_}
 use mathlib.Core.List.{List, [], _∷_, _++_, zipWith, append-assoc}
 use mathlib.Core.Logic.{⊎-elim}
 use Prim.Native.Nat.{ℕ, zero, suc, _+_, _-_, _*_, _/_, _%_, _^_, _≤_, _<_}
@@ -8,11 +8,11 @@ use native.Mathlib.Nat.{add-comm, le-of-lt, sub-add-cancel, mod-lt, one-mul, zer
 use native.Mathlib.Numerals.{add-one}
 use native.Mathlib.Omega.{arith}
 use lib.ListN.{length, take, drop, getD, set, length-append, length-drop, List·getD-eq-default}
-use lib.Dec.{lit<, ltb}
+use lib.Dec.{lit<, leb, ltb}
 use lib.Seq.{take-at, drop-at, take-all, length-take-le, take-append-seam, getD-take}
 use lib.Pow.{shl-exact, pow-pos, shr-lt}
 use lib.Bits.{bitOr}
-use borrow.Author.Tests.{lt-ltb, le-ltb}
+use borrow.Author.Tests.{lt-ltb, le-ltb, le-leb, lt-leb}
 use Rattle.words.specs.Flags.{bits, wordOf, flagsOf, window, over, overAt}
 use Rattle.words.specs.Merge.{merged}
 use Rattle.words.proofs.Bits.{length-bits, bits-add, bits-take, bits-zero, bits-mod, bits-shl, bits-or, wordOf-bits, or-append, bits-join}
@@ -186,3 +186,15 @@ byte-past bs at h = bits-zero 64 ∙ sym (window-past (flagsOf bs) (8 * at) 64 (
 
 pub at-bit : (l : List Bool) (bit r : ℕ) → bits 64 r ≡ window l (8 * (bit / 8) + bit % 8) 64 → bits 64 r ≡ window l bit 64
 at-bit l bit r p = let e : 8 * (bit / 8) + bit % 8 ≡ bit = omega arith in p ∙ ap (λ (x : ℕ). window l x 64) e
+
+-- ---- a store where there is room for all eight bytes, or none
+
+pub no-room : (at n : ℕ) (new old : List Bool) → n < at + 8 → old ≡ cond (leb (at + 8) n) new old
+no-room at n new old h = ap (λ (t : Bool). cond t new old) (sym (lt-leb (at + 8) n h))
+
+pub with-room : (at n : ℕ) (out new old : List Bool) → at + 8 ≤ n → out ≡ new → out ≡ cond (leb (at + 8) n) new old
+with-room at n out new old h e = e ∙ ap (λ (t : Bool). cond t new old) (sym (le-leb (at + 8) n h))
+
+-- what a caller who knows of the room learns
+pub had-room : (at n : ℕ) (out new old : List Bool) → out ≡ cond (leb (at + 8) n) new old → at + 8 ≤ n → out ≡ new
+had-room at n out new old e h = e ∙ ap (λ (t : Bool). cond t new old) (le-leb (at + 8) n h)

@@ -1,8 +1,9 @@
 // A word: loads, stores, its low flags and its ones. Loads and stores that lie in range by `requires` are private to the crate.
-ghost use mathlib.Core.Bool.{false};
+ghost use mathlib.Core.Bool.{false, cond};
 ghost use mathlib.Core.Path.{_≡_};
 ghost use mathlib.Core.List.{_++_};
 ghost use Prim.Native.Nat.{_+_, _*_, _<_, _≤_, _%_};
+ghost use lib.Dec.{leb};
 ghost use lib.ListN.{length, take, getD};
 ghost use Rattle.words.specs.Flags.{wordFlags, copies, flagsOf, count, over, overAt, window};
 
@@ -73,6 +74,20 @@ pub fn store_at(out: &mut [u8], at: usize, w: u64)
     if at <= out.len() {
         store_le_u64(&mut out[at..], w);
     }
+}
+
+// The same where there is room for all eight; else nothing is written. For callers that know that there is: a part of a word,
+// which is written byte by byte, would make the code that stands in their bodies several times as long.
+pub fn store_whole(out: &mut [u8], at: usize, w: u64)
+    ensures { λ _. ⌜ flagsOf (now (out .exit)) ≡ cond (leb (at + 8) (length (now (out .entry)))) (overAt (flagsOf (now (out .entry))) (8 * at) (wordFlags w)) (flagsOf (now (out .entry))) ⌝ }
+{
+    if out.len() < 8 {
+        return;
+    }
+    if out.len() - 8 < at {
+        return;
+    }
+    put_word(out, at, w);
 }
 
 // The eight bytes from `at` on, all in range.

@@ -4,6 +4,7 @@ use native.Mathlib.Omega.{arith}
 use Rattle.words.proofs.Counting.{count-le}
 use Rattle.words.proofs.Bits.{length-bits}
 use Rattle.masks.proofs.PushLaws.{push-full}
+use Rattle.masks.proofs.RoomLaws.{word-stored}
 use borrow.Author.Needs.{needs}
 use Rattle.masks.proofs.builder.push_flags.Statement.{statement}
 use Rattle.masks.proofs.builder.push_flags.Tie as tie
@@ -26,11 +27,11 @@ behind-requires c κs = search needs
 add-longer : tie.Need-add-longer
 add-longer c = search needs
 
-mul-store-at : tie.Need-mul-store-at
-mul-store-at c = search needs
+mul-store-whole : tie.Need-mul-store-whole
+mul-store-whole c = search needs
 
-store-at-requires : tie.Need-store-at-requires
-store-at-requires c κs = search needs
+store-whole-requires : tie.Need-store-whole-requires
+store-whole-requires c κs = search needs
 
 ones-in-word-requires : tie.Need-ones-in-word-requires
 ones-in-word-requires c κs = search needs
@@ -61,7 +62,7 @@ returns-2 c =
     let s = known .before in
     push-full _ (s .args .buf .now) _ _ _ _ (s .pre .0) (m .before .low-flags .ensures) (m .behind .ensures) _ _ _
     (t .if1 .left) (c .down .ok) (c .down .ensures) (c .before .before .ones-in-word .ensures)
-    (λ i. known .slice-known .given i .fits) (λ i. c .before .before .before .slice-known2 .given i .fits) (put .store-at .ensures)
+    (λ i. known .slice-known .given i .fits) (λ i. c .before .before .before .slice-known2 .given i .fits) (word-stored _ _ _ _ _ _ (s .pre .1) (omega (arith, t .if1 .left)) (put .store-whole .ensures))
 
 pub push-flags-spec : {M : Type 1} → statement M
 push-flags-spec =
@@ -73,8 +74,8 @@ push-flags-spec =
     low-flags-requires
     behind-requires
     add-longer
-    mul-store-at
-    store-at-requires
+    mul-store-whole
+    store-whole-requires
     ones-in-word-requires
     add-ones
     sub-down
