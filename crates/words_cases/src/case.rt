@@ -1,4 +1,5 @@
-// A case of a call on three stretches: where they start, how many flags, how many bytes each is lent, and the output.
+// A case of a call on three stretches: where they start, how many flags, how many bytes each is lent, and the output; and the
+// calls, on bytes that are painted for the case.
 use crate::tables;
 use crate::text;
 use words::counts;
@@ -16,76 +17,89 @@ pub struct Case {
     pub room: usize,
 }
 
-pub fn combine(k: Case, a: &[u8], b: &[u8], c: &[u8], out: &mut [u8]) {
-    let na = k.na;
-    let nb = k.nb;
-    let nc = k.nc;
-    let room = k.room;
-    if na <= a.len() {
-        if nb <= b.len() {
-            if nc <= c.len() {
-                if room <= out.len() {
-                    loops::combine(
-                        tables::op(k.op),
-                        &a[0..na],
-                        k.sa,
-                        &b[0..nb],
-                        k.sb,
-                        &c[0..nc],
-                        k.sc,
-                        k.len,
-                        &mut out[0..room],
-                    );
-                }
-            }
-        }
+// The patterns of the three stretches, and a flag that is turned over in the first and one in the second.
+pub struct Paint {
+    pub a: usize,
+    pub b: usize,
+    pub c: usize,
+    pub flag: usize,
+    pub other: usize,
+}
+
+pub fn plain(a: usize, b: usize, c: usize) -> Paint {
+    Paint {
+        a: a,
+        b: b,
+        c: c,
+        flag: tables::LARGEST,
+        other: tables::LARGEST,
     }
 }
 
-pub fn count(k: Case, a: &[u8], b: &[u8], c: &[u8]) -> usize {
-    let na = k.na;
-    let nb = k.nb;
-    let nc = k.nc;
-    if na <= a.len() {
-        if nb <= b.len() {
-            if nc <= c.len() {
-                return counts::count_ones_of(
-                    tables::op(k.op),
-                    &a[0..na],
-                    k.sa,
-                    &b[0..nb],
-                    k.sb,
-                    &c[0..nc],
-                    k.sc,
-                    k.len,
-                );
-            }
-        }
-    }
-    0
+// The first `size` bytes of what `combine` writes over mixed bytes.
+pub fn combine(p: Paint, k: Case, size: usize) -> [u8; 1250] {
+    let a = tables::painted(p.a, p.flag, k.na);
+    let b = tables::painted(p.b, p.other, k.nb);
+    let c = tables::painted(p.c, tables::LARGEST, k.nc);
+    let mut out = tables::painted(7, tables::LARGEST, size);
+    let na = k.na % 1251;
+    let nb = k.nb % 1251;
+    let nc = k.nc % 1251;
+    let room = k.room % 1251;
+    loops::combine(
+        tables::op(k.op),
+        &a[0..na],
+        k.sa,
+        &b[0..nb],
+        k.sb,
+        &c[0..nc],
+        k.sc,
+        k.len,
+        &mut out[0..room],
+    );
+    out
 }
 
-pub fn any(k: Case, a: &[u8], b: &[u8], c: &[u8]) -> bool {
-    let na = k.na;
-    let nb = k.nb;
-    let nc = k.nc;
-    if na <= a.len() {
-        if nb <= b.len() {
-            if nc <= c.len() {
-                return counts::any_set(
-                    tables::op(k.op),
-                    &a[0..na],
-                    k.sa,
-                    &b[0..nb],
-                    k.sb,
-                    &c[0..nc],
-                    k.sc,
-                    k.len,
-                );
-            }
-        }
+// The answers of the calls that write nothing: the ones, and 1 or 0 for whether any flag is set and whether the first two are
+// equal.
+pub fn ask(call: usize, p: Paint, k: Case) -> usize {
+    let a = tables::painted(p.a, p.flag, k.na);
+    let b = tables::painted(p.b, p.other, k.nb);
+    let c = tables::painted(p.c, tables::LARGEST, k.nc);
+    let na = k.na % 1251;
+    let nb = k.nb % 1251;
+    let nc = k.nc % 1251;
+    ask_of(call, k, &a[0..na], &b[0..nb], &c[0..nc])
+}
+
+fn ask_of(call: usize, k: Case, a: &[u8], b: &[u8], c: &[u8]) -> usize {
+    match call {
+        0 => counts::count_ones_of(tables::op(k.op), a, k.sa, b, k.sb, c, k.sc, k.len),
+        1 => one(counts::any_set(tables::op(k.op), a, k.sa, b, k.sb, c, k.sc, k.len)),
+        _ => one(counts::equal(a, k.sa, b, k.sb, k.len)),
     }
-    false
+}
+
+fn one(answer: bool) -> usize {
+    if answer { 1 } else { 0 }
+}
+
+pub fn told(call: usize, p: Paint, k: Case) -> bool {
+    ask(call, p, k) == 1
+}
+
+// The same of the calls on one stretch: the ones, and whether it is equal to itself.
+pub fn read(call: usize, kind: usize, flag: usize, n: usize, start: usize, len: usize) -> usize {
+    let a = tables::painted(kind, flag, n);
+    let size = n % 1251;
+    read_of(call, &a[0..size], start, len)
+}
+
+fn read_of(call: usize, a: &[u8], start: usize, len: usize) -> usize {
+    match call {
+        0 => counts::count_ones(a, start, len),
+        _ => one(counts::equal(a, start, a, start, len)),
+    }
 }
 
 pub fn head(k: Case) {

@@ -1,85 +1,70 @@
-// loops::combine: each operation over stretches at any start, of any length, past the end, over outputs of any size.
+// loops::combine, sections 14 to 17: each operation over stretches at any start, of any length, past the end, over outputs of any
+// size.
 use crate::case;
 use crate::case::Case;
 use crate::tables;
 use crate::text;
 
-pub fn run() {
-    let mut space_a = [0u8; 40];
-    let a: &mut [u8] = &mut space_a;
-    tables::paint(4, a);
-    let mut space_b = [0u8; 40];
-    let b: &mut [u8] = &mut space_b;
-    tables::paint(5, b);
-    let mut space_c = [0u8; 40];
-    let c: &mut [u8] = &mut space_c;
-    tables::paint(6, c);
-    let mut space_out = [0u8; 40];
-    let out: &mut [u8] = &mut space_out;
-    plain_lines(a, b, c, out);
-    sum_lines(a, b, c, out);
-    short_lines(a, b, c, out);
-    far_lines(a, b, c, out);
-}
-
-// combine OP STARTS LENGTH: the output with bytes behind it that must stay.
-fn plain_lines(a: &[u8], b: &[u8], c: &[u8], out: &mut [u8]) {
-    let mut i = 0;
-    while i < 630 {
-        plain_line(
-            case::near(i / 90, i / 15 % 6, tables::len(i % 15), 40, 40),
-            a,
-            b,
-            c,
-            out,
-        );
-        i += 1;
+pub fn head(s: usize, i: usize) {
+    match s {
+        14 => plain_head(near(i)),
+        15 => text::pair(i / 15, tables::len(i % 15)),
+        16 => short_head(short(i)),
+        _ => case::head(far(i)),
     }
 }
 
-fn plain_line(k: Case, a: &[u8], b: &[u8], c: &[u8], out: &mut [u8]) {
-    text::label(b"combine");
+fn plain_head(k: Case) {
     case::head(k);
     text::number(k.len);
-    shown(k, a, b, c, out);
-    text::newline();
 }
 
-fn shown(k: Case, a: &[u8], b: &[u8], c: &[u8], out: &mut [u8]) {
-    tables::paint(7, out);
-    case::combine(k, a, b, c, out);
-    text::bytes(out);
+fn short_head(k: Case) {
+    case::head(k);
+    case::sizes(k);
 }
 
-// combine all OP LENGTH: a checksum over pairs of starts, kinds of output, and sizes of the stretches.
-fn sum_lines(a: &[u8], b: &[u8], c: &[u8], out: &mut [u8]) {
-    let mut i = 0;
-    while i < 105 {
-        sum_line(i / 15, tables::len(i % 15), a, b, c, out);
-        i += 1;
+// combine OP STARTS LENGTH: the output with bytes behind it that must stay. combine all OP LENGTH: a checksum over pairs of
+// starts, kinds of output, and sizes of the stretches. combine short OP STARTS SIZES: of 65 and of 200 flags, which run past the
+// end. combine far OP STARTS: of 65 flags and of the large lengths, over 20 bytes of 24.
+pub fn cell(s: usize, i: usize, j: usize) {
+    match s {
+        14 => shown(near(i), 40),
+        15 => text::checksum(sum_of(i / 15, tables::len(i % 15))),
+        16 => shown(case::with_len(short(i), short_len(j)), 40),
+        _ => shown(case::with_len(far(i), far_len(j)), 24),
     }
 }
 
-fn sum_line(op: usize, len: usize, a: &[u8], b: &[u8], c: &[u8], out: &mut [u8]) {
-    text::label(b"combine all");
-    text::number(op);
-    text::number(len);
-    text::checksum(sum_of(op, len, a, b, c, out));
-    text::newline();
+fn near(i: usize) -> Case {
+    case::near(i / 90, i / 15 % 6, tables::len(i % 15), 40, 40)
 }
 
-fn sum_of(op: usize, len: usize, a: &[u8], b: &[u8], c: &[u8], out: &mut [u8]) -> u64 {
+fn short(i: usize) -> Case {
+    case::short(i / 24, 2 * (i / 8 % 3), i % 8, 65, 40)
+}
+
+fn short_len(j: usize) -> usize {
+    if j == 0 { 65 } else { 200 }
+}
+
+fn far(i: usize) -> Case {
+    case::far(i / 21, i % 7, i / 7 % 3, 20)
+}
+
+fn far_len(j: usize) -> usize {
+    if j == 0 { 65 } else { tables::far_len(j - 1) }
+}
+
+fn shown(k: Case, size: usize) {
+    text::first(case::combine(case::plain(4, 5, 6), k, size), size);
+}
+
+fn sum_of(op: usize, len: usize) -> u64 {
     let mut sum: u64 = 0;
     let mut i = 0;
     while i < 648 {
-        sum = summed(
-            sum,
-            pair(op, i / 6 % 6, i / 36 % 6, len, i / 216, i % 6),
-            a,
-            b,
-            c,
-            out,
-        );
+        sum = summed(sum, pair(op, i / 6 % 6, i / 36 % 6, len, i / 216, i % 6));
         i += 1;
     }
     sum
@@ -108,63 +93,6 @@ fn pair_size(i: usize) -> usize {
     }
 }
 
-fn summed(sum: u64, k: Case, a: &[u8], b: &[u8], c: &[u8], out: &mut [u8]) -> u64 {
-    tables::paint(7, out);
-    case::combine(k, a, b, c, out);
-    text::add_bytes(sum, out)
-}
-
-// combine short OP STARTS SIZES: of 65 and of 200 flags, which run past the end.
-fn short_lines(a: &[u8], b: &[u8], c: &[u8], out: &mut [u8]) {
-    let mut i = 0;
-    while i < 168 {
-        short_line(
-            case::short(i / 24, 2 * (i / 8 % 3), i % 8, 65, 40),
-            a,
-            b,
-            c,
-            out,
-        );
-        i += 1;
-    }
-}
-
-fn short_line(k: Case, a: &[u8], b: &[u8], c: &[u8], out: &mut [u8]) {
-    text::label(b"combine short");
-    case::head(k);
-    case::sizes(k);
-    shown(k, a, b, c, out);
-    shown(case::with_len(k, 200), a, b, c, out);
-    text::newline();
-}
-
-// combine far OP STARTS: of 65 flags and of the large lengths, over 20 bytes of 24.
-fn far_lines(a: &[u8], b: &[u8], c: &[u8], out: &mut [u8]) {
-    if 24 <= out.len() {
-        far_lines_in(a, b, c, &mut out[0..24]);
-    }
-}
-
-fn far_lines_in(a: &[u8], b: &[u8], c: &[u8], out: &mut [u8]) {
-    let mut i = 0;
-    while i < 147 {
-        far_line(case::far(i / 21, i % 7, i / 7 % 3, 20), a, b, c, out);
-        i += 1;
-    }
-}
-
-fn far_line(k: Case, a: &[u8], b: &[u8], c: &[u8], out: &mut [u8]) {
-    text::label(b"combine far");
-    case::head(k);
-    shown(case::with_len(k, 65), a, b, c, out);
-    far_lens(k, a, b, c, out);
-    text::newline();
-}
-
-fn far_lens(k: Case, a: &[u8], b: &[u8], c: &[u8], out: &mut [u8]) {
-    let mut i = 0;
-    while i < 5 {
-        shown(case::with_len(k, tables::far_len(i)), a, b, c, out);
-        i += 1;
-    }
+fn summed(sum: u64, k: Case) -> u64 {
+    text::add_first(sum, case::combine(case::plain(4, 5, 6), k, 40), 40)
 }

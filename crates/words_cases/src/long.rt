@@ -1,89 +1,88 @@
-// The calls on stretches over many words: 1200 bytes, so that the loops that look at 64 words at a time go round again.
+// The calls on stretches over many words, sections 28 to 31: 1200 bytes, so that the loops that look at 64 words at a time go
+// round again.
 use crate::case;
 use crate::case::Case;
+use crate::case::Paint;
 use crate::tables;
 use crate::text;
-use words::counts;
-use words::loops;
+use crate::writing;
 
-pub fn run() {
-    let mut space_a = [0u8; 1200];
-    let a: &mut [u8] = &mut space_a;
-    let mut space_b = [0u8; 1200];
-    let b: &mut [u8] = &mut space_b;
-    let mut space_c = [0u8; 1200];
-    let c: &mut [u8] = &mut space_c;
-    tables::paint(1, b);
-    tables::paint(0, c);
-    flag_lines(a, b, c);
-    tables::paint(13, a);
-    tables::paint(14, b);
-    tables::paint(15, c);
-    count_lines(a, b, c);
-    write_lines(a, b, c);
+pub fn head(s: usize, i: usize) {
+    match s {
+        28 => text::pair(flag(i / 6), tables::start(i % 6)),
+        29 | 30 => text::pair(i / 6, i % 6),
+        _ => text::number(tables::start(i)),
+    }
 }
+
+// long FLAG START: one flag set among zeros, with lengths that leave it just out and take it just in, and two that go to the end
+// and past it. long count OP START: mixed bytes. long combine OP START: checksums; then long copy and long fill.
+pub fn cell(s: usize, i: usize, j: usize) {
+    match s {
+        28 => flag_cell(
+            flag(i / 6),
+            tables::start(i % 6),
+            flag_len(flag(i / 6), tables::start(i % 6), j / 9),
+            j % 9,
+        ),
+        29 => count_cell(i / 6, i % 6, j),
+        30 => sum_shown(case::combine(
+            case::plain(13, 14, 15),
+            case::near(i / 6, i % 6, len(j), 1200, 1245),
+            1250,
+        )),
+        _ => copy_cell(i, j),
+    }
+}
+
+const FLAGS: [usize; 8] = [4095, 4096, 4097, 4607, 8191, 8192, 8193, 9599];
 
 fn flag(i: usize) -> usize {
-    match i {
-        0 => 4095,
-        1 => 4096,
-        2 => 4097,
-        3 => 4607,
-        4 => 8191,
-        5 => 8192,
-        6 => 8193,
-        _ => 9599,
-    }
+    FLAGS[i % 8]
 }
+
+const LENS: [usize; 6] = [4096, 4097, 9000, 9599, 9664, tables::LARGEST];
 
 fn len(i: usize) -> usize {
-    match i {
-        0 => 4096,
-        1 => 4097,
-        2 => 9000,
-        3 => 9599,
-        4 => 9664,
+    LENS[i % 6]
+}
+
+fn flag_len(flag: usize, start: usize, which: usize) -> usize {
+    match which {
+        0 => left(flag, start),
+        1 => left(flag, start) % 65536 + 1,
+        2 => 9600,
         _ => tables::LARGEST,
     }
-}
-
-// long FLAG START: one flag set among zeros, with lengths that leave it just out and take it just in, and two that go to the
-// end and past it.
-fn flag_lines(a: &mut [u8], b: &[u8], c: &[u8]) {
-    let mut i = 0;
-    while i < 48 {
-        flag_line(flag(i / 6), tables::start(i % 6), a, b, c);
-        i += 1;
-    }
-}
-
-fn flag_line(flag: usize, start: usize, a: &mut [u8], b: &[u8], c: &[u8]) {
-    text::label(b"long");
-    text::number(flag);
-    text::number(start);
-    tables::paint_turned(0, flag, a);
-    flag_case(start, left(flag, start), a, b, c);
-    flag_case(start, left(flag, start) % 65536 + 1, a, b, c);
-    flag_case(start, 9600, a, b, c);
-    flag_case(start, tables::LARGEST, a, b, c);
-    text::newline();
 }
 
 fn left(flag: usize, start: usize) -> usize {
     if start < flag { flag - start } else { 0 }
 }
 
-// any_set by `and` with ones, by `or` and by `xor` with zeros; equal to zeros; and the counts.
-fn flag_case(start: usize, len: usize, a: &[u8], b: &[u8], c: &[u8]) {
-    text::number(len);
-    text::space();
-    text::digit(case::any(over(0, start, 3, len), a, b, c));
-    text::digit(case::any(over(2, start, start, len), a, c, b));
-    text::digit(case::any(over(4, start, 1, len), a, c, b));
-    text::digit(counts::equal(a, start, c, 0, len));
-    text::digit(counts::equal(a, start, a, start, len));
-    text::number(counts::count_ones(a, start, len));
-    text::number(case::count(over(0, start, 0, len), a, b, c));
+// The length; any_set by `and` with ones, by `or` and by `xor` with zeros; equal to zeros and to itself; and the counts.
+fn flag_cell(flag: usize, start: usize, len: usize, which: usize) {
+    match which {
+        0 => text::number(len),
+        1 => text::space(),
+        2 => text::digit(case::told(1, one_flag(flag, 1, 0), over(0, start, 3, len))),
+        3 => text::digit(case::told(1, one_flag(flag, 0, 1), over(2, start, start, len))),
+        4 => text::digit(case::told(1, one_flag(flag, 0, 1), over(4, start, 1, len))),
+        5 => text::digit(case::told(2, one_flag(flag, 0, 1), over(0, start, 0, len))),
+        6 => text::digit(case::read(1, 0, flag, 1200, start, len) == 1),
+        7 => text::number(case::read(0, 0, flag, 1200, start, len)),
+        _ => text::number(case::ask(0, one_flag(flag, 1, 0), over(0, start, 0, len))),
+    }
+}
+
+fn one_flag(flag: usize, b: usize, c: usize) -> Paint {
+    Paint {
+        a: 0,
+        b: b,
+        c: c,
+        flag: flag,
+        other: tables::LARGEST,
+    }
 }
 
 fn over(op: usize, sa: usize, sb: usize, len: usize) -> Case {
@@ -100,107 +99,33 @@ fn over(op: usize, sa: usize, sb: usize, len: usize) -> Case {
     }
 }
 
-// long count OP START: mixed bytes.
-fn count_lines(a: &[u8], b: &[u8], c: &[u8]) {
-    let mut i = 0;
-    while i < 42 {
-        count_line(i / 6, i % 6, a, b, c);
-        i += 1;
+// For each length the count of the operation, and of the first mask alone.
+fn count_cell(op: usize, i: usize, j: usize) {
+    if j % 2 == 0 {
+        text::number(case::ask(
+            0,
+            case::plain(13, 14, 15),
+            case::near(op, i, len(j / 2), 1200, 0),
+        ));
+    } else {
+        text::number(case::read(0, 13, tables::LARGEST, 1200, tables::start(i), len(j / 2)));
     }
 }
 
-fn count_line(op: usize, i: usize, a: &[u8], b: &[u8], c: &[u8]) {
-    text::label(b"long count");
-    text::number(op);
-    text::number(i);
-    count_lens(op, i, a, b, c);
-    text::newline();
+fn sum_shown(out: [u8; 1250]) {
+    text::checksum(text::add_first(0, out, 1250));
 }
 
-fn count_lens(op: usize, i: usize, a: &[u8], b: &[u8], c: &[u8]) {
-    let mut j = 0;
-    while j < 6 {
-        text::number(case::count(case::near(op, i, len(j), 1200, 0), a, b, c));
-        text::number(counts::count_ones(a, tables::start(i), len(j)));
-        j += 1;
+fn copy_cell(i: usize, j: usize) {
+    match j {
+        0..=5 => sum_shown(writing::copied(13, 1200, tables::start(i), len(j), 1250, 1250)),
+        6 => fill_first(len(i)),
+        _ => sum_shown(writing::filled(false, len(i), 1250, 1250)),
     }
 }
 
-// long combine OP START: checksums; then long copy and long fill.
-fn write_lines(a: &[u8], b: &[u8], c: &[u8]) {
-    let mut space_out = [0u8; 1250];
-    let out: &mut [u8] = &mut space_out;
-    combine_lines(a, b, c, out);
-    copy_lines(a, out);
-}
-
-fn combine_lines(a: &[u8], b: &[u8], c: &[u8], out: &mut [u8]) {
-    let mut i = 0;
-    while i < 42 {
-        combine_line(i / 6, i % 6, a, b, c, out);
-        i += 1;
-    }
-}
-
-fn combine_line(op: usize, i: usize, a: &[u8], b: &[u8], c: &[u8], out: &mut [u8]) {
-    text::label(b"long combine");
-    text::number(op);
-    text::number(i);
-    combine_lens(op, i, a, b, c, out);
-    text::newline();
-}
-
-fn combine_lens(op: usize, i: usize, a: &[u8], b: &[u8], c: &[u8], out: &mut [u8]) {
-    let mut j = 0;
-    while j < 6 {
-        combine_case(case::near(op, i, len(j), 1200, 1245), a, b, c, out);
-        j += 1;
-    }
-}
-
-fn combine_case(k: Case, a: &[u8], b: &[u8], c: &[u8], out: &mut [u8]) {
-    tables::paint(7, out);
-    case::combine(k, a, b, c, out);
-    text::checksum(text::add_bytes(0, out));
-}
-
-fn copy_lines(a: &[u8], out: &mut [u8]) {
-    let mut i = 0;
-    while i < 6 {
-        copy_line(tables::start(i), len(i), a, out);
-        i += 1;
-    }
-}
-
-fn copy_line(start: usize, len: usize, a: &[u8], out: &mut [u8]) {
-    text::label(b"long copy");
-    text::number(start);
-    copy_lens(start, a, out);
+fn fill_first(len: usize) {
     text::label(b" fill");
-    fill_case(len, out);
-    text::newline();
-}
-
-fn copy_lens(start: usize, a: &[u8], out: &mut [u8]) {
-    let mut j = 0;
-    while j < 6 {
-        copy_case(start, len(j), a, out);
-        j += 1;
-    }
-}
-
-fn copy_case(start: usize, len: usize, a: &[u8], out: &mut [u8]) {
-    tables::paint(7, out);
-    loops::copy(a, start, len, out);
-    text::checksum(text::add_bytes(0, out));
-}
-
-fn fill_case(len: usize, out: &mut [u8]) {
     text::number(len);
-    tables::paint(7, out);
-    loops::fill(true, len, out);
-    text::checksum(text::add_bytes(0, out));
-    tables::paint(7, out);
-    loops::fill(false, len, out);
-    text::checksum(text::add_bytes(0, out));
+    sum_shown(writing::filled(true, len, 1250, 1250));
 }

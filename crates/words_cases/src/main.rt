@@ -6,7 +6,11 @@
 // A line begins with a call's name and its case; words are in hexadecimal, numbers in decimal, bytes in pairs of digits. A
 // number behind `#` is a checksum of many answers.
 //
-// `rt check` runs the compiled program. The interpreter of `rt try` stops after ten million steps, in the first third; the
+// The lines stand in sections, which the table of rows.rt lists; a line is a label, a head that names its case, and cells. The
+// bytes that a call is lent are painted anew for each case, in the function that makes the call, so that no other function
+// lends any: that keeps the check of this crate short.
+//
+// `rt check` runs the compiled program. The interpreter of `rt try` stops after ten million steps, long before the end; the
 // three compiled runs of `rt try` go to the end.
 mod bytes;
 mod case;
@@ -14,17 +18,16 @@ mod combining;
 mod comparing;
 mod counting;
 mod long;
+mod rows;
 mod tables;
 mod text;
 mod words_only;
 mod writing;
 
 fn main() {
-    words_only::run();
-    bytes::run();
-    combining::run();
-    writing::run();
-    counting::run();
-    comparing::run();
-    long::run();
+    let mut s = 0;
+    while s < 32 {
+        rows::section(s);
+        s += 1;
+    }
 }

@@ -3,87 +3,92 @@ use words::ops::Op;
 
 pub const LARGEST: usize = 18446744073709551615;
 
+const WORDS: [u64; 10] = [
+    0,
+    0xffffffffffffffff,
+    0xaaaaaaaaaaaaaaaa,
+    0x5555555555555555,
+    1,
+    0x8000000000000000,
+    0x0123456789abcdef,
+    0x8000000180000001,
+    0x00000000ffffffff,
+    0xdeadbeefcafef00d,
+];
+
 pub fn word(i: usize) -> u64 {
-    match i {
-        0 => 0,
-        1 => 0xffffffffffffffff,
-        2 => 0xaaaaaaaaaaaaaaaa,
-        3 => 0x5555555555555555,
-        4 => 1,
-        5 => 0x8000000000000000,
-        6 => 0x0123456789abcdef,
-        7 => 0x8000000180000001,
-        8 => 0x00000000ffffffff,
-        _ => 0xdeadbeefcafef00d,
-    }
+    WORDS[i % 10]
 }
 
 // How many low flags, from which flag on: of a word.
+const PLACES: [usize; 13] = [
+    0,
+    1,
+    7,
+    8,
+    9,
+    31,
+    32,
+    33,
+    63,
+    64,
+    65,
+    9223372036854775808,
+    LARGEST,
+];
+
 pub fn place(i: usize) -> usize {
-    match i {
-        0 => 0,
-        1 => 1,
-        2 => 7,
-        3 => 8,
-        4 => 9,
-        5 => 31,
-        6 => 32,
-        7 => 33,
-        8 => 63,
-        9 => 64,
-        10 => 65,
-        11 => 9223372036854775808,
-        _ => LARGEST,
-    }
+    PLACES[i % 13]
 }
+
+const STARTS: [usize; 6] = [0, 1, 3, 7, 8, 64];
 
 pub fn start(i: usize) -> usize {
-    match i {
-        0 => 0,
-        1 => 1,
-        2 => 3,
-        3 => 7,
-        4 => 8,
-        _ => 64,
-    }
+    STARTS[i % 6]
 }
 
-// Starts of which 64 or more flags further on there is no number, or nearly.
+// Starts of which 64 or more flags further on there is no number, or nearly; the last one three times.
+const FAR_STARTS: [usize; 9] = [
+    LARGEST,
+    18446744073709551608,
+    18446744073709551607,
+    18446744073709551552,
+    18446744073709551551,
+    9223372036854775808,
+    2305843009213693952,
+    2305843009213693952,
+    2305843009213693952,
+];
+
 pub fn far_start(i: usize) -> usize {
-    match i {
-        0 => LARGEST,
-        1 => 18446744073709551608,
-        2 => 18446744073709551607,
-        3 => 18446744073709551552,
-        4 => 18446744073709551551,
-        5 => 9223372036854775808,
-        _ => 2305843009213693952,
-    }
+    FAR_STARTS[i % 9]
 }
+
+const LENS: [usize; 20] = [
+    0,
+    1,
+    7,
+    8,
+    9,
+    31,
+    32,
+    33,
+    63,
+    64,
+    65,
+    127,
+    128,
+    129,
+    200,
+    LARGEST,
+    18446744073709551614,
+    18446744073709551553,
+    18446744073709551552,
+    9223372036854775808,
+];
 
 pub fn len(i: usize) -> usize {
-    match i {
-        0 => 0,
-        1 => 1,
-        2 => 7,
-        3 => 8,
-        4 => 9,
-        5 => 31,
-        6 => 32,
-        7 => 33,
-        8 => 63,
-        9 => 64,
-        10 => 65,
-        11 => 127,
-        12 => 128,
-        13 => 129,
-        14 => 200,
-        15 => LARGEST,
-        16 => 18446744073709551614,
-        17 => 18446744073709551553,
-        18 => 18446744073709551552,
-        _ => 9223372036854775808,
-    }
+    LENS[i % 20]
 }
 
 // The five large ones of these.
@@ -92,17 +97,10 @@ pub fn far_len(i: usize) -> usize {
 }
 
 // Sizes of lent bytes.
+const SIZES: [usize; 8] = [0, 1, 8, 9, 16, 17, 25, 40];
+
 pub fn size(i: usize) -> usize {
-    match i {
-        0 => 0,
-        1 => 1,
-        2 => 8,
-        3 => 9,
-        4 => 16,
-        5 => 17,
-        6 => 25,
-        _ => 40,
-    }
+    SIZES[i % 8]
 }
 
 // Sizes of an output for `len` flags: none, just the flags and one byte less, whole words, one byte less and five more.
@@ -162,15 +160,14 @@ fn turned(byte: u8, i: usize, flag: usize) -> u8 {
     }
 }
 
-// Fills the bytes with a pattern, in which the flag `flag` is turned over: no flag, where it is past the end.
-pub fn paint_turned(kind: usize, flag: usize, out: &mut [u8]) {
+// A pattern in the first n bytes, in which the flag `flag` is turned over: no flag, where it is past the end.
+pub fn painted(kind: usize, flag: usize, n: usize) -> [u8; 1250] {
+    let mut out = [0u8; 1250];
+    let size = n % 1251;
     let mut i = 0;
-    while i < out.len() {
+    while i < size {
         out[i] = turned(pattern(kind, i), i, flag);
         i += 1;
     }
-}
-
-pub fn paint(kind: usize, out: &mut [u8]) {
-    paint_turned(kind, LARGEST, out);
+    out
 }

@@ -4,6 +4,30 @@ pub fn label(name: &[u8]) {
     io::write_all(1, name);
 }
 
+// The line n of a text.
+pub fn line_of(lines: &[u8], n: usize) {
+    let mut line = 0;
+    let mut i = 0;
+    while i < lines.len() {
+        letter(lines[i], line == n);
+        line = line_after(lines[i], line);
+        i += 1;
+    }
+}
+
+fn letter(byte: u8, wanted: bool) {
+    if wanted {
+        if byte != b'\n' {
+            let one = [byte; 1];
+            io::write_all(1, &one[0..1]);
+        }
+    }
+}
+
+fn line_after(byte: u8, line: usize) -> usize {
+    if byte == b'\n' { line % 1000 + 1 } else { line }
+}
+
 pub fn newline() {
     io::write_all(1, b"\n");
 }
@@ -15,6 +39,11 @@ pub fn space() {
 pub fn number(n: usize) {
     space();
     io::print_decimal(1, n as u64);
+}
+
+pub fn pair(m: usize, n: usize) {
+    number(m);
+    number(n);
 }
 
 pub fn word(w: u64) {
@@ -43,6 +72,12 @@ pub fn bytes(b: &[u8]) {
     }
 }
 
+// The first n bytes of what a call wrote.
+pub fn first(out: [u8; 1250], n: usize) {
+    let size = n % 1251;
+    bytes(&out[0..size]);
+}
+
 pub fn checksum(sum: u64) {
     io::write_all(1, b" #");
     io::print_decimal(1, sum);
@@ -61,4 +96,10 @@ pub fn add_bytes(sum: u64, b: &[u8]) -> u64 {
         i += 1;
     }
     all
+}
+
+// The first n bytes of what a call wrote, in a checksum.
+pub fn add_first(sum: u64, out: [u8; 1250], n: usize) -> u64 {
+    let size = n % 1251;
+    add_bytes(sum, &out[0..size])
 }

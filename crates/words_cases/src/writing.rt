@@ -1,103 +1,109 @@
-// loops::copy, counts::copy_count and loops::fill.
+// loops::copy, counts::copy_count and loops::fill, sections 18 to 21.
 use crate::tables;
 use crate::text;
 use words::counts;
 use words::loops;
 
-pub fn run() {
-    let mut space = [0u8; 40];
-    let bytes: &mut [u8] = &mut space;
-    tables::paint(8, bytes);
-    let mut space_out = [0u8; 40];
-    let out: &mut [u8] = &mut space_out;
-    copy_lines(bytes, out);
-    far_copy_lines(bytes, out);
-    far_len_copy_lines(bytes, out);
-    fill_lines(out);
-    far_fill_lines(out);
+pub fn head(s: usize, i: usize) {
+    match s {
+        18 => text::pair(tables::start(i / 15), tables::len(i % 15)),
+        19 => text::pair(far_start(i), far_len(i)),
+        20 => fill_head(i % 2 == 1, tables::len(i / 2)),
+        _ => fill_head(i % 2 == 1, tables::far_len(i / 2)),
+    }
+}
+
+fn fill_head(flag: bool, len: usize) {
+    text::digit(flag);
+    text::number(len);
 }
 
 // copy START LENGTH: the outputs of five bytes more and of one byte short, the same with a count, and a checksum of all sizes of
-// bytes and outputs.
-fn copy_lines(bytes: &[u8], out: &mut [u8]) {
-    let mut i = 0;
-    while i < 90 {
-        copy_line(tables::start(i / 15), tables::len(i % 15), bytes, out);
-        i += 1;
+// bytes and outputs. copy far START LENGTH: far starts with each length, and near starts with far lengths. fill FLAG LENGTH: every
+// kind of output. fill far FLAG LENGTH: outputs of the sizes of the table.
+pub fn cell(s: usize, i: usize, j: usize) {
+    match s {
+        18 => copy_cell(tables::start(i / 15), tables::len(i % 15), j),
+        19 => far_cell(far_start(i), far_len(i), j),
+        20 => fill_shown(
+            i % 2 == 1,
+            tables::len(i / 2),
+            tables::room_for(j, tables::len(i / 2)),
+        ),
+        _ => fill_shown(i % 2 == 1, tables::far_len(i / 2), tables::size(j)),
     }
 }
 
-fn copy_line(start: usize, len: usize, bytes: &[u8], out: &mut [u8]) {
-    text::label(b"copy");
-    text::number(start);
-    text::number(len);
-    copy_shown(start, len, 40, tables::room_for(5, len), bytes, out);
-    copy_shown(start, len, 25, tables::room_for(2, len), bytes, out);
-    counted(start, len, bytes, out);
-    text::checksum(copy_sum(start, len, bytes, out));
-    text::newline();
-}
-
-fn copied(start: usize, len: usize, n: usize, room: usize, bytes: &[u8], out: &mut [u8]) {
-    tables::paint(7, out);
-    copy_part(start, len, n, room, bytes, out);
-}
-
-fn copy_part(start: usize, len: usize, n: usize, room: usize, bytes: &[u8], out: &mut [u8]) {
-    if n <= bytes.len() {
-        if room <= out.len() {
-            loops::copy(&bytes[0..n], start, len, &mut out[0..room]);
-        }
+fn copy_cell(start: usize, len: usize, j: usize) {
+    match j {
+        0 => copy_shown(start, len, 40, tables::room_for(5, len)),
+        1 => copy_shown(start, len, 25, tables::room_for(2, len)),
+        2 => counted_shown(start, len, 40, tables::room_for(5, len)),
+        3 => counted_shown(start, len, 25, tables::room_for(2, len)),
+        _ => text::checksum(copy_sum(start, len)),
     }
 }
 
-fn copy_shown(start: usize, len: usize, n: usize, room: usize, bytes: &[u8], out: &mut [u8]) {
-    copied(start, len, n, room, bytes, out);
-    text::bytes(out);
+fn far_start(i: usize) -> usize {
+    if i < 140 {
+        tables::far_start(i / 20)
+    } else {
+        tables::start((i - 140) / 5)
+    }
 }
 
-fn counted(start: usize, len: usize, bytes: &[u8], out: &mut [u8]) {
-    counted_shown(start, len, 40, tables::room_for(5, len), bytes, out);
-    counted_shown(start, len, 25, tables::room_for(2, len), bytes, out);
+fn far_len(i: usize) -> usize {
+    if i < 140 {
+        tables::len(i % 20)
+    } else {
+        tables::far_len(i % 5)
+    }
 }
 
-fn counted_shown(start: usize, len: usize, n: usize, room: usize, bytes: &[u8], out: &mut [u8]) {
-    tables::paint(7, out);
-    text::number(count_part(start, len, n, room, bytes, out));
-    text::bytes(out);
+fn far_cell(start: usize, len: usize, j: usize) {
+    if j == 0 {
+        copy_shown(start, len, 9, 20);
+    } else {
+        counted_shown(start, len, 9, 20);
+    }
 }
 
-fn count_part(
+// The first `size` bytes of what `copy` writes over mixed bytes, from the first n bytes of a pattern.
+pub fn copied(
+    kind: usize,
+    n: usize,
     start: usize,
     len: usize,
-    n: usize,
     room: usize,
-    bytes: &[u8],
-    out: &mut [u8],
-) -> usize {
-    if bytes.len() < n {
-        return 0;
-    }
-    if out.len() < room {
-        return 0;
-    }
-    counts::copy_count(&bytes[0..n], start, len, &mut out[0..room])
+    size: usize,
+) -> [u8; 1250] {
+    let a = tables::painted(kind, tables::LARGEST, n);
+    let mut out = tables::painted(7, tables::LARGEST, size);
+    let na = n % 1251;
+    let lent = room % 1251;
+    loops::copy(&a[0..na], start, len, &mut out[0..lent]);
+    out
 }
 
-fn copy_summed(
-    sum: u64,
-    start: usize,
-    len: usize,
-    n: usize,
-    room: usize,
-    bytes: &[u8],
-    out: &mut [u8],
-) -> u64 {
-    copied(start, len, n, room, bytes, out);
-    text::add_bytes(sum, out)
+fn copy_shown(start: usize, len: usize, n: usize, room: usize) {
+    text::first(copied(8, n, start, len, room, 40), 40);
 }
 
-fn copy_sum(start: usize, len: usize, bytes: &[u8], out: &mut [u8]) -> u64 {
+// The same by `copy_count`, which says the count.
+fn counted(start: usize, len: usize, n: usize, room: usize) -> [u8; 1250] {
+    let a = tables::painted(8, tables::LARGEST, n);
+    let mut out = tables::painted(7, tables::LARGEST, 40);
+    let na = n % 1251;
+    let lent = room % 1251;
+    text::number(counts::copy_count(&a[0..na], start, len, &mut out[0..lent]));
+    out
+}
+
+fn counted_shown(start: usize, len: usize, n: usize, room: usize) {
+    text::first(counted(start, len, n, room), 40);
+}
+
+fn copy_sum(start: usize, len: usize) -> u64 {
     let mut sum: u64 = 0;
     let mut i = 0;
     while i < 48 {
@@ -107,100 +113,23 @@ fn copy_sum(start: usize, len: usize, bytes: &[u8], out: &mut [u8]) -> u64 {
             len,
             tables::size(i / 6),
             tables::room_for(i % 6, len),
-            bytes,
-            out,
         );
         i += 1;
     }
     sum
 }
 
-// copy far START LENGTH: far starts with each length, and near starts with far lengths.
-fn far_copy_lines(bytes: &[u8], out: &mut [u8]) {
-    let mut i = 0;
-    while i < 140 {
-        far_copy_line(tables::far_start(i / 20), tables::len(i % 20), bytes, out);
-        i += 1;
-    }
+fn copy_summed(sum: u64, start: usize, len: usize, n: usize, room: usize) -> u64 {
+    text::add_first(sum, copied(8, n, start, len, room, 40), 40)
 }
 
-fn far_len_copy_lines(bytes: &[u8], out: &mut [u8]) {
-    let mut i = 0;
-    while i < 30 {
-        far_copy_line(tables::start(i / 5), tables::far_len(i % 5), bytes, out);
-        i += 1;
-    }
+pub fn filled(flag: bool, len: usize, room: usize, size: usize) -> [u8; 1250] {
+    let mut out = tables::painted(7, tables::LARGEST, size);
+    let lent = room % 1251;
+    loops::fill(flag, len, &mut out[0..lent]);
+    out
 }
 
-fn far_copy_line(start: usize, len: usize, bytes: &[u8], out: &mut [u8]) {
-    text::label(b"copy far");
-    text::number(start);
-    text::number(len);
-    copy_shown(start, len, 9, 20, bytes, out);
-    counted_shown(start, len, 9, 20, bytes, out);
-    text::newline();
-}
-
-// fill FLAG LENGTH: every kind of output.
-fn fill_lines(out: &mut [u8]) {
-    let mut i = 0;
-    while i < 15 {
-        fill_line(false, tables::len(i), out);
-        fill_line(true, tables::len(i), out);
-        i += 1;
-    }
-}
-
-fn fill_line(flag: bool, len: usize, out: &mut [u8]) {
-    text::label(b"fill ");
-    text::digit(flag);
-    text::number(len);
-    fill_kinds(flag, len, out);
-    text::newline();
-}
-
-fn fill_kinds(flag: bool, len: usize, out: &mut [u8]) {
-    let mut i = 0;
-    while i < 6 {
-        fill_shown(flag, len, tables::room_for(i, len), out);
-        i += 1;
-    }
-}
-
-fn fill_shown(flag: bool, len: usize, room: usize, out: &mut [u8]) {
-    tables::paint(7, out);
-    fill_part(flag, len, room, out);
-    text::bytes(out);
-}
-
-fn fill_part(flag: bool, len: usize, room: usize, out: &mut [u8]) {
-    if room <= out.len() {
-        loops::fill(flag, len, &mut out[0..room]);
-    }
-}
-
-// fill far FLAG LENGTH: outputs of the sizes of the table.
-fn far_fill_lines(out: &mut [u8]) {
-    let mut i = 0;
-    while i < 5 {
-        far_fill_line(false, tables::far_len(i), out);
-        far_fill_line(true, tables::far_len(i), out);
-        i += 1;
-    }
-}
-
-fn far_fill_line(flag: bool, len: usize, out: &mut [u8]) {
-    text::label(b"fill far ");
-    text::digit(flag);
-    text::number(len);
-    fill_sizes(flag, len, out);
-    text::newline();
-}
-
-fn fill_sizes(flag: bool, len: usize, out: &mut [u8]) {
-    let mut i = 0;
-    while i < 8 {
-        fill_shown(flag, len, tables::size(i), out);
-        i += 1;
-    }
+fn fill_shown(flag: bool, len: usize, room: usize) {
+    text::first(filled(flag, len, room, 40), 40);
 }

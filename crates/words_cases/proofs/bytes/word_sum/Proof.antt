@@ -5,16 +5,16 @@ use Rattle.words_cases.proofs.bytes.word_sum.Statement.{statement}
 use Rattle.words_cases.proofs.bytes.word_sum.Tie as tie
 
 abbrev Inv-loop : tie.InvT-loop
-Inv-loop bytes sum₀ bit₀ sum bit = bit ≤ 201
+Inv-loop n sum₀ bit₀ sum bit = bit ≤ 201
 
 abbrev μ-loop : tie.MeasureT-loop
-μ-loop bytes sum₀ bit₀ sum bit = 201 - bit
+μ-loop n sum₀ bit₀ sum bit = 201 - bit
 
 loop-holds : tie.Need-loop-holds Inv-loop μ-loop
 loop-holds c = search needs
 
-word-from-requires : tie.Need-word-from-requires Inv-loop μ-loop
-word-from-requires c κs = search needs
+read-requires : tie.Need-read-requires Inv-loop μ-loop
+read-requires c κs = search needs
 
 add-requires : tie.Need-add-requires Inv-loop μ-loop
 add-requires c κs = search needs
@@ -38,7 +38,7 @@ word-sum-spec =
     Inv-loop
     μ-loop
     loop-holds
-    word-from-requires
+    read-requires
     add-requires
     add-bit
     loop-less

@@ -1,16 +1,14 @@
--- The loop counts up to 648, and what is written keeps its length.
+-- The loop counts up to 648.
 use Prim.Native.Nat.{_≤_, _-_}
-use mathlib.Core.Path.{_≡_}
-use lib.ListN.{length}
 use borrow.Author.Needs.{needs}
 use Rattle.words_cases.proofs.combining.sum_of.Statement.{statement}
 use Rattle.words_cases.proofs.combining.sum_of.Tie as tie
 
 abbrev Inv-loop : tie.InvT-loop
-Inv-loop op len a b c out₀ sum₀ i₀ out sum i = (i ≤ 648) × (length out ≡ length out₀)
+Inv-loop op len sum₀ i₀ sum i = i ≤ 648
 
 abbrev μ-loop : tie.MeasureT-loop
-μ-loop op len a b c out₀ sum₀ i₀ out sum i = 648 - i
+μ-loop op len sum₀ i₀ sum i = 648 - i
 
 loop-holds : tie.Need-loop-holds Inv-loop μ-loop
 loop-holds c = search needs
@@ -30,9 +28,6 @@ loop-less c = search needs
 loop-again : tie.Need-loop-again Inv-loop μ-loop
 loop-again c = search needs
 
-same-length : tie.Need-same-length Inv-loop μ-loop
-same-length c = search needs
-
 returns : tie.Need-returns Inv-loop μ-loop
 returns c = search needs
 
@@ -48,5 +43,4 @@ sum-of-spec =
     add-i
     loop-less
     loop-again
-    same-length
     returns)

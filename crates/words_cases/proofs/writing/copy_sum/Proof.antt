@@ -1,16 +1,14 @@
--- The loop counts up to 48, and what is written keeps its length.
+-- The loop counts up to 48.
 use Prim.Native.Nat.{_≤_, _-_}
-use mathlib.Core.Path.{_≡_}
-use lib.ListN.{length}
 use borrow.Author.Needs.{needs}
 use Rattle.words_cases.proofs.writing.copy_sum.Statement.{statement}
 use Rattle.words_cases.proofs.writing.copy_sum.Tie as tie
 
 abbrev Inv-loop : tie.InvT-loop
-Inv-loop start len bytes out₀ sum₀ i₀ out sum i = (i ≤ 48) × (length out ≡ length out₀)
+Inv-loop start len sum₀ i₀ sum i = i ≤ 48
 
 abbrev μ-loop : tie.MeasureT-loop
-μ-loop start len bytes out₀ sum₀ i₀ out sum i = 48 - i
+μ-loop start len sum₀ i₀ sum i = 48 - i
 
 loop-holds : tie.Need-loop-holds Inv-loop μ-loop
 loop-holds c = search needs
@@ -33,9 +31,6 @@ loop-less c = search needs
 loop-again : tie.Need-loop-again Inv-loop μ-loop
 loop-again c = search needs
 
-same-length : tie.Need-same-length Inv-loop μ-loop
-same-length c = search needs
-
 returns : tie.Need-returns Inv-loop μ-loop
 returns c = search needs
 
@@ -52,5 +47,4 @@ copy-sum-spec =
     add-i
     loop-less
     loop-again
-    same-length
     returns)
