@@ -56,7 +56,8 @@ def word_cases():
     for n in [0, 1, 8, 9, 16, 17]:
         for at in [0, 1, 2, 7, 8, 9, 10, 15, 16, 17, 18, 2**61, 2**61 + 1, LARGEST - 7, LARGEST]:
             after = [written(out[:n], 8 * at, bits(64, WORDS[i])) + out[n:] for i in (6, 1)]
-            show("store_at", n, at, *[hex_bytes(data) for data in after])
+            whole = after if at + 8 <= n else [out, out]
+            show("store_at", n, at, *[hex_bytes(data) for data in after + whole])
 
 
 def near(i):

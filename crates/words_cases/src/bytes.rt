@@ -5,6 +5,7 @@ use words::word::byte_word;
 use words::word::load_padded_le_u64;
 use words::word::store_at;
 use words::word::store_le_u64;
+use words::word::store_whole;
 use words::word::word_from;
 
 pub fn head(s: usize, i: usize) {
@@ -17,7 +18,7 @@ pub fn head(s: usize, i: usize) {
 
 // load SIZE: of ones, and of mixed bytes. word_from SIZE: at the flags of the tables, then a checksum of those from each flag 0
 // to 200 on. byte_word SIZE: at the bytes 0 to 19, and at the largest. store SIZE WORD: all nine bytes, of which the call is lent
-// so many. store_at SIZE AT: all 17 bytes, of which the call is lent so many, for each of two words.
+// so many. store_at SIZE AT: all 17 bytes, of which the call is lent so many, for each of two words; then of store_whole.
 pub fn cell(s: usize, i: usize, j: usize) {
     match s {
         9 => text::word(read(0, 1 + j % 2 * 3, i, 0)),
@@ -25,7 +26,7 @@ pub fn cell(s: usize, i: usize, j: usize) {
         11 => text::word(read(2, 4, i, byte_place(j))),
         12 => text::first(stored(i / 10, tables::word(i % 10)), 9),
         _ => text::first(
-            stored_at(at_size(i / 15), at(i % 15), tables::word(stored_word(j))),
+            stored_at(j / 2, at_size(i / 15), at(i % 15), tables::word(stored_word(j))),
             17,
         ),
     }
@@ -113,12 +114,20 @@ fn at(i: usize) -> usize {
 }
 
 fn stored_word(j: usize) -> usize {
-    if j == 0 { 6 } else { 1 }
+    if j % 2 == 0 { 6 } else { 1 }
 }
 
-fn stored_at(n: usize, at: usize, w: u64) -> [u8; 1250] {
+fn stored_at(call: usize, n: usize, at: usize, w: u64) -> [u8; 1250] {
     let mut out = tables::painted(5, tables::LARGEST, 17);
     let lent = n % 1251;
-    store_at(&mut out[0..lent], at, w);
+    store(call, &mut out[0..lent], at, w);
     out
+}
+
+fn store(call: usize, out: &mut [u8], at: usize, w: u64) {
+    if call == 0 {
+        store_at(out, at, w);
+    } else {
+        store_whole(out, at, w);
+    }
 }
