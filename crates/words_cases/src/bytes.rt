@@ -26,7 +26,12 @@ pub fn cell(s: usize, i: usize, j: usize) {
         11 => text::word(read(2, 4, i, byte_place(j))),
         12 => text::first(stored(i / 10, tables::word(i % 10)), 9),
         _ => text::first(
-            stored_at(j / 2, at_size(i / 15), at(i % 15), tables::word(stored_word(j))),
+            stored_at(
+                j / 2,
+                at_size(i / 15),
+                at(i % 15),
+                tables::word(stored_word(j)),
+            ),
             17,
         ),
     }
