@@ -18,6 +18,8 @@ use crate::span::least;
 use crate::span::near_word;
 use words::nth::Nth;
 use words::nth::nth_set_bit_u32;
+use words::word::down;
+use words::word::load_padded_le_u64;
 use words::word::low_flags;
 
 // A start bit and a length in bits. The Rust's `BitMask`, its bytes lent beside it.
@@ -128,13 +130,50 @@ pub fn nth_set_bit_idx_rev(
     search_back(bytes, start, length, n, least(end, length))
 }
 
+// A window that lies in the span, with eight bytes from its first byte on: the load asks nothing, and no flag is cut off.
+fn inner_window(bytes: &[u8], start: usize, length: usize, index: usize) -> u32
+    requires { ⌜ (start ≤ 4194304) × ((length ≤ 4194304) × ((index + 32 ≤ length) × (start + index + 64 ≤ 8 * ListN·length (now bytes)))) ⌝ }
+    ensures { λ r. ⌜ r ≡ windowWord (now (bytes .entry)) start length index ⌝ }
+{
+    let bit = start + index;
+    let at = bit / 8;
+    let end = at + 8;
+    low_flags(down(load_padded_le_u64(&bytes[at..end]), bit % 8), 32) as u32
+}
+
+// Where a search has come to, and how many set flags it has yet to pass over.
+struct Passed {
+    at: usize,
+    left: usize,
+}
+
+// The windows well inside the span that have too few set flags are passed over, in a loop that does nothing else.
+fn pass_windows(bytes: &[u8], start: usize, length: usize, n: usize, from: usize) -> Passed
+    requires { ⌜ (start ≤ 4194304) × ((length ≤ 4194304) × (start + length ≤ 8 * ListN·length (now bytes))) ⌝ }
+    ensures { λ r. ⌜ nthFrom (stretch (now (bytes .entry)) start length) (r .left) (r .at) ≡ nthFrom (stretch (now (bytes .entry)) start length) n from ⌝ }
+{
+    let inner = length - least(length, 63);
+    let mut left = n;
+    let mut at = from;
+    while at < inner {
+        let ones = ones_in_window(inner_window(bytes, start, length, at));
+        if left < ones {
+            return Passed { at: at, left: left };
+        }
+        left -= ones;
+        at += 32;
+    }
+    Passed { at: at, left: left }
+}
+
 // Window by window, with fewer left to pass over after each.
 fn search_from(bytes: &[u8], start: usize, length: usize, n: usize, from: usize) -> Position
     requires { ⌜ (start ≤ 4194304) × ((length ≤ 4194304) × (start + length ≤ 8 * ListN·length (now bytes))) ⌝ }
     ensures { λ r. ⌜ positionAnswer r ≡ given (nthFrom (stretch (now (bytes .entry)) start length) n from) ⌝ }
 {
-    let mut left = n;
-    let mut at = from;
+    let passed = pass_windows(bytes, start, length, n, from);
+    let mut left = passed.left;
+    let mut at = passed.at;
     while at < length {
         let seen = nth_in_window(span_window(bytes, start, length, at), left);
         match seen {

@@ -1,6 +1,6 @@
--- The invariant: the search for `left` from `at` on is the one asked for.
+-- The invariant: the search for `left` from `at` on is the one asked for, as `pass_windows` leaves it.
 -- A window has the flag (`turn-there`) or not (`turn-only`), or the span ends (`turn-end`).
-use mathlib.Core.Path.{_≡_, refl, sym, ap, _∙_}
+use mathlib.Core.Path.{_≡_, sym, ap, _∙_}
 use Prim.Native.Nat.{_-_}
 use native.Mathlib.Omega.{arith}
 use Rattle.words.specs.Loops.{stretch}
@@ -19,8 +19,11 @@ Inv-loop bytes start length n from left₀ at₀ left at = nthFrom (stretch byte
 abbrev μ-loop : tie.MeasureT-loop
 μ-loop bytes start length n from left₀ at₀ left at = length - at
 
+pass-windows-requires : tie.Need-pass-windows-requires Inv-loop μ-loop
+pass-windows-requires c κs = search needs
+
 loop-holds : tie.Need-loop-holds Inv-loop μ-loop
-loop-holds c = refl
+loop-holds c = c .pass-windows .ensures
 
 span-window-requires : tie.Need-span-window-requires Inv-loop μ-loop
 span-window-requires c κs = search needs
@@ -72,6 +75,7 @@ search-from-spec =
     (tie.spec
     Inv-loop
     μ-loop
+    pass-windows-requires
     loop-holds
     span-window-requires
     nth-in-window-requires

@@ -1,0 +1,68 @@
+-- The invariant: the search for `left` from `at` on is the one asked for. A window that is passed over has too few set flags (`turn-only`).
+use mathlib.Core.Path.{_≡_, refl, _∙_}
+use Prim.Native.Nat.{_-_}
+use native.Mathlib.Omega.{arith}
+use Rattle.words.specs.Loops.{stretch}
+use Rattle.masks.specs.Search.{nthFrom}
+use Rattle.masks.proofs.BitmaskLaws.{window-flags}
+use Rattle.masks.proofs.SearchLaws.{turn-only}
+use borrow.Author.Needs.{needs}
+use Rattle.masks.proofs.bitmask.pass_windows.Statement.{statement}
+use Rattle.masks.proofs.bitmask.pass_windows.Tie as tie
+
+abbrev Inv-loop : tie.InvT-loop
+Inv-loop bytes start length n from inner left₀ at₀ left at = nthFrom (stretch bytes start length) left at ≡ nthFrom (stretch bytes start length) n from
+
+abbrev μ-loop : tie.MeasureT-loop
+μ-loop bytes start length n from inner left₀ at₀ left at = inner - at
+
+least-requires : tie.Need-least-requires Inv-loop μ-loop
+least-requires c κs = search needs
+
+sub-inner : tie.Need-sub-inner Inv-loop μ-loop
+sub-inner c = search needs
+
+loop-holds : tie.Need-loop-holds Inv-loop μ-loop
+loop-holds c = refl
+
+inner-window-requires : tie.Need-inner-window-requires Inv-loop μ-loop
+inner-window-requires c κs = search needs
+
+ones-in-window-requires : tie.Need-ones-in-window-requires Inv-loop μ-loop
+ones-in-window-requires c κs = search needs
+
+returns : tie.Need-returns Inv-loop μ-loop
+returns c = c .before .before .before .before .loop .inv
+
+add-at : tie.Need-add-at Inv-loop μ-loop
+add-at c = search needs
+
+loop-less : tie.Need-loop-less Inv-loop μ-loop
+loop-less c = search needs
+
+loop-again : tie.Need-loop-again Inv-loop μ-loop
+loop-again c =
+    let e = c .before in
+    turn-only _ _ _ _ _ (window-flags _ _ _ _ _ (e .before .inner-window .ensures))
+    (record { few = omega (arith, e .ones-in-window .ensures, c .if1 .left); number = e .ones-in-window .ensures })
+    ∙ e .before .before .before .loop .inv
+
+returns-2 : tie.Need-returns-2 Inv-loop μ-loop
+returns-2 c = c .before .loop .inv
+
+pub pass-windows-spec : {M : Type 1} → statement M
+pass-windows-spec =
+    tie.close
+    (tie.spec
+    Inv-loop
+    μ-loop
+    least-requires
+    sub-inner
+    loop-holds
+    inner-window-requires
+    ones-in-window-requires
+    returns
+    add-at
+    loop-less
+    loop-again
+    returns-2)
