@@ -2,7 +2,7 @@
 ghost use mathlib.Core.Path.{_≡_};
 ghost use Prim.Native.Nat.{_+_, _*_, _≤_, _<_};
 ghost use lib.ListN.{length as ListN·length};
-ghost use Rattle.words.specs.Flags.{bits, count};
+ghost use Rattle.words.specs.Flags.{bits, count, wordOf};
 ghost use Rattle.words.specs.Loops.{stretch};
 ghost use Rattle.words.specs.Nth.{nthPlace};
 ghost use Rattle.masks.specs.Answer.{given};
@@ -130,15 +130,13 @@ pub fn nth_set_bit_idx_rev(
     search_back(bytes, start, length, n, least(end, length))
 }
 
-// A window that lies in the span, with eight bytes from its first byte on: the load asks nothing, and no flag is cut off.
-fn inner_window(bytes: &[u8], start: usize, length: usize, index: usize) -> u32
-    requires { ⌜ (start ≤ 4194304) × ((length ≤ 4194304) × ((index + 32 ≤ length) × (start + index + 64 ≤ 8 * ListN·length (now bytes)))) ⌝ }
-    ensures { λ r. ⌜ r ≡ windowWord (now (bytes .entry)) start length index ⌝ }
+// 32 flags from the flag 8 * at + k on, eight bytes in range: one load, which asks nothing, and no flag is cut off.
+fn word_window(bytes: &[u8], at: usize, k: usize) -> u32
+    requires { ⌜ (at + 8 ≤ ListN·length (now bytes)) × (k ≤ 32) ⌝ }
+    ensures { λ r. ⌜ r ≡ wordOf (stretch (now (bytes .entry)) (8 * at + k) 32) ⌝ }
 {
-    let bit = start + index;
-    let at = bit / 8;
     let end = at + 8;
-    low_flags(down(load_padded_le_u64(&bytes[at..end]), bit % 8), 32) as u32
+    low_flags(down(load_padded_le_u64(&bytes[at..end]), k), 32) as u32
 }
 
 // Where a search has come to, and how many set flags it has yet to pass over.
@@ -147,7 +145,8 @@ struct Passed {
     left: usize,
 }
 
-// The windows well inside the span that have too few set flags are passed over, in a loop that does nothing else.
+// Passes over the windows that have too few set flags, up to one with enough of them or to the last 63 flags. A window before
+// these has eight bytes from its first byte on, so that a turn is one load and one count.
 fn pass_windows(bytes: &[u8], start: usize, length: usize, n: usize, from: usize) -> Passed
     requires { ⌜ (start ≤ 4194304) × ((length ≤ 4194304) × (start + length ≤ 8 * ListN·length (now bytes))) ⌝ }
     ensures { λ r. ⌜ nthFrom (stretch (now (bytes .entry)) start length) (r .left) (r .at) ≡ nthFrom (stretch (now (bytes .entry)) start length) n from ⌝ }
@@ -156,7 +155,8 @@ fn pass_windows(bytes: &[u8], start: usize, length: usize, n: usize, from: usize
     let mut left = n;
     let mut at = from;
     while at < inner {
-        let ones = ones_in_window(inner_window(bytes, start, length, at));
+        let bit = start + at;
+        let ones = ones_in_window(word_window(bytes, bit / 8, bit % 8));
         if left < ones {
             return Passed { at: at, left: left };
         }
@@ -166,7 +166,7 @@ fn pass_windows(bytes: &[u8], start: usize, length: usize, n: usize, from: usize
     Passed { at: at, left: left }
 }
 
-// Window by window, with fewer left to pass over after each.
+// Window by window from where `pass_windows` stops, with fewer left to pass over after each.
 fn search_from(bytes: &[u8], start: usize, length: usize, n: usize, from: usize) -> Position
     requires { ⌜ (start ≤ 4194304) × ((length ≤ 4194304) × (start + length ≤ 8 * ListN·length (now bytes))) ⌝ }
     ensures { λ r. ⌜ positionAnswer r ≡ given (nthFrom (stretch (now (bytes .entry)) start length) n from) ⌝ }
@@ -190,13 +190,40 @@ fn search_from(bytes: &[u8], start: usize, length: usize, n: usize, from: usize)
     Position::Missing
 }
 
+// The same down from `end`, to the first 63 flags. A window above these is taken from the eight bytes that end with its last
+// byte: it begins 25 to 32 flags behind their first.
+fn pass_back(bytes: &[u8], start: usize, length: usize, n: usize, end: usize) -> Passed
+    requires { ⌜ (start ≤ 4194304) × ((length ≤ 4194304) × ((start + length ≤ 8 * ListN·length (now bytes)) × (end ≤ length))) ⌝ }
+    ensures { λ r. ⌜ (r .at ≤ length) × (nthBack (stretch (now (bytes .entry)) start length) (r .left) (r .at) ≡ nthBack (stretch (now (bytes .entry)) start length) n end) ⌝ }
+{
+    let mut left = n;
+    let mut below = end;
+    while below >= 64 {
+        let bit = start + below + 7;
+        let ones = ones_in_window(word_window(bytes, bit / 8 - 8, 25 + bit % 8));
+        if left < ones {
+            return Passed {
+                at: below,
+                left: left,
+            };
+        }
+        left -= ones;
+        below -= 32;
+    }
+    Passed {
+        at: below,
+        left: left,
+    }
+}
+
 // The same from the end on: the window before `below` has zeros from there on.
 fn search_back(bytes: &[u8], start: usize, length: usize, n: usize, end: usize) -> Position
     requires { ⌜ (start ≤ 4194304) × ((length ≤ 4194304) × ((start + length ≤ 8 * ListN·length (now bytes)) × (end ≤ length))) ⌝ }
     ensures { λ r. ⌜ positionAnswer r ≡ given (nthBack (stretch (now (bytes .entry)) start length) n end) ⌝ }
 {
-    let mut left = n;
-    let mut below = end;
+    let passed = pass_back(bytes, start, length, n, end);
+    let mut left = passed.left;
+    let mut below = passed.at;
     while below > 0 {
         let at = below - least(below, 32);
         let w = span_window(bytes, start, below, at);

@@ -4,7 +4,7 @@ use Prim.Native.Nat.{_-_}
 use native.Mathlib.Omega.{arith}
 use Rattle.words.specs.Loops.{stretch}
 use Rattle.masks.specs.Search.{nthFrom}
-use Rattle.masks.proofs.BitmaskLaws.{window-flags}
+use Rattle.masks.proofs.BitmaskLaws.{window-flags, window-whole}
 use Rattle.masks.proofs.SearchLaws.{turn-only}
 use borrow.Author.Needs.{needs}
 use Rattle.masks.proofs.bitmask.pass_windows.Statement.{statement}
@@ -25,8 +25,11 @@ sub-inner c = search needs
 loop-holds : tie.Need-loop-holds Inv-loop μ-loop
 loop-holds c = refl
 
-inner-window-requires : tie.Need-inner-window-requires Inv-loop μ-loop
-inner-window-requires c κs = search needs
+add-bit : tie.Need-add-bit Inv-loop μ-loop
+add-bit c = search needs
+
+word-window-requires : tie.Need-word-window-requires Inv-loop μ-loop
+word-window-requires c κs = search needs
 
 ones-in-window-requires : tie.Need-ones-in-window-requires Inv-loop μ-loop
 ones-in-window-requires c κs = search needs
@@ -43,7 +46,7 @@ loop-less c = search needs
 loop-again : tie.Need-loop-again Inv-loop μ-loop
 loop-again c =
     let e = c .before in
-    turn-only _ _ _ _ _ (window-flags _ _ _ _ _ (e .before .inner-window .ensures))
+    turn-only _ _ _ _ _ (window-flags _ _ _ _ _ (window-whole _ _ _ _ _ _ (e .before .word-window .ensures) (omega arith) (omega arith)))
     (record { few = omega (arith, e .ones-in-window .ensures, c .if1 .left); number = e .ones-in-window .ensures })
     ∙ e .before .before .before .loop .inv
 
@@ -59,7 +62,8 @@ pass-windows-spec =
     least-requires
     sub-inner
     loop-holds
-    inner-window-requires
+    add-bit
+    word-window-requires
     ones-in-window-requires
     returns
     add-at

@@ -1,6 +1,6 @@
--- The invariant: the search for `left` down from `below` is the one asked for.
+-- The invariant: the search for `left` down from `below` is the one asked for, as `pass_back` leaves it.
 -- A window has the flag (`turn-back`) or not (`turn-down`), or nothing is below (`back-none`).
-use mathlib.Core.Path.{_≡_, refl, ap, _∙_}
+use mathlib.Core.Path.{_≡_, ap, _∙_}
 use Prim.Native.Nat.{_≤_}
 use native.Mathlib.Omega.{arith}
 use Rattle.words.specs.Loops.{stretch}
@@ -17,8 +17,11 @@ Inv-loop bytes start length n end left₀ below₀ left below = (below ≤ lengt
 abbrev μ-loop : tie.MeasureT-loop
 μ-loop bytes start length n end left₀ below₀ left below = below
 
+pass-back-requires : tie.Need-pass-back-requires Inv-loop μ-loop
+pass-back-requires c κs = search needs
+
 loop-holds : tie.Need-loop-holds Inv-loop μ-loop
-loop-holds c = (c .before .pre .1 .1 .1, refl)
+loop-holds c = c .pass-back .ensures
 
 least-requires : tie.Need-least-requires Inv-loop μ-loop
 least-requires c κs = search needs
@@ -72,6 +75,7 @@ search-back-spec =
     (tie.spec
     Inv-loop
     μ-loop
+    pass-back-requires
     loop-holds
     least-requires
     sub-at
