@@ -8,7 +8,7 @@ ghost use Rattle.words.specs.Nth.{nthPlace};
 ghost use Rattle.masks.specs.Answer.{given};
 ghost use Rattle.masks.specs.Bitmask.{partsAnswer, splitAt, splitChecks, windowAnswer, windowAt, windowWord};
 ghost use Rattle.masks.specs.Checks.{firstFailed};
-ghost use Rattle.masks.specs.Search.{positionAnswer, searchFrom, searchBack, nthFrom, nthBack, seen};
+ghost use Rattle.masks.specs.Search.{PassedFrom, PassedBack, positionAnswer, searchFrom, searchBack, nthFrom, nthBack, seen};
 use crate::bitmap::Bitmap;
 use crate::checks::earlier;
 use crate::checks::failed;
@@ -148,8 +148,8 @@ struct Passed {
 // Passes over the windows that have too few set flags, up to one with enough of them or to the last 63 flags. A window before
 // these has eight bytes from its first byte on, so that a turn is one load and one count.
 fn pass_windows(bytes: &[u8], start: usize, length: usize, n: usize, from: usize) -> Passed
-    requires { ⌜ (start ≤ 4194304) × ((length ≤ 4194304) × (start + length ≤ 8 * ListN·length (now bytes))) ⌝ }
-    ensures { λ r. ⌜ nthFrom (stretch (now (bytes .entry)) start length) (r .left) (r .at) ≡ nthFrom (stretch (now (bytes .entry)) start length) n from ⌝ }
+    requires { ⌜ (start ≤ 4194304) × ((length ≤ 4194304) × ((start + length ≤ 8 * ListN·length (now bytes)) × (from < length))) ⌝ }
+    ensures { λ r. ⌜ PassedFrom (now (bytes .entry)) start length n from (r .left) (r .at) ⌝ }
 {
     let inner = length - least(length, 63);
     let mut left = n;
@@ -166,35 +166,51 @@ fn pass_windows(bytes: &[u8], start: usize, length: usize, n: usize, from: usize
     Passed { at: at, left: left }
 }
 
-// Window by window from where `pass_windows` stops, with fewer left to pass over after each.
+// The window where `pass_windows` stops has the flag, or at most one window is behind it: two windows in a row, and no loop.
 fn search_from(bytes: &[u8], start: usize, length: usize, n: usize, from: usize) -> Position
     requires { ⌜ (start ≤ 4194304) × ((length ≤ 4194304) × (start + length ≤ 8 * ListN·length (now bytes))) ⌝ }
     ensures { λ r. ⌜ positionAnswer r ≡ given (nthFrom (stretch (now (bytes .entry)) start length) n from) ⌝ }
 {
-    let passed = pass_windows(bytes, start, length, n, from);
-    let mut left = passed.left;
-    let mut at = passed.at;
-    while at < length {
-        let seen = nth_in_window(span_window(bytes, start, length, at), left);
-        match seen {
-            Seen::There(i) => {
-                let position = at + i;
-                return Position::At(position);
-            }
-            Seen::Only(ones) => {
-                left -= ones;
-            }
-        }
-        at += 32;
+    if from >= length {
+        return Position::Missing;
     }
-    Position::Missing
+    let passed = pass_windows(bytes, start, length, n, from);
+    let at = passed.at;
+    let left = passed.left;
+    let seen = nth_in_window(span_window(bytes, start, length, at), left);
+    match seen {
+        Seen::There(i) => {
+            let position = at + i;
+            Position::At(position)
+        }
+        Seen::Only(ones) => {
+            let rest = left - ones;
+            let next = at + 32;
+            search_last(bytes, start, length, rest, next)
+        }
+    }
 }
 
-// The same down from `end`, to the first 63 flags. A window above these is taken from the eight bytes that end with its last
+// One window, behind which the span ends.
+fn search_last(bytes: &[u8], start: usize, length: usize, n: usize, from: usize) -> Position
+    requires { ⌜ (start ≤ 4194304) × ((length ≤ 4194304) × ((start + length ≤ 8 * ListN·length (now bytes)) × ((from ≤ length + 32) × (length ≤ from + 32)))) ⌝ }
+    ensures { λ r. ⌜ positionAnswer r ≡ given (nthFrom (stretch (now (bytes .entry)) start length) n from) ⌝ }
+{
+    let seen = nth_in_window(span_window(bytes, start, length, from), n);
+    match seen {
+        Seen::There(i) => {
+            let position = from + i;
+            Position::At(position)
+        }
+        Seen::Only(_) => Position::Missing,
+    }
+}
+
+// As `pass_windows`, down from `end` to the first 63 flags. A window above these is taken from the eight bytes that end with its last
 // byte: it begins 25 to 32 flags behind their first.
 fn pass_back(bytes: &[u8], start: usize, length: usize, n: usize, end: usize) -> Passed
     requires { ⌜ (start ≤ 4194304) × ((length ≤ 4194304) × ((start + length ≤ 8 * ListN·length (now bytes)) × (end ≤ length))) ⌝ }
-    ensures { λ r. ⌜ (r .at ≤ length) × (nthBack (stretch (now (bytes .entry)) start length) (r .left) (r .at) ≡ nthBack (stretch (now (bytes .entry)) start length) n end) ⌝ }
+    ensures { λ r. ⌜ PassedBack (now (bytes .entry)) start length n end (r .left) (r .at) ⌝ }
 {
     let mut left = n;
     let mut below = end;
@@ -216,25 +232,37 @@ fn pass_back(bytes: &[u8], start: usize, length: usize, n: usize, end: usize) ->
     }
 }
 
-// The same from the end on: the window before `below` has zeros from there on.
+// As `search_from`, from the end on: the window before `below` has zeros from there on.
 fn search_back(bytes: &[u8], start: usize, length: usize, n: usize, end: usize) -> Position
     requires { ⌜ (start ≤ 4194304) × ((length ≤ 4194304) × ((start + length ≤ 8 * ListN·length (now bytes)) × (end ≤ length))) ⌝ }
     ensures { λ r. ⌜ positionAnswer r ≡ given (nthBack (stretch (now (bytes .entry)) start length) n end) ⌝ }
 {
     let passed = pass_back(bytes, start, length, n, end);
-    let mut left = passed.left;
-    let mut below = passed.at;
-    while below > 0 {
-        let at = below - least(below, 32);
-        let w = span_window(bytes, start, below, at);
-        let ones = ones_in_window(w);
-        if left < ones {
-            let number = ones - 1 - left;
-            let position = at + place_in_window(w, number);
-            return Position::At(position);
-        }
-        left -= ones;
-        below = at;
+    let below = passed.at;
+    let left = passed.left;
+    let at = below - least(below, 32);
+    let w = span_window(bytes, start, below, at);
+    let ones = ones_in_window(w);
+    if left < ones {
+        let number = ones - 1 - left;
+        let position = at + place_in_window(w, number);
+        return Position::At(position);
+    }
+    let rest = left - ones;
+    search_first(bytes, start, length, rest, at)
+}
+
+// One window, before which the span begins.
+fn search_first(bytes: &[u8], start: usize, length: usize, n: usize, end: usize) -> Position
+    requires { ⌜ (start ≤ 4194304) × ((length ≤ 4194304) × ((start + length ≤ 8 * ListN·length (now bytes)) × ((end ≤ length) × (end ≤ 32)))) ⌝ }
+    ensures { λ r. ⌜ positionAnswer r ≡ given (nthBack (stretch (now (bytes .entry)) start length) n end) ⌝ }
+{
+    let w = span_window(bytes, start, end, 0);
+    let ones = ones_in_window(w);
+    if n < ones {
+        let number = ones - 1 - n;
+        let position = place_in_window(w, number);
+        return Position::At(position);
     }
     Position::Missing
 }

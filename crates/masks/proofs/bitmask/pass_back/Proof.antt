@@ -5,7 +5,7 @@ use native.Mathlib.Omega.{arith}
 use Rattle.words.specs.Loops.{stretch}
 use Rattle.masks.specs.Search.{nthBack}
 use Rattle.masks.proofs.BitmaskLaws.{window-whole}
-use Rattle.masks.proofs.SearchLaws.{turn-down}
+use Rattle.masks.proofs.SearchLaws.{turn-down, enough}
 use borrow.Author.Needs.{needs}
 use Rattle.masks.proofs.bitmask.pass_back.Statement.{statement}
 use Rattle.masks.proofs.bitmask.pass_back.Tie as tie
@@ -38,7 +38,15 @@ ones-in-window-requires : tie.Need-ones-in-window-requires Inv-loop μ-loop
 ones-in-window-requires c κs = search needs
 
 returns : tie.Need-returns Inv-loop μ-loop
-returns c = c .before .before .before .before .loop .inv
+returns c =
+    let e = c .before in
+    let inv = e .before .before .before .loop .inv in
+    record {
+      same = inv .1;
+      inside = inv .0;
+      stops = λ few. absurd
+          (enough _ _ _ _ _ _ _ few (window-whole _ _ _ _ _ _ (e .before .word-window .ensures) (omega arith) (omega arith)) (e .ones-in-window .ensures) (c .if1 .taken));
+    }
 
 sub-below : tie.Need-sub-below Inv-loop μ-loop
 sub-below c = search needs
@@ -57,7 +65,9 @@ loop-again c =
     )
 
 returns-2 : tie.Need-returns-2 Inv-loop μ-loop
-returns-2 c = c .before .loop .inv
+returns-2 c =
+    let inv = c .before .loop .inv in
+    record { same = inv .1; inside = inv .0; stops = λ few. omega arith }
 
 pub pass-back-spec : {M : Type 1} → statement M
 pass-back-spec =
