@@ -46,6 +46,10 @@ window-value bytes start n index k r e p =
     ∙ sym (ap wordOf (padded (flagsOf bytes) start n index 32)
     ∙ wordOf-padded 32 (window (flagsOf bytes) (start + index) (min 32 (n - index))) (omega (arith, length-window (flagsOf bytes) (start + index) (min 32 (n - index)))))
 
+-- where all its flags are in the span
+pub window-whole : (bytes : List ℕ) (start n index bit r : ℕ) → r ≡ wordOf (stretch bytes bit 32) → bit ≡ start + index → index + 32 ≤ n → r ≡ windowWord bytes start n index
+window-whole bytes start n index bit r p e h = window-value bytes start n index 32 r (omega arith) (p ∙ ap (λ (x : ℕ). wordOf (stretch bytes x 32)) e)
+
 pub window-none : (bytes : List ℕ) (start n index : ℕ) → n ≤ index → 0 ≡ windowWord bytes start n index
 unfolding windowWord
 window-none bytes start n index h =

@@ -145,13 +145,19 @@ module _ (x : Bool) (l : List Bool) (s n : ℕ) where
       let all : 64 * i ≡ trailing x last = omega (arith, trailing-le x last, length-window l (s + 64 * (n - i)) (64 * i)) in
       ap (λ (m : ℕ). 64 * m) (sym e) ∙ all ∙ ap₂ (λ (y m : ℕ). trailing x (window l y (64 * m))) f e
 
+-- the flags of a word that was read from a flag on, moved down
+pub moved-flags : (l : List Bool) (at k n x r : ℕ) → k + n ≤ 64 → bits 64 x ≡ window l at 64 → bits 64 r ≡ window (bits 64 x) k 64 → take n (bits 64 r) ≡ window l (at + k) n
+moved-flags l at k n x r h p q =
+    let e : at + (k + 0) ≡ at + k = omega arith in
+    ap (take n) q ∙ window-cut (bits 64 x) k 64 0 n (omega arith) ∙ ap (λ (t : List Bool). window t (k + 0) n) p
+    ∙ in-window l at 64 (k + 0) n (omega arith) ∙ ap (λ (y : ℕ). window l y n) e
+
 -- the flags of a span that fits the word from its first byte on
 pub near-flags : (l : List Bool) (start n x r : ℕ) → start % 8 + n ≤ 64 → bits 64 x ≡ window l (8 * (start / 8)) 64 → bits 64 r ≡ window (bits 64 x) (start % 8) 64
     → take n (bits 64 r) ≡ window l start n
 near-flags l start n x r h p q =
-    let at : 8 * (start / 8) + (start % 8 + 0) ≡ start = omega arith in
-    ap (take n) q ∙ window-cut (bits 64 x) (start % 8) 64 0 n (omega arith) ∙ ap (λ (t : List Bool). window t (start % 8 + 0) n) p
-    ∙ in-window l (8 * (start / 8)) 64 (start % 8 + 0) n (omega arith) ∙ ap (λ (k : ℕ). window l k n) at
+    let at : 8 * (start / 8) + start % 8 ≡ start = omega arith in
+    moved-flags l (8 * (start / 8)) (start % 8) n x r h p q ∙ ap (λ (k : ℕ). window l k n) at
 
 -- and its ones
 pub short-count : (bytes : List ℕ) (start n x r c : ℕ) → start % 8 + n ≤ 64 → bits 64 x ≡ window (flagsOf bytes) (8 * (start / 8)) 64

@@ -210,6 +210,20 @@ turn-only l m n at k e h =
 pub turn-end : (l : List Bool) (start size n at : ℕ) → size ≤ at → none ≡ nthFrom (window l start size) n at
 turn-end l start size n at h = from-end (window l start size) n at (omega (arith, length-window l start size))
 
+-- the last window is passed over
+pub turn-last : (l m : List Bool) (start size n at k : ℕ) → m ≡ window (window l start size) at 32 → IsOnly m n k → size ≤ at + 32 → none ≡ nthFrom (window l start size) n at
+turn-last l m start size n at k e h z = turn-end l start size (n - k) (at + 32) z ∙ turn-only (window l start size) m n at k e h
+
+-- a window that has enough set flags has not too few
+pub enough : (bytes : List ℕ) (start size at left w ones : ℕ) → count (bits 32 (windowWord bytes start size at)) ≤ left
+    → w ≡ windowWord bytes start size at → ones ≡ count (bits 32 w) → left < ones → ⊥
+enough bytes start size at left w ones few e p h = omega (arith, p ∙ ap (λ (x : ℕ). count (bits 32 x)) e)
+
+-- too few set flags in the window before an end, said of the end alone
+pub few-there : (bytes : List ℕ) (start e s left w ones : ℕ) → s ≡ e - 32 → w ≡ windowWord bytes start e s → ones ≡ count (bits 32 w) → ones ≤ left
+    → count (bits 32 (windowWord bytes start e (e - 32))) ≤ left
+few-there bytes start e s left w ones i p q h = omega (arith, q ∙ ap (λ (x : ℕ). count (bits 32 x)) (p ∙ ap (windowWord bytes start e) i))
+
 -- a shorter span has the first flags of a longer one
 span-take : (l : List Bool) (start n e : ℕ) → e ≤ n → window l start e ≡ take e (window l start n)
 span-take l start n e h = sym (window-cut l start n 0 e (omega arith) ∙ ap (λ (x : ℕ). window l x e) (add-zero start))

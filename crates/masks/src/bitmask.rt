@@ -2,13 +2,13 @@
 ghost use mathlib.Core.Path.{_≡_};
 ghost use Prim.Native.Nat.{_+_, _*_, _≤_, _<_};
 ghost use lib.ListN.{length as ListN·length};
-ghost use Rattle.words.specs.Flags.{bits, count};
+ghost use Rattle.words.specs.Flags.{bits, count, wordOf};
 ghost use Rattle.words.specs.Loops.{stretch};
 ghost use Rattle.words.specs.Nth.{nthPlace};
 ghost use Rattle.masks.specs.Answer.{given};
 ghost use Rattle.masks.specs.Bitmask.{partsAnswer, splitAt, splitChecks, windowAnswer, windowAt, windowWord};
 ghost use Rattle.masks.specs.Checks.{firstFailed};
-ghost use Rattle.masks.specs.Search.{positionAnswer, searchFrom, searchBack, nthFrom, nthBack, seen};
+ghost use Rattle.masks.specs.Search.{PassedFrom, PassedBack, positionAnswer, searchFrom, searchBack, nthFrom, nthBack, seen};
 use crate::bitmap::Bitmap;
 use crate::checks::earlier;
 use crate::checks::failed;
@@ -18,6 +18,8 @@ use crate::span::least;
 use crate::span::near_word;
 use words::nth::Nth;
 use words::nth::nth_set_bit_u32;
+use words::word::down;
+use words::word::load_padded_le_u64;
 use words::word::low_flags;
 
 // A start bit and a length in bits. The Rust's `BitMask`, its bytes lent beside it.
@@ -128,47 +130,139 @@ pub fn nth_set_bit_idx_rev(
     search_back(bytes, start, length, n, least(end, length))
 }
 
-// Window by window, with fewer left to pass over after each.
+// 32 flags from the flag 8 * at + k on, eight bytes in range: one load, which asks nothing, and no flag is cut off.
+fn word_window(bytes: &[u8], at: usize, k: usize) -> u32
+    requires { ⌜ (at + 8 ≤ ListN·length (now bytes)) × (k ≤ 32) ⌝ }
+    ensures { λ r. ⌜ r ≡ wordOf (stretch (now (bytes .entry)) (8 * at + k) 32) ⌝ }
+{
+    let end = at + 8;
+    low_flags(down(load_padded_le_u64(&bytes[at..end]), k), 32) as u32
+}
+
+// Where a search has come to, and how many set flags it has yet to pass over.
+struct Passed {
+    at: usize,
+    left: usize,
+}
+
+// Passes over the windows that have too few set flags, up to one with enough of them or to the last 63 flags. A window before
+// these has eight bytes from its first byte on, so that a turn is one load and one count.
+fn pass_windows(bytes: &[u8], start: usize, length: usize, n: usize, from: usize) -> Passed
+    requires { ⌜ (start ≤ 4194304) × ((length ≤ 4194304) × ((start + length ≤ 8 * ListN·length (now bytes)) × (from < length))) ⌝ }
+    ensures { λ r. ⌜ PassedFrom (now (bytes .entry)) start length n from (r .left) (r .at) ⌝ }
+{
+    let inner = length - least(length, 63);
+    let mut left = n;
+    let mut at = from;
+    while at < inner {
+        let bit = start + at;
+        let ones = ones_in_window(word_window(bytes, bit / 8, bit % 8));
+        if left < ones {
+            return Passed { at: at, left: left };
+        }
+        left -= ones;
+        at += 32;
+    }
+    Passed { at: at, left: left }
+}
+
+// The window where `pass_windows` stops has the flag, or at most one window is behind it: two windows in a row, and no loop.
 fn search_from(bytes: &[u8], start: usize, length: usize, n: usize, from: usize) -> Position
     requires { ⌜ (start ≤ 4194304) × ((length ≤ 4194304) × (start + length ≤ 8 * ListN·length (now bytes))) ⌝ }
     ensures { λ r. ⌜ positionAnswer r ≡ given (nthFrom (stretch (now (bytes .entry)) start length) n from) ⌝ }
 {
-    let mut left = n;
-    let mut at = from;
-    while at < length {
-        let seen = nth_in_window(span_window(bytes, start, length, at), left);
-        match seen {
-            Seen::There(i) => {
-                let position = at + i;
-                return Position::At(position);
-            }
-            Seen::Only(ones) => {
-                left -= ones;
-            }
-        }
-        at += 32;
+    if from >= length {
+        return Position::Missing;
     }
-    Position::Missing
+    let passed = pass_windows(bytes, start, length, n, from);
+    let at = passed.at;
+    let left = passed.left;
+    let seen = nth_in_window(span_window(bytes, start, length, at), left);
+    match seen {
+        Seen::There(i) => {
+            let position = at + i;
+            Position::At(position)
+        }
+        Seen::Only(ones) => {
+            let rest = left - ones;
+            let next = at + 32;
+            search_last(bytes, start, length, rest, next)
+        }
+    }
 }
 
-// The same from the end on: the window before `below` has zeros from there on.
+// One window, behind which the span ends.
+fn search_last(bytes: &[u8], start: usize, length: usize, n: usize, from: usize) -> Position
+    requires { ⌜ (start ≤ 4194304) × ((length ≤ 4194304) × ((start + length ≤ 8 * ListN·length (now bytes)) × ((from ≤ length + 32) × (length ≤ from + 32)))) ⌝ }
+    ensures { λ r. ⌜ positionAnswer r ≡ given (nthFrom (stretch (now (bytes .entry)) start length) n from) ⌝ }
+{
+    let seen = nth_in_window(span_window(bytes, start, length, from), n);
+    match seen {
+        Seen::There(i) => {
+            let position = from + i;
+            Position::At(position)
+        }
+        Seen::Only(_) => Position::Missing,
+    }
+}
+
+// As `pass_windows`, down from `end` to the first 63 flags. A window above these is taken from the eight bytes that end with its last
+// byte: it begins 25 to 32 flags behind their first.
+fn pass_back(bytes: &[u8], start: usize, length: usize, n: usize, end: usize) -> Passed
+    requires { ⌜ (start ≤ 4194304) × ((length ≤ 4194304) × ((start + length ≤ 8 * ListN·length (now bytes)) × (end ≤ length))) ⌝ }
+    ensures { λ r. ⌜ PassedBack (now (bytes .entry)) start length n end (r .left) (r .at) ⌝ }
+{
+    let mut left = n;
+    let mut below = end;
+    while below >= 64 {
+        let bit = start + below + 7;
+        let ones = ones_in_window(word_window(bytes, bit / 8 - 8, 25 + bit % 8));
+        if left < ones {
+            return Passed {
+                at: below,
+                left: left,
+            };
+        }
+        left -= ones;
+        below -= 32;
+    }
+    Passed {
+        at: below,
+        left: left,
+    }
+}
+
+// As `search_from`, from the end on: the window before `below` has zeros from there on.
 fn search_back(bytes: &[u8], start: usize, length: usize, n: usize, end: usize) -> Position
     requires { ⌜ (start ≤ 4194304) × ((length ≤ 4194304) × ((start + length ≤ 8 * ListN·length (now bytes)) × (end ≤ length))) ⌝ }
     ensures { λ r. ⌜ positionAnswer r ≡ given (nthBack (stretch (now (bytes .entry)) start length) n end) ⌝ }
 {
-    let mut left = n;
-    let mut below = end;
-    while below > 0 {
-        let at = below - least(below, 32);
-        let w = span_window(bytes, start, below, at);
-        let ones = ones_in_window(w);
-        if left < ones {
-            let number = ones - 1 - left;
-            let position = at + place_in_window(w, number);
-            return Position::At(position);
-        }
-        left -= ones;
-        below = at;
+    let passed = pass_back(bytes, start, length, n, end);
+    let below = passed.at;
+    let left = passed.left;
+    let at = below - least(below, 32);
+    let w = span_window(bytes, start, below, at);
+    let ones = ones_in_window(w);
+    if left < ones {
+        let number = ones - 1 - left;
+        let position = at + place_in_window(w, number);
+        return Position::At(position);
+    }
+    let rest = left - ones;
+    search_first(bytes, start, length, rest, at)
+}
+
+// One window, before which the span begins.
+fn search_first(bytes: &[u8], start: usize, length: usize, n: usize, end: usize) -> Position
+    requires { ⌜ (start ≤ 4194304) × ((length ≤ 4194304) × ((start + length ≤ 8 * ListN·length (now bytes)) × ((end ≤ length) × (end ≤ 32)))) ⌝ }
+    ensures { λ r. ⌜ positionAnswer r ≡ given (nthBack (stretch (now (bytes .entry)) start length) n end) ⌝ }
+{
+    let w = span_window(bytes, start, end, 0);
+    let ones = ones_in_window(w);
+    if n < ones {
+        let number = ones - 1 - n;
+        let position = place_in_window(w, number);
+        return Position::At(position);
     }
     Position::Missing
 }

@@ -1,86 +1,80 @@
--- The invariant: the search for `left` from `at` on is the one asked for.
--- A window has the flag (`turn-there`) or not (`turn-only`), or the span ends (`turn-end`).
-use mathlib.Core.Path.{_≡_, refl, sym, ap, _∙_}
-use Prim.Native.Nat.{_-_}
+-- The window where `pass_windows` stops has the flag (`turn-there`) or too few (`turn-only`), and then one window is left.
+use mathlib.Core.Path.{sym, ap, _∙_, subst}
+use Prim.Native.Nat.{ℕ, _≤_}
 use native.Mathlib.Omega.{arith}
-use Rattle.words.specs.Loops.{stretch}
+use Rattle.words.specs.Flags.{bits, count}
 use Rattle.words.proofs.Bits.{length-bits}
 use Rattle.masks.specs.Answer.{given}
-use Rattle.masks.specs.Search.{nthFrom}
 use Rattle.masks.proofs.BitmaskLaws.{window-flags}
 use Rattle.masks.proofs.SearchLaws.{seen-there, seen-only, turn-there, turn-only, turn-end}
 use borrow.Author.Needs.{needs}
 use Rattle.masks.proofs.bitmask.search_from.Statement.{statement}
 use Rattle.masks.proofs.bitmask.search_from.Tie as tie
 
-abbrev Inv-loop : tie.InvT-loop
-Inv-loop bytes start length n from left₀ at₀ left at = nthFrom (stretch bytes start length) left at ≡ nthFrom (stretch bytes start length) n from
+returns : tie.Need-returns
+returns c = ap given (turn-end _ _ _ _ _ (omega arith))
 
-abbrev μ-loop : tie.MeasureT-loop
-μ-loop bytes start length n from left₀ at₀ left at = length - at
+pass-windows-requires : tie.Need-pass-windows-requires
+pass-windows-requires c κs = search needs
 
-loop-holds : tie.Need-loop-holds Inv-loop μ-loop
-loop-holds c = refl
-
-span-window-requires : tie.Need-span-window-requires Inv-loop μ-loop
+span-window-requires : tie.Need-span-window-requires
 span-window-requires c κs = search needs
 
-nth-in-window-requires : tie.Need-nth-in-window-requires Inv-loop μ-loop
+nth-in-window-requires : tie.Need-nth-in-window-requires
 nth-in-window-requires c κs = search needs
 
-enum-known-seen : tie.Need-enum-known-seen Inv-loop μ-loop
+enum-known-seen : tie.Need-enum-known-seen
 enum-known-seen c = search needs
 
-add-position : tie.Need-add-position Inv-loop μ-loop
+add-position : tie.Need-add-position
 add-position c =
     let e = c .before .before .before in
     omega (arith, seen-there _ _ _ (sym (e .nth-in-window .ensures) ∙ c .before .seen .given .1) .inside, length-bits 32 (e .before .span-window .result))
 
-returns : tie.Need-returns Inv-loop μ-loop
-returns c =
-    let e = c .before .before .before in
-    ap given (turn-there _ _ _ _ _ (window-flags _ _ _ _ _ (e .before .span-window .ensures)) (seen-there _ _ _ (sym (e .nth-in-window .ensures) ∙ c .before .seen .given .1))
-    ∙ e .before .before .before .loop .inv)
-
-enum-known-seen-2 : tie.Need-enum-known-seen-2 Inv-loop μ-loop
+enum-known-seen-2 : tie.Need-enum-known-seen-2
 enum-known-seen-2 c = search needs
 
-sub-left : tie.Need-sub-left Inv-loop μ-loop
-sub-left c =
+sub-rest : tie.Need-sub-rest
+sub-rest c =
     let e = c .before .before .before in
     let only = seen-only _ _ _ (sym (e .nth-in-window .ensures) ∙ c .before .seen2 .given .1) in
     omega (arith, only .few, only .number)
 
-add-at : tie.Need-add-at Inv-loop μ-loop
-add-at c = search needs
+add-next : tie.Need-add-next
+add-next c = search needs
 
-loop-less : tie.Need-loop-less Inv-loop μ-loop
-loop-less c = search needs
-
-loop-again : tie.Need-loop-again Inv-loop μ-loop
-loop-again c =
+search-last-requires : tie.Need-search-last-requires
+search-last-requires c κs =
     let e = c .before .before .before in
-    turn-only _ _ _ _ _ (window-flags _ _ _ _ _ (e .before .span-window .ensures)) (seen-only _ _ _ (sym (e .nth-in-window .ensures) ∙ c .before .seen2 .given .1))
-    ∙ e .before .before .before .loop .inv
+    let few = seen-only _ _ _ (sym (e .nth-in-window .ensures) ∙ c .before .seen2 .given .1) .few in
+    omega (arith, e .before .before .pass-windows .ensures .stops (subst (λ (x : ℕ). count (bits 32 x) ≤ e .before .before .pass-windows .result .left) (e .before .span-window .ensures) few))
 
-returns-2 : tie.Need-returns-2 Inv-loop μ-loop
-returns-2 c = ap given (turn-end _ _ _ _ _ (c .loop-test .left) ∙ c .before .loop .inv)
+returns-2 : tie.Need-returns-2
+returns-2 c =
+    let e = c .before .before .before in
+    ap given (turn-there _ _ _ _ _ (window-flags _ _ _ _ _ (e .before .span-window .ensures)) (seen-there _ _ _ (sym (e .nth-in-window .ensures) ∙ c .before .seen .given .1))
+    ∙ e .before .before .pass-windows .ensures .same)
+
+returns-3 : tie.Need-returns-3
+returns-3 c =
+    let e = c .before .before .before .before in
+    c .search-last .ensures
+    ∙ ap given (turn-only _ _ _ _ _ (window-flags _ _ _ _ _ (e .before .span-window .ensures)) (seen-only _ _ _ (sym (e .nth-in-window .ensures) ∙ c .before .before .seen2 .given .1))
+    ∙ e .before .before .pass-windows .ensures .same)
 
 pub search-from-spec : {M : Type 1} → statement M
 search-from-spec =
     tie.close
     (tie.spec
-    Inv-loop
-    μ-loop
-    loop-holds
+    returns
+    pass-windows-requires
     span-window-requires
     nth-in-window-requires
     enum-known-seen
     add-position
-    returns
     enum-known-seen-2
-    sub-left
-    add-at
-    loop-less
-    loop-again
-    returns-2)
+    sub-rest
+    add-next
+    search-last-requires
+    returns-2
+    returns-3)
