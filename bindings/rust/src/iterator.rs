@@ -170,8 +170,8 @@ impl<'a> TrueIdxIter<'a> {
         Ok(TrueIdxIter { cursor, ones_end: 0, adjacent: 0 })
     }
 
-    /// The next one by a call. Where it stands right behind the last, more may follow: a second call says how many, and the
-    /// positions of those need none.
+    /// The next one by a call. After two that stood right behind the one before more may follow: a second call says how many,
+    /// and the positions of those need none.
     fn next_by_call(&mut self) -> Option<usize> {
         let place = self.cursor.record.place;
         let position = self.cursor.step(calls::true_idx_next)?.value as usize;
