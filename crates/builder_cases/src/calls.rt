@@ -61,11 +61,25 @@ pub fn into_opt_validity(b: BitmapBuilder, buf: &mut [u8]) -> Answer {
 }
 
 pub fn append(k: Case, b: BitmapBuilder, buf: &mut [u8], bytes: &[u8], idxs: &[u32]) -> Pushed {
+    if k.op < 3 {
+        append_own(k, b, buf)
+    } else {
+        append_lent(k, b, buf, bytes, idxs)
+    }
+}
+
+fn append_own(k: Case, b: BitmapBuilder, buf: &mut [u8]) -> Pushed {
     let op = k.op;
     match op {
         0 => b.push(buf, k.flag),
         1 => b.extend_constant(buf, k.n, k.flag),
-        2 => b.push_word_with_len_unchecked(buf, k.word, k.n),
+        _ => b.push_word_with_len_unchecked(buf, k.word, k.n),
+    }
+}
+
+fn append_lent(k: Case, b: BitmapBuilder, buf: &mut [u8], bytes: &[u8], idxs: &[u32]) -> Pushed {
+    let op = k.op;
+    match op {
         3 => b.extend_from_slice(buf, bytes, k.start, k.n),
         4 => b.extend_each_repeated_from_slice_unchecked(buf, bytes, k.start, k.n, k.repeats),
         5 => b.subslice_extend_from_bitmap(buf, k.mask, bytes, k.start, k.n),

@@ -137,14 +137,28 @@ fn combine(
     out: &mut [u8],
 ) -> State {
     match letter {
+        b'n' => state::combined(s, bitmap_ops::not(x, xs, out)),
+        b'j' => state::combined(s, bitmap_ops::select_constant(x, xs, y, ys, false, out)),
+        b'k' => state::combined(s, bitmap_ops::select_constant(x, xs, y, ys, true, out)),
+        _ => of_two(s, letter, x, xs, y, ys, out),
+    }
+}
+
+fn of_two(
+    s: State,
+    letter: u8,
+    x: Bitmap,
+    xs: &[u8],
+    y: Bitmap,
+    ys: &[u8],
+    out: &mut [u8],
+) -> State {
+    match letter {
         b'a' => state::combined(s, bitmap_ops::and(x, xs, y, ys, out)),
         b'd' => state::combined(s, bitmap_ops::and_not(x, xs, y, ys, out)),
         b'o' => state::combined(s, bitmap_ops::or(x, xs, y, ys, out)),
         b'q' => state::combined(s, bitmap_ops::or_not(x, xs, y, ys, out)),
         b'x' => state::combined(s, bitmap_ops::xor(x, xs, y, ys, out)),
-        b'n' => state::combined(s, bitmap_ops::not(x, xs, out)),
-        b'j' => state::combined(s, bitmap_ops::select_constant(x, xs, y, ys, false, out)),
-        b'k' => state::combined(s, bitmap_ops::select_constant(x, xs, y, ys, true, out)),
         _ => s,
     }
 }

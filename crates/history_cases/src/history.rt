@@ -8,10 +8,10 @@ use crate::steps;
 use crate::steps::Step;
 use crate::tables;
 
-pub fn history(list: &[u8], lent: &[u8], a: &mut [u8], b: &mut [u8]) -> State {
+pub fn history(list: [u8; 132], lent: &[u8], a: &mut [u8], b: &mut [u8]) -> State {
     tables::paint(27, a);
     tables::paint(27, b);
-    run(list, lent, a, b)
+    run(&list[0..132], lent, a, b)
 }
 
 fn run(list: &[u8], lent: &[u8], a: &mut [u8], b: &mut [u8]) -> State {

@@ -30,6 +30,19 @@ pub struct Step {
     pub z: usize,
 }
 
+// The steps that are written so, in room for twelve; those behind them are zeros, and do nothing. They are copied, so that the table
+// lends nothing but them: that keeps its check short.
+pub fn history(list: &[u8]) -> [u8; 132] {
+    let size = list.len() % 133;
+    let mut bytes = [0u8; 132];
+    let mut i = 0;
+    while i < size {
+        bytes[i] = list[i];
+        i += 1;
+    }
+    bytes
+}
+
 fn byte(steps: &[u8], at: usize) -> u8 {
     if at < steps.len() { steps[at] } else { 0 }
 }

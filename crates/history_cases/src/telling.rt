@@ -1,4 +1,5 @@
 // What is printed of histories, and how many of a group are as its first one.
+use crate::history;
 use crate::state::State;
 use crate::table;
 use crate::tables;
@@ -105,7 +106,7 @@ fn tallied(t: Tally, model: Told, told: Told) -> Tally {
 }
 
 fn line(name: &[u8], i: usize, lent: &[u8], a: &mut [u8], b: &mut [u8], out: &mut [u8]) -> Told {
-    let s = table::nth(i, lent, a, b);
+    let s = history::history(table::nth(i), lent, a, b);
     text::label(name);
     text::number(i);
     text::label(b" refused");

@@ -119,16 +119,38 @@ pub fn combine(
     c: &[u8],
     out: &mut [u8],
 ) -> Answer {
+    if op < 5 {
+        combined(of_two(op, x, a, y, b, out))
+    } else {
+        combined(of_others(op, x, a, y, b, z, c, out))
+    }
+}
+
+fn of_two(op: usize, x: Bitmap, a: &[u8], y: Bitmap, b: &[u8], out: &mut [u8]) -> Combined {
     match op {
-        0 => combined(bitmap_ops::and(x, a, y, b, out)),
-        1 => combined(bitmap_ops::and_not(x, a, y, b, out)),
-        2 => combined(bitmap_ops::or(x, a, y, b, out)),
-        3 => combined(bitmap_ops::or_not(x, a, y, b, out)),
-        4 => combined(bitmap_ops::xor(x, a, y, b, out)),
-        5 => combined(bitmap_ops::not(x, a, out)),
-        6 => combined(bitmap_ops::select(x, a, y, b, z, c, out)),
-        7 => combined(bitmap_ops::select_constant(x, a, y, b, false, out)),
-        _ => combined(bitmap_ops::select_constant(x, a, y, b, true, out)),
+        0 => bitmap_ops::and(x, a, y, b, out),
+        1 => bitmap_ops::and_not(x, a, y, b, out),
+        2 => bitmap_ops::or(x, a, y, b, out),
+        3 => bitmap_ops::or_not(x, a, y, b, out),
+        _ => bitmap_ops::xor(x, a, y, b, out),
+    }
+}
+
+fn of_others(
+    op: usize,
+    x: Bitmap,
+    a: &[u8],
+    y: Bitmap,
+    b: &[u8],
+    z: Bitmap,
+    c: &[u8],
+    out: &mut [u8],
+) -> Combined {
+    match op {
+        5 => bitmap_ops::not(x, a, out),
+        6 => bitmap_ops::select(x, a, y, b, z, c, out),
+        7 => bitmap_ops::select_constant(x, a, y, b, false, out),
+        _ => bitmap_ops::select_constant(x, a, y, b, true, out),
     }
 }
 

@@ -116,20 +116,33 @@ fn far_zeroed(out: &mut [u8]) {
     }
 }
 
+// Zeros, in functions of their own: a large array that is written out where it is lent takes the check seconds.
+fn long_bytes() -> [u8; 524352] {
+    [0; 524352]
+}
+
+fn long_output() -> [u8; 524288] {
+    [0; 524288]
+}
+
 fn run_long() {
-    let mut space = [0u8; 524352];
+    let mut space = long_bytes();
     let bytes: &mut [u8] = &mut space;
-    let mut space_out = [0u8; 524288];
+    let mut space_out = long_output();
     let out: &mut [u8] = &mut space_out;
     tables::paint(13, bytes);
     tables::paint(7, out);
+    long_lines(bytes, out);
+    short_line(out);
+}
+
+fn long_lines(bytes: &[u8], out: &mut [u8]) {
     long_line(4194303, 0, bytes, out);
     long_line(4194304, 0, bytes, out);
     long_line(4194304, 5, bytes, out);
     long_line(4194305, 0, bytes, out);
     long_line(64, 4194304, bytes, out);
     long_line(64, 4194305, bytes, out);
-    short_line(out);
 }
 
 // long LENGTH START: the calls on one long mask, and on it twice.
