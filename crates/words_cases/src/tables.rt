@@ -1,4 +1,5 @@
 // The values that the cases run over, each by its number: words, starts, lengths, sizes; and patterns of bytes.
+ghost use Prim.Native.Nat.{_≤_};
 use words::ops::Op;
 
 pub const LARGEST: usize = 18446744073709551615;
@@ -160,10 +161,17 @@ fn turned(byte: u8, i: usize, flag: usize) -> u8 {
     }
 }
 
-// A pattern in the first n bytes, in which the flag `flag` is turned over: no flag, where it is past the end.
+// How many bytes are painted where n are lent: 64 more, so that a call that looked past the end would answer something else.
+fn past(n: usize) -> usize
+    ensures { λ r. ⌜ r ≤ 1250 ⌝ }
+{
+    if n < 1186 { n + 64 } else { 1250 }
+}
+
+// A pattern in the first n bytes and behind them, in which the flag `flag` is turned over: no flag, where it is past the end.
 pub fn painted(kind: usize, flag: usize, n: usize) -> [u8; 1250] {
     let mut out = [0u8; 1250];
-    let size = n % 1251;
+    let size = past(n);
     let mut i = 0;
     while i < size {
         out[i] = turned(pattern(kind, i), i, flag);

@@ -10,6 +10,9 @@ Inv-loop kind flag n out₀ size i₀ out i = i ≤ size
 abbrev μ-loop : tie.MeasureT-loop
 μ-loop kind flag n out₀ size i₀ out i = size - i
 
+past-requires : tie.Need-past-requires Inv-loop μ-loop
+past-requires c κs = search needs
+
 loop-holds : tie.Need-loop-holds Inv-loop μ-loop
 loop-holds c = search needs
 
@@ -40,6 +43,7 @@ painted-spec =
     (tie.spec
     Inv-loop
     μ-loop
+    past-requires
     loop-holds
     pattern-requires
     turned-requires
