@@ -1,3 +1,4 @@
 -- The laws of the crate.
+pub mod CallLaws
 pub mod NumberLaws
 pub mod RecordLaws

@@ -79,7 +79,8 @@ pub fn store_at(out: &mut [u8], at: usize, w: u64)
 // The same where there is room for all eight; else nothing is written. For callers that know that there is: a part of a word,
 // which is written byte by byte, would make the code that stands in their bodies several times as long.
 pub fn store_whole(out: &mut [u8], at: usize, w: u64)
-    ensures { λ _. ⌜ flagsOf (now (out .exit)) ≡ cond (leb (at + 8) (length (now (out .entry)))) (overAt (flagsOf (now (out .entry))) (8 * at) (wordFlags w)) (flagsOf (now (out .entry))) ⌝ }
+    ensures { λ _. ⌜ flagsOf (now (out .exit)) ≡ cond (leb (at + 8) (length (now (out .entry))))
+        (overAt (flagsOf (now (out .entry))) (8 * at) (wordFlags w)) (flagsOf (now (out .entry))) ⌝ }
 {
     if out.len() < 8 {
         return;

@@ -1,4 +1,6 @@
--- The call answers by its definition, and the encoding of equal answers is equal: by congruence.
+-- The call answers by its definition at the builder that came in, and the encoding of equal answers is equal (`append-out`).
+use Rattle.masks.specs.Appends.{extendRepeated}
+use Rattle.capi.proofs.CallLaws.{append-out}
 use borrow.Author.Needs.{needs}
 use Rattle.capi.proofs.builder.pw_extend_each_repeated_from_slice_unchecked.Statement.{
   statement,
@@ -19,7 +21,11 @@ same-length : tie.Need-same-length
 same-length c = search needs
 
 returns : tie.Need-returns
-returns c = (cc, cc)
+returns c =
+    let did = c .before .before .before in
+    let own = did .before .before in
+    let a = own .before .before .before .args in
+    append-out (extendRepeated (a .bytes .now) (a .start) (a .n) (a .repeats)) _ _ (a .buf .now) _ _ _ (own .builder-in .ensures) (did .extend-each-repeated-from-slice-unchecked .ensures .0) (did .extend-each-repeated-from-slice-unchecked .ensures .1) (c .pushed-out .ensures)
 
 pub pw-extend-each-repeated-from-slice-unchecked-spec : {M : Type 1} → statement M
 pw-extend-each-repeated-from-slice-unchecked-spec =

@@ -1,4 +1,6 @@
--- The call answers by its definition, and the encoding of equal answers is equal: by congruence.
+-- The call answers by its definition at the builder that came in, and the encoding of equal answers is equal (`append-out`).
+use Rattle.masks.specs.Appends.{extendOptGather}
+use Rattle.capi.proofs.CallLaws.{append-out}
 use borrow.Author.Needs.{needs}
 use Rattle.capi.proofs.builder.pw_opt_gather_extend_from_slice.Statement.{statement}
 use Rattle.capi.proofs.builder.pw_opt_gather_extend_from_slice.Tie as tie
@@ -16,7 +18,11 @@ same-length : tie.Need-same-length
 same-length c = search needs
 
 returns : tie.Need-returns
-returns c = (cc, cc)
+returns c =
+    let did = c .before .before .before in
+    let own = did .before .before in
+    let a = own .before .before .before .before .args in
+    append-out (extendOptGather (a .bytes .now) (a .start) (a .n) (a .idxs .now)) _ _ (a .buf .now) _ _ _ (own .builder-in .ensures) (did .opt-gather-extend-from-slice .ensures .0) (did .opt-gather-extend-from-slice .ensures .1) (c .pushed-out .ensures)
 
 pub pw-opt-gather-extend-from-slice-spec : {M : Type 1} → statement M
 pw-opt-gather-extend-from-slice-spec =

@@ -1,6 +1,9 @@
 -- The tests of the number pick the operation of that number in the list; each call then answers by its own definition.
+use mathlib.Core.Path.{ap}
 use borrow.Author.Needs.{needs}
 use Rattle.capi.specs.Answers.{asMask, numbered}
+use Rattle.capi.specs.Combine.{opNumbered}
+use Rattle.capi.proofs.CallLaws.{combine-out}
 use Rattle.capi.proofs.NumberLaws.{past-five, past-numbered}
 use Rattle.capi.proofs.combine.pw_combine.Statement.{statement}
 use Rattle.capi.proofs.combine.pw_combine.Tie as tie
@@ -22,7 +25,12 @@ same-length c = search needs
 
 returns : tie.Need-returns
 unfolding numbered
-returns c = (rw (c .before .before .before .before .before .if1 .taken) (cc), rw (c .before .before .before .before .before .if1 .taken) (cc))
+returns c =
+    let did = c .before .before .before in
+    let test = did .before .before in
+    let two = test .before in
+    combine-out _ _ _ _ _ _ _ _ _ _ _ _ (ap opNumbered (test .if1 .taken)) (two .before .mask-in .ensures) (two .mask-in2 .ensures)
+    (did .and .ensures .0) (did .and .ensures .1) (c .combined-out .ensures)
 
 and-not-requires : tie.Need-and-not-requires
 and-not-requires c κs = search needs
@@ -35,7 +43,12 @@ same-length-2 c = search needs
 
 returns-2 : tie.Need-returns-2
 unfolding numbered
-returns-2 c = (rw (c .before .before .before .before .before .if2 .taken) (cc), rw (c .before .before .before .before .before .if2 .taken) (cc))
+returns-2 c =
+    let did = c .before .before .before in
+    let test = did .before .before in
+    let two = test .before .before in
+    combine-out _ _ _ _ _ _ _ _ _ _ _ _ (ap opNumbered (test .if2 .taken)) (two .before .mask-in .ensures) (two .mask-in2 .ensures)
+    (did .and-not .ensures .0) (did .and-not .ensures .1) (c .combined-out2 .ensures)
 
 or-requires : tie.Need-or-requires
 or-requires c κs = search needs
@@ -48,7 +61,12 @@ same-length-3 c = search needs
 
 returns-3 : tie.Need-returns-3
 unfolding numbered
-returns-3 c = (rw (c .before .before .before .before .before .if3 .taken) (cc), rw (c .before .before .before .before .before .if3 .taken) (cc))
+returns-3 c =
+    let did = c .before .before .before in
+    let test = did .before .before in
+    let two = test .before .before .before in
+    combine-out _ _ _ _ _ _ _ _ _ _ _ _ (ap opNumbered (test .if3 .taken)) (two .before .mask-in .ensures) (two .mask-in2 .ensures)
+    (did .or .ensures .0) (did .or .ensures .1) (c .combined-out3 .ensures)
 
 or-not-requires : tie.Need-or-not-requires
 or-not-requires c κs = search needs
@@ -61,7 +79,12 @@ same-length-4 c = search needs
 
 returns-4 : tie.Need-returns-4
 unfolding numbered
-returns-4 c = (rw (c .before .before .before .before .before .if4 .taken) (cc), rw (c .before .before .before .before .before .if4 .taken) (cc))
+returns-4 c =
+    let did = c .before .before .before in
+    let test = did .before .before in
+    let two = test .before .before .before .before in
+    combine-out _ _ _ _ _ _ _ _ _ _ _ _ (ap opNumbered (test .if4 .taken)) (two .before .mask-in .ensures) (two .mask-in2 .ensures)
+    (did .or-not .ensures .0) (did .or-not .ensures .1) (c .combined-out4 .ensures)
 
 xor-requires : tie.Need-xor-requires
 xor-requires c κs = search needs
@@ -74,7 +97,12 @@ same-length-5 c = search needs
 
 returns-5 : tie.Need-returns-5
 unfolding numbered
-returns-5 c = (rw (c .before .before .before .before .before .if5 .taken) (cc), rw (c .before .before .before .before .before .if5 .taken) (cc))
+returns-5 c =
+    let did = c .before .before .before in
+    let test = did .before .before in
+    let two = test .before .before .before .before .before in
+    combine-out _ _ _ _ _ _ _ _ _ _ _ _ (ap opNumbered (test .if5 .taken)) (two .before .mask-in .ensures) (two .mask-in2 .ensures)
+    (did .xor .ensures .0) (did .xor .ensures .1) (c .combined-out5 .ensures)
 
 no-mask-requires : tie.Need-no-mask-requires
 no-mask-requires c κs = search needs

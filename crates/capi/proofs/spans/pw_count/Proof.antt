@@ -1,6 +1,12 @@
 -- The tests of the number pick the operation of that number in the list; each call then answers by its own definition.
+use mathlib.Core.Path.{ap}
+use mathlib.Core.Bool.{true, false}
+use Rattle.words.specs.Ends.{leading, trailing}
+use Rattle.masks.specs.Utils.{zeros}
 use borrow.Author.Needs.{needs}
 use Rattle.capi.specs.Answers.{asNumber, numbered}
+use Rattle.capi.specs.Spans.{countNumbered}
+use Rattle.capi.proofs.CallLaws.{count-out}
 use Rattle.capi.proofs.NumberLaws.{past-five, past-numbered}
 use Rattle.capi.proofs.spans.pw_count.Statement.{statement}
 use Rattle.capi.proofs.spans.pw_count.Tie as tie
@@ -13,7 +19,8 @@ counted-out-requires c κs = search needs
 
 returns : tie.Need-returns
 unfolding numbered
-returns c = rw (c .before .before .if1 .taken) (cc)
+returns c =
+    count-out _ zeros _ _ _ _ _ _ (ap countNumbered (c .before .before .if1 .taken)) (c .before .count-zeros .ensures) (c .counted-out .ensures)
 
 leading-zeros-requires : tie.Need-leading-zeros-requires
 leading-zeros-requires c κs = search needs
@@ -23,7 +30,8 @@ counted-out-requires-2 c κs = search needs
 
 returns-2 : tie.Need-returns-2
 unfolding numbered
-returns-2 c = rw (c .before .before .if2 .taken) (cc)
+returns-2 c =
+    count-out _ (leading false) _ _ _ _ _ _ (ap countNumbered (c .before .before .if2 .taken)) (c .before .leading-zeros .ensures) (c .counted-out2 .ensures)
 
 leading-ones-requires : tie.Need-leading-ones-requires
 leading-ones-requires c κs = search needs
@@ -33,7 +41,8 @@ counted-out-requires-3 c κs = search needs
 
 returns-3 : tie.Need-returns-3
 unfolding numbered
-returns-3 c = rw (c .before .before .if3 .taken) (cc)
+returns-3 c =
+    count-out _ (leading true) _ _ _ _ _ _ (ap countNumbered (c .before .before .if3 .taken)) (c .before .leading-ones .ensures) (c .counted-out3 .ensures)
 
 trailing-zeros-requires : tie.Need-trailing-zeros-requires
 trailing-zeros-requires c κs = search needs
@@ -43,7 +52,8 @@ counted-out-requires-4 c κs = search needs
 
 returns-4 : tie.Need-returns-4
 unfolding numbered
-returns-4 c = rw (c .before .before .if4 .taken) (cc)
+returns-4 c =
+    count-out _ (trailing false) _ _ _ _ _ _ (ap countNumbered (c .before .before .if4 .taken)) (c .before .trailing-zeros .ensures) (c .counted-out4 .ensures)
 
 trailing-ones-requires : tie.Need-trailing-ones-requires
 trailing-ones-requires c κs = search needs
@@ -53,7 +63,8 @@ counted-out-requires-5 c κs = search needs
 
 returns-5 : tie.Need-returns-5
 unfolding numbered
-returns-5 c = rw (c .before .before .if5 .taken) (cc)
+returns-5 c =
+    count-out _ (trailing true) _ _ _ _ _ _ (ap countNumbered (c .before .before .if5 .taken)) (c .before .trailing-ones .ensures) (c .counted-out5 .ensures)
 
 number-of-requires : tie.Need-number-of-requires
 number-of-requires c κs = search needs

@@ -37,7 +37,8 @@ returns-2 : tie.Need-returns-2
 returns-2 c =
     let e = c .before in
     ap given (back-none _ _ 0 (omega arith)
-    ∙ turn-down _ _ _ _ _ _ (record { low = omega arith; inside = omega arith; near = omega arith }) (e .before .span-window .ensures) _ _ (e .ones-in-window .ensures) (c .if1 .left))
+    ∙ turn-down _ _ _ _ _ _ (record { low = omega arith; inside = omega arith; near = omega arith }) (e .before .span-window .ensures) _ _
+    (e .ones-in-window .ensures) (c .if1 .left))
 
 pub search-first-spec : {M : Type 1} → statement M
 search-first-spec =

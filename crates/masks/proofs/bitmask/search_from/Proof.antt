@@ -47,7 +47,8 @@ search-last-requires : tie.Need-search-last-requires
 search-last-requires c κs =
     let e = c .before .before .before in
     let few = seen-only _ _ _ (sym (e .nth-in-window .ensures) ∙ c .before .seen2 .given .1) .few in
-    omega (arith, e .before .before .pass-windows .ensures .stops (subst (λ (x : ℕ). count (bits 32 x) ≤ e .before .before .pass-windows .result .left) (e .before .span-window .ensures) few))
+    let passed = e .before .before .pass-windows in
+    omega (arith, passed .ensures .stops (subst (λ (x : ℕ). count (bits 32 x) ≤ passed .result .left) (e .before .span-window .ensures) few))
 
 returns-2 : tie.Need-returns-2
 returns-2 c =
@@ -59,7 +60,8 @@ returns-3 : tie.Need-returns-3
 returns-3 c =
     let e = c .before .before .before .before in
     c .search-last .ensures
-    ∙ ap given (turn-only _ _ _ _ _ (window-flags _ _ _ _ _ (e .before .span-window .ensures)) (seen-only _ _ _ (sym (e .nth-in-window .ensures) ∙ c .before .before .seen2 .given .1))
+    ∙ ap given (turn-only _ _ _ _ _ (window-flags _ _ _ _ _ (e .before .span-window .ensures))
+    (seen-only _ _ _ (sym (e .nth-in-window .ensures) ∙ c .before .before .seen2 .given .1))
     ∙ e .before .before .pass-windows .ensures .same)
 
 pub search-from-spec : {M : Type 1} → statement M

@@ -34,7 +34,8 @@ returns c =
 returns-2 : tie.Need-returns-2
 returns-2 c =
     let e = c .before .before in
-    ap given (turn-last _ _ _ _ _ _ _ (window-flags _ _ _ _ _ (e .before .span-window .ensures)) (seen-only _ _ _ (sym (e .nth-in-window .ensures) ∙ c .enum-told .given .1)) (omega arith))
+    ap given (turn-last _ _ _ _ _ _ _ (window-flags _ _ _ _ _ (e .before .span-window .ensures))
+    (seen-only _ _ _ (sym (e .nth-in-window .ensures) ∙ c .enum-told .given .1)) (omega arith))
 
 pub search-last-spec : {M : Type 1} → statement M
 search-last-spec =

@@ -62,7 +62,8 @@ returns-2 c =
     let s = known .before in
     push-full _ (s .args .buf .now) _ _ _ _ (s .pre .0) (m .before .low-flags .ensures) (m .behind .ensures) _ _ _
     (t .if1 .left) (c .down .ok) (c .down .ensures) (c .before .before .ones-in-word .ensures)
-    (λ i. known .slice-known .given i .fits) (λ i. c .before .before .before .slice-known2 .given i .fits) (word-stored _ _ _ _ _ _ (s .pre .1) (omega (arith, t .if1 .left)) (put .store-whole .ensures))
+    (λ i. known .slice-known .given i .fits) (λ i. c .before .before .before .slice-known2 .given i .fits)
+    (word-stored _ _ _ _ _ _ (s .pre .1) (omega (arith, t .if1 .left)) (put .store-whole .ensures))
 
 pub push-flags-spec : {M : Type 1} → statement M
 push-flags-spec =
