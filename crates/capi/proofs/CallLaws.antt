@@ -30,9 +30,10 @@ append-out a b own buf out p r e answer bytes encoded =
 pub combine-out : (o : Option Op) (op : Op) (x a y b : Bitmap) (left right out written : List ℕ) (p : Answer (Unit {0}) Bitmap) (r : MaskAnswer)
     → o ≡ some op → x ≡ a → y ≡ b → p ≡ pairOf op x left y right out → written ≡ pairBytes op x left y right out → r ≡ asMask p
     → (r ≡ asMask (combineOf o a left b right out)) × (written ≡ combineBytes o a left b right out)
-combine-out o op x a y b left right out written p r e ex ey answer bytes encoded =
-    (encoded ∙ ap asMask (answer ∙ ap₂ (λ (s t : Bitmap). pairOf op s left t right out) ex ey ∙ ap (λ (z : Option Op). combineOf z a left b right out) (sym e)),
-    bytes ∙ ap₂ (λ (s t : Bitmap). pairBytes op s left t right out) ex ey ∙ ap (λ (z : Option Op). combineBytes z a left b right out) (sym e))
+combine-out o op x a y b left right out written p r e ex ey answer bytes encoded = (
+  encoded ∙ ap asMask (answer ∙ ap₂ (λ (s t : Bitmap). pairOf op s left t right out) ex ey ∙ ap (λ (z : Option Op). combineOf z a left b right out) (sym e)),
+  bytes ∙ ap₂ (λ (s t : Bitmap). pairBytes op s left t right out) ex ey ∙ ap (λ (z : Option Op). combineBytes z a left b right out) (sym e),
+)
 
 -- a count that has a number
 pub count-out : (o : Option (List Bool → ℕ)) (count : List Bool → ℕ) (bytes : List ℕ) (start n address : ℕ) (p : Answer (Unit {0}) ℕ) (r : Number)
