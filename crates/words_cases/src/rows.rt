@@ -1,4 +1,5 @@
-// The sections: the lines of each, and of a line the label, the head and the cells.
+// The sections, numbered in the order in which they are printed: how many lines each has, and of a line the label, the head (what
+// the line is about) and the cells (the answers). The labels below name them.
 use crate::bytes;
 use crate::combining;
 use crate::comparing;
@@ -8,6 +9,7 @@ use crate::text;
 use crate::words_only;
 use crate::writing;
 
+// The lines of each section.
 const LINES: [usize; 32] = [
     1,
     13,
@@ -43,6 +45,7 @@ const LINES: [usize; 32] = [
     6,
 ];
 
+// The cells of a line of each section.
 const CELLS: [usize; 32] = [
     2,
     10,
