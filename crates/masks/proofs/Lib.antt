@@ -24,6 +24,7 @@ pub mod Listing
 pub mod MaskLaws
 pub mod PairPlain
 pub mod PartLaws
+pub mod PositionLaws
 pub mod PushLaws
 pub mod Refusals
 pub mod RepeatLaws

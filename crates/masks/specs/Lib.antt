@@ -16,6 +16,7 @@ pub mod Frozen
 pub mod History
 pub mod Iterator
 pub mod Mask
+pub mod Positions
 pub mod Refusals
 pub mod Search
 pub mod SliceIterator

@@ -15,6 +15,7 @@ mod extend;
 mod frozen;
 mod gather;
 pub mod iterator;
+mod positions;
 mod repeat;
 mod shortcuts;
 pub mod slice_iterator;

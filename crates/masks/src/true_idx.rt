@@ -35,6 +35,12 @@ pub enum TrueIdx {
     Refused(u8, TrueIdxIter),
 }
 
+// How many positions were written, and the cursor behind the last of them; where there was room for more, the cursor at the length.
+pub enum TrueChunk {
+    Wrote(usize, TrueIdxIter),
+    Refused(u8, TrueIdxIter),
+}
+
 fn stated_failure(length: usize, mask: Bitmap, bytes: &[u8]) -> u8
     ensures { λ r. ⌜ r ≡ firstFailed (newTrueChecks length (Present mask) (now (bytes .entry))) ⌝ }
 {
@@ -73,7 +79,7 @@ fn first_true(length: usize, mask: Optional) -> TrueIdxIter
     }
 }
 
-fn next_failure(cursor: TrueIdxIter, size: usize) -> u8
+pub(crate) fn next_failure(cursor: TrueIdxIter, size: usize) -> u8
     ensures { λ r. ⌜ r ≡ firstFailed (trueChecks cursor size) ⌝ }
 {
     if cursor.masked {
