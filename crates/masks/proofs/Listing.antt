@@ -8,7 +8,7 @@ use lib.Dec.{leb}
 use borrow.Author.Tests.{le-leb}
 use Rattle.masks.specs.Answer.{Answer, given}
 use Rattle.masks.specs.Checks.{Check, check, earlier, firstFailed}
-use Rattle.masks.specs.Cursor.{Step, item, ended, itemThen, listing}
+use Rattle.masks.specs.Cursor.{Step, item, ended, itemThen, listing, cursorOf, afterCalls}
 use Rattle.masks.proofs.CheckLaws.{both-left, passed-before}
 
 -- one call from c, where Ok says that its checks pass: the first item of what is left, and a cursor with the others before it
@@ -18,13 +18,21 @@ pub data Moves {C A : Type 0} (next : C → Answer C (Step C A)) (left : C → L
   ends : (d : C) → next c ≡ given (ended d) → left c ≡ [] → Moves next left Ok far c
 
 module _ {C A : Type 0} (next : C → Answer C (Step C A)) where
-  an-item : (k : ℕ) (c d : C) (a : A) → next c ≡ given (item a d) → listing next (suc k) c ≡ a ∷ listing next k d
+  pub an-item : (k : ℕ) (c d : C) (a : A) → next c ≡ given (item a d) → listing next (suc k) c ≡ a ∷ listing next k d
   unfolding listing
   an-item k c d a e = ap (itemThen (listing next k)) e
 
-  the-end : (k : ℕ) (c d : C) → next c ≡ given (ended d) → listing next (suc k) c ≡ []
+  pub the-end : (k : ℕ) (c d : C) → next c ≡ given (ended d) → listing next (suc k) c ≡ []
   unfolding listing
   the-end k c d e = ap (itemThen (listing next k)) e
+
+  pub behind-item : (k : ℕ) (c d : C) (a : A) → next c ≡ given (item a d) → afterCalls next (suc k) c ≡ afterCalls next k d
+  unfolding afterCalls
+  behind-item k c d a e = ap (λ (x : Answer C (Step C A)). afterCalls next k (cursorOf x)) e
+
+  pub behind-end : (k : ℕ) (c d : C) → next c ≡ given (ended d) → afterCalls next (suc k) c ≡ afterCalls next k d
+  unfolding afterCalls
+  behind-end k c d e = ap (λ (x : Answer C (Step C A)). afterCalls next k (cursorOf x)) e
 
   pub lists : (left : C → List A) (Ok : C → Type 0) (far : C → ℕ) → ((c : C) → Ok c → Moves next left Ok far c)
       → (k : ℕ) (c : C) → Ok c → far c < k → listing next k c ≡ left c

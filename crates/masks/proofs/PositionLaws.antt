@@ -15,7 +15,7 @@ use Rattle.words.proofs.Bits.{length-bits}
 use Rattle.words.proofs.EndLaws.{leading-le}
 use Rattle.words.proofs.Windows.{bits-window, length-over, length-window, lt-or-le, over-append, over-enough, over-more, over-none, set-over, window-cut, window-drop, window-past}
 use Rattle.masks.specs.Frozen.{overFrom}
-use Rattle.masks.specs.Positions.{chunkPlace, leftOf}
+use Rattle.masks.specs.Positions.{placeBehind, leftOf}
 use Rattle.masks.specs.TrueIdx.{onesFrom, onesLeft, trueMoved}
 use Rattle.masks.specs.declared.true_idx.TrueIdxIter.{TrueIdxIter}
 use Rattle.masks.proofs.FrozenLaws.{overFrom-none}
@@ -367,39 +367,39 @@ at-over (x ∷ l) (y ∷ m) zero h g = refl
 at-over (x ∷ l) (y ∷ m) (suc k) h g = at-over l m k (omega arith) (omega arith)
 
 -- of k places, the last of which is written or not
-behind-many : (c : TrueIdxIter) (left : List ℕ) (k : ℕ) → k < length left → chunkPlace c left (suc k) ≡ getD left k 0 + 1
-unfolding chunkPlace
+pub behind-many : (c : TrueIdxIter) (left : List ℕ) (k : ℕ) → k < length left → placeBehind c left (suc k) ≡ getD left k 0 + 1
+unfolding placeBehind
 behind-many c left k h = rw (lt-ltb k (length left) h)
 
-behind-few : (c : TrueIdxIter) (left : List ℕ) (k : ℕ) → length left ≤ k → chunkPlace c left (suc k) ≡ c .length
-unfolding chunkPlace
+pub behind-few : (c : TrueIdxIter) (left : List ℕ) (k : ℕ) → length left ≤ k → placeBehind c left (suc k) ≡ c .length
+unfolding placeBehind
 behind-few c left k h = rw (le-ltb k (length left) h)
 
-behind-none : (c : TrueIdxIter) (left : List ℕ) → chunkPlace c left 0 ≡ c .place
-unfolding chunkPlace
+pub behind-none : (c : TrueIdxIter) (left : List ℕ) → placeBehind c left 0 ≡ c .place
+unfolding placeBehind
 behind-none c left = refl
 
 module _ (c : TrueIdxIter) (out : List ℕ) (count : ℕ) (old left : List ℕ) (p : out ≡ over old left) (q : count ≡ min (length old) (length left)) where
   same-room : length out ≡ length old
   same-room = ap length p ∙ length-over old left
 
-  pub place-few : count < length out → c .length ≡ chunkPlace c left (length old)
+  pub place-few : count < length out → c .length ≡ placeBehind c left (length old)
   place-few h = go (length old) (omega (arith, same-room))
     where
-      go : (k : ℕ) → length left < k → c .length ≡ chunkPlace c left k
+      go : (k : ℕ) → length left < k → c .length ≡ placeBehind c left k
       go zero g = absurd (omega arith)
       go (suc k) g = sym (behind-few c left k (omega arith))
 
-  pub place-none : length out ≤ count → count ≡ 0 → c .place ≡ chunkPlace c left (length old)
+  pub place-none : length out ≤ count → count ≡ 0 → c .place ≡ placeBehind c left (length old)
   place-none h e =
       let k : length old ≡ 0 = omega (arith, same-room) in
-      sym (ap (chunkPlace c left) k ∙ behind-none c left)
+      sym (ap (placeBehind c left) k ∙ behind-none c left)
 
-  pub place-last : (r : ℕ) → length out ≤ count → (count ≡ 0 → ⊥) → r ≡ getD out (count - 1) 0 → r + 1 ≡ chunkPlace c left (length old)
+  pub place-last : (r : ℕ) → length out ≤ count → (count ≡ 0 → ⊥) → r ≡ getD out (count - 1) 0 → r + 1 ≡ placeBehind c left (length old)
   place-last r h n e =
       let k : length old ≡ suc (count - 1) = omega (arith, same-room, n) in
       ap (λ (x : ℕ). x + 1) (e ∙ ap (λ (l : List ℕ). getD l (count - 1) 0) p ∙ at-over old left (count - 1) (omega (arith, n)) (omega (arith, n)))
-      ∙ sym (behind-many c left (count - 1) (omega (arith, n))) ∙ ap (chunkPlace c left) (sym k)
+      ∙ sym (behind-many c left (count - 1) (omega (arith, n))) ∙ ap (placeBehind c left) (sym k)
 
 -- ---- with a mask and without
 
@@ -435,8 +435,8 @@ module _ (c : TrueIdxIter) (bytes : List ℕ) where
       )
 
   -- what the answer tells
-  pub told : (k r place : ℕ) → r ≡ min k (length (leftOf c bytes)) → place ≡ chunkPlace c (leftOf c bytes) k
-      → _≡_ {A = ℕ × TrueIdxIter} (r, trueMoved c place) (length (take k (leftOf c bytes)), trueMoved c (chunkPlace c (leftOf c bytes) k))
+  pub told : (k r place : ℕ) → r ≡ min k (length (leftOf c bytes)) → place ≡ placeBehind c (leftOf c bytes) k
+      → _≡_ {A = ℕ × TrueIdxIter} (r, trueMoved c place) (length (take k (leftOf c bytes)), trueMoved c (placeBehind c (leftOf c bytes) k))
   told k r place e f = ap₂ {A = ℕ} (λ (x y : ℕ). (x, trueMoved c y)) (e ∙ sym (length-take k (leftOf c bytes))) f
 
 pub within-out : (out out′ left : List ℕ) (r : ℕ) → r ≡ min (length out) (length left) → out′ ≡ over out left → r ≤ length out′

@@ -133,7 +133,7 @@ none-left : (l : List Bool) (place : ℕ) → count (drop place l) ≡ 0 → one
 unfolding onesLeft
 none-left l place h = none-set place (drop place l) h
 
-accepted-at : (c : TrueIdxIter) (size q : ℕ) → firstFailed (trueChecks c size) ≡ 0 → q ≤ c .length → firstFailed (trueChecks (trueMoved c q) size) ≡ 0
+pub accepted-at : (c : TrueIdxIter) (size q : ℕ) → firstFailed (trueChecks c size) ≡ 0 → q ≤ c .length → firstFailed (trueChecks (trueMoved c q) size) ≡ 0
 unfolding trueChecks cursorChecks
 accepted-at c size q e h = go (c .masked) e
   where
@@ -150,17 +150,23 @@ unfolding trueFlags
 same-flags c bytes q = refl
 
 -- the call's answer, and what the cursor has before it
-abbrev answer-of : List ℕ → TrueIdxIter → Answer TrueIdxIter (Step TrueIdxIter ℕ)
+abbrev pub answer-of : List ℕ → TrueIdxIter → Answer TrueIdxIter (Step TrueIdxIter ℕ)
 answer-of bytes c = nextTrue c bytes
 
-abbrev left-of : List ℕ → TrueIdxIter → List ℕ
+abbrev pub left-of : List ℕ → TrueIdxIter → List ℕ
 left-of bytes c = onesLeft (trueFlags c bytes) (c .place)
 
-abbrev accepted : List ℕ → TrueIdxIter → Type 0
+abbrev pub accepted : List ℕ → TrueIdxIter → Type 0
 accepted bytes c = firstFailed (trueChecks c (length bytes)) ≡ 0
 
 abbrev far-of : TrueIdxIter → ℕ
 far-of c = c .length - c .place
+
+-- one call: the first position that is left, and a cursor with the others before it; or none, where nothing is left
+pub data NextOne (bytes : List ℕ) (c : TrueIdxIter) : Type 0 where
+  one-next : (p : ℕ) → c .place ≤ p → p < c .length → nextTrue c bytes ≡ given (item p (trueMoved c (p + 1))) → accepted bytes (trueMoved c (p + 1))
+      → left-of bytes c ≡ p ∷ left-of bytes (trueMoved c (p + 1)) → NextOne bytes c
+  none-next : nextTrue c bytes ≡ given (ended (trueMoved c (c .length))) → left-of bytes c ≡ [] → NextOne bytes c
 
 module _ (bytes : List ℕ) (c : TrueIdxIter) (ok : accepted bytes c) where
   stepped : nextTrue c bytes ≡ given (trueStep c (nthFrom (trueFlags c bytes) 0 (c .place)))
@@ -175,18 +181,24 @@ module _ (bytes : List ℕ) (c : TrueIdxIter) (ok : accepted bytes c) where
   unfolding trueStep
   to-end e = stepped ∙ ap (λ (o : Option ℕ). given (trueStep c o)) e
 
-  moves : Moves (answer-of bytes) (left-of bytes) (accepted bytes) far-of c
-  moves =
+  pub next-one : NextOne bytes c
+  next-one =
       let l : List Bool = trueFlags c bytes in
       let n : length l ≡ c .length = flags-length c bytes in ⊎-elim
       (λ (h : 0 < count (drop (c .place) l)).
       let p : ℕ = first l (c .place) in
       let b : p < length l = found-inside l (c .place) h in
-      gives p (trueMoved c (p + 1)) (to-item p (found l (c .place) h)) (accepted-at c (length bytes) (p + 1) ok (omega arith)) (omega arith)
+      one-next p (omega arith) (omega arith) (to-item p (found l (c .place) h)) (accepted-at c (length bytes) (p + 1) ok (omega arith))
       (found-left l (c .place) h ∙ ap (λ (t : List Bool). p ∷ onesLeft t (p + 1)) (sym (same-flags c bytes (p + 1)))))
-      (λ (h : count (drop (c .place) l) ≤ 0).
-      ends (trueMoved c (c .length)) (to-end (forward-none l 0 (c .place) h)) (none-left l (c .place) (omega arith)))
+      (λ (h : count (drop (c .place) l) ≤ 0). none-next (to-end (forward-none l 0 (c .place) h)) (none-left l (c .place) (omega arith)))
       (lt-or-le 0 (count (drop (c .place) l)))
+
+moves : (bytes : List ℕ) (c : TrueIdxIter) → accepted bytes c → Moves (answer-of bytes) (left-of bytes) (accepted bytes) far-of c
+moves bytes c ok = go (next-one bytes c ok)
+  where
+    go : NextOne bytes c → Moves (answer-of bytes) (left-of bytes) (accepted bytes) far-of c
+    go (one-next p low high e o f) = gives p (trueMoved c (p + 1)) e o (omega arith) f
+    go (none-next e f) = ends (trueMoved c (c .length)) e f
 
 -- A cursor that `next` accepts lists, until it gives none, just the positions of ones at or after its place, rising.
 pub lists-ones : (bytes : List ℕ) (c : TrueIdxIter) → firstFailed (trueChecks c (length bytes)) ≡ 0 → (k : ℕ) → c .length - c .place < k

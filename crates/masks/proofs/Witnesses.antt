@@ -14,6 +14,7 @@ use Rattle.masks.specs.Compare.{eqOf, edgesOf, commonChecks, commonOf}
 use Rattle.masks.specs.Cursor.{cursorChecks}
 use Rattle.masks.specs.Iterator.{newIter, nthFlag, takeLeading}
 use Rattle.masks.specs.Mask.{cutZeros, recounts, maskChecks, zeroedChecks, pieceChecks, sliceChecks, tryNewOf, newZeroedOf, unsetBitsOf, sliceOf}
+use Rattle.masks.specs.Positions.{nextPositions}
 use Rattle.masks.specs.Refusals.{addressed, spans, cursors, unmasked-cursors, splits, builders, pushed-words, span-appends, gathers, piece-appends}
 use Rattle.masks.specs.Refusals.{zeroed-masks, masks, slices, combinations, inversions, intersections, stated-masks, stated-lengths}
 use Rattle.masks.specs.Search.{searchFrom, searchBack}
@@ -30,7 +31,7 @@ unfolding
     maskChecks zeroedChecks pieceChecks sliceChecks pairChecks notChecks selectChecks commonChecks newTrueChecks trueChecks
     alignedOf spanCount newChunks nextChunk chunksRemainder splitAt windowAt searchFrom searchBack
     newZeroedOf tryNewOf sliceOf unsetBitsOf pairOf eachOf eqOf edgesOf commonOf
-    newSlices nextSlice newIter nthFlag takeLeading newTrue nextTrue
+    newSlices nextSlice newIter nthFlag takeLeading newTrue nextTrue nextPositions
 witnessed addressed = refl
 witnessed spans = refl
 witnessed cursors = refl

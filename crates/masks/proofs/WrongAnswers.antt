@@ -30,7 +30,8 @@ use Rattle.masks.specs.Iterator.{flagStep, leadingFrom, newIter, nthFlag
 use Rattle.masks.specs.Mask.{Recounted, cutZeros, keptCount, maskChecks, newZeroedBytes, newZeroedOf, pieceChecks, recounts, sliceChecks, sliceOf, tryNewOf, unsetBitsOf, zeroCount, zeroedChecks}
 use Rattle.masks.specs.Search.{nthBack, nthFrom, searchBack, searchFrom}
 use Rattle.masks.specs.SliceIterator.{newSlices, nextSlice, runStart, sliceStep}
-use Rattle.masks.specs.TrueIdx.{firstTrue, newTrue, newTrueChecks, nextTrue, trueChecks, trueFlags, trueStep}
+use Rattle.masks.specs.Positions.{nextPositions, positionsOver, placeBehind}
+use Rattle.masks.specs.TrueIdx.{firstTrue, newTrue, newTrueChecks, nextTrue, onesFrom, onesLeft, trueChecks, trueFlags, trueStep}
 use Rattle.masks.specs.Utils.{spanCount, zeros}
 use Rattle.masks.specs.WrongBuilders.{WrongBuilders}
 use Rattle.masks.specs.WrongCursors.{WrongCursors}
@@ -124,6 +125,9 @@ slicesCode c = c .start ∷ c .length ∷ c .place ∷ []
 abbrev trueCode : Code TrueIdxIter
 trueCode c = c .start ∷ c .length ∷ c .place ∷ flag (c .masked)
 
+abbrev chunkCode : Code (Answer TrueIdxIter (ℕ × TrueIdxIter) × List ℕ)
+chunkCode = writing (answer trueCode (both number trueCode))
+
 abbrev appendCode : Code (Answer BitmapBuilder BitmapBuilder × List ℕ)
 appendCode = writing (answer builderCode builderCode)
 
@@ -213,7 +217,7 @@ unfolding
     sameCode bits flagsOf count copies window leading nthPlace
     firstFailed earlier spanChecks cursorChecks maskChecks newTrueChecks trueChecks decided unlessEmpty
     newSlices nextSlice sliceStep runStart leadingFrom newIter nthFlag flagStep takeLeading
-    newTrue firstTrue nextTrue trueStep trueFlags nthFrom
+    newTrue firstTrue nextTrue trueStep trueFlags nthFrom nextPositions positionsOver placeBehind onesLeft onesFrom over kept
 cursors-ruled-out =
     record {
       slices-new = tried (plain slicesCode) refl refl refl;
@@ -226,4 +230,6 @@ cursors-ruled-out =
       true-new = tried (plain trueCode) refl refl refl;
       true-next = tried (stepping trueCode number) refl refl refl;
       true-next-refused = tried (stepping trueCode number) refl refl refl;
+      true-chunk = tried chunkCode refl refl refl;
+      true-chunk-rest = tried chunkCode refl refl refl;
     }

@@ -26,3 +26,14 @@ itemThen more (refused k c) = []
 unfoldable pub listing : {C A : Type 0} → (C → Answer C (Step C A)) → ℕ → C → List A
 listing next zero c = []
 listing next (suc calls) c = itemThen (listing next calls) (next c)
+
+-- the cursor that an answer gives back
+abbrev pub cursorOf : {C A : Type 0} → Answer C (Step C A) → C
+cursorOf (given (item a c)) = c
+cursorOf (given (ended c)) = c
+cursorOf (refused k c) = c
+
+-- where a cursor stands behind so many calls
+unfoldable pub afterCalls : {C A : Type 0} → (C → Answer C (Step C A)) → ℕ → C → C
+afterCalls next zero c = c
+afterCalls next (suc calls) c = afterCalls next calls (cursorOf (next c))

@@ -18,20 +18,20 @@ leftOf c bytes = onesLeft (trueFlags c bytes) (c .place)
 
 -- where a cursor with these positions before it stands behind so many of them: just past the last; at the length, if there are
 -- fewer; where none was asked for, it has not moved
-unfoldable pub chunkPlace : TrueIdxIter → List ℕ → ℕ → ℕ
-chunkPlace c left zero = c .place
-chunkPlace c left (suc k) = cond (ltb k (length left)) (getD left k 0 + 1) (c .length)
+unfoldable pub placeBehind : TrueIdxIter → List ℕ → ℕ → ℕ
+placeBehind c left zero = c .place
+placeBehind c left (suc k) = cond (ltb k (length left)) (getD left k 0 + 1) (c .length)
 
-abbrev pub chunkAnswer : TrueChunk → Answer TrueIdxIter (ℕ × TrueIdxIter)
-chunkAnswer (Wrote n c) = given (n, c)
-chunkAnswer (Refused k c) = refused k c
+abbrev pub positionsAnswer : TrueChunk → Answer TrueIdxIter (ℕ × TrueIdxIter)
+positionsAnswer (Wrote n c) = given (n, c)
+positionsAnswer (Refused k c) = refused k c
 
 -- of an output with room for so many: how many positions are written, and the cursor behind them
-unfoldable pub nextChunk : TrueIdxIter → List ℕ → ℕ → Answer TrueIdxIter (ℕ × TrueIdxIter)
-nextChunk c bytes room =
+unfoldable pub nextPositions : TrueIdxIter → List ℕ → ℕ → Answer TrueIdxIter (ℕ × TrueIdxIter)
+nextPositions c bytes room =
     checked (trueChecks c (length bytes)) c
-    (length (take room (leftOf c bytes)), trueMoved c (chunkPlace c (leftOf c bytes) room))
+    (length (take room (leftOf c bytes)), trueMoved c (placeBehind c (leftOf c bytes) room))
 
 -- the output: the positions over its front, as many as there is room for; what lies behind them stays
-unfoldable pub chunkOver : TrueIdxIter → List ℕ → List ℕ → List ℕ
-chunkOver c bytes out = kept (firstFailed (trueChecks c (length bytes))) (over out (leftOf c bytes)) out
+unfoldable pub positionsOver : TrueIdxIter → List ℕ → List ℕ → List ℕ
+positionsOver c bytes out = kept (firstFailed (trueChecks c (length bytes))) (over out (leftOf c bytes)) out

@@ -26,6 +26,7 @@ use Rattle.masks.specs.Refusals.{Family, addressed, spans, cursors, unma
 use Rattle.masks.specs.Refusals.{piece-appends, zeroed-masks, masks, slices, combinations, inversions, intersections, stated-masks, stated-lengths}
 use Rattle.masks.specs.Search.{searchFrom, searchBack}
 use Rattle.masks.specs.SliceIterator.{slicesAt, newSlices, nextSlice}
+use Rattle.masks.specs.Positions.{nextPositions}
 use Rattle.masks.specs.TrueIdx.{trueAt, newTrue, nextTrue}
 use Rattle.masks.specs.Utils.{spanCount, zeros}
 use Rattle.masks.specs.declared.bitmap.Bitmap.{Bitmap}
@@ -145,13 +146,15 @@ witnesses cursors =
     ∷ atCursors (λ s n p. numberOf (nthFlag (iterAt s n p) byte 3))
     ∷ atCursors (λ s n p. numberOf (takeLeading true (iterAt s n p) byte))
     ∷ atCursors (λ s n p. numberOf (takeLeading false (iterAt s n p) byte))
-    -- `SlicesIterator::next`, `TrueIdxIter::next`
+    -- `SlicesIterator::next`, `TrueIdxIter::next`, `TrueIdxIter::next_chunk`
     ∷ atCursors (λ s n p. numberOf (nextSlice (slicesAt s n p) byte))
     ∷ atCursors (λ s n p. numberOf (nextTrue (trueAt s n p true) byte))
+    ∷ atCursors (λ s n p. numberOf (nextPositions (trueAt s n p true) byte 3))
     ∷ []
 witnesses unmasked-cursors =
-    -- `TrueIdxIter::next`
+    -- `TrueIdxIter::next`, `TrueIdxIter::next_chunk`
     (numberOf (nextTrue (trueAt 0 tooLong 0 false) []) ∷ numberOf (nextTrue (trueAt 0 8 9 false) []) ∷ [])
+    ∷ (numberOf (nextPositions (trueAt 0 tooLong 0 false) [] 3) ∷ numberOf (nextPositions (trueAt 0 8 9 false) [] 3) ∷ [])
     ∷ []
 witnesses splits =
     -- `split_at_unchecked`

@@ -5,19 +5,29 @@ use Prim.Native.Nat.{ℕ}
 use mathlib.Core.Bool.{true, false}
 use mathlib.Core.List.{List, [], _∷_}
 use Rattle.words.specs.WrongAnswers.{Tried}
-use Rattle.masks.specs.Answer.{given, refused}
+use lib.ListN.{length}
+use Rattle.masks.specs.Answer.{Answer, given, refused}
 use Rattle.masks.specs.Cursor.{item, ended}
 use Rattle.masks.specs.Iterator.{iterAt, newIter, nthFlag, takeLeading}
 use Rattle.masks.specs.Mask.{maskOf}
+use Rattle.masks.specs.Positions.{nextPositions, positionsOver}
 use Rattle.masks.specs.SliceIterator.{slicesAt, runOf, newSlices, nextSlice}
 use Rattle.masks.specs.TrueIdx.{trueAt, newTrue, nextTrue}
 use Rattle.masks.specs.WrongSpans.{two}
 use Rattle.masks.specs.declared.bitmap.Optional.the-variants.{Present, Absent}
 use Rattle.masks.specs.declared.bitmap.Unset.the-variants.{Known, Unknown}
+use Rattle.masks.specs.declared.true_idx.TrueIdxIter.{TrueIdxIter}
 
 -- four zeros, eight ones, four zeros
 abbrev pub across : List ℕ
 across = 0xF0 ∷ 0x0F ∷ []
+
+-- the answer of `TrueIdxIter::next_chunk`, and what the output then holds
+abbrev pub positionsTold : Answer TrueIdxIter (ℕ × TrueIdxIter) → List ℕ → Answer TrueIdxIter (ℕ × TrueIdxIter) × List ℕ
+positionsTold a out = (a, out)
+
+abbrev pub positionsInto : TrueIdxIter → List ℕ → List ℕ → Answer TrueIdxIter (ℕ × TrueIdxIter) × List ℕ
+positionsInto c bytes out = positionsTold (nextPositions c bytes (length out)) (positionsOver c bytes out)
 
 pub record WrongCursors : Type 0 where
   -- `SlicesIterator::new` of 9 flags from the flag 4 on, the first of them a zero
@@ -90,3 +100,17 @@ pub record WrongCursors : Type 0 where
       (given (ended (trueAt 3 9 9 true)))
       -- refused, and the cursor moved
       (refused 6 (trueAt 3 9 9 true))
+  -- `TrueIdxIter::next_chunk` with room for 3, at the place 1 of 14 flags from the flag 2 on
+  pub true-chunk : Tried (positionsInto (trueAt 2 14 1 true) two (9 ∷ 9 ∷ 9 ∷ []))
+      (positionsTold (given (3, trueAt 2 14 11 true)) (1 ∷ 3 ∷ 10 ∷ []))
+      -- the positions counted from the bytes' first flag
+      (positionsTold (given (3, trueAt 2 14 11 true)) (3 ∷ 5 ∷ 12 ∷ []))
+      -- the cursor at the length
+      (positionsTold (given (3, trueAt 2 14 14 true)) (1 ∷ 3 ∷ 10 ∷ []))
+  -- `TrueIdxIter::next_chunk` with more room than ones
+  pub true-chunk-rest : Tried (positionsInto (trueAt 2 14 11 true) two (9 ∷ 9 ∷ 9 ∷ 9 ∷ []))
+      (positionsTold (given (3, trueAt 2 14 14 true)) (11 ∷ 12 ∷ 13 ∷ 9 ∷ []))
+      -- the rest of the output cleared
+      (positionsTold (given (3, trueAt 2 14 14 true)) (11 ∷ 12 ∷ 13 ∷ 0 ∷ []))
+      -- the room for the count
+      (positionsTold (given (4, trueAt 2 14 14 true)) (11 ∷ 12 ∷ 13 ∷ 9 ∷ []))

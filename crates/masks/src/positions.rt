@@ -8,7 +8,7 @@ ghost use lib.ListN.{length as ListN·length};
 ghost use Rattle.words.specs.Flags.{copies, over, wordFlags};
 ghost use Rattle.words.specs.Loops.{stretch};
 ghost use Rattle.masks.specs.Frozen.{overFrom};
-ghost use Rattle.masks.specs.Positions.{chunkAnswer, chunkPlace, leftOf, nextChunk, chunkOver};
+ghost use Rattle.masks.specs.Positions.{positionsAnswer, placeBehind, leftOf, nextPositions, positionsOver};
 ghost use Rattle.masks.specs.TrueIdx.{onesFrom, onesLeft};
 use crate::span::flags_word;
 use crate::span::least;
@@ -118,7 +118,7 @@ fn write_positions(cursor: TrueIdxIter, bytes: &[u8], out: &mut [u32]) -> usize
 fn place_behind(cursor: TrueIdxIter, out: &[u32], count: usize) -> usize
     requires { ⌜ count ≤ ListN·length (now out) ⌝ }
     ensures { λ r. ⌜ ((old left : List ℕ) → now (out .entry) ≡ over old left → count ≡ min (ListN·length old) (ListN·length left)
-        → r ≡ chunkPlace cursor left (ListN·length old)) ⌝ }
+        → r ≡ placeBehind cursor left (ListN·length old)) ⌝ }
 {
     if count < out.len() {
         return cursor.length;
@@ -133,8 +133,8 @@ fn place_behind(cursor: TrueIdxIter, out: &[u32], count: usize) -> usize
 impl TrueIdxIter {
     // The next positions of ones, written to the front of `out`: what as many calls of `next` as it has room for would give.
     pub fn next_chunk(self, bytes: &[u8], out: &mut [u32]) -> TrueChunk
-        ensures answer { λ r. ⌜ chunkAnswer r ≡ nextChunk self (now (bytes .entry)) (ListN·length (now (out .entry))) ⌝ }
-        ensures positions { λ _. ⌜ now (out .exit) ≡ chunkOver self (now (bytes .entry)) (now (out .entry)) ⌝ }
+        ensures answer { λ r. ⌜ positionsAnswer r ≡ nextPositions self (now (bytes .entry)) (ListN·length (now (out .entry))) ⌝ }
+        ensures positions { λ _. ⌜ now (out .exit) ≡ positionsOver self (now (bytes .entry)) (now (out .entry)) ⌝ }
     {
         let refusal = next_failure(self, bytes.len());
         if refusal != 0 {

@@ -3,7 +3,7 @@ use mathlib.Core.Path.{sym, _∙_}
 use Rattle.masks.proofs.CheckLaws.{refused-way, given-way}
 use Rattle.masks.proofs.PositionLaws.{told, within-out}
 use Rattle.masks.proofs.TrueIdxLaws.{true-allowed}
-use Rattle.masks.specs.Positions.{nextChunk, chunkOver}
+use Rattle.masks.specs.Positions.{nextPositions, positionsOver}
 use borrow.Author.Needs.{needs}
 use Rattle.masks.proofs.true_idx.TrueIdxIter.next_chunk.Statement.{statement}
 use Rattle.masks.proofs.true_idx.TrueIdxIter.next_chunk.Tie as tie
@@ -12,7 +12,7 @@ next-failure-requires : tie.Need-next-failure-requires
 next-failure-requires c κs = search needs
 
 returns : tie.Need-returns
-unfolding nextChunk chunkOver
+unfolding nextPositions positionsOver
 returns c = refused-way _ _ _ _ (c .before .next-failure .ensures) _ _ (c .if1 .taken)
 
 write-positions-requires : tie.Need-write-positions-requires
@@ -29,7 +29,7 @@ same-length : tie.Need-same-length
 same-length c = search needs
 
 returns-2 : tie.Need-returns-2
-unfolding nextChunk chunkOver
+unfolding nextPositions positionsOver
 returns-2 c =
     let did = c .before .before .before .before in
     let no = did .before .before in
