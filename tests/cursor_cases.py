@@ -57,6 +57,50 @@ def listing_cases():
                 line("list place", call, start, n, *row, total(call_at(call, lent, start, n, p) for p in range(132)))
 
 
+def chunked(lent, start, length, masked, room):
+    """Four calls in a row from place 0 on: each answer and the output, of 140 sevens before, of which the call has the first."""
+    place = 0
+    for _ in range(4):
+        out = [7] * room
+        answer = answered(next_chunk, lent, start, length, place, masked, out)
+        place = answer[1][-2]
+        yield answer, out + [7] * (140 - room)
+
+
+def chunk_cases():
+    for kind in range(6):
+        lent = painted(kind, 40)
+        for masked in (True, False):
+            for start in STARTS:
+                row = []
+                for length in LENS:
+                    sum = 0
+                    for room in (0, 1, 2, 31, 64, 65, 132):
+                        for answer, out in chunked(lent, start, length, masked, room):
+                            sum = folded(sum, answer)
+                            for position in out:
+                                sum = (sum * 257 + position) % PRIME
+                    row.append("#%d" % sum)
+                line("chunk", kind, int(masked), start, *row)
+    lent = painted(4, 40)
+    for start in STARTS:
+        for room in range(4):
+            for length in LENS[11:]:
+                row = []
+                for answer, out in chunked(lent, start, length, True, room):
+                    row += [shown(answer)] + out[:5]
+                line("chunk whole", start, length, room, *row)
+    lent = painted(7, 32)
+    for masked in (True, False):
+        row = []
+        for data in (lent, NONE):
+            for fault in FAULTS:
+                out = [7] * 3
+                answer = answered(next_chunk, data, *fault, masked, out)
+                row += [shown(answer)] + out + [7, 7]
+        line("chunk refused", int(masked), *row)
+
+
 def nth_cases():
     lent = painted(6, 40)
     for start in STARTS:
@@ -131,6 +175,7 @@ def long_cases():
 
 example_cases()
 listing_cases()
+chunk_cases()
 nth_cases()
 search_cases()
 refusal_cases()

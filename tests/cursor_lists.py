@@ -52,6 +52,20 @@ def next_index(lent, start, length, place, masked):
     return [position, start, length, position + 1, mark]
 
 
+def next_chunk(lent, start, length, place, masked, out):
+    """Writes the next positions over the front of `out`, a list of numbers, as many as it has room for."""
+    mark = int(masked)
+    ask(cursor_questions(lent, start, length, place, masked), [start, length, place, mark])
+    flags = piece(lent, start, length) if masked else [True] * length
+    some = [at for at in range(place, length) if flags[at]][:len(out)]
+    out[:len(some)] = some
+    if len(some) < len(out):
+        place = length
+    elif some:
+        place = some[-1] + 1
+    return [len(some), start, length, place, mark]
+
+
 def call_at(call, lent, start, length, place, n=0):
     """A call by its number, as the program's."""
     if call == RUN:

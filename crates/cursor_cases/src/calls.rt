@@ -15,6 +15,7 @@ use masks::iterator::Taken;
 use masks::slice_iterator::Slice;
 use masks::slice_iterator::Slices;
 use masks::slice_iterator::SlicesIterator;
+use masks::true_idx::TrueChunk;
 use masks::true_idx::TrueIdx;
 use masks::true_idx::TrueIdxIter;
 use masks::true_idx::TrueIter;
@@ -160,6 +161,38 @@ fn index(c: Cursor, masked: bool, bytes: &[u8]) -> Step {
         TrueIdx::Index(position, past) => stepped(
             answer::five(
                 big(position),
+                big(past.start),
+                big(past.length),
+                big(past.place),
+                digit(past.masked),
+            ),
+            ones_place(past),
+        ),
+    }
+}
+
+// `TrueIdxIter::next_chunk`: how many positions, and the cursor behind them.
+pub fn chunk(c: Cursor, masked: bool, bytes: &[u8], out: &mut [u32]) -> Step {
+    let from = TrueIdxIter {
+        start: c.start,
+        length: c.length,
+        place: c.place,
+        masked: masked,
+    };
+    chunked(from.next_chunk(bytes, out))
+}
+
+fn chunked(r: TrueChunk) -> Step {
+    match r {
+        TrueChunk::Refused(number, same) => {
+            stepped(
+                answer::refused_with(number, ones_record(same)),
+                ones_place(same),
+            )
+        }
+        TrueChunk::Wrote(n, past) => stepped(
+            answer::five(
+                big(n),
                 big(past.start),
                 big(past.length),
                 big(past.place),

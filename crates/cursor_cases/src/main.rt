@@ -11,6 +11,7 @@
 // `rt try` go to the end.
 mod answer;
 mod calls;
+mod chunking;
 mod examples;
 mod listing;
 mod long;
@@ -23,6 +24,7 @@ mod text;
 fn main() {
     examples::run();
     listing::run();
+    chunking::run();
     nth::run();
     searching::run();
     refusing::run();

@@ -20,7 +20,7 @@ pub fn run() {
 
 // A cursor over 32 bytes: two without fault, places past the length, starts and lengths past the limit, spans past the bytes, and
 // several faults at once.
-fn faulty(i: usize) -> Cursor {
+pub fn faulty(i: usize) -> Cursor {
     match i {
         0 => calls::cursor_at(3, 70, 5),
         1 => calls::cursor_at(3, 70, 70),

@@ -1,0 +1,56 @@
+-- The loop counts up to 4, and what is lent keeps its length.
+use Prim.Native.Nat.{_≤_, _-_}
+use mathlib.Core.Path.{_≡_}
+use lib.ListN.{length}
+use borrow.Author.Needs.{needs}
+use Rattle.cursor_cases.proofs.chunking.chunks.Statement.{statement}
+use Rattle.cursor_cases.proofs.chunking.chunks.Tie as tie
+
+abbrev Inv-loop : tie.InvT-loop
+Inv-loop bytes out₀ room c₀ i₀ out c i = (i ≤ 4) × (length out ≡ length out₀)
+
+abbrev μ-loop : tie.MeasureT-loop
+μ-loop bytes out₀ room c₀ i₀ out c i = 4 - i
+
+loop-holds : tie.Need-loop-holds Inv-loop μ-loop
+loop-holds c = search needs
+
+chunk-requires : tie.Need-chunk-requires Inv-loop μ-loop
+chunk-requires c κs = search needs
+
+answer-requires : tie.Need-answer-requires Inv-loop μ-loop
+answer-requires c κs = search needs
+
+positions-requires : tie.Need-positions-requires Inv-loop μ-loop
+positions-requires c κs = search needs
+
+add-i : tie.Need-add-i Inv-loop μ-loop
+add-i c = search needs
+
+loop-less : tie.Need-loop-less Inv-loop μ-loop
+loop-less c = search needs
+
+loop-again : tie.Need-loop-again Inv-loop μ-loop
+loop-again c = search needs
+
+same-length : tie.Need-same-length Inv-loop μ-loop
+same-length c = search needs
+
+returns : tie.Need-returns Inv-loop μ-loop
+returns c = search needs
+
+pub chunks-spec : {M : Type 1} → statement M
+chunks-spec =
+    tie.close
+    (tie.spec
+    Inv-loop
+    μ-loop
+    loop-holds
+    chunk-requires
+    answer-requires
+    positions-requires
+    add-i
+    loop-less
+    loop-again
+    same-length
+    returns)
