@@ -25,6 +25,7 @@ pub mod MaskLaws
 pub mod PairPlain
 pub mod PartLaws
 pub mod PositionLaws
+pub mod PositionRuns
 pub mod PositionsPlain
 pub mod PushLaws
 pub mod Refusals

@@ -8,7 +8,8 @@ use lib.ListN.{length}
 use Rattle.words.specs.Flags.{bits}
 use Rattle.words.proofs.Bits.{length-bits}
 use Rattle.masks.specs.TrueIdx.{onesFrom}
-use Rattle.masks.proofs.PositionLaws.{UnderWay, begins, finished, full, no-ones, some-ones, shorter, turned, no-more, lead-within}
+use Rattle.masks.proofs.PositionLaws.{UnderWay, begins, finished, full}
+use Rattle.masks.proofs.PositionRuns.{no-ones, some-ones, shorter, turned, no-more, lead-within}
 use borrow.Author.Needs.{needs}
 use Rattle.masks.proofs.positions.write_word.Statement.{statement}
 use Rattle.masks.proofs.positions.write_word.Tie as tie

@@ -3,7 +3,8 @@ use Prim.Native.Nat.{_≤_, _+_, _-_}
 use native.Mathlib.Omega.{arith}
 use Rattle.words.specs.Loops.{stretch}
 use Rattle.masks.specs.TrueIdx.{onesLeft}
-use Rattle.masks.proofs.PositionLaws.{UnderWay, begins, finished, full, goes-on, word-split, none-behind}
+use Rattle.masks.proofs.PositionLaws.{UnderWay, begins, finished, full, goes-on}
+use Rattle.masks.proofs.PositionRuns.{word-split, none-behind}
 use borrow.Author.Needs.{needs}
 use Rattle.masks.proofs.positions.write_words.Statement.{statement}
 use Rattle.masks.proofs.positions.write_words.Tie as tie
