@@ -27,6 +27,7 @@ use Rattle.masks.specs.Mask.{maskChecks, zeroedChecks, pieceChecks, slic
 use Rattle.masks.specs.Refusals.{numbers, among, allAmong, Refuses, RefusesUnwritten, Refusals, mayGive, appendFamily}
 use Rattle.masks.specs.Refusals.{Family, addressed, spans, cursors, unmasked-cursors, splits, builders, pushed-words, span-appends, gathers}
 use Rattle.masks.specs.Refusals.{piece-appends, zeroed-masks, masks, slices, combinations, inversions, intersections, stated-masks, stated-lengths}
+use Rattle.masks.specs.Positions.{nextPositions, positionsOver}
 use Rattle.masks.specs.Search.{searchFrom, searchBack}
 use Rattle.masks.specs.SliceIterator.{runChecks, newSlices, nextSlice}
 use Rattle.masks.specs.TrueIdx.{trueAt, newTrueChecks, trueChecks, newTrue, nextTrue}
@@ -164,7 +165,7 @@ unfolding
     maskChecks zeroedChecks pieceChecks sliceChecks pairChecks notChecks selectChecks commonChecks newTrueChecks trueChecks
     alignedOf spanCount newChunks nextChunk chunksRemainder splitAt windowAt searchFrom searchBack
     newZeroedOf newZeroedBytes tryNewOf sliceOf unsetBitsOf pairOf pairBytes eachOf eachBytes eqOf edgesOf commonOf
-    newSlices nextSlice newIter nthFlag takeLeading newTrue nextTrue
+    newSlices nextSlice newIter nthFlag takeLeading newTrue nextTrue nextPositions positionsOver
 refusals =
     record {
       one-to-nine = in-nine;
@@ -200,4 +201,6 @@ refusals =
       true-new-unmasked = λ n bytes. refuses-by (newTrueChecks n Absent bytes) _ _ _ refl;
       true-next = λ start n place bytes. refuses-by (trueChecks (trueAt start n place true) (length bytes)) _ _ _ refl;
       true-next-unmasked = λ start n place bytes. refuses-by (trueChecks (trueAt start n place false) (length bytes)) _ _ _ refl;
+      true-chunk = λ start n place bytes out. refuses-unwritten (trueChecks (trueAt start n place true) (length bytes)) _ _ _ _ _ refl;
+      true-chunk-unmasked = λ start n place bytes out. refuses-unwritten (trueChecks (trueAt start n place false) (length bytes)) _ _ _ _ _ refl;
     }

@@ -21,6 +21,7 @@ use Rattle.masks.specs.Compare.{eqOf, edgesOf, commonOf}
 use Rattle.masks.specs.Freeze.{freezeOf, intoOptValidityOf, freezeBytes}
 use Rattle.masks.specs.Iterator.{newIter, nthFlag, takeLeading}
 use Rattle.masks.specs.Mask.{tryNewOf, newZeroedOf, newZeroedBytes, unsetBitsOf, sliceOf}
+use Rattle.masks.specs.Positions.{nextPositions, positionsOver}
 use Rattle.masks.specs.Search.{searchFrom, searchBack}
 use Rattle.masks.specs.SliceIterator.{newSlices, nextSlice}
 use Rattle.masks.specs.TrueIdx.{trueAt, newTrue, nextTrue}
@@ -86,9 +87,9 @@ mayGive addressed = 1 ∷ 2 ∷ 8 ∷ []
 -- `BitChunks::new`, `BitChunks::new_exact`, `get_u32`, `nth_set_bit_idx`, `nth_set_bit_idx_rev`, `Bitmap::try_new`, `BitmapIter::new`
 mayGive spans = 1 ∷ 2 ∷ []
 -- `BitChunks::next`, `BitChunks::remainder`, `BitmapIter::next`, `BitmapIter::nth`, `BitmapIter::take_leading_ones`,
--- `BitmapIter::take_leading_zeros`, `SlicesIterator::next`, `TrueIdxIter::next` of a cursor with a mask
+-- `BitmapIter::take_leading_zeros`, `SlicesIterator::next`; `TrueIdxIter::next`, `TrueIdxIter::next_chunk` of a cursor with a mask
 mayGive cursors = 1 ∷ 2 ∷ 6 ∷ []
--- `TrueIdxIter::next` of a cursor with no mask
+-- `TrueIdxIter::next`, `TrueIdxIter::next_chunk` of a cursor with no mask
 mayGive unmasked-cursors = 1 ∷ 6 ∷ []
 -- `split_at_unchecked`
 mayGive splits = 1 ∷ 2 ∷ 6 ∷ []
@@ -181,3 +182,7 @@ pub record Refusals : Type 0 where
       → let c = trueAt start n place true in Refuses (mayGive cursors) c (nextTrue c bytes)
   pub true-next-unmasked : (start n place : ℕ) (bytes : List ℕ)
       → let c = trueAt start n place false in Refuses (mayGive unmasked-cursors) c (nextTrue c bytes)
+  pub true-chunk : (start n place : ℕ) (bytes out : List ℕ) → let c = trueAt start n place true in
+      RefusesUnwritten (mayGive cursors) c (nextPositions c bytes (length out)) out (positionsOver c bytes out)
+  pub true-chunk-unmasked : (start n place : ℕ) (bytes out : List ℕ) → let c = trueAt start n place false in
+      RefusesUnwritten (mayGive unmasked-cursors) c (nextPositions c bytes (length out)) out (positionsOver c bytes out)
