@@ -7,6 +7,7 @@ use native.Mathlib.Omega.{arith}
 use lib.Dec.{leb}
 use lib.ListN.{length, take, drop, getD, length-append, take-append-drop}
 use borrow.Author.Tests.{leb-true, le-leb, lt-leb}
+use Rattle.words.specs.Counts.{anySet}
 use Rattle.words.specs.Flags.{bits, count, flagsOf, overAt, window, wordOf}
 use Rattle.words.proofs.AnyFlag.{zero-any}
 use Rattle.words.proofs.Bytes.{length-flags}
@@ -14,7 +15,7 @@ use Rattle.words.proofs.Counting.{count-append, count-le, count-padded}
 use Rattle.words.proofs.Loads.{had-room}
 use Rattle.words.proofs.Plain.{overAt-before, overAt-in}
 use Rattle.words.proofs.Windows.{length-window, window-add, window-ext, as-window, at-in, bits-window}
-use Rattle.masks.specs.Builder.{Filling, inProgress, appended, builderFlags, noneFrom, possible, builderChecks, Room}
+use Rattle.masks.specs.Builder.{Filling, inProgress, appended, builderFlags, noneFrom, possible, builderChecks, Inside, Room}
 use Rattle.masks.specs.Appends.{innerChecks}
 use Rattle.masks.specs.Checks.{check, earlier, firstFailed, limit, withinLimit, spanChecks, outputChecks}
 use Rattle.masks.specs.Frozen.{packed, overFrom}
@@ -147,6 +148,19 @@ none-behind r k e h =
     let sum : count (take k (bits 64 (wordOf r))) + count (drop k (bits 64 (wordOf r))) ≡ count (bits 64 (wordOf r)) =
     sym (count-append (take k (bits 64 (wordOf r))) (drop k (bits 64 (wordOf r)))) ∙ ap count (take-append-drop k (bits 64 (wordOf r))) in
     ap not (sym (zero-any (drop k (bits 64 (wordOf r))) (omega arith)))
+
+-- a word that is a list of k flags with zeros behind it: none from k on, and the list in front
+pub none-padded : (l : List Bool) (k v : ℕ) → length l ≡ k → k ≤ 64 → bits 64 v ≡ window l 0 64 → noneFrom v k ≡ true
+none-padded l k v e h p = ap (λ (t : List Bool). not (anySet (drop k t))) (p ∙ sym (bits-window 64 l)) ∙ none-behind l k e h
+
+pub front-padded : (l : List Bool) (k v : ℕ) → length l ≡ k → k ≤ 64 → bits 64 v ≡ window l 0 64 → take k (bits 64 v) ≡ l
+front-padded l k v e h p = ap (take k) (p ∙ sym (bits-window 64 l)) ∙ word-back l k e h
+
+-- it may be joined to those in progress
+pub inside-padded : (b : BitmapBuilder) (l : List Bool) (k v m size : ℕ) → Room b m size → b .length % 64 + k < 64 → length l ≡ k → bits 64 v ≡ window l 0 64 → Inside b v k
+inside-padded b l k v m size r h e p =
+    let short : b .length + m ≤ limit = r .short in
+    record { short = omega arith; room = h; low = r .low; few = none-padded l k v e (omega arith) p }
 
 grown-room : (f : Filling) (l : List Bool) (q : ℕ) (front rest : List Bool) (m n : ℕ) → Parts f l q front rest → length l + n ≤ m → Room (f .builder) m (length (f .bytes))
     → Room (grown f (length l) q front rest .builder) n (length (grown f (length l) q front rest .bytes))

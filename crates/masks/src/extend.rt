@@ -24,7 +24,9 @@ use crate::checks::span_grow_failure;
 use crate::span::near_word;
 use words::counts::copy_count;
 use words::loops::fill;
+use words::word::constant_flags;
 use words::word::constant_word;
+use words::word::low_flags;
 use words::word::word_from;
 
 impl BitmapBuilder {
@@ -38,7 +40,7 @@ impl BitmapBuilder {
             return Pushed::Refused(refusal, self);
         }
         if self.length % 64 + n < 64 {
-            return Pushed::Done(push_inside(self, constant_word(flag), n));
+            return Pushed::Done(push_inside(self, constant_flags(flag, n), n));
         }
         Pushed::Done(append_copies(copied(self), buf, n, flag))
     }
@@ -53,7 +55,7 @@ impl BitmapBuilder {
             return Pushed::Refused(refusal, self);
         }
         if stays_inside(self, n) {
-            return Pushed::Done(push_inside(self, near_word(bytes, start), n));
+            return Pushed::Done(push_inside(self, low_flags(near_word(bytes, start), n), n));
         }
         Pushed::Done(append_stretch(copied(self), buf, &bytes[0..], start, n))
     }

@@ -2,7 +2,7 @@
 use mathlib.Core.Path.{_≡_, refl, sym, ap, ap₂, _∙_, subst}
 use mathlib.Core.Bool.{Bool, true, false, _&&_, _||_}
 use mathlib.Core.List.{List, [], _∷_, _++_, zipWith, append-assoc}
-use Prim.Native.Nat.{ℕ, zero, suc, _+_, _-_, _*_, _/_, _%_, _^_, _≤_, _<_}
+use Prim.Native.Nat.{ℕ, zero, suc, _+_, _-_, _*_, _/_, _%_, _^_, _≤_, _<_, zero-le}
 use native.Mathlib.Nat.{add-comm, le-of-lt, sub-add-cancel, mod-eq-of-lt, mod-lt, one-mul, zero-lt-suc}
 use native.Mathlib.Omega.{arith}
 use lib.ListN.{length, take, drop, getD, length-append, length-take, List·getD-append}
@@ -15,7 +15,7 @@ use borrow.Author.Tests.{lt-ltb, le-ltb}
 use Rattle.words.specs.Flags.{bits, copies, window}
 use Rattle.words.specs.Merge.{merged}
 use Rattle.words.proofs.Bits.{length-bits, bits-add, bits-take, bits-zero, bits-ones, bits-mod, bits-shl, bits-or, bits-join}
-use Rattle.words.proofs.Windows.{length-copies, at-copies, copies-window, length-window, window-add, window-cut, as-window, at-window, in-window}
+use Rattle.words.proofs.Windows.{length-copies, at-copies, copies-window, length-window, window-add, window-cut, window-drop, window-past, as-window, at-window, in-window}
 use Rattle.words.proofs.Loads.{bits-more, bits-shr}
 
 zip-append : (f : Bool → Bool → Bool) (a b c d : List Bool) → length a ≡ length c → zipWith f (a ++ b) (c ++ d) ≡ zipWith f a c ++ zipWith f b d
@@ -174,3 +174,26 @@ copies-some d n true h =
 
 pub copies-past : (d n r : ℕ) (x : Bool) → d ≤ n → bits d r ≡ copies d x → bits d r ≡ window (copies n x) 0 d
 copies-past d n r x h e = e ∙ copies-window n x 0 d (omega arith)
+
+-- ---- one word behind another by `or`: no flag of the first from its length on, and the second moved up
+
+or-left : (t : List Bool) (k n : ℕ) → zipWith _||_ (copies n false) (window t k n) ≡ window t k n
+unfolding window zipWith copies
+or-left t k zero = refl
+or-left t k (suc n) = ap (λ (l : List Bool). getD t k false ∷ l) (or-left t (suc k) n)
+
+or-row : (p t : List Bool) (n : ℕ) → zipWith _||_ (window p 0 n) (window (copies (length p) false ++ t) 0 n) ≡ window (p ++ t) 0 n
+unfolding window zipWith copies
+or-row p t zero = refl
+or-row [] t (suc n) = ap (λ (l : List Bool). zipWith _||_ l (window t 0 (suc n))) (window-past [] 0 (suc n) zero-le) ∙ or-left t 0 (suc n)
+or-row (x ∷ p) t (suc n) =
+    ap₂ (λ (y : Bool) (l : List Bool). y ∷ l) (or-false x)
+    (ap₂ (zipWith _||_) (sym (window-drop (x ∷ p) 1 0 n)) (sym (window-drop (false ∷ (copies (length p) false ++ t)) 1 0 n))
+    ∙ or-row p t n ∙ window-drop (x ∷ (p ++ t)) 1 0 n)
+
+pub or-behind : (d k a b u r : ℕ) → k ≤ d → bits d a ≡ window (take k (bits d a)) 0 d → bits d u ≡ window (copies k false ++ bits d b) 0 d
+    → bits d r ≡ zipWith _||_ (bits d a) (bits d u) → bits d r ≡ window (take k (bits d a) ++ bits d b) 0 d
+or-behind d k a b u r h low moved joined =
+    let n : k ≡ length (take k (bits d a)) = sym (length-take-le k (bits d a) (omega (arith, length-bits d a))) in
+    joined ∙ ap₂ (zipWith _||_) low (moved ∙ ap (λ (x : ℕ). window (copies x false ++ bits d b) 0 d) n)
+    ∙ or-row (take k (bits d a)) (bits d b) d

@@ -1,11 +1,12 @@
--- The number of the checks decides: `refused-way` or `append-way`; flags for which the word in progress has room by `constant-front`, more by the worker.
+-- The number of the checks decides: `refused-way` or `append-way`; flags for which the word in progress has room by `front-padded`, more by the worker.
 use mathlib.Core.Path.{sym, ap, _∙_}
 use native.Mathlib.Omega.{arith}
+use Rattle.words.proofs.Windows.{length-copies}
 use Rattle.masks.specs.Appends.{constantChecks}
 use Rattle.masks.specs.Builder.{appended}
 use Rattle.masks.proofs.CheckLaws.{refused-way, two-pieces, passed-left}
-use Rattle.masks.proofs.AppendLaws.{append-way, append-same, constant-front}
-use Rattle.masks.proofs.RoomLaws.{room-of, room-same}
+use Rattle.masks.proofs.AppendLaws.{append-way, append-same}
+use Rattle.masks.proofs.RoomLaws.{front-padded, inside-padded, room-of, room-same}
 use borrow.Author.Needs.{needs}
 use Rattle.masks.proofs.builder.BitmapBuilder.extend_constant.Statement.{statement}
 use Rattle.masks.proofs.builder.BitmapBuilder.extend_constant.Tie as tie
@@ -31,15 +32,15 @@ add-if2 c =
     let e = no .before in
     omega (arith, room-of _ _ _ (sym (e .before .before .builder-failure .ensures) ∙ passed-left _ _ (sym (e .earlier .ensures) ∙ no .if1 .left)) .short)
 
-constant-word-requires : tie.Need-constant-word-requires
-constant-word-requires c κs = search needs
+constant-flags-requires : tie.Need-constant-flags-requires
+constant-flags-requires c κs = search needs
 
 push-inside-requires : tie.Need-push-inside-requires
 push-inside-requires c κs =
     let no = c .before .before .before in
     let e = no .before in
     let room = room-of _ _ _ (sym (e .before .before .builder-failure .ensures) ∙ passed-left _ _ (sym (e .earlier .ensures) ∙ no .if1 .left)) in
-    (omega (arith, room .short), c .before .if2 .taken)
+    inside-padded _ _ _ _ _ _ room (c .before .if2 .taken) (length-copies _ _) (c .constant-flags .ensures)
 
 returns-2 : tie.Need-returns-2
 unfolding constantChecks
@@ -48,7 +49,7 @@ returns-2 c =
     let no = word .before .before .before in
     let e = no .before in
     append-way _ _ _ _ _ _ _ _ (two-pieces _ _ _ _ _ (e .earlier .ensures) (e .before .before .builder-failure .ensures) (e .before .limit-failure .ensures)) (no .if1 .left)
-    (c .push-inside .ensures _ ∙ ap (appended _) (constant-front _ _ _ (omega (arith, word .before .if2 .taken)) (word .constant-word .ensures)))
+    (c .push-inside .ensures _ ∙ ap (appended _) (front-padded _ _ _ (length-copies _ _) (omega (arith, word .before .if2 .taken)) (word .constant-flags .ensures)))
 
 copied-requires : tie.Need-copied-requires
 copied-requires c κs = search needs
@@ -83,7 +84,7 @@ extend-constant-spec =
     earlier-requires
     returns
     add-if2
-    constant-word-requires
+    constant-flags-requires
     push-inside-requires
     returns-2
     copied-requires
