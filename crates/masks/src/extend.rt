@@ -1,10 +1,10 @@
 // Long extensions of a builder: up to a full word, then whole words written straight to the buffer, then the rest.
 ghost use mathlib.Core.Bool.{_&&_};
 ghost use mathlib.Core.Path.{_≡_};
-ghost use Prim.Native.Nat.{_+_, _*_, _%_, _≤_};
+ghost use Prim.Native.Nat.{_+_, _-_, _*_, _%_, _≤_};
 ghost use lib.Dec.{leb, ltb};
-ghost use lib.ListN.{length};
-ghost use Rattle.words.specs.Flags.{copies, digit, window};
+ghost use lib.ListN.{length, take};
+ghost use Rattle.words.specs.Flags.{copies, digit, window, wordFlags};
 ghost use Rattle.words.specs.Loops.{stretch};
 ghost use Rattle.masks.specs.Appends.{pushedAnswer, appendAnswer, appendBytes, extendConstant, extendSlice, extendBitmap};
 ghost use Rattle.masks.specs.Builder.{Room, filling, appended};
@@ -23,10 +23,14 @@ use crate::checks::mask_failure;
 use crate::checks::span_grow_failure;
 use crate::span::near_word;
 use words::counts::copy_count;
-use words::loops::fill;
+use words::loops::fill_whole;
+use words::ops::or_word;
 use words::word::constant_flags;
 use words::word::constant_word;
 use words::word::low_flags;
+use words::word::ones_in_word;
+use words::word::store_whole;
+use words::word::up;
 use words::word::word_from;
 
 impl BitmapBuilder {
@@ -104,20 +108,37 @@ fn to_whole(b: BitmapBuilder) -> usize
     (64 - b.length % 64) % 64
 }
 
+// Copies of a flag: into the word in progress, or up to its end, then whole words, then the rest.
 pub(crate) fn append_copies(b: BitmapBuilder, buf: &mut [u8], n: usize, flag: bool) -> BitmapBuilder
     requires { ⌜ Room b n (length (now buf)) ⌝ }
     ensures { λ r. ⌜ filling r (now (buf .exit)) ≡ appended (filling b (now (buf .entry))) (copies n flag) ⌝ }
 {
-    let word = constant_word(flag);
-    if n <= 64 {
-        return push_flags(b, buf, word, n);
+    let fill = b.length % 64;
+    if fill + n < 64 {
+        return push_inside(b, constant_flags(flag, n), n);
     }
-    let head = to_whole(b);
-    let whole = (n - head) / 64;
-    let rest = (n - head) % 64;
-    let started = push_flags(b, buf, word, head);
-    let filled = fill_words(started, buf, whole, flag);
-    push_flags(filled, buf, word, rest)
+    let left = n - (64 - fill);
+    let rest = left % 64;
+    let started = close_word(b, buf, constant_word(flag));
+    let filled = fill_words(started, buf, left / 64, flag);
+    push_inside(filled, constant_flags(flag, rest), rest)
+}
+
+// Completes the word in progress with the first flags of a word, and writes it.
+fn close_word(b: BitmapBuilder, buf: &mut [u8], word: u64) -> BitmapBuilder
+    requires { ⌜ Room b (64 - b .length % 64) (length (now buf)) ⌝ }
+    ensures { λ r. ⌜ filling r (now (buf .exit)) ≡ appended (filling b (now (buf .entry))) (take (64 - b .length % 64) (wordFlags word)) ⌝ }
+{
+    let fill = b.length % 64;
+    let low = or_word(b.word, up(word, fill));
+    let longer = b.length + (64 - fill);
+    store_whole(buf, 8 * (b.length / 64), low);
+    let ones = b.ones + ones_in_word(low);
+    BitmapBuilder {
+        length: longer,
+        word: 0,
+        ones: ones,
+    }
 }
 
 fn ones_of(flag: bool, n: usize) -> usize
@@ -135,7 +156,7 @@ fn fill_words(b: BitmapBuilder, buf: &mut [u8], whole: usize, flag: bool) -> Bit
     let longer = b.length + n;
     let ones = b.ones + ones_of(flag, n);
     let at = 8 * (b.length / 64);
-    fill(flag, n, &mut buf[at..]);
+    fill_whole(flag, whole, &mut buf[at..]);
     BitmapBuilder {
         length: longer,
         word: 0,

@@ -115,7 +115,7 @@ merged-window l k d o h =
 
 -- ---- the k low flags of one word, then those of another
 
-front-flags : (d k : ℕ) (a b : List Bool) → length a ≡ k → k ≤ d → length b ≡ d → a ++ take (d - k) b ≡ window (a ++ b) 0 d
+pub front-flags : (d k : ℕ) (a b : List Bool) → length a ≡ k → k ≤ d → length b ≡ d → a ++ take (d - k) b ≡ window (a ++ b) 0 d
 front-flags d k a b ea h eb =
     let e : d ≡ length a + (d - k) = omega arith in
     let n : length (a ++ take (d - k) b) ≡ d = length-append a (take (d - k) b) ∙ ap (λ (x : ℕ). length a + x) (length-take-le (d - k) b (omega arith)) ∙ sym e in
