@@ -2,7 +2,7 @@
 use mathlib.Core.Path.{_≡_, refl, sym, ap, ap₂, _∙_, subst}
 use mathlib.Core.Bool.{Bool, true, false, cond, not, _&&_}
 use mathlib.Core.List.{List, [], _∷_, _++_, append-assoc}
-use Prim.Native.Nat.{ℕ, zero, suc, _+_, _*_, _/_, _%_, _≤_, _<_}
+use Prim.Native.Nat.{ℕ, zero, suc, _+_, _-_, _*_, _/_, _%_, _≤_, _<_}
 use native.Mathlib.Omega.{arith}
 use lib.Dec.{leb}
 use lib.ListN.{length, take, drop, getD, length-append, take-append-drop}
@@ -16,14 +16,14 @@ use Rattle.words.proofs.Loads.{had-room}
 use Rattle.words.proofs.Plain.{overAt-before, overAt-in}
 use Rattle.words.proofs.Windows.{length-window, window-add, window-ext, as-window, at-in, bits-window}
 use Rattle.masks.specs.Builder.{Filling, inProgress, appended, builderFlags, noneFrom, possible, builderChecks, Inside, Room}
-use Rattle.masks.specs.Appends.{innerChecks}
+use Rattle.masks.specs.Appends.{constantChecks, innerChecks}
 use Rattle.masks.specs.Checks.{check, earlier, firstFailed, limit, withinLimit, spanChecks, outputChecks}
 use Rattle.masks.specs.Frozen.{packed, overFrom}
 use Rattle.masks.specs.Mask.{maskChecks, countValid}
 use Rattle.masks.specs.declared.bitmap.Bitmap.{Bitmap}
 use Rattle.masks.specs.declared.builder.BitmapBuilder.{BitmapBuilder}
 use Rattle.masks.proofs.AppendLaws.{Parts, grown, appended-grown, parts-of, parts-long, progress-of, word-back, length-progress}
-use Rattle.masks.proofs.CheckLaws.{when-le, one-check, earlier-none, and-left, and-right, first-allowed, rest-allowed, both-left, both-right, SpanAllowed, span-allowed}
+use Rattle.masks.proofs.CheckLaws.{when-le, one-check, two-pieces, earlier-none, none-earlier, and-left, and-right, first-allowed, rest-allowed, both-left, both-right, SpanAllowed, span-allowed}
 use Rattle.masks.proofs.FrozenLaws.{flags-packed, length-overFrom, flags-overFrom}
 
 -- ---- the number of a builder's checks, by the tests that decide it
@@ -109,6 +109,27 @@ room-of b n size e =
       few = leb-true (b .ones) (64 * (b .length / 64)) (and-left (leb (b .ones) (64 * (b .length / 64))) (leb (8 * (b .length / 64)) size) rest);
       holds = leb-true (8 * ((b .length + n + 63) / 64)) size (first-allowed 8 (leb (8 * ((b .length + n + 63) / 64)) size) [] four);
     }
+
+-- and back: a builder with room passes its checks, and those of a constant
+pub room-passed : (b : BitmapBuilder) (n size : ℕ) → Room b n size → 0 ≡ firstFailed (builderChecks b (b .length + n) size)
+room-passed b n size r =
+    let holds : 8 * ((b .length + n + 63) / 64) ≤ size = r .holds in
+    in-limit b n size 0 (le-leb (b .length + n) limit (r .short)) (word-decides b (b .length + n) size (omega arith) (omega arith) true 0 (r .few) refl (sym (r .low)))
+
+pub constant-passed : (b : BitmapBuilder) (n size : ℕ) → Room b n size → 0 ≡ firstFailed (constantChecks b size n)
+unfolding constantChecks
+constant-passed b n size r =
+    let short : b .length + n ≤ limit = r .short in
+    two-pieces 0 0 0 (builderChecks b (b .length + n) size) (withinLimit n ∷ []) (sym (none-earlier 0)) (room-passed b n size r)
+    (one-check 0 1 true (leb n limit) refl (sym (le-leb n limit (omega arith))))
+
+pub never : {A : Type 0} → false ≡ true → A
+never e = absurd (let z : _≡_ {A = ℕ} 0 1 = cc e in omega arith)
+
+-- the tests of a call that stays in the word in progress: one more word than there are whole ones is in the buffer, and in the limit
+pub room-inside : (b : BitmapBuilder) (n size : ℕ) → n ≤ 63 - b .length % 64 → noneFrom (b .word) (b .length % 64) ≡ true → b .ones ≤ 64 * (b .length / 64)
+    → b .length / 64 < size / 8 → b .length / 64 < 65535 → (b .length % 64 + n < 64) × Room b n size
+room-inside b n size h low few inBuffer inLimit = (omega arith, record { short = omega arith; low = low; few = few; holds = omega arith })
 
 -- the word behind the finished ones has room where the flags reach into it
 pub word-stored : (b : BitmapBuilder) (k size : ℕ) (out new old : List Bool) → Room b k size → b .length / 64 < (b .length + k + 63) / 64

@@ -1,7 +1,7 @@
 // Long extensions of a builder: up to a full word, then whole words written straight to the buffer, then the rest.
-ghost use mathlib.Core.Bool.{_&&_};
+ghost use mathlib.Core.Bool.{true, _&&_};
 ghost use mathlib.Core.Path.{_≡_};
-ghost use Prim.Native.Nat.{_+_, _-_, _*_, _%_, _≤_};
+ghost use Prim.Native.Nat.{_+_, _-_, _*_, _%_, _≤_, _<_};
 ghost use lib.Dec.{leb, ltb};
 ghost use lib.ListN.{length, take};
 ghost use Rattle.words.specs.Flags.{copies, digit, window, wordFlags};
@@ -21,8 +21,10 @@ use crate::checks::inner_failure;
 use crate::checks::limit_failure;
 use crate::checks::mask_failure;
 use crate::checks::span_grow_failure;
+use crate::span::least;
 use crate::span::near_word;
 use words::counts::copy_count;
+use words::counts::none_from;
 use words::loops::fill_whole;
 use words::ops::or_word;
 use words::word::constant_flags;
@@ -39,12 +41,12 @@ impl BitmapBuilder {
         ensures answer { λ r. ⌜ pushedAnswer r ≡ appendAnswer (extendConstant n flag) self (now (buf .entry)) ⌝ }
         ensures bytes { λ _. ⌜ now (buf .exit) ≡ appendBytes (extendConstant n flag) self (now (buf .entry)) ⌝ }
     {
+        if fits_inside(self, n, buf.len()) {
+            return Pushed::Done(push_inside(self, constant_flags(flag, n), n));
+        }
         let refusal = earlier(builder_failure(self, n, buf.len()), limit_failure(n));
         if refusal != 0 {
             return Pushed::Refused(refusal, self);
-        }
-        if self.length % 64 + n < 64 {
-            return Pushed::Done(push_inside(self, constant_flags(flag, n), n));
         }
         Pushed::Done(append_copies(copied(self), buf, n, flag))
     }
@@ -88,6 +90,24 @@ impl BitmapBuilder {
         }
         Pushed::Done(append_stretch(self, buf, bytes, mask.start + start, n))
     }
+}
+
+// Is nothing refused, and has the word in progress room for n flags: the usual call, for which no number is made. Behind fewer than
+// 65535 whole words it stays below the limit.
+fn fits_inside(b: BitmapBuilder, n: usize, size: usize) -> bool
+    ensures { λ r. ⌜ (r ≡ true → (b .length % 64 + n < 64) × Room b n size) ⌝ }
+{
+    let fill = b.length % 64;
+    if 63 - fill < n {
+        return false;
+    }
+    if !none_from(b.word, fill) {
+        return false;
+    }
+    if 64 * (b.length / 64) < b.ones {
+        return false;
+    }
+    b.length / 64 < least(size / 8, 65535)
 }
 
 // Are n flags read by one load, and has the word in progress room for them.
