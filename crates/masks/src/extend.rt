@@ -92,8 +92,8 @@ impl BitmapBuilder {
     }
 }
 
-// Is nothing refused, and has the word in progress room for n flags: the usual call, for which no number is made. Behind fewer than
-// 65535 whole words it stays below the limit.
+// Is nothing refused, and has the word in progress room for n flags: so in most calls, and for these no number is made. A builder
+// of 65535 whole words, one fewer than the limit, is left to the checks.
 fn fits_inside(b: BitmapBuilder, n: usize, size: usize) -> bool
     ensures { λ r. ⌜ (r ≡ true → (b .length % 64 + n < 64) × Room b n size) ⌝ }
 {
