@@ -2,12 +2,11 @@
 use mathlib.Core.Path.{_≡_, refl, sym, ap, ap₂, _∙_, subst}
 use mathlib.Core.Bool.{Bool, true, false, cond, not, _&&_}
 use mathlib.Core.List.{List, [], _∷_, _++_, append-assoc}
-use Prim.Native.Nat.{ℕ, zero, suc, _+_, _-_, _*_, _/_, _%_, _≤_, _<_}
+use Prim.Native.Nat.{ℕ, zero, suc, _+_, _*_, _/_, _%_, _≤_, _<_}
 use native.Mathlib.Omega.{arith}
 use lib.Dec.{leb}
 use lib.ListN.{length, take, drop, getD, length-append, take-append-drop}
 use borrow.Author.Tests.{leb-true, le-leb, lt-leb}
-use Rattle.words.specs.Counts.{anySet}
 use Rattle.words.specs.Flags.{bits, count, flagsOf, overAt, window, wordOf}
 use Rattle.words.proofs.AnyFlag.{zero-any}
 use Rattle.words.proofs.Bytes.{length-flags}
@@ -15,15 +14,15 @@ use Rattle.words.proofs.Counting.{count-append, count-le, count-padded}
 use Rattle.words.proofs.Loads.{had-room}
 use Rattle.words.proofs.Plain.{overAt-before, overAt-in}
 use Rattle.words.proofs.Windows.{length-window, window-add, window-ext, as-window, at-in, bits-window}
-use Rattle.masks.specs.Builder.{Filling, inProgress, appended, builderFlags, noneFrom, possible, builderChecks, Inside, Room}
-use Rattle.masks.specs.Appends.{constantChecks, innerChecks}
+use Rattle.masks.specs.Builder.{Filling, inProgress, appended, builderFlags, noneFrom, possible, builderChecks, Room}
+use Rattle.masks.specs.Appends.{innerChecks}
 use Rattle.masks.specs.Checks.{check, earlier, firstFailed, limit, withinLimit, spanChecks, outputChecks}
 use Rattle.masks.specs.Frozen.{packed, overFrom}
 use Rattle.masks.specs.Mask.{maskChecks, countValid}
 use Rattle.masks.specs.declared.bitmap.Bitmap.{Bitmap}
 use Rattle.masks.specs.declared.builder.BitmapBuilder.{BitmapBuilder}
 use Rattle.masks.proofs.AppendLaws.{Parts, grown, appended-grown, parts-of, parts-long, progress-of, word-back, length-progress}
-use Rattle.masks.proofs.CheckLaws.{when-le, one-check, two-pieces, earlier-none, none-earlier, and-left, and-right, first-allowed, rest-allowed, both-left, both-right, SpanAllowed, span-allowed}
+use Rattle.masks.proofs.CheckLaws.{when-le, one-check, earlier-none, and-left, and-right, first-allowed, rest-allowed, both-left, both-right, SpanAllowed, span-allowed}
 use Rattle.masks.proofs.FrozenLaws.{flags-packed, length-overFrom, flags-overFrom}
 
 -- ---- the number of a builder's checks, by the tests that decide it
@@ -110,27 +109,6 @@ room-of b n size e =
       holds = leb-true (8 * ((b .length + n + 63) / 64)) size (first-allowed 8 (leb (8 * ((b .length + n + 63) / 64)) size) [] four);
     }
 
--- and back: a builder with room passes its checks, and those of a constant
-pub room-passed : (b : BitmapBuilder) (n size : ℕ) → Room b n size → 0 ≡ firstFailed (builderChecks b (b .length + n) size)
-room-passed b n size r =
-    let holds : 8 * ((b .length + n + 63) / 64) ≤ size = r .holds in
-    in-limit b n size 0 (le-leb (b .length + n) limit (r .short)) (word-decides b (b .length + n) size (omega arith) (omega arith) true 0 (r .few) refl (sym (r .low)))
-
-pub constant-passed : (b : BitmapBuilder) (n size : ℕ) → Room b n size → 0 ≡ firstFailed (constantChecks b size n)
-unfolding constantChecks
-constant-passed b n size r =
-    let short : b .length + n ≤ limit = r .short in
-    two-pieces 0 0 0 (builderChecks b (b .length + n) size) (withinLimit n ∷ []) (sym (none-earlier 0)) (room-passed b n size r)
-    (one-check 0 1 true (leb n limit) refl (sym (le-leb n limit (omega arith))))
-
-pub never : {A : Type 0} → false ≡ true → A
-never e = absurd (let z : _≡_ {A = ℕ} 0 1 = cc e in omega arith)
-
--- the tests of a call that stays in the word in progress: one more word than there are whole ones is in the buffer, and in the limit
-pub room-inside : (b : BitmapBuilder) (n size : ℕ) → n ≤ 63 - b .length % 64 → noneFrom (b .word) (b .length % 64) ≡ true → b .ones ≤ 64 * (b .length / 64)
-    → b .length / 64 < size / 8 → b .length / 64 < 65535 → (b .length % 64 + n < 64) × Room b n size
-room-inside b n size h low few inBuffer inLimit = (omega arith, record { short = omega arith; low = low; few = few; holds = omega arith })
-
 -- the word behind the finished ones has room where the flags reach into it
 pub word-stored : (b : BitmapBuilder) (k size : ℕ) (out new old : List Bool) → Room b k size → b .length / 64 < (b .length + k + 63) / 64
     → out ≡ cond (leb (8 * (b .length / 64) + 8) size) new old → out ≡ new
@@ -162,26 +140,14 @@ room-less b m n size h r =
 
 -- ---- after an appending
 
-none-behind : (r : List Bool) (k : ℕ) → length r ≡ k → k ≤ 64 → noneFrom (wordOf r) k ≡ true
+-- the word of k flags has none from k on
+pub none-behind : (r : List Bool) (k : ℕ) → length r ≡ k → k ≤ 64 → noneFrom (wordOf r) k ≡ true
 none-behind r k e h =
     let whole : count (bits 64 (wordOf r)) ≡ count r = ap count (bits-window 64 r) ∙ count-padded r 64 (omega arith) in
     let front : count (take k (bits 64 (wordOf r))) ≡ count r = ap count (word-back r k e h) in
     let sum : count (take k (bits 64 (wordOf r))) + count (drop k (bits 64 (wordOf r))) ≡ count (bits 64 (wordOf r)) =
     sym (count-append (take k (bits 64 (wordOf r))) (drop k (bits 64 (wordOf r)))) ∙ ap count (take-append-drop k (bits 64 (wordOf r))) in
     ap not (sym (zero-any (drop k (bits 64 (wordOf r))) (omega arith)))
-
--- a word that is a list of k flags with zeros behind it: none from k on, and the list in front
-pub none-padded : (l : List Bool) (k v : ℕ) → length l ≡ k → k ≤ 64 → bits 64 v ≡ window l 0 64 → noneFrom v k ≡ true
-none-padded l k v e h p = ap (λ (t : List Bool). not (anySet (drop k t))) (p ∙ sym (bits-window 64 l)) ∙ none-behind l k e h
-
-pub front-padded : (l : List Bool) (k v : ℕ) → length l ≡ k → k ≤ 64 → bits 64 v ≡ window l 0 64 → take k (bits 64 v) ≡ l
-front-padded l k v e h p = ap (take k) (p ∙ sym (bits-window 64 l)) ∙ word-back l k e h
-
--- it may be joined to those in progress
-pub inside-padded : (b : BitmapBuilder) (l : List Bool) (k v m size : ℕ) → Room b m size → b .length % 64 + k < 64 → length l ≡ k → bits 64 v ≡ window l 0 64 → Inside b v k
-inside-padded b l k v m size r h e p =
-    let short : b .length + m ≤ limit = r .short in
-    record { short = omega arith; room = h; low = r .low; few = none-padded l k v e (omega arith) p }
 
 grown-room : (f : Filling) (l : List Bool) (q : ℕ) (front rest : List Bool) (m n : ℕ) → Parts f l q front rest → length l + n ≤ m → Room (f .builder) m (length (f .bytes))
     → Room (grown f (length l) q front rest .builder) n (length (grown f (length l) q front rest .bytes))

@@ -5,9 +5,10 @@ use native.Mathlib.Omega.{arith}
 use Rattle.words.proofs.Counting.{count-le}
 use Rattle.words.proofs.Bits.{length-bits}
 use Rattle.masks.specs.Builder.{appended}
+use Rattle.masks.proofs.InsideLaws.{front-padded, inside-padded}
 use Rattle.masks.proofs.PartLaws.{length-low}
 use Rattle.masks.proofs.PushLaws.{or-merged, push-full}
-use Rattle.masks.proofs.RoomLaws.{front-padded, inside-padded, word-stored}
+use Rattle.masks.proofs.RoomLaws.{word-stored}
 use borrow.Author.Needs.{needs}
 use Rattle.masks.proofs.builder.push_flags.Statement.{statement}
 use Rattle.masks.proofs.builder.push_flags.Tie as tie

@@ -7,8 +7,9 @@ use Rattle.words.proofs.Windows.{length-copies}
 use Rattle.masks.specs.Builder.{appended}
 use Rattle.masks.proofs.AppendLaws.{constant-front}
 use Rattle.masks.proofs.ExtendLaws.{append-three, copies-three}
+use Rattle.masks.proofs.InsideLaws.{front-padded, inside-padded}
 use Rattle.masks.proofs.PartLaws.{length-low}
-use Rattle.masks.proofs.RoomLaws.{front-padded, inside-padded, room-then, length-then}
+use Rattle.masks.proofs.RoomLaws.{room-then, length-then}
 use borrow.Author.Needs.{needs}
 use Rattle.masks.proofs.extend.append_copies.Statement.{statement}
 use Rattle.masks.proofs.extend.append_copies.Tie as tie

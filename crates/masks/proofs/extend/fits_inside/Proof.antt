@@ -3,7 +3,7 @@ use Prim.Native.Nat.{_/_, _<_}
 use mathlib.Core.Path.{sym, _∙_}
 use native.Mathlib.Omega.{arith}
 use borrow.Author.Tests.{ltb-true, not-false}
-use Rattle.masks.proofs.RoomLaws.{never, room-inside}
+use Rattle.masks.proofs.InsideLaws.{never, room-inside}
 use borrow.Author.Needs.{needs}
 use Rattle.masks.proofs.extend.fits_inside.Statement.{statement}
 use Rattle.masks.proofs.extend.fits_inside.Tie as tie

@@ -4,7 +4,8 @@ use native.Mathlib.Omega.{arith}
 use Rattle.words.proofs.Windows.{length-copies}
 use Rattle.masks.specs.Builder.{appended}
 use Rattle.masks.proofs.AppendLaws.{append-same}
-use Rattle.masks.proofs.RoomLaws.{front-padded, inside-padded, room-same}
+use Rattle.masks.proofs.InsideLaws.{front-padded, inside-padded}
+use Rattle.masks.proofs.RoomLaws.{room-same}
 use borrow.Author.Needs.{needs}
 use Rattle.masks.proofs.repeat.append_run.Statement.{statement}
 use Rattle.masks.proofs.repeat.append_run.Tie as tie

@@ -7,7 +7,8 @@ use Rattle.masks.specs.Appends.{constantChecks}
 use Rattle.masks.specs.Builder.{appended}
 use Rattle.masks.proofs.CheckLaws.{refused-way, two-pieces, passed-left}
 use Rattle.masks.proofs.AppendLaws.{append-way, append-same}
-use Rattle.masks.proofs.RoomLaws.{constant-passed, front-padded, inside-padded, room-of, room-same}
+use Rattle.masks.proofs.InsideLaws.{constant-passed, front-padded, inside-padded}
+use Rattle.masks.proofs.RoomLaws.{room-of, room-same}
 use borrow.Author.Needs.{needs}
 use Rattle.masks.proofs.builder.BitmapBuilder.extend_constant.Statement.{statement}
 use Rattle.masks.proofs.builder.BitmapBuilder.extend_constant.Tie as tie

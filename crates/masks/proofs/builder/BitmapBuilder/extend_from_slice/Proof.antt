@@ -8,8 +8,9 @@ use Rattle.masks.specs.Builder.{appended}
 use Rattle.masks.proofs.CheckLaws.{refused-way}
 use Rattle.masks.proofs.AppendLaws.{append-way, append-same}
 use Rattle.masks.proofs.ExtendLaws.{few-inside}
+use Rattle.masks.proofs.InsideLaws.{front-padded, inside-padded}
 use Rattle.masks.proofs.PartLaws.{length-low}
-use Rattle.masks.proofs.RoomLaws.{front-padded, grow-allowed, inside-padded, room-same}
+use Rattle.masks.proofs.RoomLaws.{grow-allowed, room-same}
 use Rattle.masks.proofs.SpanLaws.{whole-stretch}
 use borrow.Author.Needs.{needs}
 use Rattle.masks.proofs.builder.BitmapBuilder.extend_from_slice.Statement.{statement}
