@@ -134,6 +134,11 @@ def filled(flag, length, out, room):
     return written(out[:room], 0, answer) + out[room:]
 
 
+def words_filled(flag, words, out, room):
+    """As many whole words of the flag as there is room for."""
+    return written(out[:room], 0, [flag] * (64 * min(words, room // 8))) + out[room:]
+
+
 def merged(current, nxt, offset):
     row = bits(64, current) + bits(64, nxt)
     return number_of(row[offset : offset + 64] if offset < 64 else row[:64])

@@ -14,7 +14,10 @@ from flag_lists import *
 def words_only():
     show("constant_word", hex_word(number_of([False] * 64)), hex_word(number_of([True] * 64)))
     for k in PLACES:
-        show("low_flags", k, *[hex_word(number_of(bits(64, w)[:k])) for w in WORDS])
+        low = [number_of(bits(64, w)[:k]) for w in WORDS]
+        up = [number_of(window([False] * min(k, 64) + bits(64, w), 0, 64)) for w in WORDS]
+        constant = [number_of([flag] * min(k, 64)) for flag in (False, True)]
+        show("low_flags", k, *[hex_word(w) for w in low + up + constant])
     show("ones_in_word", *[bits(64, w).count(True) for w in WORDS])
     for k in PLACES:
         show("ones_below", k, *[bits(64, w)[:k].count(True) for w in WORDS])
@@ -132,11 +135,13 @@ def write_cases():
         show("copy far", start, length, written, stretch(data[:9], start, length).count(), written)
     for length in LENS[:15]:
         for flag in (False, True):
-            rows = [hex_bytes(filled(flag, length, out, room_for(kind, length))) for kind in range(6)]
-            show("fill", digits([flag]), length, *rows)
+            rooms = [room_for(kind, length) for kind in range(6)]
+            rows = [filled(flag, length, out, n) for n in rooms] + [words_filled(flag, length // 64, out, n) for n in rooms]
+            show("fill", digits([flag]), length, *[hex_bytes(row) for row in rows])
     for length in FAR_LENS:
         for flag in (False, True):
-            show("fill far", digits([flag]), length, *[hex_bytes(filled(flag, length, out, n)) for n in SIZES])
+            rows = [filled(flag, length, out, n) for n in SIZES] + [words_filled(flag, length, out, n) for n in SIZES]
+            show("fill far", digits([flag]), length, *[hex_bytes(row) for row in rows])
 
 
 def count_cases():

@@ -2,21 +2,24 @@
 use mathlib.Core.Path.{_≡_, refl, sym, ap, ap₂, _∙_}
 use mathlib.Core.Bool.{Bool, true, _&&_}
 use mathlib.Core.List.{List, [], _∷_, _++_, append-nil}
-use Prim.Native.Nat.{ℕ, zero, suc, _+_, _*_, _/_, _%_, _≤_, _<_}
+use Prim.Native.Nat.{ℕ, zero, suc, _+_, _-_, _*_, _/_, _%_, _≤_, _<_, min}
 use native.Mathlib.Nat.{zero-add, suc-add, zero-lt-suc}
 use native.Mathlib.Omega.{arith}
 use lib.Dec.{leb, ltb}
-use lib.ListN.{length, take}
+use lib.ListN.{length, take, length-append}
 use borrow.Author.Tests.{leb-true, ltb-true}
-use Rattle.words.specs.Flags.{bits, copies, count, flagsOf, overAt, window, wordOf}
+use Rattle.words.specs.Flags.{bits, copies, count, flagsOf, over, overAt, window, wordOf}
 use Rattle.words.specs.Loops.{wholeWords}
-use Rattle.words.proofs.Windows.{window-add, window-cut}
+use Rattle.words.proofs.Bits.{length-bits}
+use Rattle.words.proofs.Merging.{front-flags}
+use Rattle.words.proofs.Windows.{length-copies, window-add, window-all, window-cut}
 use Rattle.masks.specs.Builder.{Filling, filling, builderOf, inProgress, appended}
 use Rattle.masks.specs.Frozen.{packed, overFrom}
 use Rattle.masks.specs.declared.builder.BitmapBuilder.{BitmapBuilder}
 use Rattle.masks.proofs.AppendLaws.{Parts, appended-grown, append-then, length-progress}
 use Rattle.masks.proofs.CheckLaws.{and-left, and-right}
 use Rattle.masks.proofs.FrozenLaws.{Small, written-bytes}
+use Rattle.masks.proofs.PartLaws.{length-low}
 
 -- ---- whole words
 
@@ -46,6 +49,36 @@ append-whole b bytes out q c l h e ones small small′ put =
     ∙ ap₂ (λ (x y : ℕ). filling (builderOf (b .length + x) y (b .ones + count l)) (overFrom bytes (8 * (b .length / 64)) (packed (8 * q) l))) e no-word
     ∙ ap₂ (λ (x : ℕ) (y : List ℕ). filling (builderOf (b .length + 64 * q) 0 (b .ones + x)) y) (sym ones)
     (sym (whole-written bytes out (8 * (b .length / 64)) q l e small small′ put)))
+
+-- words of a flag, for all of which there is room
+pub words-filled : (F : List Bool) (out : List ℕ) (q m : ℕ) (x : Bool) → q ≤ m → flagsOf out ≡ over F (copies (64 * min q m) x) → flagsOf out ≡ over F (wholeWords (copies (64 * q) x))
+unfolding wholeWords
+words-filled F out q m x h put =
+    let e : min q m ≡ q = omega arith in
+    let n : 64 * ((length (copies (64 * q) x) + 63) / 64) ≡ length (copies (64 * q) x) = omega (arith, length-copies (64 * q) x) in
+    put ∙ ap (λ (k : ℕ). over F (copies (64 * k) x)) e ∙ ap (over F) (sym (ap (window (copies (64 * q) x) 0) n ∙ window-all (copies (64 * q) x)))
+
+-- ---- up to the end of the word in progress
+
+pub push-closed : (b : BitmapBuilder) (bytes out : List ℕ) (word low c : ℕ)
+    → bits 64 low ≡ window (take (b .length % 64) (bits 64 (b .word)) ++ bits 64 word) 0 64 → c ≡ count (bits 64 low) → Small bytes → Small out
+    → flagsOf out ≡ overAt (flagsOf bytes) (8 * (8 * (b .length / 64))) (bits 64 low)
+    → filling (builderOf (b .length + (64 - b .length % 64)) 0 (b .ones + c)) out ≡ appended (filling b bytes) (take (64 - b .length % 64) (bits 64 word))
+unfolding inProgress
+push-closed b bytes out word low c merged ones small small′ put =
+    let l = take (64 - b .length % 64) (bits 64 word) in
+    let row = inProgress b ++ l in
+    let short : length l ≡ 64 - b .length % 64 = length-low (64 - b .length % 64) word (omega arith) in
+    let whole : length row ≡ 64 * 1 = omega (arith, length-append (inProgress b) l, length-progress b) in
+    let front : bits 64 low ≡ row = merged ∙ sym (front-flags 64 (b .length % 64) (inProgress b) (bits 64 word) (length-progress b) (omega arith) (length-bits 64 word)) in
+    let p : Parts (filling b bytes) l 1 row [] = record { row = sym (append-nil row); whole = whole; less = zero-lt-suc 63 } in
+    let n : b .length + length l ≡ b .length + (64 - b .length % 64) = omega arith in
+    let o : b .ones + count row ≡ b .ones + c = ap (λ (x : ℕ). b .ones + x) (sym (ones ∙ ap count front)) in
+    let all : window row 0 (8 * 8) ≡ row = ap (window row 0) (sym whole) ∙ window-all row in
+    sym (appended-grown (filling b bytes) l 1 row [] p
+    ∙ ap₂ (λ (x y : ℕ). filling (builderOf x (wordOf []) y) (overFrom bytes (8 * (b .length / 64)) (packed 8 row))) n o
+    ∙ ap₂ (λ (x : ℕ) (y : List ℕ). filling (builderOf (b .length + (64 - b .length % 64)) x (b .ones + c)) y) no-word
+    (sym (written-bytes bytes out (8 * (b .length / 64)) 8 row small small′ (put ∙ ap (overAt (flagsOf bytes) (8 * (8 * (b .length / 64)))) (front ∙ sym all)))))
 
 -- ---- three parts
 

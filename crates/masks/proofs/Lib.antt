@@ -19,6 +19,7 @@ pub mod Histories
 pub mod HistoryLaws
 pub mod HistoryMasks
 pub mod HistoryTheorem
+pub mod InsideLaws
 pub mod IteratorLaws
 pub mod Listing
 pub mod MaskLaws

@@ -1,21 +1,22 @@
 -- Flags of a word appended: within the word in progress, and over its end. Assumes nothing.
 use mathlib.Core.Path.{_≡_, refl, sym, ap, ap₂, _∙_}
-use mathlib.Core.Bool.{Bool, false}
-use mathlib.Core.List.{List, [], _++_}
+use mathlib.Core.Bool.{Bool, true, false, _||_}
+use mathlib.Core.List.{List, [], _++_, zipWith}
 use mathlib.Core.Logic.{⊎-elim}
 use Prim.Native.Nat.{ℕ, _+_, _-_, _*_, _/_, _%_, _^_, _≤_, _<_}
 use native.Mathlib.Omega.{arith}
 use lib.ListN.{length, take, drop, getD, length-append, length-drop, take-append-drop, List·getD-append}
 use lib.Seq.{length-take-le, getD-append-add}
-use Rattle.words.specs.Flags.{bits, count, flagsOf, overAt, window, wordOf}
+use Rattle.words.specs.Flags.{bits, copies, count, flagsOf, overAt, window, wordOf}
 use Rattle.words.proofs.Bits.{length-bits}
 use Rattle.words.proofs.Loads.{from-end}
+use Rattle.words.proofs.Merging.{or-behind}
 use Rattle.words.proofs.Plain.{window-part}
 use Rattle.words.proofs.Windows.{lt-or-le, window-all, window-drop, window-ext, at-in, word-value}
-use Rattle.masks.specs.Builder.{filling, builderOf, inProgress, appended}
+use Rattle.masks.specs.Builder.{filling, builderOf, inProgress, appended, noneFrom, Inside}
 use Rattle.masks.specs.Frozen.{packed, overFrom}
 use Rattle.masks.specs.declared.builder.BitmapBuilder.{BitmapBuilder}
-use Rattle.masks.proofs.AppendLaws.{Parts, appended-grown, length-progress, no-count, no-bytes}
+use Rattle.masks.proofs.AppendLaws.{Parts, appended-grown, length-progress, low-window, no-count, no-bytes}
 use Rattle.masks.proofs.FrozenLaws.{Small, overFrom-none, written-bytes}
 use Rattle.masks.proofs.PartLaws.{length-low}
 
@@ -87,3 +88,17 @@ module _ (b : BitmapBuilder) (bytes : List ℕ) (word v low k : ℕ) (few : k �
       ∙ ap₂ (λ (x : ℕ) (y : List ℕ). filling (builderOf (b .length + k) x (b .ones + c)) y)
       (sym (word-value 64 (drop 64 row) rest fits (omega arith) high))
       (sym (written-bytes bytes out (8 * (b .length / 64)) 8 (take 64 row) small small′ (put ∙ ap (overAt (flagsOf bytes) (8 * (8 * (b .length / 64)))) (front ∙ sym all)))))
+
+-- ---- the same by `or`: a word with no flag where the new ones go, and these moved up
+
+pub or-merged : (b : BitmapBuilder) (flags u low : ℕ) → noneFrom (b .word) (b .length % 64) ≡ true
+    → bits 64 u ≡ window (copies (b .length % 64) false ++ bits 64 flags) 0 64 → bits 64 low ≡ zipWith _||_ (bits 64 (b .word)) (bits 64 u)
+    → bits 64 low ≡ window (take (b .length % 64) (bits 64 (b .word)) ++ bits 64 flags) 0 64
+or-merged b flags u low e moved joined = or-behind 64 (b .length % 64) (b .word) flags u low (omega arith) (low-window (b .length % 64) (b .word) e) moved joined
+
+pub push-within : (b : BitmapBuilder) (bytes : List ℕ) (flags u low k : ℕ) → Inside b flags k
+    → bits 64 u ≡ window (copies (b .length % 64) false ++ bits 64 flags) 0 64 → bits 64 low ≡ zipWith _||_ (bits 64 (b .word)) (bits 64 u) → low < 2 ^ 64
+    → filling (builderOf (b .length + k) low (b .ones)) bytes ≡ appended (filling b bytes) (take k (bits 64 flags))
+push-within b bytes flags u low k i moved joined fits =
+    let room : b .length % 64 + k < 64 = i .room in
+    push-short b bytes flags flags low k (omega arith) (low-window k flags (i .few)) (or-merged b flags u low (i .low) moved joined) fits room

@@ -140,7 +140,8 @@ room-less b m n size h r =
 
 -- ---- after an appending
 
-none-behind : (r : List Bool) (k : ℕ) → length r ≡ k → k ≤ 64 → noneFrom (wordOf r) k ≡ true
+-- the word of k flags has none from k on
+pub none-behind : (r : List Bool) (k : ℕ) → length r ≡ k → k ≤ 64 → noneFrom (wordOf r) k ≡ true
 none-behind r k e h =
     let whole : count (bits 64 (wordOf r)) ≡ count r = ap count (bits-window 64 r) ∙ count-padded r 64 (omega arith) in
     let front : count (take k (bits 64 (wordOf r))) ≡ count r = ap count (word-back r k e h) in

@@ -1,6 +1,6 @@
 -- The builder: its checks, and one definition of appending a list of flags. Assumes nothing.
 use mathlib.Core.Path.{_≡_}
-use Prim.Native.Nat.{ℕ, _+_, _*_, _/_, _%_, _≤_}
+use Prim.Native.Nat.{ℕ, _+_, _*_, _/_, _%_, _≤_, _<_}
 use mathlib.Core.Bool.{Bool, true, not, _&&_}
 use mathlib.Core.List.{List, _∷_, _++_}
 use lib.Dec.{leb}
@@ -65,3 +65,11 @@ pub record Room (b : BitmapBuilder) (n size : ℕ) : Type 0 where
   pub low : noneFrom (b .word) (b .length % 64) ≡ true
   pub few : b .ones ≤ 64 * (b .length / 64)
   pub holds : 8 * ((b .length + n + 63) / 64) ≤ size
+
+-- what it takes to join the k flags of a word to those in progress: no flag of the two words stands where another belongs, and
+-- the word stays unfilled
+pub record Inside (b : BitmapBuilder) (flags k : ℕ) : Type 0 where
+  pub short : b .length ≤ limit
+  pub room : b .length % 64 + k < 64
+  pub low : noneFrom (b .word) (b .length % 64) ≡ true
+  pub few : noneFrom flags k ≡ true

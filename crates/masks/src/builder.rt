@@ -1,24 +1,24 @@
 // The builder: flags are appended to a lent buffer. A word is written when it is full.
 ghost use mathlib.Core.Path.{_≡_};
 ghost use mathlib.Core.List.{List, [], _∷_};
-ghost use Prim.Native.Nat.{ℕ, _≤_, _<_, _+_, _-_, _%_};
+ghost use Prim.Native.Nat.{ℕ, _≤_, _-_};
 ghost use lib.ListN.{length, take};
 ghost use Rattle.words.specs.Flags.{wordFlags};
 ghost use Rattle.masks.specs.Appends.{pushedAnswer, appendAnswer, appendBytes, changeAnswer, pushFlag, pushWord};
-ghost use Rattle.masks.specs.Checks.{limit};
-ghost use Rattle.masks.specs.Builder.{Room, newBuilder, filling, appended};
+ghost use Rattle.masks.specs.Builder.{Inside, Room, newBuilder, filling, appended};
 ghost use Rattle.masks.specs.Freeze.{allOnes, frozenMask, freezeBytes, freezeOf, frozenOver, intoOptValidityOf, madeAnswer, validityAnswer};
 use crate::bitmap::Bitmap;
 use crate::bitmap::Unset;
 use crate::checks::builder_failure;
 use crate::checks::earlier;
 use crate::checks::word_failure;
-use words::word::behind;
+use words::ops::or_word;
 use words::word::constant_word;
 use words::word::down;
 use words::word::low_flags;
 use words::word::ones_in_word;
 use words::word::store_whole;
+use words::word::up;
 
 // The length, the word in progress and the ones in the finished words. The Rust's `BitmapBuilder`, its buffer lent beside it.
 pub struct BitmapBuilder {
@@ -156,12 +156,12 @@ fn push_change(b: BitmapBuilder, buf: &mut [u8], flag: bool) -> Change
     }
 }
 
-// Appends the first k flags of a word, for which the word in progress has room: no byte is written.
-pub(crate) fn push_inside(b: BitmapBuilder, word: u64, k: usize) -> BitmapBuilder
-    requires { ⌜ (b .length ≤ limit) × (b .length % 64 + k < 64) ⌝ }
-    ensures { λ r. ⌜ ((bytes : List ℕ) → filling r bytes ≡ appended (filling b bytes) (take k (wordFlags word))) ⌝ }
+// Appends the k flags of a word, for which the word in progress has room: no byte is written, and no flag has to be cut off.
+pub(crate) fn push_inside(b: BitmapBuilder, flags: u64, k: usize) -> BitmapBuilder
+    requires { ⌜ Inside b flags k ⌝ }
+    ensures { λ r. ⌜ ((bytes : List ℕ) → filling r bytes ≡ appended (filling b bytes) (take k (wordFlags flags))) ⌝ }
 {
-    let low = behind(b.word, b.length % 64, low_flags(word, k));
+    let low = or_word(b.word, up(flags, b.length % 64));
     let longer = b.length + k;
     BitmapBuilder {
         length: longer,
@@ -176,11 +176,11 @@ pub(crate) fn push_flags(b: BitmapBuilder, buf: &mut [u8], word: u64, k: usize) 
     ensures { λ r. ⌜ filling r (now (buf .exit)) ≡ appended (filling b (now (buf .entry))) (take k (wordFlags word)) ⌝ }
 {
     let fill = b.length % 64;
-    if fill + k < 64 {
-        return push_inside(b, word, k);
-    }
     let flags = low_flags(word, k);
-    let low = behind(b.word, fill, flags);
+    if fill + k < 64 {
+        return push_inside(b, flags, k);
+    }
+    let low = or_word(b.word, up(flags, fill));
     let longer = b.length + k;
     store_whole(buf, 8 * (b.length / 64), low);
     let ones = b.ones + ones_in_word(low);

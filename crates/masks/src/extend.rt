@@ -1,10 +1,10 @@
 // Long extensions of a builder: up to a full word, then whole words written straight to the buffer, then the rest.
-ghost use mathlib.Core.Bool.{_&&_};
+ghost use mathlib.Core.Bool.{true, _&&_};
 ghost use mathlib.Core.Path.{_≡_};
-ghost use Prim.Native.Nat.{_+_, _*_, _%_, _≤_};
+ghost use Prim.Native.Nat.{_+_, _-_, _*_, _%_, _≤_, _<_};
 ghost use lib.Dec.{leb, ltb};
-ghost use lib.ListN.{length};
-ghost use Rattle.words.specs.Flags.{copies, digit, window};
+ghost use lib.ListN.{length, take};
+ghost use Rattle.words.specs.Flags.{copies, digit, window, wordFlags};
 ghost use Rattle.words.specs.Loops.{stretch};
 ghost use Rattle.masks.specs.Appends.{pushedAnswer, appendAnswer, appendBytes, extendConstant, extendSlice, extendBitmap};
 ghost use Rattle.masks.specs.Builder.{Room, filling, appended};
@@ -21,10 +21,18 @@ use crate::checks::inner_failure;
 use crate::checks::limit_failure;
 use crate::checks::mask_failure;
 use crate::checks::span_grow_failure;
+use crate::span::least;
 use crate::span::near_word;
 use words::counts::copy_count;
-use words::loops::fill;
+use words::counts::none_from;
+use words::loops::fill_whole;
+use words::ops::or_word;
+use words::word::constant_flags;
 use words::word::constant_word;
+use words::word::low_flags;
+use words::word::ones_in_word;
+use words::word::store_whole;
+use words::word::up;
 use words::word::word_from;
 
 impl BitmapBuilder {
@@ -33,12 +41,12 @@ impl BitmapBuilder {
         ensures answer { λ r. ⌜ pushedAnswer r ≡ appendAnswer (extendConstant n flag) self (now (buf .entry)) ⌝ }
         ensures bytes { λ _. ⌜ now (buf .exit) ≡ appendBytes (extendConstant n flag) self (now (buf .entry)) ⌝ }
     {
+        if fits_inside(self, n, buf.len()) {
+            return Pushed::Done(push_inside(self, constant_flags(flag, n), n));
+        }
         let refusal = earlier(builder_failure(self, n, buf.len()), limit_failure(n));
         if refusal != 0 {
             return Pushed::Refused(refusal, self);
-        }
-        if self.length % 64 + n < 64 {
-            return Pushed::Done(push_inside(self, constant_word(flag), n));
         }
         Pushed::Done(append_copies(copied(self), buf, n, flag))
     }
@@ -53,7 +61,7 @@ impl BitmapBuilder {
             return Pushed::Refused(refusal, self);
         }
         if stays_inside(self, n) {
-            return Pushed::Done(push_inside(self, near_word(bytes, start), n));
+            return Pushed::Done(push_inside(self, low_flags(near_word(bytes, start), n), n));
         }
         Pushed::Done(append_stretch(copied(self), buf, &bytes[0..], start, n))
     }
@@ -84,6 +92,24 @@ impl BitmapBuilder {
     }
 }
 
+// Is nothing refused, and has the word in progress room for n flags: so in most calls, and for these no number is made. A builder
+// of 65535 whole words, one fewer than the limit, is left to the checks.
+fn fits_inside(b: BitmapBuilder, n: usize, size: usize) -> bool
+    ensures { λ r. ⌜ (r ≡ true → (b .length % 64 + n < 64) × Room b n size) ⌝ }
+{
+    let fill = b.length % 64;
+    if 63 - fill < n {
+        return false;
+    }
+    if !none_from(b.word, fill) {
+        return false;
+    }
+    if 64 * (b.length / 64) < b.ones {
+        return false;
+    }
+    b.length / 64 < least(size / 8, 65535)
+}
+
 // Are n flags read by one load, and has the word in progress room for them.
 fn stays_inside(b: BitmapBuilder, n: usize) -> bool
     ensures { λ r. ⌜ r ≡ (leb n 57 && ltb (b .length % 64 + n) 64) ⌝ }
@@ -102,20 +128,37 @@ fn to_whole(b: BitmapBuilder) -> usize
     (64 - b.length % 64) % 64
 }
 
+// Copies of a flag: into the word in progress, or up to its end, then whole words, then the rest.
 pub(crate) fn append_copies(b: BitmapBuilder, buf: &mut [u8], n: usize, flag: bool) -> BitmapBuilder
     requires { ⌜ Room b n (length (now buf)) ⌝ }
     ensures { λ r. ⌜ filling r (now (buf .exit)) ≡ appended (filling b (now (buf .entry))) (copies n flag) ⌝ }
 {
-    let word = constant_word(flag);
-    if n <= 64 {
-        return push_flags(b, buf, word, n);
+    let fill = b.length % 64;
+    if fill + n < 64 {
+        return push_inside(b, constant_flags(flag, n), n);
     }
-    let head = to_whole(b);
-    let whole = (n - head) / 64;
-    let rest = (n - head) % 64;
-    let started = push_flags(b, buf, word, head);
-    let filled = fill_words(started, buf, whole, flag);
-    push_flags(filled, buf, word, rest)
+    let left = n - (64 - fill);
+    let rest = left % 64;
+    let started = close_word(b, buf, constant_word(flag));
+    let filled = fill_words(started, buf, left / 64, flag);
+    push_inside(filled, constant_flags(flag, rest), rest)
+}
+
+// Completes the word in progress with the first flags of a word, and writes it.
+fn close_word(b: BitmapBuilder, buf: &mut [u8], word: u64) -> BitmapBuilder
+    requires { ⌜ Room b (64 - b .length % 64) (length (now buf)) ⌝ }
+    ensures { λ r. ⌜ filling r (now (buf .exit)) ≡ appended (filling b (now (buf .entry))) (take (64 - b .length % 64) (wordFlags word)) ⌝ }
+{
+    let fill = b.length % 64;
+    let low = or_word(b.word, up(word, fill));
+    let longer = b.length + (64 - fill);
+    store_whole(buf, 8 * (b.length / 64), low);
+    let ones = b.ones + ones_in_word(low);
+    BitmapBuilder {
+        length: longer,
+        word: 0,
+        ones: ones,
+    }
 }
 
 fn ones_of(flag: bool, n: usize) -> usize
@@ -133,7 +176,7 @@ fn fill_words(b: BitmapBuilder, buf: &mut [u8], whole: usize, flag: bool) -> Bit
     let longer = b.length + n;
     let ones = b.ones + ones_of(flag, n);
     let at = 8 * (b.length / 64);
-    fill(flag, n, &mut buf[at..]);
+    fill_whole(flag, whole, &mut buf[at..]);
     BitmapBuilder {
         length: longer,
         word: 0,

@@ -17,7 +17,7 @@ use crate::checks::earlier;
 use crate::checks::span_failure;
 use crate::extend::append_copies;
 use crate::extend::append_stretch;
-use words::word::constant_word;
+use words::word::constant_flags;
 use words::word::flag_at;
 
 impl BitmapBuilder {
@@ -96,7 +96,7 @@ fn append_run(b: BitmapBuilder, buf: &mut [u8], n: usize, flag: bool) -> BitmapB
     ensures { λ r. ⌜ filling r (now (buf .exit)) ≡ appended (filling b (now (buf .entry))) (copies n flag) ⌝ }
 {
     if b.length % 64 + n < 64 {
-        return push_inside(b, constant_word(flag), n);
+        return push_inside(b, constant_flags(flag, n), n);
     }
     append_copies(copied(b), buf, n, flag)
 }

@@ -139,7 +139,7 @@ low-all d k w h b =
 pub low-divisor : (d k : ℕ) → k < d → 0 < 1 * 2 ^ k % 2 ^ d
 low-divisor d k h = subst (λ (x : ℕ). 0 < x) (sym (shl-exact 1 k d (lit< tt) (omega arith) ∙ one-mul (2 ^ k))) (pow-pos k)
 
-bits-more : (d m x : ℕ) → x < 2 ^ d → bits m x ≡ window (bits d x) 0 m
+pub bits-more : (d m x : ℕ) → x < 2 ^ d → bits m x ≡ window (bits d x) 0 m
 bits-more d m x h = ap (bits m) (sym (wordOf-bits d x h)) ∙ bits-window m (bits d x)
 
 pub bits-shr : (d s x : ℕ) → x < 2 ^ d → bits d (x / 2 ^ s) ≡ window (bits d x) s d

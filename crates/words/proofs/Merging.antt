@@ -2,20 +2,21 @@
 use mathlib.Core.Path.{_≡_, refl, sym, ap, ap₂, _∙_, subst}
 use mathlib.Core.Bool.{Bool, true, false, _&&_, _||_}
 use mathlib.Core.List.{List, [], _∷_, _++_, zipWith, append-assoc}
-use Prim.Native.Nat.{ℕ, zero, suc, _+_, _-_, _*_, _/_, _%_, _^_, _≤_, _<_}
-use native.Mathlib.Nat.{add-comm, le-of-lt, sub-add-cancel, mod-lt, one-mul, zero-lt-suc}
+use Prim.Native.Nat.{ℕ, zero, suc, _+_, _-_, _*_, _/_, _%_, _^_, _≤_, _<_, zero-le}
+use native.Mathlib.Nat.{add-comm, le-of-lt, sub-add-cancel, mod-eq-of-lt, mod-lt, one-mul, zero-lt-suc}
 use native.Mathlib.Omega.{arith}
 use lib.ListN.{length, take, drop, getD, length-append, length-take, List·getD-append}
 use lib.Dec.{lit<, ltb}
 use lib.Seq.{take-at, drop-at, take-all, length-take-le, take-append-seam, take-append-add, getD-take}
+use mir.Val.{boolByte}
 use lib.Pow.{shl-exact, pow-pos, shr-lt}
 use lib.Bits.{bitOr}
 use borrow.Author.Tests.{lt-ltb, le-ltb}
 use Rattle.words.specs.Flags.{bits, copies, window}
 use Rattle.words.specs.Merge.{merged}
-use Rattle.words.proofs.Bits.{length-bits, bits-add, bits-take, bits-mod, bits-shl, bits-or, bits-join}
-use Rattle.words.proofs.Windows.{length-copies, length-window, window-add, window-cut, as-window, at-window, in-window}
-use Rattle.words.proofs.Loads.{bits-shr}
+use Rattle.words.proofs.Bits.{length-bits, bits-add, bits-take, bits-zero, bits-ones, bits-mod, bits-shl, bits-or, bits-join}
+use Rattle.words.proofs.Windows.{length-copies, at-copies, copies-window, length-window, window-add, window-cut, window-drop, window-past, as-window, at-window, in-window}
+use Rattle.words.proofs.Loads.{bits-more, bits-shr}
 
 zip-append : (f : Bool → Bool → Bool) (a b c d : List Bool) → length a ≡ length c → zipWith f (a ++ b) (c ++ d) ≡ zipWith f a c ++ zipWith f b d
 unfolding zipWith
@@ -114,7 +115,7 @@ merged-window l k d o h =
 
 -- ---- the k low flags of one word, then those of another
 
-front-flags : (d k : ℕ) (a b : List Bool) → length a ≡ k → k ≤ d → length b ≡ d → a ++ take (d - k) b ≡ window (a ++ b) 0 d
+pub front-flags : (d k : ℕ) (a b : List Bool) → length a ≡ k → k ≤ d → length b ≡ d → a ++ take (d - k) b ≡ window (a ++ b) 0 d
 front-flags d k a b ea h eb =
     let e : d ≡ length a + (d - k) = omega arith in
     let n : length (a ++ take (d - k) b) ≡ d = length-append a (take (d - k) b) ∙ ap (λ (x : ℕ). length a + x) (length-take-le (d - k) b (omega arith)) ∙ sym e in
@@ -140,3 +141,59 @@ behind-all d k a b h = as-window (bits d a) (take k (bits d a) ++ b) 0 d (length
     ap (λ (l : List Bool). getD l j false) (sym (take-all k (bits d a) (omega arith)))
     ∙ sym (List·getD-append (take k (bits d a)) b false j (omega (arith, length-take k (bits d a))))
     ∙ ap (λ (x : ℕ). getD (take k (bits d a) ++ b) x false) z)
+
+-- ---- a word moved up, and copies of a flag as a word
+
+pub up-some : (d k w : ℕ) → k < d → bits d (w * 2 ^ k % 2 ^ d) ≡ window (copies k false ++ bits d w) 0 d
+up-some d k w h =
+    let e : d ≡ k + (d - k) = omega arith in
+    bits-mod d (w * 2 ^ k) ∙ ap (λ (n : ℕ). bits n (w * 2 ^ k)) e ∙ bits-shl k (d - k) w
+    ∙ ap (λ (t : List Bool). copies k false ++ t) (sym (bits-take d (d - k) w (omega arith)))
+    ∙ front-flags d k (copies k false) (bits d w) (length-copies k false) (le-of-lt h) (length-bits d w)
+
+pub up-past : (d k : ℕ) (b : List Bool) → d ≤ k → bits d 0 ≡ window (copies k false ++ b) 0 d
+up-past d k b h = bits-zero d ∙ as-window (copies d false) (copies k false ++ b) 0 d (length-copies d false) (λ j q.
+    at-copies d false j q
+    ∙ sym (List·getD-append (copies k false) b false (0 + j) (omega (arith, length-copies k false)) ∙ at-copies k false (0 + j) (omega arith)))
+
+one-shifted : (d n : ℕ) → n < d → 1 * 2 ^ n % 2 ^ d ≡ 2 ^ n
+one-shifted d n h = shl-exact 1 n d (lit< tt) (omega arith) ∙ one-mul (2 ^ n)
+
+pub byte-shifted : (d n : ℕ) (x : Bool) → n < d → boolByte x ≤ boolByte x * 2 ^ n % 2 ^ d
+byte-shifted d n false h = omega arith
+byte-shifted d n true h = subst (λ (y : ℕ). 1 ≤ y) (sym (one-shifted d n h)) (pow-pos n)
+
+pub copies-some : (d n : ℕ) (x : Bool) → n < d → bits d (boolByte x * 2 ^ n % 2 ^ d - boolByte x) ≡ window (copies n x) 0 d
+copies-some d n false h =
+    let z : 0 * 2 ^ n ≡ 0 = omega arith in
+    let e : 0 * 2 ^ n % 2 ^ d - 0 ≡ 0 = ap (λ (x : ℕ). x % 2 ^ d - 0) z ∙ ap (λ (x : ℕ). x - 0) (mod-eq-of-lt (pow-pos d)) in
+    ap (bits d) e ∙ bits-more n d 0 (pow-pos n) ∙ ap (λ (l : List Bool). window l 0 d) (bits-zero n)
+copies-some d n true h =
+    let p : 0 < 2 ^ n = pow-pos n in
+    ap (λ (y : ℕ). bits d (y - 1)) (one-shifted d n h) ∙ bits-more n d (2 ^ n - 1) (omega arith) ∙ ap (λ (l : List Bool). window l 0 d) (bits-ones n)
+
+pub copies-past : (d n r : ℕ) (x : Bool) → d ≤ n → bits d r ≡ copies d x → bits d r ≡ window (copies n x) 0 d
+copies-past d n r x h e = e ∙ copies-window n x 0 d (omega arith)
+
+-- ---- one word behind another by `or`: no flag of the first from its length on, and the second moved up
+
+or-left : (t : List Bool) (k n : ℕ) → zipWith _||_ (copies n false) (window t k n) ≡ window t k n
+unfolding window zipWith copies
+or-left t k zero = refl
+or-left t k (suc n) = ap (λ (l : List Bool). getD t k false ∷ l) (or-left t (suc k) n)
+
+or-row : (p t : List Bool) (n : ℕ) → zipWith _||_ (window p 0 n) (window (copies (length p) false ++ t) 0 n) ≡ window (p ++ t) 0 n
+unfolding window zipWith copies
+or-row p t zero = refl
+or-row [] t (suc n) = ap (λ (l : List Bool). zipWith _||_ l (window t 0 (suc n))) (window-past [] 0 (suc n) zero-le) ∙ or-left t 0 (suc n)
+or-row (x ∷ p) t (suc n) =
+    ap₂ (λ (y : Bool) (l : List Bool). y ∷ l) (or-false x)
+    (ap₂ (zipWith _||_) (sym (window-drop (x ∷ p) 1 0 n)) (sym (window-drop (false ∷ (copies (length p) false ++ t)) 1 0 n))
+    ∙ or-row p t n ∙ window-drop (x ∷ (p ++ t)) 1 0 n)
+
+pub or-behind : (d k a b u r : ℕ) → k ≤ d → bits d a ≡ window (take k (bits d a)) 0 d → bits d u ≡ window (copies k false ++ bits d b) 0 d
+    → bits d r ≡ zipWith _||_ (bits d a) (bits d u) → bits d r ≡ window (take k (bits d a) ++ bits d b) 0 d
+or-behind d k a b u r h low moved joined =
+    let n : k ≡ length (take k (bits d a)) = sym (length-take-le k (bits d a) (omega (arith, length-bits d a))) in
+    joined ∙ ap₂ (zipWith _||_) low (moved ∙ ap (λ (x : ℕ). window (copies x false ++ bits d b) 0 d) n)
+    ∙ or-row (take k (bits d a)) (bits d b) d

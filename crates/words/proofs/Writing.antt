@@ -34,6 +34,10 @@ write-all F G i n out p l h k =
     let e : 64 * i ≡ length G = omega arith in
     p ∙ ap (λ (x : ℕ). over F (window G 0 x)) e ∙ ap (over F) (window-all G)
 
+-- words of a flag, whose number is known by another name
+pub write-words : (F : List Bool) (n m : ℕ) (x : Bool) (out : List ℕ) → flagsOf out ≡ over F (copies (64 * n) x) → n ≡ m → flagsOf out ≡ over F (copies (64 * m) x)
+write-words F n m x out p e = p ∙ ap (λ (k : ℕ). over F (copies (64 * k) x)) e
+
 -- all words of a stretch that is whole words
 pub write-stretch : (F l : List Bool) (k x len n : ℕ) (out : List ℕ) → flagsOf out ≡ over F (window l x n)
     → x ≡ k → n ≡ len → len % 64 ≡ 0 → flagsOf out ≡ over F (wholeWords (window l k len))

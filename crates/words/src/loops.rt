@@ -185,3 +185,11 @@ pub fn fill(flag: bool, len: usize, out: &mut [u8])
         store_at(out, 8 * n, low_flags(constant_word(flag), len - done));
     }
 }
+
+// Whole words of the flag over the front of out, as many as there is room for: no cut word comes behind them.
+pub fn fill_whole(flag: bool, words: usize, out: &mut [u8])
+    ensures { λ _. ⌜ flagsOf (now (out .exit)) ≡ over (flagsOf (now (out .entry))) (copies (64 * min words (length (now (out .entry)) / 8)) flag) ⌝ }
+{
+    let n = least(words, out.len() / 8);
+    fill_words(flag, n, out);
+}

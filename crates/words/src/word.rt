@@ -134,6 +134,13 @@ pub fn down(w: u64, k: usize) -> u64
     if k < 64 { w >> k } else { 0 }
 }
 
+// The word moved up by k flags, nothing from 64 on.
+pub fn up(w: u64, k: usize) -> u64
+    ensures { λ r. ⌜ wordFlags r ≡ window (copies k false ++ wordFlags w) 0 64 ⌝ }
+{
+    if k < 64 { w << k } else { 0 }
+}
+
 // The 64 flags from the flag 8 * at + s on, zeros past the end. Near the end the last eight bytes are loaded, if there are so
 // many: the bytes of a mask are whole words, so this is the usual case.
 pub(crate) fn word_at(bytes: &[u8], at: usize, s: usize) -> u64
@@ -208,6 +215,17 @@ pub fn constant_word(flag: bool) -> u64
     ensures { λ r. ⌜ wordFlags r ≡ copies 64 flag ⌝ }
 {
     if flag { !0 } else { 0 }
+}
+
+// n copies of a flag as a word, at most 64: 2 to the n less one, made of the flag without a jump.
+pub fn constant_flags(flag: bool, n: usize) -> u64
+    ensures { λ r. ⌜ wordFlags r ≡ window (copies n flag) 0 64 ⌝ }
+{
+    if n >= 64 {
+        return constant_word(flag);
+    }
+    let one = flag as u64;
+    (one << n) - one
 }
 
 // How many flags of w are set.

@@ -48,7 +48,7 @@ const LINES: [usize; 32] = [
 // The cells of a line of each section.
 const CELLS: [usize; 32] = [
     2,
-    10,
+    22,
     10,
     10,
     10,
@@ -67,8 +67,8 @@ const CELLS: [usize; 32] = [
     6,
     5,
     2,
-    6,
-    8,
+    12,
+    16,
     20,
     41,
     63,

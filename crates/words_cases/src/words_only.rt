@@ -1,13 +1,15 @@
-// Calls on words alone, sections 0 to 8: low flags, ones, merges, the n-th set flag, the operations.
+// Calls on words alone, sections 0 to 8: low flags, shifts, ones, merges, the n-th set flag, the operations.
 use crate::tables;
 use crate::text;
 use words::merge::merge_reversed;
 use words::nth::Nth;
 use words::ops;
+use words::word::constant_flags;
 use words::word::constant_word;
 use words::word::low_flags;
 use words::word::ones_below;
 use words::word::ones_in_word;
+use words::word::up;
 
 pub fn head(s: usize, i: usize) {
     match s {
@@ -21,7 +23,7 @@ pub fn head(s: usize, i: usize) {
 pub fn cell(s: usize, i: usize, j: usize) {
     match s {
         0 => text::word(constant_word(j == 1)),
-        1 => text::word(low_flags(tables::word(j), tables::place(i))),
+        1 => text::word(low_word(j, tables::place(i))),
         2 => text::number(ones_in_word(tables::word(j))),
         3 => text::number(ones_below(tables::word(j), tables::place(i))),
         4 => text::word(merge_case(j, (3 * (j % 10) + 1) % 10, tables::place(i))),
@@ -29,6 +31,16 @@ pub fn cell(s: usize, i: usize, j: usize) {
         6 => nth_cell(i, j),
         7 => single_cell(j),
         _ => op_cell(j, tables::word(i / 10), tables::word(i % 10), third(i)),
+    }
+}
+
+// low_flags PLACE: of each word; then `up` of each word, and so many flags of either kind.
+fn low_word(j: usize, k: usize) -> u64 {
+    match j {
+        0..=9 => low_flags(tables::word(j), k),
+        20 => constant_flags(false, k),
+        21 => constant_flags(true, k),
+        _ => up(tables::word(j % 10), k),
     }
 }
 

@@ -1,4 +1,4 @@
-// loops::copy, counts::copy_count and loops::fill, sections 18 to 21.
+// loops::copy, counts::copy_count, loops::fill and loops::fill_whole, sections 18 to 21.
 use crate::tables;
 use crate::text;
 use words::counts;
@@ -20,17 +20,14 @@ fn fill_head(flag: bool, len: usize) {
 
 // copy START LENGTH: the outputs of five bytes more and of one byte short, the same with a count, and a checksum of all sizes of
 // bytes and outputs. copy far START LENGTH: far starts with each length, and near starts with far lengths. fill FLAG LENGTH: every
-// kind of output. fill far FLAG LENGTH: outputs of the sizes of the table.
+// kind of output; then `fill_whole` of the whole words of the length. fill far FLAG LENGTH: outputs of the sizes of the table; then
+// `fill_whole` of so many words.
 pub fn cell(s: usize, i: usize, j: usize) {
     match s {
         18 => copy_cell(tables::start(i / 15), tables::len(i % 15), j),
         19 => far_cell(far_start(i), far_len(i), j),
-        20 => fill_shown(
-            i % 2 == 1,
-            tables::len(i / 2),
-            tables::room_for(j, tables::len(i / 2)),
-        ),
-        _ => fill_shown(i % 2 == 1, tables::far_len(i / 2), tables::size(j)),
+        20 => fill_cell(i % 2 == 1, tables::len(i / 2), j),
+        _ => fill_far_cell(i % 2 == 1, tables::far_len(i / 2), j),
     }
 }
 
@@ -132,4 +129,31 @@ pub fn filled(flag: bool, len: usize, room: usize, size: usize) -> [u8; 1250] {
 
 fn fill_shown(flag: bool, len: usize, room: usize) {
     text::first(filled(flag, len, room, 40), 40);
+}
+
+fn words_filled(flag: bool, words: usize, room: usize) -> [u8; 1250] {
+    let mut out = tables::painted(7, tables::LARGEST, 40);
+    let lent = room % 1251;
+    loops::fill_whole(flag, words, &mut out[0..lent]);
+    out
+}
+
+fn words_shown(flag: bool, words: usize, room: usize) {
+    text::first(words_filled(flag, words, room), 40);
+}
+
+fn fill_cell(flag: bool, len: usize, j: usize) {
+    if j < 6 {
+        fill_shown(flag, len, tables::room_for(j, len));
+    } else {
+        words_shown(flag, len / 64, tables::room_for(j - 6, len));
+    }
+}
+
+fn fill_far_cell(flag: bool, len: usize, j: usize) {
+    if j < 8 {
+        fill_shown(flag, len, tables::size(j));
+    } else {
+        words_shown(flag, len, tables::size(j));
+    }
 }

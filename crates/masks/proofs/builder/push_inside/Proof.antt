@@ -1,15 +1,14 @@
--- The word in progress has room for all flags (`push-short`).
-use native.Mathlib.Omega.{arith}
-use Rattle.masks.proofs.PushLaws.{push-short}
+-- The word in progress has room for all flags (`push-within`).
+use Rattle.masks.proofs.PushLaws.{push-within}
 use borrow.Author.Needs.{needs}
 use Rattle.masks.proofs.builder.push_inside.Statement.{statement}
 use Rattle.masks.proofs.builder.push_inside.Tie as tie
 
-low-flags-requires : tie.Need-low-flags-requires
-low-flags-requires c κs = search needs
+up-requires : tie.Need-up-requires
+up-requires c κs = search needs
 
-behind-requires : tie.Need-behind-requires
-behind-requires c κs = search needs
+or-word-requires : tie.Need-or-word-requires
+or-word-requires c κs = search needs
 
 add-longer : tie.Need-add-longer
 add-longer c = search needs
@@ -18,7 +17,7 @@ returns : tie.Need-returns
 returns c =
     let m = c .before in
     let s = m .before .before .before in
-    λ bytes. push-short _ bytes _ _ _ _ (omega (arith, s .pre .1)) (m .before .low-flags .ensures) (m .behind .ensures) (m .behind .ok) (s .pre .1)
+    λ bytes. push-within _ bytes _ _ _ _ (s .pre) (m .before .up .ensures) (m .or-word .ensures) (m .or-word .ok)
 
 pub push-inside-spec : {M : Type 1} → statement M
-push-inside-spec = tie.close (tie.spec low-flags-requires behind-requires add-longer returns)
+push-inside-spec = tie.close (tie.spec up-requires or-word-requires add-longer returns)

@@ -4,7 +4,7 @@ use native.Mathlib.Omega.{arith}
 use Rattle.words.proofs.Bytes.{over-from}
 use Rattle.words.proofs.Counting.{count-copies}
 use Rattle.words.proofs.Windows.{length-copies}
-use Rattle.masks.proofs.ExtendLaws.{append-whole}
+use Rattle.masks.proofs.ExtendLaws.{append-whole, words-filled}
 use borrow.Author.Needs.{needs}
 use Rattle.masks.proofs.extend.fill_words.Statement.{statement}
 use Rattle.masks.proofs.extend.fill_words.Tie as tie
@@ -27,17 +27,17 @@ add-ones c =
 mul-at : tie.Need-mul-at
 mul-at c = search needs
 
-sub-fill : tie.Need-sub-fill
-sub-fill c = search needs
+sub-fill-whole : tie.Need-sub-fill-whole
+sub-fill-whole c = search needs
 
-part-fill-start : tie.Need-part-fill-start
-part-fill-start c = search needs
+part-fill-whole-start : tie.Need-part-fill-whole-start
+part-fill-whole-start c = search needs
 
-part-fill-end : tie.Need-part-fill-end
-part-fill-end c = search needs
+part-fill-whole-end : tie.Need-part-fill-whole-end
+part-fill-whole-end c = search needs
 
-fill-requires : tie.Need-fill-requires
-fill-requires c κs = search needs
+fill-whole-requires : tie.Need-fill-whole-requires
+fill-whole-requires c κs = search needs
 
 same-length : tie.Need-same-length
 same-length c = search needs
@@ -47,7 +47,7 @@ returns c =
     let did = c .before .before in
     let s = did .before .before .before .before .before .before .before in
     append-whole _ (s .args .buf .now) _ (s .args .whole) _ _ (s .pre .0) (length-copies _ _) (did .before .before .before .before .ones-of .ensures .0 ∙ sym (count-copies _ _))
-    (λ i. did .before .before .before .before .before .before .slice-known .given i .fits) (λ i. c .slice-known2 .given i .fits) (over-from _ _ _ _ (did .fill .ensures))
+    (λ i. did .before .before .before .before .before .before .slice-known .given i .fits) (λ i. c .slice-known2 .given i .fits) (over-from _ _ _ _ (words-filled _ _ (s .args .whole) _ _ (omega arith) (did .fill-whole .ensures)))
 
 pub fill-words-spec : {M : Type 1} → statement M
 fill-words-spec =
@@ -58,9 +58,9 @@ fill-words-spec =
     ones-of-requires
     add-ones
     mul-at
-    sub-fill
-    part-fill-start
-    part-fill-end
-    fill-requires
+    sub-fill-whole
+    part-fill-whole-start
+    part-fill-whole-end
+    fill-whole-requires
     same-length
     returns)

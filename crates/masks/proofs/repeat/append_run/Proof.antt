@@ -1,8 +1,10 @@
--- Few copies by `constant-front`, more by the worker, of a record that is equal (`append-same`).
+-- Few copies by `front-padded`, more by the worker, of a record that is equal (`append-same`).
 use mathlib.Core.Path.{ap, _∙_}
 use native.Mathlib.Omega.{arith}
+use Rattle.words.proofs.Windows.{length-copies}
 use Rattle.masks.specs.Builder.{appended}
-use Rattle.masks.proofs.AppendLaws.{append-same, constant-front}
+use Rattle.masks.proofs.AppendLaws.{append-same}
+use Rattle.masks.proofs.InsideLaws.{front-padded, inside-padded}
 use Rattle.masks.proofs.RoomLaws.{room-same}
 use borrow.Author.Needs.{needs}
 use Rattle.masks.proofs.repeat.append_run.Statement.{statement}
@@ -11,16 +13,18 @@ use Rattle.masks.proofs.repeat.append_run.Tie as tie
 add-if1 : tie.Need-add-if1
 add-if1 c = search needs
 
-constant-word-requires : tie.Need-constant-word-requires
-constant-word-requires c κs = search needs
+constant-flags-requires : tie.Need-constant-flags-requires
+constant-flags-requires c κs = search needs
 
 push-inside-requires : tie.Need-push-inside-requires
-push-inside-requires c κs = search needs
+push-inside-requires c κs =
+    let then = c .before in
+    inside-padded _ _ _ _ _ _ (then .before .before .before .pre) (then .if1 .taken) (length-copies _ _) (c .constant-flags .ensures)
 
 returns : tie.Need-returns
 returns c =
     let word = c .before in
-    c .push-inside .ensures _ ∙ ap (appended _) (constant-front _ _ _ (omega (arith, word .before .if1 .taken)) (word .constant-word .ensures))
+    c .push-inside .ensures _ ∙ ap (appended _) (front-padded _ _ _ (length-copies _ _) (omega (arith, word .before .if1 .taken)) (word .constant-flags .ensures))
 
 copied-requires : tie.Need-copied-requires
 copied-requires c κs = search needs
@@ -43,7 +47,7 @@ append-run-spec =
     tie.close
     (tie.spec
     add-if1
-    constant-word-requires
+    constant-flags-requires
     push-inside-requires
     returns
     copied-requires

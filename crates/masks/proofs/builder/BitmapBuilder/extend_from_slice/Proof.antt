@@ -1,5 +1,6 @@
 -- The number of the checks decides: `refused-way` or `append-way`; flags of one load for which the word in progress has room by themselves, more by
 -- the worker.
+use Prim.Native.Nat.{_≤_}
 use mathlib.Core.Path.{ap, _∙_}
 use native.Mathlib.Omega.{arith}
 use Rattle.masks.specs.Appends.{spanGrowChecks}
@@ -7,6 +8,8 @@ use Rattle.masks.specs.Builder.{appended}
 use Rattle.masks.proofs.CheckLaws.{refused-way}
 use Rattle.masks.proofs.AppendLaws.{append-way, append-same}
 use Rattle.masks.proofs.ExtendLaws.{few-inside}
+use Rattle.masks.proofs.InsideLaws.{front-padded, inside-padded}
+use Rattle.masks.proofs.PartLaws.{length-low}
 use Rattle.masks.proofs.RoomLaws.{grow-allowed, room-same}
 use Rattle.masks.proofs.SpanLaws.{whole-stretch}
 use borrow.Author.Needs.{needs}
@@ -26,23 +29,29 @@ stays-inside-requires c κs = search needs
 near-word-requires : tie.Need-near-word-requires
 near-word-requires c κs = search needs
 
+low-flags-requires : tie.Need-low-flags-requires
+low-flags-requires c κs = search needs
+
 push-inside-requires : tie.Need-push-inside-requires
 push-inside-requires c κs =
-    let fits = c .before in
+    let fits = c .before .before in
     let no = fits .before .before in
     let room = grow-allowed _ _ _ _ _ _ (no .before .span-grow-failure .ensures) (no .if1 .left) .1 in
     let a = no .before .before .before .before .args in
-    (omega (arith, room .short), few-inside (a .self) (a .n) _ (fits .before .stays-inside .ensures) (fits .if2 .taken) .1)
+    let few = few-inside (a .self) (a .n) _ (fits .before .stays-inside .ensures) (fits .if2 .taken) in
+    inside-padded _ _ _ _ _ _ room (few .1) (length-low _ _ (omega (arith, few .0))) (c .low-flags .ensures)
 
 returns-2 : tie.Need-returns-2
 unfolding spanGrowChecks
 returns-2 c =
-    let fits = c .before .before in
+    let word = c .before .before in
+    let fits = word .before in
     let no = fits .before .before in
     let a = no .before .before .before .before .args in
     let few = few-inside (a .self) (a .n) _ (fits .before .stays-inside .ensures) (fits .if2 .taken) .0 in
+    let most : a .n ≤ 64 = omega arith in
     append-way _ _ _ _ _ _ _ _ (no .before .span-grow-failure .ensures) (no .if1 .left)
-    (c .push-inside .ensures _ ∙ ap (appended _) (c .before .near-word .ensures _ few))
+    (c .push-inside .ensures _ ∙ ap (appended _) (front-padded _ _ _ (length-low _ _ most) most (c .before .low-flags .ensures) ∙ word .near-word .ensures _ few))
 
 copied-requires : tie.Need-copied-requires
 copied-requires c κs = search needs
@@ -83,6 +92,7 @@ extend-from-slice-spec =
     returns
     stays-inside-requires
     near-word-requires
+    low-flags-requires
     push-inside-requires
     returns-2
     copied-requires
