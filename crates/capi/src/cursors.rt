@@ -1,8 +1,10 @@
 // Exported to C and Rust: the cursors over runs, flags and positions.
 ghost use mathlib.Core.Path.{_≡_};
 ghost use Rattle.masks.specs.Iterator.{flagAnswer, iterAnswer, iterAt, newIter, nthFlag, takeLeading, takenAnswer};
+ghost use Rattle.masks.specs.Positions.{chunkAnswer, chunkOver, nextChunk};
 ghost use Rattle.masks.specs.SliceIterator.{newSlices, nextSlice, sliceAnswer, slicesAnswer, slicesAt};
 ghost use Rattle.masks.specs.TrueIdx.{newTrue, nextTrue, trueIdxAnswer, trueIterAnswer};
+ghost use lib.ListN.{length as ListN·length};
 ghost use Rattle.capi.specs.Answers.{asBit, asCursor, asRun, asTaken, asWord};
 ghost use Rattle.capi.specs.Records.{iterOut, iterPlace, maskIn, optionalIn, slicesOut, slicesPlace, trueIn, trueOut, truePlace};
 use crate::answers::CursorAnswer;
@@ -23,6 +25,7 @@ use masks::iterator::Taken;
 use masks::slice_iterator::Slice;
 use masks::slice_iterator::Slices;
 use masks::slice_iterator::SlicesIterator;
+use masks::true_idx::TrueChunk;
 use masks::true_idx::TrueIdx;
 use masks::true_idx::TrueIdxIter;
 use masks::true_idx::TrueIter;
@@ -221,6 +224,15 @@ fn true_idx_out(r: TrueIdx) -> StepAnswer
     }
 }
 
+fn chunk_out(r: TrueChunk) -> StepAnswer
+    ensures { λ a. ⌜ a ≡ asTaken truePlace (chunkAnswer r) ⌝ }
+{
+    match r {
+        TrueChunk::Wrote(n, c) => step_of(0, true, 0, n, c.place),
+        TrueChunk::Refused(k, c) => step_of(k, false, 0, 0, c.place),
+    }
+}
+
 // A cursor before the first position. Without a mask every position is given.
 #[no_mangle]
 pub extern "C" fn pw_true_idx_new(
@@ -246,4 +258,20 @@ pub extern "C" fn pw_true_idx_next(
     ensures { λ r. ⌜ r ≡ asWord truePlace (nextTrue (trueIn start length place masked) (now (bytes .entry))) ⌝ }
 {
     true_idx_out(true_in(start, length, place, masked).next(bytes))
+}
+
+// The next positions of ones, as many as `out` has room for, written to its front.
+#[no_mangle]
+pub extern "C" fn pw_true_idx_next_chunk(
+    start: usize,
+    length: usize,
+    place: usize,
+    masked: u8,
+    bytes: &[u8],
+    out: &mut [u32],
+) -> StepAnswer
+    ensures answer { λ r. ⌜ r ≡ asTaken truePlace (nextChunk (trueIn start length place masked) (now (bytes .entry)) (ListN·length (now (out .entry)))) ⌝ }
+    ensures positions { λ _. ⌜ now (out .exit) ≡ chunkOver (trueIn start length place masked) (now (bytes .entry)) (now (out .entry)) ⌝ }
+{
+    chunk_out(true_in(start, length, place, masked).next_chunk(bytes, out))
 }
