@@ -75,8 +75,8 @@ pub fn run(driver: &Driver) {
             }),
             original: Some(written(&m[0], |m, out| {
                 let mut count = 0;
-                for at in TrueIdxIter::new(m.length, Some(&m.bitmap)) {
-                    out[count] = at as u32;
+                for (entry, at) in out.iter_mut().zip(TrueIdxIter::new(m.length, Some(&m.bitmap))) {
+                    *entry = at as u32;
                     count += 1;
                 }
                 count
