@@ -22,6 +22,7 @@ fn by_chunks(mut iter: TrueIdxIter, room: usize) -> Vec<usize> {
     loop {
         let some = chunk(&mut iter, room);
         all.extend(&some);
+        assert!(all.len() <= Bitmap::LIMIT, "more positions than a mask has flags");
         if some.len() < room {
             assert_eq!((chunk(&mut iter, room), iter.next()), (Vec::new(), None), "nothing behind the end");
             return all;
