@@ -1,4 +1,5 @@
-//! Cursors and iterators gone through to their end. Each step of ours is a call; the original's `next` is inlined.
+//! Cursors and iterators gone through to their end. Each step of ours is a call, but for positions, of which a call can give many; the
+//! original's `next` is inlined.
 
 use original::bitmap::iterator::TrueIdxIter;
 use original::bitmap::utils::{BitChunks, BitmapIter, SlicesIterator};

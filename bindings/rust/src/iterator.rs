@@ -159,7 +159,7 @@ const CHUNK: usize = 64;
 /// ```
 #[derive(Clone, Debug)]
 pub struct TrueIdxIter<'a> {
-    /// Just past the last position kept.
+    /// Behind the positions kept.
     cursor: Cursor<'a>,
     /// The positions that the last call gave stand at the front, up to `end`; those before `next` have been handed out.
     kept: [u32; CHUNK],
