@@ -81,8 +81,8 @@ typedef struct {
     size_t ones;
 } pw_builder;
 
-/* A cursor: a span and the next place in it, counted in flags, for pw_chunks_ in words. `masked` is read by pw_true_idx_next alone, for
- * which 0 says that there is no mask; every other call gives it as 1. */
+/* A cursor: a span and the next place in it, counted in flags, for pw_chunks_ in words. `masked` is read by pw_true_idx_next and
+ * pw_true_idx_next_chunk alone, for which 0 says that there is no mask; every other call gives it as 1. */
 typedef struct {
     size_t start;
     size_t length;
@@ -139,7 +139,8 @@ typedef struct {
 } pw_cursor_answer;
 
 /* What a cursor gives where `found`, and the place at which the cursor then stands; start and length stay. `value` is a word, a run's
- * start, a flag as 0 or 1, or a position; `count` is a run's length, the flags of a remainder or the flags taken. */
+ * start, a flag as 0 or 1, or a position; `count` is a run's length, the flags of a remainder, the flags taken or the positions
+ * written. */
 typedef struct {
     uint8_t refusal;
     bool found;
@@ -335,6 +336,12 @@ pw_cursor_answer pw_true_idx_new(size_t length, bool present, pw_mask mask, cons
 /* The next position in `value`. Refuses with 1, 2, 6; without a mask with 1, 6. */
 pw_step_answer pw_true_idx_next(size_t start, size_t length, size_t place, uint8_t masked, const uint8_t *bytes,
                                 size_t bytes_len);
+
+/* The next positions, as many as there are and `out` has room for, over its front, and their number in `count`: what out_len calls of
+ * pw_true_idx_next give. The place is just past the last of them, where there was room for more the length; with no room the cursor
+ * stays. `found` is true, `value` 0. Refuses with 1, 2, 6; without a mask with 1, 6. */
+pw_step_answer pw_true_idx_next_chunk(size_t start, size_t length, size_t place, uint8_t masked, const uint8_t *bytes,
+                                      size_t bytes_len, uint32_t *out, size_t out_len);
 
 /* ---- dispatch */
 

@@ -256,6 +256,61 @@ static void cursors(void) {
     CHECK(is_cursor(c, 0, 2, 0, 0) && is_step(pw_true_idx_next(CURSOR(c), c.masked, NULL, 0), 0, 0, 1));
 }
 
+/* An output of positions that no call wrote holds 99 throughout. */
+enum { ROOM = 6 };
+static uint32_t room[ROOM];
+
+static pw_step_answer positions_of(pw_cursor c, const uint8_t *bytes, size_t n, size_t many) {
+    for (int i = 0; i < ROOM; i++) room[i] = 99;
+    return pw_true_idx_next_chunk(CURSOR(c), c.masked, bytes, n, room, many);
+}
+
+/* Whether the output holds these positions, and behind them what it held before. */
+static bool has(const uint32_t *positions, size_t n) {
+    for (size_t i = 0; i < ROOM; i++)
+        if (room[i] != (i < n ? positions[i] : 99)) return false;
+    return true;
+}
+
+static void position_chunks(void) {
+    const uint32_t ones[4] = {0, 2, 3, 5}, last[1] = {5}, all[3] = {0, 1, 2}, from_4[3] = {4, 5, 6};
+    pw_cursor c = pw_true_idx_new(6, true, MASK_A, A, 1).cursor;
+    CHECK(is_step(positions_of(c, A, 1, 3), 0, 3, 4) && has(ones, 3)); /* full, with one more to come */
+    CHECK(is_step(positions_of(c, A, 1, 4), 0, 4, 6) && has(ones, 4)); /* just full */
+    CHECK(is_step(positions_of(c, A, 1, 6), 0, 4, 6) && has(ones, 4)); /* room for two more */
+    CHECK(is_step(positions_of(c, A, 1, 0), 0, 0, 0) && has(NULL, 0));
+    CHECK(is_step(pw_true_idx_next_chunk(CURSOR(c), c.masked, A, 1, NULL, 0), 0, 0, 0));
+    c.place = 4;
+    CHECK(is_step(positions_of(c, A, 1, 2), 0, 1, 6) && has(last, 1));
+    CHECK(is_step(positions_of(c, A, 1, 0), 0, 0, 4) && has(NULL, 0));
+    c.place = 6;
+    CHECK(is_step(positions_of(c, A, 1, 2), 0, 0, 6) && has(NULL, 0));
+
+    const uint8_t long_run[10] = {0, 0, 0, 0, 0, 0, 0, 0xE0, 0x07, 0}; /* ones at bits 61 to 66, the mask from bit 3 on */
+    const uint32_t across[6] = {58, 59, 60, 61, 62, 63};
+    pw_cursor from_3 = {3, 77, 0, 1};
+    CHECK(is_step(positions_of(from_3, long_run, 10, 6), 0, 6, 64) && has(across, 6));
+    CHECK(is_step(positions_of(from_3, long_run, 10, 5), 0, 5, 63) && has(across, 5));
+    from_3.place = 59;
+    CHECK(is_step(positions_of(from_3, long_run, 10, 6), 0, 5, 77) && has(across + 1, 5));
+
+    c = pw_true_idx_new(7, false, MASK_A, NULL, 0).cursor; /* without a mask */
+    CHECK(is_step(positions_of(c, NULL, 0, 3), 0, 3, 3) && has(all, 3));
+    c.place = 4;
+    CHECK(is_step(positions_of(c, NULL, 0, 6), 0, 3, 7) && has(from_4, 3));
+    CHECK(is_step(positions_of(c, NULL, 0, 3), 0, 3, 7) && has(from_4, 3));
+
+    pw_cursor refused[5] = {{0, 6, 7, 1}, {3, 6, 0, 1}, {0, PW_FLAG_LIMIT + 1, 0, 1}, {0, 6, 7, 0}, {PW_FLAG_LIMIT + 1, 6, 9, 0}};
+    const uint8_t numbers[5] = {PW_REFUSED_OUTSIDE_MASK, PW_REFUSED_OUTSIDE_BYTES, PW_REFUSED_ABOVE_LIMIT, PW_REFUSED_OUTSIDE_MASK,
+                                PW_REFUSED_ABOVE_LIMIT};
+    for (int i = 0; i < 5; i++) {
+        pw_step_answer s = positions_of(refused[i], A, 1, ROOM);
+        CHECK(s.refusal == numbers[i] && !s.found && s.value == 0 && s.count == 0 && s.place == refused[i].place && has(NULL, 0));
+    }
+    pw_cursor outside = {3, 6, 0, 0}; /* without a mask the bytes are not asked for */
+    CHECK(is_step(positions_of(outside, A, 1, 3), 0, 3, 3) && has(all, 3));
+}
+
 static void dispatch(void) {
     const uint8_t revoked[1] = {0x04}; /* truck 2 */
     CHECK(pw_may_reassign(true, MASK_A, A, 1, true, MASK_A, revoked, 1, 0).value);
@@ -304,6 +359,7 @@ int main(void) {
     masks();
     combinations();
     cursors();
+    position_chunks();
     dispatch();
     refusals();
     printf("%d checks, %d wrong\n", checks, wrong);

@@ -1,4 +1,5 @@
-//! Cursors and iterators gone through to their end. Each step of ours is a call; the original's `next` is inlined.
+//! Cursors and iterators gone through to their end. Each step of ours is a call, but for positions, of which a call can give many; the
+//! original's `next` is inlined.
 
 use original::bitmap::iterator::TrueIdxIter;
 use original::bitmap::utils::{BitChunks, BitmapIter, SlicesIterator};
@@ -6,7 +7,7 @@ use poruwhina::calls::{self, Cursor, Step};
 
 use crate::driver::{Driver, Sides};
 use crate::inputs::{Input, Kind};
-use crate::timing::walk;
+use crate::timing::{side, walk, Answer, Side};
 
 /// The answers of a cursor up to the first that has none.
 fn steps<'a>(mut cursor: Cursor, bytes: &'a [u8], next: impl Fn(Cursor, &[u8]) -> Step + 'a) -> impl Iterator<Item = Step> + 'a {
@@ -23,6 +24,12 @@ fn run_of(start: usize, length: usize) -> u64 {
 
 fn original_positions(m: &Input) -> (u64, impl Iterator<Item = u64> + '_) {
     (0, TrueIdxIter::new(m.length, Some(&m.bitmap)).map(|at| at as u64))
+}
+
+/// A side that writes all positions of the mask to a buffer that has just the room for them, and says how many.
+fn written<'a>(m: &'a Input, write: impl Fn(&Input, &mut [u32]) -> usize + 'a) -> Box<dyn Side + 'a> {
+    let out = vec![u32::MAX; m.length - m.zeros];
+    side((m, out), move |(m, out)| write(m, out), |(_, out), count| -> Answer { out[..count].iter().map(|at| u64::from(*at)).collect() })
 }
 
 pub fn run(driver: &Driver) {
@@ -60,6 +67,21 @@ pub fn run(driver: &Driver) {
                 (0, steps(cursor, m.bytes(), calls::true_idx_next).map(|step| step.value))
             }),
             original: Some(walk(&m[0], original_positions)),
+            plain: None,
+        });
+        driver.each("TrueIdxIter::next_chunk, all positions", kind, &[1], |m| Sides {
+            ours: written(&m[0], |m, out| {
+                let cursor = calls::true_idx_new(m.length, true, m.mask, m.bytes()).cursor;
+                calls::true_idx_next_chunk(cursor, m.bytes(), out).count
+            }),
+            original: Some(written(&m[0], |m, out| {
+                let mut count = 0;
+                for (entry, at) in out.iter_mut().zip(TrueIdxIter::new(m.length, Some(&m.bitmap))) {
+                    *entry = at as u32;
+                    count += 1;
+                }
+                count
+            })),
             plain: None,
         });
     }

@@ -49,14 +49,29 @@ fn pushed(flags: &[bool]) -> Result<Bitmap, Refusal> {
     Ok(builder.freeze())
 }
 
+fn sum_by_loop(mask: &Bitmap) -> usize {
+    let mut sum = 0;
+    for position in mask.true_idx_iter() {
+        sum += position;
+    }
+    sum
+}
+
 fn main() -> Result<(), Refusal> {
     let flags: Vec<bool> = random_flags(FLAGS).collect();
     let mask = Bitmap::from(&flags);
     let short = mask.sliced(3, SHORT)?;
+    let dense: Bitmap = (0..FLAGS).map(|i| i % 64 != 0).collect();
 
     cost("iter, per flag", FLAGS, || mask.iter().filter(|flag| *flag).count());
     cost("slices, per run", mask.slices().count(), || mask.slices().count());
-    cost("true_idx_iter, per position", mask.set_bits(), || mask.true_idx_iter().count());
+    for (flags, mask) in [("half ones", &mask), ("63 in 64 ones", &dense)] {
+        let mut out = vec![0; mask.set_bits()];
+        let ones = out.len();
+        cost(&format!("true_idx_iter, {flags}"), ones, || sum_by_loop(mask));
+        cost(&format!("the same by sum, {flags}"), ones, || mask.true_idx_iter().sum::<usize>());
+        cost(&format!("next_chunk, {flags}"), ones, || mask.true_idx_iter().next_chunk(&mut out));
+    }
     cost("chunks, per word of 64", FLAGS / 64, || mask.chunks().fold(0, |a, b| a ^ b));
     cost("push, per flag", FLAGS, || pushed(&flags));
     call_cost("get", || black_box(&mask).get(FLAGS / 2));

@@ -1,5 +1,5 @@
 //! Cursors over a borrowed mask: its flags, runs of ones, positions of ones and words. Each step is a call of the library, but for
-//! positions inside a run of ones whose length a call gave.
+//! positions, of which a call gives many.
 
 use std::iter::FusedIterator;
 
@@ -37,6 +37,14 @@ impl<'a> Cursor<'a> {
     fn step(&mut self, call: impl Fn(calls::Cursor, &[u8]) -> calls::Step) -> Option<calls::Step> {
         let answer = self.took(call(self.record, self.bytes));
         answer.found.then_some(answer)
+    }
+
+    /// Writes the next positions to the front of `out` and says how many. At the end no call is made.
+    fn positions(&mut self, out: &mut [u32]) -> usize {
+        if out.is_empty() || self.rest() == 0 {
+            return 0;
+        }
+        self.took(calls::true_idx_next_chunk(self.record, self.bytes, out)).count
     }
 
     /// The flags not passed yet.
@@ -136,7 +144,14 @@ impl Iterator for SlicesIterator<'_> {
 
 impl FusedIterator for SlicesIterator<'_> {}
 
+/// How many positions a call is asked for.
+const CHUNK: usize = 64;
+
 /// The positions of the ones of a mask, rising, by [`Bitmap::true_idx_iter`].
+///
+/// A call of the library gives up to 64 positions, which are kept and handed out one by one; the first costs as much as all of
+/// them. For a single position there is [`Bitmap::nth_set_bit_idx`], for many at once
+/// [`next_chunk`](TrueIdxIter::next_chunk).
 ///
 /// ```
 /// let mask = poruwhina::Bitmap::from([true, false, true, true, false, true]);
@@ -144,11 +159,12 @@ impl FusedIterator for SlicesIterator<'_> {}
 /// ```
 #[derive(Clone, Debug)]
 pub struct TrueIdxIter<'a> {
+    /// Behind the positions kept.
     cursor: Cursor<'a>,
-    /// The flags from the cursor's place up to here are ones, as the library said.
-    ones_end: usize,
-    /// How many of the last positions that calls gave stood right behind the one before.
-    adjacent: u32,
+    /// The positions that the last call gave stand at the front, up to `end`; those before `next` have been handed out.
+    kept: [u32; CHUNK],
+    next: usize,
+    end: usize,
 }
 
 impl<'a> TrueIdxIter<'a> {
@@ -167,22 +183,32 @@ impl<'a> TrueIdxIter<'a> {
     pub fn new(length: usize, mask: Option<&'a Bitmap>) -> Result<TrueIdxIter<'a>, Refusal> {
         let (record, bytes) = record_or_absent(mask);
         let cursor = Cursor::new(bytes, calls::true_idx_new(length, mask.is_some(), record, bytes))?;
-        Ok(TrueIdxIter { cursor, ones_end: 0, adjacent: 0 })
+        Ok(TrueIdxIter { cursor, kept: [0; CHUNK], next: 0, end: 0 })
     }
 
-    /// The next one by a call. After two that stood right behind the one before more may follow: a second call says how many,
-    /// and the positions of those need none.
-    fn next_by_call(&mut self) -> Option<usize> {
-        let place = self.cursor.record.place;
-        let position = self.cursor.step(calls::true_idx_next)?.value as usize;
-        self.adjacent = if position == place { self.adjacent + 1 } else { 0 };
-        if self.adjacent == 2 && self.cursor.record.masked != 0 {
-            self.adjacent = 0;
-            let ones = calls::take_leading(true, self.cursor.record, self.cursor.bytes);
-            check_passed(ones.refusal);
-            self.ones_end = self.cursor.record.place + ones.count;
-        }
-        Some(position)
+    /// Writes the next positions to the front of `out`, as many as there are and it has room for, and says how many. The rest of
+    /// `out` stays. Less than its length says that there are no more.
+    ///
+    /// ```
+    /// let mask = poruwhina::Bitmap::from([true, false, true, true, false, true]);
+    /// let mut positions = mask.true_idx_iter();
+    /// let mut out = [9; 3];
+    /// assert_eq!((positions.next(), positions.next_chunk(&mut out[..2]), out), (Some(0), 2, [2, 3, 9]));
+    /// assert_eq!((positions.next_chunk(&mut out), out), (1, [5, 3, 9]));
+    /// ```
+    pub fn next_chunk(&mut self, out: &mut [u32]) -> usize {
+        let kept = &self.kept[self.next..self.end];
+        let first = kept.len().min(out.len());
+        out[..first].copy_from_slice(&kept[..first]);
+        self.next += first;
+        first + self.cursor.positions(&mut out[first..])
+    }
+
+    /// Fills the empty buffer; false at the end.
+    fn refill(&mut self) -> bool {
+        self.next = 0;
+        self.end = self.cursor.positions(&mut self.kept);
+        self.end > 0
     }
 }
 
@@ -196,16 +222,31 @@ impl Iterator for TrueIdxIter<'_> {
 
     #[inline]
     fn next(&mut self) -> Option<usize> {
-        let place = self.cursor.record.place;
-        if place < self.ones_end {
-            self.cursor.record.place = place + 1;
-            return Some(place);
+        if self.next == self.end && !self.refill() {
+            return None;
         }
-        self.next_by_call()
+        // below `end`, so that the remainder changes nothing: it is quicker than the test of an index
+        let position = self.kept[self.next % CHUNK];
+        self.next += 1;
+        Some(position as usize)
     }
 
     fn size_hint(&self) -> (usize, Option<usize>) {
-        (0, Some(self.cursor.rest()))
+        let kept = self.end - self.next;
+        (kept, Some(kept + self.cursor.rest()))
+    }
+
+    #[inline]
+    fn fold<B, F: FnMut(B, usize) -> B>(mut self, init: B, mut f: F) -> B {
+        let mut folded = init;
+        loop {
+            for &position in &self.kept[self.next..self.end] {
+                folded = f(folded, position as usize);
+            }
+            if !self.refill() {
+                return folded;
+            }
+        }
     }
 }
 

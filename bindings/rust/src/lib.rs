@@ -99,21 +99,24 @@
 //!
 //! # What is not proved
 //!
-//! The Rust of this crate. It keeps records and bytes, allocates, computes how many bytes so many flags take, subtracts the zeros
-//! from the length for [`Bitmap::set_bits`] and a place from a length for the iterators' `size_hint`, chooses the number of an
-//! operation, and turns answers into `Option`, `Result` and text. It reads and writes no flag by itself. The README has what must be
-//! believed beside it.
+//! The Rust of this crate. It keeps records and bytes, and positions that a call gave until they are asked for, allocates, computes
+//! how many bytes so many flags take, subtracts the zeros from the length for [`Bitmap::set_bits`] and a place from a length for the
+//! iterators' `size_hint`, chooses the number of an operation, and turns answers into `Option`, `Result` and text. It reads and
+//! writes no flag by itself. The README has what must be believed beside it.
 //!
 //! # What a call costs
 //!
 //! Every step of an iterator is one call of the library, which checks its cursor anew, rather than a shortcut in Rust that
-//! nothing proves. Measured by `examples/costs.rs` on one x86-64 machine, shared with other work, in nanoseconds:
+//! nothing proves; of positions a call gives up to 64. Measured by `examples/costs.rs` on one x86-64 machine, shared with other
+//! work, in nanoseconds:
 //!
 //! | call | cost |
 //! |---|---|
 //! | [`Bitmap::iter`], per flag | 3 |
 //! | [`Bitmap::slices`], per run, half the flags ones at random | 15 |
-//! | [`Bitmap::true_idx_iter`], per position | 4 |
+//! | [`Bitmap::true_idx_iter`], per position, half the flags ones at random | 5 |
+//! | the same, 63 in 64 flags ones: a loop, [`sum`](Iterator::sum) and the like | 0.7, 0.4 |
+//! | [`TrueIdxIter::next_chunk`], per position, of the two | 4, 0.1 |
 //! | [`Bitmap::chunks`], per word of 64 flags | 3 |
 //! | [`BitmapBuilder::push`], per flag | 5 |
 //! | [`Bitmap::get`], [`may_reassign`], of 1,000,000 flags | 6, 21 |

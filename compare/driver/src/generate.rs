@@ -31,8 +31,20 @@ pub fn generate(shape: Shape, style: &mut impl Style) -> Request {
             r.out = output(bytes_for(length as u128), style);
         }
         Target::Builder => builder(&mut r, appended, style),
+        Target::Entries => {
+            let entries = style.entries(ones_left(&r));
+            r.out = Bytes::new(&style.fill(4 * entries), style.address());
+        }
     }
     r
+}
+
+/// How many positions a cursor gives, or about so many where it is refused.
+fn ones_left(r: &Request) -> usize {
+    if r.masked && r.pieces[0].inside() {
+        return r.lent(0).flags().into_iter().skip(r.place).filter(|&flag| flag).count();
+    }
+    r.cursor().length.saturating_sub(r.place)
 }
 
 /// The frozen bytes of so many flags, no more than a limit's.

@@ -158,6 +158,8 @@ pub enum Target {
     None,
     Output,
     Builder,
+    /// Entries of 32 bits, which the request has as four bytes each, little-endian; fewer bytes at its end are not lent.
+    Entries,
 }
 
 #[derive(Clone, Copy, Debug)]
@@ -192,6 +194,10 @@ impl Shape {
 
     pub const fn writes(self) -> Shape {
         Shape { target: Target::Output, ..self }
+    }
+
+    pub const fn writes_entries(self) -> Shape {
+        Shape { target: Target::Entries, ..self }
     }
 
     pub const fn flag(self) -> Shape {

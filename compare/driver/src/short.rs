@@ -18,9 +18,9 @@ impl<'a, C: Choices> Short<'a, C> {
         Self { choices, shape, around }
     }
 
-    /// Whether the request is one piece, read and nothing else.
+    /// Whether the request is one piece, read, and no other bytes.
     fn alone(&self) -> bool {
-        self.shape.pieces == 1 && self.shape.target == Target::None
+        self.shape.pieces == 1 && matches!(self.shape.target, Target::None | Target::Entries)
     }
 
     /// The most flags: few enough for all combinations with the other choices.
@@ -30,7 +30,7 @@ impl<'a, C: Choices> Short<'a, C> {
             (2, ..) => 4,
             (1, Target::Builder, _) | (1, _, Args::Inner) => 5,
             (1, _, Args::Search) => 7,
-            (1, _, Args::Address | Args::SameLength) => 8,
+            (1, _, Args::Address | Args::SameLength) | (1, Target::Entries, _) => 8,
             (1, _, Args::None) => 10,
             (1, ..) => 9,
             _ => 130,
@@ -96,6 +96,10 @@ impl<C: Choices> Style for Short<'_, C> {
 
     fn room(&mut self, needed: usize) -> usize {
         (needed + 3).saturating_sub(self.one_of(&[0, 3, 4]))
+    }
+
+    fn entries(&mut self, many: usize) -> usize {
+        self.below(many + 3)
     }
 
     fn word(&mut self) -> u64 {

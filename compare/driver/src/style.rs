@@ -38,6 +38,9 @@ pub trait Style: Choices {
     /// How many bytes are lent where so many are needed.
     fn room(&mut self, needed: usize) -> usize;
 
+    /// How many entries an output has, where there are so many to write.
+    fn entries(&mut self, many: usize) -> usize;
+
     fn word(&mut self) -> u64;
 
     /// How many indices a gather has.

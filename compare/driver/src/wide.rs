@@ -125,6 +125,15 @@ impl Style for Wide<'_> {
         needed + self.one_of(&[0, 0, 0, 1, 8, 24])
     }
 
+    /// Just enough, too few or too many.
+    fn entries(&mut self, many: usize) -> usize {
+        match self.below(4) {
+            0 => many,
+            1 => many + self.below(70),
+            _ => self.below(many + 1),
+        }
+    }
+
     fn word(&mut self) -> u64 {
         let word = self.random.word();
         match self.below(5) {

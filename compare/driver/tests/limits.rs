@@ -33,7 +33,8 @@ fn long(call: &Call, length: usize, random: &mut Random) -> Request {
         request.builder = Builder::default();
     }
     if shape.target != Target::None {
-        request.out = Bytes::new(&style.fill(length.div_ceil(64) * 8), style.address());
+        let many = if shape.target == Target::Entries { 4 * length } else { length.div_ceil(64) * 8 };
+        request.out = Bytes::new(&style.fill(many), style.address());
     }
     request
 }

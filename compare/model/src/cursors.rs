@@ -76,3 +76,19 @@ pub fn true_idx_next(cursor: Cursor, bytes: &[u8]) -> Answer {
         (gap < flags.len()).then(|| (vec![cursor.place + gap], gap + 1))
     })
 }
+
+/// The next positions of ones, as many as there are and the output has entries, from its first entry on, and how many; later entries
+/// stay. The flag just past the last of them is next; the end where entries are left over; with no entry nothing moves.
+pub fn true_idx_next_chunk(cursor: Cursor, bytes: &[u8], out: &mut [u32]) -> Answer {
+    step(cursor, bytes, |flags| {
+        let (mut written, mut passed) = (0, 0);
+        while written < out.len() && passed < flags.len() {
+            if flags[passed] {
+                out[written] = (cursor.place + passed) as u32;
+                written += 1;
+            }
+            passed += 1;
+        }
+        Some((vec![written], passed))
+    })
+}

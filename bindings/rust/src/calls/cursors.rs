@@ -124,3 +124,25 @@ pub fn true_idx_next(cursor: Cursor, bytes: &[u8]) -> Step {
     let answer = unsafe { exports::pw_true_idx_next(start, length, place, masked, bytes.as_ptr(), bytes.len()) };
     answer.moving(cursor)
 }
+
+/// The next positions of ones, as many as there are and `out` has room for, over its front, and in `count` their number: what
+/// as many calls of [`true_idx_next`] give. What lies behind them in `out` stays. The cursor is just past the last of them; where
+/// there was room for more, at the length.
+///
+/// ```
+/// use poruwhina::calls::{true_idx_new, true_idx_next_chunk, try_new};
+///
+/// let cursor = true_idx_new(6, true, try_new(&[0x2D], 0, 6).mask, &[0x2D]).cursor;
+/// let mut out = [9; 3];
+/// let three = true_idx_next_chunk(cursor, &[0x2D], &mut out);
+/// assert_eq!((three.count, three.cursor.place, out), (3, 4, [0, 2, 3]));
+/// let rest = true_idx_next_chunk(three.cursor, &[0x2D], &mut out);
+/// assert_eq!((rest.count, rest.cursor.place, out), (1, 6, [5, 2, 3]));
+/// ```
+#[inline]
+pub fn true_idx_next_chunk(cursor: Cursor, bytes: &[u8], out: &mut [u32]) -> Step {
+    let Cursor { start, length, place, masked } = cursor;
+    let answer =
+        unsafe { exports::pw_true_idx_next_chunk(start, length, place, masked, bytes.as_ptr(), bytes.len(), out.as_mut_ptr(), out.len()) };
+    answer.moving(cursor)
+}

@@ -77,4 +77,7 @@ unsafe extern "C" {
     pub fn pw_take_leading(flag: bool, start: usize, length: usize, place: usize, bytes: *const u8, bytes_len: usize) -> StepAnswer;
     pub fn pw_true_idx_new(length: usize, present: bool, mask: Mask, bytes: *const u8, bytes_len: usize) -> CursorAnswer;
     pub fn pw_true_idx_next(start: usize, length: usize, place: usize, masked: u8, bytes: *const u8, bytes_len: usize) -> StepAnswer;
+    pub fn pw_true_idx_next_chunk(
+        start: usize, length: usize, place: usize, masked: u8, bytes: *const u8, bytes_len: usize, out: *mut u32, out_len: usize,
+    ) -> StepAnswer;
 }

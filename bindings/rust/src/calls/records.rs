@@ -40,8 +40,8 @@ pub struct Builder {
     pub ones: usize,
 }
 
-/// A cursor: a span and the next place in it. `masked` is read by [`true_idx_next`](super::true_idx_next) alone, where 0 says
-/// that there is no mask; every other call gives it as 1.
+/// A cursor: a span and the next place in it. `masked` is read by [`true_idx_next`](super::true_idx_next) and
+/// [`true_idx_next_chunk`](super::true_idx_next_chunk) alone, where 0 says that there is no mask; every other call gives it as 1.
 ///
 /// ```
 /// use poruwhina::calls::{iter_next, Cursor};
@@ -199,7 +199,7 @@ pub struct CursorAnswer {
 }
 
 /// What a cursor gives and the cursor behind it, or a refusal and the cursor as it came. `value` is a word, a run's start, a
-/// flag or a position; `count` is a run's length, the flags of a remainder or the flags taken.
+/// flag or a position; `count` is a run's length, the flags of a remainder, the flags taken or the positions written.
 ///
 /// ```
 /// use poruwhina::calls::{iter_next, Cursor, Step};
@@ -215,7 +215,7 @@ pub struct Step {
     pub found: bool,
     /// A word, a run's start, a flag or a position.
     pub value: u64,
-    /// A run's length, the flags of a remainder or the flags taken.
+    /// A run's length, the flags of a remainder, the flags taken or the positions written.
     pub count: usize,
     /// The cursor just past what it gave.
     pub cursor: Cursor,

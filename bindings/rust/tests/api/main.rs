@@ -3,6 +3,7 @@
 mod appending;
 mod combining;
 mod lists;
+mod positions;
 mod reading;
 mod refusing;
 

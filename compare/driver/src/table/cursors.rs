@@ -31,6 +31,35 @@ fn next_position(cursor: Cursor, bytes: &[u8]) -> Answer {
     ours::step(calls::true_idx_next(ours::cursor(cursor), bytes))
 }
 
+/// What stands around the entries lent to the library.
+const AROUND: u32 = 0xEEEE_EEEE;
+
+/// The whole entries of an output.
+fn entries(out: &[u8]) -> Vec<u32> {
+    out.chunks_exact(4).map(|entry| u32::from_le_bytes(entry.try_into().expect("four bytes"))).collect()
+}
+
+/// Puts entries over the front of an output.
+fn put(out: &mut [u8], entries: &[u32]) {
+    out.chunks_exact_mut(4).zip(entries).for_each(|(bytes, entry)| bytes.copy_from_slice(&entry.to_le_bytes()));
+}
+
+fn next_positions(r: &Request, out: &mut [u8]) -> Answer {
+    let mut room = [&[AROUND; 2], &entries(out)[..], &[AROUND; 2]].concat();
+    let end = room.len() - 2;
+    let answer = ours::taken(calls::true_idx_next_chunk(ours::cursor(r.cursor()), r.bytes(), &mut room[2..end]));
+    assert!(room[..2] == [AROUND; 2] && room[end..] == [AROUND; 2], "an entry outside of the output was written");
+    put(out, &room[2..end]);
+    answer
+}
+
+fn model_positions(r: &Request, out: &mut [u8]) -> Answer {
+    let mut room = entries(out);
+    let answer = cursors::true_idx_next_chunk(r.cursor(), r.bytes(), &mut room);
+    put(out, &room);
+    answer
+}
+
 fn their_words(r: &Request, _: &mut Met, visit: Visit) {
     BitChunks::<u64>::new(r.bytes(), r.span().start, r.span().length).for_each(|word| visit(&[word]));
 }
@@ -127,7 +156,28 @@ fn their_position(r: &Request, _: &mut Met) -> Option<Outcome> {
     Some(Outcome::values(found.map(|position| r.place + position)))
 }
 
-fn steps() -> [Call; 5] {
+/// The original's next positions, as many as the output has entries. The place is just past the last one that was asked for; where there
+/// was none left to give, the length.
+fn their_chunk(r: &Request, _: &mut Met) -> Option<Outcome> {
+    let cursor = r.cursor();
+    let (left, room) = (cursor.length - r.place, r.out.len() / 4);
+    let rest = r.masked.then(|| rest(r));
+    let mut positions = TrueIdxIter::new(left, rest.as_ref());
+    let (mut written, mut place) = (Vec::new(), cursor.place);
+    for _ in 0..room {
+        let Some(position) = positions.next() else {
+            place = cursor.length;
+            break;
+        };
+        written.push((cursor.place + position) as u32);
+        place = cursor.place + position + 1;
+    }
+    let bytes = written.iter().flat_map(|position| position.to_le_bytes()).collect();
+    let outcome = Outcome::values([written.len()]).record(State::Cursor(Cursor { place, ..cursor }));
+    Some(Outcome { written: Some(bytes), ..outcome })
+}
+
+fn steps() -> [Call; 6] {
     [
         Call {
             name: "slices_next",
@@ -168,6 +218,13 @@ fn steps() -> [Call; 5] {
             ours: |r, _| next_position(r.cursor(), r.bytes()),
             model: |r, _| cursors::true_idx_next(r.cursor(), r.bytes()),
             theirs: Theirs::Answer(their_position),
+        },
+        Call {
+            name: "true_idx_next_chunk",
+            shape: Shape::CURSOR.maskless().writes_entries(),
+            ours: next_positions,
+            model: model_positions,
+            theirs: Theirs::Answer(their_chunk),
         },
     ]
 }
