@@ -120,6 +120,20 @@ pub word-alike : (l : List Bool) (x : Bool) (start size place k w r : ℕ) → p
 word-alike l x start size place k w r inside p e h =
     sym (some-alike (window l start size) x place k r (omega (arith, length-window l start size)) (e ∙ ap (leading x) (p ∙ sym (in-window l start size place k inside))) h)
 
+-- the same where these are all that is left, and alike
+pub word-all-alike : (l : List Bool) (x : Bool) (start size place k w r : ℕ) → place + k ≡ size → take k (bits 64 w) ≡ window l (start + place) k
+    → r ≡ leading x (take k (bits 64 w)) → k ≤ r → k ≡ leadingFrom x (window l start size) place
+word-all-alike l x start size place k w r all p e h =
+    let m : List Bool = window l start size in
+    let inside : place + k ≤ length m = omega (arith, length-window l start size) in
+    let same : r ≡ leading x (window m place k) = e ∙ ap (leading x) (p ∙ sym (in-window l start size place k (omega arith))) in
+    omega (
+      arith,
+      every-alike m x place k r inside same h,
+      no-more m x place k r inside same,
+      at-end m x (place + r) (omega (arith, length-window l start size)),
+    )
+
 pub alike-inside : (l : List Bool) (x : Bool) (start size place r : ℕ) → place ≤ size → r ≡ leadingFrom x (window l start size) place → place + r ≤ size
 unfolding leadingFrom
 alike-inside l x start size place r h e = omega (arith, leading-le x (drop place (window l start size)), length-drop place (window l start size), length-window l start size)

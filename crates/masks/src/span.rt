@@ -39,16 +39,20 @@ pub(crate) fn leading_from(
     leading_by_words(flag, bytes, start, length, place)
 }
 
-// The same of zeros, for the cursors that look for a one: it is mostly among the flags of one load, and the rest is left to
-// `leading_from`, so that this stands in the body of its caller.
+// The same of zeros, for the cursors that look for a one: it is mostly among the flags of one load, or these are the last, and the
+// rest is left to `leading_from`, so that this stands in the body of its caller.
 pub(crate) fn zeros_from(bytes: &[u8], start: usize, length: usize, place: usize) -> usize
     requires { ⌜ (start ≤ 4194304) × ((length ≤ 4194304) × (place ≤ length)) ⌝ }
     ensures { λ r. ⌜ r ≡ leadingFrom false (stretch (now (bytes .entry)) start length) place ⌝ }
 {
-    let k = least(57, length - place);
+    let left = length - place;
+    let k = least(57, left);
     let same = leading_in_word(false, near_word(bytes, start + place), k);
     if same < k {
         return same;
+    }
+    if left <= 57 {
+        return left;
     }
     leading_from(false, bytes, start, length, place)
 }
