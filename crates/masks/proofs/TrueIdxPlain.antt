@@ -18,6 +18,7 @@ use Rattle.masks.specs.Answer.{Answer, given}
 use Rattle.masks.specs.Checks.{Check, check, earlier, firstFailed, spanChecks, withinLimit}
 use Rattle.masks.specs.Cursor.{Step, item, ended, cursorChecks, listing}
 use Rattle.masks.specs.Mask.{countValid, maskChecks}
+use Rattle.masks.specs.Positions.{leftOf}
 use Rattle.masks.specs.Search.{nthFrom}
 use Rattle.masks.specs.TrueIdx.{newTrueChecks, firstTrue, trueMoved, trueFlags, trueChecks, trueStep, nextTrue, onesFrom, onesLeft, AllOnes, no-one, one-at}
 use Rattle.masks.specs.declared.bitmap.Optional.{Optional}
@@ -154,7 +155,7 @@ abbrev pub answer-of : List ℕ → TrueIdxIter → Answer TrueIdxIter (Step Tru
 answer-of bytes c = nextTrue c bytes
 
 abbrev pub left-of : List ℕ → TrueIdxIter → List ℕ
-left-of bytes c = onesLeft (trueFlags c bytes) (c .place)
+left-of bytes c = leftOf c bytes
 
 abbrev pub accepted : List ℕ → TrueIdxIter → Type 0
 accepted bytes c = firstFailed (trueChecks c (length bytes)) ≡ 0
