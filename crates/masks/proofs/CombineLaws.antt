@@ -42,7 +42,8 @@ unfolding overFrom frozen
 over-small out l p = overFrom-small out 0 (packed (frozenSize (length l)) l) p (packed-small (frozenSize (length l)) l)
 
 -- whole words that were written over the front of an output
-pub frozen-written : (out out′ : List ℕ) (l : List Bool) → Small out → Small out′ → flagsOf out′ ≡ over (flagsOf out) (wholeWords l) → out′ ≡ over out (frozen l)
+pub frozen-written : (out out′ : List ℕ) (l : List Bool) → Small out → Small out′ → flagsOf out′ ≡ over (flagsOf out) (wholeWords l)
+    → out′ ≡ over out (frozen l)
 frozen-written out out′ l p q e =
     flags-inj out′ (over out (frozen l)) q (over-small out l p)
     (e ∙ ap (over (flagsOf out)) (sym (flags-frozen l)) ∙ sym (flags-over out (frozen l)))
@@ -103,7 +104,8 @@ pair-in-limit a aBytes b bBytes size e =
     let two = mask-allowed b bBytes (both-left (maskChecks b bBytes) rest (both-right (maskChecks a aBytes) (maskChecks b bBytes ++ rest) e)) in
     record { startA = one .starts; lengthA = one .short; startB = two .starts; lengthB = two .short }
 
-pub pair-lengths : (a : Bitmap) (aBytes : List ℕ) (b : Bitmap) (bBytes : List ℕ) (size : ℕ) → firstFailed (pairChecks a aBytes b bBytes size) ≡ 0 → a .length ≡ b .length
+pub pair-lengths : (a : Bitmap) (aBytes : List ℕ) (b : Bitmap) (bBytes : List ℕ) (size : ℕ) → firstFailed (pairChecks a aBytes b bBytes size) ≡ 0
+    → a .length ≡ b .length
 unfolding pairChecks
 pair-lengths a aBytes b bBytes size e =
     let rest : List Check = check 5 (eqb (a .length) (b .length)) ∷ outputChecks (a .length) size in
@@ -155,12 +157,14 @@ module _ (cs : List Check) (masks : List Bitmap) (n : ℕ) (flags : List Bool) (
 pub not-each : (l : List Bool) (s n : ℕ) → zip3 (opOf Not) (window l s n) (window l s n) (window l s n) ≡ map not (window l s n)
 not-each l s n = zip-first not (window l s n) (window l s n) (window l s n) refl refl
 
-pub constant-set : (l m : List Bool) (s t n : ℕ) → zip3 (opOf OrNot) (window m t n) (window l s n) (window l s n) ≡ zipWith (λ p q. cond p q true) (window l s n) (window m t n)
+pub constant-set : (l m : List Bool) (s t n : ℕ)
+    → zip3 (opOf OrNot) (window m t n) (window l s n) (window l s n) ≡ zipWith (λ p q. cond p q true) (window l s n) (window m t n)
 constant-set l m s t n =
     zip-two orNot (window m t n) (window l s n) (window l s n) (length-window m t n ∙ sym (length-window l s n)) (length-window m t n ∙ sym (length-window l s n))
     ∙ zip-flip orNot (λ p q. cond p q true) else-set (window l s n) (window m t n)
 
-pub constant-clear : (l m : List Bool) (s t n : ℕ) → zip3 (opOf And) (window l s n) (window m t n) (window m t n) ≡ zipWith (λ p q. cond p q false) (window l s n) (window m t n)
+pub constant-clear : (l m : List Bool) (s t n : ℕ)
+    → zip3 (opOf And) (window l s n) (window m t n) (window m t n) ≡ zipWith (λ p q. cond p q false) (window l s n) (window m t n)
 constant-clear l m s t n =
     zip-two _&&_ (window l s n) (window m t n) (window m t n) (length-window l s n ∙ sym (length-window m t n)) (length-window l s n ∙ sym (length-window m t n))
     ∙ zip-same _&&_ (λ p q. cond p q false) else-clear (window l s n) (window m t n)
@@ -189,10 +193,12 @@ pub constant-length : (A B : List Bool) (x : Bool) (s t n m : ℕ) → n ≡ m
 constant-length A B x s t n m p = ap (λ (k : ℕ). zipWith (λ p q. cond p q x) (window A s n) (window B t k)) p
 
 -- what a kernel wrote is what `select_constant` is to write
-as-constant : (F : List Bool) (a b : List ℕ) (sa sb n : ℕ) (x y : Bool) (out out′ : List ℕ) → F ≡ zipWith (λ p q. cond p q y) (stretch a sa n) (stretch b sb n) → x ≡ y
+as-constant : (F : List Bool) (a b : List ℕ) (sa sb n : ℕ) (x y : Bool) (out out′ : List ℕ)
+    → F ≡ zipWith (λ p q. cond p q y) (stretch a sa n) (stretch b sb n) → x ≡ y
     → out′ ≡ over out (frozen F) → out′ ≡ over out (frozen (zipWith (λ p q. cond p q x) (stretch a sa n) (stretch b sb n)))
 as-constant F a b sa sb n x y out out′ f h e =
-    let same : F ≡ zipWith (λ p q. cond p q x) (stretch a sa n) (stretch b sb n) = f ∙ ap (λ (z : Bool). zipWith (λ p q. cond p q z) (stretch a sa n) (stretch b sb n)) (sym h) in
+    let same : F ≡ zipWith (λ p q. cond p q x) (stretch a sa n) (stretch b sb n) =
+    f ∙ ap (λ (z : Bool). zipWith (λ p q. cond p q z) (stretch a sa n) (stretch b sb n)) (sym h) in
     e ∙ ap (λ (l : List Bool). over out (frozen l)) same
 
 pub written-set : (a b : List ℕ) (sa sb n : ℕ) (x : Bool) (out out′ : List ℕ) → x ≡ true → out′ ≡ over out (frozen (combined OrNot b sb a sa a sa n))

@@ -37,7 +37,8 @@ module _ (x : Bool) (A B C : List Bool) where
       let two : leading x (B ++ C) ≡ leading x B = leading-some x B C (omega arith) in
       omega arith
 
-  pub front-last : (a n b m c : ℕ) → a ≡ leading x A → length A ≡ n → n ≤ a → b ≡ leading x B → length B ≡ m → m ≤ b → c ≡ leading x C → n + m + c ≡ leading x (A ++ (B ++ C))
+  pub front-last : (a n b m c : ℕ) → a ≡ leading x A → length A ≡ n → n ≤ a → b ≡ leading x B → length B ≡ m → m ≤ b → c ≡ leading x C
+      → n + m + c ≡ leading x (A ++ (B ++ C))
   front-last a n b m c e l h f k i g =
       let one : leading x (A ++ (B ++ C)) ≡ length A + leading x (B ++ C) = leading-all x A (B ++ C) (omega arith) in
       let two : leading x (B ++ C) ≡ length B + leading x C = leading-all x B C (omega arith) in
@@ -51,13 +52,15 @@ module _ (x : Bool) (A B C : List Bool) where
   pub end-first : (c n : ℕ) → c ≡ trailing x C → length C ≡ n → c < n → c ≡ trailing x (A ++ (B ++ C))
   end-first c n e l h = e ∙ sym (end-one ∙ trailing-some x (A ++ B) C (omega arith))
 
-  pub end-middle : (c n b m : ℕ) → c ≡ trailing x C → length C ≡ n → n ≤ c → b ≡ trailing x B → length B ≡ m → b < m → n + b ≡ trailing x (A ++ (B ++ C))
+  pub end-middle : (c n b m : ℕ) → c ≡ trailing x C → length C ≡ n → n ≤ c → b ≡ trailing x B → length B ≡ m → b < m
+      → n + b ≡ trailing x (A ++ (B ++ C))
   end-middle c n b m e l h f k i =
       let one : trailing x (A ++ (B ++ C)) ≡ length C + trailing x (A ++ B) = end-one ∙ trailing-all x (A ++ B) C (omega arith) in
       let two : trailing x (A ++ B) ≡ trailing x B = trailing-some x A B (omega arith) in
       omega arith
 
-  pub end-last : (c n b m a : ℕ) → c ≡ trailing x C → length C ≡ n → n ≤ c → b ≡ trailing x B → length B ≡ m → m ≤ b → a ≡ trailing x A → n + m + a ≡ trailing x (A ++ (B ++ C))
+  pub end-last : (c n b m a : ℕ) → c ≡ trailing x C → length C ≡ n → n ≤ c → b ≡ trailing x B → length B ≡ m → m ≤ b → a ≡ trailing x A
+      → n + m + a ≡ trailing x (A ++ (B ++ C))
   end-last c n b m a e l h f k i g =
       let one : trailing x (A ++ (B ++ C)) ≡ length C + trailing x (A ++ B) = end-one ∙ trailing-all x (A ++ B) C (omega arith) in
       let two : trailing x (A ++ B) ≡ length B + trailing x A = trailing-all x A B (omega arith) in
@@ -79,7 +82,8 @@ module _ (x : Bool) (l : List Bool) (s n : ℕ) where
       ap (window l s) e ∙ window-add l s (64 * i) (64 + (64 * n - (64 * i + 64)))
       ∙ ap (λ (t : List Bool). window l s (64 * i) ++ t) (window-add l (s + 64 * i) 64 (64 * n - (64 * i + 64)))
 
-  pub front-exit : (i p w a : ℕ) → i < n → 64 * i ≤ leading x (window l s (64 * i)) → bits 64 w ≡ window l p 64 → p ≡ s + 64 * i → a ≡ leading x (take 64 (bits 64 w)) → a < 64
+  pub front-exit : (i p w a : ℕ) → i < n → 64 * i ≤ leading x (window l s (64 * i)) → bits 64 w ≡ window l p 64 → p ≡ s + 64 * i
+      → a ≡ leading x (take 64 (bits 64 w)) → a < 64
       → 64 * i + a ≡ leading x (window l s (64 * n))
   front-exit i p w a h inv q e u k =
       let here : a ≡ leading x (window l (s + 64 * i) 64) = u ∙ ap (leading x) (whole-word w ∙ q ∙ ap (λ (z : ℕ). window l z 64) e) in
@@ -87,7 +91,8 @@ module _ (x : Bool) (l : List Bool) (s n : ℕ) where
       (leading x (window l s (64 * i))) (64 * i) a 64 refl (length-window l s (64 * i)) inv here (length-window l (s + 64 * i) 64) k
       ∙ ap (leading x) (sym (front-cut i h))
 
-  pub front-step : (i p w a : ℕ) → 64 * i ≤ leading x (window l s (64 * i)) → bits 64 w ≡ window l p 64 → p ≡ s + 64 * i → a ≡ leading x (take 64 (bits 64 w)) → 64 ≤ a
+  pub front-step : (i p w a : ℕ) → 64 * i ≤ leading x (window l s (64 * i)) → bits 64 w ≡ window l p 64 → p ≡ s + 64 * i
+      → a ≡ leading x (take 64 (bits 64 w)) → 64 ≤ a
       → 64 * (i + 1) ≤ leading x (window l s (64 * (i + 1)))
   front-step i p w a inv q e u k =
       let n : 64 * (i + 1) ≡ 64 * i + 64 = omega arith in
@@ -146,7 +151,8 @@ module _ (x : Bool) (l : List Bool) (s n : ℕ) where
       ap (λ (m : ℕ). 64 * m) (sym e) ∙ all ∙ ap₂ (λ (y m : ℕ). trailing x (window l y (64 * m))) f e
 
 -- the flags of a word that was read from a flag on, moved down
-pub moved-flags : (l : List Bool) (at k n x r : ℕ) → k + n ≤ 64 → bits 64 x ≡ window l at 64 → bits 64 r ≡ window (bits 64 x) k 64 → take n (bits 64 r) ≡ window l (at + k) n
+pub moved-flags : (l : List Bool) (at k n x r : ℕ) → k + n ≤ 64 → bits 64 x ≡ window l at 64 → bits 64 r ≡ window (bits 64 x) k 64
+    → take n (bits 64 r) ≡ window l (at + k) n
 moved-flags l at k n x r h p q =
     let e : at + (k + 0) ≡ at + k = omega arith in
     ap (take n) q ∙ window-cut (bits 64 x) k 64 0 n (omega arith) ∙ ap (λ (t : List Bool). window t (k + 0) n) p

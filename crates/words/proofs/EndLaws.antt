@@ -113,7 +113,8 @@ trailing-copies x n = ap (leading x) (reverse-copies n x) ∙ leading-copies x n
 
 reverse-map : (f : Bool → Bool) (l : List Bool) → reverse (map f l) ≡ map f (reverse l)
 reverse-map f [] = refl
-reverse-map f (x ∷ l) = reverse-cons (f x) (map f l) ∙ ap (λ (t : List Bool). t ++ (f x ∷ [])) (reverse-map f l) ∙ sym (ap (map f) (reverse-cons x l) ∙ map-snoc (reverse l) x)
+reverse-map f (x ∷ l) =
+    reverse-cons (f x) (map f l) ∙ ap (λ (t : List Bool). t ++ (f x ∷ [])) (reverse-map f l) ∙ sym (ap (map f) (reverse-cons x l) ∙ map-snoc (reverse l) x)
   where
     map-snoc : (l : List Bool) (x : Bool) → map f (l ++ (x ∷ [])) ≡ map f l ++ (f x ∷ [])
     map-snoc [] x = refl
@@ -141,7 +142,8 @@ unfolding trailing
 zero-bits d n b h =
     let r : reverse (bits d n) ≡ copies (length (reverse (bits d n))) false = all-alike false (reverse (bits d n)) (omega (arith, length-reverse (bits d n))) in
     bits-inj d n 0 b (pow-pos d)
-    (sym (reverse-reverse (bits d n)) ∙ ap reverse (r ∙ ap (λ (k : ℕ). copies k false) (length-reverse (bits d n) ∙ length-bits d n)) ∙ reverse-copies d false ∙ sym (bits-zero d))
+    (sym (reverse-reverse (bits d n)) ∙ ap reverse (r ∙ ap (λ (k : ℕ). copies k false) (length-reverse (bits d n) ∙ length-bits d n))
+    ∙ reverse-copies d false ∙ sym (bits-zero d))
 
 end-none : (n : ℕ) → 0 ≡ trailing false (bits 0 n)
 unfolding bits trailing leading
@@ -183,10 +185,12 @@ take-least d k w = ⊎-elim
     (lt-or-le k d)
 
 -- zeros are shifted in below them, and the zeros at the end counted, at most n
-pub trailing-shifted : (d k n v r c : ℕ) → n ≡ min k d → (n ≡ 0 → ⊥) → r ≡ v * 2 ^ (d - n) % 2 ^ d → c ≡ trailing false (bits d r) → min c n ≡ trailing false (take k (bits d v))
+pub trailing-shifted : (d k n v r c : ℕ) → n ≡ min k d → (n ≡ 0 → ⊥) → r ≡ v * 2 ^ (d - n) % 2 ^ d → c ≡ trailing false (bits d r)
+    → min c n ≡ trailing false (take k (bits d v))
 trailing-shifted d k n v r c e z p q =
     let w : d ≡ (d - n) + n = omega arith in
-    let shape : bits d r ≡ copies (d - n) false ++ bits n v = ap (bits d) p ∙ bits-mod d (v * 2 ^ (d - n)) ∙ ap (λ (x : ℕ). bits x (v * 2 ^ (d - n))) w ∙ bits-shl (d - n) n v in
+    let shape : bits d r ≡ copies (d - n) false ++ bits n v =
+    ap (bits d) p ∙ bits-mod d (v * 2 ^ (d - n)) ∙ ap (λ (x : ℕ). bits x (v * 2 ^ (d - n))) w ∙ bits-shl (d - n) n v in
     ap₂ min (q ∙ ap (trailing false) shape) (sym (length-bits n v)) ∙ trailing-last false (copies (d - n) false) (bits n v)
     ∙ ap (trailing false) (sym (bits-take d n v (omega arith)) ∙ ap (λ (x : ℕ). take x (bits d v)) e ∙ take-least d k v)
 
@@ -201,7 +205,9 @@ map-take f (suc k) [] = refl
 map-take f (suc k) (x ∷ l) = ap (λ (t : List Bool). f x ∷ t) (map-take f k l)
 
 pub leading-inverted : (k v w r : ℕ) → bits 64 v ≡ map not (bits 64 w) → r ≡ leading false (take k (bits 64 v)) → r ≡ leading true (take k (bits 64 w))
-leading-inverted k v w r e p = p ∙ ap (λ (l : List Bool). leading false (take k l)) e ∙ ap (leading false) (sym (map-take not k (bits 64 w))) ∙ leading-not (take k (bits 64 w))
+leading-inverted k v w r e p =
+    p ∙ ap (λ (l : List Bool). leading false (take k l)) e ∙ ap (leading false) (sym (map-take not k (bits 64 w))) ∙ leading-not (take k (bits 64 w))
 
 pub trailing-inverted : (k v w r : ℕ) → bits 64 v ≡ map not (bits 64 w) → r ≡ trailing false (take k (bits 64 v)) → r ≡ trailing true (take k (bits 64 w))
-trailing-inverted k v w r e p = p ∙ ap (λ (l : List Bool). trailing false (take k l)) e ∙ ap (trailing false) (sym (map-take not k (bits 64 w))) ∙ trailing-not (take k (bits 64 w))
+trailing-inverted k v w r e p =
+    p ∙ ap (λ (l : List Bool). trailing false (take k l)) e ∙ ap (trailing false) (sym (map-take not k (bits 64 w))) ∙ trailing-not (take k (bits 64 w))

@@ -40,7 +40,8 @@ up-more bs i h k b =
     ∙ rw (add-one, flags-more bs i h)
 
 -- one more byte is loaded
-pub up-step : (bs : List ℕ) (i v w : ℕ) → length bs ≤ 8 → i < length bs → w ≡ upTo bs i → (v ≡ getD bs i 0) × (v < 256) → bitOr w (v * 2 ^ (8 * i) % 2 ^ 64) ≡ upTo bs (i + 1)
+pub up-step : (bs : List ℕ) (i v w : ℕ) → length bs ≤ 8 → i < length bs → w ≡ upTo bs i → (v ≡ getD bs i 0) × (v < 256)
+    → bitOr w (v * 2 ^ (8 * i) % 2 ^ 64) ≡ upTo bs (i + 1)
 up-step bs i v w k h p q = ap₂ (λ (x y : ℕ). bitOr x (y * 2 ^ (8 * i) % 2 ^ 64)) p (q .0) ∙ up-more bs i h k (subst (λ (y : ℕ). y < 256) (q .0) (q .1))
 
 pub up-all : (bs : List ℕ) (i w : ℕ) → w ≡ upTo bs i → length bs ≤ i → bits 64 w ≡ window (flagsOf bs) 0 64
@@ -81,7 +82,8 @@ written-more l w i =
     (ap (λ (n : ℕ). set (over l (bytesOf w i)) n (w / 2 ^ (8 * i) % 256)) (sym (length-bytes w i)) ∙ set-over l (bytesOf w i) (w / 2 ^ (8 * i) % 256))
 
 -- one more byte is stored
-pub written-step : (l : List ℕ) (w i v : ℕ) (out out′ : List ℕ) → out ≡ written l w i → v ≡ w / 2 ^ (8 * i) % 256 → out′ ≡ set out i v → out′ ≡ written l w (i + 1)
+pub written-step : (l : List ℕ) (w i v : ℕ) (out out′ : List ℕ) → out ≡ written l w i → v ≡ w / 2 ^ (8 * i) % 256 → out′ ≡ set out i v
+    → out′ ≡ written l w (i + 1)
 written-step l w i v out out′ p q r = r ∙ ap₂ (λ (x : List ℕ) (y : ℕ). set x i y) p q ∙ written-more l w i
 
 pub written-all : (l : List ℕ) (w i : ℕ) (out : List ℕ) → length l ≤ 8 → length out ≡ length l
@@ -120,7 +122,8 @@ put-mid out part at w h p =
     ap (λ (n : ℕ). flagsOf (take at out ++ (part ++ drop n (drop at out)))) e
     ∙ flags-append (take at out) (part ++ drop 8 (drop at out))
     ∙ ap₂ (λ (x y : List Bool). x ++ y) (flags-take at out)
-    (over-part 8 (bits 64 w) (drop at out) part (omega (arith, length-drop at out)) (length-bits 64 w) (p ∙ ap (λ (n : ℕ). over (flagsOf (take n (drop at out))) (bits 64 w)) e)
+    (over-part 8 (bits 64 w) (drop at out) part (omega (arith, length-drop at out)) (length-bits 64 w)
+    (p ∙ ap (λ (n : ℕ). over (flagsOf (take n (drop at out))) (bits 64 w)) e)
     ∙ ap (λ (x : List Bool). over x (bits 64 w)) (flags-drop at out))
 
 -- ---- the low flags, and a shift down
@@ -153,7 +156,8 @@ pub down-all : (d k w : ℕ) → d ≤ k → bits d 0 ≡ window (bits d w) k d
 down-all d k w h = bits-zero d ∙ sym (window-past (bits d w) k d (omega (arith, length-bits d w)))
 
 -- a word of the list's last flags, moved down
-pub from-end : (l : List Bool) (p k bit x r : ℕ) → length l ≤ p + 64 → bit ≡ p + k → bits 64 x ≡ window l p 64 → bits 64 r ≡ window (bits 64 x) k 64 → bits 64 r ≡ window l bit 64
+pub from-end : (l : List Bool) (p k bit x r : ℕ) → length l ≤ p + 64 → bit ≡ p + k → bits 64 x ≡ window l p 64 → bits 64 r ≡ window (bits 64 x) k 64
+    → bits 64 r ≡ window l bit 64
 from-end l p k bit x r h e q u =
     u ∙ ap (λ (t : List Bool). window t k 64) q
     ∙ window-ext (window l p 64) l k bit 64 (λ j _.
@@ -170,7 +174,8 @@ from-end l p k bit x r h e q u =
 pub at-past : (bs : List ℕ) (at s : ℕ) → length bs ≤ at → bits 64 0 ≡ window (flagsOf bs) (8 * at + s) 64
 at-past bs at s h = bits-zero 64 ∙ sym (window-past (flagsOf bs) (8 * at + s) 64 (omega (arith, length-flags bs)))
 
-pub at-few : (bs : List ℕ) (bit x r : ℕ) → length bs < 8 → bits 64 x ≡ window (flagsOf bs) 0 64 → bits 64 r ≡ window (bits 64 x) bit 64 → bits 64 r ≡ window (flagsOf bs) bit 64
+pub at-few : (bs : List ℕ) (bit x r : ℕ) → length bs < 8 → bits 64 x ≡ window (flagsOf bs) 0 64 → bits 64 r ≡ window (bits 64 x) bit 64
+    → bits 64 r ≡ window (flagsOf bs) bit 64
 at-few bs bit x r h p u = from-end (flagsOf bs) 0 bit bit x r (omega (arith, length-flags bs)) (omega arith) p u
 
 pub at-last : (bs : List ℕ) (at s x r : ℕ) → 8 ≤ length bs → length bs - at < 9 → at < length bs → bits 64 x ≡ window (flagsOf bs) (8 * (length bs - 8)) 64

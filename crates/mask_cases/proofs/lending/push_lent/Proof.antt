@@ -209,7 +209,8 @@ module _ {M : Type 1} (𝓤 : URA M) (H : Heap 𝓤) (A : Atoms 𝓤) (W : Given
         (init ! 24 refl (LL.lawful N.the-type N′.the-laws 𝓤 H A W .typed (record { builder = zs .0; number = k }) _ made .0)) $
         returns ! (look ! 24 refl) $ forget ! 1 refl $ forget ! 7 refl $ forget ! 9 refl $ forget ! 11 refl $ forget ! 13 refl $ forget ! 15 refl $ forget ! 18 refl $
         forget ! 20 refl $ forget ! 22 refl $ forget ! 24 refl $
-        move ! (24 ∷ 25 ∷ []) $ free1 ! $ move ! (22 ∷ 23 ∷ []) $ free1 ! $ move ! (20 ∷ 21 ∷ []) $ free1 ! $ move ! (18 ∷ 19 ∷ []) $ free1 ! $ move ! (1 ∷ 17 ∷ []) $
+        move ! (24 ∷ 25 ∷ []) $ free1 ! $ move ! (22 ∷ 23 ∷ []) $ free1 ! $ move ! (20 ∷ 21 ∷ []) $ free1 ! $
+        move ! (18 ∷ 19 ∷ []) $ free1 ! $ move ! (1 ∷ 17 ∷ []) $
         free1 ! $ move ! (14 ∷ 15 ∷ []) $ free1 ! $ move ! (12 ∷ 13 ∷ []) $ free1 ! $ move ! (10 ∷ 11 ∷ []) $ free1 ! $ move ! (8 ∷ 9 ∷ []) $ free1 ! $
         move ! (6 ∷ 7 ∷ []) $ free1 ! $ free0 ! $
         keep ! (1 ∷ 3 ∷ []) $ by ! (exits (record { builder = zs .0; number = k }) (zs .1 .0) answered written l was made)))))))))))))))))))))
@@ -226,7 +227,8 @@ module _ {M : Type 1} (𝓤 : URA M) (H : Heap 𝓤) (A : Atoms 𝓤) (W : Given
   goes-all =
       (goes-none 𝓤 H A W 1 (λ _. T.the-row) yes (λ κs x f. refl), (goes-gave-slice 𝓤 H A W 1 0 tt (plain (λ _. u8)), (goes-none 𝓤 H A W 1 (λ _. bool) yes (λ κs x f. refl), tt)))
 
-push-lent-meets : {M : Type 1} (𝓤 : URA M) (H : Heap 𝓤) (A : Atoms 𝓤) → Given 𝓤 H A → (at-mem : Memory → SProp 𝓤) (run : Routine → Fun 𝓤) (𝓣 : Tables 𝓤 H)
+push-lent-meets : {M : Type 1} (𝓤 : URA M) (H : Heap 𝓤) (A : Atoms 𝓤) → Given 𝓤 H A
+    → (at-mem : Memory → SProp 𝓤) (run : Routine → Fun 𝓤) (𝓣 : Tables 𝓤 H)
     → Triple 𝓤 (𝓣 .C #push-mut) (PushMut 𝓤 H A at-mem run)
     → Meets 𝓤 H A push-lent.signature (WpFn 𝓤 H (𝓣 .C) (𝓣 .Λ) code.function) (push-lent.spec 𝓤 H A at-mem run)
 push-lent-meets 𝓤 H A W at-mem run 𝓣 known =
