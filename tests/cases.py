@@ -202,25 +202,20 @@ def output_symbols(out):
 
 
 class Lents:
-    """What is lent to one call."""
+    """What is lent to one call, and what of the output is not."""
 
 
-def grouped(spec, row):
-    """Arguments as their kinds say: numbers, masks, masks or none, builders."""
-    at, arguments = 0, []
+def arranged(spec):
+    """How many arguments there are, and a function that puts them together as their kinds say."""
+    at, parts = 0, []
     for kind in spec:
-        if kind == "n":
-            arguments.append(row[at])
-            at += 1
-            continue
-        if kind == "O":
-            arguments.append(row[at + 1 : at + 4] if row[at] else None)
-            at += 4
-            continue
-        arguments.append(row[at : at + 3])
-        at += 3
-    assert at == len(row), "the number of arguments"
-    return arguments
+        one = {"n": "row[{0}]", "O": "row[{0} + 1 : {0} + 4] if row[{0}] else None"}.get(kind, "row[{0} : {0} + 3]")
+        parts.append(one.format(at))
+        at += {"n": 1, "O": 4}.get(kind, 3)
+    return at, eval("lambda row: [%s]" % ", ".join(parts))
+
+
+ARRANGED = {name: arranged(spec) for name, (spec, _) in CALLS.items()}
 
 
 class Reader:
@@ -232,9 +227,9 @@ class Reader:
     def lend(self, letter, pieces):
         if letter == "i":
             self.numbers = numbers_in(pieces)
-        else:
-            self.bytes[letter] = self.left if pieces == ["@"] else bytes_in(pieces)
-            self.parts = {key: lent for key, lent in self.parts.items() if key[0] != letter}
+            return
+        self.bytes[letter] = self.left if pieces == ["@"] else bytes_in(pieces)
+        self.parts = {key: lent for key, lent in self.parts.items() if key[0] != letter}
 
     def part(self, letter, size):
         """The first bytes of x, y or z, taken apart once."""
@@ -242,30 +237,31 @@ class Reader:
             self.parts[letter, size] = Lent(self.bytes[letter][:size])
         return self.parts[letter, size]
 
-    def call(self, name, row, sizes):
-        """The answer of one call, what its output holds then, or None, and what it held before."""
-        spec, given = CALLS[name]
+    def lents(self, name, sizes):
         l = Lents()
         l.x, l.y, l.z = [self.part(letter, sizes.get(letter)) for letter in "xyz"]
-        whole = self.numbers if name == "next_chunk" else self.bytes["o"]
-        l.i = self.numbers[: sizes.get("i")]
-        l.o = self.bytes["o"][: sizes.get("o")]
-        size = len(l.i) if name == "next_chunk" else len(l.o)
+        l.i, l.o = self.numbers[: sizes.get("i")], self.bytes["o"][: sizes.get("o")]
+        l.whole = self.numbers if name == "next_chunk" else self.bytes["o"]
+        l.rest = l.whole[len(l.i if name == "next_chunk" else l.o) :]
+        return l
+
+    def call(self, name, row, l):
+        """The answer of one call, and what its output holds then, or None."""
         self.calls += 1
         out = None
         try:
-            answer = given(l, *grouped(spec, row))
-            if type(answer) is tuple:
+            answer = CALLS[name][1](l, *ARRANGED[name][1](row))
+            if type(answer) is tuple and name in WRITERS:
                 answer, out = answer
-                out = out + whole[size:]
+                out = out + l.rest
             answer = [0, *answer]
         except Refused as refusal:
             answer = [refusal.args[0], *refusal.args[1]]
-            out = whole if name in WRITERS else None
+            out = l.whole if name in WRITERS else None
         self.last = answer
-        if name in WRITERS and name != "next_chunk":
+        if type(out) is bytes:
             self.left = out
-        return answer, out, whole
+        return answer, out
 
     def request(self, text):
         """Whether a request's answer is right, and what it should be."""
@@ -278,39 +274,45 @@ class Reader:
         for word in words:
             if word[0] == "@":
                 rows += [[one] for one in self.last[-int(word[1:]) :]]
+            elif word[1:2] == ":":
+                letters.append(word[0])
+                rows.append(values(word[2:]))
             else:
-                letter, colon, sizes = word.rpartition(":") if word[1:2] == ":" else ("", "", word)
-                letters += letter
-                rows.append(values(sizes))
-        many = len(rows) - len(letters)
-        choices = [(row[:many], dict(zip(letters, row[many:]))) for row in product(*rows)] if told[0] != "#" else None
-        if choices is None:
-            return self.range(name, rows, many, letters, told)
-        assert len(choices) == 1, "a range with the answer of one call"
-        return self.single(name, list(choices[0][0]), choices[0][1], told)
+                rows.append(values(word))
+        assert len(rows) - len(letters) == ARRANGED[name][0], "the number of arguments"
+        return (self.range if told[0] == "#" else self.single)(name, rows, letters, told)
 
-    def single(self, name, row, sizes, told):
-        answer, out, before = self.call(name, row, sizes)
+    def choices(self, name, rows, letters):
+        """Each choice of the values, the last one fastest, with what is lent."""
+        many, lents = len(rows) - len(letters), {}
+        for row in product(*rows):
+            sizes = row[many:]
+            if sizes not in lents:
+                lents[sizes] = self.lents(name, dict(zip(letters, sizes)))
+            yield row[:many], lents[sizes]
+
+    def single(self, name, rows, letters, told):
+        ((row, l),) = self.choices(name, rows, letters)
+        answer, out = self.call(name, row, l)
         answer_told, _, after = told.partition(" | ")
         right = [token(word) for word in answer_told.split(" ")] == answer and (out is None) == (after == "")
         if out is not None:
             if after == "same":
-                right = right and out == before
+                right = right and out == l.whole
             elif after.startswith("#"):
                 right = right and number(after[1:]) == taken(FIRST, output_symbols(out))
             else:
                 right = right and out == (numbers_in if name == "next_chunk" else bytes_in)(after.split(" "))
         return right, "%s | %s" % (answer, out if out is None or len(out) < 100 else "..")
 
-    def range(self, name, rows, many, letters, told):
-        h, calls = FIRST, 0
-        for row in product(*rows):
-            answer, out, _ = self.call(name, list(row[:many]), dict(zip(letters, row[many:])))
+    def range(self, name, rows, letters, told):
+        h, before = FIRST, self.calls
+        for row, l in self.choices(name, rows, letters):
+            answer, out = self.call(name, row, l)
             h = taken(h, symbols_of(answer))
             if out is not None:
                 h = taken(h, output_symbols(out))
-            calls += 1
-        answer = "#%d x%x" % (calls, h)
+        answer = "#%d x%x" % (self.calls - before, h)
         return told == answer, answer
 
 

@@ -221,8 +221,8 @@ def word_checks(word, n):
 
 def extend_repeated(builder, buf, lent, start, n, repeats):
     def flags():
-        x = piece(lent, start, n)
-        return sum(full(repeats) << j * repeats for j in places(x))
+        digits = format(piece(lent, start, n), "0%db" % n) if n else ""
+        return int("".join(digit * repeats for digit in digits) or "0", 2)
 
     return append(builder, buf, span_checks(lent, start, n), n * repeats, flags)
 

@@ -4,10 +4,15 @@
 //!
 //! The same bytes on each run.
 
+mod builders;
 mod calls;
+mod cursors;
+mod dispatch;
 mod file;
+mod histories;
 mod masks;
 mod patterns;
+mod several;
 mod spans;
 mod token;
 mod words;
@@ -20,6 +25,11 @@ fn main() -> std::io::Result<()> {
     words::write(&mut file);
     spans::write(&mut file);
     masks::write(&mut file);
+    builders::write(&mut file);
+    cursors::write(&mut file);
+    dispatch::write(&mut file);
+    several::write(&mut file);
+    histories::write(&mut file);
     for (name, tally) in &file.tallies {
         eprintln!("{name}: {} requests, {} calls, {} refused", tally.requests, tally.calls, tally.refusals);
     }

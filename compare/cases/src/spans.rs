@@ -7,6 +7,8 @@ use crate::token::{list, show};
 const LENGTHS: [u64; 16] = [0, 1, 7, 8, 9, 31, 32, 33, 63, 64, 65, 127, 128, 129, 200, 320];
 const FAR: [u64; 14] = [0, 3, 319, 320, 321, MOST - 1, MOST, MOST + 1, 1 << 61, 1 << 63, MAX - 63, MAX - 7, MAX - 2, MAX];
 const COUNTS: [&str; 5] = ["count_zeros", "leading_zeros", "leading_ones", "trailing_zeros", "trailing_ones"];
+/// Starts at which every length is asked for.
+const WHOLE: [u64; 12] = [0, 1, 2, 3, 4, 5, 6, 7, 8, 63, 64, 65];
 const TURNED: [u64; 16] = [0, 2, 3, 7, 8, 63, 64, 65, 66, 127, 128, 135, 192, 201, 202, 203];
 
 pub fn write(f: &mut File) {
@@ -31,9 +33,10 @@ fn aligned(f: &mut File) {
             f.ask(&format!("AlignedBitmapSlice::new {start} {length} {}", (start as usize + i) % 9));
         }
     }
-    for start in 0..73 {
+    for start in WHOLE {
         f.ask(&format!("AlignedBitmapSlice::new {start} 0..300 0..9"));
     }
+    f.ask(&format!("AlignedBitmapSlice::new 0..73 {} 0..9", list(&LENGTHS)));
     for size in ["x:40", "x:0"] {
         f.ask(&format!("AlignedBitmapSlice::new {} {} 7,8,{} {size}", list(&FAR), list(&FAR), show(MAX)));
     }
@@ -77,9 +80,9 @@ fn chunks(f: &mut File) {
             f.ask("remainder @3");
         }
     }
-    for start in 0..73 {
-        f.ask(&format!("BitChunks::next {start} 0..300 0..5"));
-        f.ask(&format!("remainder {start} 0..300 0..5"));
+    for name in ["BitChunks::next", "remainder"] {
+        f.ask(&format!("{name} {} 0..300 0..5", list(&WHOLE)));
+        f.ask(&format!("{name} 0..73 {} 0..5", list(&LENGTHS)));
     }
     f.ask("BitChunksExact::new 0..330 x:0,1,8,9,40");
     f.ask("BitChunksExact::new 320");
