@@ -390,7 +390,11 @@ def positions(lent, start, n, place, masked, most):
     check(cursor_checks(lent, start, n, place, masked), [start, n, place, masked])
     left = n - place
     x = piece(lent, start + place, left) if masked else full(left)
-    some = [place + j for j in places(x)[:most]]
+    some = []
+    while x and len(some) < most:
+        first = (x & -x).bit_length() - 1
+        some.append(place + first)
+        x ^= 1 << first
     return some, n if len(some) < most else some[-1] + 1 if some else place
 
 

@@ -317,11 +317,20 @@ fn limits(f: &mut File) {
     let mut cases: Vec<(u64, String)> = spans.map(|(before, start, n)| (before, format!("extend_from_slice @3 {start} {n}"))).to_vec();
     let constants = [(0, MOST), (0, MOST - 64), (0, MOST + 1), (63, MOST - 63), (63, MOST - 62), (MOST - 64, 65), (MOST, 0)];
     cases.extend(constants.map(|(before, n)| (before, format!("extend_constant @3 {n} {}", before % 2))));
-    cases.extend([(0, 0, MOST), (0, 1, MOST), (7, 1, MOST - 7)].map(|(before, start, n)| (before, format!("{PIECE} @3 5 {MOST} ? {start} {n}"))));
+    cases.extend(
+        [(0, 0, MOST), (0, 1, MOST), (7, 1, MOST - 7)].map(|(before, start, n)| (before, format!("{PIECE} @3 5 {MOST} ? {start} {n}"))),
+    );
     let repeats = [(0, 3, 65536, 64), (4, 0, 2097150, 2), (5, 0, 2097150, 2), (0, 9, MOST, 1), (0, 9, MOST, 0), (0, 2, 1, MOST)];
     let more = [(0, 9, MOST, 1 << 42), (0, 2, 1, MOST + 1)];
-    cases.extend([&repeats[..], &more].concat().iter().map(|(before, start, n, times)| (*before, format!("{REPEAT} @3 {start} {n} {times}"))));
-    cases.extend([(MOST - 1, "push @3 1".into()), (MOST, "push @3 1".into()), (MOST - 1, "push_mut @3 1".into()), (MOST, "push_mut @3 1".into())]);
+    cases.extend(
+        [&repeats[..], &more].concat().iter().map(|(before, start, n, times)| (*before, format!("{REPEAT} @3 {start} {n} {times}"))),
+    );
+    cases.extend([
+        (MOST - 1, "push @3 1".into()),
+        (MOST, "push @3 1".into()),
+        (MOST - 1, "push_mut @3 1".into()),
+        (MOST, "push_mut @3 1".into()),
+    ]);
     cases.extend([MOST - 1, MOST].map(|before| (before, format!("{WORD} @3 1 1"))));
     cases.extend([(MOST - 5, GATHER), (MOST - 4, GATHER), (MOST - 4, OPT_GATHER)].map(|(before, name)| (before, format!("{name} @3 8 1"))));
     for (before, case) in cases {

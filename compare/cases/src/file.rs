@@ -234,6 +234,7 @@ fn pieces(bytes: &[u8]) -> String {
 /// Numbers as pieces.
 fn counted(numbers: &[u32]) -> String {
     let runs = numbers.chunk_by(|a, b| a == b);
-    let texts: Vec<String> = runs.map(|run| if run.len() == 1 { run[0].to_string() } else { format!("{}*{}", run[0], run.len()) }).collect();
+    let texts: Vec<String> =
+        runs.map(|run| if run.len() == 1 { run[0].to_string() } else { format!("{}*{}", run[0], run.len()) }).collect();
     texts.join(" ")
 }

@@ -240,7 +240,9 @@ fn slices(f: &mut File) {
     for offset in 0..8 {
         f.ask(&format!("slice {} 9 10 {offset} 0", MOST - 4));
     }
-    for fault in ["3 254 ? 255 0", "3 254 255 0 4194305", "3 70 71 60 11", "3 70 71 4194305 1", "3 70 ? 60 11", "3 70 ? x1 xffffffffffffffff"] {
+    for fault in
+        ["3 254 ? 255 0", "3 254 255 0 4194305", "3 70 71 60 11", "3 70 71 4194305 1", "3 70 ? 60 11", "3 70 ? x1 xffffffffffffffff"]
+    {
         f.ask(&format!("slice {fault}"));
     }
 }
