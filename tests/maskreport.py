@@ -9,11 +9,21 @@ bytes that it takes, for maskreport_empty, maskreport_full and maskreport_over. 
 import sys
 from itertools import groupby
 
-sys.dont_write_bytecode = True
-from flag_lists import flags_of, paint
-
 MOST = 65536
-CASES = {"example": [0x2D], "empty": [], "full": paint(15, MOST), "over": paint(15, MOST + 1)}
+
+
+def mixed(size):
+    """Bytes that look drawn."""
+    rows = [(i * 167 + 886) * 2654435761 % 2**32 for i in range(size)]
+    return [(y // 32768 + y % 32768) * 2246822519 // 65536 % 256 for y in rows]
+
+
+CASES = {"example": [0x2D], "empty": [], "full": mixed(MOST), "over": mixed(MOST + 1)}
+
+
+def flags_of(data):
+    """Flag j is bit j mod 8 of byte j div 8, the least significant first."""
+    return [data[j // 8] >> j % 8 & 1 == 1 for j in range(8 * len(data))]
 
 
 def report(data):

@@ -2,8 +2,16 @@
 
 use crate::{Answer, Builder, Cursor, LIMIT, Lent, Span, State, frozen_size};
 
-/// The checks made so far; keeps the least number that failed. The first failure decides, and the checks of one number are made of all
-/// arguments before the next number's are, so the order in which a call adds them here does not matter.
+/// The order in which failed checks decide, the first one first. Of these only 1 to 9 are made today.
+const RANKS: [u8; 16] = [16, 10, 1, 11, 2, 13, 3, 14, 15, 4, 5, 12, 6, 7, 8, 9];
+
+/// The place of a number in that order.
+fn rank(number: u8) -> usize {
+    RANKS.iter().position(|&other| other == number).expect("a number that no check has")
+}
+
+/// The checks made so far; keeps the number of least rank that failed. The checks of one number are made of all arguments before the next
+/// number's are, so the order in which a call adds them here does not matter.
 #[derive(Default)]
 pub struct Checks {
     failed: Option<u8>,
@@ -11,7 +19,7 @@ pub struct Checks {
 
 impl Checks {
     pub fn check(mut self, number: u8, holds: bool) -> Self {
-        if !holds && self.failed.is_none_or(|first| number < first) {
+        if !holds && self.failed.is_none_or(|first| rank(number) < rank(first)) {
             self.failed = Some(number);
         }
         self

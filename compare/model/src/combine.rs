@@ -1,7 +1,7 @@
 //! The combinations: flag by flag into frozen bytes.
 
 use crate::mask::zero_count;
-use crate::{Answer, Checks, Lent, Mask, State, write_frozen};
+use crate::{Answer, Checks, Lent, Mask, State, flag_at, write_frozen};
 
 /// The combinations of two masks, in the order of the interface's numbers.
 #[derive(Clone, Copy, Debug, PartialEq, Eq)]
@@ -85,4 +85,18 @@ pub fn select_constant(selector: Lent, truthy: Lent, flag: bool, out: &mut [u8])
     combined(&[selector, truthy], out, || {
         (selector.flags().into_iter().zip(truthy.flags()).map(|(by, yes)| if by { yes } else { flag }).collect(), false)
     })
+}
+
+/// The flag of `and_not` at one index: that of the first mask and not that of the second; an absent first mask is all ones, an absent
+/// second one all zeros. With one mask check 5 is not made, with none no check is.
+pub fn and_not_at(first: Option<Lent>, second: Option<Lent>, index: usize) -> Answer {
+    let mut checks = Checks::default();
+    for lent in first.iter().chain(&second) {
+        checks = checks.mask(*lent).check(6, index < lent.mask.length);
+    }
+    if let (Some(first), Some(second)) = (first, second) {
+        checks = checks.check(5, first.mask.length == second.mask.length);
+    }
+    let flag = |lent: Lent| flag_at(lent.bytes, lent.mask.start + index);
+    checks.answer(State::None, || Answer::values([usize::from(first.is_none_or(flag) && !second.is_some_and(flag))]))
 }

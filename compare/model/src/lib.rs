@@ -8,6 +8,7 @@ mod checks;
 pub mod combine;
 pub mod cursors;
 pub mod dispatch;
+pub mod loops;
 pub mod mask;
 pub mod spans;
 pub mod words;
