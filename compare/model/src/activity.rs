@@ -39,11 +39,7 @@ pub fn run_of(window: &Window) -> Option<Vec<u64>> {
 
 /// `ActivityWindow::new`: the window and 0, or a window of zeros and the number.
 pub fn new(width: usize) -> (Window, u8) {
-    if (1..=256).contains(&width) {
-        (left_by(width, &[]), 0)
-    } else {
-        (Window { width: 0, ..left_by(1, &[]) }, REFUSED)
-    }
+    if (1..=256).contains(&width) { (left_by(width, &[]), 0) } else { (Window { width: 0, ..left_by(1, &[]) }, REFUSED) }
 }
 
 /// `ActivityWindow::push_minute`: the window one minute on and 0, or the window as it came and the number.
