@@ -3,6 +3,7 @@
 //! Nothing here is taken from the library: no word is shifted, no count is kept beside the flags, and each sum is taken in 128 bits.
 //! It is slow and meant to be read next to document 01.
 
+pub mod activity;
 pub mod builder;
 mod checks;
 pub mod combine;

@@ -3,6 +3,7 @@ pub mod AnyFlag
 mod Behind
 pub mod Bits
 pub mod Bytes
+pub mod ColumnLaws
 pub mod Combining
 pub mod Counting
 pub mod EndLaws
@@ -10,6 +11,7 @@ pub mod Loads
 pub mod Merging
 pub mod NthLaws
 pub mod Plain
+mod PlaneLaws
 mod Ranges
 pub mod Windows
 pub mod Writing

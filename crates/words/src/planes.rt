@@ -1,0 +1,143 @@
+// Bit planes: plane i has digit i of 64 numbers, so that a word is added to all 64 with a few operations. Everything is in range
+// by `requires`: nine planes hold numbers below 512.
+ghost use mathlib.Core.Path.{_≡_};
+ghost use Prim.Native.Nat.{ℕ, _+_, _<_, _≤_};
+ghost use lib.ListN.{length};
+ghost use Rattle.words.specs.Columns.{digitOf};
+ghost use Rattle.words.specs.Planes.{planesAt, addedFrom, Added, FourMore, Totals, Wrote};
+
+// Adds a word to the planes from k on.
+fn add_from(planes: &mut [u64; 9], k: usize, w: u64)
+    requires { ⌜ (length (now planes) ≡ 9) × (k ≤ 9) ⌝ }
+    ensures { λ _. ⌜ now (planes .exit) ≡ addedFrom k (now (planes .entry)) w ⌝ }
+{
+    let mut carry = w;
+    let mut i = k;
+    while i < 9 {
+        let p = planes[i];
+        planes[i] = p ^ carry;
+        carry = p & carry;
+        i += 1;
+    }
+}
+
+// Adds one word.
+fn add_one(planes: &mut [u64; 9], words: &[u64], at: usize)
+    requires { ⌜ Totals (now words) (now planes) at × (at + 1 ≤ length (now words)) × (at + 1 < 512) ⌝ }
+    ensures { λ _. ⌜ Totals (now (words .entry)) (now (planes .exit)) (at + 1) ⌝ }
+{
+    let w = words[at];
+    add_from(planes, 0, w);
+}
+
+// The two digits of a sum of three flags, in each column.
+struct Sum {
+    low: u64,
+    high: u64,
+}
+
+fn full_add(x: u64, y: u64, z: u64) -> Sum
+    ensures { λ r. ⌜ Added x y z (r .low) (r .high) ⌝ }
+{
+    let u = x ^ y;
+    Sum {
+        low: u ^ z,
+        high: (x & y) | (u & z),
+    }
+}
+
+struct Four {
+    ones: u64,
+    twos: u64,
+    fours: u64,
+}
+
+// Adds four words: from two digits p and q to three.
+fn add_four(p: u64, q: u64, words: &[u64], at: usize) -> Four
+    requires { ⌜ at + 4 ≤ length (now words) ⌝ }
+    ensures { λ r. ⌜ FourMore (now (words .entry)) at p q (r .ones) (r .twos) (r .fours) ⌝ }
+{
+    let a = full_add(p, words[at], words[at + 1]);
+    let b = full_add(a.low, words[at + 2], words[at + 3]);
+    let c = full_add(q, a.high, b.high);
+    Four {
+        ones: b.low,
+        twos: c.low,
+        fours: c.high,
+    }
+}
+
+// Adds eight words.
+fn add_eight(planes: &mut [u64; 9], words: &[u64], at: usize)
+    requires { ⌜ Totals (now words) (now planes) at × (at + 8 ≤ length (now words)) × (at + 8 < 512) ⌝ }
+    ensures { λ _. ⌜ Totals (now (words .entry)) (now (planes .exit)) (at + 8) ⌝ }
+{
+    let a = add_four(planes[0], planes[1], words, at);
+    let b = add_four(a.ones, a.twos, words, at + 4);
+    let d = full_add(planes[2], a.fours, b.fours);
+    planes[0] = b.ones;
+    planes[1] = b.twos;
+    planes[2] = d.low;
+    add_from(planes, 3, d.high);
+}
+
+// Adds the first n words to planes of zeros, eight at a time, and returns how many were added.
+pub(crate) fn add_eights(planes: &mut [u64; 9], words: &[u64], n: usize) -> usize
+    requires { ⌜ Totals (now words) (now planes) 0 × (n ≤ length (now words)) × (n < 512) ⌝ }
+    ensures { λ r. ⌜ (r ≤ n) × Totals (now (words .entry)) (now (planes .exit)) r ⌝ }
+{
+    let mut i: usize = 0;
+    while i + 8 <= n {
+        add_eight(planes, words, i);
+        i += 8;
+    }
+    i
+}
+
+// Adds the words from `done` on up to n, one at a time.
+pub(crate) fn add_rest(planes: &mut [u64; 9], words: &[u64], done: usize, n: usize)
+    requires { ⌜ Totals (now words) (now planes) done × (done ≤ n) × (n ≤ length (now words)) × (n < 512) ⌝ }
+    ensures { λ _. ⌜ Totals (now (words .entry)) (now (planes .exit)) n ⌝ }
+{
+    let mut i = done;
+    while i < n {
+        add_one(planes, words, i);
+        i += 1;
+    }
+}
+
+// Returns flag c of w as a number.
+pub(crate) fn digit_at(w: u64, c: usize) -> u32
+    requires { ⌜ c < 64 ⌝ }
+    ensures { λ r. ⌜ (r ≡ digitOf w c) × (r < 2) ⌝ }
+{
+    ((w >> c) % 2) as u32
+}
+
+// Returns the number of column c.
+fn column_at(planes: &[u64; 9], c: usize) -> u32
+    requires { ⌜ (length (now planes) ≡ 9) × (c < 64) ⌝ }
+    ensures { λ r. ⌜ r ≡ planesAt (now (planes .entry)) c ⌝ }
+{
+    let mut sum: u32 = 0;
+    let mut i: usize = 9;
+    while 0 < i {
+        i = i - 1;
+        sum = 2 * sum + digit_at(planes[i], c);
+    }
+    sum
+}
+
+// Returns the numbers of all columns.
+pub(crate) fn spread(planes: &[u64; 9]) -> [u32; 64]
+    requires { ⌜ length (now planes) ≡ 9 ⌝ }
+    ensures { λ r. ⌜ (length r ≡ 64) × Wrote (now (planes .entry)) r 64 ⌝ }
+{
+    let mut out: [u32; 64] = [0; 64];
+    let mut c: usize = 0;
+    while c < 64 {
+        out[c] = column_at(planes, c);
+        c += 1;
+    }
+    out
+}
