@@ -10,23 +10,23 @@ use lib.ListN.{length}
 use borrow.Author.Tests.{eq-eqb, le-leb}
 use Rattle.words.specs.Flags.{flagsOf, over, window}
 use Rattle.words.specs.Ops.{zip3}
-use Rattle.masks.specs.Agreement.{Combines, FitAt, Fits}
+use Rattle.histories.specs.Agreement.{Combines, FitAt, Fits}
 use Rattle.masks.specs.Answer.{Answer, given, checked, decided, kept}
 use Rattle.masks.specs.Checks.{Check, check, earlier, firstFailed, outputChecks}
 use Rattle.masks.specs.Combine.{eachBytes, eachOf, notChecks, notFlags, pairBytes, pairChecks, pairFlags, pairMask}
 use Rattle.masks.specs.Combine.{pairOf, pairShortcut, resultCount, selectChecks, selectConstantFlags, selectFlags}
 use Rattle.masks.specs.Frozen.{frozen, frozenSize}
-use Rattle.masks.specs.History.{Argument, own, other, Combination, pair, invert, select, selectConstant, FairAt, bytesAt, combinedFlags, flagsAt, maskAt, pairOp}
+use Rattle.histories.specs.History.{Argument, own, other, Combination, pair, invert, select, selectConstant, FairAt, bytesAt, combinedFlags, flagsAt, maskAt, pairOp}
 use Rattle.masks.specs.Mask.{maskChecks, maskFlags, maskOf, uncounted}
 use Rattle.masks.specs.TrueCounts.{Sound}
 use Rattle.masks.specs.declared.bitmap.Bitmap.{Bitmap}
 use Rattle.masks.specs.declared.bitmap.Unset.{Unset}
 use Rattle.masks.proofs.Accepted.{mask-accepted}
 use Rattle.masks.proofs.CheckLaws.{is-given, is-new, passed-before}
 use Rattle.masks.proofs.FreezeLaws.{frozen-front}
-use Rattle.masks.proofs.HistoryLaws.{Stands}
-use Rattle.masks.proofs.HistoryMasks.{constant-written, flags-at, pair-long, pair-written, select-written}
-use Rattle.masks.proofs.HistoryTheorem.{constant-known, not-known, select-known}
+use Rattle.histories.proofs.HistoryLaws.{Stands}
+use Rattle.histories.proofs.HistoryMasks.{constant-written, flags-at, pair-long, pair-written, select-written}
+use Rattle.histories.proofs.HistoryTheorem.{constant-known, not-known, select-known}
 
 -- ---- what a call gives whose checks pass
 

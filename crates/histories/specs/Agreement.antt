@@ -8,26 +8,26 @@ use mathlib.Core.Option.{Option, none, some}
 use lib.Dec.{ltb}
 use lib.ListN.{length, getD, take}
 use Rattle.words.specs.Flags.{over}
 use Rattle.masks.specs.Answer.{Answer, given, refused}
 use Rattle.masks.specs.Appends.{appendAnswer, appendBytes, extendBitmap}
 use Rattle.masks.specs.Builder.{newBuilder}
 use Rattle.masks.specs.Cursor.{Step, item, ended, listing}
 use Rattle.masks.specs.Freeze.{freezeBytes, freezeOf}
 use Rattle.masks.specs.Frozen.{frozen, frozenSize}
-use Rattle.masks.specs.History.{Argument, own, other, Combination, pair, invert, select, selectConstant, History}
-use Rattle.masks.specs.History.{FairHistory, combinedBytes, combinedFlags, combinedOf, endOf, listOf, masked}
+use Rattle.histories.specs.History.{Argument, own, other, Combination, pair, invert, select, selectConstant, History}
+use Rattle.histories.specs.History.{FairHistory, combinedBytes, combinedFlags, combinedOf, endOf, listOf, masked}
 use Rattle.masks.specs.Iterator.{newIter, nthFlag}
 use Rattle.masks.specs.Mask.{maskFlags, Recounted, unsetBitsOf}
 use Rattle.masks.specs.Search.{nthBack, nthFrom, searchBack, searchFrom}
 use Rattle.masks.specs.SliceIterator.{newSlices, nextSlice, runsFrom}
 use Rattle.masks.specs.TrueCounts.{Sound, TrueCount}
 use Rattle.masks.specs.Utils.{zeros}
 use Rattle.masks.specs.declared.bitmap.Bitmap.{Bitmap}
 use Rattle.masks.specs.declared.bitmap.Unset.the-variants.{Known}
 use Rattle.masks.specs.declared.builder.BitmapBuilder.{BitmapBuilder}
 use Rattle.masks.specs.declared.iterator.BitmapIter.{BitmapIter}
 use Rattle.masks.specs.declared.slice_iterator.Run.{Run}
 use Rattle.masks.specs.declared.slice_iterator.SlicesIterator.{SlicesIterator}
 
 -- ---- what the calls show of a mask: `none` where a call is refused
 

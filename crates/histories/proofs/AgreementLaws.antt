@@ -12,35 +12,35 @@ use borrow.Author.Tests.{le-leb}
 use Rattle.words.specs.Flags.{flagsOf, over, window}
 use Rattle.words.specs.Loops.{stretch}
 use Rattle.words.proofs.Windows.{in-window, length-window, window-all}
-use Rattle.masks.specs.Agreement.{Agrees, Combines, Fits, countShown, flagOf, flagShown, frozenShown, nthOf, nthShown, refrozen, thenFrozen, runsOf, runsShown}
+use Rattle.histories.specs.Agreement.{Agrees, Combines, Fits, countShown, flagOf, flagShown, frozenShown, nthOf, nthShown, refrozen, thenFrozen, runsOf, runsShown}
 use Rattle.masks.specs.Answer.{Answer, given, refused, decided, checked, unlessEmpty}
 use Rattle.masks.specs.Appends.{subsliceChecks}
 use Rattle.masks.specs.Builder.{Filling, appended, filling, newBuilder, Room}
 use Rattle.masks.specs.Checks.{Check, check, earlier, firstFailed, limit, spanChecks}
 use Rattle.masks.specs.Cursor.{Step, item, ended, cursorChecks}
 use Rattle.masks.specs.Freeze.{freezeChecks, frozenMask, frozenOver}
 use Rattle.masks.specs.Frozen.{frozen, frozenSize, packed}
-use Rattle.masks.specs.History.{Combination}
+use Rattle.histories.specs.History.{Combination}
 use Rattle.masks.specs.Iterator.{flagStep, iterAt, iterFlags, movedTo, newIter, nthFlag}
 use Rattle.masks.specs.Mask.{maskChecks, maskFlags, maskOf, Recounted, unsetBitsOf, zeroCount}
 use Rattle.masks.specs.Search.{nthBack, nthFrom, searchBack, searchFrom}
 use Rattle.masks.specs.SliceIterator.{newSlices, runsFrom, runsLeft, slicesAt}
 use Rattle.masks.specs.TrueCounts.{Sound, TrueCount, Truthful}
 use Rattle.masks.specs.Utils.{zeros}
 use Rattle.masks.specs.declared.bitmap.Bitmap.{Bitmap}
 use Rattle.masks.specs.declared.bitmap.Unset.the-variants.{Known}
 use Rattle.masks.specs.declared.iterator.BitmapIter.{BitmapIter}
 use Rattle.masks.proofs.Accepted.{builder-accepted, mask-accepted, span-accepted, whole-accepted}
 use Rattle.masks.proofs.CheckLaws.{is-given, is-new, passed-before}
-use Rattle.masks.proofs.CombinedLaws.{combines}
+use Rattle.histories.proofs.CombinedLaws.{combines}
 use Rattle.masks.proofs.FreezeLaws.{same-checks}
 use Rattle.masks.proofs.FrozenLaws.{flags-packed, length-packed}
-use Rattle.masks.proofs.HistoryLaws.{Builds, Stands, builds-after}
-use Rattle.masks.proofs.HistoryTheorem.{new-holds}
+use Rattle.histories.proofs.HistoryLaws.{Builds, Stands, builds-after}
+use Rattle.histories.proofs.HistoryTheorem.{new-holds}
 use Rattle.masks.proofs.Listing.{place-accepted}
 use Rattle.masks.proofs.RoomLaws.{size-after}
 use Rattle.masks.proofs.RunsWhole.{lists-runs}
 use Rattle.masks.proofs.TrueLaws.{true-count}
 
 -- ---- frozen bytes
 

@@ -12,25 +12,25 @@ use Rattle.words.specs.Flags.{bits, count, flagsOf, window}
 use Rattle.words.specs.Loops.{stretch}
 use Rattle.words.specs.Ops.{zip3}
 use Rattle.words.proofs.Windows.{length-window}
 use Rattle.masks.specs.Answer.{Answer, decided}
 use Rattle.masks.specs.Appends.{appendChecks}
 use Rattle.masks.specs.Builder.{Filling, filling, builderFlags, inProgress, newBuilder, noneFrom, Room}
 use Rattle.masks.specs.Checks.{Check, check, firstFailed, limit, outputChecks, spanChecks}
 use Rattle.masks.specs.Combine.{eachBytes, eachOf, notChecks, notFlags, pairBytes, pairChecks, pairOf, selectChecks, selectConstantFlags, selectFlags}
 use Rattle.masks.specs.Freeze.{allOnes, freezeChecks}
-use Rattle.masks.specs.History.{Argument, Call, tryNew, append, freeze, intoOptValidity, slice, unsetBits, combine, Combination, pair, invert, select}
-use Rattle.masks.specs.History.{selectConstant, FairCall, Fair, Outcome, Seen, Start, startOf, fromBuilder, fromSpan, State, waiting, building, masked}
-use Rattle.masks.specs.History.{ended, afterSlice, afterTry, bytesAt, combinedFlags, flagsAt, listStep, maskAt, pairOp, reference, run, step, trace}
+use Rattle.histories.specs.History.{Argument, Call, tryNew, append, freeze, intoOptValidity, slice, unsetBits, combine, Combination, pair, invert, select}
+use Rattle.histories.specs.History.{selectConstant, FairCall, Fair, Outcome, Seen, Start, startOf, fromBuilder, fromSpan, State, waiting, building, masked}
+use Rattle.histories.specs.History.{ended, afterSlice, afterTry, bytesAt, combinedFlags, flagsAt, listStep, maskAt, pairOp, reference, run, step, trace}
 use Rattle.masks.specs.Mask.{maskChecks, maskFlags, maskOf, pieceChecks, sliceOf, tryNewOf, uncounted, unsetBitsOf}
 use Rattle.masks.specs.declared.bitmap.Bitmap.{Bitmap}
 use Rattle.masks.proofs.CheckLaws.{both-left, both-right, rest-allowed, span-allowed}
 use Rattle.masks.proofs.CombineLaws.{pair-lengths, select-lengths}
-use Rattle.masks.proofs.HistoryLaws.{Builds, Holds, Stands, append-holds, freeze-holds, validity-holds}
-use Rattle.masks.proofs.HistoryMasks.{constant-written, count-holds, each-holds, flags-at, length-not, length-zip2}
-use Rattle.masks.proofs.HistoryMasks.{length-zip3, output-allowed, pair-holds, select-written, slice-holds}
+use Rattle.histories.proofs.HistoryLaws.{Builds, Holds, Stands, append-holds, freeze-holds, validity-holds}
+use Rattle.masks.proofs.LengthLaws.{length-not, length-zip2, length-zip3, output-allowed}
+use Rattle.histories.proofs.HistoryMasks.{constant-written, count-holds, each-holds, flags-at, pair-holds, select-written, slice-holds}
 use Rattle.masks.proofs.MaskLaws.{mask-allowed}
 use Rattle.masks.proofs.RoomLaws.{finished}
 use Rattle.masks.proofs.SliceTruth.{none-true, slice-accepted}
 
 -- ---- what the checks of combinations with no shortcut give
 

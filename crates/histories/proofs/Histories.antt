@@ -7,16 +7,16 @@ use mathlib.Core.Option.{Option, none, some}
 use Prim.Native.Nat.{ℕ, _≤_, _<_}
 use native.Mathlib.Omega.{arith}
 use lib.ListN.{length}
-use Rattle.masks.specs.Agreement.{Agrees, Alike, ComesTo, Fits, OneMeaning, refrozen}
+use Rattle.histories.specs.Agreement.{Agrees, Alike, ComesTo, Fits, OneMeaning, refrozen}
 use Rattle.masks.specs.Frozen.{frozenSize}
-use Rattle.masks.specs.History.{Combination, History, State, endOf, listOf, startOf}
+use Rattle.histories.specs.History.{Combination, History, State, endOf, listOf, startOf}
 use Rattle.masks.specs.TrueCounts.{TrueCount}
 use Rattle.masks.specs.declared.bitmap.Bitmap.{Bitmap}
 use Rattle.masks.specs.declared.bitmap.Unset.{Unset}
 use Rattle.masks.specs.declared.bitmap.Unset.the-variants.{Known}
-use Rattle.masks.proofs.AgreementLaws.{agrees, frozen-same}
-use Rattle.masks.proofs.HistoryLaws.{Holds}
-use Rattle.masks.proofs.HistoryTheorem.{run-holds, start-holds}
+use Rattle.histories.proofs.AgreementLaws.{agrees, frozen-same}
+use Rattle.histories.proofs.HistoryLaws.{Holds}
+use Rattle.histories.proofs.HistoryTheorem.{run-holds, start-holds}
 
 comes-to : (h : History) (m : Bitmap) (bytes : List ℕ) → ComesTo h m bytes → Agrees m bytes (listOf h)
 comes-to h m bytes c =

@@ -12,27 +12,28 @@ use Rattle.words.specs.Loops.{stretch}
 use Rattle.words.specs.Ops.{opOf, zip3}
 use Rattle.words.specs.declared.ops.Op.{Op}
 use Rattle.words.proofs.Windows.{length-copies, length-over, length-window}
 use Rattle.masks.specs.Answer.{Answer, given, refused, decided, kept, checked}
 use Rattle.masks.specs.Checks.{Check, check, firstFailed, limit, outputChecks, spanChecks, withinLimit}
 use Rattle.masks.specs.Combine.{notChecks, notFlags, pairChecks, pairEach, pairFlags, pairMask, pairShortcut}
 use Rattle.masks.specs.Combine.{resultCount, resultFlags, selectChecks, selectConstantFlags, selectFlags}
 use Rattle.masks.specs.Frozen.{frozen}
-use Rattle.masks.specs.History.{Argument, own, other, Pair, and, andNot, or, orNot, xor, FairAt, State}
-use Rattle.masks.specs.History.{afterCombined, afterCount, afterSlice, bytesAt, flagsAt, maskAt, pairFlag, pairOp}
+use Rattle.histories.specs.History.{Argument, own, other, Pair, and, andNot, or, orNot, xor, FairAt, State}
+use Rattle.histories.specs.History.{afterCombined, afterCount, afterSlice, bytesAt, flagsAt, maskAt, pairFlag, pairOp}
 use Rattle.masks.specs.Mask.{Recounted, maskChecks, maskFlags, maskOf, pieceChecks, slicedMask, uncounted, zeroCount}
 use Rattle.masks.specs.TrueCounts.{Sound, TrueCount, Truthful}
 use Rattle.masks.specs.declared.bitmap.Bitmap.{Bitmap}
 use Rattle.masks.specs.declared.bitmap.Unset.{Unset}
 use Rattle.masks.specs.declared.bitmap.Unset.the-variants.{Known, Unknown}
 use Rattle.masks.specs.declared.shortcuts.Shortcut.{Shortcut}
 use Rattle.masks.specs.declared.shortcuts.Shortcut.the-variants.{Each, All}
 use Rattle.masks.proofs.CheckLaws.{both-left, both-right, check-allowed, first-allowed, rest-allowed}
 use Rattle.masks.proofs.CombineLaws.{pair-lengths, select-lengths}
 use Rattle.masks.proofs.FreezeLaws.{frozen-front}
-use Rattle.masks.proofs.HistoryLaws.{Holds, Stands}
+use Rattle.histories.proofs.HistoryLaws.{Holds, Stands}
+use Rattle.masks.proofs.LengthLaws.{length-zip3, output-allowed}
 use Rattle.masks.proofs.MaskLaws.{mask-allowed, piece-allowed}
 use Rattle.masks.proofs.SliceTruth.{none-true, result-true, slice-flags, slice-true}
 use Rattle.masks.proofs.TrueLaws.{flags-by-operation, true-count}
 
 -- ---- slices and counts
 
@@ -75,27 +76,6 @@ count-holds m bytes l zero s =
 count-holds m bytes l (suc k) s = s
 
 -- ---- combinations
-
-pub length-zip3 : (f : Bool → Bool → Bool → Bool) (a b c : List Bool) → length a ≡ length b → length a ≡ length c → length (zip3 f a b c) ≡ length a
-unfolding zip3
-length-zip3 f [] b c p q = refl
-length-zip3 f (x ∷ a) [] c p q = absurd (omega arith)
-length-zip3 f (x ∷ a) (y ∷ b) [] p q = absurd (omega arith)
-length-zip3 f (x ∷ a) (y ∷ b) (z ∷ c) p q = ap suc (length-zip3 f a b c (omega arith) (omega arith))
-
-pub length-zip2 : (f : Bool → Bool → Bool) (a b : List Bool) → length a ≡ length b → length (zipWith f a b) ≡ length a
-unfolding zipWith
-length-zip2 f [] b p = refl
-length-zip2 f (x ∷ a) [] p = absurd (omega arith)
-length-zip2 f (x ∷ a) (y ∷ b) p = ap suc (length-zip2 f a b (omega arith))
-
-pub length-not : (a : List Bool) → length (map not a) ≡ length a
-length-not [] = refl
-length-not (x ∷ a) = ap suc (length-not a)
-
-pub output-allowed : (n size : ℕ) → firstFailed (outputChecks n size) ≡ 0 → 8 * ((n + 63) / 64) ≤ size
-unfolding outputChecks
-output-allowed n size e = leb-true (8 * ((n + 63) / 64)) size (check-allowed 8 (leb (8 * ((n + 63) / 64)) size) e)
 
 -- a mask of flags frozen over the front of an output that holds them
 made-stands : (n : ℕ) (u : Unset) (F l : List Bool) (out : List ℕ) → length F ≡ n → n ≤ limit → 8 * ((n + 63) / 64) ≤ length out → F ≡ l → TrueCount u F

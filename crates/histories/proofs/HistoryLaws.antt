@@ -13,31 +13,31 @@ use Rattle.words.specs.Flags.{bits, copies, count, flagsOf, over, window, wordF
 use Rattle.words.specs.Loops.{stretch}
 use Rattle.words.proofs.Bits.{length-bits}
 use Rattle.words.proofs.Windows.{length-copies, length-over, length-window}
 use Rattle.masks.specs.Answer.{Answer, given, refused, decided, kept, checked}
 use Rattle.masks.specs.Appends.{Append, pushFlag, extendConstant, pushWord, extendSlice, extendRepeated, extendBitmap}
 use Rattle.masks.specs.Appends.{extendGather, extendOptGather, appendChecks, appendFlags, constantChecks, gatherChecks, gathered}
 use Rattle.masks.specs.Appends.{growChecks, innerChecks, repeated, spanGrowChecks, subsliceChecks, wordChecks, allBelow}
 use Rattle.masks.specs.Builder.{Filling, filling, appended, builderChecks, builderFlags, noneFrom, Room}
 use Rattle.masks.specs.Checks.{Check, check, firstFailed, limit, spanChecks, withinLimit}
 use Rattle.masks.specs.Freeze.{allOnes, freezeChecks, frozenMask, frozenOver, validityOf}
 use Rattle.masks.specs.Frozen.{frozen}
-use Rattle.masks.specs.History.{afterAppend, afterFreeze, afterValidity, afterSlice, afterCount, State, waiting, building, masked, ended, Outcome}
+use Rattle.histories.specs.History.{afterAppend, afterFreeze, afterValidity, afterSlice, afterCount, State, waiting, building, masked, ended, Outcome}
 use Rattle.masks.specs.Mask.{maskChecks, maskFlags, maskOf, pieceChecks, slicedMask, sliceOf, unsetBitsOf, zeroCount}
 use Rattle.masks.specs.TrueCounts.{Sound, TrueCount, Truthful}
 use Rattle.masks.specs.Utils.{zeros}
 use Rattle.masks.specs.declared.bitmap.Bitmap.{Bitmap}
 use Rattle.masks.specs.declared.bitmap.Unset.{Unset}
 use Rattle.masks.specs.declared.bitmap.Unset.the-variants.{Known, Unknown}
 use Rattle.masks.specs.declared.builder.BitmapBuilder.{BitmapBuilder}
 use Rattle.masks.proofs.CheckLaws.{both-left, both-right, first-allowed, rest-allowed}
 use Rattle.masks.proofs.FreezeLaws.{frozen-flags, frozen-front, true-zeros}
 use Rattle.masks.proofs.GatherLaws.{length-gathered}
 use Rattle.masks.proofs.MaskLaws.{piece-allowed}
 use Rattle.masks.proofs.PartLaws.{length-low}
 use Rattle.masks.proofs.RepeatLaws.{length-repeated}
 use Rattle.masks.proofs.RoomLaws.{finished, flags-after, ones-after, room-after, room-of, word-allowed}
 use Rattle.masks.proofs.SliceTruth.{slice-accepted, slice-flags, slice-true}
 use Rattle.masks.proofs.TrueLaws.{true-count}
 
 -- ---- the invariant
 

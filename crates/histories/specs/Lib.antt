@@ -1,0 +1,3 @@
+-- What the theorem on histories says: `History`, then `Agreement`.
+pub mod Agreement
+pub mod History
