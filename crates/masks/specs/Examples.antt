@@ -13,7 +13,7 @@ use Rattle.words.specs.Flags.{isOne}
 use Rattle.masks.specs.Answer.{Answer, given, refused}
 use Rattle.masks.specs.Appends.{Append, pushFlag, extendConstant, extendSlice, extendRepeated, extendGather, extendOptGather, appendAnswer, appendBytes}
 use Rattle.masks.specs.Builder.{newBuilder}
-use Rattle.masks.specs.Combine.{OrNot, pairOf, pairBytes, eachOf, eachBytes, selectChecks, selectFlags}
+use Rattle.masks.specs.Combine.{OrNot, pairOf, pairBytes, selectOf, selectBytes}
 use Rattle.masks.specs.Compare.{edgesOf}
 use Rattle.masks.specs.Cursor.{listing}
 use Rattle.masks.specs.Freeze.{freezeBytes, freezeOf, intoOptValidityOf}
@@ -125,26 +125,25 @@ orNotOf p q =
     (pairBytes OrNot (maskIn p) (bytesIn p) (maskIn q) (bytesIn q) (lent 8))
 
 -- `select` by s from t and f
-abbrev pub selectOf : List ℕ → List ℕ → List ℕ → Value
-selectOf s t f =
-    let checks = selectChecks (maskIn s) (bytesIn s) (maskIn t) (bytesIn t) (maskIn f) (bytesIn f) 8 in
-    writtenValue (eachOf checks (maskIn s ∷ maskIn t ∷ maskIn f ∷ []) (length s))
-    (eachBytes checks (selectFlags (maskIn s) (bytesIn s) (maskIn t) (bytesIn t) (maskIn f) (bytesIn f)) (lent 8))
+abbrev pub selectValue : List ℕ → List ℕ → List ℕ → Value
+selectValue s t f =
+    writtenValue (selectOf (maskIn s) (bytesIn s) (maskIn t) (bytesIn t) (maskIn f) (bytesIn f) (lent 8))
+    (selectBytes (maskIn s) (bytesIn s) (maskIn t) (bytesIn t) (maskIn f) (bytesIn f) (lent 8))
 
 -- `try_new` of n flags over 25 bytes 0x2D, each with four zeros, and `unset_bits`, which makes their count known
-abbrev pub tens : List ℕ
-tens = replicate 25 0x2D
+abbrev pub mixedBytes : List ℕ
+mixedBytes = replicate 25 0x2D
 
 abbrev pub counted : Answer (Unit {0}) Bitmap → Answer Bitmap Recounted
-counted (given m) = unsetBitsOf m tens
+counted (given m) = unsetBitsOf m mixedBytes
 counted (refused k s) = refused k emptyMask
 
 abbrev pub mixed : ℕ → Answer Bitmap Recounted
-mixed n = counted (tryNewOf tens 0 n)
+mixed n = counted (tryNewOf mixedBytes 0 n)
 
 -- `slice` to k flags, from the flag 16 on, of such a mask
 abbrev pub slicedTo : ℕ → Answer Bitmap Recounted → Value
-slicedTo k (given r) = slicedValue (sliceOf (r .mask) tens 16 k)
+slicedTo k (given r) = slicedValue (sliceOf (r .mask) mixedBytes 16 k)
 slicedTo k (refused n m) = refusal n
 
 -- this byte first, then seven zero bytes
@@ -182,7 +181,7 @@ examples =
     -- 7. `or_not` of 0,0,1 and 1,0,0: 0x06 first.
     ∷ example 7 (orNotOf (0 ∷ 0 ∷ 1 ∷ []) (1 ∷ 0 ∷ 0 ∷ [])) (bytes (first 0x06))
     -- 8. `select` by 1,0,1,0 from 1,1,0,0 and 0,1,1,1: 0x0B first.
-    ∷ example 8 (selectOf (1 ∷ 0 ∷ 1 ∷ 0 ∷ []) (1 ∷ 1 ∷ 0 ∷ 0 ∷ []) (0 ∷ 1 ∷ 1 ∷ 1 ∷ [])) (bytes (first 0x0B))
+    ∷ example 8 (selectValue (1 ∷ 0 ∷ 1 ∷ 0 ∷ []) (1 ∷ 1 ∷ 0 ∷ 0 ∷ []) (0 ∷ 1 ∷ 1 ∷ 1 ∷ [])) (bytes (first 0x0B))
     -- 9. `num_edges` of A: 4.
     ∷ example 9 (edgesValue (edgesOf (maskIn A) A-bytes)) (edges 4)
     -- 10. Optional gather 5,6,0 from A: 0x05 first; the strict one gives 6.
