@@ -1,51 +1,43 @@
--- Every combination with sound masks of one length, in an output that is large enough, is accepted and writes the reference
--- list's flags. Assumes nothing.
-use mathlib.Core.Path.{_≡_, refl, sym, ap, ap₂, _∙_}
-use mathlib.Core.Bool.{Bool, cond, not}
-use mathlib.Core.List.{List, [], _∷_, _++_, map, zipWith}
-use Prim.Native.Nat.{ℕ, _≤_}
+-- Every combination of sound masks of one length, in an output that is large enough, is accepted and writes the reference list's
+-- flags. Assumes nothing.
+use mathlib.Core.Path.{_≡_, refl, sym, ap, _∙_}
+use mathlib.Core.Bool.{Bool}
+use mathlib.Core.List.{List, [], _∷_, _++_}
+use Prim.Native.Nat.{ℕ, zero, suc, _≤_}
 use native.Mathlib.Omega.{arith}
-use lib.Dec.{eqb, leb}
+use lib.Dec.{eqb}
 use lib.ListN.{length}
 use borrow.Author.Tests.{eq-eqb, le-leb}
-use Rattle.words.specs.Flags.{flagsOf, over, window}
-use Rattle.words.specs.Ops.{zip3}
-use Rattle.histories.specs.Agreement.{Combines, FitAt, Fits}
-use Rattle.masks.specs.Answer.{Answer, given, checked, decided, kept}
+use Rattle.words.specs.Flags.{over}
+use Rattle.masks.specs.Answer.{given, checked, kept}
 use Rattle.masks.specs.Checks.{Check, check, earlier, firstFailed, outputChecks}
-use Rattle.masks.specs.Combine.{eachBytes, eachOf, notChecks, notFlags, pairBytes, pairChecks, pairFlags, pairMask}
-use Rattle.masks.specs.Combine.{pairOf, pairShortcut, resultCount, selectChecks, selectConstantFlags, selectFlags}
+use Rattle.masks.specs.Combine.{eachBytes, eachOf, notChecks, pairBytes, pairChecks, pairMask, pairOf, pairShortcut}
+use Rattle.masks.specs.Combine.{resultCount, resultMask, selectChecks}
 use Rattle.masks.specs.Frozen.{frozen, frozenSize}
-use Rattle.histories.specs.History.{Argument, own, other, Combination, pair, invert, select, selectConstant, FairAt, bytesAt, combinedFlags, flagsAt, maskAt, pairOp}
-use Rattle.masks.specs.Mask.{maskChecks, maskFlags, maskOf, uncounted}
+use Rattle.masks.specs.Mask.{maskChecks, uncounted}
 use Rattle.masks.specs.TrueCounts.{Sound}
 use Rattle.masks.specs.declared.bitmap.Bitmap.{Bitmap}
-use Rattle.masks.specs.declared.bitmap.Unset.{Unset}
 use Rattle.masks.proofs.Accepted.{mask-accepted}
 use Rattle.masks.proofs.CheckLaws.{is-given, is-new, passed-before}
-use Rattle.masks.proofs.FreezeLaws.{frozen-front}
-use Rattle.histories.proofs.HistoryLaws.{Stands}
-use Rattle.histories.proofs.HistoryMasks.{constant-written, flags-at, pair-long, pair-written, select-written}
-use Rattle.histories.proofs.HistoryTheorem.{constant-known, not-known, select-known}
+use Rattle.histories.specs.Agreement.{Combines, FitAt, Fits}
+use Rattle.histories.specs.History.{lentAt}
+use Rattle.histories.specs.MaskRows.{Combination, pair, invert, select, selectConstant, combinationRow, pairOp}
+use Rattle.histories.specs.Owed.{Honest, Stands, lentFlags}
+use Rattle.histories.specs.Rows.{Argument, own, other, Every, Lent, Tuple, Writes, each}
+use Rattle.histories.proofs.MaskRowLaws.{combination-lawful, constant-writable, not-writable, pair-writable, select-writable}
+use Rattle.histories.proofs.RowLaws.{flags-all}
 
 -- ---- what a call gives whose checks pass
 
 given-mask : (cs : List Check) (m : Bitmap) → 0 ≡ firstFailed cs → checked cs (tt {0}) m ≡ given m
 given-mask cs m e = sym (is-given 0 (firstFailed cs) tt m e refl)
 
-new-bytes : (cs : List Check) (F G : List Bool) (out : List ℕ) → 0 ≡ firstFailed cs → F ≡ G → kept (firstFailed cs) (over out (frozen F)) out ≡ over out (frozen G)
-new-bytes cs F G out e p = sym (is-new 0 (firstFailed cs) (over out (frozen F)) out e refl) ∙ ap (λ (t : List Bool). over out (frozen t)) p
-
-new-flags : (cs : List Check) (F G : List Bool) (n : ℕ) (u : Unset) (out : List ℕ) → 0 ≡ firstFailed cs → F ≡ G → length F ≡ n → frozenSize n ≤ length out
-    → maskFlags (maskOf 0 n u) (kept (firstFailed cs) (over out (frozen F)) out) ≡ G
-new-flags cs F G n u out e p long h =
-    let same : length G ≡ n = ap length (sym p) ∙ long in
-    ap₂ (λ (b : List ℕ) (k : ℕ). window (flagsOf b) 0 k) (new-bytes cs F G out e p) (sym same) ∙ frozen-front out G (omega arith)
+new-bytes : (cs : List Check) (F G : List Bool) (out : List ℕ) → 0 ≡ firstFailed cs → F ≡ G
+    → kept (firstFailed cs) (over out (frozen F)) out ≡ over out (frozen G)
+new-bytes cs F G out e p =
+    sym (is-new 0 (firstFailed cs) (over out (frozen F)) out e refl) ∙ ap (λ (t : List Bool). over out (frozen t)) p
 
 -- ---- acceptance
-
-sound-accepted : (m : Bitmap) (bytes : List ℕ) → Sound m bytes → 0 ≡ firstFailed (maskChecks m bytes)
-sound-accepted m bytes s = mask-accepted m bytes (s .starts) (s .short) (s .inside) (s .counts)
 
 room-accepted : (n size : ℕ) → frozenSize n ≤ size → 0 ≡ firstFailed (outputChecks n size)
 unfolding outputChecks firstFailed earlier
@@ -55,122 +47,127 @@ even-accepted : (a b : ℕ) (cs : List Check) → a ≡ b → 0 ≡ firstFailed 
 unfolding firstFailed earlier
 even-accepted a b cs e h = rw (eq-eqb a b e) h
 
-module _ (m : Bitmap) (bytes : List ℕ) (l : List Bool) (s : Stands m bytes l) (out : List ℕ) (room : frozenSize (m .length) ≤ length out) where
-  accepted-at : (p : Argument) → FitAt (m .length) p → 0 ≡ firstFailed (maskChecks (maskAt m p) (bytesAt bytes p))
-  accepted-at own f = sound-accepted m bytes (s .sound)
-  accepted-at (other n its) f = sound-accepted n its (f .0)
+-- a sound mask of n flags
+record Fit (n : ℕ) (x : Lent) : Type 0 where
+  sound : Sound (x .mask) (x .bytes)
+  long : x .mask .length ≡ n
 
-  long-at : (p : Argument) → FitAt (m .length) p → maskAt m p .length ≡ m .length
-  long-at own f = refl
-  long-at (other n its) f = f .1
+-- what an accepted call answers and writes
+record Accepts (r : Writes) (a : Tuple Lent (r .masks)) (out : List ℕ) : Type 0 where
+  result : Bitmap
+  accepted : r .answer a ≡ given result
+  written : r .bytes a ≡ over out (frozen (r .flags (each lentFlags (r .masks) a)))
 
-  fair-fit : (p : Argument) → FitAt (m .length) p → FairAt p
-  fair-fit own f = tt
-  fair-fit (other n its) f = f .0 .counts
+module _ (n : ℕ) (out : List ℕ) (room : frozenSize n ≤ length out) where
+  mask-passes : (x : Lent) → Fit n x → 0 ≡ firstFailed (maskChecks (x .mask) (x .bytes))
+  mask-passes x f = mask-accepted (x .mask) (x .bytes) (f .sound .starts) (f .sound .short) (f .sound .inside) (f .sound .counts)
 
-  even : (p q : Argument) → FitAt (m .length) p → FitAt (m .length) q → maskAt m p .length ≡ maskAt m q .length
-  even p q f g = long-at p f ∙ sym (long-at q g)
+  even : (x y : Lent) → Fit n x → Fit n y → x .mask .length ≡ y .mask .length
+  even x y f g = f .long ∙ sym (g .long)
 
-  room-at : (p : Argument) → FitAt (m .length) p → frozenSize (maskAt m p .length) ≤ length out
-  room-at p f = let e : maskAt m p .length ≡ m .length = long-at p f in omega arith
+  output-passes : (x : Lent) → Fit n x → 0 ≡ firstFailed (outputChecks (x .mask .length) (length out))
+  output-passes x f =
+      let e : x .mask .length ≡ n = f .long in
+      room-accepted (x .mask .length) (length out) (omega arith)
 
-  output-at : (p : Argument) → FitAt (m .length) p → 0 ≡ firstFailed (outputChecks (maskAt m p .length) (length out))
-  output-at p f = room-accepted (maskAt m p .length) (length out) (room-at p f)
-
-  pair-accepted : (p q : Argument) → FitAt (m .length) p → FitAt (m .length) q
-      → 0 ≡ firstFailed (pairChecks (maskAt m p) (bytesAt bytes p) (maskAt m q) (bytesAt bytes q) (length out))
-  unfolding pairChecks
-  pair-accepted p q f g =
-      let five : List Check = check 5 (eqb (maskAt m p .length) (maskAt m q .length)) ∷ outputChecks (maskAt m p .length) (length out) in
-      passed-before (maskChecks (maskAt m p) (bytesAt bytes p)) (maskChecks (maskAt m q) (bytesAt bytes q) ++ five) 0 0 (accepted-at p f) refl
-      (passed-before (maskChecks (maskAt m q) (bytesAt bytes q)) five 0 0 (accepted-at q g) refl
-      (even-accepted (maskAt m p .length) (maskAt m q .length) (outputChecks (maskAt m p .length) (length out)) (even p q f g) (output-at p f)))
-
-  not-accepted : (p : Argument) → FitAt (m .length) p → 0 ≡ firstFailed (notChecks (maskAt m p) (bytesAt bytes p) (length out))
+  not-passes : (x : Lent) → Fit n x → 0 ≡ firstFailed (notChecks (x .mask) (x .bytes) (length out))
   unfolding notChecks
-  not-accepted p f =
-      passed-before (maskChecks (maskAt m p) (bytesAt bytes p)) (outputChecks (maskAt m p .length) (length out)) 0 0 (accepted-at p f) refl (output-at p f)
+  not-passes x f =
+      passed-before (maskChecks (x .mask) (x .bytes)) (outputChecks (x .mask .length) (length out)) 0 0 (mask-passes x f) refl
+      (output-passes x f)
 
-  select-accepted : (p q r : Argument) → FitAt (m .length) p → FitAt (m .length) q → FitAt (m .length) r
-      → 0 ≡ firstFailed (selectChecks (maskAt m p) (bytesAt bytes p) (maskAt m q) (bytesAt bytes q) (maskAt m r) (bytesAt bytes r) (length out))
+  pair-passes : (x y : Lent) → Fit n x → Fit n y → 0 ≡ firstFailed (pairChecks (x .mask) (x .bytes) (y .mask) (y .bytes) (length out))
+  unfolding pairChecks
+  pair-passes x y f g =
+      let last = outputChecks (x .mask .length) (length out) in
+      let five : List Check = check 5 (eqb (x .mask .length) (y .mask .length)) ∷ last in
+      let second = maskChecks (y .mask) (y .bytes) in
+      passed-before (maskChecks (x .mask) (x .bytes)) (second ++ five) 0 0 (mask-passes x f) refl
+      (passed-before second five 0 0 (mask-passes y g) refl
+      (even-accepted (x .mask .length) (y .mask .length) last (even x y f g) (output-passes x f)))
+
+  select-passes : (x y z : Lent) → Fit n x → Fit n y → Fit n z
+      → 0 ≡ firstFailed (selectChecks (x .mask) (x .bytes) (y .mask) (y .bytes) (z .mask) (z .bytes) (length out))
   unfolding selectChecks
-  select-accepted p q r f g h =
-      let last : List Check = check 5 (eqb (maskAt m p .length) (maskAt m r .length)) ∷ outputChecks (maskAt m p .length) (length out) in
-      let five : List Check = check 5 (eqb (maskAt m p .length) (maskAt m q .length)) ∷ last in
-      let third = maskChecks (maskAt m r) (bytesAt bytes r) in
-      let second = maskChecks (maskAt m q) (bytesAt bytes q) in
-      passed-before (maskChecks (maskAt m p) (bytesAt bytes p)) (second ++ (third ++ five)) 0 0 (accepted-at p f) refl
-      (passed-before second (third ++ five) 0 0 (accepted-at q g) refl
-      (passed-before third five 0 0 (accepted-at r h) refl
-      (even-accepted (maskAt m p .length) (maskAt m q .length) last (even p q f g)
-      (even-accepted (maskAt m p .length) (maskAt m r .length) (outputChecks (maskAt m p .length) (length out)) (even p r f h) (output-at p f)))))
+  select-passes x y z f g h =
+      let last = outputChecks (x .mask .length) (length out) in
+      let other-five : List Check = check 5 (eqb (x .mask .length) (z .mask .length)) ∷ last in
+      let five : List Check = check 5 (eqb (x .mask .length) (y .mask .length)) ∷ other-five in
+      let second = maskChecks (y .mask) (y .bytes) in
+      let third = maskChecks (z .mask) (z .bytes) in
+      passed-before (maskChecks (x .mask) (x .bytes)) (second ++ (third ++ five)) 0 0 (mask-passes x f) refl
+      (passed-before second (third ++ five) 0 0 (mask-passes y g) refl
+      (passed-before third five 0 0 (mask-passes z h) refl
+      (even-accepted (x .mask .length) (y .mask .length) other-five (even x y f g)
+      (even-accepted (x .mask .length) (z .mask .length) last (even x z f h) (output-passes x f)))))
 
   -- ---- the four kinds
 
-  pub combines : (c : Combination) → Fits (m .length) c → Combines m bytes l c out
+  accepts : (c : Combination) (a : Tuple Lent (combinationRow c out .masks)) → Every (Fit n) (combinationRow c out .masks) a
+      → Accepts (combinationRow c out) a out
   unfolding pairOf pairBytes pairMask eachOf eachBytes
-  combines (pair op p q) f =
-      let a = maskAt m p in
-      let b = maskAt m q in
-      let aB = bytesAt bytes p in
-      let bB = bytesAt bytes q in
-      let cs = pairChecks a aB b bB (length out) in
-      let u = resultCount (pairShortcut (pairOp op) a aB b bB) (a .length) in
-      let F = pairFlags (pairOp op) a aB b bB in
-      let G = combinedFlags l (pair op p q) in
-      let ok = pair-accepted p q (f .0) (f .1) in
-      let same : F ≡ G = pair-written m bytes l s op p q (length out) (sym ok) (fair-fit p (f .0), fair-fit q (f .1)) in
+  accepts (pair op) a f =
+      let x = a .0 in
+      let y = a .1 .0 in
+      let cs = pairChecks (x .mask) (x .bytes) (y .mask) (y .bytes) (length out) in
+      let u = resultCount (pairShortcut (pairOp op) (x .mask) (x .bytes) (y .mask) (y .bytes)) (x .mask .length) in
+      let m = resultMask (x .mask ∷ y .mask ∷ []) (x .mask .length) u in
+      let ok = pair-passes x y (f .0) (f .1 .0) in
       record {
-        result = maskOf 0 (a .length) u;
-        accepted = given-mask cs (maskOf 0 (a .length) u) ok;
-        written = new-bytes cs F G out ok same;
-        flags = new-flags cs F G (a .length) u out ok same (pair-long (pairOp op) a aB b bB (even p q (f .0) (f .1))) (room-at p (f .0));
+        result = m;
+        accepted = given-mask cs m ok;
+        written = new-bytes cs _ _ out ok (pair-writable op x y out (f .0 .sound .counts) (f .1 .0 .sound .counts) (sym ok) .same);
       }
-  combines (invert p) f =
-      let a = maskAt m p in
-      let aB = bytesAt bytes p in
-      let cs = notChecks a aB (length out) in
-      let F = notFlags a aB in
-      let G = combinedFlags l (invert p) in
-      let ok = not-accepted p f in
-      let same : F ≡ G = ap (map not) (flags-at m bytes l s p) in
+  accepts invert a f =
+      let x = a .0 in
+      let cs = notChecks (x .mask) (x .bytes) (length out) in
+      let m = resultMask (x .mask ∷ []) (x .mask .length) (uncounted (x .mask .length)) in
+      let ok = not-passes x (f .0) in
+      record { result = m; accepted = given-mask cs m ok; written = new-bytes cs _ _ out ok (not-writable x out (sym ok) .same) }
+  accepts select a f =
+      let x = a .0 in
+      let y = a .1 .0 in
+      let z = a .1 .1 .0 in
+      let cs = selectChecks (x .mask) (x .bytes) (y .mask) (y .bytes) (z .mask) (z .bytes) (length out) in
+      let m = resultMask (x .mask ∷ y .mask ∷ z .mask ∷ []) (x .mask .length) (uncounted (x .mask .length)) in
+      let ok = select-passes x y z (f .0) (f .1 .0) (f .1 .1 .0) in
+      record { result = m; accepted = given-mask cs m ok; written = new-bytes cs _ _ out ok (select-writable x y z out (sym ok) .same) }
+  accepts (selectConstant c) a f =
+      let x = a .0 in
+      let y = a .1 .0 in
+      let cs = pairChecks (x .mask) (x .bytes) (y .mask) (y .bytes) (length out) in
+      let m = resultMask (x .mask ∷ y .mask ∷ []) (x .mask .length) (uncounted (x .mask .length)) in
+      let ok = pair-passes x y (f .0) (f .1 .0) in
+      record { result = m; accepted = given-mask cs m ok; written = new-bytes cs _ _ out ok (constant-writable c x y out (sym ok) .same) }
+
+-- ---- with the history's own mask in any places
+
+fit-honest : (n k : ℕ) (a : Tuple Lent k) → Every (Fit n) k a → Every Honest k a
+fit-honest n zero a f = tt
+fit-honest n (suc k) a f = (f .0 .sound .counts, fit-honest n k (a .1) (f .1))
+
+module _ (m : Bitmap) (bytes : List ℕ) (l : List Bool) (s : Stands m bytes l) where
+  fit-at : (p : Argument) → FitAt (m .length) p → Fit (m .length) (lentAt m bytes p)
+  fit-at own f = record { sound = s .sound; long = refl }
+  fit-at (other n its) f = record { sound = f .0; long = f .1 }
+
+  fit-all : (n : ℕ) (a : Tuple Argument n) → Every (FitAt (m .length)) n a → Every (Fit (m .length)) n (each (lentAt m bytes) n a)
+  fit-all zero a f = tt
+  fit-all (suc n) a f = (fit-at (a .0) (f .0), fit-all n (a .1) (f .1))
+
+  pub combines : (c : Combination) (out : List ℕ) (a : Tuple Argument (combinationRow c out .masks))
+      → Fits (m .length) (combinationRow c out) a
+      → frozenSize (m .length) ≤ length out → Combines m bytes l (combinationRow c out) a out
+  combines c out a f room =
+      let r = combinationRow c out in
+      let t = each (lentAt m bytes) (r .masks) a in
+      let fit = fit-all (r .masks) a f in
+      let x = accepts (m .length) out room c t fit in
+      let same = flags-all m bytes l s (r .masks) a in
       record {
-        result = maskOf 0 (a .length) (uncounted (a .length));
-        accepted = given-mask cs (maskOf 0 (a .length) (uncounted (a .length))) ok;
-        written = new-bytes cs F G out ok same;
-        flags = new-flags cs F G (a .length) (uncounted (a .length)) out ok same (not-known a aB out (sym ok) .0) (room-at p f);
-      }
-  combines (select p q r) f =
-      let a = maskAt m p in
-      let b = maskAt m q in
-      let c = maskAt m r in
-      let aB = bytesAt bytes p in
-      let bB = bytesAt bytes q in
-      let cB = bytesAt bytes r in
-      let cs = selectChecks a aB b bB c cB (length out) in
-      let F = selectFlags a aB b bB c cB in
-      let G = combinedFlags l (select p q r) in
-      let ok = select-accepted p q r (f .0) (f .1 .0) (f .1 .1) in
-      let same : F ≡ G = select-written m bytes l s p q r in
-      record {
-        result = maskOf 0 (a .length) (uncounted (a .length));
-        accepted = given-mask cs (maskOf 0 (a .length) (uncounted (a .length))) ok;
-        written = new-bytes cs F G out ok same;
-        flags = new-flags cs F G (a .length) (uncounted (a .length)) out ok same (select-known a aB b bB c cB out (sym ok) .0) (room-at p (f .0));
-      }
-  combines (selectConstant p q x) f =
-      let a = maskAt m p in
-      let b = maskAt m q in
-      let aB = bytesAt bytes p in
-      let bB = bytesAt bytes q in
-      let cs = pairChecks a aB b bB (length out) in
-      let F = selectConstantFlags a aB b bB x in
-      let G = combinedFlags l (selectConstant p q x) in
-      let ok = pair-accepted p q (f .0) (f .1) in
-      let same : F ≡ G = constant-written m bytes l s p q x in
-      record {
-        result = maskOf 0 (a .length) (uncounted (a .length));
-        accepted = given-mask cs (maskOf 0 (a .length) (uncounted (a .length))) ok;
-        written = new-bytes cs F G out ok same;
-        flags = new-flags cs F G (a .length) (uncounted (a .length)) out ok same (constant-known a aB b bB x out (sym ok) .0) (room-at p (f .0));
+        result = x .result;
+        accepted = x .accepted;
+        written = x .written ∙ ap (λ (k : Tuple (List Bool) (r .masks)). over out (frozen (r .flags k))) same;
+        flags = combination-lawful c out .made t (fit-honest (m .length) (r .masks) t fit) (x .result) (x .accepted) .flags
+            ∙ ap (r .flags) same;
       }

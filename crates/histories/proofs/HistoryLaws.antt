@@ -1,43 +1,36 @@
--- What holds between the state of a history and its reference list, through every call. Assumes nothing.
-use mathlib.Core.Path.{_≡_, refl, sym, ap, ap₂, _∙_, subst}
-use mathlib.Core.Bool.{Bool, true, false, cond, not, _&&_}
-use mathlib.Core.List.{List, [], _∷_, _++_, map, zipWith}
-use mathlib.Core.Option.{Option, none, some}
-use Prim.Native.Nat.{ℕ, zero, suc, _+_, _-_, _*_, _/_, _%_, _≤_}
+-- What holds between the state of a history and its reference list; through appends and freezing. Assumes nothing.
+use mathlib.Core.Path.{_≡_, refl, sym, ap, _∙_, subst}
+use mathlib.Core.Bool.{Bool, true, false, cond, _&&_}
+use mathlib.Core.List.{List, [], _∷_, _++_}
+use mathlib.Core.Option.{none, some}
+use Prim.Native.Nat.{ℕ, zero, suc, _+_, _*_, _/_, _≤_}
 use native.Mathlib.Omega.{arith}
-use lib.Dec.{leb, eqb}
+use lib.Dec.{leb}
 use lib.ListN.{length, take}
-use lib.Seq.{length-take-le}
-use borrow.Author.Tests.{leb-true}
-use Rattle.words.specs.Flags.{bits, copies, count, flagsOf, over, window, wordFlags}
+use Rattle.words.specs.Flags.{copies, count, flagsOf, window, wordFlags}
 use Rattle.words.specs.Loops.{stretch}
-use Rattle.words.proofs.Bits.{length-bits}
 use Rattle.words.proofs.Windows.{length-copies, length-over, length-window}
-use Rattle.masks.specs.Answer.{Answer, given, refused, decided, kept, checked}
+use Rattle.masks.specs.Answer.{decided, kept}
 use Rattle.masks.specs.Appends.{Append, pushFlag, extendConstant, pushWord, extendSlice, extendRepeated, extendBitmap}
 use Rattle.masks.specs.Appends.{extendGather, extendOptGather, appendChecks, appendFlags, constantChecks, gatherChecks, gathered}
 use Rattle.masks.specs.Appends.{growChecks, innerChecks, repeated, spanGrowChecks, subsliceChecks, wordChecks, allBelow}
-use Rattle.masks.specs.Builder.{Filling, filling, appended, builderChecks, builderFlags, noneFrom, Room}
+use Rattle.masks.specs.Builder.{Filling, appended, builderChecks, builderFlags, noneFrom, Room}
 use Rattle.masks.specs.Checks.{Check, check, firstFailed, limit, spanChecks, withinLimit}
-use Rattle.masks.specs.Freeze.{allOnes, freezeChecks, frozenMask, frozenOver, validityOf}
+use Rattle.masks.specs.Freeze.{frozenMask, frozenOver}
 use Rattle.masks.specs.Frozen.{frozen}
-use Rattle.histories.specs.History.{afterAppend, afterFreeze, afterValidity, afterSlice, afterCount, State, waiting, building, masked, ended, Outcome}
-use Rattle.masks.specs.Mask.{maskChecks, maskFlags, maskOf, pieceChecks, slicedMask, sliceOf, unsetBitsOf, zeroCount}
-use Rattle.masks.specs.TrueCounts.{Sound, TrueCount, Truthful}
+use Rattle.masks.specs.Mask.{maskChecks, maskFlags}
 use Rattle.masks.specs.Utils.{zeros}
-use Rattle.masks.specs.declared.bitmap.Bitmap.{Bitmap}
-use Rattle.masks.specs.declared.bitmap.Unset.{Unset}
-use Rattle.masks.specs.declared.bitmap.Unset.the-variants.{Known, Unknown}
 use Rattle.masks.specs.declared.builder.BitmapBuilder.{BitmapBuilder}
-use Rattle.masks.proofs.CheckLaws.{both-left, both-right, first-allowed, rest-allowed}
-use Rattle.masks.proofs.FreezeLaws.{frozen-flags, frozen-front, true-zeros}
+use Rattle.masks.proofs.CheckLaws.{both-left, both-right}
+use Rattle.masks.proofs.FreezeLaws.{frozen-flags, true-zeros}
 use Rattle.masks.proofs.GatherLaws.{length-gathered}
-use Rattle.masks.proofs.MaskLaws.{piece-allowed}
 use Rattle.masks.proofs.PartLaws.{length-low}
 use Rattle.masks.proofs.RepeatLaws.{length-repeated}
 use Rattle.masks.proofs.RoomLaws.{finished, flags-after, ones-after, room-after, room-of, word-allowed}
-use Rattle.masks.proofs.SliceTruth.{slice-accepted, slice-flags, slice-true}
-use Rattle.masks.proofs.TrueLaws.{true-count}
+use Rattle.histories.specs.History.{State, waiting, building, masked, noMask, afterAppend, afterFreeze, afterValidity}
+use Rattle.histories.specs.Owed.{Stands}
+use Rattle.histories.specs.ReferenceList.{added}
+use Rattle.histories.proofs.ReferenceLaws.{added-same}
 
 -- ---- the invariant
 
@@ -47,20 +40,17 @@ pub record Builds (f : Filling) (l : List Bool) : Type 0 where
   pub flags : builderFlags f ≡ l
   pub ones : f .builder .ones ≡ count (finished f)
 
--- a mask is sound, and its flags are the list's
-pub record Stands (m : Bitmap) (bytes : List ℕ) (l : List Bool) : Type 0 where
-  pub sound : Sound m bytes
-  pub flags : maskFlags m bytes ≡ l
-
 abbrev pub Holds : State → List Bool → Type 0
 Holds waiting l = Unit {0}
 Holds (building f) l = Builds f l
+-- a mask is sound, and its flags are the list's
 Holds (masked m bytes) l = Stands m bytes l
-Holds ended l = Unit {0}
+Holds noMask l = Unit {0}
 
 -- ---- appends
 
-sized : (b : BitmapBuilder) (n m size : ℕ) → m ≡ n → firstFailed (builderChecks b (b .length + n) size) ≡ 0 → firstFailed (builderChecks b (b .length + m) size) ≡ 0
+sized : (b : BitmapBuilder) (n m size : ℕ) → m ≡ n → firstFailed (builderChecks b (b .length + n) size) ≡ 0
+    → firstFailed (builderChecks b (b .length + m) size) ≡ 0
 sized b n m size p e = ap (λ (x : ℕ). firstFailed (builderChecks b (b .length + x) size)) p ∙ e
 
 -- every append has passed the builder's checks for its own flags
@@ -68,13 +58,16 @@ grows : (a : Append) (b : BitmapBuilder) (buf : List ℕ) → firstFailed (appen
     → firstFailed (builderChecks b (b .length + length (appendFlags a)) (length buf)) ≡ 0
 unfolding constantChecks wordChecks spanGrowChecks subsliceChecks gatherChecks
 grows (pushFlag x) b buf e = e
-grows (extendConstant n x) b buf e = sized b n (length (copies n x)) (length buf) (length-copies n x) (both-left (growChecks b n (length buf)) (withinLimit n ∷ []) e)
+grows (extendConstant n x) b buf e =
+    sized b n (length (copies n x)) (length buf) (length-copies n x) (both-left (growChecks b n (length buf)) (withinLimit n ∷ []) e)
 grows (pushWord w n) b buf e =
     let rest : List Check = withinLimit n ∷ check 6 (leb n 64 && noneFrom w n) ∷ [] in
-    sized b n (length (take n (wordFlags w))) (length buf) (length-low n w (word-allowed w n (both-right (growChecks b n (length buf)) rest e)))
+    sized b n (length (take n (wordFlags w))) (length buf) (length-low n w
+    (word-allowed w n (both-right (growChecks b n (length buf)) rest e)))
     (both-left (growChecks b n (length buf)) rest e)
 grows (extendSlice bytes start n) b buf e =
-    sized b n (length (stretch bytes start n)) (length buf) (length-window (flagsOf bytes) start n) (both-right (spanChecks start n (length bytes)) (growChecks b n (length buf)) e)
+    sized b n (length (stretch bytes start n)) (length buf) (length-window (flagsOf bytes) start n)
+    (both-right (spanChecks start n (length bytes)) (growChecks b n (length buf)) e)
 grows (extendRepeated bytes start n k) b buf e =
     sized b (n * k) (length (repeated k (stretch bytes start n))) (length buf)
     (length-repeated k (stretch bytes start n) ∙ ap (λ (x : ℕ). x * k) (length-window (flagsOf bytes) start n))
@@ -91,7 +84,8 @@ grows (extendOptGather bytes start n idxs) b buf e =
     sized b (length idxs) (length (gathered (stretch bytes start n) idxs)) (length buf) (length-gathered (stretch bytes start n) idxs)
     (both-right (spanChecks start n (length bytes)) (growChecks b (length idxs) (length buf)) e)
 
-pub builds-after : (f : Filling) (l fl : List Bool) → Builds f l → Room (f .builder) (length fl) (length (f .bytes)) → Builds (appended f fl) (l ++ fl)
+pub builds-after : (f : Filling) (l fl : List Bool) → Builds f l → Room (f .builder) (length fl) (length (f .bytes))
+    → Builds (appended f fl) (l ++ fl)
 builds-after f l fl i r =
     record {
       room = room-after f (appended f fl) fl (length fl) 0 refl (omega arith) r;
@@ -99,11 +93,16 @@ builds-after f l fl i r =
       ones = ones-after f fl r (i .ones);
     }
 
-pub append-holds : (a : Append) (f : Filling) (l : List Bool) (k : ℕ) → k ≡ firstFailed (appendChecks a (f .builder) (f .bytes)) → Builds f l
-    → let o = afterAppend (kept k (appended f (appendFlags a) .bytes) (f .bytes)) (decided k (f .builder) (appended f (appendFlags a) .builder)) in
-    Holds (o .state) (cond (o .accepted) (l ++ appendFlags a) l)
+pub append-holds : (a : Append) (f : Filling) (l : List Bool) (k : ℕ) → k ≡ firstFailed (appendChecks a (f .builder) (f .bytes))
+    → Builds f l
+    → let o = afterAppend (kept k (appended f (appendFlags a) .bytes) (f .bytes))
+    (decided k (f .builder) (appended f (appendFlags a) .builder)) in
+    Holds (o .state) (cond (o .accepted) (l ++ added a) l)
 unfolding kept decided
-append-holds a f l zero e i = builds-after f l (appendFlags a) i (room-of (f .builder) (length (appendFlags a)) (length (f .bytes)) (grows a (f .builder) (f .bytes) (sym e)))
+append-holds a f l zero e i =
+    subst (λ (t : List Bool). Builds (appended f (appendFlags a)) (l ++ t)) (sym (added-same a (f .builder) (f .bytes) (sym e)))
+    (builds-after f l (appendFlags a) i (room-of (f .builder) (length (appendFlags a)) (length (f .bytes))
+    (grows a (f .builder) (f .bytes) (sym e))))
 append-holds a f l (suc k) e i = i
 
 -- ---- freezing
@@ -133,7 +132,8 @@ freeze-holds f l zero i = frozen-stands f l i
 freeze-holds f l (suc k) i = i
 
 pub validity-holds : (f : Filling) (l : List Bool) (k : ℕ) (t : Bool) → Builds f l
-    → let o = afterValidity (kept k (frozenOver (f .builder) (f .bytes)) (f .bytes)) (decided k (f .builder) (cond t none (some (frozenMask (f .builder))))) in
+    → let o = afterValidity (kept k (frozenOver (f .builder) (f .bytes)) (f .bytes))
+    (decided k (f .builder) (cond t none (some (frozenMask (f .builder))))) in
     Holds (o .state) (cond (o .accepted) l l)
 unfolding kept decided
 validity-holds f l zero true i = tt

@@ -1,65 +1,44 @@
 -- Histories: lists of calls, the state they come to, and the reference list beside them (document 01's plain list). Assumes
 -- nothing.
 --
--- A step is made of the definitions that the contracts cite. The reference list sees the arguments of the calls, save the
--- history's own record and bytes, and which calls were refused.
+-- A step is made of the definitions that the contracts cite. The reference list is fed the arguments of the calls, save the
+-- history's own record and bytes, and which calls were refused; its words are those of `ReferenceList` and of the rows. Which
+-- calls make a mask from masks is a table: codes, and the row that each stands for.
 use Prim.Native.Nat.{ℕ}
 use mathlib.Core.Path.{_≡_}
-use mathlib.Core.Bool.{Bool, true, false, cond, not, _&&_, _||_}
-use mathlib.Core.List.{List, [], _∷_, _++_, map, zipWith}
+use mathlib.Core.Bool.{Bool, true, false, cond}
+use mathlib.Core.List.{List, [], _∷_, _++_}
 use mathlib.Core.Option.{Option, none, some}
-use lib.ListN.{length}
-use Rattle.words.specs.Flags.{window}
-use Rattle.words.specs.Loops.{stretch}
-use Rattle.words.specs.Ops.{zip3}
-use Rattle.words.specs.declared.ops.Op.{Op}
-use Rattle.words.specs.declared.ops.Op.the-variants.{And, AndNot, Or, OrNot, Xor}
 use Rattle.masks.specs.Answer.{Answer, given, refused}
-use Rattle.masks.specs.Appends.{Append, appendAnswer, appendBytes, appendFlags}
+use Rattle.masks.specs.Appends.{Append, appendAnswer, appendBytes}
 use Rattle.masks.specs.Builder.{Filling, filling, newBuilder}
-use Rattle.masks.specs.Combine.{pairOf, pairBytes, pairChecks, eachOf, eachBytes, notChecks, notFlags, selectChecks, selectFlags, selectConstantFlags}
 use Rattle.masks.specs.Freeze.{freezeBytes, freezeOf, intoOptValidityOf}
-use Rattle.masks.specs.Mask.{maskFlags, sliceOf, tryNewOf, unsetBitsOf, Recounted}
+use Rattle.masks.specs.Mask.{tryNewOf}
 use Rattle.masks.specs.TrueCounts.{Truthful}
 use Rattle.masks.specs.declared.bitmap.Bitmap.{Bitmap}
 use Rattle.masks.specs.declared.builder.BitmapBuilder.{BitmapBuilder}
+use Rattle.histories.specs.ReferenceList.{added, flagsIn, spanFlags}
+use Rattle.histories.specs.Rows.{Argument, own, other, Every, Lent, RowCall, Tuple, Writes, each, keep, withBytes, write}
 
 -- ---- the calls, with their arguments save the history's own record and bytes
 
--- a mask that a combination takes: the history's own, or another with its bytes
-pub data Argument : Type 0 where
-  own : Argument
-  other : Bitmap → List ℕ → Argument
-
-pub data Pair : Type 0 where
-  and andNot or orNot xor : Pair
-
-pub data Combination : Type 0 where
-  pair : Pair → Argument → Argument → Combination
-  invert : Argument → Combination
-  select : Argument → Argument → Argument → Combination
-  selectConstant : Argument → Argument → Bool → Combination
-
-pub data Call : Type 0 where
+pub data Call (Code : Type 0) : Type 0 where
   -- bytes, start and length
-  tryNew : List ℕ → ℕ → ℕ → Call
-  append : Append → Call
-  freeze : Call
-  intoOptValidity : Call
-  slice : ℕ → ℕ → Call
-  unsetBits : Call
-  -- with the output
-  combine : Combination → List ℕ → Call
+  tryNew : List ℕ → ℕ → ℕ → Call Code
+  append : Append → Call Code
+  freeze : Call Code
+  intoOptValidity : Call Code
+  -- a call of the table, which makes a mask from masks
+  make : Code → Call Code
 
 -- ---- the state that calls leave
 
--- nothing yet: no span was accepted; a builder with its buffer; a mask with its bytes; no mask: a history that
--- `into_opt_validity` ended with none
+-- nothing yet: no span was accepted; a builder with its buffer; a mask with its bytes; no mask, after `into_opt_validity` gave none
 pub data State : Type 0 where
   waiting : State
   building : Filling → State
   masked : Bitmap → List ℕ → State
-  ended : State
+  noMask : State
 
 -- a history begins with a new builder and any buffer, or with `try_new` calls, up to the first accepted one
 pub data Start : Type 0 where
@@ -90,147 +69,115 @@ afterFreeze bytes (refused k b) = outcome (building (filling b bytes)) false
 
 abbrev pub afterValidity : List ℕ → Answer BitmapBuilder (Option Bitmap) → Outcome
 afterValidity bytes (given (some m)) = outcome (masked m bytes) true
-afterValidity bytes (given none) = outcome ended true
+afterValidity bytes (given none) = outcome noMask true
 afterValidity bytes (refused k b) = outcome (building (filling b bytes)) false
 
--- ---- calls on a mask, and the one that makes it
+-- ---- `try_new`, and calls on a mask
 
 abbrev pub afterTry : List ℕ → Answer (Unit {0}) Bitmap → Outcome
 afterTry bytes (given m) = outcome (masked m bytes) true
 afterTry bytes (refused k s) = outcome waiting false
 
-abbrev pub afterSlice : List ℕ → Answer Bitmap Bitmap → Outcome
-afterSlice bytes (given m) = outcome (masked m bytes) true
-afterSlice bytes (refused k m) = outcome (masked m bytes) false
+-- a call that stays in its mask's bytes
+abbrev pub afterKept : List ℕ → Answer Bitmap Bitmap → Outcome
+afterKept bytes (given m) = outcome (masked m bytes) true
+afterKept bytes (refused k m) = outcome (masked m bytes) false
 
-abbrev pub afterCount : List ℕ → Answer Bitmap Recounted → Outcome
-afterCount bytes (given r) = outcome (masked (r .mask) bytes) true
-afterCount bytes (refused k m) = outcome (masked m bytes) false
+-- one that writes: refused, it leaves the history's own mask as it is
+abbrev pub afterWritten : Bitmap → List ℕ → List ℕ → Answer (Unit {0}) Bitmap → Outcome
+afterWritten m bytes out (given r) = outcome (masked r out) true
+afterWritten m bytes out (refused k s) = outcome (masked m bytes) false
 
--- a refused combination leaves the history's own mask as it is
-abbrev pub afterCombined : Bitmap → List ℕ → List ℕ → Answer (Unit {0}) Bitmap → Outcome
-afterCombined m bytes out (given r) = outcome (masked r out) true
-afterCombined m bytes out (refused k s) = outcome (masked m bytes) false
+-- what it answers and writes, where the history's own mask is m
+abbrev pub lentAt : Bitmap → List ℕ → Argument → Lent
+lentAt m bytes own = withBytes m bytes
+lentAt m bytes (other n its) = withBytes n its
 
-abbrev pub pairOp : Pair → Op
-pairOp and = And
-pairOp andNot = AndNot
-pairOp or = Or
-pairOp orNot = OrNot
-pairOp xor = Xor
+abbrev pub writtenAnswer : Bitmap → List ℕ → (r : Writes) → Tuple Argument (r .masks) → Answer (Unit {0}) Bitmap
+writtenAnswer m bytes r a = r .answer (each (lentAt m bytes) (r .masks) a)
 
-abbrev pub maskAt : Bitmap → Argument → Bitmap
-maskAt m own = m
-maskAt m (other n bytes) = n
+abbrev pub writtenBytes : Bitmap → List ℕ → (r : Writes) → Tuple Argument (r .masks) → List ℕ
+writtenBytes m bytes r a = r .bytes (each (lentAt m bytes) (r .masks) a)
 
-abbrev pub bytesAt : List ℕ → Argument → List ℕ
-bytesAt bytes own = bytes
-bytesAt bytes (other n its) = its
+abbrev pub stepRow : Bitmap → List ℕ → RowCall → Outcome
+stepRow m bytes (keep r) = afterKept bytes (r .answer m bytes)
+stepRow m bytes (write r a) = afterWritten m bytes (writtenBytes m bytes r a) (writtenAnswer m bytes r a)
 
-abbrev pub combinedOf : Bitmap → List ℕ → Combination → List ℕ → Answer (Unit {0}) Bitmap
-combinedOf m bytes (pair op p q) out = pairOf (pairOp op) (maskAt m p) (bytesAt bytes p) (maskAt m q) (bytesAt bytes q) out
-combinedOf m bytes (invert p) out = eachOf (notChecks (maskAt m p) (bytesAt bytes p) (length out)) (maskAt m p ∷ []) (maskAt m p .length)
-combinedOf m bytes (select p q r) out =
-    eachOf (selectChecks (maskAt m p) (bytesAt bytes p) (maskAt m q) (bytesAt bytes q) (maskAt m r) (bytesAt bytes r) (length out))
-    (maskAt m p ∷ maskAt m q ∷ maskAt m r ∷ []) (maskAt m p .length)
-combinedOf m bytes (selectConstant p q x) out =
-    eachOf (pairChecks (maskAt m p) (bytesAt bytes p) (maskAt m q) (bytesAt bytes q) (length out)) (maskAt m p ∷ maskAt m q ∷ []) (maskAt m p .length)
-
-abbrev pub combinedBytes : Bitmap → List ℕ → Combination → List ℕ → List ℕ
-combinedBytes m bytes (pair op p q) out = pairBytes (pairOp op) (maskAt m p) (bytesAt bytes p) (maskAt m q) (bytesAt bytes q) out
-combinedBytes m bytes (invert p) out = eachBytes (notChecks (maskAt m p) (bytesAt bytes p) (length out)) (notFlags (maskAt m p) (bytesAt bytes p)) out
-combinedBytes m bytes (select p q r) out =
-    eachBytes (selectChecks (maskAt m p) (bytesAt bytes p) (maskAt m q) (bytesAt bytes q) (maskAt m r) (bytesAt bytes r) (length out))
-    (selectFlags (maskAt m p) (bytesAt bytes p) (maskAt m q) (bytesAt bytes q) (maskAt m r) (bytesAt bytes r)) out
-combinedBytes m bytes (selectConstant p q x) out =
-    eachBytes (pairChecks (maskAt m p) (bytesAt bytes p) (maskAt m q) (bytesAt bytes q) (length out))
-    (selectConstantFlags (maskAt m p) (bytesAt bytes p) (maskAt m q) (bytesAt bytes q) x) out
-
--- ---- one call, a list of calls, and what the reference list sees of them
+-- ---- one call, a list of calls, and what the reference list is fed of them
 
 -- a call that does not fit the state stands for none: it leaves the state, and is not accepted
-abbrev pub stepWaiting : Call → Outcome
+abbrev pub stepWaiting : {Code : Type 0} → Call Code → Outcome
 stepWaiting (tryNew bytes start n) = afterTry bytes (tryNewOf bytes start n)
 stepWaiting (append a) = outcome waiting false
 stepWaiting freeze = outcome waiting false
 stepWaiting intoOptValidity = outcome waiting false
-stepWaiting (slice offset n) = outcome waiting false
-stepWaiting unsetBits = outcome waiting false
-stepWaiting (combine c out) = outcome waiting false
+stepWaiting (make c) = outcome waiting false
 
-abbrev pub stepBuilder : BitmapBuilder → List ℕ → Call → Outcome
+abbrev pub stepBuilder : {Code : Type 0} → BitmapBuilder → List ℕ → Call Code → Outcome
 stepBuilder b buf (tryNew bytes start n) = outcome (building (filling b buf)) false
 stepBuilder b buf (append a) = afterAppend (appendBytes a b buf) (appendAnswer a b buf)
 stepBuilder b buf freeze = afterFreeze (freezeBytes b buf) (freezeOf b buf)
 stepBuilder b buf intoOptValidity = afterValidity (freezeBytes b buf) (intoOptValidityOf b buf)
-stepBuilder b buf (slice offset n) = outcome (building (filling b buf)) false
-stepBuilder b buf unsetBits = outcome (building (filling b buf)) false
-stepBuilder b buf (combine c out) = outcome (building (filling b buf)) false
+stepBuilder b buf (make c) = outcome (building (filling b buf)) false
 
-abbrev pub stepMask : Bitmap → List ℕ → Call → Outcome
-stepMask m bytes (tryNew its start n) = outcome (masked m bytes) false
-stepMask m bytes (append a) = outcome (masked m bytes) false
-stepMask m bytes freeze = outcome (masked m bytes) false
-stepMask m bytes intoOptValidity = outcome (masked m bytes) false
-stepMask m bytes (slice offset n) = afterSlice bytes (sliceOf m bytes offset n)
-stepMask m bytes unsetBits = afterCount bytes (unsetBitsOf m bytes)
-stepMask m bytes (combine c out) = afterCombined m bytes (combinedBytes m bytes c out) (combinedOf m bytes c out)
+abbrev pub stepMask : {Code : Type 0} → (Code → RowCall) → Bitmap → List ℕ → Call Code → Outcome
+stepMask callOf m bytes (tryNew its start n) = outcome (masked m bytes) false
+stepMask callOf m bytes (append a) = outcome (masked m bytes) false
+stepMask callOf m bytes freeze = outcome (masked m bytes) false
+stepMask callOf m bytes intoOptValidity = outcome (masked m bytes) false
+stepMask callOf m bytes (make c) = stepRow m bytes (callOf c)
 
-abbrev pub step : State → Call → Outcome
-step waiting c = stepWaiting c
-step (building f) c = stepBuilder (f .builder) (f .bytes) c
-step (masked m bytes) c = stepMask m bytes c
-step ended c = outcome ended false
+abbrev pub step : {Code : Type 0} → (Code → RowCall) → State → Call Code → Outcome
+step callOf waiting c = stepWaiting c
+step callOf (building f) c = stepBuilder (f .builder) (f .bytes) c
+step callOf (masked m bytes) c = stepMask callOf m bytes c
+step callOf noMask c = outcome noMask false
 
-abbrev pub run : State → List Call → State
-run s [] = s
-run s (c ∷ cs) = run (step s c .state) cs
+abbrev pub run : {Code : Type 0} → (Code → RowCall) → State → List (Call Code) → State
+run callOf s [] = s
+run callOf s (c ∷ cs) = run callOf (step callOf s c .state) cs
 
-pub record Seen : Type 0 where
-  pub call : Call
+-- a call's arguments, and whether it was accepted
+pub record Fed (Code : Type 0) : Type 0 where
+  pub call : Call Code
   pub accepted : Bool
 
-abbrev pub trace : State → List Call → List Seen
-trace s [] = []
-trace s (c ∷ cs) = record { call = c; accepted = step s c .accepted } ∷ trace (step s c .state) cs
+abbrev pub fed : {Code : Type 0} → Call Code → Bool → Fed Code
+fed c t = record { call = c; accepted = t }
+
+abbrev pub trace : {Code : Type 0} → (Code → RowCall) → State → List (Call Code) → List (Fed Code)
+trace callOf s [] = []
+trace callOf s (c ∷ cs) = fed c (step callOf s c .accepted) ∷ trace callOf (step callOf s c .state) cs
 
 -- ---- the reference list
 
--- The reference list (document 01's plain list) stands where the history's own mask does; other masks give the flags in their bytes.
+-- it stands where the history's own mask does; other masks give the flags in their bytes
 abbrev pub flagsAt : List Bool → Argument → List Bool
 flagsAt l own = l
-flagsAt l (other m bytes) = maskFlags m bytes
+flagsAt l (other m bytes) = flagsIn m bytes
 
--- flag by flag: `and_not` and `or_not` first invert the second's
-abbrev pub pairFlag : Pair → Bool → Bool → Bool
-pairFlag and x y = x && y
-pairFlag andNot x y = x && not y
-pairFlag or x y = x || y
-pairFlag orNot x y = x || not y
-pairFlag xor x y = cond x (not y) y
+abbrev pub writtenFlags : List Bool → (r : Writes) → Tuple Argument (r .masks) → List Bool
+writtenFlags l r a = r .flags (each (flagsAt l) (r .masks) a)
 
--- `select` takes the second's at a 1 of the first, else the third's or the constant
-abbrev pub combinedFlags : List Bool → Combination → List Bool
-combinedFlags l (pair op p q) = zipWith (pairFlag op) (flagsAt l p) (flagsAt l q)
-combinedFlags l (invert p) = map not (flagsAt l p)
-combinedFlags l (select p q r) = zip3 cond (flagsAt l p) (flagsAt l q) (flagsAt l r)
-combinedFlags l (selectConstant p q x) = zipWith (λ s t. cond s t x) (flagsAt l p) (flagsAt l q)
+abbrev pub rowFlags : List Bool → RowCall → List Bool
+rowFlags l (keep r) = r .flags l
+rowFlags l (write r a) = writtenFlags l r a
 
-abbrev pub listed : List Bool → Call → List Bool
-listed l (tryNew bytes start n) = stretch bytes start n
-listed l (append a) = l ++ appendFlags a
-listed l freeze = l
-listed l intoOptValidity = l
-listed l (slice offset n) = window l offset n
-listed l unsetBits = l
-listed l (combine c out) = combinedFlags l c
+-- what an accepted call makes of the list
+abbrev pub listAfter : {Code : Type 0} → (Code → RowCall) → List Bool → Call Code → List Bool
+listAfter callOf l (tryNew bytes start n) = spanFlags bytes start n
+listAfter callOf l (append a) = l ++ added a
+listAfter callOf l freeze = l
+listAfter callOf l intoOptValidity = l
+listAfter callOf l (make c) = rowFlags l (callOf c)
 
-abbrev pub listStep : List Bool → Seen → List Bool
-listStep l s = cond (s .accepted) (listed l (s .call)) l
+-- a refused call leaves it
+abbrev pub listStep : {Code : Type 0} → (Code → RowCall) → List Bool → Fed Code → List Bool
+listStep callOf l s = cond (s .accepted) (listAfter callOf l (s .call)) l
 
-abbrev pub reference : List Bool → List Seen → List Bool
-reference l [] = l
-reference l (s ∷ ss) = reference (listStep l s) ss
+abbrev pub reference : {Code : Type 0} → (Code → RowCall) → List Bool → List (Fed Code) → List Bool
+reference callOf l [] = l
+reference callOf l (s ∷ ss) = reference callOf (listStep callOf l s) ss
 
 -- ---- fairness: each other mask that an accepted call takes has no count or a true one
 
@@ -238,37 +185,33 @@ abbrev pub FairAt : Argument → Type 0
 FairAt own = Unit {0}
 FairAt (other m bytes) = Truthful m bytes
 
-abbrev pub FairCombination : Combination → Type 0
-FairCombination (pair op p q) = FairAt p × FairAt q
-FairCombination (invert p) = FairAt p
-FairCombination (select p q r) = FairAt p × (FairAt q × FairAt r)
-FairCombination (selectConstant p q x) = FairAt p × FairAt q
+abbrev pub FairRow : RowCall → Type 0
+FairRow (keep r) = Unit {0}
+FairRow (write r a) = Every FairAt (r .masks) a
 
-abbrev pub FairCall : Call → Type 0
-FairCall (tryNew bytes start n) = Unit {0}
-FairCall (append a) = Unit {0}
-FairCall freeze = Unit {0}
-FairCall intoOptValidity = Unit {0}
-FairCall (slice offset n) = Unit {0}
-FairCall unsetBits = Unit {0}
-FairCall (combine c out) = FairCombination c
+abbrev pub FairCall : {Code : Type 0} → (Code → RowCall) → Call Code → Type 0
+FairCall callOf (tryNew bytes start n) = Unit {0}
+FairCall callOf (append a) = Unit {0}
+FairCall callOf freeze = Unit {0}
+FairCall callOf intoOptValidity = Unit {0}
+FairCall callOf (make c) = FairRow (callOf c)
 
-abbrev pub Fair : State → List Call → Type 0
-Fair s [] = Unit {0}
-Fair s (c ∷ cs) = (step s c .accepted ≡ true → FairCall c) × Fair (step s c .state) cs
+abbrev pub Fair : {Code : Type 0} → (Code → RowCall) → State → List (Call Code) → Type 0
+Fair callOf s [] = Unit {0}
+Fair callOf s (c ∷ cs) = (step callOf s c .accepted ≡ true → FairCall callOf c) × Fair callOf (step callOf s c .state) cs
 
 -- ---- a history: where it begins, and its calls, refused ones included
 
-pub record History : Type 0 where
+pub record History (Code : Type 0) : Type 0 where
   pub start : Start
-  pub calls : List Call
+  pub calls : List (Call Code)
 
-abbrev pub endOf : History → State
-endOf h = run (startOf (h .start)) (h .calls)
+abbrev pub endOf : {Code : Type 0} → (Code → RowCall) → History Code → State
+endOf callOf h = run callOf (startOf (h .start)) (h .calls)
 
 -- the list begins empty; a span's flags take its place
-abbrev pub listOf : History → List Bool
-listOf h = reference [] (trace (startOf (h .start)) (h .calls))
+abbrev pub listOf : {Code : Type 0} → (Code → RowCall) → History Code → List Bool
+listOf callOf h = reference callOf [] (trace callOf (startOf (h .start)) (h .calls))
 
-abbrev pub FairHistory : History → Type 0
-FairHistory h = Fair (startOf (h .start)) (h .calls)
+abbrev pub FairHistory : {Code : Type 0} → (Code → RowCall) → History Code → Type 0
+FairHistory callOf h = Fair callOf (startOf (h .start)) (h .calls)
