@@ -1,9 +1,6 @@
 // Exported to C and Rust: the combinations, flag by flag into a lent output, as frozen bytes.
 ghost use mathlib.Core.Path.{_≡_};
-ghost use mathlib.Core.List.{[], _∷_};
-ghost use lib.ListN.{length};
-ghost use Rattle.masks.specs.Combine.{combinedAnswer, eachBytes, eachOf, notChecks, notFlags, pairChecks, selectChecks};
-ghost use Rattle.masks.specs.Combine.{selectConstantFlags, selectFlags};
+ghost use Rattle.masks.specs.Combine.{combinedAnswer, notBytes, notOf, selectBytes, selectConstantBytes, selectConstantOf, selectOf};
 ghost use Rattle.capi.specs.Answers.{asMask};
 ghost use Rattle.capi.specs.Combine.{combineBytes, combineOf, opNumbered};
 ghost use Rattle.capi.specs.Records.{maskIn};
@@ -71,12 +68,8 @@ pub extern "C" fn pw_combine(
 // Each flag turned.
 #[no_mangle]
 pub extern "C" fn pw_not(mask: Mask, bytes: &[u8], out: &mut [u8]) -> MaskAnswer
-    ensures answer { λ r. ⌜ r ≡
-        asMask (eachOf (notChecks (maskIn mask) (now (bytes .entry)) (length (now (out .entry)))) (maskIn mask ∷ [])
-        (maskIn mask .length)) ⌝ }
-    ensures bytes { λ _. ⌜ now (out .exit) ≡
-        eachBytes (notChecks (maskIn mask) (now (bytes .entry)) (length (now (out .entry)))) (notFlags (maskIn mask) (now (bytes .entry)))
-        (now (out .entry)) ⌝ }
+    ensures answer { λ r. ⌜ r ≡ asMask (notOf (maskIn mask) (now (bytes .entry)) (now (out .entry))) ⌝ }
+    ensures bytes { λ _. ⌜ now (out .exit) ≡ notBytes (maskIn mask) (now (bytes .entry)) (now (out .entry)) ⌝ }
 {
     combined_out(not(mask_in(mask), bytes, out))
 }
@@ -93,12 +86,9 @@ pub extern "C" fn pw_select(
     out: &mut [u8],
 ) -> MaskAnswer
     ensures answer { λ r. ⌜ r ≡
-        asMask (eachOf (selectChecks (maskIn selector) (now (by .entry)) (maskIn truthy) (now (yes .entry)) (maskIn falsy) (now (no .entry))
-        (length (now (out .entry)))) (maskIn selector ∷ maskIn truthy ∷ maskIn falsy ∷ []) (maskIn selector .length)) ⌝ }
+        asMask (selectOf (maskIn selector) (now (by .entry)) (maskIn truthy) (now (yes .entry)) (maskIn falsy) (now (no .entry)) (now (out .entry))) ⌝ }
     ensures bytes { λ _. ⌜ now (out .exit) ≡
-        eachBytes (selectChecks (maskIn selector) (now (by .entry)) (maskIn truthy) (now (yes .entry)) (maskIn falsy) (now (no .entry))
-        (length (now (out .entry)))) (selectFlags (maskIn selector) (now (by .entry)) (maskIn truthy) (now (yes .entry)) (maskIn falsy)
-        (now (no .entry))) (now (out .entry)) ⌝ }
+        selectBytes (maskIn selector) (now (by .entry)) (maskIn truthy) (now (yes .entry)) (maskIn falsy) (now (no .entry)) (now (out .entry)) ⌝ }
 {
     combined_out(select(
         mask_in(selector),
@@ -121,12 +111,8 @@ pub extern "C" fn pw_select_constant(
     flag: bool,
     out: &mut [u8],
 ) -> MaskAnswer
-    ensures answer { λ r. ⌜ r ≡
-        asMask (eachOf (pairChecks (maskIn selector) (now (by .entry)) (maskIn truthy) (now (yes .entry)) (length (now (out .entry))))
-        (maskIn selector ∷ maskIn truthy ∷ []) (maskIn selector .length)) ⌝ }
-    ensures bytes { λ _. ⌜ now (out .exit) ≡
-        eachBytes (pairChecks (maskIn selector) (now (by .entry)) (maskIn truthy) (now (yes .entry)) (length (now (out .entry))))
-        (selectConstantFlags (maskIn selector) (now (by .entry)) (maskIn truthy) (now (yes .entry)) flag) (now (out .entry)) ⌝ }
+    ensures answer { λ r. ⌜ r ≡ asMask (selectConstantOf (maskIn selector) (now (by .entry)) (maskIn truthy) (now (yes .entry)) flag (now (out .entry))) ⌝ }
+    ensures bytes { λ _. ⌜ now (out .exit) ≡ selectConstantBytes (maskIn selector) (now (by .entry)) (maskIn truthy) (now (yes .entry)) flag (now (out .entry)) ⌝ }
 {
     combined_out(select_constant(mask_in(selector), by, mask_in(truthy), yes, flag, out))
 }

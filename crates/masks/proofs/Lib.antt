@@ -1,13 +1,11 @@
 -- The laws of the crate, a file for each topic.
 pub mod Accepted
-pub mod AgreementLaws
 pub mod AnswerLaws
 pub mod AppendLaws
 pub mod BitmaskLaws
 pub mod CheckLaws
 pub mod ChunkLaws
 pub mod CombineLaws
-pub mod CombinedLaws
 pub mod CompareLaws
 pub mod CursorLaws
 pub mod Examples
@@ -15,12 +13,9 @@ pub mod ExtendLaws
 pub mod FreezeLaws
 pub mod FrozenLaws
 pub mod GatherLaws
-pub mod Histories
-pub mod HistoryLaws
-pub mod HistoryMasks
-pub mod HistoryTheorem
 pub mod InsideLaws
 pub mod IteratorLaws
+pub mod LengthLaws
 pub mod Listing
 pub mod MaskLaws
 pub mod PairPlain

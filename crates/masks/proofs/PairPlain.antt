@@ -24,7 +24,7 @@ use Rattle.masks.specs.declared.shortcuts.Shortcut.the-variants.{Each, A
 use Rattle.masks.proofs.CheckLaws.{both-right, is-new, rest-allowed}
 use Rattle.masks.proofs.CombineLaws.{pair-lengths}
 use Rattle.masks.proofs.FreezeLaws.{frozen-front}
-use Rattle.masks.proofs.HistoryMasks.{length-zip3, output-allowed}
+use Rattle.masks.proofs.LengthLaws.{length-zip3, output-allowed}
 
 module _ (a : Bitmap) (aBytes : List ℕ) (b : Bitmap) (bBytes : List ℕ) (same : a .length ≡ b .length) where
   -- flag j of the operation, taken flag by flag

@@ -102,6 +102,12 @@ notChecks m bytes size = maskChecks m bytes ++ outputChecks (m .length) size
 abbrev pub notFlags : Bitmap → List ℕ → List Bool
 notFlags m bytes = map not (maskFlags m bytes)
 
+abbrev pub notOf : Bitmap → List ℕ → List ℕ → Answer (Unit {0}) Bitmap
+notOf m bytes out = eachOf (notChecks m bytes (length out)) (m ∷ []) (m .length)
+
+abbrev pub notBytes : Bitmap → List ℕ → List ℕ → List ℕ
+notBytes m bytes out = eachBytes (notChecks m bytes (length out)) (notFlags m bytes) out
+
 -- `select` takes the second's flag at a 1 of the first, else the third's
 unfoldable pub selectChecks : Bitmap → List ℕ → Bitmap → List ℕ → Bitmap → List ℕ → ℕ → List Check
 selectChecks s sBytes t tBytes f fBytes size =
@@ -113,9 +119,23 @@ selectChecks s sBytes t tBytes f fBytes size =
 abbrev pub selectFlags : Bitmap → List ℕ → Bitmap → List ℕ → Bitmap → List ℕ → List Bool
 selectFlags s sBytes t tBytes f fBytes = zip3 cond (maskFlags s sBytes) (maskFlags t tBytes) (maskFlags f fBytes)
 
+abbrev pub selectOf : Bitmap → List ℕ → Bitmap → List ℕ → Bitmap → List ℕ → List ℕ → Answer (Unit {0}) Bitmap
+selectOf s sBytes t tBytes f fBytes out = eachOf (selectChecks s sBytes t tBytes f fBytes (length out)) (s ∷ t ∷ f ∷ []) (s .length)
+
+abbrev pub selectBytes : Bitmap → List ℕ → Bitmap → List ℕ → Bitmap → List ℕ → List ℕ → List ℕ
+selectBytes s sBytes t tBytes f fBytes out =
+    eachBytes (selectChecks s sBytes t tBytes f fBytes (length out)) (selectFlags s sBytes t tBytes f fBytes) out
+
 -- `select_constant` takes the second's flag at a 1 of the first, else the constant
 abbrev pub selectConstantFlags : Bitmap → List ℕ → Bitmap → List ℕ → Bool → List Bool
 selectConstantFlags s sBytes t tBytes x = zipWith (λ p q. cond p q x) (maskFlags s sBytes) (maskFlags t tBytes)
+
+abbrev pub selectConstantOf : Bitmap → List ℕ → Bitmap → List ℕ → Bool → List ℕ → Answer (Unit {0}) Bitmap
+selectConstantOf s sBytes t tBytes x out = eachOf (pairChecks s sBytes t tBytes (length out)) (s ∷ t ∷ []) (s .length)
+
+abbrev pub selectConstantBytes : Bitmap → List ℕ → Bitmap → List ℕ → Bool → List ℕ → List ℕ
+selectConstantBytes s sBytes t tBytes x out =
+    eachBytes (pairChecks s sBytes t tBytes (length out)) (selectConstantFlags s sBytes t tBytes x) out
 
 -- ---- what the workers ask and answer
 

@@ -1,8 +1,8 @@
 -- The twelve proved examples of document 01 as one table, the paper's line above each row. Assumes nothing.
 --
 -- A row has the example's number, what the definitions give, and what the paper states. Each call goes through the definition
--- that its contract cites: calls one after another through `run` of `History`, which is made of these definitions, and single calls
--- directly. `proofs/Examples.antt` proves that the two columns are equal.
+-- that its contract cites, calls one after another with what the one before gave. `proofs/Examples.antt` proves that the two
+-- columns are equal.
 use Prim.Native.Nat.{ℕ}
 use mathlib.Core.Path.{_≡_}
 use mathlib.Core.Bool.{true}
@@ -11,15 +11,14 @@ use mathlib.Core.Option.{Option, none, some}
 use lib.ListN.{length, replicate}
 use Rattle.words.specs.Flags.{isOne}
 use Rattle.masks.specs.Answer.{Answer, given, refused}
-use Rattle.masks.specs.Appends.{Append, pushFlag, extendConstant, extendSlice, extendRepeated, extendGather, extendOptGather, appendAnswer}
+use Rattle.masks.specs.Appends.{Append, pushFlag, extendConstant, extendSlice, extendRepeated, extendGather, extendOptGather, appendAnswer, appendBytes}
 use Rattle.masks.specs.Builder.{newBuilder}
-use Rattle.masks.specs.Combine.{OrNot, pairOf, pairBytes, eachOf, eachBytes, selectChecks, selectFlags}
+use Rattle.masks.specs.Combine.{OrNot, pairOf, pairBytes, selectOf, selectBytes}
 use Rattle.masks.specs.Compare.{edgesOf}
 use Rattle.masks.specs.Cursor.{listing}
-use Rattle.masks.specs.Freeze.{intoOptValidityOf}
+use Rattle.masks.specs.Freeze.{freezeBytes, freezeOf, intoOptValidityOf}
 use Rattle.masks.specs.Frozen.{frozen}
-use Rattle.masks.specs.History.{Call, tryNew, append, freeze, slice, unsetBits, State, waiting, building, masked, ended, fromBuilder, startOf, run}
-use Rattle.masks.specs.Mask.{maskOf}
+use Rattle.masks.specs.Mask.{emptyMask, maskOf, Recounted, sliceOf, tryNewOf, unsetBitsOf}
 use Rattle.masks.specs.Search.{searchFrom, searchBack}
 use Rattle.masks.specs.SliceIterator.{newSlices, nextSlice, runOf}
 use Rattle.masks.specs.declared.bitmap.Bitmap.{Bitmap}
@@ -42,7 +41,6 @@ pub data Value : Type 0 where
   edges : ℕ → Value
   accepted : Value
   refusal : ℕ → Value
-  no-mask : Value
 
 pub record Example : Type 0 where
   pub number : ℕ
@@ -54,18 +52,18 @@ example n computed stated = record { number = n; computed = computed; stated = s
 
 -- ---- answers as values
 
--- the mask that calls have come to, and its count alone
-abbrev pub maskValue : State → Value
-maskValue (masked m its) = mask its (m .unset)
-maskValue waiting = no-mask
-maskValue (building f) = no-mask
-maskValue ended = no-mask
+-- the mask that `freeze` gives, in the bytes that it leaves; the counts that `unset_bits` and `slice` give a mask
+abbrev pub maskValue : List ℕ → Answer BitmapBuilder Bitmap → Value
+maskValue its (given m) = mask its (m .unset)
+maskValue its (refused k b) = refusal k
 
-abbrev pub countValue : State → Value
-countValue (masked m its) = count (m .unset)
-countValue waiting = no-mask
-countValue (building f) = no-mask
-countValue ended = no-mask
+abbrev pub countValue : Answer Bitmap Recounted → Value
+countValue (given r) = count (r .mask .unset)
+countValue (refused k m) = refusal k
+
+abbrev pub slicedValue : Answer Bitmap Bitmap → Value
+slicedValue (given m) = count (m .unset)
+slicedValue (refused k m) = refusal k
 
 abbrev pub validityValue : Answer BitmapBuilder (Option Bitmap) → Value
 validityValue (given v) = validity v
@@ -100,8 +98,14 @@ abbrev pub lent : ℕ → List ℕ
 lent n = replicate n 0xAA
 
 -- `new` over a lent buffer of n bytes, these appends, `freeze`
+abbrev pub frozenAfter : List Append → List ℕ → Answer BitmapBuilder BitmapBuilder → Value
+frozenAfter [] buf (given b) = maskValue (freezeBytes b buf) (freezeOf b buf)
+frozenAfter [] buf (refused k b) = refusal k
+frozenAfter (a ∷ appends) buf (given b) = frozenAfter appends (appendBytes a b buf) (appendAnswer a b buf)
+frozenAfter (a ∷ appends) buf (refused k b) = refusal k
+
 abbrev pub frozenIn : ℕ → List Append → Value
-frozenIn n appends = maskValue (run (startOf (fromBuilder (lent n))) (map append appends ++ (freeze ∷ [])))
+frozenIn n appends = frozenAfter appends (lent n) (given newBuilder)
 
 -- `push` of each flag, written as 0 or 1
 abbrev pub pushes : List ℕ → List Append
@@ -121,19 +125,26 @@ orNotOf p q =
     (pairBytes OrNot (maskIn p) (bytesIn p) (maskIn q) (bytesIn q) (lent 8))
 
 -- `select` by s from t and f
-abbrev pub selectOf : List ℕ → List ℕ → List ℕ → Value
-selectOf s t f =
-    let checks = selectChecks (maskIn s) (bytesIn s) (maskIn t) (bytesIn t) (maskIn f) (bytesIn f) 8 in
-    writtenValue (eachOf checks (maskIn s ∷ maskIn t ∷ maskIn f ∷ []) (length s))
-    (eachBytes checks (selectFlags (maskIn s) (bytesIn s) (maskIn t) (bytesIn t) (maskIn f) (bytesIn f)) (lent 8))
+abbrev pub selectValue : List ℕ → List ℕ → List ℕ → Value
+selectValue s t f =
+    writtenValue (selectOf (maskIn s) (bytesIn s) (maskIn t) (bytesIn t) (maskIn f) (bytesIn f) (lent 8))
+    (selectBytes (maskIn s) (bytesIn s) (maskIn t) (bytesIn t) (maskIn f) (bytesIn f) (lent 8))
 
 -- `try_new` of n flags over 25 bytes 0x2D, each with four zeros, and `unset_bits`, which makes their count known
-abbrev pub mixed : ℕ → List Call
-mixed n = tryNew (replicate 25 0x2D) 0 n ∷ unsetBits ∷ []
+abbrev pub mixedBytes : List ℕ
+mixedBytes = replicate 25 0x2D
 
--- `slice` to k flags, from the flag 16 on, of the mask that calls come to
-abbrev pub slicedTo : ℕ → List Call → Value
-slicedTo k calls = countValue (run waiting (calls ++ (slice 16 k ∷ [])))
+abbrev pub counted : Answer (Unit {0}) Bitmap → Answer Bitmap Recounted
+counted (given m) = unsetBitsOf m mixedBytes
+counted (refused k s) = refused k emptyMask
+
+abbrev pub mixed : ℕ → Answer Bitmap Recounted
+mixed n = counted (tryNewOf mixedBytes 0 n)
+
+-- `slice` to k flags, from the flag 16 on, of such a mask
+abbrev pub slicedTo : ℕ → Answer Bitmap Recounted → Value
+slicedTo k (given r) = slicedValue (sliceOf (r .mask) mixedBytes 16 k)
+slicedTo k (refused n m) = refusal n
 
 -- this byte first, then seven zero bytes
 abbrev pub first : ℕ → List ℕ
@@ -170,7 +181,7 @@ examples =
     -- 7. `or_not` of 0,0,1 and 1,0,0: 0x06 first.
     ∷ example 7 (orNotOf (0 ∷ 0 ∷ 1 ∷ []) (1 ∷ 0 ∷ 0 ∷ [])) (bytes (first 0x06))
     -- 8. `select` by 1,0,1,0 from 1,1,0,0 and 0,1,1,1: 0x0B first.
-    ∷ example 8 (selectOf (1 ∷ 0 ∷ 1 ∷ 0 ∷ []) (1 ∷ 1 ∷ 0 ∷ 0 ∷ []) (0 ∷ 1 ∷ 1 ∷ 1 ∷ [])) (bytes (first 0x0B))
+    ∷ example 8 (selectValue (1 ∷ 0 ∷ 1 ∷ 0 ∷ []) (1 ∷ 1 ∷ 0 ∷ 0 ∷ []) (0 ∷ 1 ∷ 1 ∷ 1 ∷ [])) (bytes (first 0x0B))
     -- 9. `num_edges` of A: 4.
     ∷ example 9 (edgesValue (edgesOf (maskIn A) A-bytes)) (edges 4)
     -- 10. Optional gather 5,6,0 from A: 0x05 first; the strict one gives 6.
@@ -179,10 +190,10 @@ examples =
     -- 11. Example 2 repeated twice: 0xCF first.
     ∷ example 11 (frozenIn 8 (extendRepeated A-bytes 2 4 2 ∷ [])) (mask (first 0xCF) (Known 2))
     -- 12. Mixed known mask of 100 flags: slice to 68 recounted, to 67 unknown; of 200: 160 and 159.
-    ∷ example 12 (countValue (run waiting (mixed 100))) (count (Known 49))
+    ∷ example 12 (countValue (mixed 100)) (count (Known 49))
     ∷ example 12 (slicedTo 68 (mixed 100)) (count (Known 33))
     ∷ example 12 (slicedTo 67 (mixed 100)) (count Unknown)
-    ∷ example 12 (countValue (run waiting (mixed 200))) (count (Known 100))
+    ∷ example 12 (countValue (mixed 200)) (count (Known 100))
     ∷ example 12 (slicedTo 160 (mixed 200)) (count (Known 80))
     ∷ example 12 (slicedTo 159 (mixed 200)) (count Unknown)
     ∷ []

@@ -1,5 +1,4 @@
 -- What the contracts of this crate mean. `Checks`, `Answer` and `Mask` are read first.
-pub mod Agreement
 pub mod Aligned
 pub mod Answer
 pub mod Appends
@@ -13,7 +12,6 @@ pub mod Cursor
 pub mod Examples
 pub mod Freeze
 pub mod Frozen
-pub mod History
 pub mod Iterator
 pub mod Mask
 pub mod Positions

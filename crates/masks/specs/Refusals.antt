@@ -16,7 +16,7 @@ use Rattle.masks.specs.Appends.{extendBitmap, extendGather, extendOptGat
 use Rattle.masks.specs.Bitmask.{splitAt, windowAt}
 use Rattle.masks.specs.Checks.{Check}
 use Rattle.masks.specs.Chunks.{newChunks, nextChunk, chunksRemainder}
-use Rattle.masks.specs.Combine.{pairOf, pairBytes, pairChecks, eachOf, eachBytes, notChecks, notFlags, selectChecks, selectFlags, selectConstantFlags}
+use Rattle.masks.specs.Combine.{pairOf, pairBytes, notOf, notBytes, selectOf, selectBytes, selectConstantOf, selectConstantBytes}
 use Rattle.masks.specs.Compare.{eqOf, edgesOf, commonOf}
 use Rattle.masks.specs.Freeze.{freezeOf, intoOptValidityOf, freezeBytes}
 use Rattle.masks.specs.Iterator.{newIter, nthFlag, takeLeading}
@@ -157,16 +157,11 @@ pub record Refusals : Type 0 where
   pub unset-bits : (m : Bitmap) (bytes : List ℕ) → Refuses (mayGive masks) m (unsetBitsOf m bytes)
   pub pair : (op : Op) (a : Bitmap) (aBytes : List ℕ) (b : Bitmap) (bBytes out : List ℕ)
       → RefusesUnwritten (mayGive combinations) tt (pairOf op a aBytes b bBytes out) out (pairBytes op a aBytes b bBytes out)
-  pub not-of : (m : Bitmap) (bytes out : List ℕ) → let checks = notChecks m bytes (length out) in
-      RefusesUnwritten (mayGive inversions) tt (eachOf checks (m ∷ []) (m .length)) out (eachBytes checks (notFlags m bytes) out)
+  pub not-of : (m : Bitmap) (bytes out : List ℕ) → RefusesUnwritten (mayGive inversions) tt (notOf m bytes out) out (notBytes m bytes out)
   pub select : (s : Bitmap) (sBytes : List ℕ) (t : Bitmap) (tBytes : List ℕ) (f : Bitmap) (fBytes out : List ℕ)
-      → let checks = selectChecks s sBytes t tBytes f fBytes (length out) in
-      RefusesUnwritten (mayGive combinations) tt (eachOf checks (s ∷ t ∷ f ∷ []) (s .length))
-      out (eachBytes checks (selectFlags s sBytes t tBytes f fBytes) out)
+      → RefusesUnwritten (mayGive combinations) tt (selectOf s sBytes t tBytes f fBytes out) out (selectBytes s sBytes t tBytes f fBytes out)
   pub select-constant : (s : Bitmap) (sBytes : List ℕ) (t : Bitmap) (tBytes : List ℕ) (x : Bool) (out : List ℕ)
-      → let checks = pairChecks s sBytes t tBytes (length out) in
-      RefusesUnwritten (mayGive combinations) tt (eachOf checks (s ∷ t ∷ []) (s .length))
-      out (eachBytes checks (selectConstantFlags s sBytes t tBytes x) out)
+      → RefusesUnwritten (mayGive combinations) tt (selectConstantOf s sBytes t tBytes x out) out (selectConstantBytes s sBytes t tBytes x out)
   pub eq : (a : Bitmap) (aBytes : List ℕ) (b : Bitmap) (bBytes : List ℕ) → Refuses (mayGive masks) tt (eqOf a aBytes b bBytes)
   pub edges : (m : Bitmap) (bytes : List ℕ) → Refuses (mayGive masks) tt (edgesOf m bytes)
   pub common : (a : Bitmap) (aBytes : List ℕ) (b : Bitmap) (bBytes : List ℕ) → Refuses (mayGive intersections) tt (commonOf a aBytes b bBytes)

@@ -16,7 +16,7 @@ use Rattle.masks.specs.Appends.{Append, pushFlag, extendConstant, pushWo
 use Rattle.masks.specs.Bitmask.{splitAt, windowAt}
 use Rattle.masks.specs.Builder.{builderOf, newBuilder}
 use Rattle.masks.specs.Chunks.{chunksAt, newChunks, nextChunk, chunksRemainder}
-use Rattle.masks.specs.Combine.{And, AndNot, Or, OrNot, Xor, pairOf, pairChecks, eachOf, notChecks, selectChecks}
+use Rattle.masks.specs.Combine.{And, AndNot, Or, OrNot, Xor, pairOf, notOf, selectOf, selectConstantOf}
 use Rattle.masks.specs.Compare.{eqOf, edgesOf, commonOf}
 use Rattle.masks.specs.Freeze.{freezeOf, intoOptValidityOf}
 use Rattle.masks.specs.Iterator.{iterAt, newIter, nthFlag, takeLeading}
@@ -104,13 +104,13 @@ abbrev pub pairNumber : Op → Bitmap → List ℕ → ℕ
 pairNumber op m out = numberOf (pairOf op whole byte m byte out)
 
 abbrev pub notNumber : Bitmap → List ℕ → ℕ
-notNumber m out = numberOf (eachOf (notChecks m byte (length out)) (m ∷ []) (m .length))
+notNumber m out = numberOf (notOf m byte out)
 
 abbrev pub selectNumber : Bitmap → List ℕ → ℕ
-selectNumber m out = numberOf (eachOf (selectChecks whole byte whole byte m byte (length out)) (whole ∷ whole ∷ m ∷ []) 8)
+selectNumber m out = numberOf (selectOf whole byte whole byte m byte out)
 
 abbrev pub selectConstantNumber : Bitmap → List ℕ → ℕ
-selectConstantNumber m out = numberOf (eachOf (pairChecks whole byte m byte (length out)) (whole ∷ m ∷ []) 8)
+selectConstantNumber m out = numberOf (selectConstantOf whole byte m byte false out)
 
 -- ---- the table: for each call a list, what its definition gives at one input for each number of its family
 

@@ -2,14 +2,13 @@
 --
 -- Rows as in `WrongAnswers` of words. An answer of a call that writes stands with what the lent output then holds.
 use Prim.Native.Nat.{ℕ}
-use mathlib.Core.Bool.{Bool, true, false}
+use mathlib.Core.Bool.{true, false}
 use mathlib.Core.List.{List, [], _∷_, _++_}
 use lib.ListN.{replicate}
 pub use Rattle.words.specs.WrongAnswers.{Tried}
 use Rattle.words.specs.declared.ops.Op.{Op}
 use Rattle.masks.specs.Answer.{Answer, given, refused}
-use Rattle.masks.specs.Checks.{Check}
-use Rattle.masks.specs.Combine.{And, AndNot, Or, OrNot, Xor, pairOf, pairBytes, pairChecks, eachOf, eachBytes, notChecks, notFlags, selectChecks, selectFlags, selectConstantFlags}
+use Rattle.masks.specs.Combine.{And, AndNot, Or, OrNot, Xor, pairOf, pairBytes, notOf, notBytes, selectOf, selectBytes, selectConstantOf, selectConstantBytes}
 use Rattle.masks.specs.Compare.{eqOf, edgesOf, commonOf}
 use Rattle.masks.specs.Examples.{first, lent}
 use Rattle.masks.specs.Mask.{maskOf, emptyMask, tryNewOf, newZeroedOf, newZeroedBytes, Recounted, unsetBitsOf, sliceOf}
@@ -52,10 +51,6 @@ pairedIn op a aBytes b bBytes out = (pairOf op a aBytes b bBytes out, pairBytes 
 
 abbrev pub paired : Op → Bitmap → List ℕ → Bitmap → List ℕ → Written
 paired op a aBytes b bBytes = pairedIn op a aBytes b bBytes (lent 8)
-
--- a combination with no shortcut, of these checks, masks of four flags and flags, over eight lent bytes
-abbrev pub eachIn : List Check → List Bitmap → List Bool → Written
-eachIn checks masks flags = (eachOf checks masks 4, eachBytes checks flags (lent 8))
 
 -- a mask of four flags with this count, and these bytes
 abbrev pub four : Unset → List ℕ → Written
@@ -150,24 +145,23 @@ pub record WrongMasks : Type 0 where
       -- the count of the masks combined
       (four (Known 0) (first 0x00))
   -- `not` of a mask that begins at the flag 2
-  pub not : Tried (eachIn (notChecks right rightBytes 8) (right ∷ []) (notFlags right rightBytes))
+  pub not : Tried {A = Written} (notOf right rightBytes (lent 8), notBytes right rightBytes (lent 8))
       (four Unknown (first 0x0A))
       -- zeros past the end inverted
       (four Unknown (0xFA ∷ replicate 7 0xFF))
       -- the start kept
       (given (maskOf 2 4 Unknown), first 0x0A)
   -- `select` by 1,1,0,0 from 1,0,1,0 and 1,1,1,1
-  pub select : Tried
-      (eachIn (selectChecks left leftBytes right rightBytes ones onesBytes 8) (left ∷ right ∷ ones ∷ [])
-      (selectFlags left leftBytes right rightBytes ones onesBytes))
+  pub select : Tried {A = Written}
+      (selectOf left leftBytes right rightBytes ones onesBytes (lent 8), selectBytes left leftBytes right rightBytes ones onesBytes (lent 8))
       (four Unknown (first 0x0D))
       -- the two masks exchanged
       (four Unknown (first 0x07))
       -- the selector's own flags
       (four Unknown (first 0x03))
   -- `select_constant` by 1,1,0,0 from 1,0,1,0 and ones
-  pub select-constant : Tried
-      (eachIn (pairChecks left leftBytes right rightBytes 8) (left ∷ right ∷ []) (selectConstantFlags left leftBytes right rightBytes true))
+  pub select-constant : Tried {A = Written}
+      (selectConstantOf left leftBytes right rightBytes true (lent 8), selectConstantBytes left leftBytes right rightBytes true (lent 8))
       (four Unknown (first 0x0D))
       -- the constant inverted
       (four Unknown (first 0x01))

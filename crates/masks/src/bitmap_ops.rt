@@ -1,10 +1,9 @@
 // The combinations: flag by flag into a lent output, as frozen bytes. Spans start at any bit.
 ghost use mathlib.Core.Path.{_≡_};
-ghost use mathlib.Core.List.{[], _∷_};
-ghost use lib.ListN.{length};
 ghost use Rattle.words.specs.declared.ops.Op.the-variants.{And, AndNot, Or, OrNot, Xor};
 ghost use Rattle.masks.specs.Checks.{firstFailed};
-ghost use Rattle.masks.specs.Combine.{combinedAnswer, pairBytes, pairChecks, pairOf, eachBytes, eachOf, notChecks, notFlags, selectChecks, selectConstantFlags, selectFlags};
+ghost use Rattle.masks.specs.Combine.{combinedAnswer, pairBytes, pairChecks, pairOf, notBytes, notChecks, notOf, selectBytes, selectChecks, selectConstantBytes};
+ghost use Rattle.masks.specs.Combine.{selectConstantOf, selectOf};
 use crate::bitmap::Bitmap;
 use crate::bitmap::not_counted;
 use crate::checks::earlier;
@@ -110,9 +109,8 @@ fn not_failure(mask: Bitmap, bytes: &[u8], size: usize) -> u8
 
 // The flags of the mask, each inverted.
 pub fn not(mask: Bitmap, bytes: &[u8], out: &mut [u8]) -> Combined
-    ensures answer { λ r. ⌜ combinedAnswer r ≡ eachOf (notChecks mask (now (bytes .entry)) (length (now (out .entry)))) (mask ∷ []) (mask .length) ⌝ }
-    ensures bytes { λ _. ⌜ now (out .exit) ≡
-        eachBytes (notChecks mask (now (bytes .entry)) (length (now (out .entry)))) (notFlags mask (now (bytes .entry))) (now (out .entry)) ⌝ }
+    ensures answer { λ r. ⌜ combinedAnswer r ≡ notOf mask (now (bytes .entry)) (now (out .entry)) ⌝ }
+    ensures bytes { λ _. ⌜ now (out .exit) ≡ notBytes mask (now (bytes .entry)) (now (out .entry)) ⌝ }
 {
     let refusal = not_failure(mask, bytes, out.len());
     if refusal != 0 {
@@ -161,12 +159,8 @@ pub fn select(
     no: &[u8],
     out: &mut [u8],
 ) -> Combined
-    ensures answer { λ r. ⌜ combinedAnswer r ≡
-        eachOf (selectChecks selector (now (by .entry)) truthy (now (yes .entry)) falsy (now (no .entry)) (length (now (out .entry))))
-        (selector ∷ truthy ∷ falsy ∷ []) (selector .length) ⌝ }
-    ensures bytes { λ _. ⌜ now (out .exit) ≡
-        eachBytes (selectChecks selector (now (by .entry)) truthy (now (yes .entry)) falsy (now (no .entry)) (length (now (out .entry))))
-        (selectFlags selector (now (by .entry)) truthy (now (yes .entry)) falsy (now (no .entry))) (now (out .entry)) ⌝ }
+    ensures answer { λ r. ⌜ combinedAnswer r ≡ selectOf selector (now (by .entry)) truthy (now (yes .entry)) falsy (now (no .entry)) (now (out .entry)) ⌝ }
+    ensures bytes { λ _. ⌜ now (out .exit) ≡ selectBytes selector (now (by .entry)) truthy (now (yes .entry)) falsy (now (no .entry)) (now (out .entry)) ⌝ }
 {
     let refusal = select_failure(selector, by, truthy, yes, falsy, no, out.len());
     if refusal != 0 {
@@ -201,12 +195,8 @@ pub fn select_constant(
     flag: bool,
     out: &mut [u8],
 ) -> Combined
-    ensures answer { λ r. ⌜ combinedAnswer r ≡
-        eachOf (pairChecks selector (now (by .entry)) truthy (now (yes .entry)) (length (now (out .entry))))
-        (selector ∷ truthy ∷ []) (selector .length) ⌝ }
-    ensures bytes { λ _. ⌜ now (out .exit) ≡
-        eachBytes (pairChecks selector (now (by .entry)) truthy (now (yes .entry)) (length (now (out .entry))))
-        (selectConstantFlags selector (now (by .entry)) truthy (now (yes .entry)) flag) (now (out .entry)) ⌝ }
+    ensures answer { λ r. ⌜ combinedAnswer r ≡ selectConstantOf selector (now (by .entry)) truthy (now (yes .entry)) flag (now (out .entry)) ⌝ }
+    ensures bytes { λ _. ⌜ now (out .exit) ≡ selectConstantBytes selector (now (by .entry)) truthy (now (yes .entry)) flag (now (out .entry)) ⌝ }
 {
     let refusal = pair_failure(selector, by, truthy, yes, out.len());
     if refusal != 0 {

@@ -2,32 +2,34 @@
 -- whole statement. Assumes nothing.
 use Prim.Native.Nat.{ℕ, _≤_, _<_}
 use mathlib.Core.Path.{_≡_}
-use mathlib.Core.Bool.{Bool, false, cond}
-use mathlib.Core.List.{List}
+use mathlib.Core.Bool.{Bool, true, false, cond}
+use mathlib.Core.List.{List, []}
 use mathlib.Core.Option.{Option, none, some}
 use lib.Dec.{ltb}
 use lib.ListN.{length, getD, take}
 use Rattle.words.specs.Flags.{over}
 use Rattle.masks.specs.Answer.{Answer, given, refused}
 use Rattle.masks.specs.Appends.{appendAnswer, appendBytes, extendBitmap}
 use Rattle.masks.specs.Builder.{newBuilder}
 use Rattle.masks.specs.Cursor.{Step, item, ended, listing}
 use Rattle.masks.specs.Freeze.{freezeBytes, freezeOf}
 use Rattle.masks.specs.Frozen.{frozen, frozenSize}
-use Rattle.masks.specs.History.{Argument, own, other, Combination, pair, invert, select, selectConstant, History}
-use Rattle.masks.specs.History.{FairHistory, combinedBytes, combinedFlags, combinedOf, endOf, listOf, masked}
 use Rattle.masks.specs.Iterator.{newIter, nthFlag}
 use Rattle.masks.specs.Mask.{maskFlags, Recounted, unsetBitsOf}
 use Rattle.masks.specs.Search.{nthBack, nthFrom, searchBack, searchFrom}
 use Rattle.masks.specs.SliceIterator.{newSlices, nextSlice, runsFrom}
 use Rattle.masks.specs.TrueCounts.{Sound, TrueCount}
 use Rattle.masks.specs.Utils.{zeros}
 use Rattle.masks.specs.declared.bitmap.Bitmap.{Bitmap}
 use Rattle.masks.specs.declared.bitmap.Unset.the-variants.{Known}
 use Rattle.masks.specs.declared.builder.BitmapBuilder.{BitmapBuilder}
 use Rattle.masks.specs.declared.iterator.BitmapIter.{BitmapIter}
 use Rattle.masks.specs.declared.slice_iterator.Run.{Run}
 use Rattle.masks.specs.declared.slice_iterator.SlicesIterator.{SlicesIterator}
+use Rattle.histories.specs.History.{FairHistory, FairRow, History, State, waiting, building, masked, noMask}
+use Rattle.histories.specs.History.{endOf, listOf, stepRow, writtenAnswer, writtenBytes, writtenFlags}
+use Rattle.histories.specs.MaskRows.{Combination, combinationRow}
+use Rattle.histories.specs.Rows.{Argument, own, other, Every, RowCall, Tuple, Writes}
 
 -- ---- what the calls show of a mask: `none` where a call is refused
 
@@ -47,7 +49,8 @@ thenFrozen n bytes (refused k b) = none
 
 abbrev pub refrozen : Bitmap → List ℕ → List ℕ → Option (List ℕ)
 refrozen m bytes buf =
-    thenFrozen (m .length) (appendBytes (extendBitmap m bytes 0 (m .length)) newBuilder buf) (appendAnswer (extendBitmap m bytes 0 (m .length)) newBuilder buf)
+    let whole = extendBitmap m bytes 0 (m .length) in
+    thenFrozen (m .length) (appendBytes whole newBuilder buf) (appendAnswer whole newBuilder buf)
 
 -- the flag that `nth` of a new `BitmapIter` gives, or that there is none
 abbrev pub flagShown : Answer BitmapIter (Step BitmapIter Bool) → Option (Option Bool)
@@ -80,18 +83,15 @@ abbrev pub FitAt : ℕ → Argument → Type 0
 FitAt n own = Unit {0}
 FitAt n (other m bytes) = Sound m bytes × (m .length ≡ n)
 
-abbrev pub Fits : ℕ → Combination → Type 0
-Fits n (pair op p q) = FitAt n p × FitAt n q
-Fits n (invert p) = FitAt n p
-Fits n (select p q r) = FitAt n p × (FitAt n q × FitAt n r)
-Fits n (selectConstant p q x) = FitAt n p × FitAt n q
+abbrev pub Fits : ℕ → (r : Writes) → Tuple Argument (r .masks) → Type 0
+Fits n r a = Every (FitAt n) (r .masks) a
 
 -- the call is accepted, writes the frozen bytes of the reference list's flags, and gives a mask of them
-pub record Combines (m : Bitmap) (bytes : List ℕ) (l : List Bool) (c : Combination) (out : List ℕ) : Type 0 where
+pub record Combines (m : Bitmap) (bytes : List ℕ) (l : List Bool) (r : Writes) (a : Tuple Argument (r .masks)) (out : List ℕ) : Type 0 where
   pub result : Bitmap
-  pub accepted : combinedOf m bytes c out ≡ given result
-  pub written : combinedBytes m bytes c out ≡ over out (frozen (combinedFlags l c))
-  pub flags : maskFlags result (combinedBytes m bytes c out) ≡ combinedFlags l c
+  pub accepted : writtenAnswer m bytes r a ≡ given result
+  pub written : writtenBytes m bytes r a ≡ over out (frozen (writtenFlags l r a))
+  pub flags : maskFlags result (writtenBytes m bytes r a) ≡ writtenFlags l r a
 
 -- ---- a mask and a list
 
@@ -111,7 +111,8 @@ pub record Agrees (m : Bitmap) (bytes : List ℕ) (l : List Bool) : Type 0 where
   pub forward : (n from : ℕ) → searchFrom bytes (m .start) (m .length) n from ≡ given (nthFrom l n from)
   pub backward : (n end : ℕ) → searchBack bytes (m .start) (m .length) n end ≡ given (nthBack l n end)
   -- each combination with other such masks of its length, in an output that is large enough
-  pub combined : (c : Combination) (out : List ℕ) → Fits (m .length) c → frozenSize (m .length) ≤ length out → Combines m bytes l c out
+  pub combined : (c : Combination) (out : List ℕ) (a : Tuple Argument (combinationRow c out .masks))
+      → Fits (m .length) (combinationRow c out) a → frozenSize (m .length) ≤ length out → Combines m bytes l (combinationRow c out) a out
 
 -- ---- two masks
 
@@ -124,22 +125,37 @@ pub record Alike (m : Bitmap) (bytes : List ℕ) (m′ : Bitmap) (bytes′ : Lis
   pub nth : (n : ℕ) → nthShown m bytes n ≡ nthShown m′ bytes′ n
   pub forward : (n from : ℕ) → searchFrom bytes (m .start) (m .length) n from ≡ searchFrom bytes′ (m′ .start) (m′ .length) n from
   pub backward : (n end : ℕ) → searchBack bytes (m .start) (m .length) n end ≡ searchBack bytes′ (m′ .start) (m′ .length) n end
-  pub combined : (c : Combination) (out : List ℕ) → Fits (m .length) c → frozenSize (m .length) ≤ length out
-      → combinedBytes m bytes c out ≡ combinedBytes m′ bytes′ c out
+  pub combined : (c : Combination) (out : List ℕ) (a : Tuple Argument (combinationRow c out .masks))
+      → Fits (m .length) (combinationRow c out) a → frozenSize (m .length) ≤ length out
+      → writtenBytes m bytes (combinationRow c out) a ≡ writtenBytes m′ bytes′ (combinationRow c out) a
 
 -- ---- the statement
 
--- a history that is fair has come to a mask
-pub record ComesTo (h : History) (m : Bitmap) (bytes : List ℕ) : Type 0 where
-  pub fair : FairHistory h
-  pub ends : endOf h ≡ masked m bytes
+-- the flags of the mask in a state, none where there is no mask
+abbrev pub stateFlags : State → List Bool
+stateFlags waiting = []
+stateFlags (building f) = []
+stateFlags (masked m bytes) = maskFlags m bytes
+stateFlags noMask = []
 
-pub record OneMeaning : Type 0 where
+-- a history that is fair has come to a mask
+pub record ComesTo {Code : Type 0} (callOf : Code → RowCall) (h : History Code) (m : Bitmap) (bytes : List ℕ) : Type 0 where
+  pub fair : FairHistory callOf h
+  pub ends : endOf callOf h ≡ masked m bytes
+
+-- of the table's calls that make a mask from masks, beside `try_new`, appends, `freeze` and `into_opt_validity`
+pub record OneMeaning {Code : Type 0} (callOf : Code → RowCall) : Type 0 where
   -- every mask that a history has come to agrees with the history's reference list
-  pub agrees : (h : History) (m : Bitmap) (bytes : List ℕ) → ComesTo h m bytes → Agrees m bytes (listOf h)
+  pub agrees : (h : History Code) (m : Bitmap) (bytes : List ℕ) → ComesTo callOf h m bytes → Agrees m bytes (listOf callOf h)
   -- two histories with equal lists agree in all that is compared
-  pub alike : (h h′ : History) (m m′ : Bitmap) (bytes bytes′ : List ℕ) → ComesTo h m bytes → ComesTo h′ m′ bytes′ → listOf h ≡ listOf h′
-      → Alike m bytes m′ bytes′
+  pub alike : (h h′ : History Code) (m m′ : Bitmap) (bytes bytes′ : List ℕ) → ComesTo callOf h m bytes → ComesTo callOf h′ m′ bytes′
+      → listOf callOf h ≡ listOf callOf h′ → Alike m bytes m′ bytes′
   -- if the lists differ, length or frozen bytes differ
-  pub apart : (h h′ : History) (m m′ : Bitmap) (bytes bytes′ : List ℕ) → ComesTo h m bytes → ComesTo h′ m′ bytes′ → (listOf h ≡ listOf h′ → ⊥)
-      → (buf : List ℕ) → frozenSize (m .length) ≤ length buf → m .length ≡ m′ .length → refrozen m bytes buf ≡ refrozen m′ bytes′ buf → ⊥
+  pub apart : (h h′ : History Code) (m m′ : Bitmap) (bytes bytes′ : List ℕ) → ComesTo callOf h m bytes → ComesTo callOf h′ m′ bytes′
+      → (listOf callOf h ≡ listOf callOf h′ → ⊥) → (buf : List ℕ) → frozenSize (m .length) ≤ length buf
+      → m .length ≡ m′ .length → refrozen m bytes buf ≡ refrozen m′ bytes′ buf → ⊥
+  -- a call of the table that two histories with equal lists both make next, accepted both times, gives masks with the same flags
+  pub onward : (h h′ : History Code) (m m′ : Bitmap) (bytes bytes′ : List ℕ) → ComesTo callOf h m bytes → ComesTo callOf h′ m′ bytes′
+      → listOf callOf h ≡ listOf callOf h′ → (c : Code) → FairRow (callOf c)
+      → stepRow m bytes (callOf c) .accepted ≡ true → stepRow m′ bytes′ (callOf c) .accepted ≡ true
+      → stateFlags (stepRow m bytes (callOf c) .state) ≡ stateFlags (stepRow m′ bytes′ (callOf c) .state)

@@ -2,45 +2,45 @@
 -- bytes. Assumes nothing.
 use mathlib.Core.Path.{_≡_, refl, sym, ap, ap₂, _∙_, subst}
 use mathlib.Core.Bool.{Bool, true, false, cond}
-use mathlib.Core.List.{List, [], _∷_, _++_}
-use mathlib.Core.Option.{Option, none, some}
-use Prim.Native.Nat.{ℕ, zero, suc, _+_, _-_, _*_, _/_, _≤_, _<_}
+use mathlib.Core.List.{List, [], _∷_}
+use mathlib.Core.Option.{none, some}
+use Prim.Native.Nat.{ℕ, zero, suc, _+_, _*_, _≤_, _<_}
 use native.Mathlib.Omega.{arith}
-use lib.Dec.{leb, ltb}
+use lib.Dec.{ltb}
 use lib.ListN.{length, drop, getD, take}
-use borrow.Author.Tests.{le-leb}
 use Rattle.words.specs.Flags.{flagsOf, over, window}
 use Rattle.words.specs.Loops.{stretch}
 use Rattle.words.proofs.Windows.{in-window, length-window, window-all}
-use Rattle.masks.specs.Agreement.{Agrees, Combines, Fits, countShown, flagOf, flagShown, frozenShown, nthOf, nthShown, refrozen, thenFrozen, runsOf, runsShown}
-use Rattle.masks.specs.Answer.{Answer, given, refused, decided, checked, unlessEmpty}
+use Rattle.histories.specs.Agreement.{Agrees, countShown, flagOf, flagShown, frozenShown, nthOf}
+use Rattle.histories.specs.Agreement.{nthShown, refrozen, thenFrozen, runsOf, runsShown}
+use Rattle.masks.specs.Answer.{Answer, given, unlessEmpty}
 use Rattle.masks.specs.Appends.{subsliceChecks}
 use Rattle.masks.specs.Builder.{Filling, appended, filling, newBuilder, Room}
-use Rattle.masks.specs.Checks.{Check, check, earlier, firstFailed, limit, spanChecks}
-use Rattle.masks.specs.Cursor.{Step, item, ended, cursorChecks}
+use Rattle.masks.specs.Checks.{firstFailed, spanChecks}
+use Rattle.masks.specs.Cursor.{item, ended, cursorChecks}
 use Rattle.masks.specs.Freeze.{freezeChecks, frozenMask, frozenOver}
-use Rattle.masks.specs.Frozen.{frozen, frozenSize, packed}
-use Rattle.masks.specs.History.{Combination}
+use Rattle.masks.specs.Frozen.{frozen, frozenSize}
+use Rattle.histories.specs.Owed.{Stands}
 use Rattle.masks.specs.Iterator.{flagStep, iterAt, iterFlags, movedTo, newIter, nthFlag}
-use Rattle.masks.specs.Mask.{maskChecks, maskFlags, maskOf, Recounted, unsetBitsOf, zeroCount}
+use Rattle.masks.specs.Mask.{maskChecks, maskFlags, maskOf, unsetBitsOf, zeroCount}
 use Rattle.masks.specs.Search.{nthBack, nthFrom, searchBack, searchFrom}
 use Rattle.masks.specs.SliceIterator.{newSlices, runsFrom, runsLeft, slicesAt}
-use Rattle.masks.specs.TrueCounts.{Sound, TrueCount, Truthful}
+use Rattle.masks.specs.TrueCounts.{TrueCount}
 use Rattle.masks.specs.Utils.{zeros}
 use Rattle.masks.specs.declared.bitmap.Bitmap.{Bitmap}
 use Rattle.masks.specs.declared.bitmap.Unset.the-variants.{Known}
 use Rattle.masks.specs.declared.iterator.BitmapIter.{BitmapIter}
 use Rattle.masks.proofs.Accepted.{builder-accepted, mask-accepted, span-accepted, whole-accepted}
-use Rattle.masks.proofs.CheckLaws.{is-given, is-new, passed-before}
-use Rattle.masks.proofs.CombinedLaws.{combines}
+use Rattle.masks.proofs.CheckLaws.{is-given, is-new}
+use Rattle.histories.proofs.CombinedLaws.{combines}
 use Rattle.masks.proofs.FreezeLaws.{same-checks}
 use Rattle.masks.proofs.FrozenLaws.{flags-packed, length-packed}
-use Rattle.masks.proofs.HistoryLaws.{Builds, Stands, builds-after}
-use Rattle.masks.proofs.HistoryTheorem.{new-holds}
+use Rattle.histories.proofs.HistoryLaws.{Builds, builds-after}
+use Rattle.histories.proofs.HistoryTheorem.{new-holds}
 use Rattle.masks.proofs.Listing.{place-accepted}
 use Rattle.masks.proofs.RoomLaws.{size-after}
 use Rattle.masks.proofs.RunsWhole.{lists-runs}
 use Rattle.masks.proofs.TrueLaws.{true-count}
 
 -- ---- frozen bytes
 
@@ -68,11 +68,14 @@ frozen-same a b e f = sym (frozen-back a) ∙ ap₂ (λ (x : List ℕ) (n : ℕ)
 -- ---- flags one by one
 
 step-shown : (bytes : List ℕ) (c : BitmapIter) (n : ℕ)
-    → flagShown (given (flagStep bytes c n)) ≡ some (cond (ltb (c .place + n) (c .length)) (some (getD (iterFlags c bytes) (c .place + n) false)) none)
+    → flagShown (given (flagStep bytes c n)) ≡ some (cond (ltb (c .place + n) (c .length))
+    (some (getD (iterFlags c bytes) (c .place + n) false)) none)
 unfolding flagStep
 step-shown bytes c n = go (ltb (c .place + n) (c .length))
   where
-    go : (t : Bool) → flagShown (given (cond t (item (getD (iterFlags c bytes) (c .place + n) false) (movedTo c (c .place + n + 1))) (ended (movedTo c (c .length)))))
+    go : (t : Bool)
+        → flagShown (given (cond t (item (getD (iterFlags c bytes) (c .place + n) false) (movedTo c (c .place + n + 1)))
+        (ended (movedTo c (c .length)))))
         ≡ some (cond t (some (getD (iterFlags c bytes) (c .place + n) false)) none)
     go true = refl
     go false = refl
@@ -88,9 +91,11 @@ unfolding nthFlag
 nth-there bytes start size n e =
     let c = iterAt start size 0 in
     let same : 0 + n ≡ n = omega arith in
-    ap flagShown (sym (is-given 0 (firstFailed (cursorChecks start size 0 (length bytes))) c (flagStep bytes c n) (cursor-accepted start size 0 bytes e (omega arith)) refl))
+    ap flagShown (sym (is-given 0 (firstFailed (cursorChecks start size 0 (length bytes))) c (flagStep bytes c n)
+    (cursor-accepted start size 0 bytes e (omega arith)) refl))
     ∙ step-shown bytes c n
-    ∙ ap₂ (λ (i k : ℕ). some (cond (ltb i k) (some (getD (stretch bytes start size) i false)) none)) same (sym (length-window (flagsOf bytes) start size))
+    ∙ ap₂ (λ (i k : ℕ). some (cond (ltb i k) (some (getD (stretch bytes start size) i false)) none)) same
+    (sym (length-window (flagsOf bytes) start size))
 
 -- a new cursor: over no flags it is all 0
 new-nth : (bytes : List ℕ) (start size n : ℕ) → 0 ≡ firstFailed (spanChecks start size (length bytes))
@@ -98,7 +103,8 @@ new-nth : (bytes : List ℕ) (start size n : ℕ) → 0 ≡ firstFailed (spanChe
 unfolding newIter unlessEmpty window
 new-nth bytes start zero n e = nth-there bytes 0 0 n (span-accepted 0 0 (length bytes) (omega arith) (omega arith) (omega arith))
 new-nth bytes start (suc size) n e =
-    ap (λ (a : Answer (Unit {0}) BitmapIter). nthOf a bytes n) (sym (is-given 0 (firstFailed (spanChecks start (suc size) (length bytes))) tt (iterAt start (suc size) 0) e refl))
+    ap (λ (a : Answer (Unit {0}) BitmapIter). nthOf a bytes n)
+    (sym (is-given 0 (firstFailed (spanChecks start (suc size) (length bytes))) tt (iterAt start (suc size) 0) e refl))
     ∙ nth-there bytes start (suc size) n e
 
 -- ---- agreement
@@ -147,7 +153,8 @@ module _ (m : Bitmap) (bytes : List ℕ) (l : List Bool) (s : Stands m bytes l) 
       ∙ ap (λ (t : List Bool). runsFrom 0 (drop 0 t)) (s .flags))
 
   whole-flags : window (maskFlags m bytes) 0 (m .length) ≡ maskFlags m bytes
-  whole-flags = ap (window (maskFlags m bytes) 0) (sym (length-window (flagsOf bytes) (m .start) (m .length))) ∙ window-all (maskFlags m bytes)
+  whole-flags =
+      ap (window (maskFlags m bytes) 0) (sym (length-window (flagsOf bytes) (m .start) (m .length))) ∙ window-all (maskFlags m bytes)
 
   -- a builder with the mask appended, frozen: the bytes that are written
   refrozen-bytes : (f : Filling) (buf : List ℕ) → Builds f l → length (f .bytes) ≡ length buf → frozenSize (m .length) ≤ length buf
@@ -156,7 +163,8 @@ module _ (m : Bitmap) (bytes : List ℕ) (l : List Bool) (s : Stands m bytes l) 
   refrozen-bytes f buf i size h =
       let ok = same-checks (f .builder) (length (f .bytes)) 0 (builder-accepted (f .builder) 0 (length (f .bytes)) (i .room)) in
       let k = firstFailed (freezeChecks (f .builder) (length (f .bytes))) in
-      ap₂ (frozenShown (m .length)) (sym (is-new 0 k (frozenOver (f .builder) (f .bytes)) (f .bytes) ok refl)) (sym (is-given 0 k (f .builder) (frozenMask (f .builder)) ok refl))
+      ap₂ (frozenShown (m .length)) (sym (is-new 0 k (frozenOver (f .builder) (f .bytes)) (f .bytes) ok refl))
+      (sym (is-given 0 k (f .builder) (frozenMask (f .builder)) ok refl))
       ∙ ap₂ (λ (n : ℕ) (t : List Bool). some (take n (over (f .bytes) (frozen t)))) (ap frozenSize long ∙ sym (length-frozen l)) (i .flags)
       ∙ ap some (take-over (f .bytes) (frozen l) (omega (arith, length-frozen l, long)))
 
@@ -171,15 +179,13 @@ module _ (m : Bitmap) (bytes : List ℕ) (l : List Bool) (s : Stands m bytes l) 
         holds = omega arith;
       } in
       let f = appended (filling newBuilder buf) F in
-      let built = builds-after (filling newBuilder buf) [] F (new-holds buf) (subst (λ (k : ℕ). Room newBuilder k (length buf)) (sym n) room) in
+      let built = builds-after (filling newBuilder buf) [] F (new-holds buf)
+      (subst (λ (k : ℕ). Room newBuilder k (length buf)) (sym n) room) in
       let builds : Builds f l = record { room = built .room; flags = built .flags ∙ whole-flags ∙ s .flags; ones = built .ones } in
       let k = firstFailed (subsliceChecks newBuilder buf m bytes 0 (m .length)) in
       let ok = whole-accepted newBuilder buf m bytes whole (s .sound .short) room in
       ap₂ (thenFrozen (m .length)) (sym (is-new 0 k (f .bytes) buf ok refl)) (sym (is-given 0 k newBuilder (f .builder) ok refl))
       ∙ refrozen-bytes f buf builds (size-after (filling newBuilder buf) f F refl) h
-
-  combined : (c : Combination) (out : List ℕ) → Fits (m .length) c → frozenSize (m .length) ≤ length out → Combines m bytes l c out
-  combined c out f h = combines m bytes l s out h c f
 
   pub agrees : Agrees m bytes l
   agrees =
@@ -194,5 +200,5 @@ module _ (m : Bitmap) (bytes : List ℕ) (l : List Bool) (s : Stands m bytes l) 
         nth = nth;
         forward = forward;
         backward = backward;
-        combined = combined;
+        combined = combines m bytes l s;
       }
