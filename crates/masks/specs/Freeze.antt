@@ -47,9 +47,9 @@ intoOptValidityOf b bytes = checked (freezeChecks b (length bytes)) b (validityO
 abbrev pub freezeBytes : BitmapBuilder → List ℕ → List ℕ
 freezeBytes b bytes = kept (firstFailed (freezeChecks b (length bytes))) (frozenOver b bytes) bytes
 
-abbrev pub madeAnswer : Made → Answer BitmapBuilder Bitmap
-madeAnswer (Made·Mask m) = given m
-madeAnswer (Made·Refused n b) = refused n b
+abbrev pub freezeAnswer : Made → Answer BitmapBuilder Bitmap
+freezeAnswer (Made·Mask m) = given m
+freezeAnswer (Made·Refused n b) = refused n b
 
 abbrev pub validityAnswer : Validity → Answer BitmapBuilder (Option Bitmap)
 validityAnswer (Validity·Mask m) = given (some m)

@@ -3,6 +3,7 @@ pub mod Agreement
 pub mod Aligned
 pub mod Answer
 pub mod Appends
+pub mod AtIndex
 pub mod Bitmask
 pub mod Builder
 pub mod Checks

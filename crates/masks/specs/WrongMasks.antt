@@ -8,6 +8,7 @@ use lib.ListN.{replicate}
 pub use Rattle.words.specs.WrongAnswers.{Tried}
 use Rattle.words.specs.declared.ops.Op.{Op}
 use Rattle.masks.specs.Answer.{Answer, given, refused}
+use Rattle.masks.specs.AtIndex.{andNotAtOf}
 use Rattle.masks.specs.Checks.{Check}
 use Rattle.masks.specs.Combine.{And, AndNot, Or, OrNot, Xor, pairOf, pairBytes, pairChecks, eachOf, eachBytes, notChecks, notFlags, selectChecks, selectFlags, selectConstantFlags}
 use Rattle.masks.specs.Compare.{eqOf, edgesOf, commonOf}
@@ -15,6 +16,7 @@ use Rattle.masks.specs.Examples.{first, lent}
 use Rattle.masks.specs.Mask.{maskOf, emptyMask, tryNewOf, newZeroedOf, newZeroedBytes, Recounted, unsetBitsOf, sliceOf}
 use Rattle.masks.specs.WrongSpans.{two}
 use Rattle.masks.specs.declared.bitmap.Bitmap.{Bitmap}
+use Rattle.masks.specs.declared.bitmap.Optional.the-variants.{Present, Absent}
 use Rattle.masks.specs.declared.bitmap.Unset.{Unset}
 use Rattle.masks.specs.declared.bitmap.Unset.the-variants.{Known, Unknown}
 
@@ -173,6 +175,34 @@ pub record WrongMasks : Type 0 where
       (four Unknown (first 0x01))
       -- the constant past the end
       (four Unknown (0xFD ∷ replicate 7 0xFF))
+  -- `and_not_at` of index 0
+  pub and-not-at : Tried (andNotAtOf (Present left) leftBytes (Present right) rightBytes 0)
+      (given false)
+      -- the second mask's start ignored
+      (given true)
+      -- indices counted from 1
+      (refused 6 tt)
+  -- `and_not_at` of index 2 with no first mask
+  pub and-not-at-second : Tried (andNotAtOf Absent [] (Present right) rightBytes 2)
+      (given false)
+      -- the second mask not inverted
+      (given true)
+      -- the bytes of the absent mask tested
+      (refused 2 tt)
+  -- `and_not_at` of index 9 with no mask
+  pub and-not-at-none : Tried (andNotAtOf Absent [] Absent [] 9)
+      (given true)
+      -- an absent first mask taken for zeros
+      (given false)
+      -- the index held to the length of no mask
+      (refused 6 tt)
+  -- `and_not_at` of index 4
+  pub and-not-at-refused : Tried (andNotAtOf (Present left) leftBytes (Present right) rightBytes 4)
+      (refused 6 tt)
+      -- the flags behind the end read
+      (given false)
+      -- lengths compared with the index
+      (refused 5 tt)
   -- `eq` of the first 4 flags and the first 3
   pub eq : Tried (eqOf left leftBytes (maskOf 0 3 Unknown) leftBytes)
       (given false)

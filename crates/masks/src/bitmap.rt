@@ -49,7 +49,7 @@ pub enum Counting {
 }
 
 // The count of a slice, or that the known count cannot be true of it.
-pub enum Cut {
+enum Cut {
     Count(Unset),
     Wrong,
 }

@@ -6,7 +6,7 @@ ghost use lib.ListN.{length, take};
 ghost use Rattle.words.specs.Flags.{wordFlags};
 ghost use Rattle.masks.specs.Appends.{pushedAnswer, appendAnswer, appendBytes, changeAnswer, pushFlag, pushWord};
 ghost use Rattle.masks.specs.Builder.{Inside, Room, newBuilder, filling, appended};
-ghost use Rattle.masks.specs.Freeze.{allOnes, frozenMask, freezeBytes, freezeOf, frozenOver, intoOptValidityOf, madeAnswer, validityAnswer};
+ghost use Rattle.masks.specs.Freeze.{allOnes, frozenMask, freezeBytes, freezeOf, frozenOver, intoOptValidityOf, freezeAnswer, validityAnswer};
 use crate::bitmap::Bitmap;
 use crate::bitmap::Unset;
 use crate::checks::builder_failure;
@@ -93,7 +93,7 @@ impl BitmapBuilder {
 
     // Writes the word in progress, and gives the mask of all flags.
     pub fn freeze(self, buf: &mut [u8]) -> Made
-        ensures answer { λ r. ⌜ madeAnswer r ≡ freezeOf self (now (buf .entry)) ⌝ }
+        ensures answer { λ r. ⌜ freezeAnswer r ≡ freezeOf self (now (buf .entry)) ⌝ }
         ensures bytes { λ _. ⌜ now (buf .exit) ≡ freezeBytes self (now (buf .entry)) ⌝ }
     {
         let refusal = builder_failure(self, 0, buf.len());

@@ -3,6 +3,7 @@
 // Every call answers on every input: it makes document 01's checks (checks.rt) in their order and gives back the number of the
 // first that fails, with the state it got. Nothing is written before the last check has passed.
 pub mod aligned;
+pub mod at_index;
 pub mod bitmap;
 pub mod bitmap_ops;
 pub mod bitmask;
