@@ -215,6 +215,10 @@ masks-ruled-out =
       eq = tried (plain flag) refl refl refl;
       num-edges = tried (plain number) refl refl refl;
       num-intersections-with = tried (plain number) refl refl refl;
+      earlier-number = tried number refl refl refl;
+      span-failure = tried number refl refl refl;
+      mask-failure = tried number refl refl refl;
+      frozen-failure = tried number refl refl refl;
     }
 
 pub cursors-ruled-out : WrongCursors

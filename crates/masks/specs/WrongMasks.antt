@@ -9,11 +9,11 @@ pub use Rattle.words.specs.WrongAnswers.{Tried}
 use Rattle.words.specs.declared.ops.Op.{Op}
 use Rattle.masks.specs.Answer.{Answer, given, refused}
 use Rattle.masks.specs.AtIndex.{andNotAtOf}
-use Rattle.masks.specs.Checks.{Check}
+use Rattle.masks.specs.Checks.{Check, earlier, firstFailed, outputChecks, spanChecks}
 use Rattle.masks.specs.Combine.{And, AndNot, Or, OrNot, Xor, pairOf, pairBytes, pairChecks, eachOf, eachBytes, notChecks, notFlags, selectChecks, selectFlags, selectConstantFlags}
 use Rattle.masks.specs.Compare.{eqOf, edgesOf, commonOf}
 use Rattle.masks.specs.Examples.{first, lent}
-use Rattle.masks.specs.Mask.{maskOf, emptyMask, tryNewOf, newZeroedOf, newZeroedBytes, Recounted, unsetBitsOf, sliceOf}
+use Rattle.masks.specs.Mask.{maskChecks, maskOf, emptyMask, tryNewOf, newZeroedOf, newZeroedBytes, Recounted, unsetBitsOf, sliceOf}
 use Rattle.masks.specs.WrongSpans.{two}
 use Rattle.masks.specs.declared.bitmap.Bitmap.{Bitmap}
 use Rattle.masks.specs.declared.bitmap.Optional.the-variants.{Present, Absent}
@@ -224,3 +224,31 @@ pub record WrongMasks : Type 0 where
       (given 3)
       -- the right mask's start ignored
       (given 0)
+  -- `earlier` of the numbers 3 and 2
+  pub earlier-number : Tried (earlier 3 2)
+      2
+      -- the one that stands first
+      3
+      -- none where both failed
+      0
+  -- `span_failure` of 7 flags from the flag 2 on, in one byte
+  pub span-failure : Tried (firstFailed (spanChecks 2 7 1))
+      2
+      -- the start not added
+      0
+      -- the number of a length over the limit
+      1
+  -- `mask_failure` of 8 flags in one byte with a count of 9
+  pub mask-failure : Tried (firstFailed (maskChecks (maskOf 0 8 (Known 9)) (0x2D ∷ [])))
+      3
+      -- the count not looked at
+      0
+      -- the count taken for a length
+      2
+  -- `frozen_failure` of 65 flags in 15 bytes
+  pub frozen-failure : Tried (firstFailed (outputChecks 65 15))
+      9
+      -- held to whole bytes, not to whole words
+      0
+      -- the number of bytes that are read
+      2

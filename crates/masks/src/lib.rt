@@ -8,7 +8,7 @@ pub mod bitmap;
 pub mod bitmap_ops;
 pub mod bitmask;
 pub mod builder;
-mod checks;
+pub mod checks;
 pub mod chunks;
 pub mod compare;
 mod cursor;
