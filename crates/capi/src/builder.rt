@@ -3,7 +3,7 @@ ghost use mathlib.Core.Path.{_≡_};
 ghost use Rattle.masks.specs.Appends.{appendAnswer, appendBytes, extendBitmap, extendConstant, extendGather, extendOptGather};
 ghost use Rattle.masks.specs.Appends.{extendRepeated, extendSlice, pushedAnswer, pushFlag, pushWord};
 ghost use Rattle.masks.specs.Builder.{newBuilder};
-ghost use Rattle.masks.specs.Freeze.{freezeBytes, freezeOf, intoOptValidityOf, madeAnswer, validityAnswer};
+ghost use Rattle.masks.specs.Freeze.{freezeBytes, freezeOf, intoOptValidityOf, freezeAnswer, validityAnswer};
 ghost use Rattle.capi.specs.Answers.{asBuilder, asMask, asValidity};
 ghost use Rattle.capi.specs.Records.{builderIn, builderOut, maskIn};
 use crate::answers::BuilderAnswer;
@@ -38,7 +38,7 @@ fn pushed_out(r: Pushed) -> BuilderAnswer
 }
 
 fn frozen_out(r: Made) -> MaskAnswer
-    ensures { λ a. ⌜ a ≡ asMask (madeAnswer r) ⌝ }
+    ensures { λ a. ⌜ a ≡ asMask (freezeAnswer r) ⌝ }
 {
     match r {
         Made::Mask(m) => mask_answer(0, mask_out(m)),

@@ -1,22 +1,22 @@
 -- `may_reassign` refuses by the numbers listed for it alone, and each of them has an input. Assumes nothing.
 use mathlib.Core.Path.{refl}
 use Rattle.masks.specs.Answer.{decided}
+use Rattle.masks.specs.AtIndex.{andNotAtChecks, indexChecks, lengthChecks}
 use Rattle.masks.specs.Checks.{earlier, firstFailed, spanChecks}
-use Rattle.masks.specs.Compare.{commonChecks}
 use Rattle.masks.specs.Mask.{maskChecks}
 use Rattle.masks.specs.Refusals.{numbers, among, allAmong}
 use Rattle.masks.specs.declared.bitmap.Optional.the-variants.{Present, Absent}
 use Rattle.masks.proofs.Refusals.{refuses-by}
-use Rattle.dispatch.specs.Dispatch.{mayReassign, reassignChecks}
+use Rattle.dispatch.specs.Dispatch.{mayReassign}
 use Rattle.dispatch.specs.Refusals.{Refusals, Witnessed}
 
 pub refusals : Refusals
-unfolding mayReassign reassignChecks commonChecks maskChecks spanChecks numbers among allAmong
-refusals (Present p) pBytes (Present r) rBytes t = refuses-by (reassignChecks (Present p) pBytes (Present r) rBytes t) _ _ _ refl
-refusals (Present p) pBytes Absent rBytes t = refuses-by (reassignChecks (Present p) pBytes Absent rBytes t) _ _ _ refl
-refusals Absent pBytes (Present r) rBytes t = refuses-by (reassignChecks Absent pBytes (Present r) rBytes t) _ _ _ refl
-refusals Absent pBytes Absent rBytes t = refuses-by (reassignChecks Absent pBytes Absent rBytes t) _ _ _ refl
+unfolding mayReassign andNotAtChecks indexChecks lengthChecks maskChecks spanChecks numbers among allAmong
+refusals (Present p) pBytes (Present r) rBytes t = refuses-by (andNotAtChecks (Present p) pBytes (Present r) rBytes t) _ _ _ refl
+refusals (Present p) pBytes Absent rBytes t = refuses-by (andNotAtChecks (Present p) pBytes Absent rBytes t) _ _ _ refl
+refusals Absent pBytes (Present r) rBytes t = refuses-by (andNotAtChecks Absent pBytes (Present r) rBytes t) _ _ _ refl
+refusals Absent pBytes Absent rBytes t = refuses-by (andNotAtChecks Absent pBytes Absent rBytes t) _ _ _ refl
 
 pub witnessed : Witnessed
-unfolding mayReassign reassignChecks commonChecks maskChecks spanChecks firstFailed earlier decided
+unfolding mayReassign andNotAtChecks indexChecks lengthChecks maskChecks spanChecks firstFailed earlier decided
 witnessed = record { first = refl; second = refl; permission = refl; revocation = refl }

@@ -17,7 +17,7 @@ use Rattle.words.specs.declared.ops.Op.the-variants.{And, AndNot, Or, OrNot, Xo
 use Rattle.words.proofs.Bytes.{flags-inj, flags-over}
 use Rattle.masks.specs.Answer.{Answer, given, refused, decided, kept}
 use Rattle.masks.specs.Checks.{Check, check, firstFailed, outputChecks}
-use Rattle.masks.specs.Combine.{shortcut, resultFlags, resultCount, hasShortcut, pairChecks, pairShortcut, pairEach}
+use Rattle.masks.specs.Combine.{shortcut, resultFlags, resultMask, resultCount, hasShortcut, pairChecks, pairShortcut, pairEach}
 use Rattle.masks.specs.Combine.{pairFlags, pairMask, pairOf, pairBytes, PairInLimit, eachOf, eachBytes, selectChecks}
 use Rattle.masks.specs.Frozen.{packed, frozen, frozenSize, overFrom}
 use Rattle.masks.specs.Mask.{maskOf, maskFlags, maskChecks, uncounted, zeroCount}
@@ -120,11 +120,12 @@ module _ (op : Op) (a : Bitmap) (aBytes : List ℕ) (b : Bitmap) (bBytes out : L
       let number = firstFailed (pairChecks a aBytes b bBytes (length out)) in
       (is-refused k number tt (pairMask op a aBytes b bBytes) e h, is-kept k number (over out (frozen (pairFlags op a aBytes b bBytes))) out e h)
 
-  pub pair-given : (by : Shortcut) (u : Unset) → k ≡ 0 → by ≡ pairShortcut op a aBytes b bBytes → u ≡ resultCount by (a .length)
-      → given (maskOf 0 (a .length) u) ≡ pairOf op a aBytes b bBytes out
+  pub pair-given : (by : Shortcut) (u : Unset) (m : Bitmap) → k ≡ 0 → by ≡ pairShortcut op a aBytes b bBytes → u ≡ resultCount by (a .length)
+      → m ≡ resultMask (a ∷ b ∷ []) (a .length) u → given m ≡ pairOf op a aBytes b bBytes out
   unfolding pairOf pairMask
-  pair-given by u z p q =
-      ap (λ (v : Unset). given (maskOf 0 (a .length) v)) (q ∙ ap (λ (s : Shortcut). resultCount s (a .length)) p)
+  pair-given by u m z p q made =
+      ap given made
+      ∙ ap (λ (v : Unset). given (resultMask (a ∷ b ∷ []) (a .length) v)) (q ∙ ap (λ (s : Shortcut). resultCount s (a .length)) p)
       ∙ is-given k (firstFailed (pairChecks a aBytes b bBytes (length out))) tt (pairMask op a aBytes b bBytes) e z
 
   pub pair-written : (by : Shortcut) (out′ : List ℕ) → k ≡ 0 → by ≡ pairShortcut op a aBytes b bBytes
@@ -146,11 +147,11 @@ module _ (cs : List Check) (masks : List Bitmap) (n : ℕ) (flags : List Bool) (
   unfolding eachOf eachBytes
   each-refused h = (is-refused k (firstFailed cs) tt (maskOf 0 n (uncounted n)) e h, is-kept k (firstFailed cs) (over out (frozen flags)) out e h)
 
-  pub each-given : (u : Unset) (out′ : List ℕ) (written : List Bool) → k ≡ 0 → u ≡ uncounted n → out′ ≡ over out (frozen written) → written ≡ flags
-      → (given (maskOf 0 n u) ≡ eachOf cs masks n) × (out′ ≡ eachBytes cs flags out)
+  pub each-given : (u : Unset) (m : Bitmap) (out′ : List ℕ) (written : List Bool) → k ≡ 0 → u ≡ uncounted n → m ≡ resultMask masks n u
+      → out′ ≡ over out (frozen written) → written ≡ flags → (given m ≡ eachOf cs masks n) × (out′ ≡ eachBytes cs flags out)
   unfolding eachOf eachBytes
-  each-given u out′ written z p q r = (
-    ap (λ (v : Unset). given (maskOf 0 n v)) p ∙ is-given k (firstFailed cs) tt (maskOf 0 n (uncounted n)) e z,
+  each-given u m out′ written z p made q r = (
+    ap given made ∙ ap (λ (v : Unset). given (resultMask masks n v)) p ∙ is-given k (firstFailed cs) tt (maskOf 0 n (uncounted n)) e z,
     q ∙ ap (λ (l : List Bool). over out (frozen l)) r ∙ is-new k (firstFailed cs) (over out (frozen flags)) out e z,
   )
 

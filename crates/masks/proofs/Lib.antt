@@ -1,7 +1,9 @@
 -- The laws of the crate, a file for each topic.
 pub mod Accepted
+pub mod AndNotFlag
 pub mod AnswerLaws
 pub mod AppendLaws
+pub mod AtIndexLaws
 pub mod BitmaskLaws
 pub mod CheckLaws
 pub mod ChunkLaws

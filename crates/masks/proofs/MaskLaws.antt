@@ -9,7 +9,7 @@ use lib.ListN.{length}
 use borrow.Author.Tests.{le-leb, lt-leb, leb-true, leb-false, eq-eqb, ne-eqb}
 use Rattle.masks.specs.Answer.{Answer, given, refused, decided}
 use Rattle.masks.specs.Checks.{Check, check, firstFailed, limit, withinLimit, spanChecks}
-use Rattle.masks.specs.Mask.{maskOf, cutZeros, slicedMask, sliceOf, sliceChecks, countValid, maskChecks, pieceChecks}
+use Rattle.masks.specs.Mask.{cutMask, cutZeros, slicedMask, sliceOf, sliceChecks, countValid, maskChecks, pieceChecks}
 use Rattle.masks.specs.Mask.{PieceAllowed, recounts, recountedOf, keptCount, slicedCount, recountValid, cutOf}
 use Rattle.masks.specs.declared.bitmap.Bitmap.{Bitmap}
 use Rattle.masks.specs.declared.bitmap.Cut.{Cut}
@@ -110,9 +110,9 @@ module _ (m : Bitmap) (bytes : List ℕ) (offset n k : ℕ) (piece : k ≡ first
       (slicedMask m bytes offset n) piece z (cut-wrong (m .length) n (cutZeros m bytes offset n) (m .unset) e)
 
   pub slice-right : (v : Unset) → k ≡ 0 → Cut.Count v ≡ cutOf (m .length) n (cutZeros m bytes offset n) (m .unset)
-      → given (maskOf (m .start + offset) n v) ≡ sliceOf m bytes offset n
+      → given (cutMask m (m .start + offset) n v) ≡ sliceOf m bytes offset n
   unfolding sliceOf sliceChecks
   slice-right v z e =
       let known = cut-right (m .length) n (cutZeros m bytes offset n) (m .unset) v e in
-      ap (λ (u : Unset). given (maskOf (m .start + offset) n u)) (known .1)
+      ap (λ (u : Unset). given (cutMask m (m .start + offset) n u)) (known .1)
       ∙ last-given (pieceChecks m bytes offset n) k 6 (recountValid (m .length) n (cutZeros m bytes offset n) (m .unset)) m (slicedMask m bytes offset n) piece z (known .0)

@@ -17,7 +17,7 @@ use Rattle.masks.specs.Answer.{kept}
 use Rattle.masks.specs.Checks.{Check, check, firstFailed, outputChecks}
 use Rattle.masks.specs.Combine.{pairBytes, pairChecks, pairEach, pairFlags, pairMask, pairShortcut, resultFlags, shortcut}
 use Rattle.masks.specs.Frozen.{frozen}
-use Rattle.masks.specs.Mask.{maskChecks, maskFlags}
+use Rattle.masks.specs.Mask.{cutMask, maskChecks, maskFlags}
 use Rattle.masks.specs.declared.bitmap.Bitmap.{Bitmap}
 use Rattle.masks.specs.declared.shortcuts.Shortcut.{Shortcut}
 use Rattle.masks.specs.declared.shortcuts.Shortcut.the-variants.{Each, All}
@@ -35,7 +35,7 @@ module _ (a : Bitmap) (aBytes : List ℕ) (b : Bitmap) (bBytes : List ℕ) (same
       let A = flagsOf aBytes in
       let B = flagsOf bBytes in
       let second : getD B (b .start + j) false ≡ getD (window B (b .start) (b .length)) j false = sym (at-in B (b .start) (b .length) j (omega arith)) in
-      ap (λ (n : ℕ). getD (pairEach op a aBytes (record { start = b .start; length = n; unset = b .unset }) bBytes) j false) (sym same)
+      ap (λ (n : ℕ). getD (pairEach op a aBytes (cutMask b (b .start) n (b .unset)) bBytes) j false) (sym same)
       ∙ at-zip-in (opOf op) A B B (a .start) (b .start) (b .start) (a .length) j h
       ∙ ap₂ (λ (x y : Bool). opOf op x y y) (sym (at-in A (a .start) (a .length) j h)) second
 

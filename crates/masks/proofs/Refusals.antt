@@ -14,6 +14,7 @@ use Rattle.masks.specs.Aligned.{alignedChecks, alignedOf}
 use Rattle.masks.specs.Answer.{Answer, given, refused, checked, kept, unlessEmpty}
 use Rattle.masks.specs.Appends.{Append, pushFlag, extendConstant, pushWord, extendSlice, extendRepeated, extendBitmap, extendGather, extendOptGather}
 use Rattle.masks.specs.Appends.{appendChecks, wordChecks, constantChecks, spanGrowChecks, innerChecks, subsliceChecks, gatherChecks}
+use Rattle.masks.specs.AtIndex.{andNotAtChecks, andNotAtOf, indexChecks, lengthChecks}
 use Rattle.masks.specs.Bitmask.{splitChecks, splitAt, windowAt}
 use Rattle.masks.specs.Builder.{builderChecks}
 use Rattle.masks.specs.Checks.{Check, rank, earlier, failure, firstFailed, spanChecks, addressChecks, outputChecks}
@@ -26,7 +27,7 @@ use Rattle.masks.specs.Iterator.{iterChecks, newIter, nthFlag, takeLeadi
 use Rattle.masks.specs.Mask.{maskChecks, zeroedChecks, pieceChecks, sliceChecks, tryNewOf, newZeroedOf, newZeroedBytes, unsetBitsOf, sliceOf}
 use Rattle.masks.specs.Refusals.{numbers, among, allAmong, Refuses, RefusesUnwritten, Refusals, mayGive, appendFamily}
 use Rattle.masks.specs.Refusals.{Family, addressed, spans, cursors, unmasked-cursors, splits, builders, pushed-words, span-appends, gathers}
-use Rattle.masks.specs.Refusals.{piece-appends, zeroed-masks, masks, slices, combinations, inversions, intersections, stated-masks, stated-lengths}
+use Rattle.masks.specs.Refusals.{piece-appends, zeroed-masks, masks, slices, combinations, inversions, intersections, indexed-pairs, indexed-masks, stated-masks, stated-lengths}
 use Rattle.masks.specs.Positions.{nextPositions, positionsOver}
 use Rattle.masks.specs.Search.{searchFrom, searchBack}
 use Rattle.masks.specs.SliceIterator.{runChecks, newSlices, nextSlice}
@@ -145,6 +146,8 @@ in-nine slices = refl
 in-nine combinations = refl
 in-nine inversions = refl
 in-nine intersections = refl
+in-nine indexed-pairs = refl
+in-nine indexed-masks = refl
 in-nine stated-masks = refl
 in-nine stated-lengths = refl
 
@@ -164,7 +167,7 @@ unfolding
     numbers allAmong among spanChecks addressChecks outputChecks alignedChecks cursorChecks splitChecks builderChecks
     maskChecks zeroedChecks pieceChecks sliceChecks pairChecks notChecks selectChecks commonChecks newTrueChecks trueChecks
     alignedOf spanCount newChunks nextChunk chunksRemainder splitAt windowAt searchFrom searchBack
-    newZeroedOf newZeroedBytes tryNewOf sliceOf unsetBitsOf pairOf pairBytes eachOf eachBytes eqOf edgesOf commonOf
+    newZeroedOf newZeroedBytes tryNewOf sliceOf unsetBitsOf pairOf pairBytes eachOf eachBytes eqOf edgesOf commonOf andNotAtOf andNotAtChecks indexChecks lengthChecks
     newSlices nextSlice newIter nthFlag takeLeading newTrue nextTrue nextPositions positionsOver
 refusals =
     record {
@@ -192,6 +195,10 @@ refusals =
       eq = λ a aBytes b bBytes. refuses-by (maskChecks a aBytes ++ maskChecks b bBytes) _ _ _ refl;
       edges = λ m bytes. refuses-by (maskChecks m bytes) _ _ _ refl;
       common = λ a aBytes b bBytes. refuses-by (commonChecks a aBytes b bBytes) _ _ _ refl;
+      and-not-at = λ a aBytes b bBytes i. refuses-by (andNotAtChecks (Present a) aBytes (Present b) bBytes i) _ _ _ refl;
+      and-not-at-first = λ a aBytes bBytes i. refuses-by (andNotAtChecks (Present a) aBytes Absent bBytes i) _ _ _ refl;
+      and-not-at-second = λ aBytes b bBytes i. refuses-by (andNotAtChecks Absent aBytes (Present b) bBytes i) _ _ _ refl;
+      and-not-at-none = λ aBytes bBytes i. refuses-by (andNotAtChecks Absent aBytes Absent bBytes i) _ _ _ refl;
       slices-new = λ m bytes. refuses-by (maskChecks m bytes) _ _ _ refl;
       slices-next = λ c bytes. refuses-by (runChecks c bytes) _ _ _ refl;
       iter-new = λ bytes start n. refuses-nonempty n _ _ _ _ (refuses-by (spanChecks start n (length bytes)) _ _ _ refl);

@@ -5,6 +5,7 @@ use Rattle.words.specs.Flags.{bits, count, flagsOf, window}
 use Rattle.masks.specs.Aligned.{alignedChecks, alignedOf}
 use Rattle.masks.specs.Answer.{decided, unlessEmpty}
 use Rattle.masks.specs.Appends.{allBelow, wordChecks, constantChecks, spanGrowChecks, innerChecks, subsliceChecks, gatherChecks}
+use Rattle.masks.specs.AtIndex.{andNotAtChecks, andNotAtOf, indexChecks, lengthChecks}
 use Rattle.masks.specs.Bitmask.{splitChecks, splitAt, windowAt}
 use Rattle.masks.specs.Builder.{builderChecks, possible}
 use Rattle.masks.specs.Checks.{earlier, firstFailed, spanChecks, addressChecks, outputChecks}
@@ -16,7 +17,7 @@ use Rattle.masks.specs.Iterator.{newIter, nthFlag, takeLeading}
 use Rattle.masks.specs.Mask.{cutZeros, recounts, maskChecks, zeroedChecks, pieceChecks, sliceChecks, tryNewOf, newZeroedOf, unsetBitsOf, sliceOf}
 use Rattle.masks.specs.Positions.{nextPositions}
 use Rattle.masks.specs.Refusals.{addressed, spans, cursors, unmasked-cursors, splits, builders, pushed-words, span-appends, gathers, piece-appends}
-use Rattle.masks.specs.Refusals.{zeroed-masks, masks, slices, combinations, inversions, intersections, stated-masks, stated-lengths}
+use Rattle.masks.specs.Refusals.{zeroed-masks, masks, slices, combinations, inversions, intersections, indexed-pairs, indexed-masks, stated-masks, stated-lengths}
 use Rattle.masks.specs.Search.{searchFrom, searchBack}
 use Rattle.masks.specs.SliceIterator.{newSlices, nextSlice}
 use Rattle.masks.specs.TrueIdx.{newTrueChecks, trueChecks, newTrue, nextTrue}
@@ -30,7 +31,7 @@ unfolding
     spanGrowChecks innerChecks subsliceChecks gatherChecks
     maskChecks zeroedChecks pieceChecks sliceChecks pairChecks notChecks selectChecks commonChecks newTrueChecks trueChecks
     alignedOf spanCount newChunks nextChunk chunksRemainder splitAt windowAt searchFrom searchBack
-    newZeroedOf tryNewOf sliceOf unsetBitsOf pairOf eachOf eqOf edgesOf commonOf
+    newZeroedOf tryNewOf sliceOf unsetBitsOf pairOf eachOf eqOf edgesOf commonOf andNotAtOf andNotAtChecks indexChecks lengthChecks
     newSlices nextSlice newIter nthFlag takeLeading newTrue nextTrue nextPositions
 witnessed addressed = refl
 witnessed spans = refl
@@ -48,5 +49,7 @@ witnessed slices = refl
 witnessed combinations = refl
 witnessed inversions = refl
 witnessed intersections = refl
+witnessed indexed-pairs = refl
+witnessed indexed-masks = refl
 witnessed stated-masks = refl
 witnessed stated-lengths = refl

@@ -17,6 +17,7 @@ use Rattle.words.specs.Ops.{zip3}
 use Rattle.masks.specs.Aligned.{alignedChecks, alignedOf, bulkOffset, bulkStart, prefixLength}
 use Rattle.masks.specs.Answer.{Answer, given, refused, decided, kept, unlessEmpty}
 use Rattle.masks.specs.Appends.{allBelow, constantChecks, gatherChecks, gathered, innerChecks, repeated, spanGrowChecks, subsliceChecks, wordChecks}
+use Rattle.masks.specs.AtIndex.{andNotAtChecks, andNotAtOf, andNotFlag, flagOr, indexChecks, lengthChecks}
 use Rattle.masks.specs.Bitmask.{splitAt, splitChecks, windowAt, windowWord}
 use Rattle.masks.specs.Builder.{appended, builderChecks, builderFlags, inProgress, possible}
 use Rattle.masks.specs.Checks.{addressChecks, earlier, firstFailed, outputChecks, spanChecks}
@@ -189,7 +190,7 @@ unfolding
     firstFailed earlier spanChecks outputChecks maskChecks zeroedChecks pieceChecks sliceChecks pairChecks notChecks selectChecks commonChecks
     decided kept zeroCount zeros cutZeros recounts keptCount packed frozen
     tryNewOf newZeroedOf newZeroedBytes sliceOf unsetBitsOf pairOf pairBytes pairMask pairFlags shortcut eachOf eachBytes
-    eqOf edgesOf edges commonOf
+    eqOf edgesOf edges commonOf andNotAtOf andNotAtChecks indexChecks lengthChecks andNotFlag flagOr
 masks-ruled-out =
     record {
       new = tried maskCode refl refl refl;
@@ -207,9 +208,17 @@ masks-ruled-out =
       not = tried combineCode refl refl refl;
       select = tried combineCode refl refl refl;
       select-constant = tried combineCode refl refl refl;
+      and-not-at = tried (plain flag) refl refl refl;
+      and-not-at-second = tried (plain flag) refl refl refl;
+      and-not-at-none = tried (plain flag) refl refl refl;
+      and-not-at-refused = tried (plain flag) refl refl refl;
       eq = tried (plain flag) refl refl refl;
       num-edges = tried (plain number) refl refl refl;
       num-intersections-with = tried (plain number) refl refl refl;
+      earlier-number = tried number refl refl refl;
+      span-failure = tried number refl refl refl;
+      mask-failure = tried number refl refl refl;
+      frozen-failure = tried number refl refl refl;
     }
 
 pub cursors-ruled-out : WrongCursors

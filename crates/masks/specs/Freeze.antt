@@ -10,6 +10,7 @@ use Rattle.masks.specs.Answer.{Answer, given, refused, checked, kept}
 use Rattle.masks.specs.Builder.{filling, builderFlags, builderChecks}
 use Rattle.masks.specs.Checks.{Check, firstFailed}
 use Rattle.masks.specs.Frozen.{frozen}
+use Rattle.masks.specs.Mask.{maskOf}
 use Rattle.masks.specs.declared.bitmap.Bitmap.{Bitmap}
 use Rattle.masks.specs.declared.bitmap.Unset.the-variants.{Known}
 use Rattle.masks.specs.declared.builder.BitmapBuilder.{BitmapBuilder}
@@ -23,7 +24,7 @@ abbrev pub allOnes : BitmapBuilder → ℕ
 allOnes b = b .ones + count (wordFlags (b .word))
 
 abbrev pub frozenMask : BitmapBuilder → Bitmap
-frozenMask b = record { start = 0; length = b .length; unset = Known (b .length - allOnes b) }
+frozenMask b = maskOf 0 (b .length) (Known (b .length - allOnes b))
 
 -- no mask exactly when the ones equal the length
 abbrev pub validityOf : BitmapBuilder → Option Bitmap
@@ -47,9 +48,9 @@ intoOptValidityOf b bytes = checked (freezeChecks b (length bytes)) b (validityO
 abbrev pub freezeBytes : BitmapBuilder → List ℕ → List ℕ
 freezeBytes b bytes = kept (firstFailed (freezeChecks b (length bytes))) (frozenOver b bytes) bytes
 
-abbrev pub madeAnswer : Made → Answer BitmapBuilder Bitmap
-madeAnswer (Made·Mask m) = given m
-madeAnswer (Made·Refused n b) = refused n b
+abbrev pub freezeAnswer : Made → Answer BitmapBuilder Bitmap
+freezeAnswer (Made·Mask m) = given m
+freezeAnswer (Made·Refused n b) = refused n b
 
 abbrev pub validityAnswer : Validity → Answer BitmapBuilder (Option Bitmap)
 validityAnswer (Validity·Mask m) = given (some m)

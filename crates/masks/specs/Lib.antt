@@ -2,6 +2,7 @@
 pub mod Aligned
 pub mod Answer
 pub mod Appends
+pub mod AtIndex
 pub mod Bitmask
 pub mod Builder
 pub mod Checks

@@ -22,6 +22,14 @@ use Rattle.masks.specs.declared.bitmap.Unset.the-variants.{Known, Unknow
 abbrev pub maskOf : ℕ → ℕ → Unset → Bitmap
 maskOf start n unset = record { start = start; length = n; unset = unset }
 
+-- the same mask cut to the n flags of its bytes from `start` on, with their count: what else a mask has it keeps
+abbrev pub cutMask : Bitmap → ℕ → ℕ → Unset → Bitmap
+cutMask m start n unset = maskOf start n unset
+
+-- the same mask with another count
+abbrev pub withCount : Bitmap → Unset → Bitmap
+withCount m unset = cutMask m (m .start) (m .length) unset
+
 -- the flags of a mask in its bytes
 abbrev pub maskFlags : Bitmap → List ℕ → List Bool
 maskFlags m bytes = stretch bytes (m .start) (m .length)
@@ -86,7 +94,7 @@ countingAnswer (Counting.Refused k m) = refused k m
 unfoldable pub unsetBitsOf : Bitmap → List ℕ → Answer Bitmap Recounted
 unsetBitsOf m bytes =
     checked (maskChecks m bytes) m
-    (record { mask = maskOf (m .start) (m .length) (Known (zeroCount m bytes)); zeros = zeroCount m bytes })
+    (record { mask = withCount m (Known (zeroCount m bytes)); zeros = zeroCount m bytes })
 
 -- ---- slice
 
@@ -133,7 +141,7 @@ sliceChecks m bytes offset n =
     ++ (check 7 (recountValid (m .length) n (cutZeros m bytes offset n) (m .unset)) ∷ [])
 
 abbrev pub slicedMask : Bitmap → List ℕ → ℕ → ℕ → Bitmap
-slicedMask m bytes offset n = maskOf (m .start + offset) n (slicedCount (m .length) n (cutZeros m bytes offset n) (m .unset))
+slicedMask m bytes offset n = cutMask m (m .start + offset) n (slicedCount (m .length) n (cutZeros m bytes offset n) (m .unset))
 
 abbrev pub slicedAnswer : Sliced → Answer Bitmap Bitmap
 slicedAnswer (Sliced.Mask m) = given m

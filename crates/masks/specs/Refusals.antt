@@ -13,6 +13,7 @@ use Rattle.masks.specs.Aligned.{alignedOf}
 use Rattle.masks.specs.Answer.{Answer, refused}
 use Rattle.masks.specs.Appends.{Append, pushFlag, extendConstant, pushWord, extendSlice, extendRepeated}
 use Rattle.masks.specs.Appends.{extendBitmap, extendGather, extendOptGather, appendAnswer, appendBytes}
+use Rattle.masks.specs.AtIndex.{andNotAtOf}
 use Rattle.masks.specs.Bitmask.{splitAt, windowAt}
 use Rattle.masks.specs.Checks.{Check}
 use Rattle.masks.specs.Chunks.{newChunks, nextChunk, chunksRemainder}
@@ -78,6 +79,8 @@ pub data Family : Type 0 where
   combinations : Family
   inversions : Family
   intersections : Family
+  indexed-pairs : Family
+  indexed-masks : Family
   stated-masks : Family
   stated-lengths : Family
 
@@ -117,6 +120,9 @@ mayGive combinations = 1 ∷ 2 ∷ 3 ∷ 5 ∷ 9 ∷ []
 mayGive inversions = 1 ∷ 2 ∷ 3 ∷ 9 ∷ []
 -- `num_intersections_with`
 mayGive intersections = 1 ∷ 2 ∷ 3 ∷ 5 ∷ []
+-- `and_not_at` of two masks, and of one
+mayGive indexed-pairs = 1 ∷ 2 ∷ 3 ∷ 5 ∷ 6 ∷ []
+mayGive indexed-masks = 1 ∷ 2 ∷ 3 ∷ 6 ∷ []
 -- `TrueIdxIter::new` of a mask, and of none
 mayGive stated-masks = 1 ∷ 2 ∷ 3 ∷ 5 ∷ []
 mayGive stated-lengths = 1 ∷ []
@@ -165,6 +171,12 @@ pub record Refusals : Type 0 where
   pub eq : (a : Bitmap) (aBytes : List ℕ) (b : Bitmap) (bBytes : List ℕ) → Refuses (mayGive masks) tt (eqOf a aBytes b bBytes)
   pub edges : (m : Bitmap) (bytes : List ℕ) → Refuses (mayGive masks) tt (edgesOf m bytes)
   pub common : (a : Bitmap) (aBytes : List ℕ) (b : Bitmap) (bBytes : List ℕ) → Refuses (mayGive intersections) tt (commonOf a aBytes b bBytes)
+  pub and-not-at : (a : Bitmap) (aBytes : List ℕ) (b : Bitmap) (bBytes : List ℕ) (i : ℕ)
+      → Refuses (mayGive indexed-pairs) tt (andNotAtOf (Present a) aBytes (Present b) bBytes i)
+  pub and-not-at-first : (a : Bitmap) (aBytes bBytes : List ℕ) (i : ℕ) → Refuses (mayGive indexed-masks) tt (andNotAtOf (Present a) aBytes Absent bBytes i)
+  pub and-not-at-second : (aBytes : List ℕ) (b : Bitmap) (bBytes : List ℕ) (i : ℕ) → Refuses (mayGive indexed-masks) tt (andNotAtOf Absent aBytes (Present b) bBytes i)
+  -- of no mask nothing is asked
+  pub and-not-at-none : (aBytes bBytes : List ℕ) (i : ℕ) → Refuses [] tt (andNotAtOf Absent aBytes Absent bBytes i)
   -- cursors
   pub slices-new : (m : Bitmap) (bytes : List ℕ) → Refuses (mayGive masks) tt (newSlices m bytes)
   pub slices-next : (c : SlicesIterator) (bytes : List ℕ) → Refuses (mayGive cursors) c (nextSlice c bytes)

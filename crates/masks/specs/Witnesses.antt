@@ -13,6 +13,7 @@ use Rattle.words.specs.declared.ops.Op.{Op}
 use Rattle.masks.specs.Aligned.{alignedOf}
 use Rattle.masks.specs.Answer.{Answer, given, refused}
 use Rattle.masks.specs.Appends.{Append, pushFlag, extendConstant, pushWord, extendSlice, extendRepeated, extendBitmap, extendGather, extendOptGather, appendAnswer}
+use Rattle.masks.specs.AtIndex.{andNotAtOf}
 use Rattle.masks.specs.Bitmask.{splitAt, windowAt}
 use Rattle.masks.specs.Builder.{builderOf, newBuilder}
 use Rattle.masks.specs.Chunks.{chunksAt, newChunks, nextChunk, chunksRemainder}
@@ -23,13 +24,14 @@ use Rattle.masks.specs.Iterator.{iterAt, newIter, nthFlag, takeLeading}
 use Rattle.masks.specs.Mask.{maskOf, tryNewOf, newZeroedOf, unsetBitsOf, sliceOf}
 use Rattle.masks.specs.Refusals.{mayGive}
 use Rattle.masks.specs.Refusals.{Family, addressed, spans, cursors, unmasked-cursors, splits, builders, pushed-words, span-appends, gathers}
-use Rattle.masks.specs.Refusals.{piece-appends, zeroed-masks, masks, slices, combinations, inversions, intersections, stated-masks, stated-lengths}
+use Rattle.masks.specs.Refusals.{piece-appends, zeroed-masks, masks, slices, combinations, inversions, intersections, indexed-pairs, indexed-masks, stated-masks, stated-lengths}
 use Rattle.masks.specs.Search.{searchFrom, searchBack}
 use Rattle.masks.specs.SliceIterator.{slicesAt, newSlices, nextSlice}
 use Rattle.masks.specs.Positions.{nextPositions}
 use Rattle.masks.specs.TrueIdx.{trueAt, newTrue, nextTrue}
 use Rattle.masks.specs.Utils.{spanCount, zeros}
 use Rattle.masks.specs.declared.bitmap.Bitmap.{Bitmap}
+use Rattle.masks.specs.declared.bitmap.Optional.{Optional}
 use Rattle.masks.specs.declared.bitmap.Optional.the-variants.{Present, Absent}
 use Rattle.masks.specs.declared.bitmap.Unset.the-variants.{Known, Unknown}
 use Rattle.masks.specs.declared.builder.BitmapBuilder.{BitmapBuilder}
@@ -111,6 +113,10 @@ selectNumber m out = numberOf (selectOf whole byte whole byte m byte out)
 
 abbrev pub selectConstantNumber : Bitmap → List ℕ → ℕ
 selectConstantNumber m out = numberOf (selectConstantOf whole byte m byte false out)
+
+-- the number of `and_not` at an index of masks over the byte
+abbrev pub atNumber : Optional → Optional → ℕ → ℕ
+atNumber first second i = numberOf (andNotAtOf first byte second byte i)
 
 -- ---- the table: for each call a list, what its definition gives at one input for each number of its family
 
@@ -227,6 +233,16 @@ witnesses inversions =
 witnesses intersections =
     -- `num_intersections_with`
     (atMasks (λ m. numberOf (commonOf whole byte m byte)) ++ (numberOf (commonOf whole byte shorter byte) ∷ []))
+    ∷ []
+witnesses indexed-pairs =
+    -- `and_not_at` of two masks, where the first is refused and where the second is
+    (atMasks (λ m. atNumber (Present m) (Present whole) 0) ++ (atNumber (Present shorter) (Present whole) 0 ∷ atNumber (Present whole) (Present whole) 8 ∷ []))
+    ∷ (atMasks (λ m. atNumber (Present whole) (Present m) 0) ++ (atNumber (Present whole) (Present shorter) 0 ∷ atNumber (Present whole) (Present whole) 8 ∷ []))
+    ∷ []
+witnesses indexed-masks =
+    -- `and_not_at` of the first mask alone, and of the second
+    (atMasks (λ m. atNumber (Present m) Absent 0) ++ (atNumber (Present whole) Absent 8 ∷ []))
+    ∷ (atMasks (λ m. atNumber Absent (Present m) 0) ++ (atNumber Absent (Present whole) 8 ∷ []))
     ∷ []
 witnesses stated-masks =
     -- `TrueIdxIter::new`

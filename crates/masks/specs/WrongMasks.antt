@@ -8,12 +8,15 @@ use lib.ListN.{replicate}
 pub use Rattle.words.specs.WrongAnswers.{Tried}
 use Rattle.words.specs.declared.ops.Op.{Op}
 use Rattle.masks.specs.Answer.{Answer, given, refused}
+use Rattle.masks.specs.AtIndex.{andNotAtOf}
+use Rattle.masks.specs.Checks.{earlier, firstFailed, outputChecks, spanChecks}
 use Rattle.masks.specs.Combine.{And, AndNot, Or, OrNot, Xor, pairOf, pairBytes, notOf, notBytes, selectOf, selectBytes, selectConstantOf, selectConstantBytes}
 use Rattle.masks.specs.Compare.{eqOf, edgesOf, commonOf}
 use Rattle.masks.specs.Examples.{first, lent}
-use Rattle.masks.specs.Mask.{maskOf, emptyMask, tryNewOf, newZeroedOf, newZeroedBytes, Recounted, unsetBitsOf, sliceOf}
+use Rattle.masks.specs.Mask.{maskChecks, maskOf, emptyMask, tryNewOf, newZeroedOf, newZeroedBytes, Recounted, unsetBitsOf, sliceOf}
 use Rattle.masks.specs.WrongSpans.{two}
 use Rattle.masks.specs.declared.bitmap.Bitmap.{Bitmap}
+use Rattle.masks.specs.declared.bitmap.Optional.the-variants.{Present, Absent}
 use Rattle.masks.specs.declared.bitmap.Unset.{Unset}
 use Rattle.masks.specs.declared.bitmap.Unset.the-variants.{Known, Unknown}
 
@@ -167,6 +170,34 @@ pub record WrongMasks : Type 0 where
       (four Unknown (first 0x01))
       -- the constant past the end
       (four Unknown (0xFD ∷ replicate 7 0xFF))
+  -- `and_not_at` of index 0
+  pub and-not-at : Tried (andNotAtOf (Present left) leftBytes (Present right) rightBytes 0)
+      (given false)
+      -- the second mask's start ignored
+      (given true)
+      -- indices counted from 1
+      (refused 6 tt)
+  -- `and_not_at` of index 2 with no first mask
+  pub and-not-at-second : Tried (andNotAtOf Absent [] (Present right) rightBytes 2)
+      (given false)
+      -- the second mask not inverted
+      (given true)
+      -- the bytes of the absent mask tested
+      (refused 2 tt)
+  -- `and_not_at` of index 9 with no mask
+  pub and-not-at-none : Tried (andNotAtOf Absent [] Absent [] 9)
+      (given true)
+      -- an absent first mask taken for zeros
+      (given false)
+      -- the index held to the length of no mask
+      (refused 6 tt)
+  -- `and_not_at` of index 4
+  pub and-not-at-refused : Tried (andNotAtOf (Present left) leftBytes (Present right) rightBytes 4)
+      (refused 6 tt)
+      -- the flags behind the end read
+      (given false)
+      -- lengths compared with the index
+      (refused 5 tt)
   -- `eq` of the first 4 flags and the first 3
   pub eq : Tried (eqOf left leftBytes (maskOf 0 3 Unknown) leftBytes)
       (given false)
@@ -188,3 +219,31 @@ pub record WrongMasks : Type 0 where
       (given 3)
       -- the right mask's start ignored
       (given 0)
+  -- `earlier` of the numbers 3 and 2
+  pub earlier-number : Tried (earlier 3 2)
+      2
+      -- the one that stands first
+      3
+      -- none where both failed
+      0
+  -- `span_failure` of 7 flags from the flag 2 on, in one byte
+  pub span-failure : Tried (firstFailed (spanChecks 2 7 1))
+      2
+      -- the start not added
+      0
+      -- the number of a length over the limit
+      1
+  -- `mask_failure` of 8 flags in one byte with a count of 9
+  pub mask-failure : Tried (firstFailed (maskChecks (maskOf 0 8 (Known 9)) (0x2D ∷ [])))
+      3
+      -- the count not looked at
+      0
+      -- the count taken for a length
+      2
+  -- `frozen_failure` of 65 flags in 15 bytes
+  pub frozen-failure : Tried (firstFailed (outputChecks 65 15))
+      9
+      -- held to whole bytes, not to whole words
+      0
+      -- the number of bytes that are read
+      2

@@ -7,8 +7,8 @@ ghost use lib.ListN.{length};
 ghost use Rattle.words.specs.Loops.{stretch};
 ghost use Rattle.masks.specs.Checks.{firstFailed};
 ghost use Rattle.masks.specs.Utils.{zeros};
-ghost use Rattle.masks.specs.Mask.{cutOf, cutZeros, countingAnswer, emptyMask, keptCount, madeAnswer, pieceChecks, recountedOf, recounts as Mask·recounts};
-ghost use Rattle.masks.specs.Mask.{newZeroedBytes, newZeroedOf, PieceAllowed, slicedAnswer, sliceOf, tryNewOf, uncounted, unsetBitsOf, zeroCount};
+ghost use Rattle.masks.specs.Mask.{cutMask, cutOf, cutZeros, countingAnswer, emptyMask, keptCount, madeAnswer, maskOf, pieceChecks, recountedOf, recounts as Mask·recounts};
+ghost use Rattle.masks.specs.Mask.{newZeroedBytes, newZeroedOf, PieceAllowed, slicedAnswer, sliceOf, tryNewOf, uncounted, unsetBitsOf, withCount, zeroCount};
 use crate::checks::earlier;
 use crate::checks::failed;
 use crate::checks::frozen_failure;
@@ -49,7 +49,7 @@ pub enum Counting {
 }
 
 // The count of a slice, or that the known count cannot be true of it.
-pub enum Cut {
+enum Cut {
     Count(Unset),
     Wrong,
 }
@@ -68,11 +68,7 @@ impl Bitmap {
     pub fn new() -> Self
         ensures { λ r. ⌜ r ≡ emptyMask ⌝ }
     {
-        Bitmap {
-            start: 0,
-            length: 0,
-            unset: Unset::Known(0),
-        }
+        mask_of(0, 0, Unset::Known(0))
     }
 
     // A mask of so many zeros, frozen over the front of out.
@@ -86,11 +82,7 @@ impl Bitmap {
             return Made::Refused(refusal);
         }
         fill_frozen(false, length, out);
-        Made::Mask(Bitmap {
-            start: 0,
-            length: length,
-            unset: Unset::Known(length),
-        })
+        Made::Mask(mask_of(0, length, Unset::Known(length)))
     }
 
     // A mask over lent bytes, its zeros not counted yet.
@@ -102,11 +94,7 @@ impl Bitmap {
             return Made::Refused(refusal);
         }
         let unset = not_counted(length);
-        Made::Mask(Bitmap {
-            start: start,
-            length: length,
-            unset: unset,
-        })
+        Made::Mask(mask_of(start, length, unset))
     }
 
     // The zeros of the mask, and the mask with its count known.
@@ -118,14 +106,7 @@ impl Bitmap {
             return Counting::Refused(refusal, self);
         }
         let zeros = zero_count(self, bytes);
-        Counting::Zeros(
-            zeros,
-            Bitmap {
-                start: self.start,
-                length: self.length,
-                unset: Unset::Known(zeros),
-            },
-        )
+        Counting::Zeros(zeros, with_count(self, Unset::Known(zeros)))
     }
 
     // The piece of `length` flags from `offset` on.
@@ -140,13 +121,38 @@ impl Bitmap {
         let cut = cut_count(self, bytes, offset, length);
         match cut {
             Cut::Wrong => Sliced::Refused(7, self),
-            Cut::Count(unset) => Sliced::Mask(Bitmap {
-                start: start,
-                length: length,
-                unset: unset,
-            }),
+            Cut::Count(unset) => Sliced::Mask(cut_mask(self, start, length, unset)),
         }
     }
+}
+
+// A mask that is made of no other one.
+pub(crate) fn mask_of(start: usize, length: usize, unset: Unset) -> Bitmap
+    ensures { λ r. ⌜ r ≡ maskOf start length unset ⌝ }
+{
+    Bitmap {
+        start: start,
+        length: length,
+        unset: unset,
+    }
+}
+
+// The same mask cut to the flags of its bytes from `start` on, with their count: a further field of the record is taken along here.
+fn cut_mask(mask: Bitmap, start: usize, length: usize, unset: Unset) -> Bitmap
+    ensures { λ r. ⌜ r ≡ cutMask mask start length unset ⌝ }
+{
+    Bitmap {
+        start: start,
+        length: length,
+        unset: unset,
+    }
+}
+
+// The same mask with another count.
+fn with_count(mask: Bitmap, unset: Unset) -> Bitmap
+    ensures { λ r. ⌜ r ≡ withCount mask unset ⌝ }
+{
+    cut_mask(mask, mask.start, mask.length, unset)
 }
 
 // Known as 0 where there are no flags, else unknown.

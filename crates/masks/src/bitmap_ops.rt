@@ -4,7 +4,10 @@ ghost use Rattle.words.specs.declared.ops.Op.the-variants.{And, AndNot, Or, OrN
 ghost use Rattle.masks.specs.Checks.{firstFailed};
 ghost use Rattle.masks.specs.Combine.{combinedAnswer, pairBytes, pairChecks, pairOf, notBytes, notChecks, notOf, selectBytes, selectChecks, selectConstantBytes};
 ghost use Rattle.masks.specs.Combine.{selectConstantOf, selectOf};
+ghost use Rattle.masks.specs.Mask.{maskOf};
 use crate::bitmap::Bitmap;
+use crate::bitmap::Unset;
+use crate::bitmap::mask_of;
 use crate::bitmap::not_counted;
 use crate::checks::earlier;
 use crate::checks::failed;
@@ -21,6 +24,13 @@ use words::ops::Op;
 pub enum Combined {
     Mask(Bitmap),
     Refused(u8),
+}
+
+// The record of a result of n flags, made here alone, as `resultMask` has it: of the masks combined it takes nothing yet.
+fn result_mask(n: usize, unset: Unset) -> Bitmap
+    ensures { λ r. ⌜ r ≡ maskOf 0 n unset ⌝ }
+{
+    mask_of(0, n, unset)
 }
 
 fn pair_failure(lhs: Bitmap, left: &[u8], rhs: Bitmap, right: &[u8], size: usize) -> u8
@@ -53,11 +63,7 @@ fn combine_two(
     let n = lhs.length;
     write_result(by, op, left, lhs.start, right, rhs.start, n, out);
     let unset = result_count(by, n);
-    Combined::Mask(Bitmap {
-        start: 0,
-        length: n,
-        unset: unset,
-    })
+    Combined::Mask(result_mask(n, unset))
 }
 
 // Flags set in both masks.
@@ -120,11 +126,7 @@ pub fn not(mask: Bitmap, bytes: &[u8], out: &mut [u8]) -> Combined
     let start = mask.start;
     combine_frozen(Op::Not, bytes, start, bytes, start, bytes, start, n, out);
     let unset = not_counted(n);
-    Combined::Mask(Bitmap {
-        start: 0,
-        length: n,
-        unset: unset,
-    })
+    Combined::Mask(result_mask(n, unset))
 }
 
 fn select_failure(
@@ -179,11 +181,7 @@ pub fn select(
         out,
     );
     let unset = not_counted(n);
-    Combined::Mask(Bitmap {
-        start: 0,
-        length: n,
-        unset: unset,
-    })
+    Combined::Mask(result_mask(n, unset))
 }
 
 // The second mask's flag where the first's is set, else the constant.
@@ -205,9 +203,5 @@ pub fn select_constant(
     let n = selector.length;
     select_frozen(by, selector.start, yes, truthy.start, flag, n, out);
     let unset = not_counted(n);
-    Combined::Mask(Bitmap {
-        start: 0,
-        length: n,
-        unset: unset,
-    })
+    Combined::Mask(result_mask(n, unset))
 }

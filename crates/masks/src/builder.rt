@@ -5,10 +5,11 @@ ghost use Prim.Native.Nat.{ℕ, _≤_, _-_};
 ghost use lib.ListN.{length, take};
 ghost use Rattle.words.specs.Flags.{wordFlags};
 ghost use Rattle.masks.specs.Appends.{pushedAnswer, appendAnswer, appendBytes, changeAnswer, pushFlag, pushWord};
-ghost use Rattle.masks.specs.Builder.{Inside, Room, newBuilder, filling, appended};
-ghost use Rattle.masks.specs.Freeze.{allOnes, frozenMask, freezeBytes, freezeOf, frozenOver, intoOptValidityOf, madeAnswer, validityAnswer};
+ghost use Rattle.masks.specs.Builder.{grown as Builder·grown, Inside, Room, newBuilder, filling, appended};
+ghost use Rattle.masks.specs.Freeze.{allOnes, frozenMask, freezeBytes, freezeOf, frozenOver, intoOptValidityOf, freezeAnswer, validityAnswer};
 use crate::bitmap::Bitmap;
 use crate::bitmap::Unset;
+use crate::bitmap::mask_of;
 use crate::checks::builder_failure;
 use crate::checks::earlier;
 use crate::checks::word_failure;
@@ -93,7 +94,7 @@ impl BitmapBuilder {
 
     // Writes the word in progress, and gives the mask of all flags.
     pub fn freeze(self, buf: &mut [u8]) -> Made
-        ensures answer { λ r. ⌜ madeAnswer r ≡ freezeOf self (now (buf .entry)) ⌝ }
+        ensures answer { λ r. ⌜ freezeAnswer r ≡ freezeOf self (now (buf .entry)) ⌝ }
         ensures bytes { λ _. ⌜ now (buf .exit) ≡ freezeBytes self (now (buf .entry)) ⌝ }
     {
         let refusal = builder_failure(self, 0, buf.len());
@@ -156,6 +157,17 @@ fn push_change(b: BitmapBuilder, buf: &mut [u8], flag: bool) -> Change
     }
 }
 
+// The same builder with another length, word and ones: a further field of the record is taken along here.
+pub(crate) fn grown(b: BitmapBuilder, length: usize, word: u64, ones: usize) -> BitmapBuilder
+    ensures { λ r. ⌜ r ≡ Builder·grown b length word ones ⌝ }
+{
+    BitmapBuilder {
+        length: length,
+        word: word,
+        ones: ones,
+    }
+}
+
 // Appends the k flags of a word, for which the word in progress has room: no byte is written, and no flag has to be cut off.
 pub(crate) fn push_inside(b: BitmapBuilder, flags: u64, k: usize) -> BitmapBuilder
     requires { ⌜ Inside b flags k ⌝ }
@@ -163,11 +175,7 @@ pub(crate) fn push_inside(b: BitmapBuilder, flags: u64, k: usize) -> BitmapBuild
 {
     let low = or_word(b.word, up(flags, b.length % 64));
     let longer = b.length + k;
-    BitmapBuilder {
-        length: longer,
-        word: low,
-        ones: b.ones,
-    }
+    grown(b, longer, low, b.ones)
 }
 
 // Appends the first k flags of a word: they go behind those in progress, and a full word is written.
@@ -185,11 +193,7 @@ pub(crate) fn push_flags(b: BitmapBuilder, buf: &mut [u8], word: u64, k: usize) 
     store_whole(buf, 8 * (b.length / 64), low);
     let ones = b.ones + ones_in_word(low);
     let rest = down(flags, 64 - fill);
-    BitmapBuilder {
-        length: longer,
-        word: rest,
-        ones: ones,
-    }
+    grown(b, longer, rest, ones)
 }
 
 // Writes the word in progress behind the finished ones.
@@ -215,9 +219,5 @@ fn frozen_mask(b: BitmapBuilder) -> Bitmap
     ensures { λ r. ⌜ r ≡ frozenMask b ⌝ }
 {
     let zeros = b.length - all_ones(b);
-    Bitmap {
-        start: 0,
-        length: b.length,
-        unset: Unset::Known(zeros),
-    }
+    mask_of(0, b.length, Unset::Known(zeros))
 }

@@ -1,4 +1,5 @@
-// The checks that the calls share, and how a call puts them together: a number is 0 where nothing failed.
+// The checks that the calls share, and how a call puts them together: a number is 0 where nothing failed. Those that crates above
+// masks put their own checks together from are public.
 ghost use mathlib.Core.Path.{_≡_};
 ghost use mathlib.Core.Bool.{cond, _&&_};
 ghost use mathlib.Core.List.{[], _∷_, _++_};
@@ -15,7 +16,7 @@ use crate::builder::BitmapBuilder;
 use words::counts::none_from;
 
 // Of two numbers the one that is put first.
-pub(crate) fn earlier(a: u8, b: u8) -> u8
+pub fn earlier(a: u8, b: u8) -> u8
     ensures { λ r. ⌜ r ≡ Checks·earlier a b ⌝ }
 {
     if a == 0 {
@@ -54,8 +55,8 @@ fn in_bytes(start: usize, length: usize, size: usize) -> bool
     (start + length + 7) / 8 <= size
 }
 
-// Numbers of any size: those over the limit get 1 before they are added.
-pub(crate) fn span_failure(start: usize, length: usize, size: usize) -> u8
+// Checks 1 and 2 of a span over so many bytes. Numbers of any size: those over the limit get 1 before they are added.
+pub fn span_failure(start: usize, length: usize, size: usize) -> u8
     ensures { λ r. ⌜ r ≡ firstFailed (spanChecks start length size) ⌝ }
 {
     if both(within_limit(start), within_limit(length)) {
@@ -80,7 +81,8 @@ fn count_fits(unset: Unset, length: usize) -> bool
     }
 }
 
-pub(crate) fn mask_failure(mask: Bitmap, bytes: &[u8]) -> u8
+// Checks 1 to 3 of a mask.
+pub fn mask_failure(mask: Bitmap, bytes: &[u8]) -> u8
     ensures { λ r. ⌜ r ≡ firstFailed (maskChecks mask (now (bytes .entry))) ⌝ }
 {
     let unset = mask.unset;
@@ -97,8 +99,8 @@ pub(crate) fn sum_at_most(a: usize, b: usize, c: usize) -> bool
     if a <= c { b <= c - a } else { false }
 }
 
-// Does an output of so many bytes hold the frozen bytes of n flags.
-pub(crate) fn frozen_failure(n: usize, size: usize) -> u8
+// Check 9: does an output of so many bytes hold the frozen bytes of n flags.
+pub fn frozen_failure(n: usize, size: usize) -> u8
     ensures { λ r. ⌜ r ≡ firstFailed (outputChecks n size) ⌝ }
 {
     failed(9, n / 64 + (n % 64 + 63) / 64 <= size / 8)

@@ -13,6 +13,7 @@ use crate::bitmap::Bitmap;
 use crate::builder::BitmapBuilder;
 use crate::builder::Pushed;
 use crate::builder::copied;
+use crate::builder::grown;
 use crate::builder::push_flags;
 use crate::builder::push_inside;
 use crate::checks::builder_failure;
@@ -154,11 +155,7 @@ fn close_word(b: BitmapBuilder, buf: &mut [u8], word: u64) -> BitmapBuilder
     let longer = b.length + (64 - fill);
     store_whole(buf, 8 * (b.length / 64), low);
     let ones = b.ones + ones_in_word(low);
-    BitmapBuilder {
-        length: longer,
-        word: 0,
-        ones: ones,
-    }
+    grown(b, longer, 0, ones)
 }
 
 fn ones_of(flag: bool, n: usize) -> usize
@@ -177,11 +174,7 @@ fn fill_words(b: BitmapBuilder, buf: &mut [u8], whole: usize, flag: bool) -> Bit
     let ones = b.ones + ones_of(flag, n);
     let at = 8 * (b.length / 64);
     fill_whole(flag, whole, &mut buf[at..]);
-    BitmapBuilder {
-        length: longer,
-        word: 0,
-        ones: ones,
-    }
+    grown(b, longer, 0, ones)
 }
 
 // The last word, of at least a flag, is read by itself: so there is a byte behind each word of the loop over whole ones.
@@ -224,9 +217,5 @@ fn copy_words(
     let longer = b.length + n;
     let at = 8 * (b.length / 64);
     let ones = b.ones + copy_count(bytes, start, n, &mut buf[at..]);
-    BitmapBuilder {
-        length: longer,
-        word: 0,
-        ones: ones,
-    }
+    grown(b, longer, 0, ones)
 }

@@ -3,11 +3,12 @@
 // Every call answers on every input: it makes document 01's checks (checks.rt) in their order and gives back the number of the
 // first that fails, with the state it got. Nothing is written before the last check has passed.
 pub mod aligned;
+pub mod at_index;
 pub mod bitmap;
 pub mod bitmap_ops;
 pub mod bitmask;
 pub mod builder;
-mod checks;
+pub mod checks;
 pub mod chunks;
 pub mod compare;
 mod cursor;

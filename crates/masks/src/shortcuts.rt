@@ -9,7 +9,7 @@ use crate::bitmap::zero_count;
 use words::ops::Op;
 
 // What the counts say of a result: nothing, or that all its flags are the same.
-pub enum Shortcut {
+pub(crate) enum Shortcut {
     Each,
     All(bool),
 }

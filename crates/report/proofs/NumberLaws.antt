@@ -2,6 +2,7 @@
 use mathlib.Core.Path.{_≡_, refl, sym, ap, _∙_}
 use mathlib.Core.Bool.{Bool, true, false, cond}
 use mathlib.Core.List.{List}
+use mathlib.Core.Option.{Option, none, some}
 use Prim.Native.Nat.{ℕ, suc, _+_, _*_, _≤_, _<_}
 use native.Mathlib.Omega.{arith}
 use lib.Dec.{ltb}
@@ -10,7 +11,7 @@ use borrow.Author.Tests.{ltb-true}
 use Rattle.words.specs.Flags.{flagsOf, window}
 use Rattle.words.proofs.Bytes.{length-flags}
 use Rattle.words.proofs.Windows.{length-window, window-all}
-use Rattle.masks.specs.Answer.{Answer, given, refused}
+use Rattle.masks.specs.Answer.{given, refused}
 use Rattle.masks.specs.Checks.{firstFailed}
 use Rattle.masks.specs.Compare.{edges}
 use Rattle.masks.specs.Cursor.{item, ended}
@@ -40,13 +41,13 @@ whole-accepted bytes n h e = sym (mask-accepted (maskOf 0 n Unknown) bytes (omeg
 
 -- ---- the two answers
 
-pub too-long : (bytes : List ℕ) → most < length bytes → refused 1 tt ≡ reportOf bytes
+pub too-long : (bytes : List ℕ) → most < length bytes → none ≡ reportOf bytes
 unfolding reportOf
-too-long bytes h = when-gt (length bytes) most (given (numbersOf (flagsOf bytes))) (refused 1 tt) h
+too-long bytes h = when-gt (length bytes) most (some (numbersOf (flagsOf bytes))) none h
 
 pub numbers-given : (bytes : List ℕ) (n z e r : ℕ) → length bytes ≤ most → n ≡ 8 * length bytes → z ≡ zeroCount (maskOf 0 n Unknown) bytes
     → e ≡ edges (maskFlags (maskOf 0 n Unknown) bytes) → r ≡ length (runsFrom 0 (maskFlags (maskOf 0 n Unknown) bytes))
-    → given (record { flags = n; zeros = z; edges = e; runs = r }) ≡ reportOf bytes
+    → some (record { flags = n; zeros = z; edges = e; runs = r }) ≡ reportOf bytes
 unfolding reportOf zeroCount
 numbers-given bytes n z e r h size p q s =
     let flags = whole-flags bytes n size in
@@ -54,10 +55,10 @@ numbers-given bytes n z e r h size p q s =
     let zero : z ≡ zeros (flagsOf bytes) = p ∙ ap zeros flags in
     let edge : e ≡ edges (flagsOf bytes) = q ∙ ap edges flags in
     let run : r ≡ length (runsFrom 0 (flagsOf bytes)) = s ∙ ap (λ (l : List Bool). length (runsFrom 0 l)) flags in
-    same-numbers count zero edge run ∙ when-le (length bytes) most (given (numbersOf (flagsOf bytes))) (refused 1 tt) h
+    same-numbers count zero edge run ∙ when-le (length bytes) most (some (numbersOf (flagsOf bytes))) none h
   where
     same-numbers : {n n′ z z′ e e′ r r′ : ℕ} → n ≡ n′ → z ≡ z′ → e ≡ e′ → r ≡ r′
-        → _≡_ {A = Answer (Unit {0}) Numbers} (given (record { flags = n; zeros = z; edges = e; runs = r })) (given (record { flags = n′; zeros = z′; edges = e′; runs = r′ }))
+        → _≡_ {A = Option Numbers} (some (record { flags = n; zeros = z; edges = e; runs = r })) (some (record { flags = n′; zeros = z′; edges = e′; runs = r′ }))
     same-numbers a b c d = cc
 
 -- ---- a cursor that has come to a place

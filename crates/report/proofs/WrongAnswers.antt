@@ -3,7 +3,7 @@ use mathlib.Core.Path.{refl}
 use mathlib.Core.Bool.{xor}
 use mathlib.Core.List.{[], _∷_}
 use Rattle.words.specs.Flags.{bits, count, flagsOf}
-use Rattle.masks.proofs.WrongAnswers.{sameCode, tried, Code, plain}
+use Rattle.masks.proofs.WrongAnswers.{sameCode, tried, Code, option}
 use Rattle.masks.specs.Compare.{edges}
 use Rattle.masks.specs.SliceIterator.{runsFrom, withOne}
 use Rattle.masks.specs.Utils.{zeros}
@@ -16,4 +16,4 @@ numbersCode n = n .flags ∷ n .zeros ∷ n .edges ∷ n .runs ∷ []
 
 pub ruled-out : WrongAnswers
 unfolding sameCode bits count flagsOf zeros edges xor runsFrom withOne reportOf
-ruled-out = record { one-byte = tried (plain numbersCode) refl refl refl }
+ruled-out = record { one-byte = tried (option numbersCode) refl refl refl }

@@ -2,16 +2,16 @@
 use Prim.Native.Nat.{ℕ}
 use mathlib.Core.Bool.{Bool, cond}
 use mathlib.Core.List.{List}
+use mathlib.Core.Option.{Option, none, some}
 use lib.Dec.{leb}
 use lib.ListN.{length}
 use Rattle.words.specs.Flags.{flagsOf}
-use Rattle.masks.specs.Answer.{Answer, given, refused}
 use Rattle.masks.specs.Compare.{edges}
 use Rattle.masks.specs.SliceIterator.{runsFrom}
 use Rattle.masks.specs.Utils.{zeros}
 use Rattle.report.specs.declared.numbers.Numbers.{Numbers}
 use Rattle.report.specs.declared.numbers.Reported.{Reported}
-use Rattle.report.specs.declared.numbers.Reported.the-variants.{Of, Refused}
+use Rattle.report.specs.declared.numbers.Reported.the-variants.{Of, TooLong}
 
 -- how many flags, zeros, neighbours that differ, and runs of ones
 abbrev pub numbersOf : List Bool → Numbers
@@ -21,10 +21,10 @@ numbersOf l = record { flags = length l; zeros = zeros l; edges = edges l; runs 
 abbrev pub most : ℕ
 most = 65536
 
-abbrev pub reportedAnswer : Reported → Answer (Unit {0}) Numbers
-reportedAnswer (Of n) = given n
-reportedAnswer (Refused k) = refused k tt
+abbrev pub reportedAnswer : Reported → Option Numbers
+reportedAnswer (Of n) = some n
+reportedAnswer TooLong = none
 
--- More bytes are refused with 1: the program's own limit, and the number of no check.
-unfoldable pub reportOf : List ℕ → Answer (Unit {0}) Numbers
-reportOf bytes = cond (leb (length bytes) most) (given (numbersOf (flagsOf bytes))) (refused 1 tt)
+-- Of more bytes there is no report: this limit is the report's own, and no check has its number.
+unfoldable pub reportOf : List ℕ → Option Numbers
+reportOf bytes = cond (leb (length bytes) most) (some (numbersOf (flagsOf bytes))) none

@@ -3,8 +3,8 @@
 -- A row as in `WrongAnswers` of words: the definition at one input, what it gives, and two answers of a faulty call.
 use Prim.Native.Nat.{ℕ}
 use mathlib.Core.List.{List, [], _∷_}
+use mathlib.Core.Option.{some}
 use Rattle.words.specs.WrongAnswers.{Tried}
-use Rattle.masks.specs.Answer.{given}
 use Rattle.report.specs.Numbers.{reportOf}
 use Rattle.report.specs.declared.numbers.Numbers.{Numbers}
 
@@ -14,8 +14,8 @@ fourOf flags zeros edges runs = record { flags = flags; zeros = zeros; edges = e
 pub record WrongAnswers : Type 0 where
   -- `report` of the flags 1,0,1,1,0,0,0,0
   pub one-byte : Tried (reportOf (0x0D ∷ []))
-      (given (fourOf 8 5 3 2))
+      (some (fourOf 8 5 3 2))
       -- ones given as zeros
-      (given (fourOf 8 3 3 2))
+      (some (fourOf 8 3 3 2))
       -- runs given as edges
-      (given (fourOf 8 5 2 2))
+      (some (fourOf 8 5 2 2))

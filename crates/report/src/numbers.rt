@@ -21,10 +21,10 @@ pub struct Numbers {
     pub runs: usize,
 }
 
-// The numbers, or that there are more bytes than a report takes.
+// The numbers, or that there are more bytes than a report takes: its own limit, which has no number.
 pub enum Reported {
     Of(Numbers),
-    Refused(u8),
+    TooLong,
 }
 
 // How many flags there are, how many are zero, how many differ from the next one, and how many runs of ones they have.
@@ -32,7 +32,7 @@ pub fn report(bytes: &[u8]) -> Reported
     ensures { λ r. ⌜ reportedAnswer r ≡ reportOf (now (bytes .entry)) ⌝ }
 {
     if bytes.len() > 65536 {
-        return Reported::Refused(1);
+        return Reported::TooLong;
     }
     let flags = 8 * bytes.len();
     let mask = Bitmap {

@@ -72,11 +72,11 @@ fn read_to_end(buf: &mut [u8]) -> Input
     }
 }
 
-// Whether all was written; the first write that fails is the last.
+// Whether all was written; the first write that fails is the last. Longer input is told as `refused=1`, which stands here alone.
 fn print(r: Reported) -> bool {
     match r {
         Reported::Of(numbers) => lines(numbers),
-        Reported::Refused(number) => line(b"refused=", wide(number)),
+        Reported::TooLong => line(b"refused=", 1),
     }
 }
 
@@ -85,10 +85,6 @@ fn lines(n: Numbers) -> bool {
         && line(b"zeros=", big(n.zeros))
         && line(b"edges=", big(n.edges))
         && line(b"runs=", big(n.runs))
-}
-
-fn wide(x: u8) -> u64 {
-    x as u64
 }
 
 fn big(n: usize) -> u64 {

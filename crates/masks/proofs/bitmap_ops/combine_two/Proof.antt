@@ -23,11 +23,15 @@ result-count-requires c κs = search needs
 same-length : tie.Need-same-length
 same-length c = search needs
 
+result-mask-requires : tie.Need-result-mask-requires
+result-mask-requires c κs = search needs
+
 returns-2 : tie.Need-returns-2
 returns-2 c =
-    let write = c .before .before .before in
+    let d = c .before in
+    let write = d .before .before .before in
     let by = write .before .before in (
-      pair-given _ _ _ _ _ _ _ (by .before .before .pair-failure .ensures) _ _ (by .before .if1 .left) (by .pair-shortcut .ensures) (c .result-count .ensures),
+      pair-given _ _ _ _ _ _ _ (by .before .before .pair-failure .ensures) _ _ _ (by .before .if1 .left) (by .pair-shortcut .ensures) (d .result-count .ensures) (c .result-mask .ensures),
       pair-written _ _ _ _ _ _ _ (by .before .before .pair-failure .ensures) _ _ (by .before .if1 .left) (by .pair-shortcut .ensures) (write .write-result .ensures),
     )
 
@@ -40,5 +44,6 @@ combine-two-spec =
     pair-shortcut-requires
     write-result-requires
     result-count-requires
+    result-mask-requires
     same-length
     returns-2)

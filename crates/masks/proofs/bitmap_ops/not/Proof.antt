@@ -19,11 +19,15 @@ not-counted-requires c κs = search needs
 same-length : tie.Need-same-length
 same-length c = search needs
 
+result-mask-requires : tie.Need-result-mask-requires
+result-mask-requires c κs = search needs
+
 returns-2 : tie.Need-returns-2
 returns-2 c =
-    let write = c .before .before .before in
+    let d = c .before in
+    let write = d .before .before .before in
     let known = write .before .before in
-    each-given _ _ _ _ _ _ (known .before .not-failure .ensures) _ _ _ (known .if1 .left) (c .not-counted .ensures) (write .combine-frozen .ensures) (not-each _ _ _)
+    each-given _ _ _ _ _ _ (known .before .not-failure .ensures) _ _ _ _ (known .if1 .left) (d .not-counted .ensures) (c .result-mask .ensures) (write .combine-frozen .ensures) (not-each _ _ _)
 
 pub not-spec : {M : Type 1} → statement M
 not-spec =
@@ -33,5 +37,6 @@ not-spec =
     returns
     combine-frozen-requires
     not-counted-requires
+    result-mask-requires
     same-length
     returns-2)

@@ -20,11 +20,15 @@ not-counted-requires c κs = search needs
 same-length : tie.Need-same-length
 same-length c = search needs
 
+result-mask-requires : tie.Need-result-mask-requires
+result-mask-requires c κs = search needs
+
 returns-2 : tie.Need-returns-2
 returns-2 c =
-    let write = c .before .before .before in
+    let d = c .before in
+    let write = d .before .before .before in
     let known = write .before .before in
-    each-given _ _ _ _ _ _ (known .before .pair-failure .ensures) _ _ _ (known .if1 .left) (c .not-counted .ensures) (write .select-frozen .ensures)
+    each-given _ _ _ _ _ _ (known .before .pair-failure .ensures) _ _ _ _ (known .if1 .left) (d .not-counted .ensures) (c .result-mask .ensures) (write .select-frozen .ensures)
     (constant-length _ _ _ _ _ _ _ (pair-lengths _ _ _ _ _ (sym (known .before .pair-failure .ensures) ∙ known .if1 .left)))
 
 pub select-constant-spec : {M : Type 1} → statement M
@@ -35,5 +39,6 @@ select-constant-spec =
     returns
     select-frozen-requires
     not-counted-requires
+    result-mask-requires
     same-length
     returns-2)

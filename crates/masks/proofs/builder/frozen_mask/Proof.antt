@@ -1,4 +1,5 @@
 -- The definition's record, with the ones that `all_ones` ensures.
+use mathlib.Core.Path.{_∙_}
 use borrow.Author.Needs.{needs}
 use Rattle.masks.proofs.builder.frozen_mask.Statement.{statement}
 use Rattle.masks.proofs.builder.frozen_mask.Tie as tie
@@ -9,8 +10,11 @@ all-ones-requires c κs = search needs
 sub-zeros : tie.Need-sub-zeros
 sub-zeros c = search needs
 
+mask-of-requires : tie.Need-mask-of-requires
+mask-of-requires c κs = search needs
+
 returns : tie.Need-returns
-returns c = rw (c .before .all-ones .ensures)
+returns c = c .mask-of .ensures ∙ rw (c .before .before .all-ones .ensures)
 
 pub frozen-mask-spec : {M : Type 1} → statement M
-frozen-mask-spec = tie.close (tie.spec all-ones-requires sub-zeros returns)
+frozen-mask-spec = tie.close (tie.spec all-ones-requires sub-zeros mask-of-requires returns)

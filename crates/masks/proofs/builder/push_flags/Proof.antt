@@ -7,7 +7,7 @@ use Rattle.words.proofs.Bits.{length-bits}
 use Rattle.masks.specs.Builder.{appended}
 use Rattle.masks.proofs.InsideLaws.{front-padded, inside-padded}
 use Rattle.masks.proofs.PartLaws.{length-low}
-use Rattle.masks.proofs.PushLaws.{or-merged, push-full}
+use Rattle.masks.proofs.PushLaws.{grown-way, or-merged, push-full}
 use Rattle.masks.proofs.RoomLaws.{word-stored}
 use borrow.Author.Needs.{needs}
 use Rattle.masks.proofs.builder.push_flags.Statement.{statement}
@@ -66,18 +66,23 @@ down-requires c κs = search needs
 same-length : tie.Need-same-length
 same-length c = search needs
 
+grown-requires : tie.Need-grown-requires
+grown-requires c κs = search needs
+
 returns-2 : tie.Need-returns-2
 returns-2 c =
-    let put = c .before .before .before .before .before in
+    let d = c .before in
+    let put = d .before .before .before .before .before in
     let m = put .before .before .before .before in
     let t = m .before .before in
     let f = t .before in
     let known = f .before .before in
     let s = known .before in
-    push-full _ (s .args .buf .now) _ _ _ _ (s .pre .0) (f .low-flags .ensures) (or-merged (s .args .b) _ _ _ (s .pre .1 .low) (m .before .up .ensures) (m .or-word .ensures)) _ _ _
-    (t .if1 .left) (c .down .ok) (c .down .ensures) (c .before .before .ones-in-word .ensures)
-    (λ i. known .slice-known .given i .fits) (λ i. c .before .before .before .slice-known2 .given i .fits)
-    (word-stored _ _ _ _ _ _ (s .pre .1) (omega (arith, t .if1 .left)) (put .store-whole .ensures))
+    grown-way _ _ _ _ (c .grown .ensures)
+    (push-full _ (s .args .buf .now) _ _ _ _ (s .pre .0) (f .low-flags .ensures) (or-merged (s .args .b) _ _ _ (s .pre .1 .low) (m .before .up .ensures) (m .or-word .ensures)) _ _ _
+    (t .if1 .left) (d .down .ok) (d .down .ensures) (d .before .before .ones-in-word .ensures)
+    (λ i. known .slice-known .given i .fits) (λ i. d .before .before .before .slice-known2 .given i .fits)
+    (word-stored _ _ _ _ _ _ (s .pre .1) (omega (arith, t .if1 .left)) (put .store-whole .ensures)))
 
 pub push-flags-spec : {M : Type 1} → statement M
 push-flags-spec =
@@ -96,5 +101,6 @@ push-flags-spec =
     add-ones
     sub-down
     down-requires
+    grown-requires
     same-length
     returns-2)

@@ -4,7 +4,7 @@ use native.Mathlib.Omega.{arith}
 use Rattle.words.proofs.Bits.{length-bits}
 use Rattle.words.proofs.Counting.{count-le}
 use Rattle.masks.proofs.ExtendLaws.{push-closed}
-use Rattle.masks.proofs.PushLaws.{or-merged}
+use Rattle.masks.proofs.PushLaws.{grown-way, or-merged}
 use Rattle.masks.proofs.RoomLaws.{word-stored}
 use borrow.Author.Needs.{needs}
 use Rattle.masks.proofs.extend.close_word.Statement.{statement}
@@ -42,15 +42,20 @@ add-ones c =
 same-length : tie.Need-same-length
 same-length c = search needs
 
+grown-requires : tie.Need-grown-requires
+grown-requires c κs = search needs
+
 returns : tie.Need-returns
 returns c =
-    let put = c .before .before .before .before in
+    let d = c .before in
+    let put = d .before .before .before .before in
     let m = put .before .before .before .before in
     let known = m .before .before .before in
     let s = known .before in
-    push-closed _ (s .args .buf .now) _ _ _ _ (or-merged (s .args .b) _ _ _ (s .pre .low) (m .before .up .ensures) (m .or-word .ensures)) (c .before .ones-in-word .ensures)
-    (λ i. known .slice-known .given i .fits) (λ i. c .before .before .slice-known2 .given i .fits)
-    (word-stored _ _ _ _ _ _ (s .pre) (omega arith) (put .store-whole .ensures))
+    grown-way _ _ _ _ (c .grown .ensures)
+    (push-closed _ (s .args .buf .now) _ _ _ _ (or-merged (s .args .b) _ _ _ (s .pre .low) (m .before .up .ensures) (m .or-word .ensures)) (d .before .ones-in-word .ensures)
+    (λ i. known .slice-known .given i .fits) (λ i. d .before .before .slice-known2 .given i .fits)
+    (word-stored _ _ _ _ _ _ (s .pre) (omega arith) (put .store-whole .ensures)))
 
 pub close-word-spec : {M : Type 1} → statement M
 close-word-spec =
@@ -64,5 +69,6 @@ close-word-spec =
     store-whole-requires
     ones-in-word-requires
     add-ones
+    grown-requires
     same-length
     returns)

@@ -5,6 +5,7 @@ use native.Mathlib.Omega.{arith}
 use Rattle.words.proofs.Bytes.{over-from}
 use Rattle.words.proofs.Windows.{length-window}
 use Rattle.masks.proofs.ExtendLaws.{append-whole}
+use Rattle.masks.proofs.PushLaws.{grown-way}
 use borrow.Author.Needs.{needs}
 use Rattle.masks.proofs.extend.copy_words.Statement.{statement}
 use Rattle.masks.proofs.extend.copy_words.Tie as tie
@@ -41,12 +42,17 @@ add-ones c =
 same-length : tie.Need-same-length
 same-length c = search needs
 
+grown-requires : tie.Need-grown-requires
+grown-requires c κs = search needs
+
 returns : tie.Need-returns
 returns c =
-    let did = c .before .before .before in
+    let d = c .before in
+    let did = d .before .before .before in
     let s = did .before .before .before .before .before .before in
-    append-whole _ (s .args .buf .now) _ (s .args .whole) _ _ (s .pre .0) (length-window _ _ _) (did .copy-count .ensures .0)
-    (λ i. did .before .before .before .before .before .slice-known .given i .fits) (λ i. c .before .slice-known2 .given i .fits) (over-from _ _ _ _ (did .copy-count .ensures .1))
+    grown-way _ _ _ _ (c .grown .ensures)
+    (append-whole _ (s .args .buf .now) _ (s .args .whole) _ _ (s .pre .0) (length-window _ _ _) (did .copy-count .ensures .0)
+    (λ i. did .before .before .before .before .before .slice-known .given i .fits) (λ i. d .before .slice-known2 .given i .fits) (over-from _ _ _ _ (did .copy-count .ensures .1)))
 
 pub copy-words-spec : {M : Type 1} → statement M
 copy-words-spec =
@@ -60,5 +66,6 @@ copy-words-spec =
     part-copy-count-end
     copy-count-requires
     add-ones
+    grown-requires
     same-length
     returns)

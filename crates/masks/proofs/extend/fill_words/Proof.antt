@@ -5,6 +5,7 @@ use Rattle.words.proofs.Bytes.{over-from}
 use Rattle.words.proofs.Counting.{count-copies}
 use Rattle.words.proofs.Windows.{length-copies}
 use Rattle.masks.proofs.ExtendLaws.{append-whole, words-filled}
+use Rattle.masks.proofs.PushLaws.{grown-way}
 use borrow.Author.Needs.{needs}
 use Rattle.masks.proofs.extend.fill_words.Statement.{statement}
 use Rattle.masks.proofs.extend.fill_words.Tie as tie
@@ -42,12 +43,17 @@ fill-whole-requires c κs = search needs
 same-length : tie.Need-same-length
 same-length c = search needs
 
+grown-requires : tie.Need-grown-requires
+grown-requires c κs = search needs
+
 returns : tie.Need-returns
 returns c =
-    let did = c .before .before in
+    let d = c .before in
+    let did = d .before .before in
     let s = did .before .before .before .before .before .before .before in
-    append-whole _ (s .args .buf .now) _ (s .args .whole) _ _ (s .pre .0) (length-copies _ _) (did .before .before .before .before .ones-of .ensures .0 ∙ sym (count-copies _ _))
-    (λ i. did .before .before .before .before .before .before .slice-known .given i .fits) (λ i. c .slice-known2 .given i .fits) (over-from _ _ _ _ (words-filled _ _ (s .args .whole) _ _ (omega arith) (did .fill-whole .ensures)))
+    grown-way _ _ _ _ (c .grown .ensures)
+    (append-whole _ (s .args .buf .now) _ (s .args .whole) _ _ (s .pre .0) (length-copies _ _) (did .before .before .before .before .ones-of .ensures .0 ∙ sym (count-copies _ _))
+    (λ i. did .before .before .before .before .before .before .slice-known .given i .fits) (λ i. d .slice-known2 .given i .fits) (over-from _ _ _ _ (words-filled _ _ (s .args .whole) _ _ (omega arith) (did .fill-whole .ensures))))
 
 pub fill-words-spec : {M : Type 1} → statement M
 fill-words-spec =
@@ -62,5 +68,6 @@ fill-words-spec =
     part-fill-whole-start
     part-fill-whole-end
     fill-whole-requires
+    grown-requires
     same-length
     returns)

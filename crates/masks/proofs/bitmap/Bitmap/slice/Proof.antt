@@ -28,6 +28,9 @@ enum-told c = search needs
 enum-known-cut : tie.Need-enum-known-cut
 enum-known-cut c = search needs
 
+cut-mask-requires : tie.Need-cut-mask-requires
+cut-mask-requires c κs = search needs
+
 returns-2 : tie.Need-returns-2
 returns-2 c =
     let cut = c .before .before in
@@ -36,9 +39,10 @@ returns-2 c =
 
 returns-3 : tie.Need-returns-3
 returns-3 c =
-    let cut = c .before .before .before in
+    let cut = c .before .before .before .before in
     let piece = cut .before .before .before in
-    slice-right _ _ _ _ _ (piece .piece-failure .ensures) _ (cut .before .before .if1 .left) (sym (c .before .cut .given .1) ∙ cut .cut-count .ensures)
+    ap given (c .cut-mask .ensures)
+    ∙ slice-right _ _ _ _ _ (piece .piece-failure .ensures) _ (cut .before .before .if1 .left) (sym (c .before .before .cut .given .1) ∙ cut .cut-count .ensures)
 
 pub slice-spec : {M : Type 1} → statement M
 slice-spec =
@@ -50,5 +54,6 @@ slice-spec =
     cut-count-requires
     enum-told
     enum-known-cut
+    cut-mask-requires
     returns-2
     returns-3)

@@ -17,9 +17,14 @@ returns c = is-refused _ _ _ _ (c .before .span-failure .ensures) (c .if1 .taken
 not-counted-requires : tie.Need-not-counted-requires
 not-counted-requires c κs = search needs
 
+mask-of-requires : tie.Need-mask-of-requires
+mask-of-requires c κs = search needs
+
 returns-2 : tie.Need-returns-2
 unfolding tryNewOf
-returns-2 c = rw (c .not-counted .ensures) (is-given _ _ _ _ (c .before .before .span-failure .ensures) (c .before .if1 .left))
+returns-2 c =
+    let e = c .before .before in
+    ap given (c .mask-of .ensures) ∙ rw (c .before .not-counted .ensures) (is-given _ _ _ _ (e .before .span-failure .ensures) (e .if1 .left))
 
 pub try-new-spec : {M : Type 1} → statement M
-try-new-spec = tie.close (tie.spec span-failure-requires returns not-counted-requires returns-2)
+try-new-spec = tie.close (tie.spec span-failure-requires returns not-counted-requires mask-of-requires returns-2)

@@ -1,5 +1,6 @@
 -- The number of the mask's checks decides; where all have passed, the span is within the limit (`mask-allowed`), as `zero_count` asks.
 use mathlib.Core.Path.{sym, ap, _∙_}
+use Rattle.masks.specs.declared.bitmap.Bitmap.{Bitmap}
 use Rattle.masks.specs.Answer.{given}
 use Rattle.masks.specs.Mask.{unsetBitsOf, maskOf, Recounted}
 use Rattle.masks.proofs.CheckLaws.{is-refused, is-given}
@@ -18,9 +19,15 @@ returns c = is-refused _ _ _ _ (c .before .mask-failure .ensures) (c .if1 .taken
 zero-count-requires : tie.Need-zero-count-requires
 zero-count-requires c κs = let a = mask-allowed _ _ (sym (c .before .mask-failure .ensures) ∙ c .if1 .left) in (a .starts, a .short)
 
+with-count-requires : tie.Need-with-count-requires
+with-count-requires c κs = search needs
+
 returns-2 : tie.Need-returns-2
 unfolding unsetBitsOf
-returns-2 c = rw (c .zero-count .ensures) (is-given _ _ _ _ (c .before .before .mask-failure .ensures) (c .before .if1 .left))
+returns-2 c =
+    let e = c .before .before in
+    ap (λ (m : Bitmap). given (record { mask = m; zeros = c .before .zero-count .result })) (c .with-count .ensures)
+    ∙ rw (c .before .zero-count .ensures) (is-given _ _ _ _ (e .before .mask-failure .ensures) (e .if1 .left))
 
 pub unset-bits-spec : {M : Type 1} → statement M
-unset-bits-spec = tie.close (tie.spec mask-failure-requires returns zero-count-requires returns-2)
+unset-bits-spec = tie.close (tie.spec mask-failure-requires returns zero-count-requires with-count-requires returns-2)
