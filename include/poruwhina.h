@@ -1,5 +1,4 @@
-/* The calls of Poruwhina for C, x86-64 only: link target/staticlib/libcapi.a. tests/declarations.py holds this file to the exports of
- * crates/capi.
+/* The calls of Poruwhina for C, x86-64 only: link target/staticlib/libporuwhina.a, which bindings/library makes.
  *
  * Flag j of a buffer is bit j mod 8 of byte j div 8, least significant bit first; a word is 64 flags, little-endian. A span is a start
  * bit and a length in flags over a buffer. The frozen bytes of n flags are 8 * ceil(n / 64) bytes with zero bits from n on.
@@ -9,7 +8,8 @@
  * freed, and there is no state between calls: a record goes in and comes back by value, and any numbers in it are allowed. A builder and
  * a cursor go in as their numbers, which are quicker to hand from call to call than a record. Each call tests its arguments and answers
  * in `refusal` 0, or one of the numbers listed for it; it has then written nothing. Where several tests fail, the answer is the one that
- * stands first in 1, 2, 3, 4, 5, 6, 7, 8, 9. */
+ * stands first in 1, 2, 3, 4, 5, 6, 7, 8, 9. On refusal a record in the answer is the very one that the call got, where it got one of that
+ * kind and gives it back; every other field is 0. */
 #ifndef PORUWHINA_H
 #define PORUWHINA_H
 
@@ -47,26 +47,12 @@ extern "C" {
 #define PW_REFUSED_ADDRESS_REMAINDER 8
 /* The output, the builder's buffer included, is below 8 * ceil(new length / 64) bytes. */
 #define PW_REFUSED_OUTPUT_TOO_SMALL 9
-/* There is no operation or count of that number. It is given before any other. */
-#define PW_REFUSED_NO_SUCH_OPERATION 255
 
-/* The operations of pw_combine. */
-#define PW_AND 0
-#define PW_AND_NOT 1
-#define PW_OR 2
-#define PW_OR_NOT 3
-#define PW_XOR 4
-
-/* The counts of pw_count. */
-#define PW_COUNT_ZEROS 0
-#define PW_LEADING_ZEROS 1
-#define PW_LEADING_ONES 2
-#define PW_TRAILING_ZEROS 3
-#define PW_TRAILING_ONES 4
+/* ---- written by tests/declarations.py from crates/capi: change it there */
 
 /* ---- records */
 
-/* A mask: a span of its buffer and its zero count. The count is read where `known` is not 0; an unknown one is given as 0. */
+/* A mask: a span of its bytes and its zero count. The count is read where `known` is not 0; an unknown one is given as 0. */
 typedef struct {
     size_t start;
     size_t length;
@@ -90,55 +76,58 @@ typedef struct {
     uint8_t masked;
 } pw_cursor;
 
-/* In each answer `refusal` is 0 or the number of the refusal. On refusal a record in it is the one that the call got, where it got one
- * of that kind and gives it back; every other field is 0. */
-
+/* A number. */
 typedef struct {
     uint8_t refusal;
     size_t value;
 } pw_number;
 
+/* A flag, or yes and no. */
 typedef struct {
     uint8_t refusal;
     bool value;
 } pw_flag;
 
-/* `value` is read where `found`. */
+/* A position, where `found`. */
 typedef struct {
     uint8_t refusal;
     bool found;
     size_t value;
 } pw_position;
 
+/* A mask. */
 typedef struct {
     uint8_t refusal;
     pw_mask mask;
 } pw_mask_answer;
 
-/* There is a mask where `present`; without one all flags are set. */
+/* A mask, where `present`; without one all flags are set. */
 typedef struct {
     uint8_t refusal;
     bool present;
     pw_mask mask;
 } pw_validity_answer;
 
+/* The zeros of a mask, and the mask. */
 typedef struct {
     uint8_t refusal;
     size_t zeros;
     pw_mask mask;
 } pw_zeros_answer;
 
+/* The builder to go on with. */
 typedef struct {
     uint8_t refusal;
     pw_builder builder;
 } pw_builder_answer;
 
+/* A new cursor. */
 typedef struct {
     uint8_t refusal;
     pw_cursor cursor;
 } pw_cursor_answer;
 
-/* What a cursor gives where `found`, and the place at which the cursor then stands; start and length stay. `value` is a word, a run's
+/* What a cursor gives where `found`, and the place at which it then stands; its start and length stay. `value` is a word, a run's
  * start, a flag as 0 or 1, or a position; `count` is a run's length, the flags of a remainder, the flags taken or the positions
  * written. */
 typedef struct {
@@ -149,7 +138,7 @@ typedef struct {
     size_t place;
 } pw_step_answer;
 
-/* Lengths in flags; `bulk_start` is a byte of the buffer, `bulk_len` a number of words. */
+/* A span cut in three: lengths in flags, `bulk_start` as a byte of the buffer, `bulk_len` as a number of words. */
 typedef struct {
     uint8_t refusal;
     uint64_t prefix;
@@ -160,6 +149,7 @@ typedef struct {
     size_t suffix_len;
 } pw_split_answer;
 
+/* Two spans. */
 typedef struct {
     uint8_t refusal;
     size_t first_start;
@@ -168,7 +158,7 @@ typedef struct {
     size_t second_length;
 } pw_spans_answer;
 
-/* ---- words: nothing is refused */
+/* ---- The calls of words. Nothing is refused. */
 
 /* The first eight bytes as a word, absent ones zero. */
 uint64_t pw_load_padded_le_u64(const uint8_t *part, size_t part_len);
@@ -176,181 +166,256 @@ uint64_t pw_load_padded_le_u64(const uint8_t *part, size_t part_len);
 /* The flags of `current` from `offset` on, then the low flags of `next`; `current` at offset 0 and from 64 on. */
 uint64_t pw_merge_reversed(uint64_t current, uint64_t next, size_t offset);
 
-/* The position of set bit n of a word, counted from 0; not found where at most n are set. */
+/* The position of set bit n of a word, counted from 0; not found where at most n are set. Refuses nothing. */
 pw_position pw_nth_set_bit_u64(uint64_t w, uint64_t n);
+
+/* The position of set bit n of a word of 32 bits, counted from 0; not found where at most n are set. Refuses nothing. */
 pw_position pw_nth_set_bit_u32(uint32_t w, uint32_t n);
 
-/* ---- spans. With length 0 pw_aligned_new and pw_count answer 0 before any test, save for a count that there is none of. */
+/* ---- The calls over bare spans, which are the aligned split, the counts, a span cut in two and a window. */
 
 /* The span cut in a prefix, whole words at addresses divisible by 8, and a suffix. `address` is the remainder by 8 of the address of
- * bytes[0]. Refuses with 1, 2, 8. */
+ * the first byte. With length 0 all is 0, before any test. Refuses with 1, 2, 8; every other field is then 0. */
 pw_split_answer pw_aligned_new(const uint8_t *bytes, size_t bytes_len, size_t start, size_t length, size_t address);
 
-/* How many of the span's flags are zero, whatever `address` is: PW_COUNT_ZEROS by itself. Refuses with 1, 2, 8. */
+/* How many flags of a span are zero, whatever `address` is. With length 0 it is 0, before any test. Refuses with 1, 2, 8; every other
+ * field is then 0. */
 pw_number pw_count_zeros(const uint8_t *bytes, size_t bytes_len, size_t start, size_t length, size_t address);
 
-/* The count `what` of the span's flags (PW_COUNT_ZEROS ..), whatever `address` is. Refuses with 255, 1, 2, 8. */
-pw_number pw_count(uint8_t what, const uint8_t *bytes, size_t bytes_len, size_t start, size_t length, size_t address);
+/* How many zeros stand before the first one of a span, whatever `address` is. With length 0 it is 0, before any test. Refuses with 1,
+ * 2, 8; every other field is then 0. */
+pw_number pw_leading_zeros(const uint8_t *bytes, size_t bytes_len, size_t start, size_t length, size_t address);
 
-/* The spans of the flags before flag `at` and from it on. Refuses with 1, 2, 6. */
-pw_spans_answer pw_split_at_unchecked(const uint8_t *bytes, size_t bytes_len, size_t start, size_t length, size_t at);
+/* How many ones stand before the first zero of a span, whatever `address` is. With length 0 it is 0, before any test. Refuses with 1,
+ * 2, 8; every other field is then 0. */
+pw_number pw_leading_ones(const uint8_t *bytes, size_t bytes_len, size_t start, size_t length, size_t address);
 
-/* 32 flags from `index` on, the first in the lowest bit, zeros past the span's end. Refuses with 1, 2. */
+/* How many zeros stand behind the last one of a span, whatever `address` is. With length 0 it is 0, before any test. Refuses with 1,
+ * 2, 8; every other field is then 0. */
+pw_number pw_trailing_zeros(const uint8_t *bytes, size_t bytes_len, size_t start, size_t length, size_t address);
+
+/* How many ones stand behind the last zero of a span, whatever `address` is. With length 0 it is 0, before any test. Refuses with 1,
+ * 2, 8; every other field is then 0. */
+pw_number pw_trailing_ones(const uint8_t *bytes, size_t bytes_len, size_t start, size_t length, size_t address);
+
+/* The spans of the flags before flag `at` and from it on. Refuses with 1, 2, 6; every other field is then 0. */
+pw_spans_answer pw_split_at_unchecked(const uint8_t *bytes, size_t bytes_len, size_t start, size_t length,
+    size_t at);
+
+/* 32 flags from `index` on, the first in the lowest bit, zeros past the span's end. Refuses with 1, 2; every other field is then 0. */
 pw_number pw_get_u32(const uint8_t *bytes, size_t bytes_len, size_t start, size_t length, size_t index);
 
-/* The position, at or after `from`, of the n-th set flag, counted from 0. Refuses with 1, 2. */
+/* ---- The searches for the n-th set flag of a span. */
+
+/* The position, at or after `from`, of the n-th set flag, counted from 0. Refuses with 1, 2; every other field is then 0. */
 pw_position pw_nth_set_bit_idx(const uint8_t *bytes, size_t bytes_len, size_t start, size_t length, size_t n,
-                               size_t from);
+    size_t from);
 
-/* The position of the n-th set flag counted down from below `end`, which may exceed the length. Refuses with 1, 2. */
+/* The position of the n-th set flag counted down from below `end`, which may exceed the length. Refuses with 1, 2; every other field
+ * is then 0. */
 pw_position pw_nth_set_bit_idx_rev(const uint8_t *bytes, size_t bytes_len, size_t start, size_t length, size_t n,
-                                   size_t end);
+    size_t end);
 
-/* ---- the words of a span */
+/* ---- The words of a span, and the flags behind the last whole one. */
 
-/* A cursor at the first word of a span, and of the first `length` flags of the buffer. Refuse with 1, 2. */
+/* A cursor at the first word of a span. Refuses with 1, 2; every other field is then 0. */
 pw_cursor_answer pw_chunks_new(const uint8_t *bytes, size_t bytes_len, size_t start, size_t length);
+
+/* A cursor at the first word of the first `length` flags of the bytes. Refuses with 1, 2; every other field is then 0. */
 pw_cursor_answer pw_chunks_new_exact(const uint8_t *bytes, size_t bytes_len, size_t length);
 
-/* The next word in `value`; none from word length div 64 on, where the cursor stays. Refuses with 1, 2, 6. */
+/* The next word in `value`; none from word length div 64 on, where the cursor stays. Refuses with 1, 2, 6; `place` is then the one
+ * that came, every other field 0. */
 pw_step_answer pw_chunks_next(size_t start, size_t length, size_t place, const uint8_t *bytes, size_t bytes_len);
 
-/* The last length mod 64 flags as a word in `value`, and their number in `count`, wherever the cursor stands. The
- * cursor stays there: `place` is given as 0. Refuses with 1, 2, 6. */
-pw_step_answer pw_chunks_remainder(size_t start, size_t length, size_t place, const uint8_t *bytes, size_t bytes_len);
+/* The last length mod 64 flags as a word in `value`, and their number in `count`, wherever the cursor stands. The cursor stays there:
+ * its place is given as it came. Refuses with 1, 2, 6; `place` is then the one that came, every other field 0. */
+pw_step_answer pw_chunks_remainder(size_t start, size_t length, size_t place, const uint8_t *bytes,
+    size_t bytes_len);
 
-/* ---- the builder. Each call appends to `buf` and gives the builder to go on with. All refuse with 1, 4, 9 and what they list besides.
- * Finished words are written to the buffer, and nothing else of it; pw_freeze writes the frozen bytes over its front. */
+/* ---- The builder. Each call appends to `buf` and gives the builder to go on with. Finished words are written to the buffer, and
+ * nothing else of it; pw_freeze and pw_into_opt_validity write the frozen bytes over its front. */
 
 /* The builder of no flags. */
 pw_builder pw_builder_new(void);
 
-/* Appends a flag. */
+/* Appends a flag. Refuses with 1, 4, 9; the builder is then the one that came. */
 pw_builder_answer pw_push(size_t length, uint64_t word, size_t ones, uint8_t *buf, size_t buf_len, bool flag);
 
-/* Appends n copies of a flag. */
-pw_builder_answer pw_extend_constant(size_t length, uint64_t word, size_t ones, uint8_t *buf, size_t buf_len, size_t n,
-                                     bool flag);
+/* Appends `n` copies of a flag. Refuses with 1, 4, 9; the builder is then the one that came. */
+pw_builder_answer pw_extend_constant(size_t length, uint64_t word, size_t ones, uint8_t *buf, size_t buf_len,
+    size_t n, bool flag);
 
-/* Appends the first n flags of a word, whose bits from n on must be 0. Also refuses with 6. */
+/* Appends the first `n` flags of a word, whose bits from there on must be 0. Refuses with 1, 4, 6, 9; the builder is then the one that
+ * came. */
 pw_builder_answer pw_push_word_with_len_unchecked(size_t length, uint64_t word, size_t ones, uint8_t *buf,
-                                                  size_t buf_len, uint64_t flags, size_t n);
+    size_t buf_len, uint64_t flags, size_t n);
 
-/* Appends a span. Also refuses with 2. */
+/* Appends a span. Refuses with 1, 2, 4, 9; the builder is then the one that came. */
 pw_builder_answer pw_extend_from_slice(size_t length, uint64_t word, size_t ones, uint8_t *buf, size_t buf_len,
-                                       const uint8_t *bytes, size_t bytes_len, size_t start, size_t n);
+    const uint8_t *bytes, size_t bytes_len, size_t start, size_t n);
 
-/* Appends each flag of a span, `repeats` times in turn. Also refuses with 2. */
-pw_builder_answer pw_extend_each_repeated_from_slice_unchecked(size_t length, uint64_t word, size_t ones, uint8_t *buf,
-                                                            size_t buf_len, const uint8_t *bytes, size_t bytes_len,
-                                                            size_t start, size_t n, size_t repeats);
+/* Appends each flag of a span, `repeats` times in turn. Refuses with 1, 2, 4, 9; the builder is then the one that came. */
+pw_builder_answer pw_extend_each_repeated_from_slice_unchecked(size_t length, uint64_t word, size_t ones,
+    uint8_t *buf, size_t buf_len, const uint8_t *bytes, size_t bytes_len, size_t start, size_t n, size_t repeats);
 
-/* Appends n flags of a mask from its flag `start` on. Also refuses with 2, 3, 6. */
+/* Appends `n` flags of a mask from its flag `start` on. Refuses with 1, 2, 3, 4, 6, 9; the builder is then the one that came. */
 pw_builder_answer pw_subslice_extend_from_bitmap(size_t length, uint64_t word, size_t ones, uint8_t *buf,
-                                                 size_t buf_len, pw_mask mask, const uint8_t *bytes, size_t bytes_len,
-                                                 size_t start, size_t n);
+    size_t buf_len, pw_mask mask, const uint8_t *bytes, size_t bytes_len, size_t start, size_t n);
 
-/* Appends the flag of a span at each index. Also refuses with 2, 6. */
-pw_builder_answer pw_gather_extend_from_slice(size_t length, uint64_t word, size_t ones, uint8_t *buf, size_t buf_len,
-                                              const uint8_t *bytes, size_t bytes_len, size_t start, size_t n,
-                                              const uint32_t *idxs, size_t idxs_len);
+/* Appends the flag of a span at each index, all of them below its length. Refuses with 1, 2, 4, 6, 9; the builder is then the one that
+ * came. */
+pw_builder_answer pw_gather_extend_from_slice(size_t length, uint64_t word, size_t ones, uint8_t *buf,
+    size_t buf_len, const uint8_t *bytes, size_t bytes_len, size_t start, size_t n, const uint32_t *idxs,
+    size_t idxs_len);
 
-/* The same, with 0 for an index at or past the span's length. Also refuses with 2. */
+/* Appends the flag of a span at each index, 0 for one at or past the span's length. Refuses with 1, 2, 4, 9; the builder is then the
+ * one that came. */
 pw_builder_answer pw_opt_gather_extend_from_slice(size_t length, uint64_t word, size_t ones, uint8_t *buf,
-                                                  size_t buf_len, const uint8_t *bytes, size_t bytes_len, size_t start,
-                                                  size_t n, const uint32_t *idxs, size_t idxs_len);
+    size_t buf_len, const uint8_t *bytes, size_t bytes_len, size_t start, size_t n, const uint32_t *idxs,
+    size_t idxs_len);
 
-/* The mask of the builder's flags over the frozen bytes, its zeros counted. */
+/* The mask of the builder's flags, its zeros counted, over their frozen bytes. The builder is not given back: the caller has it.
+ * Refuses with 1, 4, 9; every other field is then 0. */
 pw_mask_answer pw_freeze(size_t length, uint64_t word, size_t ones, uint8_t *buf, size_t buf_len);
 
-/* The same bytes; no mask where all flags are set, so for no flags too. */
+/* The bytes and the mask that pw_freeze gives; no mask where all flags are set, so for no flags too. Refuses with 1, 4, 9; every other
+ * field is then 0. */
 pw_validity_answer pw_into_opt_validity(size_t length, uint64_t word, size_t ones, uint8_t *buf, size_t buf_len);
 
-/* ---- the mask */
+/* ---- The calls that make a mask, cut it, count it and compare it. */
 
 /* The empty mask. */
 pw_mask pw_bitmap_new(void);
 
-/* A mask of `length` zeros; writes their frozen bytes over the front of `out`. Refuses with 1, 9. */
+/* A mask of `length` zeros, whose frozen bytes are written over the front of `out`. Refuses with 1, 9; every other field is then 0. */
 pw_mask_answer pw_new_zeroed(size_t length, uint8_t *out, size_t out_len);
 
-/* The mask of a span, its zeros not counted. Refuses with 1, 2. */
+/* The mask of a span, its zeros not counted. Refuses with 1, 2; every other field is then 0. */
 pw_mask_answer pw_try_new(const uint8_t *bytes, size_t bytes_len, size_t start, size_t length);
 
-/* The piece of `length` flags from flag `offset` on; refused, the mask as it came. Refuses with 1, 2, 3, 6, 7. */
+/* The piece of `length` flags from flag `offset` on. Refuses with 1, 2, 3, 6, 7; the mask is then the one that came, every field as it
+ * came. */
 pw_mask_answer pw_slice(pw_mask mask, const uint8_t *bytes, size_t bytes_len, size_t offset, size_t length);
 
-/* The zeros, and the mask with its count known; refused, the mask as it came. Refuses with 1, 2, 3. */
+/* The zeros of a mask, and the mask with its count known. Refuses with 1, 2, 3; the mask is then the one that came, every field as it
+ * came, and `zeros` 0. */
 pw_zeros_answer pw_unset_bits(pw_mask mask, const uint8_t *bytes, size_t bytes_len);
 
-/* Whether lengths and flags are equal. Refuses with 1, 2, 3. */
-pw_flag pw_eq(pw_mask lhs, const uint8_t *left, size_t left_len, pw_mask rhs, const uint8_t *right, size_t right_len);
+/* Whether lengths and flags are equal. Refuses with 1, 2, 3; every other field is then 0. */
+pw_flag pw_eq(pw_mask lhs, const uint8_t *left, size_t left_len, pw_mask rhs, const uint8_t *right,
+    size_t right_len);
 
-/* How many flags differ from the next one. Refuses with 1, 2, 3. */
+/* How many flags differ from the next one. Refuses with 1, 2, 3; every other field is then 0. */
 pw_number pw_num_edges(pw_mask mask, const uint8_t *bytes, size_t bytes_len);
 
-/* How many flags are set in both masks. Refuses with 1, 2, 3, 5. */
+/* How many flags are set in both masks. Refuses with 1, 2, 3, 5; every other field is then 0. */
 pw_number pw_num_intersections_with(pw_mask lhs, const uint8_t *left, size_t left_len, pw_mask rhs,
-                                    const uint8_t *right, size_t right_len);
+    const uint8_t *right, size_t right_len);
 
-/* ---- combinations: each writes frozen bytes over the front of `out` and gives the mask over them. They refuse with 1, 2, 3, 5, 9. */
+/* ---- The combinations. Each writes frozen bytes over the front of `out` and gives the mask over them. */
 
-/* Two masks under the operation `op` (PW_AND ..). Also refuses with 255. */
-pw_mask_answer pw_combine(uint8_t op, pw_mask lhs, const uint8_t *left, size_t left_len, pw_mask rhs,
-                          const uint8_t *right, size_t right_len, uint8_t *out, size_t out_len);
+/* The flags that are set in both masks. Refuses with 1, 2, 3, 5, 9; every other field is then 0. */
+pw_mask_answer pw_and(pw_mask lhs, const uint8_t *left, size_t left_len, pw_mask rhs, const uint8_t *right,
+    size_t right_len, uint8_t *out, size_t out_len);
 
-/* Each flag inverted. Never refuses with 5. */
+/* The flags that are set in the first mask and not in the second. Refuses with 1, 2, 3, 5, 9; every other field is then 0. */
+pw_mask_answer pw_and_not(pw_mask lhs, const uint8_t *left, size_t left_len, pw_mask rhs, const uint8_t *right,
+    size_t right_len, uint8_t *out, size_t out_len);
+
+/* The flags that are set in either mask. Refuses with 1, 2, 3, 5, 9; every other field is then 0. */
+pw_mask_answer pw_or(pw_mask lhs, const uint8_t *left, size_t left_len, pw_mask rhs, const uint8_t *right,
+    size_t right_len, uint8_t *out, size_t out_len);
+
+/* The flags that are set in the first mask or not in the second. Refuses with 1, 2, 3, 5, 9; every other field is then 0. */
+pw_mask_answer pw_or_not(pw_mask lhs, const uint8_t *left, size_t left_len, pw_mask rhs, const uint8_t *right,
+    size_t right_len, uint8_t *out, size_t out_len);
+
+/* The flags in which the masks differ. Refuses with 1, 2, 3, 5, 9; every other field is then 0. */
+pw_mask_answer pw_xor(pw_mask lhs, const uint8_t *left, size_t left_len, pw_mask rhs, const uint8_t *right,
+    size_t right_len, uint8_t *out, size_t out_len);
+
+/* Each flag inverted. Refuses with 1, 2, 3, 9; every other field is then 0. */
 pw_mask_answer pw_not(pw_mask mask, const uint8_t *bytes, size_t bytes_len, uint8_t *out, size_t out_len);
 
-/* The flag of `truthy` where the selector's is set, else that of `falsy`. */
+/* The flag of `truthy` where the selector's is set, else that of `falsy`. Refuses with 1, 2, 3, 5, 9; every other field is then 0. */
 pw_mask_answer pw_select(pw_mask selector, const uint8_t *by, size_t by_len, pw_mask truthy, const uint8_t *yes,
-                         size_t yes_len, pw_mask falsy, const uint8_t *no, size_t no_len, uint8_t *out, size_t out_len);
+    size_t yes_len, pw_mask falsy, const uint8_t *no, size_t no_len, uint8_t *out, size_t out_len);
 
-/* The flag of `truthy` where the selector's is set, else `flag`. */
+/* The flag of `truthy` where the selector's is set, else `flag`. Refuses with 1, 2, 3, 5, 9; every other field is then 0. */
 pw_mask_answer pw_select_constant(pw_mask selector, const uint8_t *by, size_t by_len, pw_mask truthy,
-                                  const uint8_t *yes, size_t yes_len, bool flag, uint8_t *out, size_t out_len);
+    const uint8_t *yes, size_t yes_len, bool flag, uint8_t *out, size_t out_len);
 
-/* ---- cursors. A step that finds nothing gives the length as the place; a refused one gives the place that it got. */
+/* ---- The cursors over runs, flags and positions. A step that finds nothing gives the length as the place. */
 
-/* A cursor before the first run of ones of a mask. Refuses with 1, 2, 3. */
+/* A cursor before the first run of ones of a mask. Refuses with 1, 2, 3; every other field is then 0. */
 pw_cursor_answer pw_slices_new(pw_mask mask, const uint8_t *bytes, size_t bytes_len);
 
-/* The next run of ones, its start in `value` and its length in `count`. Refuses with 1, 2, 6. */
+/* The next run of ones, its start in `value` and its length in `count`. Refuses with 1, 2, 6; `place` is then the one that came, every
+ * other field 0. */
 pw_step_answer pw_slices_next(size_t start, size_t length, size_t place, const uint8_t *bytes, size_t bytes_len);
 
-/* A cursor before the first flag of a span; with length 0, before any test, one that is all 0. Refuses with 1, 2. */
+/* A cursor before the first flag of a span. With length 0 its start, length and place are 0, before any test. Refuses with 1, 2; every
+ * other field is then 0. */
 pw_cursor_answer pw_iter_new(const uint8_t *bytes, size_t bytes_len, size_t start, size_t length);
 
-/* The next flag in `value`, and the one n flags behind that. Refuse with 1, 2, 6. */
+/* The next flag, 0 or 1 in `value`. Refuses with 1, 2, 6; `place` is then the one that came, every other field 0. */
 pw_step_answer pw_iter_next(size_t start, size_t length, size_t place, const uint8_t *bytes, size_t bytes_len);
-pw_step_answer pw_iter_nth(size_t start, size_t length, size_t place, const uint8_t *bytes, size_t bytes_len, size_t n);
 
-/* How many flags that equal `flag` stand next, in `count`; the cursor moves past them. Refuses with 1, 2, 6. */
-pw_step_answer pw_take_leading(bool flag, size_t start, size_t length, size_t place, const uint8_t *bytes,
-                               size_t bytes_len);
+/* The flag that stands `n` behind the next one, 0 or 1 in `value`. Refuses with 1, 2, 6; `place` is then the one that came, every
+ * other field 0. */
+pw_step_answer pw_iter_nth(size_t start, size_t length, size_t place, const uint8_t *bytes, size_t bytes_len,
+    size_t n);
 
-/* A cursor before the first position of a one in a mask of `length` flags. Where not `present` there is no mask: record and buffer are
- * not read, and every position is given. Refuses with 1, 2, 3, 5; without a mask with 1. */
+/* How many ones stand next, in `count`; the cursor moves past them. Refuses with 1, 2, 6; `place` is then the one that came, every
+ * other field 0. */
+pw_step_answer pw_take_leading_ones(size_t start, size_t length, size_t place, const uint8_t *bytes,
+    size_t bytes_len);
+
+/* How many zeros stand next, in `count`; the cursor moves past them. Refuses with 1, 2, 6; `place` is then the one that came, every
+ * other field 0. */
+pw_step_answer pw_take_leading_zeros(size_t start, size_t length, size_t place, const uint8_t *bytes,
+    size_t bytes_len);
+
+/* A cursor before the first position of a one in a mask of `length` flags. Where not `present` there is no mask: record and bytes are
+ * not read, every position is given, and 1 is the only refusal. Refuses with 1, 2, 3, 5; every other field is then 0. */
 pw_cursor_answer pw_true_idx_new(size_t length, bool present, pw_mask mask, const uint8_t *bytes, size_t bytes_len);
 
-/* The next position in `value`. Refuses with 1, 2, 6; without a mask with 1, 6. */
+/* The next position of a one, in `value`. Without a mask 2 does not come. Refuses with 1, 2, 6; `place` is then the one that came,
+ * every other field 0. */
 pw_step_answer pw_true_idx_next(size_t start, size_t length, size_t place, uint8_t masked, const uint8_t *bytes,
-                                size_t bytes_len);
+    size_t bytes_len);
 
-/* The next positions, as many as there are and `out` has room for, over its front, and their number in `count`: what out_len calls of
- * pw_true_idx_next give. The place is just past the last of them, where there was room for more the length; with no room the cursor
- * stays. `found` is true, `value` 0. Refuses with 1, 2, 6; without a mask with 1, 6. */
-pw_step_answer pw_true_idx_next_chunk(size_t start, size_t length, size_t place, uint8_t masked, const uint8_t *bytes,
-                                      size_t bytes_len, uint32_t *out, size_t out_len);
+/* The next positions of ones, as many as there are and `out` has room for, over its front, and their number in `count`: what as many
+ * calls of pw_true_idx_next give. The place is just past the last of them, where there was room for more the length; with no room the
+ * cursor stays. `found` is true. Without a mask 2 does not come. Refuses with 1, 2, 6; `place` is then the one that came, every other
+ * field 0. */
+pw_step_answer pw_true_idx_next_chunk(size_t start, size_t length, size_t place, uint8_t masked,
+    const uint8_t *bytes, size_t bytes_len, uint32_t *out, size_t out_len);
 
-/* ---- dispatch */
+/* ---- Dispatch. */
 
-/* Whether truck number `truck` may be reassigned: its flag in the permission mask, and not in the revocation mask. Where not `permitted`
- * there is no permission mask, which stands for all ones; where not `revoked` no revocation mask, which stands for all zeros: record and
- * buffer are then not read. Refuses with 1, 2, 3, 6, with both masks also 5, with none never. */
+/* Whether truck number `truck` may be reassigned: its flag in the permission mask, and not in the revocation mask. Where not
+ * `permitted` there is no permission mask, which stands for all ones; where not `revoked` no revocation mask, which stands for all
+ * zeros: record and bytes are then not read. 5 comes with both masks alone; without any mask nothing is refused. Refuses with 1, 2, 3,
+ * 5, 6; every other field is then 0. */
 pw_flag pw_may_reassign(bool permitted, pw_mask permission, const uint8_t *permission_bytes,
-                        size_t permission_bytes_len, bool revoked, pw_mask revocation, const uint8_t *revocation_bytes,
-                        size_t revocation_bytes_len, size_t truck);
+    size_t permission_bytes_len, bool revoked, pw_mask revocation, const uint8_t *revocation_bytes,
+    size_t revocation_bytes_len, size_t truck);
+
+/* ---- version */
+
+/* The version of the interface. A program that includes this file refers to it, so that a library of another version does not link,
+ * where the compiler is GCC or Clang. */
+uint32_t pw_interface_1(void);
+#if defined(__GNUC__)
+#if defined(__has_attribute)
+#if __has_attribute(retain)
+__attribute__((retain))
+#endif
+#endif
+__attribute__((used)) static uint32_t (*const pw_interface)(void) = pw_interface_1;
+#endif
 
 #ifdef __cplusplus
 }

@@ -10,11 +10,11 @@ fn main() {
         Some(folder) => PathBuf::from(folder),
         None => PathBuf::from(env::var_os("CARGO_MANIFEST_DIR").expect("cargo sets it")).join("../../target/staticlib"),
     };
-    let library = folder.join("libcapi.a");
+    let library = folder.join("libporuwhina.a");
     println!("cargo::rerun-if-changed={}", library.display());
     if !library.is_file() {
         println!(
-            "cargo::error=no {}: run `rt staticlib capi` in the repository, or set PORUWHINA_LIB to the folder that has libcapi.a",
+            "cargo::error=no {}: run `bindings/library` in the repository, or set PORUWHINA_LIB to the folder that has libporuwhina.a",
             library.display()
         );
         return;
@@ -22,5 +22,5 @@ fn main() {
     // A relative folder would be looked for in another place by the compiler.
     let folder = folder.canonicalize().expect("the folder of a file that is there");
     println!("cargo::rustc-link-search=native={}", folder.display());
-    println!("cargo::rustc-link-lib=static=capi");
+    println!("cargo::rustc-link-lib=static=poruwhina");
 }

@@ -97,14 +97,12 @@ static void spans(void) {
     CHECK(s.bulk_start == 7 && s.bulk_len == 2 && s.suffix == 0xFF && s.suffix_len == 8);
     CHECK(pw_aligned_new(NULL, 0, SIZE_MAX, 0, SIZE_MAX).refusal == 0);
 
-    CHECK(pw_count(PW_COUNT_ZEROS, A, 1, 0, 6, 7).value == 2);
     CHECK(pw_count_zeros(A, 1, 0, 6, 7).value == 2 && pw_count_zeros(A, 1, 2, 7, 0).refusal == PW_REFUSED_OUTSIDE_BYTES);
-    CHECK(pw_count(PW_LEADING_ZEROS, A, 1, 1, 5, 0).value == 1);
-    CHECK(pw_count(PW_LEADING_ONES, A, 1, 2, 4, 0).value == 2);
-    CHECK(pw_count(PW_TRAILING_ZEROS, A, 1, 0, 5, 0).value == 1);
-    CHECK(pw_count(PW_TRAILING_ONES, A, 1, 0, 4, 0).value == 2);
-    CHECK(pw_count(PW_COUNT_ZEROS, NULL, 0, 9, 0, 8).refusal == 0);
-    CHECK(pw_count(5, A, 1, 0, 6, 8).refusal == PW_REFUSED_NO_SUCH_OPERATION);
+    CHECK(pw_leading_zeros(A, 1, 1, 5, 0).value == 1);
+    CHECK(pw_leading_ones(A, 1, 2, 4, 0).value == 2);
+    CHECK(pw_trailing_zeros(A, 1, 0, 5, 0).value == 1);
+    CHECK(pw_trailing_ones(A, 1, 0, 4, 0).value == 2);
+    CHECK(pw_count_zeros(NULL, 0, 9, 0, 8).refusal == 0 && pw_trailing_ones(NULL, 0, 9, 0, 8).refusal == 0);
 
     pw_spans_answer two = pw_split_at_unchecked(A, 1, 0, 6, 2);
     CHECK(two.refusal == 0 && two.first_start == 0 && two.first_length == 2 && two.second_start == 2 && two.second_length == 4);
@@ -126,7 +124,8 @@ static void chunks(void) {
     CHECK(is_step(s, UINT64_MAX, 0, 1));
     CHECK(is_end(pw_chunks_next(c.start, c.length, s.place, bytes, 9), 1));
     s = pw_chunks_remainder(CURSOR(c), bytes, 9);
-    CHECK(s.refusal == 0 && s.found && s.value == 0x2D && s.count == 6 && s.place == 0);
+    CHECK(is_step(s, 0x2D, 6, 0));
+    CHECK(is_step(pw_chunks_remainder(0, 70, 1, bytes, 9), 0x2D, 6, 1));
     c = pw_chunks_new(bytes, 9, 4, 64).cursor;
     CHECK(is_step(pw_chunks_next(CURSOR(c), bytes, 9), 0xDFFFFFFFFFFFFFFF, 0, 1));
 }
@@ -203,17 +202,21 @@ static void masks(void) {
 
 static void combinations(void) {
     const uint8_t lhs[1] = {0x0C}, rhs[1] = {0x0A}; /* 0,0,1,1 and 0,1,0,1 */
-    const uint8_t table[5] = {[PW_AND] = 0x08, [PW_AND_NOT] = 0x04, [PW_OR] = 0x0E, [PW_OR_NOT] = 0x0D, [PW_XOR] = 0x06};
+    pw_mask_answer (*const calls[5])(pw_mask, const uint8_t *, size_t, pw_mask, const uint8_t *, size_t, uint8_t *, size_t) = {
+        pw_and, pw_and_not, pw_or, pw_or_not, pw_xor};
+    const uint8_t table[5] = {0x08, 0x04, 0x0E, 0x0D, 0x06};
     const pw_mask four = {0, 4, 0, 0}, three = {0, 3, 0, 0};
-    for (uint8_t op = 0; op < 5; op++) {
+    for (int i = 0; i < 5; i++) {
         clean();
-        pw_mask_answer a = pw_combine(op, four, lhs, 1, four, rhs, 1, out, OUT);
-        CHECK(a.refusal == 0 && is_mask(a.mask, 0, 4, 0, 0) && holds_word(table[op]));
+        pw_mask_answer a = calls[i](four, lhs, 1, four, rhs, 1, out, OUT);
+        CHECK(a.refusal == 0 && is_mask(a.mask, 0, 4, 0, 0) && holds_word(table[i]));
+        clean();
+        a = calls[i](four, lhs, 1, three, rhs, 1, out, OUT);
+        CHECK(a.refusal == PW_REFUSED_UNEQUAL_LENGTHS && is_mask(a.mask, 0, 0, 0, 0) && untouched());
     }
     clean();
-    CHECK(pw_combine(5, four, lhs, 1, four, rhs, 1, out, OUT).refusal == PW_REFUSED_NO_SUCH_OPERATION && untouched());
     const uint8_t low[1] = {0x01}, high[1] = {0x04}; /* example 7 */
-    CHECK(pw_combine(PW_OR_NOT, three, high, 1, three, low, 1, out, OUT).refusal == 0 && holds_word(0x06));
+    CHECK(pw_or_not(three, high, 1, three, low, 1, out, OUT).refusal == 0 && holds_word(0x06));
     clean();
     CHECK(pw_not(four, lhs, 1, out, OUT).refusal == 0 && holds_word(0x03));
 
@@ -241,8 +244,8 @@ static void cursors(void) {
     CHECK(is_step(pw_iter_next(CURSOR(c), A, 1), 1, 0, 1));
     CHECK(is_step(pw_iter_nth(CURSOR(c), A, 1, 4), 0, 0, 5));
     CHECK(is_end(pw_iter_nth(CURSOR(c), A, 1, SIZE_MAX), 6));
-    CHECK(is_step(pw_take_leading(true, CURSOR(c), A, 1), 0, 1, 1));
-    CHECK(is_step(pw_take_leading(false, CURSOR(c), A, 1), 0, 0, 0));
+    CHECK(is_step(pw_take_leading_ones(CURSOR(c), A, 1), 0, 1, 1));
+    CHECK(is_step(pw_take_leading_zeros(CURSOR(c), A, 1), 0, 0, 0));
     CHECK(is_cursor(pw_iter_new(NULL, 0, 9, 0).cursor, 0, 0, 0, 1));
 
     c = pw_true_idx_new(6, true, MASK_A, A, 1).cursor;
@@ -332,26 +335,34 @@ static void refusals(void) {
     CHECK(made.refusal == PW_REFUSED_OUTSIDE_BYTES && is_mask(made.mask, 0, 0, 0, 0));
     pw_mask counted = {0, 6, 7, 255};
     pw_zeros_answer zeros = pw_unset_bits(counted, A, 1);
-    CHECK(zeros.refusal == PW_REFUSED_COUNT_ABOVE_LENGTH && is_mask(zeros.mask, 0, 6, 7, 1));
+    CHECK(zeros.refusal == PW_REFUSED_COUNT_ABOVE_LENGTH && is_mask(zeros.mask, 0, 6, 7, 255)); /* as it came */
     counted.zeros = 6;
     CHECK(pw_unset_bits(counted, A, 1).refusal == 0 && pw_unset_bits(counted, A, 1).zeros == 6);
     pw_builder_answer b = pw_push(1, 2, 0, out, OUT, true);
     CHECK(b.refusal == PW_REFUSED_IMPOSSIBLE_BUILDER && is_builder(b.builder, 1, 2, 0));
     pw_mask five = {0, 5, 0, 0};
-    CHECK(pw_combine(PW_AND, MASK_A, A, 1, five, A, 1, out, OUT).refusal == PW_REFUSED_UNEQUAL_LENGTHS);
+    CHECK(pw_and(MASK_A, A, 1, five, A, 1, out, OUT).refusal == PW_REFUSED_UNEQUAL_LENGTHS);
     made = pw_slice(MASK_A, A, 1, 3, 4);
     CHECK(made.refusal == PW_REFUSED_OUTSIDE_MASK && is_mask(made.mask, 0, 6, 0, 0));
+    const pw_mask odd = {3, 6, 77, 0}; /* the number beside an unknown count is not read, and comes back */
+    made = pw_slice(odd, A, 1, 0, 1);
+    CHECK(made.refusal == PW_REFUSED_OUTSIDE_BYTES && is_mask(made.mask, 3, 6, 77, 0));
+    zeros = pw_unset_bits(odd, A, 1);
+    CHECK(zeros.refusal == PW_REFUSED_OUTSIDE_BYTES && zeros.zeros == 0 && is_mask(zeros.mask, 3, 6, 77, 0));
     pw_mask low = {0, 6, 1, 1}; /* one zero too few: both of A are cut off */
     CHECK(pw_slice(low, A, 1, 0, 1).refusal == PW_REFUSED_COUNT_NOT_OF_SLICE);
-    CHECK(pw_count(PW_COUNT_ZEROS, A, 1, 0, 6, 8).refusal == PW_REFUSED_ADDRESS_REMAINDER); /* edge */
+    CHECK(pw_count_zeros(A, 1, 0, 6, 8).refusal == PW_REFUSED_ADDRESS_REMAINDER); /* edge */
     CHECK(pw_new_zeroed(65, out, 15).refusal == PW_REFUSED_OUTPUT_TOO_SMALL); /* edge */
     pw_cursor past = {0, 6, 7, 1};
     pw_step_answer s = pw_slices_next(CURSOR(past), A, 1);
+    CHECK(s.refusal == PW_REFUSED_OUTSIDE_MASK && !s.found && s.place == 7);
+    s = pw_chunks_remainder(CURSOR(past), A, 1);
     CHECK(s.refusal == PW_REFUSED_OUTSIDE_MASK && !s.found && s.place == 7);
     CHECK(untouched());
 }
 
 int main(void) {
+    CHECK(pw_interface() != 0);
     words();
     spans();
     chunks();

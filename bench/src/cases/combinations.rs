@@ -36,33 +36,30 @@ fn allocating<'a>(m: &'a [Input], run: impl Fn(&[Input]) -> Bitmap + 'a) -> Box<
     side(m, move |m| run(m), |_, bitmap| words_of_bitmap(&bitmap))
 }
 
-fn combine(op: u8, m: &[Input], of: impl Fn(&Input) -> Mask, out: &mut [u8]) -> MaskAnswer {
-    calls::combine(op, of(&m[0]), m[0].bytes(), of(&m[1]), m[1].bytes(), out)
-}
-
 fn pair(
     driver: &Driver,
-    (call, op): (&str, u8),
+    call: &str,
+    ours: impl Fn(Mask, &[u8], Mask, &[u8], &mut [u8]) -> MaskAnswer + Copy + 'static,
     original: impl Fn(&Bitmap, &Bitmap) -> Bitmap + Copy + 'static,
     word: impl Fn(u64, u64) -> u64 + Copy + 'static,
 ) {
     driver.each(call, Kind::Half, &[1, 2], |m| Sides {
-        ours: writing(m, move |m, out| combine(op, m, |m| m.mask, out).refusal),
+        ours: writing(m, move |m, out| ours(m[0].mask, m[0].bytes(), m[1].mask, m[1].bytes(), out).refusal),
         original: Some(allocating(m, move |m| original(&m[0].bitmap, &m[1].bitmap))),
         plain: Some(plainly(m, move |m, out| plain::combine(span(&m[0]), span(&m[1]), out, word))),
     });
 }
 
 pub fn run(driver: &Driver) {
-    pair(driver, ("and", 0), bitmap::and, |x, y| x & y);
+    pair(driver, "and", calls::and, bitmap::and, |x, y| x & y);
     driver.each("and, zeros not counted", Kind::Half, &[1, 2], |m| Sides {
-        ours: writing(m, |m, out| combine(0, m, |m| m.uncounted, out).refusal),
+        ours: writing(m, |m, out| calls::and(m[0].uncounted, m[0].bytes(), m[1].uncounted, m[1].bytes(), out).refusal),
         original: Some(allocating(m, |m| bitmap::and(&m[0].uncounted_bitmap.clone(), &m[1].uncounted_bitmap.clone()))),
         plain: None,
     });
-    pair(driver, ("and_not", 1), bitmap::and_not, |x, y| x & !y);
-    pair(driver, ("or_not", 3), bitmap::or_not, |x, y| x | !y);
-    pair(driver, ("xor", 4), bitmap::xor, |x, y| x ^ y);
+    pair(driver, "and_not", calls::and_not, bitmap::and_not, |x, y| x & !y);
+    pair(driver, "or_not", calls::or_not, bitmap::or_not, |x, y| x | !y);
+    pair(driver, "xor", calls::xor, bitmap::xor, |x, y| x ^ y);
     driver.each("not", Kind::Half, &[1], |m| Sides {
         ours: writing(m, |m, out| calls::not(m[0].mask, m[0].bytes(), out).refusal),
         original: Some(allocating(m, |m| (&m[0].bitmap).not())),

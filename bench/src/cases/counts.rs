@@ -1,7 +1,7 @@
 //! Counts over one span or two masks, and the comparison of two masks.
 
 use original::bitmap::utils;
-use poruwhina::calls;
+use poruwhina::calls::{self, Number};
 
 use crate::cases::span;
 use crate::driver::{Driver, Sides};
@@ -9,13 +9,15 @@ use crate::inputs::{Input, Kind};
 use crate::plain;
 use crate::timing::{number, side, Side};
 
-fn ours(what: u8, input: &Input) -> Box<dyn Side + '_> {
-    number(input, move |m| calls::count(what, m.bytes(), m.start, m.length, m.bytes().as_ptr() as usize % 8).value)
-}
-
-fn end(driver: &Driver, call: &str, what: u8, kind: Kind, original: impl Fn(&[u8], usize, usize) -> usize + Copy + 'static) {
+fn end(
+    driver: &Driver,
+    call: &str,
+    kind: Kind,
+    ours: impl Fn(&[u8], usize, usize, usize) -> Number + Copy + 'static,
+    original: impl Fn(&[u8], usize, usize) -> usize + Copy + 'static,
+) {
     driver.each(call, kind, &[1], |m| Sides {
-        ours: ours(what, &m[0]),
+        ours: number(&m[0], move |m| ours(m.bytes(), m.start, m.length, m.bytes().as_ptr() as usize % 8).value),
         original: Some(number(&m[0], move |m| original(m.bytes(), m.start, m.length))),
         plain: None,
     });
@@ -32,12 +34,12 @@ pub fn run(driver: &Driver) {
         original: Some(number(&m[0], |m| utils::count_zeros(m.bytes(), m.start, m.length))),
         plain: Some(number(&m[0], |m| m.length - plain::count(span(m), span(m), |x, _| x))),
     });
-    end(driver, "leading_zeros", 1, Kind::Zeros, utils::leading_zeros);
-    end(driver, "leading_ones", 2, Kind::Ones, utils::leading_ones);
-    end(driver, "leading_ones", 2, Kind::Half, utils::leading_ones);
-    end(driver, "trailing_zeros", 3, Kind::Zeros, utils::trailing_zeros);
-    end(driver, "trailing_zeros", 3, Kind::Half, utils::trailing_zeros);
-    end(driver, "trailing_ones", 4, Kind::Ones, utils::trailing_ones);
+    end(driver, "leading_zeros", Kind::Zeros, calls::leading_zeros, utils::leading_zeros);
+    end(driver, "leading_ones", Kind::Ones, calls::leading_ones, utils::leading_ones);
+    end(driver, "leading_ones", Kind::Half, calls::leading_ones, utils::leading_ones);
+    end(driver, "trailing_zeros", Kind::Zeros, calls::trailing_zeros, utils::trailing_zeros);
+    end(driver, "trailing_zeros", Kind::Half, calls::trailing_zeros, utils::trailing_zeros);
+    end(driver, "trailing_ones", Kind::Ones, calls::trailing_ones, utils::trailing_ones);
 
     driver.each("eq", Kind::Half, &[1, 1], |m| Sides {
         ours: of_two(m, |a, b| calls::eq(a.mask, a.bytes(), b.mask, b.bytes()).value as usize),

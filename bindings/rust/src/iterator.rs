@@ -77,7 +77,7 @@ impl BitmapIter<'_> {
     /// assert_eq!((flags.take_leading_ones(), flags.next()), (2, Some(false)));
     /// ```
     pub fn take_leading_ones(&mut self) -> usize {
-        self.take_leading(true)
+        self.cursor.took(calls::take_leading_ones(self.cursor.record, self.cursor.bytes)).count
     }
 
     /// Passes over the zeros that stand next, and says how many.
@@ -88,11 +88,7 @@ impl BitmapIter<'_> {
     /// assert_eq!((flags.take_leading_zeros(), flags.next()), (2, Some(true)));
     /// ```
     pub fn take_leading_zeros(&mut self) -> usize {
-        self.take_leading(false)
-    }
-
-    fn take_leading(&mut self, flag: bool) -> usize {
-        self.cursor.took(calls::take_leading(flag, self.cursor.record, self.cursor.bytes)).count
+        self.cursor.took(calls::take_leading_zeros(self.cursor.record, self.cursor.bytes)).count
     }
 }
 

@@ -101,7 +101,7 @@
 //!
 //! The Rust of this crate. It keeps records and bytes, and positions that a call gave until they are asked for, allocates, computes
 //! how many bytes so many flags take, subtracts the zeros from the length for [`Bitmap::set_bits`] and a place from a length for the
-//! iterators' `size_hint`, chooses the number of an operation, and turns answers into `Option`, `Result` and text. It reads and
+//! iterators' `size_hint`, and turns answers into `Option`, `Result` and text. It reads and
 //! writes no flag by itself. The README has what must be believed beside it.
 //!
 //! # What a call costs

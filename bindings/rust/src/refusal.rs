@@ -42,12 +42,9 @@ pub enum Refusal {
     AddressRemainder = 8,
     /// 9: Does the output, the builder's buffer included, hold 8 × ceil(new length / 64) bytes?
     OutputTooSmall = 9,
-    /// 255: Is there an operation of this number? Put by [`calls::count`](crate::calls::count) and
-    /// [`calls::combine`](crate::calls::combine), before the others.
-    NoSuchOperation = 255,
 }
 
-const ALL: [Refusal; 10] = [
+const ALL: [Refusal; 9] = [
     Refusal::AboveLimit,
     Refusal::OutsideBytes,
     Refusal::CountAboveLength,
@@ -57,11 +54,10 @@ const ALL: [Refusal; 10] = [
     Refusal::CountNotOfSlice,
     Refusal::AddressRemainder,
     Refusal::OutputTooSmall,
-    Refusal::NoSuchOperation,
 ];
 
 impl Refusal {
-    /// The number, 1 to 9 or 255.
+    /// The number, 1 to 9.
     ///
     /// ```
     /// assert_eq!(poruwhina::Refusal::OutputTooSmall.number(), 9);
@@ -94,7 +90,6 @@ impl Refusal {
             Refusal::CountNotOfSlice => "the known count is below the zeros cut off, or the rest above the new length",
             Refusal::AddressRemainder => "the address remainder is above 7",
             Refusal::OutputTooSmall => "the output does not hold 8 × ceil(new length / 64) bytes",
-            Refusal::NoSuchOperation => "there is no operation of this number",
         }
     }
 }

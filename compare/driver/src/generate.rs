@@ -22,7 +22,6 @@ pub fn generate(shape: Shape, style: &mut impl Style) -> Request {
         r.masked = !(shape.maskless && style.flip());
     }
     r.flag = shape.flag && style.flip();
-    r.op = style.below(shape.ops.into()) as u8;
     let appended = arguments(shape, length, &mut r, style);
     match shape.target {
         Target::None => {}

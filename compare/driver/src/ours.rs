@@ -98,13 +98,23 @@ pub fn new_mask(mask: calls::Mask) -> Answer {
     answer(0, &[], mask_state(mask))
 }
 
-/// A mask that a call changes: as it came where it is refused.
-pub fn sliced(a: calls::MaskAnswer) -> Answer {
-    answer(a.refusal, &[], mask_state(a.mask))
+/// A mask that a call changes. Where it is refused the record is the very one that it got, what was not read of it included.
+fn kept(refusal: u8, came: Mask, gave: calls::Mask) -> State {
+    if refusal == 0 {
+        return mask_state(gave);
+    }
+    assert_eq!(gave, mask(came), "not the record that came");
+    State::Mask(came)
 }
 
-pub fn counted(a: calls::ZerosAnswer) -> Answer {
-    answer(a.refusal, &[a.zeros], mask_state(a.mask))
+pub fn sliced(came: Mask, call: impl Fn(calls::Mask) -> calls::MaskAnswer) -> Answer {
+    let a = call(mask(came));
+    answer(a.refusal, &[], kept(a.refusal, came, a.mask))
+}
+
+pub fn counted(came: Mask, call: impl Fn(calls::Mask) -> calls::ZerosAnswer) -> Answer {
+    let a = call(mask(came));
+    answer(a.refusal, &[a.zeros], kept(a.refusal, came, a.mask))
 }
 
 /// A new cursor: none where it is refused.

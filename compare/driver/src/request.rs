@@ -87,8 +87,6 @@ pub struct Request {
     pub words: [u64; 2],
     pub idxs: Vec<u32>,
     pub flag: bool,
-    /// The number of the count or of the combination.
-    pub op: u8,
 }
 
 impl Request {
@@ -168,9 +166,8 @@ pub struct Shape {
     pub kind: Kind,
     pub target: Target,
     pub args: Args,
-    /// Whether the call takes a flag, and how many numbers `op` has.
+    /// Whether the call takes a flag.
     pub flag: bool,
-    pub ops: u8,
     /// How many of the masks may be absent.
     pub optional: usize,
     /// Whether the cursor may be without a mask.
@@ -179,7 +176,7 @@ pub struct Shape {
 
 impl Shape {
     pub const NOTHING: Shape =
-        Shape { pieces: 0, kind: Kind::Span, target: Target::None, args: Args::None, flag: false, ops: 1, optional: 0, maskless: false };
+        Shape { pieces: 0, kind: Kind::Span, target: Target::None, args: Args::None, flag: false, optional: 0, maskless: false };
     pub const SPAN: Shape = Shape { pieces: 1, ..Shape::NOTHING };
     pub const CURSOR: Shape = Shape { kind: Kind::Cursor, ..Shape::SPAN };
     pub const BUILDER: Shape = Shape { target: Target::Builder, ..Shape::NOTHING };
@@ -202,10 +199,6 @@ impl Shape {
 
     pub const fn flag(self) -> Shape {
         Shape { flag: true, ..self }
-    }
-
-    pub const fn ops(self, ops: u8) -> Shape {
-        Shape { ops, ..self }
     }
 
     pub const fn optional(self, optional: usize) -> Shape {

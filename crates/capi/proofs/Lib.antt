@@ -1,4 +1,3 @@
 -- The laws of the crate.
-pub mod CallLaws
-pub mod NumberLaws
 pub mod RecordLaws
+pub mod Refusals

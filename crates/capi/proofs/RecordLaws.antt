@@ -15,7 +15,8 @@ use Rattle.masks.specs.declared.chunks.BitChunks.{BitChunks}
 use Rattle.masks.specs.declared.iterator.BitmapIter.{BitmapIter}
 use Rattle.masks.specs.declared.slice_iterator.SlicesIterator.{SlicesIterator}
 use Rattle.masks.specs.declared.true_idx.TrueIdxIter.{TrueIdxIter}
-use Rattle.capi.specs.Records.{builderIn, builderOut, chunksOut, countIn, iterOut, maskIn, maskOut, maskWith, slicesOut, trueIn, trueOut}
+use Rattle.capi.specs.Records.{builderIn, builderOut, chunksOut, countIn, iterOut, maskIn, maskOut, maskWith}
+use Rattle.capi.specs.Records.{slicesOut, trueIn, trueOut}
 
 mask-with : (start n : ℕ) (u : Unset) → maskIn (maskWith start n u) ≡ maskOf start n u
 unfolding maskIn countIn

@@ -1,10 +1,9 @@
 -- The records in which answers cross, defined by what an answer holds and not call by call. Assumes nothing.
 --
--- `refusal` is 0, or the number of the refusing check. On refusal a record is the one that the call got, where it got one of
+-- `refusal` is 0, or the number of the refusing check. On refusal a record is the very one that the call got, where it got one of
 -- that kind and gives it back; every other field is 0.
-use Prim.Native.Nat.{ℕ, zero, suc}
+use Prim.Native.Nat.{ℕ}
 use mathlib.Core.Bool.{Bool, true, false}
-use mathlib.Core.List.{List, [], _∷_}
 use mathlib.Core.Option.{Option, none, some}
 use Rattle.words.specs.Flags.{digit}
 use Rattle.words.specs.declared.nth.Nth.{Nth}
@@ -29,18 +28,9 @@ use Rattle.capi.specs.declared.answers.SplitAnswer.{SplitAnswer}
 use Rattle.capi.specs.declared.answers.StepAnswer.{StepAnswer}
 use Rattle.capi.specs.declared.answers.ValidityAnswer.{ValidityAnswer}
 use Rattle.capi.specs.declared.answers.ZerosAnswer.{ZerosAnswer}
+use Rattle.capi.specs.declared.records.Builder.{Builder}
 use Rattle.capi.specs.declared.records.Cursor.{Cursor}
 use Rattle.capi.specs.declared.records.Mask.{Mask}
-
--- the number for an operation that there is none of, which no check has
-abbrev pub noSuchOperation : ℕ
-noSuchOperation = 255
-
--- an operation by its number: the one at that place of a list, counted from 0
-unfoldable pub numbered : {A : Type 0} → List A → ℕ → Option A
-numbered [] n = none
-numbered (a ∷ l) zero = some a
-numbered (a ∷ l) (suc n) = numbered l n
 
 -- ---- a number, a flag, a position
 
@@ -81,10 +71,10 @@ unfoldable pub asMask : {S : Type 0} → Answer S Bitmap → MaskAnswer
 asMask (given m) = maskAnswer 0 (maskOut m)
 asMask (refused k s) = maskAnswer k noMask
 
--- of a call that gives the mask that it got back
-unfoldable pub asSameMask : Answer Bitmap Bitmap → MaskAnswer
-asSameMask (given m) = maskAnswer 0 (maskOut m)
-asSameMask (refused k m) = maskAnswer k (maskOut m)
+-- of a call that gives the mask that it got back: the record itself, as it came
+unfoldable pub asSameMask : {S : Type 0} → Mask → Answer S Bitmap → MaskAnswer
+asSameMask came (given m) = maskAnswer 0 (maskOut m)
+asSameMask came (refused k s) = maskAnswer k came
 
 abbrev pub validityOf : ℕ → Bool → Mask → ValidityAnswer
 validityOf k present m = record { refusal = k; present = present; mask = m }
@@ -94,15 +84,21 @@ asValidity (given (some m)) = validityOf 0 true (maskOut m)
 asValidity (given none) = validityOf 0 false noMask
 asValidity (refused k s) = validityOf k false noMask
 
-unfoldable pub asZeros : Answer Bitmap Recounted → ZerosAnswer
-asZeros (given r) = record { refusal = 0; zeros = r .zeros; mask = maskOut (r .mask) }
-asZeros (refused k m) = record { refusal = k; zeros = 0; mask = maskOut m }
+abbrev pub zerosOf : ℕ → ℕ → Mask → ZerosAnswer
+zerosOf k zeros m = record { refusal = k; zeros = zeros; mask = m }
+
+unfoldable pub asZeros : {S : Type 0} → Mask → Answer S Recounted → ZerosAnswer
+asZeros came (given r) = zerosOf 0 (r .zeros) (maskOut (r .mask))
+asZeros came (refused k s) = zerosOf k 0 came
 
 -- ---- a builder
 
+abbrev pub builderAnswer : ℕ → Builder → BuilderAnswer
+builderAnswer k b = record { refusal = k; builder = b }
+
 unfoldable pub asBuilder : Answer BitmapBuilder BitmapBuilder → BuilderAnswer
-asBuilder (given b) = record { refusal = 0; builder = builderOut b }
-asBuilder (refused k b) = record { refusal = k; builder = builderOut b }
+asBuilder (given b) = builderAnswer 0 (builderOut b)
+asBuilder (refused k b) = builderAnswer k (builderOut b)
 
 -- ---- a cursor, and what it gives
 
@@ -137,16 +133,24 @@ unfoldable pub asTaken : {C : Type 0} → (C → ℕ) → Answer C (ℕ × C) �
 asTaken place (given (n, c)) = stepOf 0 true 0 n (place c)
 asTaken place (refused k c) = stepOf k false 0 0 (place c)
 
--- a word as `value`, the number of its flags as `count`; the call moves no cursor, and gives no place
-unfoldable pub asRemainder : {C : Type 0} → Answer C (ℕ × ℕ) → StepAnswer
-asRemainder (given (w, n)) = stepOf 0 true w n 0
-asRemainder (refused k c) = stepOf k false 0 0 0
+-- a word as `value`, the number of its flags as `count`; the call moves no cursor, which stays at its place
+unfoldable pub asRemainder : {C : Type 0} → ℕ → Answer C (ℕ × ℕ) → StepAnswer
+asRemainder place (given (w, n)) = stepOf 0 true w n place
+asRemainder place (refused k c) = stepOf k false 0 0 place
 
 -- ---- a span cut in parts
 
 abbrev pub splitOf : ℕ → ℕ → ℕ → ℕ → ℕ → ℕ → ℕ → SplitAnswer
 splitOf k prefix prefixLen bulkStart bulkLen suffix suffixLen =
-    record { refusal = k; prefix = prefix; «prefix_len» = prefixLen; «bulk_start» = bulkStart; «bulk_len» = bulkLen; suffix = suffix; «suffix_len» = suffixLen }
+    record {
+      refusal = k;
+      prefix = prefix;
+      «prefix_len» = prefixLen;
+      «bulk_start» = bulkStart;
+      «bulk_len» = bulkLen;
+      suffix = suffix;
+      «suffix_len» = suffixLen;
+    }
 
 unfoldable pub asSplit : {S : Type 0} → Answer S AlignedBitmapSlice → SplitAnswer
 asSplit (given s) = splitOf 0 (s .prefix) (s .«prefix_len») (s .«bulk_start») (s .«bulk_len») (s .suffix) (s .«suffix_len»)
@@ -154,7 +158,13 @@ asSplit (refused k s) = splitOf k 0 0 0 0 0 0
 
 abbrev pub spansOf : ℕ → ℕ → ℕ → ℕ → ℕ → SpansAnswer
 spansOf k firstStart firstLength secondStart secondLength =
-    record { refusal = k; «first_start» = firstStart; «first_length» = firstLength; «second_start» = secondStart; «second_length» = secondLength }
+    record {
+      refusal = k;
+      «first_start» = firstStart;
+      «first_length» = firstLength;
+      «second_start» = secondStart;
+      «second_length» = secondLength;
+    }
 
 unfoldable pub asSpans : {S : Type 0} → Answer S (Span × Span) → SpansAnswer
 asSpans (given (a, b)) = spansOf 0 (a .start) (a .length) (b .start) (b .length)

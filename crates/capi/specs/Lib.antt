@@ -1,6 +1,6 @@
--- What the contracts of this crate mean: how records and answers cross as numbers, and what a number of an operation stands for.
+-- What the contracts of this crate mean: how records and answers cross as numbers, and by which numbers each
+-- export may refuse.
 -- What a call answers is defined in words, masks and dispatch.
 pub mod Answers
-pub mod Combine
 pub mod Records
-pub mod Spans
+pub mod Refusals

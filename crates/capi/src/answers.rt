@@ -1,23 +1,26 @@
 // The records in which answers cross to C and Rust. `refusal` is 0, or the number of the refusing check. On refusal a record is
-// the one that the call got, where it got one of that kind and gives it back; every other field is 0.
+// the very one that the call got, where it got one of that kind and gives it back; every other field is 0.
 ghost use mathlib.Core.Path.{_≡_};
 ghost use Rattle.capi.specs.Answers.{cursorAnswer, flagOf, maskAnswer, numberOf, positionOf, stepOf};
 use crate::records::Builder;
 use crate::records::Cursor;
 use crate::records::Mask;
 
+// A number.
 #[repr(C)]
 pub struct Number {
     pub refusal: u8,
     pub value: usize,
 }
 
+// A flag, or yes and no.
 #[repr(C)]
 pub struct Flag {
     pub refusal: u8,
     pub value: bool,
 }
 
+// A position, where `found`.
 #[repr(C)]
 pub struct Position {
     pub refusal: u8,
@@ -25,13 +28,14 @@ pub struct Position {
     pub value: usize,
 }
 
+// A mask.
 #[repr(C)]
 pub struct MaskAnswer {
     pub refusal: u8,
     pub mask: Mask,
 }
 
-// No mask where all flags are set.
+// A mask, where `present`; without one all flags are set.
 #[repr(C)]
 pub struct ValidityAnswer {
     pub refusal: u8,
@@ -39,6 +43,7 @@ pub struct ValidityAnswer {
     pub mask: Mask,
 }
 
+// The zeros of a mask, and the mask.
 #[repr(C)]
 pub struct ZerosAnswer {
     pub refusal: u8,
@@ -46,20 +51,23 @@ pub struct ZerosAnswer {
     pub mask: Mask,
 }
 
+// The builder to go on with.
 #[repr(C)]
 pub struct BuilderAnswer {
     pub refusal: u8,
     pub builder: Builder,
 }
 
+// A new cursor.
 #[repr(C)]
 pub struct CursorAnswer {
     pub refusal: u8,
     pub cursor: Cursor,
 }
 
-// What a cursor gives, and the place at which it then stands. `value` is a word, a run's start, a flag or a position; `count` is
-// a run's length, the flags of a remainder or the flags taken.
+// What a cursor gives where `found`, and the place at which it then stands; its start and length stay. `value` is a word, a run's
+// start, a flag as 0 or 1, or a position; `count` is a run's length, the flags of a remainder, the flags taken or the positions
+// written.
 #[repr(C)]
 pub struct StepAnswer {
     pub refusal: u8,
@@ -69,6 +77,7 @@ pub struct StepAnswer {
     pub place: usize,
 }
 
+// A span cut in three: lengths in flags, `bulk_start` as a byte of the buffer, `bulk_len` as a number of words.
 #[repr(C)]
 pub struct SplitAnswer {
     pub refusal: u8,
@@ -80,6 +89,7 @@ pub struct SplitAnswer {
     pub suffix_len: usize,
 }
 
+// Two spans.
 #[repr(C)]
 pub struct SpansAnswer {
     pub refusal: u8,
@@ -88,9 +98,6 @@ pub struct SpansAnswer {
     pub second_start: usize,
     pub second_length: usize,
 }
-
-// The number for an operation that there is none of, which no check has.
-pub const NO_SUCH_OPERATION: u8 = 255;
 
 pub(crate) fn number_of(refusal: u8, value: usize) -> Number
     ensures { λ r. ⌜ r ≡ numberOf refusal value ⌝ }

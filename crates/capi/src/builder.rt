@@ -1,4 +1,5 @@
-// Exported to C and Rust: the builder's calls. Each appends to the lent buffer and gives the builder back.
+// Exported to C and Rust: the builder. Each call appends to `buf` and gives the builder to go on with. Finished words are written
+// to the buffer, and nothing else of it; pw_freeze and pw_into_opt_validity write the frozen bytes over its front.
 ghost use mathlib.Core.Path.{_≡_};
 ghost use Rattle.masks.specs.Appends.{appendAnswer, appendBytes, extendBitmap, extendConstant, extendGather, extendOptGather};
 ghost use Rattle.masks.specs.Appends.{extendRepeated, extendSlice, pushedAnswer, pushFlag, pushWord};
@@ -107,7 +108,7 @@ pub extern "C" fn pw_extend_constant(
     pushed_out(builder_in(length, word, ones).extend_constant(buf, n, flag))
 }
 
-// Appends the first `n` flags of a word, whose bits from there on are 0.
+// Appends the first `n` flags of a word, whose bits from there on must be 0.
 #[no_mangle]
 pub extern "C" fn pw_push_word_with_len_unchecked(
     length: usize,
@@ -181,7 +182,8 @@ pub extern "C" fn pw_subslice_extend_from_bitmap(
     n: usize,
 ) -> BuilderAnswer
     ensures answer { λ r. ⌜ r ≡
-        asBuilder (appendAnswer (extendBitmap (maskIn mask) (now (bytes .entry)) start n) (builderIn length word ones) (now (buf .entry))) ⌝ }
+        asBuilder (appendAnswer (extendBitmap (maskIn mask) (now (bytes .entry)) start n)
+        (builderIn length word ones) (now (buf .entry))) ⌝ }
     ensures bytes { λ _. ⌜ now (buf .exit) ≡
         appendBytes (extendBitmap (maskIn mask) (now (bytes .entry)) start n) (builderIn length word ones) (now (buf .entry)) ⌝ }
 {
@@ -194,7 +196,7 @@ pub extern "C" fn pw_subslice_extend_from_bitmap(
     ))
 }
 
-// Appends the flag at each index of a span.
+// Appends the flag of a span at each index, all of them below its length.
 #[no_mangle]
 pub extern "C" fn pw_gather_extend_from_slice(
     length: usize,
@@ -207,14 +209,15 @@ pub extern "C" fn pw_gather_extend_from_slice(
     idxs: &[u32],
 ) -> BuilderAnswer
     ensures answer { λ r. ⌜ r ≡
-        asBuilder (appendAnswer (extendGather (now (bytes .entry)) start n (now (idxs .entry))) (builderIn length word ones) (now (buf .entry))) ⌝ }
+        asBuilder (appendAnswer (extendGather (now (bytes .entry)) start n (now (idxs .entry)))
+        (builderIn length word ones) (now (buf .entry))) ⌝ }
     ensures bytes { λ _. ⌜ now (buf .exit) ≡
         appendBytes (extendGather (now (bytes .entry)) start n (now (idxs .entry))) (builderIn length word ones) (now (buf .entry)) ⌝ }
 {
     pushed_out(builder_in(length, word, ones).gather_extend_from_slice(buf, bytes, start, n, idxs))
 }
 
-// The same, with 0 for an index at or past the span's length.
+// Appends the flag of a span at each index, 0 for one at or past the span's length.
 #[no_mangle]
 pub extern "C" fn pw_opt_gather_extend_from_slice(
     length: usize,
@@ -241,7 +244,7 @@ pub extern "C" fn pw_opt_gather_extend_from_slice(
     ))
 }
 
-// The mask of the builder's flags, written as frozen bytes over the front of the buffer.
+// The mask of the builder's flags, its zeros counted, over their frozen bytes. The builder is not given back: the caller has it.
 #[no_mangle]
 pub extern "C" fn pw_freeze(length: usize, word: u64, ones: usize, buf: &mut [u8]) -> MaskAnswer
     ensures answer { λ r. ⌜ r ≡ asMask (freezeOf (builderIn length word ones) (now (buf .entry))) ⌝ }
@@ -250,7 +253,7 @@ pub extern "C" fn pw_freeze(length: usize, word: u64, ones: usize, buf: &mut [u8
     frozen_out(builder_in(length, word, ones).freeze(buf))
 }
 
-// The same, with no mask where all flags are set.
+// The bytes and the mask that pw_freeze gives; no mask where all flags are set, so for no flags too.
 #[no_mangle]
 pub extern "C" fn pw_into_opt_validity(
     length: usize,

@@ -50,12 +50,13 @@ fn chunk_out(r: Chunk) -> StepAnswer
     }
 }
 
-fn remainder_out(r: Remainder) -> StepAnswer
-    ensures { λ a. ⌜ a ≡ asRemainder (remainderAnswer r) ⌝ }
+// `place` is where the cursor stands, and stays.
+fn remainder_out(place: usize, r: Remainder) -> StepAnswer
+    ensures { λ a. ⌜ a ≡ asRemainder place (remainderAnswer r) ⌝ }
 {
     match r {
-        Remainder::Rest(w, n) => step_of(0, true, w, n, 0),
-        Remainder::Refused(k, _) => step_of(k, false, 0, 0, 0),
+        Remainder::Rest(w, n) => step_of(0, true, w, n, place),
+        Remainder::Refused(k, _) => step_of(k, false, 0, 0, place),
     }
 }
 
@@ -67,7 +68,7 @@ pub extern "C" fn pw_chunks_new(bytes: &[u8], start: usize, length: usize) -> Cu
     new_out(BitChunks::new(bytes, start, length))
 }
 
-// A cursor at the first word of the first flags of the bytes.
+// A cursor at the first word of the first `length` flags of the bytes.
 #[no_mangle]
 pub extern "C" fn pw_chunks_new_exact(bytes: &[u8], length: usize) -> CursorAnswer
     ensures { λ r. ⌜ r ≡ asCursor chunksOut (newChunks (now (bytes .entry)) 0 length) ⌝ }
@@ -75,7 +76,7 @@ pub extern "C" fn pw_chunks_new_exact(bytes: &[u8], length: usize) -> CursorAnsw
     new_out(BitChunks::new_exact(bytes, length))
 }
 
-// The next word.
+// The next word in `value`; none from word length div 64 on, where the cursor stays.
 #[no_mangle]
 pub extern "C" fn pw_chunks_next(
     start: usize,
@@ -88,7 +89,8 @@ pub extern "C" fn pw_chunks_next(
     chunk_out(chunks_in(start, length, place).next(bytes))
 }
 
-// The flags behind the last whole word, as a word, and their number. No cursor is given: that of the caller stays as it is.
+// The last length mod 64 flags as a word in `value`, and their number in `count`, wherever the cursor stands. The cursor stays
+// there: its place is given as it came.
 #[no_mangle]
 pub extern "C" fn pw_chunks_remainder(
     start: usize,
@@ -96,7 +98,7 @@ pub extern "C" fn pw_chunks_remainder(
     place: usize,
     bytes: &[u8],
 ) -> StepAnswer
-    ensures { λ r. ⌜ r ≡ asRemainder (chunksRemainder (chunksAt start length place) (now (bytes .entry))) ⌝ }
+    ensures { λ r. ⌜ r ≡ asRemainder place (chunksRemainder (chunksAt start length place) (now (bytes .entry))) ⌝ }
 {
-    remainder_out(chunks_in(start, length, place).remainder(bytes))
+    remainder_out(place, chunks_in(start, length, place).remainder(bytes))
 }

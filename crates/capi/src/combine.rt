@@ -1,11 +1,10 @@
-// Exported to C and Rust: the combinations, flag by flag into a lent output, as frozen bytes.
+// Exported to C and Rust: the combinations. Each writes frozen bytes over the front of `out` and gives the mask over them.
 ghost use mathlib.Core.Path.{_≡_};
-ghost use Rattle.masks.specs.Combine.{combinedAnswer, notBytes, notOf, selectBytes, selectConstantBytes, selectConstantOf, selectOf};
+ghost use Rattle.masks.specs.Combine.{And, AndNot, Or, OrNot, Xor, combinedAnswer, pairBytes, pairOf};
+ghost use Rattle.masks.specs.Combine.{notBytes, notOf, selectBytes, selectConstantBytes, selectConstantOf, selectOf};
 ghost use Rattle.capi.specs.Answers.{asMask};
-ghost use Rattle.capi.specs.Combine.{combineBytes, combineOf, opNumbered};
 ghost use Rattle.capi.specs.Records.{maskIn};
 use crate::answers::MaskAnswer;
-use crate::answers::NO_SUCH_OPERATION;
 use crate::answers::mask_answer;
 use crate::records::Mask;
 use crate::records::mask_in;
@@ -30,10 +29,9 @@ fn combined_out(r: Combined) -> MaskAnswer
     }
 }
 
-// Two masks under operation number `op`: 0 and, 1 and_not, 2 or, 3 or_not, 4 xor.
+// The flags that are set in both masks.
 #[no_mangle]
-pub extern "C" fn pw_combine(
-    op: u8,
+pub extern "C" fn pw_and(
     lhs: Mask,
     left: &[u8],
     rhs: Mask,
@@ -41,31 +39,82 @@ pub extern "C" fn pw_combine(
     out: &mut [u8],
 ) -> MaskAnswer
     ensures answer { λ r. ⌜ r ≡
-        asMask (combineOf (opNumbered op) (maskIn lhs) (now (left .entry)) (maskIn rhs) (now (right .entry)) (now (out .entry))) ⌝ }
+        asMask (pairOf And (maskIn lhs) (now (left .entry)) (maskIn rhs) (now (right .entry)) (now (out .entry))) ⌝ }
     ensures bytes { λ _. ⌜ now (out .exit) ≡
-        combineBytes (opNumbered op) (maskIn lhs) (now (left .entry)) (maskIn rhs) (now (right .entry)) (now (out .entry)) ⌝ }
+        pairBytes And (maskIn lhs) (now (left .entry)) (maskIn rhs) (now (right .entry)) (now (out .entry)) ⌝ }
 {
-    let a = mask_in(lhs);
-    let b = mask_in(rhs);
-    if op == 0 {
-        return combined_out(and(a, left, b, right, out));
-    }
-    if op == 1 {
-        return combined_out(and_not(a, left, b, right, out));
-    }
-    if op == 2 {
-        return combined_out(or(a, left, b, right, out));
-    }
-    if op == 3 {
-        return combined_out(or_not(a, left, b, right, out));
-    }
-    if op == 4 {
-        return combined_out(xor(a, left, b, right, out));
-    }
-    mask_answer(NO_SUCH_OPERATION, no_mask())
+    combined_out(and(mask_in(lhs), left, mask_in(rhs), right, out))
 }
 
-// Each flag turned.
+// The flags that are set in the first mask and not in the second.
+#[no_mangle]
+pub extern "C" fn pw_and_not(
+    lhs: Mask,
+    left: &[u8],
+    rhs: Mask,
+    right: &[u8],
+    out: &mut [u8],
+) -> MaskAnswer
+    ensures answer { λ r. ⌜ r ≡
+        asMask (pairOf AndNot (maskIn lhs) (now (left .entry)) (maskIn rhs) (now (right .entry)) (now (out .entry))) ⌝ }
+    ensures bytes { λ _. ⌜ now (out .exit) ≡
+        pairBytes AndNot (maskIn lhs) (now (left .entry)) (maskIn rhs) (now (right .entry)) (now (out .entry)) ⌝ }
+{
+    combined_out(and_not(mask_in(lhs), left, mask_in(rhs), right, out))
+}
+
+// The flags that are set in either mask.
+#[no_mangle]
+pub extern "C" fn pw_or(
+    lhs: Mask,
+    left: &[u8],
+    rhs: Mask,
+    right: &[u8],
+    out: &mut [u8],
+) -> MaskAnswer
+    ensures answer { λ r. ⌜ r ≡
+        asMask (pairOf Or (maskIn lhs) (now (left .entry)) (maskIn rhs) (now (right .entry)) (now (out .entry))) ⌝ }
+    ensures bytes { λ _. ⌜ now (out .exit) ≡
+        pairBytes Or (maskIn lhs) (now (left .entry)) (maskIn rhs) (now (right .entry)) (now (out .entry)) ⌝ }
+{
+    combined_out(or(mask_in(lhs), left, mask_in(rhs), right, out))
+}
+
+// The flags that are set in the first mask or not in the second.
+#[no_mangle]
+pub extern "C" fn pw_or_not(
+    lhs: Mask,
+    left: &[u8],
+    rhs: Mask,
+    right: &[u8],
+    out: &mut [u8],
+) -> MaskAnswer
+    ensures answer { λ r. ⌜ r ≡
+        asMask (pairOf OrNot (maskIn lhs) (now (left .entry)) (maskIn rhs) (now (right .entry)) (now (out .entry))) ⌝ }
+    ensures bytes { λ _. ⌜ now (out .exit) ≡
+        pairBytes OrNot (maskIn lhs) (now (left .entry)) (maskIn rhs) (now (right .entry)) (now (out .entry)) ⌝ }
+{
+    combined_out(or_not(mask_in(lhs), left, mask_in(rhs), right, out))
+}
+
+// The flags in which the masks differ.
+#[no_mangle]
+pub extern "C" fn pw_xor(
+    lhs: Mask,
+    left: &[u8],
+    rhs: Mask,
+    right: &[u8],
+    out: &mut [u8],
+) -> MaskAnswer
+    ensures answer { λ r. ⌜ r ≡
+        asMask (pairOf Xor (maskIn lhs) (now (left .entry)) (maskIn rhs) (now (right .entry)) (now (out .entry))) ⌝ }
+    ensures bytes { λ _. ⌜ now (out .exit) ≡
+        pairBytes Xor (maskIn lhs) (now (left .entry)) (maskIn rhs) (now (right .entry)) (now (out .entry)) ⌝ }
+{
+    combined_out(xor(mask_in(lhs), left, mask_in(rhs), right, out))
+}
+
+// Each flag inverted.
 #[no_mangle]
 pub extern "C" fn pw_not(mask: Mask, bytes: &[u8], out: &mut [u8]) -> MaskAnswer
     ensures answer { λ r. ⌜ r ≡ asMask (notOf (maskIn mask) (now (bytes .entry)) (now (out .entry))) ⌝ }
@@ -74,7 +123,7 @@ pub extern "C" fn pw_not(mask: Mask, bytes: &[u8], out: &mut [u8]) -> MaskAnswer
     combined_out(not(mask_in(mask), bytes, out))
 }
 
-// The second mask's flag where the first's is set, else the third's.
+// The flag of `truthy` where the selector's is set, else that of `falsy`.
 #[no_mangle]
 pub extern "C" fn pw_select(
     selector: Mask,
@@ -101,7 +150,7 @@ pub extern "C" fn pw_select(
     ))
 }
 
-// The second mask's flag where the first's is set, else the constant.
+// The flag of `truthy` where the selector's is set, else `flag`.
 #[no_mangle]
 pub extern "C" fn pw_select_constant(
     selector: Mask,

@@ -1,5 +1,6 @@
-// Exported to C and Rust: the cursors over runs, flags and positions.
+// Exported to C and Rust: the cursors over runs, flags and positions. A step that finds nothing gives the length as the place.
 ghost use mathlib.Core.Path.{_≡_};
+ghost use mathlib.Core.Bool.{true, false};
 ghost use Rattle.masks.specs.Iterator.{flagAnswer, iterAnswer, iterAt, newIter, nthFlag, takeLeading, takenAnswer};
 ghost use Rattle.masks.specs.Positions.{positionsAnswer, positionsOver, nextPositions};
 ghost use Rattle.masks.specs.SliceIterator.{newSlices, nextSlice, sliceAnswer, slicesAnswer, slicesAt};
@@ -67,7 +68,7 @@ fn slice_out(r: Slice) -> StepAnswer
     }
 }
 
-// A cursor before the first run of ones.
+// A cursor before the first run of ones of a mask.
 #[no_mangle]
 pub extern "C" fn pw_slices_new(mask: Mask, bytes: &[u8]) -> CursorAnswer
     ensures { λ r. ⌜ r ≡ asCursor slicesOut (newSlices (maskIn mask) (now (bytes .entry))) ⌝ }
@@ -75,7 +76,7 @@ pub extern "C" fn pw_slices_new(mask: Mask, bytes: &[u8]) -> CursorAnswer
     new_slices_out(SlicesIterator::new(mask_in(mask), bytes))
 }
 
-// The next run of ones: its start and its length.
+// The next run of ones, its start in `value` and its length in `count`.
 #[no_mangle]
 pub extern "C" fn pw_slices_next(
     start: usize,
@@ -134,7 +135,7 @@ fn taken_out(r: Taken) -> StepAnswer
     }
 }
 
-// A cursor before the first flag of a span.
+// A cursor before the first flag of a span. With length 0 its start, length and place are 0, before any test.
 #[no_mangle]
 pub extern "C" fn pw_iter_new(bytes: &[u8], start: usize, length: usize) -> CursorAnswer
     ensures { λ r. ⌜ r ≡ asCursor iterOut (newIter (now (bytes .entry)) start length) ⌝ }
@@ -142,7 +143,7 @@ pub extern "C" fn pw_iter_new(bytes: &[u8], start: usize, length: usize) -> Curs
     new_iter_out(BitmapIter::new(bytes, start, length))
 }
 
-// The next flag.
+// The next flag, 0 or 1 in `value`.
 #[no_mangle]
 pub extern "C" fn pw_iter_next(
     start: usize,
@@ -155,7 +156,7 @@ pub extern "C" fn pw_iter_next(
     flag_out(iter_in(start, length, place).next(bytes))
 }
 
-// The flag n places on.
+// The flag that stands `n` behind the next one, 0 or 1 in `value`.
 #[no_mangle]
 pub extern "C" fn pw_iter_nth(
     start: usize,
@@ -169,20 +170,29 @@ pub extern "C" fn pw_iter_nth(
     flag_out(iter_in(start, length, place).nth(bytes, n))
 }
 
-// How many flags that equal `flag` stand next; the cursor moves past them.
+// How many ones stand next, in `count`; the cursor moves past them.
 #[no_mangle]
-pub extern "C" fn pw_take_leading(
-    flag: bool,
+pub extern "C" fn pw_take_leading_ones(
     start: usize,
     length: usize,
     place: usize,
     bytes: &[u8],
 ) -> StepAnswer
-    ensures { λ r. ⌜ r ≡ asTaken iterPlace (takeLeading flag (iterAt start length place) (now (bytes .entry))) ⌝ }
+    ensures { λ r. ⌜ r ≡ asTaken iterPlace (takeLeading true (iterAt start length place) (now (bytes .entry))) ⌝ }
 {
-    if flag {
-        return taken_out(iter_in(start, length, place).take_leading_ones(bytes));
-    }
+    taken_out(iter_in(start, length, place).take_leading_ones(bytes))
+}
+
+// How many zeros stand next, in `count`; the cursor moves past them.
+#[no_mangle]
+pub extern "C" fn pw_take_leading_zeros(
+    start: usize,
+    length: usize,
+    place: usize,
+    bytes: &[u8],
+) -> StepAnswer
+    ensures { λ r. ⌜ r ≡ asTaken iterPlace (takeLeading false (iterAt start length place) (now (bytes .entry))) ⌝ }
+{
     taken_out(iter_in(start, length, place).take_leading_zeros(bytes))
 }
 
@@ -233,7 +243,8 @@ fn chunk_out(r: TrueChunk) -> StepAnswer
     }
 }
 
-// A cursor before the first position. Without a mask every position is given.
+// A cursor before the first position of a one in a mask of `length` flags. Where not `present` there is no mask: record and bytes
+// are not read, every position is given, and 1 is the only refusal.
 #[no_mangle]
 pub extern "C" fn pw_true_idx_new(
     length: usize,
@@ -246,7 +257,7 @@ pub extern "C" fn pw_true_idx_new(
     new_true_out(TrueIdxIter::new(length, optional_in(present, mask), bytes))
 }
 
-// The next position of a one.
+// The next position of a one, in `value`. Without a mask 2 does not come.
 #[no_mangle]
 pub extern "C" fn pw_true_idx_next(
     start: usize,
@@ -260,7 +271,9 @@ pub extern "C" fn pw_true_idx_next(
     true_idx_out(true_in(start, length, place, masked).next(bytes))
 }
 
-// The next positions of ones, as many as `out` has room for, written to its front.
+// The next positions of ones, as many as there are and `out` has room for, over its front, and their number in `count`: what as
+// many calls of pw_true_idx_next give. The place is just past the last of them, where there was room for more the length; with no
+// room the cursor stays. `found` is true. Without a mask 2 does not come.
 #[no_mangle]
 pub extern "C" fn pw_true_idx_next_chunk(
     start: usize,
@@ -270,8 +283,10 @@ pub extern "C" fn pw_true_idx_next_chunk(
     bytes: &[u8],
     out: &mut [u32],
 ) -> StepAnswer
-    ensures answer { λ r. ⌜ r ≡ asTaken truePlace (nextPositions (trueIn start length place masked) (now (bytes .entry)) (ListN·length (now (out .entry)))) ⌝ }
-    ensures positions { λ _. ⌜ now (out .exit) ≡ positionsOver (trueIn start length place masked) (now (bytes .entry)) (now (out .entry)) ⌝ }
+    ensures answer { λ r. ⌜ r ≡
+        asTaken truePlace (nextPositions (trueIn start length place masked) (now (bytes .entry)) (ListN·length (now (out .entry)))) ⌝ }
+    ensures positions { λ _. ⌜ now (out .exit) ≡
+        positionsOver (trueIn start length place masked) (now (bytes .entry)) (now (out .entry)) ⌝ }
 {
     chunk_out(true_in(start, length, place, masked).next_chunk(bytes, out))
 }

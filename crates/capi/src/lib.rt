@@ -8,6 +8,7 @@ pub mod builder;
 pub mod chunks;
 pub mod combine;
 pub mod cursors;
+pub mod interface;
 pub mod mask;
 pub mod reassign;
 mod records;

@@ -34,17 +34,19 @@ fn made_out(r: Made) -> MaskAnswer
     }
 }
 
-fn sliced_out(r: Sliced) -> MaskAnswer
-    ensures { λ a. ⌜ a ≡ asSameMask (slicedAnswer r) ⌝ }
+// `came` is the record that the export got.
+fn sliced_out(came: Mask, r: Sliced) -> MaskAnswer
+    ensures { λ a. ⌜ a ≡ asSameMask came (slicedAnswer r) ⌝ }
 {
     match r {
         Sliced::Mask(m) => mask_answer(0, mask_out(m)),
-        Sliced::Refused(k, m) => mask_answer(k, mask_out(m)),
+        Sliced::Refused(k, _) => mask_answer(k, came),
     }
 }
 
-fn counting_out(r: Counting) -> ZerosAnswer
-    ensures { λ a. ⌜ a ≡ asZeros (countingAnswer r) ⌝ }
+// `came` is the record that the export got.
+fn counting_out(came: Mask, r: Counting) -> ZerosAnswer
+    ensures { λ a. ⌜ a ≡ asZeros came (countingAnswer r) ⌝ }
 {
     match r {
         Counting::Zeros(z, m) => ZerosAnswer {
@@ -52,10 +54,10 @@ fn counting_out(r: Counting) -> ZerosAnswer
             zeros: z,
             mask: mask_out(m),
         },
-        Counting::Refused(k, m) => ZerosAnswer {
+        Counting::Refused(k, _) => ZerosAnswer {
             refusal: k,
             zeros: 0,
-            mask: mask_out(m),
+            mask: came,
         },
     }
 }
@@ -77,7 +79,7 @@ pub extern "C" fn pw_bitmap_new() -> Mask
     mask_out(Bitmap::new())
 }
 
-// A mask of so many zeros, written as frozen bytes over the front of the output.
+// A mask of `length` zeros, whose frozen bytes are written over the front of `out`.
 #[no_mangle]
 pub extern "C" fn pw_new_zeroed(length: usize, out: &mut [u8]) -> MaskAnswer
     ensures answer { λ r. ⌜ r ≡ asMask (newZeroedOf length (now (out .entry))) ⌝ }
@@ -86,7 +88,7 @@ pub extern "C" fn pw_new_zeroed(length: usize, out: &mut [u8]) -> MaskAnswer
     made_out(Bitmap::new_zeroed(length, out))
 }
 
-// A mask over lent bytes, its zeros not counted yet.
+// The mask of a span, its zeros not counted.
 #[no_mangle]
 pub extern "C" fn pw_try_new(bytes: &[u8], start: usize, length: usize) -> MaskAnswer
     ensures { λ r. ⌜ r ≡ asMask (tryNewOf (now (bytes .entry)) start length) ⌝ }
@@ -94,23 +96,23 @@ pub extern "C" fn pw_try_new(bytes: &[u8], start: usize, length: usize) -> MaskA
     made_out(Bitmap::try_new(bytes, start, length))
 }
 
-// The piece of `length` flags from `offset` on.
+// The piece of `length` flags from flag `offset` on.
 #[no_mangle]
 pub extern "C" fn pw_slice(mask: Mask, bytes: &[u8], offset: usize, length: usize) -> MaskAnswer
-    ensures { λ r. ⌜ r ≡ asSameMask (sliceOf (maskIn mask) (now (bytes .entry)) offset length) ⌝ }
+    ensures { λ r. ⌜ r ≡ asSameMask mask (sliceOf (maskIn mask) (now (bytes .entry)) offset length) ⌝ }
 {
-    sliced_out(mask_in(mask).slice(bytes, offset, length))
+    sliced_out(mask, mask_in(mask).slice(bytes, offset, length))
 }
 
 // The zeros of a mask, and the mask with its count known.
 #[no_mangle]
 pub extern "C" fn pw_unset_bits(mask: Mask, bytes: &[u8]) -> ZerosAnswer
-    ensures { λ r. ⌜ r ≡ asZeros (unsetBitsOf (maskIn mask) (now (bytes .entry))) ⌝ }
+    ensures { λ r. ⌜ r ≡ asZeros mask (unsetBitsOf (maskIn mask) (now (bytes .entry))) ⌝ }
 {
-    counting_out(mask_in(mask).unset_bits(bytes))
+    counting_out(mask, mask_in(mask).unset_bits(bytes))
 }
 
-// Are the lengths and all flags equal.
+// Whether lengths and flags are equal.
 #[no_mangle]
 pub extern "C" fn pw_eq(lhs: Mask, left: &[u8], rhs: Mask, right: &[u8]) -> Flag
     ensures { λ r. ⌜ r ≡ asFlag (eqOf (maskIn lhs) (now (left .entry)) (maskIn rhs) (now (right .entry))) ⌝ }
@@ -118,7 +120,7 @@ pub extern "C" fn pw_eq(lhs: Mask, left: &[u8], rhs: Mask, right: &[u8]) -> Flag
     compared_out(eq(mask_in(lhs), left, mask_in(rhs), right))
 }
 
-// How many neighbours differ.
+// How many flags differ from the next one.
 #[no_mangle]
 pub extern "C" fn pw_num_edges(mask: Mask, bytes: &[u8]) -> Number
     ensures { λ r. ⌜ r ≡ asNumber (edgesOf (maskIn mask) (now (bytes .entry))) ⌝ }
@@ -126,7 +128,7 @@ pub extern "C" fn pw_num_edges(mask: Mask, bytes: &[u8]) -> Number
     counted_out(num_edges(mask_in(mask), bytes))
 }
 
-// How many flags are set in both.
+// How many flags are set in both masks.
 #[no_mangle]
 pub extern "C" fn pw_num_intersections_with(
     lhs: Mask,

@@ -1,4 +1,4 @@
-// Exported to C and Rust: whether a truck may be reassigned.
+// Exported to C and Rust: dispatch.
 ghost use mathlib.Core.Path.{_≡_};
 ghost use Rattle.dispatch.specs.Dispatch.{mayReassign, reassignAnswer};
 ghost use Rattle.capi.specs.Answers.{asFlag};
@@ -19,8 +19,9 @@ fn reassign_out(r: Reassign) -> Flag
     }
 }
 
-// May truck number `truck` be reassigned. `permitted` and `revoked` say whether there is such a mask: an absent permission stands
-// for ones, an absent revocation for zeros.
+// Whether truck number `truck` may be reassigned: its flag in the permission mask, and not in the revocation mask. Where not
+// `permitted` there is no permission mask, which stands for all ones; where not `revoked` no revocation mask, which stands for all
+// zeros: record and bytes are then not read. 5 comes with both masks alone; without any mask nothing is refused.
 #[no_mangle]
 pub extern "C" fn pw_may_reassign(
     permitted: bool,

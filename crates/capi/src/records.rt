@@ -1,4 +1,7 @@
 // The records that cross to C and Rust, and what each is as a record of masks.
+//
+// A builder and a cursor are given as a record and go in again as its numbers, which stay in registers: a record that is handed on
+// from call to call through memory costs several times the call.
 ghost use mathlib.Core.Path.{_≡_};
 ghost use Rattle.words.specs.Flags.{digit};
 ghost use Rattle.capi.specs.Records.{builderIn, builderOut, countIn, cursorOf, maskIn, maskOut, noCursor, noMask, optionalIn};
@@ -16,7 +19,7 @@ pub struct Mask {
     pub known: u8,
 }
 
-// A builder: its length, the word in progress and the ones in the finished words.
+// A builder: its length, the word in progress and the ones in the finished words, which stand in its buffer.
 #[repr(C)]
 pub struct Builder {
     pub length: usize,
@@ -24,11 +27,8 @@ pub struct Builder {
     pub ones: usize,
 }
 
-// A cursor: a span and the next place in it. `masked` is read by `pw_true_idx_next` alone, where 0 says that there is no mask;
-// every other call gives it as 1.
-//
-// A builder and a cursor are given as a record and go in again as its numbers, which stay in registers: a record that is handed on
-// from call to call through memory costs several times the call.
+// A cursor: a span and the next place in it, counted in flags, for pw_chunks_ in words. `masked` is read by pw_true_idx_next and
+// pw_true_idx_next_chunk alone, for which 0 says that there is no mask; every other call gives it as 1.
 #[repr(C)]
 pub struct Cursor {
     pub start: usize,

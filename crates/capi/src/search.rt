@@ -32,7 +32,7 @@ pub extern "C" fn pw_nth_set_bit_idx(
     position_out(nth_set_bit_idx(bytes, start, length, n, from))
 }
 
-// The position of the n-th set flag counted down from below `end`.
+// The position of the n-th set flag counted down from below `end`, which may exceed the length.
 #[no_mangle]
 pub extern "C" fn pw_nth_set_bit_idx_rev(
     bytes: &[u8],

@@ -1,12 +1,12 @@
 // Exported to C and Rust: the calls over bare spans, which are the aligned split, the counts, a span cut in two and a window.
 ghost use mathlib.Core.Path.{_≡_};
+ghost use mathlib.Core.Bool.{true, false};
 ghost use Rattle.masks.specs.Aligned.{alignedAnswer, alignedOf};
 ghost use Rattle.masks.specs.Bitmask.{partsAnswer, splitAt, windowAnswer, windowAt};
+ghost use Rattle.words.specs.Ends.{leading, trailing};
 ghost use Rattle.words.specs.Loops.{stretch};
 ghost use Rattle.masks.specs.Utils.{countedAnswer, spanCount, zeros};
 ghost use Rattle.capi.specs.Answers.{asNumber, asSpans, asSplit};
-ghost use Rattle.capi.specs.Spans.{countNumbered, countOf};
-use crate::answers::NO_SUCH_OPERATION;
 use crate::answers::Number;
 use crate::answers::SpansAnswer;
 use crate::answers::SplitAnswer;
@@ -88,7 +88,8 @@ fn window_out(r: Window) -> Number
     }
 }
 
-// The span's prefix, whole words and suffix, where the first byte stands at an address whose remainder by 8 is `address`.
+// The span cut in a prefix, whole words at addresses divisible by 8, and a suffix. `address` is the remainder by 8 of the address
+// of the first byte. With length 0 all is 0, before any test.
 #[no_mangle]
 pub extern "C" fn pw_aligned_new(
     bytes: &[u8],
@@ -101,7 +102,7 @@ pub extern "C" fn pw_aligned_new(
     aligned_out(AlignedBitmapSlice::new(bytes, start, length, address))
 }
 
-// How many flags of a span are zero: count number 0 by itself, which is the one that programs ask for again and again.
+// How many flags of a span are zero, whatever `address` is. With length 0 it is 0, before any test.
 #[no_mangle]
 pub extern "C" fn pw_count_zeros(
     bytes: &[u8],
@@ -109,41 +110,69 @@ pub extern "C" fn pw_count_zeros(
     length: usize,
     address: usize,
 ) -> Number
-    ensures { λ r. ⌜ r ≡ asNumber (spanCount (now (bytes .entry)) start length address (zeros (stretch (now (bytes .entry)) start length))) ⌝ }
+    ensures { λ r. ⌜ r ≡
+        asNumber (spanCount (now (bytes .entry)) start length address (zeros (stretch (now (bytes .entry)) start length))) ⌝ }
 {
     counted_out(count_zeros(bytes, start, length, address))
 }
 
-// The count number `what`: 0 all zeros, 1 leading zeros, 2 leading ones, 3 trailing zeros, 4 trailing ones.
+// How many zeros stand before the first one of a span, whatever `address` is. With length 0 it is 0, before any test.
 #[no_mangle]
-pub extern "C" fn pw_count(
-    what: u8,
+pub extern "C" fn pw_leading_zeros(
     bytes: &[u8],
     start: usize,
     length: usize,
     address: usize,
 ) -> Number
-    ensures { λ r. ⌜ r ≡ asNumber (countOf (countNumbered what) (now (bytes .entry)) start length address) ⌝ }
+    ensures { λ r. ⌜ r ≡
+        asNumber (spanCount (now (bytes .entry)) start length address (leading false (stretch (now (bytes .entry)) start length))) ⌝ }
 {
-    if what == 0 {
-        return counted_out(count_zeros(bytes, start, length, address));
-    }
-    if what == 1 {
-        return counted_out(leading_zeros(bytes, start, length, address));
-    }
-    if what == 2 {
-        return counted_out(leading_ones(bytes, start, length, address));
-    }
-    if what == 3 {
-        return counted_out(trailing_zeros(bytes, start, length, address));
-    }
-    if what == 4 {
-        return counted_out(trailing_ones(bytes, start, length, address));
-    }
-    number_of(NO_SUCH_OPERATION, 0)
+    counted_out(leading_zeros(bytes, start, length, address))
 }
 
-// The spans before and behind flag `at`.
+// How many ones stand before the first zero of a span, whatever `address` is. With length 0 it is 0, before any test.
+#[no_mangle]
+pub extern "C" fn pw_leading_ones(
+    bytes: &[u8],
+    start: usize,
+    length: usize,
+    address: usize,
+) -> Number
+    ensures { λ r. ⌜ r ≡
+        asNumber (spanCount (now (bytes .entry)) start length address (leading true (stretch (now (bytes .entry)) start length))) ⌝ }
+{
+    counted_out(leading_ones(bytes, start, length, address))
+}
+
+// How many zeros stand behind the last one of a span, whatever `address` is. With length 0 it is 0, before any test.
+#[no_mangle]
+pub extern "C" fn pw_trailing_zeros(
+    bytes: &[u8],
+    start: usize,
+    length: usize,
+    address: usize,
+) -> Number
+    ensures { λ r. ⌜ r ≡
+        asNumber (spanCount (now (bytes .entry)) start length address (trailing false (stretch (now (bytes .entry)) start length))) ⌝ }
+{
+    counted_out(trailing_zeros(bytes, start, length, address))
+}
+
+// How many ones stand behind the last zero of a span, whatever `address` is. With length 0 it is 0, before any test.
+#[no_mangle]
+pub extern "C" fn pw_trailing_ones(
+    bytes: &[u8],
+    start: usize,
+    length: usize,
+    address: usize,
+) -> Number
+    ensures { λ r. ⌜ r ≡
+        asNumber (spanCount (now (bytes .entry)) start length address (trailing true (stretch (now (bytes .entry)) start length))) ⌝ }
+{
+    counted_out(trailing_ones(bytes, start, length, address))
+}
+
+// The spans of the flags before flag `at` and from it on.
 #[no_mangle]
 pub extern "C" fn pw_split_at_unchecked(
     bytes: &[u8],
@@ -156,7 +185,7 @@ pub extern "C" fn pw_split_at_unchecked(
     parts_out(split_at_unchecked(bytes, start, length, at))
 }
 
-// 32 flags from `index` on, zeros past the end.
+// 32 flags from `index` on, the first in the lowest bit, zeros past the span's end.
 #[no_mangle]
 pub extern "C" fn pw_get_u32(bytes: &[u8], start: usize, length: usize, index: usize) -> Number
     ensures { λ r. ⌜ r ≡ asNumber (windowAt (now (bytes .entry)) start length index) ⌝ }

@@ -1,4 +1,4 @@
-// Exported to C and Rust: the calls of words, which refuse nothing.
+// Exported to C and Rust: the calls of words. Nothing is refused.
 ghost use mathlib.Core.Path.{_≡_};
 ghost use Rattle.words.specs.Flags.{bits, flagsOf, window, wordFlags};
 ghost use Rattle.words.specs.Merge.{merged};
@@ -37,7 +37,7 @@ pub extern "C" fn pw_merge_reversed(current: u64, next: u64, offset: usize) -> u
     merge_reversed(current, next, offset)
 }
 
-// The position of set bit n of a word, counted from 0.
+// The position of set bit n of a word, counted from 0; not found where at most n are set.
 #[no_mangle]
 pub extern "C" fn pw_nth_set_bit_u64(w: u64, n: u64) -> Position
     ensures { λ r. ⌜ r ≡ asPosition (nthAnswer (nthOne (bits 64 w) n)) ⌝ }
@@ -45,6 +45,7 @@ pub extern "C" fn pw_nth_set_bit_u64(w: u64, n: u64) -> Position
     nth_out(nth_set_bit_u64(w, n))
 }
 
+// The position of set bit n of a word of 32 bits, counted from 0; not found where at most n are set.
 #[no_mangle]
 pub extern "C" fn pw_nth_set_bit_u32(w: u32, n: u32) -> Position
     ensures { λ r. ⌜ r ≡ asPosition (nthAnswer (nthOne (bits 32 w) n)) ⌝ }

@@ -6,15 +6,8 @@ use super::Bitmap;
 use crate::calls;
 use crate::refusal::{Refusal, check};
 
-/// The operations of `calls::combine`, by their numbers there.
-#[derive(Clone, Copy)]
-enum Operation {
-    And = 0,
-    AndNot = 1,
-    Or = 2,
-    OrNot = 3,
-    Xor = 4,
-}
+/// A call that combines two masks.
+type Combine = fn(calls::Mask, &[u8], calls::Mask, &[u8], &mut [u8]) -> calls::MaskAnswer;
 
 /// Combining reads the zero counts of its masks, where the result can be told from them at once; a count that is not known
 /// is counted for it and not kept. Call [`unset_bits`](Bitmap::unset_bits) first on a mask that is combined often.
@@ -30,7 +23,7 @@ impl Bitmap {
     /// # Ok::<(), Refusal>(())
     /// ```
     pub fn and(&self, rhs: &Bitmap) -> Result<Bitmap, Refusal> {
-        self.combined(Operation::And, rhs)
+        self.combined(calls::and, rhs)
     }
 
     /// The flags set here and not there: the trucks permitted and not revoked. Refused with 5.
@@ -44,7 +37,7 @@ impl Bitmap {
     /// # Ok::<(), poruwhina::Refusal>(())
     /// ```
     pub fn and_not(&self, rhs: &Bitmap) -> Result<Bitmap, Refusal> {
-        self.combined(Operation::AndNot, rhs)
+        self.combined(calls::and_not, rhs)
     }
 
     /// The flags set in one or in both. Refused with 5.
@@ -57,7 +50,7 @@ impl Bitmap {
     /// # Ok::<(), poruwhina::Refusal>(())
     /// ```
     pub fn or(&self, rhs: &Bitmap) -> Result<Bitmap, Refusal> {
-        self.combined(Operation::Or, rhs)
+        self.combined(calls::or, rhs)
     }
 
     /// The flags set here or not set there. Refused with 5.
@@ -70,7 +63,7 @@ impl Bitmap {
     /// # Ok::<(), poruwhina::Refusal>(())
     /// ```
     pub fn or_not(&self, rhs: &Bitmap) -> Result<Bitmap, Refusal> {
-        self.combined(Operation::OrNot, rhs)
+        self.combined(calls::or_not, rhs)
     }
 
     /// The flags set in one and not in both. Refused with 5.
@@ -83,7 +76,7 @@ impl Bitmap {
     /// # Ok::<(), poruwhina::Refusal>(())
     /// ```
     pub fn xor(&self, rhs: &Bitmap) -> Result<Bitmap, Refusal> {
-        self.combined(Operation::Xor, rhs)
+        self.combined(calls::xor, rhs)
     }
 
     /// Each flag inverted. No check of it can fail, so there is no refusal.
@@ -141,8 +134,8 @@ impl Bitmap {
         Ok(answer.value)
     }
 
-    fn combined(&self, operation: Operation, rhs: &Bitmap) -> Result<Bitmap, Refusal> {
-        Bitmap::written(self.length, |out| calls::combine(operation as u8, self.record(), &self.bytes, rhs.record(), &rhs.bytes, out))
+    fn combined(&self, call: Combine, rhs: &Bitmap) -> Result<Bitmap, Refusal> {
+        Bitmap::written(self.length, |out| call(self.record(), &self.bytes, rhs.record(), &rhs.bytes, out))
     }
 }
 

@@ -4,15 +4,6 @@ use super::Bitmap;
 use crate::calls;
 use crate::refusal::check_passed;
 
-/// The counts of `calls::count`, by their numbers there.
-#[derive(Clone, Copy)]
-enum Count {
-    LeadingZeros = 1,
-    LeadingOnes = 2,
-    TrailingZeros = 3,
-    TrailingOnes = 4,
-}
-
 impl Bitmap {
     /// The number of zeros, counted on the first call and then kept.
     ///
@@ -57,7 +48,7 @@ impl Bitmap {
     /// assert_eq!(poruwhina::Bitmap::from([false, false, true]).leading_zeros(), 2);
     /// ```
     pub fn leading_zeros(&self) -> usize {
-        self.count(Count::LeadingZeros)
+        self.count(calls::leading_zeros)
     }
 
     /// How many ones stand before the first zero.
@@ -66,7 +57,7 @@ impl Bitmap {
     /// assert_eq!(poruwhina::Bitmap::from([true, true, false]).leading_ones(), 2);
     /// ```
     pub fn leading_ones(&self) -> usize {
-        self.count(Count::LeadingOnes)
+        self.count(calls::leading_ones)
     }
 
     /// How many zeros stand behind the last one.
@@ -75,7 +66,7 @@ impl Bitmap {
     /// assert_eq!(poruwhina::Bitmap::from([true, false, false]).trailing_zeros(), 2);
     /// ```
     pub fn trailing_zeros(&self) -> usize {
-        self.count(Count::TrailingZeros)
+        self.count(calls::trailing_zeros)
     }
 
     /// How many ones stand behind the last zero.
@@ -84,7 +75,7 @@ impl Bitmap {
     /// assert_eq!(poruwhina::Bitmap::from([false, true, true]).trailing_ones(), 2);
     /// ```
     pub fn trailing_ones(&self) -> usize {
-        self.count(Count::TrailingOnes)
+        self.count(calls::trailing_ones)
     }
 
     /// How many neighbouring flags differ.
@@ -118,9 +109,9 @@ impl Bitmap {
         found(calls::nth_set_bit_idx_rev(&self.bytes, self.start, self.length, n, end))
     }
 
-    fn count(&self, what: Count) -> usize {
+    fn count(&self, call: impl FnOnce(&[u8], usize, usize, usize) -> calls::Number) -> usize {
         // The last argument is the address remainder, on which no count depends.
-        let answer = calls::count(what as u8, &self.bytes, self.start, self.length, 0);
+        let answer = call(&self.bytes, self.start, self.length, 0);
         check_passed(answer.refusal);
         answer.value
     }

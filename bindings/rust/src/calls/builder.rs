@@ -1,16 +1,10 @@
-//! The builder: each append writes to the lent buffer and gives the builder back.
+//! The builder. Each call appends to `buf` and gives the builder to go on with. Finished words are written to the buffer, and
+//! nothing else of it; [`freeze`] and [`into_opt_validity`] write the frozen bytes over its front.
+//!
+//! Written by tests/declarations.py from crates/capi, save for the examples, which it keeps.
 
 use super::exports;
 use super::records::*;
-
-/// Calls an export that takes a builder and its buffer: they go in as three numbers, and as a pointer and a count.
-macro_rules! append {
-    ($export:ident, $builder:ident, $buf:ident $(, $argument:expr)*) => {
-        unsafe {
-            exports::$export($builder.length, $builder.word, $builder.ones, $buf.as_mut_ptr(), $buf.len() $(, $argument)*)
-        }
-    };
-}
 
 /// The builder of no flags.
 ///
@@ -22,7 +16,7 @@ pub fn builder_new() -> Builder {
     unsafe { exports::pw_builder_new() }
 }
 
-/// Appends a flag.
+/// Appends a flag. Refuses with 1, 4, 9; the builder is then the one that came.
 ///
 /// ```
 /// use poruwhina::calls::{builder_new, push};
@@ -31,10 +25,10 @@ pub fn builder_new() -> Builder {
 /// ```
 #[inline]
 pub fn push(builder: Builder, buf: &mut [u8], flag: bool) -> BuilderAnswer {
-    append!(pw_push, builder, buf, flag)
+    unsafe { exports::pw_push(builder.length, builder.word, builder.ones, buf.as_mut_ptr(), buf.len(), flag) }
 }
 
-/// Appends `n` copies of a flag.
+/// Appends `n` copies of a flag. Refuses with 1, 4, 9; the builder is then the one that came.
 ///
 /// ```
 /// use poruwhina::calls::{builder_new, extend_constant};
@@ -46,10 +40,11 @@ pub fn push(builder: Builder, buf: &mut [u8], flag: bool) -> BuilderAnswer {
 /// ```
 #[inline]
 pub fn extend_constant(builder: Builder, buf: &mut [u8], n: usize, flag: bool) -> BuilderAnswer {
-    append!(pw_extend_constant, builder, buf, n, flag)
+    unsafe { exports::pw_extend_constant(builder.length, builder.word, builder.ones, buf.as_mut_ptr(), buf.len(), n, flag) }
 }
 
-/// Appends the first `n` flags of a word, whose bits from there on are 0.
+/// Appends the first `n` flags of a word, whose bits from there on must be 0. Refuses with 1, 4, 6, 9; the builder is then the
+/// one that came.
 ///
 /// ```
 /// use poruwhina::calls::{builder_new, push_word_with_len_unchecked};
@@ -59,11 +54,11 @@ pub fn extend_constant(builder: Builder, buf: &mut [u8], n: usize, flag: bool) -
 /// assert_eq!(push_word_with_len_unchecked(builder_new(), &mut buf, 0x2D, 5).refusal, 6);
 /// ```
 #[inline]
-pub fn push_word_with_len_unchecked(builder: Builder, buf: &mut [u8], word: u64, n: usize) -> BuilderAnswer {
-    append!(pw_push_word_with_len_unchecked, builder, buf, word, n)
+pub fn push_word_with_len_unchecked(builder: Builder, buf: &mut [u8], flags: u64, n: usize) -> BuilderAnswer {
+    unsafe { exports::pw_push_word_with_len_unchecked(builder.length, builder.word, builder.ones, buf.as_mut_ptr(), buf.len(), flags, n) }
 }
 
-/// Appends a span.
+/// Appends a span. Refuses with 1, 2, 4, 9; the builder is then the one that came.
 ///
 /// ```
 /// use poruwhina::calls::{builder_new, extend_from_slice};
@@ -72,10 +67,22 @@ pub fn push_word_with_len_unchecked(builder: Builder, buf: &mut [u8], word: u64,
 /// ```
 #[inline]
 pub fn extend_from_slice(builder: Builder, buf: &mut [u8], bytes: &[u8], start: usize, n: usize) -> BuilderAnswer {
-    append!(pw_extend_from_slice, builder, buf, bytes.as_ptr(), bytes.len(), start, n)
+    unsafe {
+        exports::pw_extend_from_slice(
+            builder.length,
+            builder.word,
+            builder.ones,
+            buf.as_mut_ptr(),
+            buf.len(),
+            bytes.as_ptr(),
+            bytes.len(),
+            start,
+            n,
+        )
+    }
 }
 
-/// Appends each flag of a span, `repeats` times in turn.
+/// Appends each flag of a span, `repeats` times in turn. Refuses with 1, 2, 4, 9; the builder is then the one that came.
 ///
 /// ```
 /// use poruwhina::calls::{builder_new, extend_each_repeated_from_slice_unchecked};
@@ -87,10 +94,23 @@ pub fn extend_from_slice(builder: Builder, buf: &mut [u8], bytes: &[u8], start: 
 pub fn extend_each_repeated_from_slice_unchecked(
     builder: Builder, buf: &mut [u8], bytes: &[u8], start: usize, n: usize, repeats: usize,
 ) -> BuilderAnswer {
-    append!(pw_extend_each_repeated_from_slice_unchecked, builder, buf, bytes.as_ptr(), bytes.len(), start, n, repeats)
+    unsafe {
+        exports::pw_extend_each_repeated_from_slice_unchecked(
+            builder.length,
+            builder.word,
+            builder.ones,
+            buf.as_mut_ptr(),
+            buf.len(),
+            bytes.as_ptr(),
+            bytes.len(),
+            start,
+            n,
+            repeats,
+        )
+    }
 }
 
-/// Appends `n` flags of a mask from its flag `start` on.
+/// Appends `n` flags of a mask from its flag `start` on. Refuses with 1, 2, 3, 4, 6, 9; the builder is then the one that came.
 ///
 /// ```
 /// use poruwhina::calls::{builder_new, subslice_extend_from_bitmap, try_new};
@@ -100,10 +120,24 @@ pub fn extend_each_repeated_from_slice_unchecked(
 /// ```
 #[inline]
 pub fn subslice_extend_from_bitmap(builder: Builder, buf: &mut [u8], mask: Mask, bytes: &[u8], start: usize, n: usize) -> BuilderAnswer {
-    append!(pw_subslice_extend_from_bitmap, builder, buf, mask, bytes.as_ptr(), bytes.len(), start, n)
+    unsafe {
+        exports::pw_subslice_extend_from_bitmap(
+            builder.length,
+            builder.word,
+            builder.ones,
+            buf.as_mut_ptr(),
+            buf.len(),
+            mask,
+            bytes.as_ptr(),
+            bytes.len(),
+            start,
+            n,
+        )
+    }
 }
 
-/// Appends the flag at each index of a span, all of them below its length.
+/// Appends the flag of a span at each index, all of them below its length. Refuses with 1, 2, 4, 6, 9; the builder is then the
+/// one that came.
 ///
 /// ```
 /// use poruwhina::calls::{builder_new, gather_extend_from_slice};
@@ -113,10 +147,25 @@ pub fn subslice_extend_from_bitmap(builder: Builder, buf: &mut [u8], mask: Mask,
 /// ```
 #[inline]
 pub fn gather_extend_from_slice(builder: Builder, buf: &mut [u8], bytes: &[u8], start: usize, n: usize, idxs: &[u32]) -> BuilderAnswer {
-    append!(pw_gather_extend_from_slice, builder, buf, bytes.as_ptr(), bytes.len(), start, n, idxs.as_ptr(), idxs.len())
+    unsafe {
+        exports::pw_gather_extend_from_slice(
+            builder.length,
+            builder.word,
+            builder.ones,
+            buf.as_mut_ptr(),
+            buf.len(),
+            bytes.as_ptr(),
+            bytes.len(),
+            start,
+            n,
+            idxs.as_ptr(),
+            idxs.len(),
+        )
+    }
 }
 
-/// Appends the flag at each index of a span, 0 for an index at or past its length.
+/// Appends the flag of a span at each index, 0 for one at or past the span's length. Refuses with 1, 2, 4, 9; the builder is then
+/// the one that came.
 ///
 /// ```
 /// use poruwhina::calls::{builder_new, opt_gather_extend_from_slice};
@@ -125,10 +174,25 @@ pub fn gather_extend_from_slice(builder: Builder, buf: &mut [u8], bytes: &[u8], 
 /// ```
 #[inline]
 pub fn opt_gather_extend_from_slice(builder: Builder, buf: &mut [u8], bytes: &[u8], start: usize, n: usize, idxs: &[u32]) -> BuilderAnswer {
-    append!(pw_opt_gather_extend_from_slice, builder, buf, bytes.as_ptr(), bytes.len(), start, n, idxs.as_ptr(), idxs.len())
+    unsafe {
+        exports::pw_opt_gather_extend_from_slice(
+            builder.length,
+            builder.word,
+            builder.ones,
+            buf.as_mut_ptr(),
+            buf.len(),
+            bytes.as_ptr(),
+            bytes.len(),
+            start,
+            n,
+            idxs.as_ptr(),
+            idxs.len(),
+        )
+    }
 }
 
-/// The mask of the builder's flags, written as frozen bytes over the front of the buffer.
+/// The mask of the builder's flags, its zeros counted, over their frozen bytes. The builder is not given back: the caller has it.
+/// Refuses with 1, 4, 9; every other field is then 0.
 ///
 /// ```
 /// use poruwhina::calls::{builder_new, freeze, push_word_with_len_unchecked};
@@ -140,10 +204,11 @@ pub fn opt_gather_extend_from_slice(builder: Builder, buf: &mut [u8], bytes: &[u
 /// ```
 #[inline]
 pub fn freeze(builder: Builder, buf: &mut [u8]) -> MaskAnswer {
-    append!(pw_freeze, builder, buf)
+    unsafe { exports::pw_freeze(builder.length, builder.word, builder.ones, buf.as_mut_ptr(), buf.len()) }
 }
 
-/// The mask of the builder's flags, written as [`freeze`] does, or none where all flags are set.
+/// The bytes and the mask that [`freeze`] gives; no mask where all flags are set, so for no flags too. Refuses with 1, 4, 9;
+/// every other field is then 0.
 ///
 /// ```
 /// use poruwhina::calls::{builder_new, extend_constant, into_opt_validity};
@@ -156,5 +221,5 @@ pub fn freeze(builder: Builder, buf: &mut [u8]) -> MaskAnswer {
 /// ```
 #[inline]
 pub fn into_opt_validity(builder: Builder, buf: &mut [u8]) -> ValidityAnswer {
-    append!(pw_into_opt_validity, builder, buf)
+    unsafe { exports::pw_into_opt_validity(builder.length, builder.word, builder.ones, buf.as_mut_ptr(), buf.len()) }
 }

@@ -1,9 +1,11 @@
-//! The cursors over runs, flags and positions.
+//! The cursors over runs, flags and positions. A step that finds nothing gives the length as the place.
+//!
+//! Written by tests/declarations.py from crates/capi, save for the examples, which it keeps.
 
 use super::exports;
 use super::records::*;
 
-/// A cursor before the first run of ones.
+/// A cursor before the first run of ones of a mask. Refuses with 1, 2, 3; every other field is then 0.
 ///
 /// ```
 /// use poruwhina::calls::{slices_new, try_new};
@@ -17,7 +19,8 @@ pub fn slices_new(mask: Mask, bytes: &[u8]) -> CursorAnswer {
     unsafe { exports::pw_slices_new(mask, bytes.as_ptr(), bytes.len()) }
 }
 
-/// The next run of ones: its start in `value` and its length in `count`.
+/// The next run of ones, its start in `value` and its length in `count`. Refuses with 1, 2, 6; the cursor is then the one that
+/// came, every other field 0.
 ///
 /// ```
 /// use poruwhina::calls::{slices_new, slices_next, try_new};
@@ -30,12 +33,12 @@ pub fn slices_new(mask: Mask, bytes: &[u8]) -> CursorAnswer {
 /// ```
 #[inline]
 pub fn slices_next(cursor: Cursor, bytes: &[u8]) -> Step {
-    let Cursor { start, length, place, .. } = cursor;
-    let answer = unsafe { exports::pw_slices_next(start, length, place, bytes.as_ptr(), bytes.len()) };
+    let answer = unsafe { exports::pw_slices_next(cursor.start, cursor.length, cursor.place, bytes.as_ptr(), bytes.len()) };
     answer.moving(cursor)
 }
 
-/// A cursor before the first flag of a span.
+/// A cursor before the first flag of a span. With length 0 its start, length and place are 0, before any test. Refuses with 1, 2;
+/// every other field is then 0.
 ///
 /// ```
 /// use poruwhina::calls::iter_new;
@@ -49,7 +52,7 @@ pub fn iter_new(bytes: &[u8], start: usize, length: usize) -> CursorAnswer {
     unsafe { exports::pw_iter_new(bytes.as_ptr(), bytes.len(), start, length) }
 }
 
-/// The next flag, 0 or 1 in `value`.
+/// The next flag, 0 or 1 in `value`. Refuses with 1, 2, 6; the cursor is then the one that came, every other field 0.
 ///
 /// ```
 /// use poruwhina::calls::{iter_new, iter_next};
@@ -59,12 +62,12 @@ pub fn iter_new(bytes: &[u8], start: usize, length: usize) -> CursorAnswer {
 /// ```
 #[inline]
 pub fn iter_next(cursor: Cursor, bytes: &[u8]) -> Step {
-    let Cursor { start, length, place, .. } = cursor;
-    let answer = unsafe { exports::pw_iter_next(start, length, place, bytes.as_ptr(), bytes.len()) };
+    let answer = unsafe { exports::pw_iter_next(cursor.start, cursor.length, cursor.place, bytes.as_ptr(), bytes.len()) };
     answer.moving(cursor)
 }
 
-/// The flag n places on.
+/// The flag that stands `n` behind the next one, 0 or 1 in `value`. Refuses with 1, 2, 6; the cursor is then the one that came,
+/// every other field 0.
 ///
 /// ```
 /// use poruwhina::calls::{iter_new, iter_nth};
@@ -75,28 +78,42 @@ pub fn iter_next(cursor: Cursor, bytes: &[u8]) -> Step {
 /// ```
 #[inline]
 pub fn iter_nth(cursor: Cursor, bytes: &[u8], n: usize) -> Step {
-    let Cursor { start, length, place, .. } = cursor;
-    let answer = unsafe { exports::pw_iter_nth(start, length, place, bytes.as_ptr(), bytes.len(), n) };
+    let answer = unsafe { exports::pw_iter_nth(cursor.start, cursor.length, cursor.place, bytes.as_ptr(), bytes.len(), n) };
     answer.moving(cursor)
 }
 
-/// In `count`, how many flags that equal `flag` stand next; the cursor moves past them.
+/// How many ones stand next, in `count`; the cursor moves past them. Refuses with 1, 2, 6; the cursor is then the one that came,
+/// every other field 0.
 ///
 /// ```
-/// use poruwhina::calls::{iter_new, take_leading};
+/// use poruwhina::calls::{iter_new, take_leading_ones};
 ///
-/// let taken = take_leading(true, iter_new(&[0x07], 0, 6).cursor, &[0x07]);
+/// let taken = take_leading_ones(iter_new(&[0x07], 0, 6).cursor, &[0x07]);
 /// assert_eq!((taken.count, taken.cursor.place), (3, 3));
-/// assert_eq!(take_leading(false, taken.cursor, &[0x07]).count, 3);
 /// ```
 #[inline]
-pub fn take_leading(flag: bool, cursor: Cursor, bytes: &[u8]) -> Step {
-    let Cursor { start, length, place, .. } = cursor;
-    let answer = unsafe { exports::pw_take_leading(flag, start, length, place, bytes.as_ptr(), bytes.len()) };
+pub fn take_leading_ones(cursor: Cursor, bytes: &[u8]) -> Step {
+    let answer = unsafe { exports::pw_take_leading_ones(cursor.start, cursor.length, cursor.place, bytes.as_ptr(), bytes.len()) };
     answer.moving(cursor)
 }
 
-/// A cursor before the first position. Without a mask (`present` is false) every position is given.
+/// How many zeros stand next, in `count`; the cursor moves past them. Refuses with 1, 2, 6; the cursor is then the one that came,
+/// every other field 0.
+///
+/// ```
+/// use poruwhina::calls::{iter_new, take_leading_zeros};
+///
+/// let taken = take_leading_zeros(iter_new(&[0x38], 0, 6).cursor, &[0x38]);
+/// assert_eq!((taken.count, taken.cursor.place), (3, 3));
+/// ```
+#[inline]
+pub fn take_leading_zeros(cursor: Cursor, bytes: &[u8]) -> Step {
+    let answer = unsafe { exports::pw_take_leading_zeros(cursor.start, cursor.length, cursor.place, bytes.as_ptr(), bytes.len()) };
+    answer.moving(cursor)
+}
+
+/// A cursor before the first position of a one in a mask of `length` flags. Where not `present` there is no mask: record and
+/// bytes are not read, every position is given, and 1 is the only refusal. Refuses with 1, 2, 3, 5; every other field is then 0.
 ///
 /// ```
 /// use poruwhina::calls::{bitmap_new, true_idx_new};
@@ -109,7 +126,8 @@ pub fn true_idx_new(length: usize, present: bool, mask: Mask, bytes: &[u8]) -> C
     unsafe { exports::pw_true_idx_new(length, present, mask, bytes.as_ptr(), bytes.len()) }
 }
 
-/// The next position of a one.
+/// The next position of a one, in `value`. Without a mask 2 does not come. Refuses with 1, 2, 6; the cursor is then the one that
+/// came, every other field 0.
 ///
 /// ```
 /// use poruwhina::calls::{true_idx_new, true_idx_next, try_new};
@@ -120,14 +138,15 @@ pub fn true_idx_new(length: usize, present: bool, mask: Mask, bytes: &[u8]) -> C
 /// ```
 #[inline]
 pub fn true_idx_next(cursor: Cursor, bytes: &[u8]) -> Step {
-    let Cursor { start, length, place, masked } = cursor;
-    let answer = unsafe { exports::pw_true_idx_next(start, length, place, masked, bytes.as_ptr(), bytes.len()) };
+    let answer =
+        unsafe { exports::pw_true_idx_next(cursor.start, cursor.length, cursor.place, cursor.masked, bytes.as_ptr(), bytes.len()) };
     answer.moving(cursor)
 }
 
-/// The next positions of ones, as many as there are and `out` has room for, over its front, and in `count` their number: what
-/// as many calls of [`true_idx_next`] give. What lies behind them in `out` stays. The cursor is just past the last of them; where
-/// there was room for more, at the length.
+/// The next positions of ones, as many as there are and `out` has room for, over its front, and their number in `count`: what as
+/// many calls of [`true_idx_next`] give. The place is just past the last of them, where there was room for more the length; with
+/// no room the cursor stays. `found` is true. Without a mask 2 does not come. Refuses with 1, 2, 6; the cursor is then the one
+/// that came, every other field 0.
 ///
 /// ```
 /// use poruwhina::calls::{true_idx_new, true_idx_next_chunk, try_new};
@@ -141,8 +160,17 @@ pub fn true_idx_next(cursor: Cursor, bytes: &[u8]) -> Step {
 /// ```
 #[inline]
 pub fn true_idx_next_chunk(cursor: Cursor, bytes: &[u8], out: &mut [u32]) -> Step {
-    let Cursor { start, length, place, masked } = cursor;
-    let answer =
-        unsafe { exports::pw_true_idx_next_chunk(start, length, place, masked, bytes.as_ptr(), bytes.len(), out.as_mut_ptr(), out.len()) };
+    let answer = unsafe {
+        exports::pw_true_idx_next_chunk(
+            cursor.start,
+            cursor.length,
+            cursor.place,
+            cursor.masked,
+            bytes.as_ptr(),
+            bytes.len(),
+            out.as_mut_ptr(),
+            out.len(),
+        )
+    };
     answer.moving(cursor)
 }

@@ -1,6 +1,6 @@
-//! The exports of the static library, as the crate capi of the repository declares them.
+//! The exports of the static library. Written by tests/declarations.py from crates/capi.
 
-use super::*;
+use super::records::*;
 
 unsafe extern "C" {
     pub fn pw_load_padded_le_u64(part: *const u8, part_len: usize) -> u64;
@@ -9,19 +9,18 @@ unsafe extern "C" {
     pub fn pw_nth_set_bit_u32(w: u32, n: u32) -> Position;
     pub fn pw_aligned_new(bytes: *const u8, bytes_len: usize, start: usize, length: usize, address: usize) -> SplitAnswer;
     pub fn pw_count_zeros(bytes: *const u8, bytes_len: usize, start: usize, length: usize, address: usize) -> Number;
-    pub fn pw_count(what: u8, bytes: *const u8, bytes_len: usize, start: usize, length: usize, address: usize) -> Number;
-    pub fn pw_chunks_new(bytes: *const u8, bytes_len: usize, start: usize, length: usize) -> CursorAnswer;
-    pub fn pw_chunks_new_exact(bytes: *const u8, bytes_len: usize, length: usize) -> CursorAnswer;
-    pub fn pw_chunks_next(start: usize, length: usize, place: usize, bytes: *const u8, bytes_len: usize) -> StepAnswer;
-    pub fn pw_chunks_remainder(start: usize, length: usize, place: usize, bytes: *const u8, bytes_len: usize) -> StepAnswer;
+    pub fn pw_leading_zeros(bytes: *const u8, bytes_len: usize, start: usize, length: usize, address: usize) -> Number;
+    pub fn pw_leading_ones(bytes: *const u8, bytes_len: usize, start: usize, length: usize, address: usize) -> Number;
+    pub fn pw_trailing_zeros(bytes: *const u8, bytes_len: usize, start: usize, length: usize, address: usize) -> Number;
+    pub fn pw_trailing_ones(bytes: *const u8, bytes_len: usize, start: usize, length: usize, address: usize) -> Number;
     pub fn pw_split_at_unchecked(bytes: *const u8, bytes_len: usize, start: usize, length: usize, at: usize) -> SpansAnswer;
     pub fn pw_get_u32(bytes: *const u8, bytes_len: usize, start: usize, length: usize, index: usize) -> Number;
     pub fn pw_nth_set_bit_idx(bytes: *const u8, bytes_len: usize, start: usize, length: usize, n: usize, from: usize) -> Position;
     pub fn pw_nth_set_bit_idx_rev(bytes: *const u8, bytes_len: usize, start: usize, length: usize, n: usize, end: usize) -> Position;
-    pub fn pw_may_reassign(
-        permitted: bool, permission: Mask, permission_bytes: *const u8, permission_bytes_len: usize, revoked: bool, revocation: Mask,
-        revocation_bytes: *const u8, revocation_bytes_len: usize, truck: usize,
-    ) -> Flag;
+    pub fn pw_chunks_new(bytes: *const u8, bytes_len: usize, start: usize, length: usize) -> CursorAnswer;
+    pub fn pw_chunks_new_exact(bytes: *const u8, bytes_len: usize, length: usize) -> CursorAnswer;
+    pub fn pw_chunks_next(start: usize, length: usize, place: usize, bytes: *const u8, bytes_len: usize) -> StepAnswer;
+    pub fn pw_chunks_remainder(start: usize, length: usize, place: usize, bytes: *const u8, bytes_len: usize) -> StepAnswer;
     pub fn pw_builder_new() -> Builder;
     pub fn pw_push(length: usize, word: u64, ones: usize, buf: *mut u8, buf_len: usize, flag: bool) -> BuilderAnswer;
     pub fn pw_extend_constant(length: usize, word: u64, ones: usize, buf: *mut u8, buf_len: usize, n: usize, flag: bool) -> BuilderAnswer;
@@ -57,8 +56,20 @@ unsafe extern "C" {
     pub fn pw_eq(lhs: Mask, left: *const u8, left_len: usize, rhs: Mask, right: *const u8, right_len: usize) -> Flag;
     pub fn pw_num_edges(mask: Mask, bytes: *const u8, bytes_len: usize) -> Number;
     pub fn pw_num_intersections_with(lhs: Mask, left: *const u8, left_len: usize, rhs: Mask, right: *const u8, right_len: usize) -> Number;
-    pub fn pw_combine(
-        op: u8, lhs: Mask, left: *const u8, left_len: usize, rhs: Mask, right: *const u8, right_len: usize, out: *mut u8, out_len: usize,
+    pub fn pw_and(
+        lhs: Mask, left: *const u8, left_len: usize, rhs: Mask, right: *const u8, right_len: usize, out: *mut u8, out_len: usize,
+    ) -> MaskAnswer;
+    pub fn pw_and_not(
+        lhs: Mask, left: *const u8, left_len: usize, rhs: Mask, right: *const u8, right_len: usize, out: *mut u8, out_len: usize,
+    ) -> MaskAnswer;
+    pub fn pw_or(
+        lhs: Mask, left: *const u8, left_len: usize, rhs: Mask, right: *const u8, right_len: usize, out: *mut u8, out_len: usize,
+    ) -> MaskAnswer;
+    pub fn pw_or_not(
+        lhs: Mask, left: *const u8, left_len: usize, rhs: Mask, right: *const u8, right_len: usize, out: *mut u8, out_len: usize,
+    ) -> MaskAnswer;
+    pub fn pw_xor(
+        lhs: Mask, left: *const u8, left_len: usize, rhs: Mask, right: *const u8, right_len: usize, out: *mut u8, out_len: usize,
     ) -> MaskAnswer;
     pub fn pw_not(mask: Mask, bytes: *const u8, bytes_len: usize, out: *mut u8, out_len: usize) -> MaskAnswer;
     pub fn pw_select(
@@ -74,10 +85,20 @@ unsafe extern "C" {
     pub fn pw_iter_new(bytes: *const u8, bytes_len: usize, start: usize, length: usize) -> CursorAnswer;
     pub fn pw_iter_next(start: usize, length: usize, place: usize, bytes: *const u8, bytes_len: usize) -> StepAnswer;
     pub fn pw_iter_nth(start: usize, length: usize, place: usize, bytes: *const u8, bytes_len: usize, n: usize) -> StepAnswer;
-    pub fn pw_take_leading(flag: bool, start: usize, length: usize, place: usize, bytes: *const u8, bytes_len: usize) -> StepAnswer;
+    pub fn pw_take_leading_ones(start: usize, length: usize, place: usize, bytes: *const u8, bytes_len: usize) -> StepAnswer;
+    pub fn pw_take_leading_zeros(start: usize, length: usize, place: usize, bytes: *const u8, bytes_len: usize) -> StepAnswer;
     pub fn pw_true_idx_new(length: usize, present: bool, mask: Mask, bytes: *const u8, bytes_len: usize) -> CursorAnswer;
     pub fn pw_true_idx_next(start: usize, length: usize, place: usize, masked: u8, bytes: *const u8, bytes_len: usize) -> StepAnswer;
     pub fn pw_true_idx_next_chunk(
         start: usize, length: usize, place: usize, masked: u8, bytes: *const u8, bytes_len: usize, out: *mut u32, out_len: usize,
     ) -> StepAnswer;
+    pub fn pw_may_reassign(
+        permitted: bool, permission: Mask, permission_bytes: *const u8, permission_bytes_len: usize, revoked: bool, revocation: Mask,
+        revocation_bytes: *const u8, revocation_bytes_len: usize, truck: usize,
+    ) -> Flag;
+    pub fn pw_interface_1() -> u32;
 }
+
+/// A library of another version has no such symbol, and does not link.
+#[used]
+static INTERFACE: unsafe extern "C" fn() -> u32 = pw_interface_1;

@@ -1,4 +1,6 @@
-//! The mask: made, cut, counted, compared, combined, and asked about a truck.
+//! The calls that make a mask, cut it, count it and compare it.
+//!
+//! Written by tests/declarations.py from crates/capi, save for the examples, which it keeps.
 
 use super::exports;
 use super::records::*;
@@ -13,7 +15,8 @@ pub fn bitmap_new() -> Mask {
     unsafe { exports::pw_bitmap_new() }
 }
 
-/// A mask of so many zeros, written as frozen bytes over the front of the output.
+/// A mask of `length` zeros, whose frozen bytes are written over the front of `out`. Refuses with 1, 9; every other field is then
+/// 0.
 ///
 /// ```
 /// let mut out = [0xFF; 16];
@@ -26,7 +29,7 @@ pub fn new_zeroed(length: usize, out: &mut [u8]) -> MaskAnswer {
     unsafe { exports::pw_new_zeroed(length, out.as_mut_ptr(), out.len()) }
 }
 
-/// A mask over lent bytes, its zeros not counted yet.
+/// The mask of a span, its zeros not counted. Refuses with 1, 2; every other field is then 0.
 ///
 /// ```
 /// use poruwhina::calls::try_new;
@@ -39,7 +42,8 @@ pub fn try_new(bytes: &[u8], start: usize, length: usize) -> MaskAnswer {
     unsafe { exports::pw_try_new(bytes.as_ptr(), bytes.len(), start, length) }
 }
 
-/// The piece of `length` flags from `offset` on.
+/// The piece of `length` flags from flag `offset` on. Refuses with 1, 2, 3, 6, 7; the mask is then the one that came, every field
+/// as it came.
 ///
 /// ```
 /// use poruwhina::calls::{slice, try_new};
@@ -53,7 +57,8 @@ pub fn slice(mask: Mask, bytes: &[u8], offset: usize, length: usize) -> MaskAnsw
     unsafe { exports::pw_slice(mask, bytes.as_ptr(), bytes.len(), offset, length) }
 }
 
-/// The zeros of a mask, and the mask with its count known.
+/// The zeros of a mask, and the mask with its count known. Refuses with 1, 2, 3; the mask is then the one that came, every field
+/// as it came, and `zeros` 0.
 ///
 /// ```
 /// use poruwhina::calls::{try_new, unset_bits};
@@ -65,7 +70,7 @@ pub fn unset_bits(mask: Mask, bytes: &[u8]) -> ZerosAnswer {
     unsafe { exports::pw_unset_bits(mask, bytes.as_ptr(), bytes.len()) }
 }
 
-/// Are the lengths and all flags equal.
+/// Whether lengths and flags are equal. Refuses with 1, 2, 3; every other field is then 0.
 ///
 /// ```
 /// use poruwhina::calls::{eq, try_new};
@@ -78,7 +83,7 @@ pub fn eq(lhs: Mask, left: &[u8], rhs: Mask, right: &[u8]) -> Flag {
     unsafe { exports::pw_eq(lhs, left.as_ptr(), left.len(), rhs, right.as_ptr(), right.len()) }
 }
 
-/// How many neighbours differ.
+/// How many flags differ from the next one. Refuses with 1, 2, 3; every other field is then 0.
 ///
 /// ```
 /// use poruwhina::calls::{num_edges, try_new};
@@ -90,7 +95,7 @@ pub fn num_edges(mask: Mask, bytes: &[u8]) -> Number {
     unsafe { exports::pw_num_edges(mask, bytes.as_ptr(), bytes.len()) }
 }
 
-/// How many flags are set in both.
+/// How many flags are set in both masks. Refuses with 1, 2, 3, 5; every other field is then 0.
 ///
 /// ```
 /// use poruwhina::calls::{num_intersections_with, try_new};
@@ -101,110 +106,4 @@ pub fn num_edges(mask: Mask, bytes: &[u8]) -> Number {
 #[inline]
 pub fn num_intersections_with(lhs: Mask, left: &[u8], rhs: Mask, right: &[u8]) -> Number {
     unsafe { exports::pw_num_intersections_with(lhs, left.as_ptr(), left.len(), rhs, right.as_ptr(), right.len()) }
-}
-
-/// Two masks under operation number `op`: 0 and, 1 and_not, 2 or, 3 or_not, 4 xor. Another number gives 255.
-///
-/// ```
-/// use poruwhina::calls::{combine, try_new};
-///
-/// // or_not of 0,0,1 and 1,0,0
-/// let mask = try_new(&[0], 0, 3).mask;
-/// let mut out = [0; 8];
-/// assert_eq!(combine(3, mask, &[0x04], mask, &[0x01], &mut out).refusal, 0);
-/// assert_eq!(out[0], 0x06);
-/// assert_eq!(combine(5, mask, &[0x04], mask, &[0x01], &mut out).refusal, 255);
-/// ```
-#[inline]
-pub fn combine(op: u8, lhs: Mask, left: &[u8], rhs: Mask, right: &[u8], out: &mut [u8]) -> MaskAnswer {
-    unsafe { exports::pw_combine(op, lhs, left.as_ptr(), left.len(), rhs, right.as_ptr(), right.len(), out.as_mut_ptr(), out.len()) }
-}
-
-/// Each flag inverted.
-///
-/// ```
-/// use poruwhina::calls::{not, try_new};
-///
-/// let mut out = [0; 8];
-/// not(try_new(&[0x2D], 0, 6).mask, &[0x2D], &mut out);
-/// assert_eq!(out[0], 0x12);
-/// ```
-#[inline]
-pub fn not(mask: Mask, bytes: &[u8], out: &mut [u8]) -> MaskAnswer {
-    unsafe { exports::pw_not(mask, bytes.as_ptr(), bytes.len(), out.as_mut_ptr(), out.len()) }
-}
-
-/// The second mask's flag where the first's is set, else the third's.
-///
-/// ```
-/// use poruwhina::calls::{select, try_new};
-///
-/// let mask = try_new(&[0], 0, 4).mask;
-/// let mut out = [0; 8];
-/// select(mask, &[0x05], mask, &[0x03], mask, &[0x0E], &mut out);
-/// assert_eq!(out[0], 0x0B);
-/// ```
-#[inline]
-pub fn select(selector: Mask, by: &[u8], truthy: Mask, yes: &[u8], falsy: Mask, no: &[u8], out: &mut [u8]) -> MaskAnswer {
-    unsafe {
-        exports::pw_select(
-            selector,
-            by.as_ptr(),
-            by.len(),
-            truthy,
-            yes.as_ptr(),
-            yes.len(),
-            falsy,
-            no.as_ptr(),
-            no.len(),
-            out.as_mut_ptr(),
-            out.len(),
-        )
-    }
-}
-
-/// The second mask's flag where the first's is set, else the constant.
-///
-/// ```
-/// use poruwhina::calls::{select_constant, try_new};
-///
-/// let mask = try_new(&[0], 0, 4).mask;
-/// let mut out = [0; 8];
-/// select_constant(mask, &[0x05], mask, &[0x03], true, &mut out);
-/// assert_eq!(out[0], 0x0B);
-/// ```
-#[inline]
-pub fn select_constant(selector: Mask, by: &[u8], truthy: Mask, yes: &[u8], flag: bool, out: &mut [u8]) -> MaskAnswer {
-    unsafe {
-        exports::pw_select_constant(selector, by.as_ptr(), by.len(), truthy, yes.as_ptr(), yes.len(), flag, out.as_mut_ptr(), out.len())
-    }
-}
-
-/// May truck number `truck` be reassigned. An absent permission stands for ones, an absent revocation for zeros.
-///
-/// ```
-/// use poruwhina::calls::{may_reassign, try_new};
-///
-/// let mask = try_new(&[0], 0, 6).mask;
-/// assert!(may_reassign(true, mask, &[0x2D], true, mask, &[0x01], 2).value);
-/// assert!(!may_reassign(true, mask, &[0x2D], true, mask, &[0x01], 0).value);
-/// assert_eq!(may_reassign(true, mask, &[0x2D], true, mask, &[0x01], 6).refusal, 6);
-/// ```
-#[inline]
-pub fn may_reassign(
-    permitted: bool, permission: Mask, permission_bytes: &[u8], revoked: bool, revocation: Mask, revocation_bytes: &[u8], truck: usize,
-) -> Flag {
-    unsafe {
-        exports::pw_may_reassign(
-            permitted,
-            permission,
-            permission_bytes.as_ptr(),
-            permission_bytes.len(),
-            revoked,
-            revocation,
-            revocation_bytes.as_ptr(),
-            revocation_bytes.len(),
-            truck,
-        )
-    }
 }

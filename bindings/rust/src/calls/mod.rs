@@ -27,16 +27,24 @@
 #![allow(unsafe_code, clippy::too_many_arguments)]
 
 mod builder;
+mod chunks;
+mod combine;
 mod cursors;
 mod exports;
 mod mask;
+mod reassign;
 mod records;
+mod search;
 mod spans;
-mod words;
+mod word;
 
 pub use builder::*;
+pub use chunks::*;
+pub use combine::*;
 pub use cursors::*;
 pub use mask::*;
+pub use reassign::*;
 pub use records::*;
+pub use search::*;
 pub use spans::*;
-pub use words::*;
+pub use word::*;

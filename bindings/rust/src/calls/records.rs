@@ -1,5 +1,5 @@
 //! The records that cross. In each answer `refusal` is the number of the first check that failed, or 0. On refusal a record in
-//! the answer is the one that the call got, where it got one of that kind; every other field is 0.
+//! the answer is the very one that the call got, where it got one of that kind and gives it back; every other field is 0.
 
 /// A mask: a span of its bytes and its zero count. The count is read where `known` is not 0; an unknown one is given as 0.
 ///
@@ -233,17 +233,11 @@ pub(super) struct StepAnswer {
 }
 
 impl StepAnswer {
-    /// The step of a cursor that the call moves.
+    /// The step of a cursor, which then stands at the place that the call gave.
     #[inline]
     pub(super) fn moving(self, cursor: Cursor) -> Step {
-        self.beside(Cursor { place: self.place, ..cursor })
-    }
-
-    /// The step of a cursor that the call leaves where it is.
-    #[inline]
-    pub(super) fn beside(self, cursor: Cursor) -> Step {
-        let StepAnswer { refusal, found, value, count, .. } = self;
-        Step { refusal, found, value, count, cursor }
+        let StepAnswer { refusal, found, value, count, place } = self;
+        Step { refusal, found, value, count, cursor: Cursor { place, ..cursor } }
     }
 }
 

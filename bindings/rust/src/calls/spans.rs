@@ -1,9 +1,12 @@
-//! Spans of lent bytes: a start bit and a length in bits.
+//! The calls over bare spans, which are the aligned split, the counts, a span cut in two and a window.
+//!
+//! Written by tests/declarations.py from crates/capi, save for the examples, which it keeps.
 
 use super::exports;
 use super::records::*;
 
-/// The span's prefix, whole words and suffix, where the first byte stands at an address whose remainder by 8 is `address`.
+/// The span cut in a prefix, whole words at addresses divisible by 8, and a suffix. `address` is the remainder by 8 of the
+/// address of the first byte. With length 0 all is 0, before any test. Refuses with 1, 2, 8; every other field is then 0.
 ///
 /// ```
 /// use poruwhina::calls::aligned_new;
@@ -17,7 +20,8 @@ pub fn aligned_new(bytes: &[u8], start: usize, length: usize, address: usize) ->
     unsafe { exports::pw_aligned_new(bytes.as_ptr(), bytes.len(), start, length, address) }
 }
 
-/// How many flags of a span are zero: the count number 0 of [`count`], by itself.
+/// How many flags of a span are zero, whatever `address` is. With length 0 it is 0, before any test. Refuses with 1, 2, 8; every
+/// other field is then 0.
 ///
 /// ```
 /// assert_eq!(poruwhina::calls::count_zeros(&[0x2D], 0, 6, 0).value, 2);
@@ -28,78 +32,52 @@ pub fn count_zeros(bytes: &[u8], start: usize, length: usize, address: usize) ->
     unsafe { exports::pw_count_zeros(bytes.as_ptr(), bytes.len(), start, length, address) }
 }
 
-/// The count number `what`: 0 all zeros, 1 leading zeros, 2 leading ones, 3 trailing zeros, 4 trailing ones. Another number
-/// gives 255.
+/// How many zeros stand before the first one of a span, whatever `address` is. With length 0 it is 0, before any test. Refuses
+/// with 1, 2, 8; every other field is then 0.
 ///
 /// ```
-/// use poruwhina::calls::count;
-///
-/// assert_eq!(count(0, &[0x2D], 0, 6, 0).value, 2);
-/// assert_eq!(count(3, &[0x2D], 0, 8, 0).value, 2);
-/// assert_eq!(count(5, &[0x2D], 0, 8, 0).refusal, 255);
+/// assert_eq!(poruwhina::calls::leading_zeros(&[0x2C], 0, 6, 0).value, 2);
+/// assert_eq!(poruwhina::calls::leading_zeros(&[0x2C], 0, 6, 8).refusal, 8);
 /// ```
 #[inline]
-pub fn count(what: u8, bytes: &[u8], start: usize, length: usize, address: usize) -> Number {
-    unsafe { exports::pw_count(what, bytes.as_ptr(), bytes.len(), start, length, address) }
+pub fn leading_zeros(bytes: &[u8], start: usize, length: usize, address: usize) -> Number {
+    unsafe { exports::pw_leading_zeros(bytes.as_ptr(), bytes.len(), start, length, address) }
 }
 
-/// A cursor at the first word of a span.
+/// How many ones stand before the first zero of a span, whatever `address` is. With length 0 it is 0, before any test. Refuses
+/// with 1, 2, 8; every other field is then 0.
 ///
 /// ```
-/// let cursor = poruwhina::calls::chunks_new(&[0xFF; 9], 3, 69).cursor;
-/// assert_eq!((cursor.start, cursor.length, cursor.place), (3, 69, 0));
+/// assert_eq!(poruwhina::calls::leading_ones(&[0x2D], 2, 4, 0).value, 2);
 /// ```
 #[inline]
-pub fn chunks_new(bytes: &[u8], start: usize, length: usize) -> CursorAnswer {
-    unsafe { exports::pw_chunks_new(bytes.as_ptr(), bytes.len(), start, length) }
+pub fn leading_ones(bytes: &[u8], start: usize, length: usize, address: usize) -> Number {
+    unsafe { exports::pw_leading_ones(bytes.as_ptr(), bytes.len(), start, length, address) }
 }
 
-/// A cursor at the first word of the first flags of the bytes.
+/// How many zeros stand behind the last one of a span, whatever `address` is. With length 0 it is 0, before any test. Refuses
+/// with 1, 2, 8; every other field is then 0.
 ///
 /// ```
-/// use poruwhina::calls::{chunks_new, chunks_new_exact};
-///
-/// assert_eq!(chunks_new_exact(&[0xFF; 9], 69), chunks_new(&[0xFF; 9], 0, 69));
+/// assert_eq!(poruwhina::calls::trailing_zeros(&[0x2D], 0, 8, 0).value, 2);
 /// ```
 #[inline]
-pub fn chunks_new_exact(bytes: &[u8], length: usize) -> CursorAnswer {
-    unsafe { exports::pw_chunks_new_exact(bytes.as_ptr(), bytes.len(), length) }
+pub fn trailing_zeros(bytes: &[u8], start: usize, length: usize, address: usize) -> Number {
+    unsafe { exports::pw_trailing_zeros(bytes.as_ptr(), bytes.len(), start, length, address) }
 }
 
-/// The next word.
+/// How many ones stand behind the last zero of a span, whatever `address` is. With length 0 it is 0, before any test. Refuses
+/// with 1, 2, 8; every other field is then 0.
 ///
 /// ```
-/// use poruwhina::calls::{chunks_new, chunks_next};
-///
-/// let bytes = [0xFF; 9];
-/// let first = chunks_next(chunks_new(&bytes, 3, 69).cursor, &bytes);
-/// assert_eq!((first.found, first.value), (true, u64::MAX));
-/// assert!(!chunks_next(first.cursor, &bytes).found);
+/// assert_eq!(poruwhina::calls::trailing_ones(&[0x2D], 0, 4, 0).value, 2);
 /// ```
 #[inline]
-pub fn chunks_next(cursor: Cursor, bytes: &[u8]) -> Step {
-    let Cursor { start, length, place, .. } = cursor;
-    let answer = unsafe { exports::pw_chunks_next(start, length, place, bytes.as_ptr(), bytes.len()) };
-    answer.moving(cursor)
+pub fn trailing_ones(bytes: &[u8], start: usize, length: usize, address: usize) -> Number {
+    unsafe { exports::pw_trailing_ones(bytes.as_ptr(), bytes.len(), start, length, address) }
 }
 
-/// The flags behind the last whole word, as a word in `value`, and in `count` their number.
-///
-/// ```
-/// use poruwhina::calls::{chunks_new, chunks_remainder};
-///
-/// let bytes = [0xFF; 9];
-/// let rest = chunks_remainder(chunks_new(&bytes, 3, 69).cursor, &bytes);
-/// assert_eq!((rest.value, rest.count), (0b11111, 5));
-/// ```
-#[inline]
-pub fn chunks_remainder(cursor: Cursor, bytes: &[u8]) -> Step {
-    let Cursor { start, length, place, .. } = cursor;
-    let answer = unsafe { exports::pw_chunks_remainder(start, length, place, bytes.as_ptr(), bytes.len()) };
-    answer.beside(cursor)
-}
-
-/// The spans before and behind flag `at`.
+/// The spans of the flags before flag `at` and from it on. Refuses with 1, 2, 6; every other field is then 0.
 ///
 /// ```
 /// let parts = poruwhina::calls::split_at_unchecked(&[0x2D], 1, 6, 4);
@@ -111,7 +89,8 @@ pub fn split_at_unchecked(bytes: &[u8], start: usize, length: usize, at: usize) 
     unsafe { exports::pw_split_at_unchecked(bytes.as_ptr(), bytes.len(), start, length, at) }
 }
 
-/// 32 flags from `index` on, zeros past the end.
+/// 32 flags from `index` on, the first in the lowest bit, zeros past the span's end. Refuses with 1, 2; every other field is then
+/// 0.
 ///
 /// ```
 /// assert_eq!(poruwhina::calls::get_u32(&[0x2D], 0, 6, 2).value, 0x0B);
@@ -119,30 +98,4 @@ pub fn split_at_unchecked(bytes: &[u8], start: usize, length: usize, at: usize) 
 #[inline]
 pub fn get_u32(bytes: &[u8], start: usize, length: usize, index: usize) -> Number {
     unsafe { exports::pw_get_u32(bytes.as_ptr(), bytes.len(), start, length, index) }
-}
-
-/// The position, at or after `from`, of the n-th set flag, counted from 0.
-///
-/// ```
-/// use poruwhina::calls::nth_set_bit_idx;
-///
-/// assert_eq!(nth_set_bit_idx(&[0x2D], 0, 6, 2, 0).value, 3);
-/// assert!(!nth_set_bit_idx(&[0x2D], 0, 6, 4, 0).found);
-/// ```
-#[inline]
-pub fn nth_set_bit_idx(bytes: &[u8], start: usize, length: usize, n: usize, from: usize) -> Position {
-    unsafe { exports::pw_nth_set_bit_idx(bytes.as_ptr(), bytes.len(), start, length, n, from) }
-}
-
-/// The position of the n-th set flag counted down from below `end`.
-///
-/// ```
-/// use poruwhina::calls::nth_set_bit_idx_rev;
-///
-/// assert_eq!(nth_set_bit_idx_rev(&[0x2D], 0, 6, 1, 5).value, 2);
-/// assert_eq!(nth_set_bit_idx_rev(&[0x2D], 0, 6, 3, 900).value, 0);
-/// ```
-#[inline]
-pub fn nth_set_bit_idx_rev(bytes: &[u8], start: usize, length: usize, n: usize, end: usize) -> Position {
-    unsafe { exports::pw_nth_set_bit_idx_rev(bytes.as_ptr(), bytes.len(), start, length, n, end) }
 }

@@ -76,19 +76,36 @@ fn from_the_plain_calls() {
         (calls::unset_bits(mask, &bytes).refusal, Refusal::CountAboveLength),
         (calls::push(builder, &mut [0; 8], true).refusal, Refusal::ImpossibleBuilder),
         (calls::slice(calls::Mask { zeros: 31, ..mask }, &[0; 13], 0, 68).refusal, Refusal::CountNotOfSlice),
-        (calls::count(0, &bytes, 0, 1, 8).refusal, Refusal::AddressRemainder),
+        (calls::count_zeros(&bytes, 0, 1, 8).refusal, Refusal::AddressRemainder),
         (calls::not(small, &bytes, &mut [0; 7]).refusal, Refusal::OutputTooSmall),
-        (calls::combine(9, small, &bytes, small, &bytes, &mut [0; 8]).refusal, Refusal::NoSuchOperation),
     ];
     for (number, refusal) in numbers {
         assert_eq!(Refusal::from_number(number), Some(refusal));
     }
 }
 
+/// A refused call gives back the very record that it got, what it does not read of it included.
+#[test]
+fn the_record_as_it_came() {
+    let odd = calls::Mask { start: 0, length: 9, zeros: 77, known: 0 };
+    for came in [odd, calls::Mask { zeros: 3, known: 200, ..odd }, calls::Mask { zeros: 10, known: 255, ..odd }] {
+        let cut = calls::slice(came, &[0xFF], 0, 1);
+        assert_eq!((cut.refusal, cut.mask), (2, came));
+        let counted = calls::unset_bits(came, &[0xFF]);
+        assert_eq!((counted.refusal, counted.zeros, counted.mask), (2, 0, came));
+    }
+    let builder = calls::Builder { length: 1, word: u64::MAX, ones: 5 };
+    assert_eq!(calls::push(builder, &mut [0; 8], true).builder, builder);
+    let cursor = calls::Cursor { start: 3, length: 6, place: 7, masked: 9 };
+    for step in [calls::iter_next(cursor, &[0xFF]), calls::chunks_remainder(cursor, &[0xFF]), calls::true_idx_next(cursor, &[0xFF])] {
+        assert_eq!((step.refusal, step.cursor), (2, cursor));
+    }
+}
+
 #[test]
 fn numbers_and_words() {
     let known: Vec<u8> = (0..=255).filter(|&number| Refusal::from_number(number).is_some()).collect();
-    assert_eq!(known, [1, 2, 3, 4, 5, 6, 7, 8, 9, 255]);
+    assert_eq!(known, [1, 2, 3, 4, 5, 6, 7, 8, 9]);
     for number in known {
         let refusal = Refusal::from_number(number).unwrap();
         assert_eq!(refusal.number(), number);

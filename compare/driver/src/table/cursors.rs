@@ -177,7 +177,7 @@ fn their_chunk(r: &Request, _: &mut Met) -> Option<Outcome> {
     Some(Outcome { written: Some(bytes), ..outcome })
 }
 
-fn steps() -> [Call; 6] {
+fn steps() -> [Call; 7] {
     [
         Call {
             name: "slices_next",
@@ -204,13 +204,18 @@ fn steps() -> [Call; 6] {
             theirs: Theirs::Answer(|r, _| their_iter(r, |iter| iter.nth(r.n).map(usize::from))),
         },
         Call {
-            name: "take_leading",
-            shape: Shape::CURSOR.flag(),
-            ours: |r, _| ours::taken(calls::take_leading(r.flag, ours::cursor(r.cursor()), r.bytes())),
-            model: |r, _| cursors::take_leading(r.flag, r.cursor(), r.bytes()),
-            theirs: Theirs::Answer(|r, _| {
-                their_iter(r, |iter| Some(if r.flag { iter.take_leading_ones() } else { iter.take_leading_zeros() }))
-            }),
+            name: "take_leading_ones",
+            shape: Shape::CURSOR,
+            ours: |r, _| ours::taken(calls::take_leading_ones(ours::cursor(r.cursor()), r.bytes())),
+            model: |r, _| cursors::take_leading(true, r.cursor(), r.bytes()),
+            theirs: Theirs::Answer(|r, _| their_iter(r, |iter| Some(iter.take_leading_ones()))),
+        },
+        Call {
+            name: "take_leading_zeros",
+            shape: Shape::CURSOR,
+            ours: |r, _| ours::taken(calls::take_leading_zeros(ours::cursor(r.cursor()), r.bytes())),
+            model: |r, _| cursors::take_leading(false, r.cursor(), r.bytes()),
+            theirs: Theirs::Answer(|r, _| their_iter(r, |iter| Some(iter.take_leading_zeros()))),
         },
         Call {
             name: "true_idx_next",

@@ -10,8 +10,6 @@ use model::{State, combine};
 use original::bitmap::{self, Bitmap};
 use poruwhina::calls;
 
-pub const OPS: [Op; 5] = [Op::And, Op::AndNot, Op::Or, Op::OrNot, Op::Xor];
-
 pub fn calls() -> Vec<Call> {
     makers().into_iter().chain(readers()).chain(combinations()).collect()
 }
@@ -74,7 +72,7 @@ fn makers() -> [Call; 4] {
         Call {
             name: "slice",
             shape: Shape::masks(1).args(Args::Inner),
-            ours: |r, _| ours::sliced(calls::slice(ours::mask(r.pieces[0].mask), r.bytes(), r.n, r.m)),
+            ours: |r, _| ours::sliced(r.pieces[0].mask, |mask| calls::slice(mask, r.bytes(), r.n, r.m)),
             model: |r, _| model::mask::slice(r.lent(0), r.n, r.m),
             theirs: Theirs::Refusing(their_slice),
         },
@@ -86,7 +84,7 @@ fn readers() -> [Call; 4] {
         Call {
             name: "unset_bits",
             shape: Shape::masks(1),
-            ours: |r, _| ours::counted(calls::unset_bits(ours::mask(r.pieces[0].mask), r.bytes())),
+            ours: |r, _| ours::counted(r.pieces[0].mask, |mask| calls::unset_bits(mask, r.bytes())),
             model: |r, _| model::mask::unset_bits(r.lent(0)),
             theirs: Theirs::Answer(their_unset_bits),
         },
@@ -120,29 +118,29 @@ fn readers() -> [Call; 4] {
     ]
 }
 
-fn their_combination(r: &Request, masks: &[Bitmap]) -> Bitmap {
-    let combine = match OPS[r.op as usize] {
-        Op::And => bitmap::and,
-        Op::AndNot => bitmap::and_not,
-        Op::Or => bitmap::or,
-        Op::OrNot => bitmap::or_not,
-        Op::Xor => bitmap::xor,
-    };
-    combine(&masks[0], &masks[1])
-}
-
-fn combinations() -> [Call; 4] {
-    [
+/// A combination of two masks, by its name in the library and in the original, and by its case in the model.
+macro_rules! combining {
+    ($name:ident, $op:expr) => {
         Call {
-            name: "combine",
-            shape: Shape::masks(2).writes().ops(5),
+            name: stringify!($name),
+            shape: Shape::masks(2).writes(),
             ours: |r, out| {
                 let [lhs, rhs, _] = &r.pieces;
-                ours::made(calls::combine(r.op, ours::mask(lhs.mask), &lhs.bytes, ours::mask(rhs.mask), &rhs.bytes, out))
+                ours::made(calls::$name(ours::mask(lhs.mask), &lhs.bytes, ours::mask(rhs.mask), &rhs.bytes, out))
             },
-            model: |r, out| combine::combine(OPS[r.op as usize], r.lent(0), r.lent(1), out),
-            theirs: Theirs::Combine(their_combination),
-        },
+            model: |r, out| combine::combine($op, r.lent(0), r.lent(1), out),
+            theirs: Theirs::Combine(|_, masks| bitmap::$name(&masks[0], &masks[1])),
+        }
+    };
+}
+
+fn combinations() -> [Call; 8] {
+    [
+        combining!(and, Op::And),
+        combining!(and_not, Op::AndNot),
+        combining!(or, Op::Or),
+        combining!(or_not, Op::OrNot),
+        combining!(xor, Op::Xor),
         Call {
             name: "not",
             shape: Shape::masks(1).writes(),

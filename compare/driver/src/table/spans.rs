@@ -12,8 +12,6 @@ use original::bitmap::utils::{self, BitChunks, BitChunksExact};
 use original::bitmap::{and_not, bitmask};
 use poruwhina::calls;
 
-const COUNTS: [Count; 5] = [Count::Zeros, Count::LeadingZeros, Count::LeadingOnes, Count::TrailingZeros, Count::TrailingOnes];
-
 /// How far past the length the original is asked to search backwards: it takes a step for each 32 flags of the way.
 const FAR: usize = 4096;
 
@@ -30,16 +28,22 @@ fn their_split(r: &Request, _: &mut Met) -> Option<Outcome> {
     })
 }
 
-fn their_count(r: &Request, _: &mut Met) -> Option<Outcome> {
-    let count = match COUNTS[r.op as usize] {
-        Count::Zeros => utils::count_zeros,
-        Count::LeadingZeros => utils::leading_zeros,
-        Count::LeadingOnes => utils::leading_ones,
-        Count::TrailingZeros => utils::trailing_zeros,
-        Count::TrailingOnes => utils::trailing_ones,
-    };
+fn their_count(r: &Request, count: fn(&[u8], usize, usize) -> usize) -> Option<Outcome> {
     let span = r.span();
     Some(Outcome::values([at_address(span.bytes, r.n % 8, |bytes| count(bytes, span.start, span.length))]))
+}
+
+/// A count over a span, by its name in the library and in the original, and by its case in the model.
+macro_rules! counting {
+    ($name:ident, $count:expr) => {
+        Call {
+            name: stringify!($name),
+            shape: Shape::SPAN.args(Args::Address),
+            ours: |r, _| ours::number(calls::$name(r.bytes(), r.span().start, r.span().length, r.n)),
+            model: |r, _| spans::count($count, r.span(), r.n),
+            theirs: Theirs::Answer(|r, _| their_count(r, utils::$name)),
+        }
+    };
 }
 
 fn their_chunks(r: &Request) -> BitChunks<'_, u64> {
@@ -113,7 +117,7 @@ fn words() -> [Call; 4] {
     ]
 }
 
-fn over_spans() -> [Call; 9] {
+fn over_spans() -> [Call; 12] {
     [
         Call {
             name: "aligned_new",
@@ -122,20 +126,11 @@ fn over_spans() -> [Call; 9] {
             model: |r, _| spans::aligned_new(r.span(), r.n),
             theirs: Theirs::Answer(their_split),
         },
-        Call {
-            name: "count_zeros",
-            shape: Shape::SPAN.args(Args::Address),
-            ours: |r, _| ours::number(calls::count_zeros(r.bytes(), r.span().start, r.span().length, r.n)),
-            model: |r, _| spans::count(COUNTS[0], r.span(), r.n),
-            theirs: Theirs::Answer(their_count),
-        },
-        Call {
-            name: "count",
-            shape: Shape::SPAN.args(Args::Address).ops(5),
-            ours: |r, _| ours::number(calls::count(r.op, r.bytes(), r.span().start, r.span().length, r.n)),
-            model: |r, _| spans::count(COUNTS[r.op as usize], r.span(), r.n),
-            theirs: Theirs::Answer(their_count),
-        },
+        counting!(count_zeros, Count::Zeros),
+        counting!(leading_zeros, Count::LeadingZeros),
+        counting!(leading_ones, Count::LeadingOnes),
+        counting!(trailing_zeros, Count::TrailingZeros),
+        counting!(trailing_ones, Count::TrailingOnes),
         Call {
             name: "chunks_next",
             shape: Shape::CURSOR,

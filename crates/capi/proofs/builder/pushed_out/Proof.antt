@@ -1,5 +1,6 @@
 -- Each case of the enum, with the encoding unfolded.
-use Rattle.capi.specs.Answers.{asBuilder}
+use Rattle.capi.specs.Answers.{asBuilder, builderAnswer}
+use mathlib.Core.Path.{ap}
 use borrow.Author.Needs.{needs}
 use Rattle.capi.proofs.builder.pushed_out.Statement.{statement}
 use Rattle.capi.proofs.builder.pushed_out.Tie as tie
@@ -18,11 +19,11 @@ builder-out-requires-2 c κs = search needs
 
 returns : tie.Need-returns
 unfolding asBuilder
-returns c = rw (c .before .before .r .given .1) (cc)
+returns c = rw (c .before .before .r .given .1) (ap (builderAnswer 0) (c .builder-out .ensures))
 
 returns-2 : tie.Need-returns-2
 unfolding asBuilder
-returns-2 c = rw (c .before .before .r2 .given .1) (cc)
+returns-2 c = rw (c .before .before .r2 .given .1) (ap (builderAnswer _) (c .builder-out2 .ensures))
 
 pub pushed-out-spec : {M : Type 1} → statement M
 pushed-out-spec =

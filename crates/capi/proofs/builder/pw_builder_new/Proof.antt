@@ -1,4 +1,4 @@
--- The call answers by its definition, and the encoding of equal answers is equal: by congruence.
+-- The encoding of what the call answers at the records that came in. Written by tests/export_proofs.py.
 use borrow.Author.Needs.{needs}
 use Rattle.capi.proofs.builder.pw_builder_new.Statement.{statement}
 use Rattle.capi.proofs.builder.pw_builder_new.Tie as tie
@@ -10,7 +10,7 @@ builder-out-requires : tie.Need-builder-out-requires
 builder-out-requires c κs = search needs
 
 returns : tie.Need-returns
-returns c = cc
+returns c = rw (c .before .new .ensures) at (c .builder-out .ensures)
 
 pub pw-builder-new-spec : {M : Type 1} → statement M
 pw-builder-new-spec = tie.close (tie.spec new-requires builder-out-requires returns)

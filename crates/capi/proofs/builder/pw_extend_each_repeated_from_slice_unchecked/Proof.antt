@@ -1,17 +1,12 @@
--- The call answers by its definition at the builder that came in, and the encoding of equal answers is equal (`append-out`).
-use Rattle.masks.specs.Appends.{extendRepeated}
-use Rattle.capi.proofs.CallLaws.{append-out}
+-- The encoding of what the call answers at the records that came in. Written by tests/export_proofs.py.
 use borrow.Author.Needs.{needs}
-use Rattle.capi.proofs.builder.pw_extend_each_repeated_from_slice_unchecked.Statement.{
-  statement,
-}
+use Rattle.capi.proofs.builder.pw_extend_each_repeated_from_slice_unchecked.Statement.{statement}
 use Rattle.capi.proofs.builder.pw_extend_each_repeated_from_slice_unchecked.Tie as tie
 
 builder-in-requires : tie.Need-builder-in-requires
 builder-in-requires c κs = search needs
 
-extend-each-repeated-from-slice-unchecked-requires :
-    tie.Need-extend-each-repeated-from-slice-unchecked-requires
+extend-each-repeated-from-slice-unchecked-requires : tie.Need-extend-each-repeated-from-slice-unchecked-requires
 extend-each-repeated-from-slice-unchecked-requires c κs = search needs
 
 pushed-out-requires : tie.Need-pushed-out-requires
@@ -22,10 +17,10 @@ same-length c = search needs
 
 returns : tie.Need-returns
 returns c =
-    let did = c .before .before .before in
-    let own = did .before .before in
-    let a = own .before .before .before .args in
-    append-out (extendRepeated (a .bytes .now) (a .start) (a .n) (a .repeats)) _ _ (a .buf .now) _ _ _ (own .builder-in .ensures) (did .extend-each-repeated-from-slice-unchecked .ensures .0) (did .extend-each-repeated-from-slice-unchecked .ensures .1) (c .pushed-out .ensures)
+    let did = c .before .before .before in (
+      rw (did .extend-each-repeated-from-slice-unchecked .ensures .0, did .before .before .builder-in .ensures) at (c .pushed-out .ensures),
+      rw (did .before .before .builder-in .ensures) at (did .extend-each-repeated-from-slice-unchecked .ensures .1),
+    )
 
 pub pw-extend-each-repeated-from-slice-unchecked-spec : {M : Type 1} → statement M
 pw-extend-each-repeated-from-slice-unchecked-spec =

@@ -1,6 +1,4 @@
--- The call answers by its definition at the builder that came in, and the encoding of equal answers is equal (`append-out`).
-use Rattle.masks.specs.Appends.{extendSlice}
-use Rattle.capi.proofs.CallLaws.{append-out}
+-- The encoding of what the call answers at the records that came in. Written by tests/export_proofs.py.
 use borrow.Author.Needs.{needs}
 use Rattle.capi.proofs.builder.pw_extend_from_slice.Statement.{statement}
 use Rattle.capi.proofs.builder.pw_extend_from_slice.Tie as tie
@@ -19,10 +17,10 @@ same-length c = search needs
 
 returns : tie.Need-returns
 returns c =
-    let did = c .before .before .before in
-    let own = did .before .before in
-    let a = own .before .before .before .args in
-    append-out (extendSlice (a .bytes .now) (a .start) (a .n)) _ _ (a .buf .now) _ _ _ (own .builder-in .ensures) (did .extend-from-slice .ensures .0) (did .extend-from-slice .ensures .1) (c .pushed-out .ensures)
+    let did = c .before .before .before in (
+      rw (did .extend-from-slice .ensures .0, did .before .before .builder-in .ensures) at (c .pushed-out .ensures),
+      rw (did .before .before .builder-in .ensures) at (did .extend-from-slice .ensures .1),
+    )
 
 pub pw-extend-from-slice-spec : {M : Type 1} → statement M
 pw-extend-from-slice-spec =

@@ -1,4 +1,4 @@
--- The call answers by its definition, and the encoding of equal answers is equal: by congruence.
+-- The encoding of what the call answers at the records that came in. Written by tests/export_proofs.py.
 use borrow.Author.Needs.{needs}
 use Rattle.capi.proofs.builder.pw_freeze.Statement.{statement}
 use Rattle.capi.proofs.builder.pw_freeze.Tie as tie
@@ -16,9 +16,12 @@ same-length : tie.Need-same-length
 same-length c = search needs
 
 returns : tie.Need-returns
-returns c = (cc, cc)
+returns c =
+    let did = c .before .before .before in (
+      rw (did .freeze .ensures .0, did .before .before .builder-in .ensures) at (c .frozen-out .ensures),
+      rw (did .before .before .builder-in .ensures) at (did .freeze .ensures .1),
+    )
 
 pub pw-freeze-spec : {M : Type 1} → statement M
 pw-freeze-spec =
-    tie.close
-    (tie.spec builder-in-requires freeze-requires frozen-out-requires same-length returns)
+    tie.close (tie.spec builder-in-requires freeze-requires frozen-out-requires same-length returns)

@@ -1,6 +1,4 @@
--- The call answers by its definition at the builder that came in, and the encoding of equal answers is equal (`append-out`).
-use Rattle.masks.specs.Appends.{pushFlag}
-use Rattle.capi.proofs.CallLaws.{append-out}
+-- The encoding of what the call answers at the records that came in. Written by tests/export_proofs.py.
 use borrow.Author.Needs.{needs}
 use Rattle.capi.proofs.builder.pw_push.Statement.{statement}
 use Rattle.capi.proofs.builder.pw_push.Tie as tie
@@ -19,10 +17,10 @@ same-length c = search needs
 
 returns : tie.Need-returns
 returns c =
-    let did = c .before .before .before in
-    let own = did .before .before in
-    let a = own .before .before .args in
-    append-out (pushFlag (a .flag)) _ _ (a .buf .now) _ _ _ (own .builder-in .ensures) (did .push .ensures .0) (did .push .ensures .1) (c .pushed-out .ensures)
+    let did = c .before .before .before in (
+      rw (did .push .ensures .0, did .before .before .builder-in .ensures) at (c .pushed-out .ensures),
+      rw (did .before .before .builder-in .ensures) at (did .push .ensures .1),
+    )
 
 pub pw-push-spec : {M : Type 1} → statement M
 pw-push-spec =

@@ -1,5 +1,7 @@
 -- Each case of the enum, with the encoding unfolded.
-use Rattle.capi.specs.Answers.{asValidity}
+use Rattle.capi.specs.Answers.{asValidity, validityOf}
+use mathlib.Core.Path.{ap}
+use mathlib.Core.Bool.{true, false}
 use borrow.Author.Needs.{needs}
 use Rattle.capi.proofs.builder.validity_out.Statement.{statement}
 use Rattle.capi.proofs.builder.validity_out.Tie as tie
@@ -24,15 +26,15 @@ no-mask-requires-2 c κs = search needs
 
 returns : tie.Need-returns
 unfolding asValidity
-returns c = rw (c .before .before .r .given .1) (cc)
+returns c = rw (c .before .before .r .given .1) (ap (validityOf 0 true) (c .mask-out .ensures))
 
 returns-2 : tie.Need-returns-2
 unfolding asValidity
-returns-2 c = rw (c .before .enum-told .given .1) (cc)
+returns-2 c = rw (c .before .enum-told .given .1) (ap (validityOf 0 false) (c .no-mask .ensures))
 
 returns-3 : tie.Need-returns-3
 unfolding asValidity
-returns-3 c = rw (c .before .before .r2 .given .1) (cc)
+returns-3 c = rw (c .before .before .r2 .given .1) (ap (validityOf _ false) (c .no-mask2 .ensures))
 
 pub validity-out-spec : {M : Type 1} → statement M
 validity-out-spec =

@@ -1,5 +1,6 @@
 -- Each case of the enum, with the encoding unfolded.
-use Rattle.capi.specs.Answers.{asCursor}
+use Rattle.capi.specs.Answers.{asCursor, cursorAnswer}
+use mathlib.Core.Path.{_∙_, ap}
 use borrow.Author.Needs.{needs}
 use Rattle.capi.proofs.chunks.new_out.Statement.{statement}
 use Rattle.capi.proofs.chunks.new_out.Tie as tie
@@ -24,11 +25,13 @@ cursor-answer-requires-2 c κs = search needs
 
 returns : tie.Need-returns
 unfolding asCursor
-returns c = rw (c .before .before .before .r .given .1) (cc)
+returns c = rw (c .before .before .before .r .given .1) (c .cursor-answer .ensures ∙ ap (cursorAnswer 0) (c .before .chunks-out .ensures))
 
 returns-2 : tie.Need-returns-2
 unfolding asCursor
-returns-2 c = rw (c .before .before .before .r2 .given .1) (cc)
+returns-2 c =
+    rw (c .before .before .before .r2 .given .1)
+    (c .cursor-answer2 .ensures ∙ ap (cursorAnswer _) (c .before .no-cursor .ensures))
 
 pub new-out-spec : {M : Type 1} → statement M
 new-out-spec =

@@ -1,4 +1,4 @@
--- The call answers by its definition, and the encoding of equal answers is equal: by congruence.
+-- The encoding of what the call answers at the records that came in. Written by tests/export_proofs.py.
 use borrow.Author.Needs.{needs}
 use Rattle.capi.proofs.chunks.pw_chunks_next.Statement.{statement}
 use Rattle.capi.proofs.chunks.pw_chunks_next.Tie as tie
@@ -13,7 +13,7 @@ chunk-out-requires : tie.Need-chunk-out-requires
 chunk-out-requires c κs = search needs
 
 returns : tie.Need-returns
-returns c = cc
+returns c = rw (c .before .next .ensures, c .before .before .chunks-in .ensures) at (c .chunk-out .ensures)
 
 pub pw-chunks-next-spec : {M : Type 1} → statement M
 pw-chunks-next-spec =

@@ -18,11 +18,11 @@ step-of-requires-2 c κs = search needs
 
 returns : tie.Need-returns
 unfolding asRemainder
-returns c = rw (c .before .before .r .given .1) (cc)
+returns c = rw (c .before .before .r .given .1) (c .step-of .ensures)
 
 returns-2 : tie.Need-returns-2
 unfolding asRemainder
-returns-2 c = rw (c .before .before .r2 .given .1) (cc)
+returns-2 c = rw (c .before .before .r2 .given .1) (c .step-of2 .ensures)
 
 pub remainder-out-spec : {M : Type 1} → statement M
 remainder-out-spec =

@@ -1,4 +1,4 @@
--- The call answers by its definition, and the encoding of equal answers is equal: by congruence.
+-- The encoding of what the call answers at the records that came in. Written by tests/export_proofs.py.
 use borrow.Author.Needs.{needs}
 use Rattle.capi.proofs.combine.pw_not.Statement.{statement}
 use Rattle.capi.proofs.combine.pw_not.Tie as tie
@@ -16,7 +16,11 @@ same-length : tie.Need-same-length
 same-length c = search needs
 
 returns : tie.Need-returns
-returns c = (cc, cc)
+returns c =
+    let did = c .before .before .before in (
+      rw (did .not .ensures .0, did .before .before .mask-in .ensures) at (c .combined-out .ensures),
+      rw (did .before .before .mask-in .ensures) at (did .not .ensures .1),
+    )
 
 pub pw-not-spec : {M : Type 1} → statement M
 pw-not-spec =

@@ -1,4 +1,4 @@
--- The call answers by its definition, and the encoding of equal answers is equal: by congruence.
+-- The encoding of what the call answers at the records that came in. Written by tests/export_proofs.py.
 use borrow.Author.Needs.{needs}
 use Rattle.capi.proofs.combine.pw_select_constant.Statement.{statement}
 use Rattle.capi.proofs.combine.pw_select_constant.Tie as tie
@@ -19,7 +19,13 @@ same-length : tie.Need-same-length
 same-length c = search needs
 
 returns : tie.Need-returns
-returns c = (cc, cc)
+returns c =
+    let did = c .before .before .before in
+    let own1 = did .before .before .mask-in2 .ensures in
+    let own2 = did .before .before .before .mask-in .ensures in (
+      rw (did .select-constant .ensures .0, own1, own2) at (c .combined-out .ensures),
+      rw (own1, own2) at (did .select-constant .ensures .1),
+    )
 
 pub pw-select-constant-spec : {M : Type 1} → statement M
 pw-select-constant-spec =

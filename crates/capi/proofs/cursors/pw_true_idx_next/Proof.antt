@@ -1,4 +1,4 @@
--- The call answers by its definition, and the encoding of equal answers is equal: by congruence.
+-- The encoding of what the call answers at the records that came in. Written by tests/export_proofs.py.
 use borrow.Author.Needs.{needs}
 use Rattle.capi.proofs.cursors.pw_true_idx_next.Statement.{statement}
 use Rattle.capi.proofs.cursors.pw_true_idx_next.Tie as tie
@@ -13,7 +13,7 @@ true-idx-out-requires : tie.Need-true-idx-out-requires
 true-idx-out-requires c κs = search needs
 
 returns : tie.Need-returns
-returns c = cc
+returns c = rw (c .before .next .ensures, c .before .before .true-in .ensures) at (c .true-idx-out .ensures)
 
 pub pw-true-idx-next-spec : {M : Type 1} → statement M
 pw-true-idx-next-spec =

@@ -1,4 +1,4 @@
--- The call answers by its definition, and the encoding of equal answers is equal: by congruence.
+-- The encoding of what the call answers at the records that came in. Written by tests/export_proofs.py.
 use borrow.Author.Needs.{needs}
 use Rattle.capi.proofs.cursors.pw_true_idx_next_chunk.Statement.{statement}
 use Rattle.capi.proofs.cursors.pw_true_idx_next_chunk.Tie as tie
@@ -16,7 +16,11 @@ same-length : tie.Need-same-length
 same-length c = search needs
 
 returns : tie.Need-returns
-returns c = (cc, cc)
+returns c =
+    let did = c .before .before .before in (
+      rw (did .next-chunk .ensures .0, did .before .before .true-in .ensures) at (c .chunk-out .ensures),
+      rw (did .before .before .true-in .ensures) at (did .next-chunk .ensures .1),
+    )
 
 pub pw-true-idx-next-chunk-spec : {M : Type 1} → statement M
 pw-true-idx-next-chunk-spec =

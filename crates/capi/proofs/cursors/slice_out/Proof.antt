@@ -24,15 +24,15 @@ step-of-requires-3 c κs = search needs
 
 returns : tie.Need-returns
 unfolding asRun asStep
-returns c = rw (c .before .before .r .given .1) (cc)
+returns c = rw (c .before .before .r .given .1) (c .step-of .ensures)
 
 returns-2 : tie.Need-returns-2
 unfolding asRun asStep
-returns-2 c = rw (c .before .before .r2 .given .1) (cc)
+returns-2 c = rw (c .before .before .r2 .given .1) (c .step-of2 .ensures)
 
 returns-3 : tie.Need-returns-3
 unfolding asRun asStep
-returns-3 c = rw (c .before .before .r3 .given .1) (cc)
+returns-3 c = rw (c .before .before .r3 .given .1) (c .step-of3 .ensures)
 
 pub slice-out-spec : {M : Type 1} → statement M
 slice-out-spec =

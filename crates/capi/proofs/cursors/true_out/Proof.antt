@@ -1,5 +1,6 @@
 -- The definition unfolded, field by field.
-use Rattle.capi.specs.Records.{trueOut}
+use Rattle.capi.specs.Records.{cursorOf, trueOut}
+use mathlib.Core.Path.{_∙_, ap}
 use borrow.Author.Needs.{needs}
 use Rattle.capi.proofs.cursors.true_out.Statement.{statement}
 use Rattle.capi.proofs.cursors.true_out.Tie as tie
@@ -12,7 +13,7 @@ cursor-of-requires c κs = search needs
 
 returns : tie.Need-returns
 unfolding trueOut
-returns c = cc
+returns c = c .cursor-of .ensures ∙ ap (cursorOf _ _ _) (c .before .flag-value .ensures)
 
 pub true-out-spec : {M : Type 1} → statement M
 true-out-spec = tie.close (tie.spec flag-value-requires cursor-of-requires returns)

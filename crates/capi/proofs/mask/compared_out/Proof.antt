@@ -18,11 +18,11 @@ flag-of-requires-2 c κs = search needs
 
 returns : tie.Need-returns
 unfolding asFlag
-returns c = rw (c .before .before .r .given .1) (cc)
+returns c = rw (c .before .before .r .given .1) (c .flag-of .ensures)
 
 returns-2 : tie.Need-returns-2
 unfolding asFlag
-returns-2 c = rw (c .before .before .r2 .given .1) (cc)
+returns-2 c = rw (c .before .before .r2 .given .1) (c .flag-of2 .ensures)
 
 pub compared-out-spec : {M : Type 1} → statement M
 compared-out-spec =

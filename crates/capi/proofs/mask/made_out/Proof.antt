@@ -1,5 +1,6 @@
 -- Each case of the enum, with the encoding unfolded.
-use Rattle.capi.specs.Answers.{asMask}
+use Rattle.capi.specs.Answers.{asMask, maskAnswer}
+use mathlib.Core.Path.{_∙_, ap}
 use borrow.Author.Needs.{needs}
 use Rattle.capi.proofs.mask.made_out.Statement.{statement}
 use Rattle.capi.proofs.mask.made_out.Tie as tie
@@ -24,11 +25,11 @@ mask-answer-requires-2 c κs = search needs
 
 returns : tie.Need-returns
 unfolding asMask
-returns c = rw (c .before .before .before .r .given .1) (cc)
+returns c = rw (c .before .before .before .r .given .1) (c .mask-answer .ensures ∙ ap (maskAnswer 0) (c .before .mask-out .ensures))
 
 returns-2 : tie.Need-returns-2
 unfolding asMask
-returns-2 c = rw (c .before .before .before .r2 .given .1) (cc)
+returns-2 c = rw (c .before .before .before .r2 .given .1) (c .mask-answer2 .ensures ∙ ap (maskAnswer _) (c .before .no-mask .ensures))
 
 pub made-out-spec : {M : Type 1} → statement M
 made-out-spec =

@@ -1,4 +1,4 @@
--- The call answers by its definition, and the encoding of equal answers is equal: by congruence.
+-- The encoding of what the call answers at the records that came in. Written by tests/export_proofs.py.
 use borrow.Author.Needs.{needs}
 use Rattle.capi.proofs.mask.pw_eq.Statement.{statement}
 use Rattle.capi.proofs.mask.pw_eq.Tie as tie
@@ -16,7 +16,10 @@ compared-out-requires : tie.Need-compared-out-requires
 compared-out-requires c κs = search needs
 
 returns : tie.Need-returns
-returns c = cc
+returns c =
+    let own1 = c .before .before .mask-in2 .ensures in
+    let own2 = c .before .before .before .mask-in .ensures in
+    rw (c .before .eq .ensures, own1, own2) at (c .compared-out .ensures)
 
 pub pw-eq-spec : {M : Type 1} → statement M
 pw-eq-spec =

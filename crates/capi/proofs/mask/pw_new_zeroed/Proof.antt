@@ -1,4 +1,4 @@
--- The call answers by its definition, and the encoding of equal answers is equal: by congruence.
+-- The encoding of what the call answers at the records that came in. Written by tests/export_proofs.py.
 use borrow.Author.Needs.{needs}
 use Rattle.capi.proofs.mask.pw_new_zeroed.Statement.{statement}
 use Rattle.capi.proofs.mask.pw_new_zeroed.Tie as tie
@@ -13,7 +13,11 @@ same-length : tie.Need-same-length
 same-length c = search needs
 
 returns : tie.Need-returns
-returns c = (cc, cc)
+returns c =
+    let did = c .before .before .before in (
+      rw (did .new-zeroed .ensures .0) at (c .made-out .ensures),
+      did .new-zeroed .ensures .1,
+    )
 
 pub pw-new-zeroed-spec : {M : Type 1} → statement M
 pw-new-zeroed-spec = tie.close (tie.spec new-zeroed-requires made-out-requires same-length returns)

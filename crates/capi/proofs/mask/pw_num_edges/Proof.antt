@@ -1,4 +1,4 @@
--- The call answers by its definition, and the encoding of equal answers is equal: by congruence.
+-- The encoding of what the call answers at the records that came in. Written by tests/export_proofs.py.
 use borrow.Author.Needs.{needs}
 use Rattle.capi.proofs.mask.pw_num_edges.Statement.{statement}
 use Rattle.capi.proofs.mask.pw_num_edges.Tie as tie
@@ -13,7 +13,7 @@ counted-out-requires : tie.Need-counted-out-requires
 counted-out-requires c κs = search needs
 
 returns : tie.Need-returns
-returns c = cc
+returns c = rw (c .before .num-edges .ensures, c .before .before .mask-in .ensures) at (c .counted-out .ensures)
 
 pub pw-num-edges-spec : {M : Type 1} → statement M
 pw-num-edges-spec =

@@ -1,4 +1,4 @@
--- The call answers by its definition, and the encoding of equal answers is equal: by congruence.
+-- The encoding of what the call answers at the records that came in. Written by tests/export_proofs.py.
 use borrow.Author.Needs.{needs}
 use Rattle.capi.proofs.mask.pw_num_intersections_with.Statement.{statement}
 use Rattle.capi.proofs.mask.pw_num_intersections_with.Tie as tie
@@ -16,7 +16,10 @@ counted-out-requires : tie.Need-counted-out-requires
 counted-out-requires c κs = search needs
 
 returns : tie.Need-returns
-returns c = cc
+returns c =
+    let own1 = c .before .before .mask-in2 .ensures in
+    let own2 = c .before .before .before .mask-in .ensures in
+    rw (c .before .num-intersections-with .ensures, own1, own2) at (c .counted-out .ensures)
 
 pub pw-num-intersections-with-spec : {M : Type 1} → statement M
 pw-num-intersections-with-spec =

@@ -1,4 +1,4 @@
--- The call answers by its definition, and the encoding of equal answers is equal: by congruence.
+-- The encoding of what the call answers at the records that came in. Written by tests/export_proofs.py.
 use borrow.Author.Needs.{needs}
 use Rattle.capi.proofs.mask.pw_slice.Statement.{statement}
 use Rattle.capi.proofs.mask.pw_slice.Tie as tie
@@ -13,7 +13,7 @@ sliced-out-requires : tie.Need-sliced-out-requires
 sliced-out-requires c κs = search needs
 
 returns : tie.Need-returns
-returns c = cc
+returns c = rw (c .before .slice .ensures, c .before .before .mask-in .ensures) at (c .sliced-out .ensures)
 
 pub pw-slice-spec : {M : Type 1} → statement M
 pw-slice-spec = tie.close (tie.spec mask-in-requires slice-requires sliced-out-requires returns)

@@ -1,4 +1,4 @@
--- The call answers by its definition, and the encoding of equal answers is equal: by congruence.
+-- The encoding of what the call answers at the records that came in. Written by tests/export_proofs.py.
 use borrow.Author.Needs.{needs}
 use Rattle.capi.proofs.mask.pw_try_new.Statement.{statement}
 use Rattle.capi.proofs.mask.pw_try_new.Tie as tie
@@ -10,7 +10,7 @@ made-out-requires : tie.Need-made-out-requires
 made-out-requires c κs = search needs
 
 returns : tie.Need-returns
-returns c = cc
+returns c = rw (c .before .try-new .ensures) at (c .made-out .ensures)
 
 pub pw-try-new-spec : {M : Type 1} → statement M
 pw-try-new-spec = tie.close (tie.spec try-new-requires made-out-requires returns)

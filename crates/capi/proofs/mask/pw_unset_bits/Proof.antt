@@ -1,4 +1,4 @@
--- The call answers by its definition, and the encoding of equal answers is equal: by congruence.
+-- The encoding of what the call answers at the records that came in. Written by tests/export_proofs.py.
 use borrow.Author.Needs.{needs}
 use Rattle.capi.proofs.mask.pw_unset_bits.Statement.{statement}
 use Rattle.capi.proofs.mask.pw_unset_bits.Tie as tie
@@ -13,7 +13,7 @@ counting-out-requires : tie.Need-counting-out-requires
 counting-out-requires c κs = search needs
 
 returns : tie.Need-returns
-returns c = cc
+returns c = rw (c .before .unset-bits .ensures, c .before .before .mask-in .ensures) at (c .counting-out .ensures)
 
 pub pw-unset-bits-spec : {M : Type 1} → statement M
 pw-unset-bits-spec =

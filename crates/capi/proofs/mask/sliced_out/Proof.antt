@@ -1,5 +1,6 @@
 -- Each case of the enum, with the encoding unfolded.
-use Rattle.capi.specs.Answers.{asSameMask}
+use mathlib.Core.Path.{_∙_, ap}
+use Rattle.capi.specs.Answers.{asSameMask, maskAnswer}
 use borrow.Author.Needs.{needs}
 use Rattle.capi.proofs.mask.sliced_out.Statement.{statement}
 use Rattle.capi.proofs.mask.sliced_out.Tie as tie
@@ -16,19 +17,18 @@ mask-answer-requires c κs = search needs
 enum-known-r-2 : tie.Need-enum-known-r-2
 enum-known-r-2 c = search needs
 
-mask-out-requires-2 : tie.Need-mask-out-requires-2
-mask-out-requires-2 c κs = search needs
-
 mask-answer-requires-2 : tie.Need-mask-answer-requires-2
 mask-answer-requires-2 c κs = search needs
 
 returns : tie.Need-returns
 unfolding asSameMask
-returns c = rw (c .before .before .before .r .given .1) (cc)
+returns c =
+    rw (c .before .before .before .r .given .1)
+    (c .mask-answer .ensures ∙ ap (maskAnswer 0) (c .before .mask-out .ensures))
 
 returns-2 : tie.Need-returns-2
 unfolding asSameMask
-returns-2 c = rw (c .before .before .before .r2 .given .1) (cc)
+returns-2 c = rw (c .before .before .r2 .given .1) (c .mask-answer2 .ensures)
 
 pub sliced-out-spec : {M : Type 1} → statement M
 sliced-out-spec =
@@ -38,7 +38,6 @@ sliced-out-spec =
     mask-out-requires
     mask-answer-requires
     enum-known-r-2
-    mask-out-requires-2
     mask-answer-requires-2
     returns
     returns-2)

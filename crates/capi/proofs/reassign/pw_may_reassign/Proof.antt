@@ -1,4 +1,4 @@
--- The call answers by its definition, and the encoding of equal answers is equal: by congruence.
+-- The encoding of what the call answers at the records that came in. Written by tests/export_proofs.py.
 use borrow.Author.Needs.{needs}
 use Rattle.capi.proofs.reassign.pw_may_reassign.Statement.{statement}
 use Rattle.capi.proofs.reassign.pw_may_reassign.Tie as tie
@@ -16,7 +16,10 @@ reassign-out-requires : tie.Need-reassign-out-requires
 reassign-out-requires c κs = search needs
 
 returns : tie.Need-returns
-returns c = cc
+returns c =
+    let own1 = c .before .before .optional-in2 .ensures in
+    let own2 = c .before .before .before .optional-in .ensures in
+    rw (c .before .may-reassign .ensures, own1, own2) at (c .reassign-out .ensures)
 
 pub pw-may-reassign-spec : {M : Type 1} → statement M
 pw-may-reassign-spec =

@@ -1,5 +1,7 @@
 -- The definition unfolded, field by field.
+use Rattle.masks.specs.Mask.{maskOf}
 use Rattle.capi.specs.Records.{maskIn}
+use mathlib.Core.Path.{ap}
 use borrow.Author.Needs.{needs}
 use Rattle.capi.proofs.records.mask_in.Statement.{statement}
 use Rattle.capi.proofs.records.mask_in.Tie as tie
@@ -9,7 +11,7 @@ count-in-requires c κs = search needs
 
 returns : tie.Need-returns
 unfolding maskIn
-returns c = cc
+returns c = ap (maskOf _ _) (c .count-in .ensures)
 
 pub mask-in-spec : {M : Type 1} → statement M
 mask-in-spec = tie.close (tie.spec count-in-requires returns)

@@ -24,15 +24,15 @@ position-of-requires-3 c κs = search needs
 
 returns : tie.Need-returns
 unfolding asPosition
-returns c = rw (c .before .before .r .given .1) (cc)
+returns c = rw (c .before .before .r .given .1) (c .position-of .ensures)
 
 returns-2 : tie.Need-returns-2
 unfolding asPosition
-returns-2 c = rw (c .before .enum-told .given .1) (cc)
+returns-2 c = rw (c .before .enum-told .given .1) (c .position-of2 .ensures)
 
 returns-3 : tie.Need-returns-3
 unfolding asPosition
-returns-3 c = rw (c .before .before .r2 .given .1) (cc)
+returns-3 c = rw (c .before .before .r2 .given .1) (c .position-of3 .ensures)
 
 pub position-out-spec : {M : Type 1} → statement M
 position-out-spec =

@@ -1,4 +1,4 @@
--- The call answers by its definition, and the encoding of equal answers is equal: by congruence.
+-- The encoding of what the call answers at the records that came in. Written by tests/export_proofs.py.
 use borrow.Author.Needs.{needs}
 use Rattle.capi.proofs.search.pw_nth_set_bit_idx.Statement.{statement}
 use Rattle.capi.proofs.search.pw_nth_set_bit_idx.Tie as tie
@@ -10,7 +10,7 @@ position-out-requires : tie.Need-position-out-requires
 position-out-requires c κs = search needs
 
 returns : tie.Need-returns
-returns c = cc
+returns c = rw (c .before .nth-set-bit-idx .ensures) at (c .position-out .ensures)
 
 pub pw-nth-set-bit-idx-spec : {M : Type 1} → statement M
 pw-nth-set-bit-idx-spec =

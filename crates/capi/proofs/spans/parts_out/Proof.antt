@@ -12,11 +12,11 @@ enum-known-r-2 c = search needs
 
 returns : tie.Need-returns
 unfolding asSpans
-returns c = rw (c .before .r .given .1) (cc)
+returns c = rw (c .before .r .given .1)
 
 returns-2 : tie.Need-returns-2
 unfolding asSpans
-returns-2 c = rw (c .before .r2 .given .1) (cc)
+returns-2 c = rw (c .before .r2 .given .1)
 
 pub parts-out-spec : {M : Type 1} → statement M
 parts-out-spec = tie.close (tie.spec enum-known-r enum-known-r-2 returns returns-2)

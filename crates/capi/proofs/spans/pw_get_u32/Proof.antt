@@ -1,4 +1,4 @@
--- The call answers by its definition, and the encoding of equal answers is equal: by congruence.
+-- The encoding of what the call answers at the records that came in. Written by tests/export_proofs.py.
 use borrow.Author.Needs.{needs}
 use Rattle.capi.proofs.spans.pw_get_u32.Statement.{statement}
 use Rattle.capi.proofs.spans.pw_get_u32.Tie as tie
@@ -10,7 +10,7 @@ window-out-requires : tie.Need-window-out-requires
 window-out-requires c κs = search needs
 
 returns : tie.Need-returns
-returns c = cc
+returns c = rw (c .before .get-u32 .ensures) at (c .window-out .ensures)
 
 pub pw-get-u32-spec : {M : Type 1} → statement M
 pw-get-u32-spec = tie.close (tie.spec get-u32-requires window-out-requires returns)

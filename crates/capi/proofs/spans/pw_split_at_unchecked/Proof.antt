@@ -1,4 +1,4 @@
--- The call answers by its definition, and the encoding of equal answers is equal: by congruence.
+-- The encoding of what the call answers at the records that came in. Written by tests/export_proofs.py.
 use borrow.Author.Needs.{needs}
 use Rattle.capi.proofs.spans.pw_split_at_unchecked.Statement.{statement}
 use Rattle.capi.proofs.spans.pw_split_at_unchecked.Tie as tie
@@ -10,7 +10,7 @@ parts-out-requires : tie.Need-parts-out-requires
 parts-out-requires c κs = search needs
 
 returns : tie.Need-returns
-returns c = cc
+returns c = rw (c .before .split-at-unchecked .ensures) at (c .parts-out .ensures)
 
 pub pw-split-at-unchecked-spec : {M : Type 1} → statement M
 pw-split-at-unchecked-spec =

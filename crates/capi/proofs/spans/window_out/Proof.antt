@@ -21,11 +21,11 @@ number-of-requires-2 c κs = search needs
 
 returns : tie.Need-returns
 unfolding asNumber
-returns c = rw (c .before .before .r .given .1) (cc)
+returns c = rw (c .before .before .r .given .1) (c .number-of .ensures)
 
 returns-2 : tie.Need-returns-2
 unfolding asNumber
-returns-2 c = rw (c .before .before .r2 .given .1) (cc)
+returns-2 c = rw (c .before .before .r2 .given .1) (c .number-of2 .ensures)
 
 pub window-out-spec : {M : Type 1} → statement M
 window-out-spec =

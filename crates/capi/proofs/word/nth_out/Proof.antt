@@ -21,11 +21,11 @@ position-of-requires-2 c κs = search needs
 
 returns : tie.Need-returns
 unfolding asPosition nthAnswer
-returns c = rw (c .before .before .r .given .1) (cc)
+returns c = rw (c .before .before .r .given .1) (c .position-of .ensures)
 
 returns-2 : tie.Need-returns-2
 unfolding asPosition nthAnswer
-returns-2 c = rw (c .before .enum-told .given .1) (cc)
+returns-2 c = rw (c .before .enum-told .given .1) (c .position-of2 .ensures)
 
 pub nth-out-spec : {M : Type 1} → statement M
 nth-out-spec =

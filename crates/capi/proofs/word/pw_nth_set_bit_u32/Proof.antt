@@ -1,4 +1,4 @@
--- The call answers by its definition, and the encoding of equal answers is equal: by congruence.
+-- The encoding of what the call answers at the records that came in. Written by tests/export_proofs.py.
 use borrow.Author.Needs.{needs}
 use Rattle.capi.proofs.word.pw_nth_set_bit_u32.Statement.{statement}
 use Rattle.capi.proofs.word.pw_nth_set_bit_u32.Tie as tie
@@ -10,7 +10,7 @@ nth-out-requires : tie.Need-nth-out-requires
 nth-out-requires c κs = search needs
 
 returns : tie.Need-returns
-returns c = cc
+returns c = rw (c .before .nth-set-bit-u32 .ensures) at (c .nth-out .ensures)
 
 pub pw-nth-set-bit-u32-spec : {M : Type 1} → statement M
 pw-nth-set-bit-u32-spec = tie.close (tie.spec nth-set-bit-u32-requires nth-out-requires returns)

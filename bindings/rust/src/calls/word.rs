@@ -1,4 +1,6 @@
-//! Single words of 64 flags.
+//! The calls of words. Nothing is refused.
+//!
+//! Written by tests/declarations.py from crates/capi, save for the examples, which it keeps.
 
 use super::exports;
 use super::records::*;
@@ -26,7 +28,7 @@ pub fn merge_reversed(current: u64, next: u64, offset: usize) -> u64 {
     unsafe { exports::pw_merge_reversed(current, next, offset) }
 }
 
-/// The position of set bit n of a word, counted from 0.
+/// The position of set bit n of a word, counted from 0; not found where at most n are set. Refuses nothing.
 ///
 /// ```
 /// use poruwhina::calls::nth_set_bit_u64;
@@ -39,7 +41,7 @@ pub fn nth_set_bit_u64(w: u64, n: u64) -> Position {
     unsafe { exports::pw_nth_set_bit_u64(w, n) }
 }
 
-/// The position of set bit n of a word of 32 flags, counted from 0.
+/// The position of set bit n of a word of 32 bits, counted from 0; not found where at most n are set. Refuses nothing.
 ///
 /// ```
 /// use poruwhina::calls::nth_set_bit_u32;
