@@ -346,6 +346,14 @@ pw_mask_answer pw_select(pw_mask selector, const uint8_t *by, size_t by_len, pw_
 pw_mask_answer pw_select_constant(pw_mask selector, const uint8_t *by, size_t by_len, pw_mask truthy,
     const uint8_t *yes, size_t yes_len, bool flag, uint8_t *out, size_t out_len);
 
+/* ---- The combination `and_not` at one index. */
+
+/* Whether the flag at `index` is set in the first mask and not in the second. Where not `first_present` there is no first mask, which
+ * stands for all ones; where not `second_present` no second mask, which takes nothing away: record and bytes are then not read. 5
+ * comes with both masks alone; without any mask nothing is refused. Refuses with 1, 2, 3, 5, 6; every other field is then 0. */
+pw_flag pw_and_not_at(bool first_present, pw_mask first, const uint8_t *first_bytes, size_t first_bytes_len,
+    bool second_present, pw_mask second, const uint8_t *second_bytes, size_t second_bytes_len, size_t index);
+
 /* ---- The cursors over runs, flags and positions. A step that finds nothing gives the length as the place. */
 
 /* A cursor before the first run of ones of a mask. Refuses with 1, 2, 3; every other field is then 0. */

@@ -314,6 +314,16 @@ static void position_chunks(void) {
     CHECK(is_step(positions_of(outside, A, 1, 3), 0, 3, 3) && has(all, 3));
 }
 
+static void at_one_index(void) {
+    const uint8_t other[1] = {0x04};
+    CHECK(pw_and_not_at(true, MASK_A, A, 1, true, MASK_A, other, 1, 0).value);
+    CHECK(!pw_and_not_at(true, MASK_A, A, 1, true, MASK_A, other, 1, 2).value);
+    CHECK(pw_and_not_at(false, MASK_A, NULL, 0, true, MASK_A, other, 1, 1).value);
+    CHECK(pw_and_not_at(false, MASK_A, NULL, 0, false, MASK_A, NULL, 0, SIZE_MAX).value);
+    CHECK(pw_and_not_at(true, MASK_A, A, 1, true, MASK_A, other, 1, 6).refusal == PW_REFUSED_OUTSIDE_MASK);
+    CHECK(pw_and_not_at(true, MASK_A, A, 1, false, MASK_A, NULL, 0, 6).refusal == PW_REFUSED_OUTSIDE_MASK);
+}
+
 static void dispatch(void) {
     const uint8_t revoked[1] = {0x04}; /* truck 2 */
     CHECK(pw_may_reassign(true, MASK_A, A, 1, true, MASK_A, revoked, 1, 0).value);
@@ -371,6 +381,7 @@ int main(void) {
     combinations();
     cursors();
     position_chunks();
+    at_one_index();
     dispatch();
     refusals();
     printf("%d checks, %d wrong\n", checks, wrong);

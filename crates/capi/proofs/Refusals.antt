@@ -298,6 +298,13 @@ refusals =
           rw (true-in start n place masked h) (taken-both _ refl truePlace _ _ out _ (masks.refusals .true-chunk start n place bytes out));
       absent-true-idx-next-chunk = λ start n place bytes out.
           taken-both _ refl truePlace _ _ out _ (masks.refusals .true-chunk-unmasked start n place bytes out);
+      pw-and-not-at = λ p pBytes q qBytes i.
+          gives _ _ refl _ _ (of-flag _) (masks.refusals .and-not-at (maskIn p) pBytes (maskIn q) qBytes i);
+      no-second = λ p pBytes q qBytes i.
+          gives _ _ refl _ _ (of-flag _) (masks.refusals .and-not-at-first (maskIn p) pBytes qBytes i);
+      no-first = λ p pBytes q qBytes i.
+          gives _ _ refl _ _ (of-flag _) (masks.refusals .and-not-at-second pBytes (maskIn q) qBytes i);
+      no-first-no-second = λ p pBytes q qBytes i. gives _ _ refl _ _ (of-flag _) (masks.refusals .and-not-at-none pBytes qBytes i);
       pw-may-reassign = λ p pBytes q qBytes truck.
           gives _ _ refl _ _ (of-flag _) (dispatch.refusals (Present (maskIn p)) pBytes (Present (maskIn q)) qBytes truck);
       no-revocation = λ p pBytes q qBytes truck.

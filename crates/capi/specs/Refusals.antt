@@ -18,6 +18,7 @@ use Rattle.masks.specs.Appends.{Append, pushFlag, extendConstant, pushWord, ext
 use Rattle.masks.specs.Appends.{extendBitmap, extendGather, extendOptGather, appendAnswer, appendBytes}
 use Rattle.masks.specs.Bitmask.{splitAt, windowAt}
 use Rattle.masks.specs.Chunks.{chunksAt, newChunks, nextChunk, chunksRemainder}
+use Rattle.masks.specs.AtIndex.{andNotAtOf}
 use Rattle.masks.specs.Combine.{And, AndNot, Or, OrNot, Xor, pairOf, pairBytes, notOf, notBytes}
 use Rattle.masks.specs.Combine.{selectOf, selectBytes, selectConstantOf, selectConstantBytes}
 use Rattle.masks.specs.Compare.{eqOf, edgesOf, commonOf}
@@ -147,10 +148,10 @@ pub record Refusals : Type 0 where
       → GivesBack (1 ∷ 2 ∷ 3 ∷ 9 ∷ []) (asMask (notOf (maskIn m) bytes out) .refusal) out (notBytes (maskIn m) bytes out)
   pub pw-select : (s : Mask) (sBytes : List ℕ) (t : Mask) (tBytes : List ℕ) (f : Mask) (fBytes out : List ℕ)
       → GivesBack (1 ∷ 2 ∷ 3 ∷ 5 ∷ 9 ∷ []) (asMask (selectOf (maskIn s) sBytes (maskIn t) tBytes (maskIn f) fBytes out) .refusal)
-          out (selectBytes (maskIn s) sBytes (maskIn t) tBytes (maskIn f) fBytes out)
+      out (selectBytes (maskIn s) sBytes (maskIn t) tBytes (maskIn f) fBytes out)
   pub pw-select-constant : (s : Mask) (sBytes : List ℕ) (t : Mask) (tBytes : List ℕ) (x : Bool) (out : List ℕ)
       → GivesBack (1 ∷ 2 ∷ 3 ∷ 5 ∷ 9 ∷ []) (asMask (selectConstantOf (maskIn s) sBytes (maskIn t) tBytes x out) .refusal)
-          out (selectConstantBytes (maskIn s) sBytes (maskIn t) tBytes x out)
+      out (selectConstantBytes (maskIn s) sBytes (maskIn t) tBytes x out)
   -- cursors
   pub pw-slices-new : (m : Mask) (bytes : List ℕ) → Gives (1 ∷ 2 ∷ 3 ∷ []) (asCursor slicesOut (newSlices (maskIn m) bytes) .refusal)
   pub pw-slices-next : (start n place : ℕ) (bytes : List ℕ) → let r = asRun slicesPlace (nextSlice (slicesAt start n place) bytes) in
@@ -182,6 +183,15 @@ pub record Refusals : Type 0 where
   pub absent-true-idx-next-chunk : (start n place : ℕ) (bytes out : List ℕ) → let c = trueIn start n place 0 in
       let r = asTaken truePlace (nextPositions c bytes (length out)) in
       GivesBoth (1 ∷ 6 ∷ []) (r .refusal) place (r .place) out (positionsOver c bytes out)
+  -- `and_not` at one index: with both masks, with one, with none
+  pub pw-and-not-at : (p : Mask) (pBytes : List ℕ) (q : Mask) (qBytes : List ℕ) (i : ℕ)
+      → Gives (1 ∷ 2 ∷ 3 ∷ 5 ∷ 6 ∷ []) (asFlag (andNotAtOf (optionalIn true p) pBytes (optionalIn true q) qBytes i) .refusal)
+  pub no-second : (p : Mask) (pBytes : List ℕ) (q : Mask) (qBytes : List ℕ) (i : ℕ)
+      → Gives (1 ∷ 2 ∷ 3 ∷ 6 ∷ []) (asFlag (andNotAtOf (optionalIn true p) pBytes (optionalIn false q) qBytes i) .refusal)
+  pub no-first : (p : Mask) (pBytes : List ℕ) (q : Mask) (qBytes : List ℕ) (i : ℕ)
+      → Gives (1 ∷ 2 ∷ 3 ∷ 6 ∷ []) (asFlag (andNotAtOf (optionalIn false p) pBytes (optionalIn true q) qBytes i) .refusal)
+  pub no-first-no-second : (p : Mask) (pBytes : List ℕ) (q : Mask) (qBytes : List ℕ) (i : ℕ)
+      → Gives [] (asFlag (andNotAtOf (optionalIn false p) pBytes (optionalIn false q) qBytes i) .refusal)
   -- dispatch: with both masks, with one, with none
   pub pw-may-reassign : (p : Mask) (pBytes : List ℕ) (q : Mask) (qBytes : List ℕ) (truck : ℕ)
       → Gives (1 ∷ 2 ∷ 3 ∷ 5 ∷ 6 ∷ []) (asFlag (mayReassign (optionalIn true p) pBytes (optionalIn true q) qBytes truck) .refusal)

@@ -4,6 +4,7 @@
 // Nothing is decided here: each export turns its numbers into the call's records, makes the call, and turns the answer into
 // numbers.
 mod answers;
+pub mod at_index;
 pub mod builder;
 pub mod chunks;
 pub mod combine;

@@ -40,6 +40,23 @@ impl Bitmap {
         self.combined(calls::and_not, rhs)
     }
 
+    /// Whether flag `index` is set here and not there: that flag of [`Bitmap::and_not`], read without making the mask. Refused with 5
+    /// where the masks differ in length, with 6 for an index at or past it.
+    ///
+    /// ```
+    /// use poruwhina::{Bitmap, Refusal};
+    ///
+    /// let permitted = Bitmap::from([true, true, false]);
+    /// let revoked = Bitmap::from([true, false, false]);
+    /// assert_eq!(permitted.and_not_at(&revoked, 1), Ok(true));
+    /// assert_eq!(permitted.and_not_at(&revoked, 3), Err(Refusal::OutsideMask));
+    /// ```
+    pub fn and_not_at(&self, rhs: &Bitmap, index: usize) -> Result<bool, Refusal> {
+        let answer = calls::and_not_at(true, self.record(), self.bytes(), true, rhs.record(), rhs.bytes(), index);
+        check(answer.refusal)?;
+        Ok(answer.value)
+    }
+
     /// The flags set in one or in both. Refused with 5.
     ///
     /// ```

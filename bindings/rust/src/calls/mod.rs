@@ -26,6 +26,7 @@
 //! ```
 #![allow(unsafe_code, clippy::too_many_arguments)]
 
+mod at_index;
 mod builder;
 mod chunks;
 mod combine;
@@ -38,6 +39,7 @@ mod search;
 mod spans;
 mod word;
 
+pub use at_index::*;
 pub use builder::*;
 pub use chunks::*;
 pub use combine::*;
