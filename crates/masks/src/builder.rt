@@ -147,17 +147,17 @@ pub(crate) fn copied(b: BitmapBuilder) -> BitmapBuilder
     }
 }
 
-// Calls the by-value push for `push_mut`, with a record of these three numbers. Promises the answer for every record `b` that has
-// them, whatever else it holds.
-fn push_change(length: usize, word: u64, ones: usize, buf: &mut [u8], flag: bool) -> Change
+// Calls the by-value push for `push_mut`, with a record of this length, word and ones counted. Promises the answer for every record
+// `b` that has these three, whatever else it holds.
+fn push_change(length: usize, word: u64, counted: usize, buf: &mut [u8], flag: bool) -> Change
     ensures answer { λ r. ⌜ ((b : BitmapBuilder) → changeAnswer (r .number) (rebuilt b (r .length) (r .word) (r .ones))
-        ≡ appendAnswer (pushFlag flag) (rebuilt b length word ones) (now (buf .entry))) ⌝ }
-    ensures bytes { λ _. ⌜ ((b : BitmapBuilder) → now (buf .exit) ≡ appendBytes (pushFlag flag) (rebuilt b length word ones) (now (buf .entry))) ⌝ }
+        ≡ appendAnswer (pushFlag flag) (rebuilt b length word counted) (now (buf .entry))) ⌝ }
+    ensures bytes { λ _. ⌜ ((b : BitmapBuilder) → now (buf .exit) ≡ appendBytes (pushFlag flag) (rebuilt b length word counted) (now (buf .entry))) ⌝ }
 {
     let own = BitmapBuilder {
         length: length,
         word: word,
-        ones: ones,
+        ones: counted,
     };
     match own.push(buf, flag) {
         Pushed::Done(next) => Change {
