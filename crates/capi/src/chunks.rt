@@ -11,6 +11,7 @@ use crate::records::Cursor;
 use crate::records::cursor_of;
 use crate::records::no_cursor;
 use masks::chunks::BitChunks;
+use masks::chunks::BitChunksExact;
 use masks::chunks::Chunk;
 use masks::chunks::Chunks;
 use masks::chunks::Remainder;
@@ -73,7 +74,7 @@ pub extern "C" fn pw_chunks_new(bytes: &[u8], start: usize, length: usize) -> Cu
 pub extern "C" fn pw_chunks_new_exact(bytes: &[u8], length: usize) -> CursorAnswer
     ensures { λ r. ⌜ r ≡ asCursor chunksOut (newChunks (now (bytes .entry)) 0 length) ⌝ }
 {
-    new_out(BitChunks::new_exact(bytes, length))
+    new_out(BitChunksExact::new(bytes, length))
 }
 
 // The next word in `value`; none from word length div 64 on, where the cursor stays.

@@ -15,7 +15,8 @@ use Rattle.words.proofs.Counting.{count-append}
 use Rattle.words.proofs.Plain.{window-part}
 use Rattle.words.proofs.Windows.{window-all, window-cut, bits-window}
 use Rattle.masks.specs.Answer.{Answer, given, refused, decided, kept}
-use Rattle.masks.specs.Builder.{Filling, filling, builderOf, inProgress, appended, noneFrom}
+use Rattle.masks.specs.Appends.{appendAnswer, appendBytes, changeAnswer, pushFlag}
+use Rattle.masks.specs.Builder.{Filling, filling, builderOf, rebuilt, inProgress, appended, noneFrom, possible, builderChecks}
 use Rattle.masks.specs.Frozen.{packed, overFrom}
 use Rattle.masks.specs.declared.builder.BitmapBuilder.{BitmapBuilder}
 use Rattle.masks.proofs.CheckLaws.{given-way}
@@ -238,6 +239,38 @@ change-done b r e = e
 -- the number of a refusal is never 0
 pub change-refused : {S : Type 0} (n m : ℕ) (b s a : S) → refused n b ≡ decided m s a → decided n b b ≡ decided m s a
 change-refused n m b s a e = ap changed e ∙ changed-decided m s a
+
+-- ---- a push reads and gives length, word and ones; what else the record holds plays no part
+
+-- the length, word and ones of c in the record b
+abbrev renewed : BitmapBuilder → BitmapBuilder → BitmapBuilder
+renewed b c = rebuilt b (c .length) (c .word) (c .ones)
+
+abbrev renewal : BitmapBuilder → Answer BitmapBuilder BitmapBuilder → Answer BitmapBuilder BitmapBuilder
+renewal b (given c) = given (renewed b c)
+renewal b (refused n c) = refused n (renewed b c)
+
+renewal-decided : (b : BitmapBuilder) (m : ℕ) (s a : BitmapBuilder) → renewal b (decided m s a) ≡ decided m (renewed b s) (renewed b a)
+unfolding decided
+renewal-decided b zero s a = refl
+renewal-decided b (suc m) s a = refl
+
+module _ (b own : BitmapBuilder) (x : Bool) (bytes : List ℕ) where
+  renewed-push : renewal b (appendAnswer (pushFlag x) own bytes) ≡ appendAnswer (pushFlag x) (renewed b own) bytes
+  unfolding appended inProgress builderChecks possible
+  renewed-push = renewal-decided b _ own (appended (filling own bytes) (x ∷ []) .builder)
+
+  pub renewed-done : (c : BitmapBuilder) → given c ≡ appendAnswer (pushFlag x) own bytes
+      → changeAnswer 0 (renewed b c) ≡ appendAnswer (pushFlag x) (renewed b own) bytes
+  renewed-done c e = change-done (renewed b c) _ (ap (renewal b) e ∙ renewed-push)
+
+  pub renewed-refused : (n : ℕ) (c : BitmapBuilder) → refused n c ≡ appendAnswer (pushFlag x) own bytes
+      → changeAnswer n (renewed b c) ≡ appendAnswer (pushFlag x) (renewed b own) bytes
+  renewed-refused n c e = change-refused n _ (renewed b c) _ _ (ap (renewal b) e ∙ renewed-push)
+
+  pub renewed-bytes : (out : List ℕ) → out ≡ appendBytes (pushFlag x) own bytes → out ≡ appendBytes (pushFlag x) (renewed b own) bytes
+  unfolding appended inProgress builderChecks possible
+  renewed-bytes out e = e
 
 pub take-copies : (k n : ℕ) (x : Bool) → k ≤ n → take k (copies n x) ≡ copies k x
 unfolding copies

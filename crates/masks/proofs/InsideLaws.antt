@@ -52,5 +52,5 @@ never e = absurd (let z : _≡_ {A = ℕ} 0 1 = cc e in omega arith)
 
 -- the tests of a call that stays in the word in progress: one more word than there are whole ones is in the buffer, and in the limit
 pub room-inside : (b : BitmapBuilder) (n size : ℕ) → n ≤ 63 - b .length % 64 → noneFrom (b .word) (b .length % 64) ≡ true → b .ones ≤ 64 * (b .length / 64)
-    → b .length / 64 < size / 8 → b .length / 64 < 65535 → (b .length % 64 + n < 64) × Room b n size
+    → b .length / 64 < size / 8 → b .length / 64 < limit / 64 → (b .length % 64 + n < 64) × Room b n size
 room-inside b n size h low few inBuffer inLimit = (omega arith, record { short = omega arith; low = low; few = few; holds = omega arith })

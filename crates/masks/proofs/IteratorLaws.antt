@@ -86,7 +86,7 @@ pub record Alike (l : List Bool) (x : Bool) (size place at : ℕ) : Type 0 where
 pub alike-none : (l : List Bool) (x : Bool) (size place : ℕ) → place ≤ size → Alike l x size place place
 alike-none l x size place h = record { low = omega arith; inside = h; sum = refl }
 
-at-end : (l : List Bool) (x : Bool) (at : ℕ) → length l ≤ at → leadingFrom x l at ≡ 0
+pub at-end : (l : List Bool) (x : Bool) (at : ℕ) → length l ≤ at → leadingFrom x l at ≡ 0
 unfolding leadingFrom
 at-end l x at h = omega (arith, leading-le x (drop at l), length-drop at l)
 

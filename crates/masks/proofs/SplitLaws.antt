@@ -112,7 +112,7 @@ no-flags : (bytes : List ℕ) (start : ℕ) → splitFlags bytes emptySplit ≡ 
 unfolding splitFlags window
 no-flags bytes start = refl
 
-pub split-bounded : (bytes : List ℕ) (start n address : ℕ) → start ≤ 8388608 → n ≤ limit → Bounded (alignedSplit bytes start n address)
+pub split-bounded : (bytes : List ℕ) (start n address : ℕ) → start ≤ 2 * limit → n ≤ limit → Bounded (alignedSplit bytes start n address)
 split-bounded bytes start n address hs hn =
     let h : Placed start n (prefixLength start n address) (bulkStart start n address) = placed start n address in
     let near : bulkStart start n address ≤ start / 8 + 8 = h .near in
@@ -160,7 +160,7 @@ pub split-count : (bytes : List ℕ) (start n address c : ℕ) (s : AlignedBitma
 split-count bytes start n address c s e p = p ∙ ap (λ (t : AlignedBitmapSlice). count (splitFlags bytes t)) e ∙ ap count (split-flags bytes start n address)
 
 -- what is known of a span whose checks have passed, with its address
-pub aligned-allowed : (start n size address : ℕ) → firstFailed (alignedChecks start n size address) ≡ 0 → (start ≤ 8388608) × ((n ≤ 4194304) × (address ≤ 7))
+pub aligned-allowed : (start n size address : ℕ) → firstFailed (alignedChecks start n size address) ≡ 0 → (start ≤ 2 * limit) × ((n ≤ limit) × (address ≤ 7))
 unfolding alignedChecks
 aligned-allowed start n size address e =
     let span = span-allowed start n size (both-left (spanChecks start n size) (addressChecks address) e) in

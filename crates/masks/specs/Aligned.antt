@@ -9,7 +9,7 @@ use lib.ListN.{length, take}
 use Rattle.words.specs.Flags.{wordOf, wordFlags}
 use Rattle.words.specs.Loops.{stretch}
 use Rattle.masks.specs.Answer.{Answer, given, refused, checked, unlessEmpty}
-use Rattle.masks.specs.Checks.{Check, spanChecks, addressChecks}
+use Rattle.masks.specs.Checks.{Check, limit, spanChecks, addressChecks}
 use Rattle.masks.specs.declared.aligned.AlignedBitmapSlice.{AlignedBitmapSlice}
 use Rattle.masks.specs.declared.aligned.Aligned.{Aligned}
 use Rattle.masks.specs.declared.aligned.Aligned.the-variants.{Split, Refused}
@@ -82,5 +82,5 @@ alignedOf bytes start n address =
 pub record Bounded (s : AlignedBitmapSlice) : Type 0 where
   pub prefixFits : s .«prefix_len» ≤ 64
   pub suffixFits : s .«suffix_len» ≤ 64
-  pub bulkStarts : s .«bulk_start» ≤ 4194304
-  pub bulkFits : s .«bulk_len» ≤ 65536
+  pub bulkStarts : s .«bulk_start» ≤ limit
+  pub bulkFits : s .«bulk_len» ≤ limit / 64

@@ -23,12 +23,12 @@ filling b bytes = record { builder = b; bytes = bytes }
 abbrev pub builderOf : ℕ → ℕ → ℕ → BitmapBuilder
 builderOf n word ones = record { length = n; word = word; ones = ones }
 
--- the same builder with another length, word and ones: what else a builder has it keeps
-abbrev pub grown : BitmapBuilder → ℕ → ℕ → ℕ → BitmapBuilder
-grown b n word ones = builderOf n word ones
-
 abbrev pub newBuilder : BitmapBuilder
 newBuilder = builderOf 0 0 0
+
+-- the same builder with another length, word and ones: what else a builder has it keeps
+abbrev pub rebuilt : BitmapBuilder → ℕ → ℕ → ℕ → BitmapBuilder
+rebuilt b n word ones = builderOf n word ones
 
 -- the flags in its word in progress
 unfoldable pub inProgress : BitmapBuilder → List Bool
@@ -42,7 +42,7 @@ appended f l =
     let all = inProgress b ++ l in
     let whole = length all / 64 in
     filling
-    (grown b (b .length + length l) (wordOf (drop (64 * whole) all)) (b .ones + count (take (64 * whole) all)))
+    (rebuilt b (b .length + length l) (wordOf (drop (64 * whole) all)) (b .ones + count (take (64 * whole) all)))
     (overFrom (f .bytes) (8 * (b .length / 64)) (packed (8 * whole) all))
 
 -- the flags of a builder: those of the finished words in its buffer, then those in progress

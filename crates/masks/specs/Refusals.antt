@@ -87,7 +87,7 @@ pub data Family : Type 0 where
 abbrev pub mayGive : Family → List ℕ
 -- `AlignedBitmapSlice::new`, `count_zeros`, `leading_zeros`, `leading_ones`, `trailing_zeros`, `trailing_ones`
 mayGive addressed = 1 ∷ 2 ∷ 8 ∷ []
--- `BitChunks::new`, `BitChunks::new_exact`, `get_u32`, `nth_set_bit_idx`, `nth_set_bit_idx_rev`, `Bitmap::try_new`, `BitmapIter::new`
+-- `BitChunks::new`, `BitChunksExact::new`, `get_u32`, `nth_set_bit_idx`, `nth_set_bit_idx_rev`, `Bitmap::try_new`, `BitmapIter::new`
 mayGive spans = 1 ∷ 2 ∷ []
 -- `BitChunks::next`, `BitChunks::remainder`, `BitmapIter::next`, `BitmapIter::nth`, `BitmapIter::take_leading_ones`,
 -- `BitmapIter::take_leading_zeros`, `SlicesIterator::next`; `TrueIdxIter::next`, `TrueIdxIter::next_chunk` of a cursor with a mask

@@ -48,7 +48,11 @@ runChecks c bytes = cursorChecks (c .start) (c .length) (c .place) (length bytes
 unfoldable pub runStart : List Bool → ℕ → ℕ
 runStart l place = place + leadingFrom false l place
 
--- all the ones from there on, and the cursor just past them; none, and the cursor at the length
+-- all the ones from there on. With none the run is empty, at the length.
+unfoldable pub firstRun : List Bool → ℕ → Run
+firstRun l place = runOf (runStart l place) (leadingFrom true l (runStart l place))
+
+-- that run, and the cursor just past it; none, and the cursor at the length
 unfoldable pub sliceStep : SlicesIterator → List Bool → Step SlicesIterator Run
 sliceStep c l =
     let first = runStart l (c .place) in

@@ -132,7 +132,7 @@ witnesses addressed =
     ∷ atAddresses (λ s n a. numberOf (spanCount byte s n a (trailing true (stretch byte s n))))
     ∷ []
 witnesses spans =
-    -- `BitChunks::new`, `BitChunks::new_exact`
+    -- `BitChunks::new`, `BitChunksExact::new`
     atSpans (λ s n. numberOf (newChunks byte s n))
     ∷ (numberOf (newChunks byte 0 tooLong) ∷ numberOf (newChunks byte 0 9) ∷ [])
     -- `get_u32`, `nth_set_bit_idx`, `nth_set_bit_idx_rev`

@@ -87,7 +87,7 @@ pub record WrongSpans : Type 0 where
       (given (chunksAt 0 9 0))
       -- the place at the start
       (given (chunksAt 3 9 3))
-  -- `BitChunks::new_exact` of 17 flags in two bytes
+  -- `BitChunksExact::new` of 17 flags in two bytes
   pub chunks-new-exact : Tried (newChunks two 0 17)
       (refused 2 tt)
       -- not held to the bytes

@@ -3,7 +3,7 @@ ghost use mathlib.Core.Path.{_≡_};
 ghost use Prim.Native.Nat.{_+_, _*_, _≤_, _<_};
 ghost use lib.ListN.{length};
 ghost use Rattle.masks.specs.Aligned.{alignedAnswer, alignedOf, alignedChecks, alignedSplit, prefixLength, bulkStart, bulkOffset};
-ghost use Rattle.masks.specs.Checks.{firstFailed};
+ghost use Rattle.masks.specs.Checks.{firstFailed, limit};
 use crate::checks::address_failure;
 use crate::checks::earlier;
 use crate::checks::span_failure;
@@ -56,7 +56,7 @@ pub(crate) fn aligned_failure(start: usize, length: usize, size: usize, address:
 
 // The place of the first whole word, in bytes from the span's first byte on.
 fn bulk_offset(start: usize, address: usize) -> usize
-    requires { ⌜ (start ≤ 8388608) × (address ≤ 7) ⌝ }
+    requires { ⌜ (start ≤ 2 * limit) × (address ≤ 7) ⌝ }
     ensures { λ r. ⌜ r ≡ bulkOffset start address ⌝ }
 {
     let to_aligned = (8 - (address + start / 8) % 8) % 8;
@@ -68,7 +68,7 @@ fn bulk_offset(start: usize, address: usize) -> usize
 }
 
 fn prefix_length(start: usize, length: usize, address: usize) -> usize
-    requires { ⌜ (start ≤ 8388608) × ((length ≤ 4194304) × (address ≤ 7)) ⌝ }
+    requires { ⌜ (start ≤ 2 * limit) × ((length ≤ limit) × (address ≤ 7)) ⌝ }
     ensures { λ r. ⌜ r ≡ prefixLength start length address ⌝ }
 {
     if start % 8 + length <= 64 {
@@ -79,7 +79,7 @@ fn prefix_length(start: usize, length: usize, address: usize) -> usize
 }
 
 fn bulk_start(start: usize, length: usize, address: usize) -> usize
-    requires { ⌜ (start ≤ 8388608) × ((length ≤ 4194304) × (address ≤ 7)) ⌝ }
+    requires { ⌜ (start ≤ 2 * limit) × ((length ≤ limit) × (address ≤ 7)) ⌝ }
     ensures { λ r. ⌜ r ≡ bulkStart start length address ⌝ }
 {
     if start % 8 + length <= 64 {
@@ -90,7 +90,7 @@ fn bulk_start(start: usize, length: usize, address: usize) -> usize
 }
 
 pub(crate) fn split(bytes: &[u8], start: usize, length: usize, address: usize) -> AlignedBitmapSlice
-    requires { ⌜ (start ≤ 8388608) × ((length ≤ 4194304) × (address ≤ 7)) ⌝ }
+    requires { ⌜ (start ≤ 2 * limit) × ((length ≤ limit) × (address ≤ 7)) ⌝ }
     ensures { λ r. ⌜ r ≡ alignedSplit (now (bytes .entry)) start length address ⌝ }
 {
     let prefix_len = prefix_length(start, length, address);

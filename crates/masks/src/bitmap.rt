@@ -5,7 +5,7 @@ ghost use Prim.Native.Nat.{_+_, _-_, _*_, _/_, _≤_, max};
 ghost use lib.Dec.{eqb, leb};
 ghost use lib.ListN.{length};
 ghost use Rattle.words.specs.Loops.{stretch};
-ghost use Rattle.masks.specs.Checks.{firstFailed};
+ghost use Rattle.masks.specs.Checks.{firstFailed, limit};
 ghost use Rattle.masks.specs.Utils.{zeros};
 ghost use Rattle.masks.specs.Mask.{cutMask, cutOf, cutZeros, countingAnswer, emptyMask, keptCount, madeAnswer, maskOf, pieceChecks, recountedOf, recounts as Mask·recounts};
 ghost use Rattle.masks.specs.Mask.{newZeroedBytes, newZeroedOf, PieceAllowed, slicedAnswer, sliceOf, tryNewOf, uncounted, unsetBitsOf, withCount, zeroCount};
@@ -168,13 +168,13 @@ pub(crate) fn not_counted(length: usize) -> Unset
 
 // The known count, or the zeros counted.
 pub(crate) fn zero_count(mask: Bitmap, bytes: &[u8]) -> usize
-    requires { ⌜ (mask .start ≤ 4194304) × (mask .length ≤ 4194304) ⌝ }
+    requires { ⌜ (mask .start ≤ limit) × (mask .length ≤ limit) ⌝ }
     ensures { λ r. ⌜ r ≡ zeroCount mask (now (bytes .entry)) ⌝ }
 {
     let unset = mask.unset;
     match unset {
         Unset::Known(zeros) => zeros,
-        Unset::Unknown => zeros_at(bytes, mask.start, mask.length),
+        Unset::Unknown => zeros_at(bytes, mask.start, mask.length, 0),
     }
 }
 
@@ -191,7 +191,7 @@ fn piece_failure(mask: Bitmap, bytes: &[u8], offset: usize, length: usize) -> u8
 
 // Is a known count recounted for a slice of n flags of `old`.
 fn recounts(old: usize, n: usize, zeros: usize) -> bool
-    requires { ⌜ (old ≤ 4194304) × (n ≤ 4194304) ⌝ }
+    requires { ⌜ (old ≤ limit) × (n ≤ limit) ⌝ }
     ensures { λ r. ⌜ r ≡ Mask·recounts old n zeros ⌝ }
 {
     if zeros == 0 {
@@ -215,8 +215,8 @@ fn cut_zeros(mask: Bitmap, bytes: &[u8], offset: usize, length: usize) -> usize
     ensures { λ r. ⌜ r ≡ cutZeros mask (now (bytes .entry)) offset length ⌝ }
 {
     let end = offset + length;
-    let before = zeros_at(bytes, mask.start, offset);
-    let behind = zeros_at(bytes, mask.start + offset + length, mask.length - end);
+    let before = zeros_at(bytes, mask.start, offset, 0);
+    let behind = zeros_at(bytes, mask.start + offset + length, mask.length - end, 0);
     before + behind
 }
 

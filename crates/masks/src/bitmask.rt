@@ -7,7 +7,7 @@ ghost use Rattle.words.specs.Loops.{stretch};
 ghost use Rattle.words.specs.Nth.{nthPlace};
 ghost use Rattle.masks.specs.Answer.{given};
 ghost use Rattle.masks.specs.Bitmask.{partsAnswer, splitAt, splitChecks, windowAnswer, windowAt, windowWord};
-ghost use Rattle.masks.specs.Checks.{firstFailed};
+ghost use Rattle.masks.specs.Checks.{firstFailed, limit};
 ghost use Rattle.masks.specs.Search.{PassedFrom, PassedBack, positionAnswer, searchFrom, searchBack, nthFrom, nthBack, seen};
 use crate::bitmap::Bitmap;
 use crate::checks::earlier;
@@ -85,7 +85,7 @@ pub fn get_u32(bytes: &[u8], start: usize, length: usize, index: usize) -> Windo
 
 // The same of a span whose checks have passed, by one load.
 pub(crate) fn span_window(bytes: &[u8], start: usize, length: usize, index: usize) -> u32
-    requires { ⌜ (start ≤ 4194304) × ((length ≤ 4194304) × (start + length ≤ 8 * ListN·length (now bytes))) ⌝ }
+    requires { ⌜ (start ≤ limit) × ((length ≤ limit) × (start + length ≤ 8 * ListN·length (now bytes))) ⌝ }
     ensures { λ r. ⌜ r ≡ windowWord (now (bytes .entry)) start length index ⌝ }
 {
     if index >= length {
@@ -148,7 +148,7 @@ struct Passed {
 // Passes over the windows that have too few set flags, up to one with enough of them or to the last 63 flags. A window before
 // these has eight bytes from its first byte on, so that a turn is one load and one count.
 fn pass_windows(bytes: &[u8], start: usize, length: usize, n: usize, from: usize) -> Passed
-    requires { ⌜ (start ≤ 4194304) × ((length ≤ 4194304) × ((start + length ≤ 8 * ListN·length (now bytes)) × (from < length))) ⌝ }
+    requires { ⌜ (start ≤ limit) × ((length ≤ limit) × ((start + length ≤ 8 * ListN·length (now bytes)) × (from < length))) ⌝ }
     ensures { λ r. ⌜ PassedFrom (now (bytes .entry)) start length n from (r .left) (r .at) ⌝ }
 {
     let inner = length - least(length, 63);
@@ -168,7 +168,7 @@ fn pass_windows(bytes: &[u8], start: usize, length: usize, n: usize, from: usize
 
 // The window where `pass_windows` stops has the flag, or at most one window is behind it: two windows in a row, and no loop.
 fn search_from(bytes: &[u8], start: usize, length: usize, n: usize, from: usize) -> Position
-    requires { ⌜ (start ≤ 4194304) × ((length ≤ 4194304) × (start + length ≤ 8 * ListN·length (now bytes))) ⌝ }
+    requires { ⌜ (start ≤ limit) × ((length ≤ limit) × (start + length ≤ 8 * ListN·length (now bytes))) ⌝ }
     ensures { λ r. ⌜ positionAnswer r ≡ given (nthFrom (stretch (now (bytes .entry)) start length) n from) ⌝ }
 {
     if from >= length {
@@ -193,7 +193,7 @@ fn search_from(bytes: &[u8], start: usize, length: usize, n: usize, from: usize)
 
 // One window, behind which the span ends.
 fn search_last(bytes: &[u8], start: usize, length: usize, n: usize, from: usize) -> Position
-    requires { ⌜ (start ≤ 4194304) × ((length ≤ 4194304) × ((start + length ≤ 8 * ListN·length (now bytes)) × ((from ≤ length + 32) × (length ≤ from + 32)))) ⌝ }
+    requires { ⌜ (start ≤ limit) × ((length ≤ limit) × ((start + length ≤ 8 * ListN·length (now bytes)) × ((from ≤ length + 32) × (length ≤ from + 32)))) ⌝ }
     ensures { λ r. ⌜ positionAnswer r ≡ given (nthFrom (stretch (now (bytes .entry)) start length) n from) ⌝ }
 {
     let seen = nth_in_window(span_window(bytes, start, length, from), n);
@@ -209,7 +209,7 @@ fn search_last(bytes: &[u8], start: usize, length: usize, n: usize, from: usize)
 // As `pass_windows`, down from `end` to the first 63 flags. A window above these is taken from the eight bytes that end with its last
 // byte: it begins 25 to 32 flags behind their first.
 fn pass_back(bytes: &[u8], start: usize, length: usize, n: usize, end: usize) -> Passed
-    requires { ⌜ (start ≤ 4194304) × ((length ≤ 4194304) × ((start + length ≤ 8 * ListN·length (now bytes)) × (end ≤ length))) ⌝ }
+    requires { ⌜ (start ≤ limit) × ((length ≤ limit) × ((start + length ≤ 8 * ListN·length (now bytes)) × (end ≤ length))) ⌝ }
     ensures { λ r. ⌜ PassedBack (now (bytes .entry)) start length n end (r .left) (r .at) ⌝ }
 {
     let mut left = n;
@@ -234,7 +234,7 @@ fn pass_back(bytes: &[u8], start: usize, length: usize, n: usize, end: usize) ->
 
 // As `search_from`, from the end on: the window before `below` has zeros from there on.
 fn search_back(bytes: &[u8], start: usize, length: usize, n: usize, end: usize) -> Position
-    requires { ⌜ (start ≤ 4194304) × ((length ≤ 4194304) × ((start + length ≤ 8 * ListN·length (now bytes)) × (end ≤ length))) ⌝ }
+    requires { ⌜ (start ≤ limit) × ((length ≤ limit) × ((start + length ≤ 8 * ListN·length (now bytes)) × (end ≤ length))) ⌝ }
     ensures { λ r. ⌜ positionAnswer r ≡ given (nthBack (stretch (now (bytes .entry)) start length) n end) ⌝ }
 {
     let passed = pass_back(bytes, start, length, n, end);
@@ -254,7 +254,7 @@ fn search_back(bytes: &[u8], start: usize, length: usize, n: usize, end: usize) 
 
 // One window, before which the span begins.
 fn search_first(bytes: &[u8], start: usize, length: usize, n: usize, end: usize) -> Position
-    requires { ⌜ (start ≤ 4194304) × ((length ≤ 4194304) × ((start + length ≤ 8 * ListN·length (now bytes)) × ((end ≤ length) × (end ≤ 32)))) ⌝ }
+    requires { ⌜ (start ≤ limit) × ((length ≤ limit) × ((start + length ≤ 8 * ListN·length (now bytes)) × ((end ≤ length) × (end ≤ 32)))) ⌝ }
     ensures { λ r. ⌜ positionAnswer r ≡ given (nthBack (stretch (now (bytes .entry)) start length) n end) ⌝ }
 {
     let w = span_window(bytes, start, end, 0);

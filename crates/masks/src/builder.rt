@@ -5,7 +5,8 @@ ghost use Prim.Native.Nat.{ℕ, _≤_, _-_};
 ghost use lib.ListN.{length, take};
 ghost use Rattle.words.specs.Flags.{wordFlags};
 ghost use Rattle.masks.specs.Appends.{pushedAnswer, appendAnswer, appendBytes, changeAnswer, pushFlag, pushWord};
-ghost use Rattle.masks.specs.Builder.{grown as Builder·grown, Inside, Room, newBuilder, filling, appended};
+ghost use Rattle.masks.specs.Builder.{Inside, Room, newBuilder, rebuilt, filling, appended};
+ghost use Rattle.masks.specs.declared.builder.BitmapBuilder.{BitmapBuilder};
 ghost use Rattle.masks.specs.Freeze.{allOnes, frozenMask, freezeBytes, freezeOf, frozenOver, intoOptValidityOf, freezeAnswer, validityAnswer};
 use crate::bitmap::Bitmap;
 use crate::bitmap::Unset;
@@ -69,14 +70,19 @@ impl BitmapBuilder {
         Pushed::Done(push_flags(self, buf, constant_word(flag), 1))
     }
 
-    // The same over the caller's own record: 0, or the number of the check that refused. The record is read and stored whole, so
-    // that a further field of it changes no line here.
+    // The same over the caller's own record: returns 0, or the number of the check that refused. Takes length, word and ones apart,
+    // calls the by-value push with them and stores them back; a further field of the record stays as it is.
     pub fn push_mut(&mut self, buf: &mut [u8], flag: bool) -> u8
         ensures answer { λ r. ⌜ changeAnswer r (now (self .exit)) ≡ appendAnswer (pushFlag flag) (now (self .entry)) (now (buf .entry)) ⌝ }
         ensures bytes { λ _. ⌜ now (buf .exit) ≡ appendBytes (pushFlag flag) (now (self .entry)) (now (buf .entry)) ⌝ }
     {
-        let next = push_change(*self, buf, flag);
-        *self = next.builder;
+        let length = self.length;
+        let word = self.word;
+        let ones = self.ones;
+        let next = push_change(length, word, ones, buf, flag);
+        self.length = next.length;
+        self.word = next.word;
+        self.ones = next.ones;
         next.number
     }
 
@@ -122,14 +128,16 @@ impl BitmapBuilder {
     }
 }
 
-// What a call over the caller's own record leaves in it, and what it returns.
+// What `push_mut` stores in the caller's record, and the number that it returns.
 struct Change {
-    builder: BitmapBuilder,
+    length: usize,
+    word: u64,
+    ones: usize,
     number: u8,
 }
 
-// The record taken apart into length, word and ones, and put together: a further field joins here. A record that goes to a function
-// outside the call's body is copied in the arm that calls it, so that the usual arm keeps its own in registers.
+// Copies the record field by field. A record that goes to a function outside the call's body is copied in the arm that calls it, so
+// that the usual arm keeps its own in registers.
 pub(crate) fn copied(b: BitmapBuilder) -> BitmapBuilder
     ensures { λ r. ⌜ r ≡ b ⌝ }
 {
@@ -140,18 +148,29 @@ pub(crate) fn copied(b: BitmapBuilder) -> BitmapBuilder
     }
 }
 
-// The by-value push, for `push_mut`.
-fn push_change(b: BitmapBuilder, buf: &mut [u8], flag: bool) -> Change
-    ensures answer { λ r. ⌜ changeAnswer (r .number) (r .builder) ≡ appendAnswer (pushFlag flag) b (now (buf .entry)) ⌝ }
-    ensures bytes { λ _. ⌜ now (buf .exit) ≡ appendBytes (pushFlag flag) b (now (buf .entry)) ⌝ }
+// Calls the by-value push for `push_mut`, with a record of this length, word and ones counted. Promises the answer for every record
+// `b` that has these three, whatever else it holds.
+fn push_change(length: usize, word: u64, counted: usize, buf: &mut [u8], flag: bool) -> Change
+    ensures answer { λ r. ⌜ ((b : BitmapBuilder) → changeAnswer (r .number) (rebuilt b (r .length) (r .word) (r .ones))
+        ≡ appendAnswer (pushFlag flag) (rebuilt b length word counted) (now (buf .entry))) ⌝ }
+    ensures bytes { λ _. ⌜ ((b : BitmapBuilder) → now (buf .exit) ≡ appendBytes (pushFlag flag) (rebuilt b length word counted) (now (buf .entry))) ⌝ }
 {
-    match copied(b).push(buf, flag) {
+    let own = BitmapBuilder {
+        length: length,
+        word: word,
+        ones: counted,
+    };
+    match own.push(buf, flag) {
         Pushed::Done(next) => Change {
-            builder: next,
+            length: next.length,
+            word: next.word,
+            ones: next.ones,
             number: 0,
         },
         Pushed::Refused(number, same) => Change {
-            builder: same,
+            length: same.length,
+            word: same.word,
+            ones: same.ones,
             number: number,
         },
     }
@@ -159,7 +178,7 @@ fn push_change(b: BitmapBuilder, buf: &mut [u8], flag: bool) -> Change
 
 // The same builder with another length, word and ones: a further field of the record is taken along here.
 pub(crate) fn grown(b: BitmapBuilder, length: usize, word: u64, ones: usize) -> BitmapBuilder
-    ensures { λ r. ⌜ r ≡ Builder·grown b length word ones ⌝ }
+    ensures { λ r. ⌜ r ≡ rebuilt b length word ones ⌝ }
 {
     BitmapBuilder {
         length: length,

@@ -4,6 +4,7 @@ ghost use Prim.Native.Nat.{_+_, _*_, _/_, _≤_};
 ghost use lib.ListN.{length};
 ghost use Rattle.words.specs.Flags.{wordFlags};
 ghost use Rattle.words.specs.Loops.{stretch};
+ghost use Rattle.masks.specs.Checks.{limit};
 ghost use Rattle.masks.specs.Chunks.{chunksAnswer, newChunks, chunkAnswer, nextChunk, remainderAnswer, chunksRemainder};
 use crate::checks::span_failure;
 use crate::cursor::cursor_failure;
@@ -17,6 +18,9 @@ pub struct BitChunks {
     pub length: usize,
     pub place: usize,
 }
+
+// The Rust's `BitChunksExact`, whose span starts at 0: the name of its constructor, with no record of its own.
+pub struct BitChunksExact {}
 
 pub enum Chunks {
     Cursor(BitChunks),
@@ -50,13 +54,6 @@ impl BitChunks {
             length: length,
             place: 0,
         })
-    }
-
-    // The Rust's `BitChunksExact::new`: a cursor over the first flags of the bytes. It has no record of its own.
-    pub fn new_exact(bytes: &[u8], length: usize) -> Chunks
-        ensures { λ r. ⌜ chunksAnswer r ≡ newChunks (now (bytes .entry)) 0 length ⌝ }
-    {
-        BitChunks::new(bytes, 0, length)
     }
 
     // The word at the cursor's place.
@@ -95,9 +92,18 @@ impl BitChunks {
     }
 }
 
+impl BitChunksExact {
+    // A cursor at the first word of the bytes' first flags: a `BitChunks` of start 0.
+    pub fn new(bytes: &[u8], length: usize) -> Chunks
+        ensures { λ r. ⌜ chunksAnswer r ≡ newChunks (now (bytes .entry)) 0 length ⌝ }
+    {
+        BitChunks::new(bytes, 0, length)
+    }
+}
+
 // The 64 flags from the flag start + 64 * k on, all in range: two words merged where the start is inside a byte.
 fn chunk_word(bytes: &[u8], start: usize, k: usize) -> u64
-    requires { ⌜ (start ≤ 4194304) × (start + 64 * k + 64 ≤ 8 * length (now bytes)) ⌝ }
+    requires { ⌜ (start ≤ limit) × (start + 64 * k + 64 ≤ 8 * length (now bytes)) ⌝ }
     ensures { λ r. ⌜ wordFlags r ≡ stretch (now (bytes .entry)) (start + 64 * k) 64 ⌝ }
 {
     let at = start / 8 + 8 * k;

@@ -2,6 +2,7 @@
 ghost use mathlib.Core.Path.{_≡_};
 ghost use Prim.Native.Nat.{_≤_};
 ghost use Rattle.words.specs.Loops.{stretch};
+ghost use Rattle.masks.specs.Checks.{limit};
 ghost use Rattle.masks.specs.Compare.{commonOf, comparedAnswer, edges, edgesOf, eqOf};
 ghost use Rattle.masks.specs.Utils.{countedAnswer};
 use crate::bitmap::Bitmap;
@@ -35,7 +36,7 @@ pub fn eq(lhs: Bitmap, left: &[u8], rhs: Bitmap, right: &[u8]) -> Compared
 
 // A stretch against itself one flag on.
 fn edges_at(bytes: &[u8], start: usize, n: usize) -> usize
-    requires { ⌜ start ≤ 4194304 ⌝ }
+    requires { ⌜ start ≤ limit ⌝ }
     ensures { λ r. ⌜ r ≡ edges (stretch (now (bytes .entry)) start n) ⌝ }
 {
     if n <= 1 {

@@ -8,6 +8,7 @@ ghost use Rattle.words.specs.Flags.{copies, digit, window, wordFlags};
 ghost use Rattle.words.specs.Loops.{stretch};
 ghost use Rattle.masks.specs.Appends.{pushedAnswer, appendAnswer, appendBytes, extendConstant, extendSlice, extendBitmap};
 ghost use Rattle.masks.specs.Builder.{Room, filling, appended};
+ghost use Rattle.masks.specs.Checks.{limit};
 ghost use Rattle.masks.specs.Mask.{maskFlags};
 use crate::bitmap::Bitmap;
 use crate::builder::BitmapBuilder;
@@ -35,6 +36,9 @@ use words::word::ones_in_word;
 use words::word::store_whole;
 use words::word::up;
 use words::word::word_from;
+
+// The flag limit in whole words.
+const LIMIT_WORDS: usize = Bitmap::LIMIT / 64;
 
 impl BitmapBuilder {
     // Appends n copies of a flag.
@@ -93,8 +97,7 @@ impl BitmapBuilder {
     }
 }
 
-// Is nothing refused, and has the word in progress room for n flags: so in most calls, and for these no number is made. A builder
-// of 65535 whole words, one fewer than the limit, is left to the checks.
+// Is nothing refused, and has the word in progress room for n flags: so in most calls, and for these no number is made.
 fn fits_inside(b: BitmapBuilder, n: usize, size: usize) -> bool
     ensures { λ r. ⌜ (r ≡ true → (b .length % 64 + n < 64) × Room b n size) ⌝ }
 {
@@ -108,7 +111,7 @@ fn fits_inside(b: BitmapBuilder, n: usize, size: usize) -> bool
     if 64 * (b.length / 64) < b.ones {
         return false;
     }
-    b.length / 64 < least(size / 8, 65535)
+    b.length / 64 < least(size / 8, LIMIT_WORDS)
 }
 
 // Are n flags read by one load, and has the word in progress room for them.
@@ -185,7 +188,7 @@ pub(crate) fn append_stretch(
     start: usize,
     n: usize,
 ) -> BitmapBuilder
-    requires { ⌜ (start + n ≤ 8388608) × Room b n (length (now buf)) ⌝ }
+    requires { ⌜ (start + n ≤ 2 * limit) × Room b n (length (now buf)) ⌝ }
     ensures { λ r. ⌜ filling r (now (buf .exit)) ≡ appended (filling b (now (buf .entry))) (stretch (now (bytes .entry)) start n) ⌝ }
 {
     let first = word_from(bytes, start);

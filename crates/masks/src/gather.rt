@@ -1,12 +1,13 @@
 // Flags of a span gathered by indices of 32 bits, a word at a time.
 ghost use mathlib.Core.Path.{_≡_};
 ghost use mathlib.Core.Bool.{false};
-ghost use Prim.Native.Nat.{_+_, _≤_, _<_};
+ghost use Prim.Native.Nat.{_+_, _*_, _≤_, _<_};
 ghost use lib.ListN.{length, take, getD};
 ghost use Rattle.words.specs.Flags.{wordFlags};
 ghost use Rattle.words.specs.Loops.{stretch};
 ghost use Rattle.masks.specs.Appends.{pushedAnswer, appendAnswer, appendBytes, extendGather, extendOptGather, gathered, allBelow};
 ghost use Rattle.masks.specs.Builder.{Room, filling, appended};
+ghost use Rattle.masks.specs.Checks.{limit};
 use crate::builder::BitmapBuilder;
 use crate::builder::Pushed;
 use crate::builder::push_flags;
@@ -89,7 +90,7 @@ fn all_below(idxs: &[u32], n: usize) -> bool
 
 // The flag at an index of a span, 0 from its length on.
 fn span_flag(bytes: &[u8], start: usize, n: usize, at: usize) -> bool
-    requires { ⌜ start + n ≤ 8388608 ⌝ }
+    requires { ⌜ start + n ≤ 2 * limit ⌝ }
     ensures { λ r. ⌜ r ≡ getD (stretch (now (bytes .entry)) start n) at false ⌝ }
 {
     if at < n {
@@ -101,7 +102,7 @@ fn span_flag(bytes: &[u8], start: usize, n: usize, at: usize) -> bool
 
 // The flags at no more than 64 indices as the first flags of a word.
 fn gather_word(bytes: &[u8], start: usize, n: usize, idxs: &[u32]) -> u64
-    requires { ⌜ (start + n ≤ 8388608) × (length (now idxs) ≤ 64) ⌝ }
+    requires { ⌜ (start + n ≤ 2 * limit) × (length (now idxs) ≤ 64) ⌝ }
     ensures { λ r. ⌜ take (length (now (idxs .entry))) (wordFlags r) ≡ gathered (stretch (now (bytes .entry)) start n) (now (idxs .entry)) ⌝ }
 {
     let mut w: u64 = 0;
@@ -130,7 +131,7 @@ fn append_gathered(
     n: usize,
     idxs: &[u32],
 ) -> BitmapBuilder
-    requires { ⌜ (start + n ≤ 8388608) × Room b (length (now idxs)) (length (now buf)) ⌝ }
+    requires { ⌜ (start + n ≤ 2 * limit) × Room b (length (now idxs)) (length (now buf)) ⌝ }
     ensures { λ r. ⌜ filling r (now (buf .exit)) ≡ appended (filling b (now (buf .entry))) (gathered (stretch (now (bytes .entry)) start n) (now (idxs .entry))) ⌝ }
 {
     let mut grown = b;

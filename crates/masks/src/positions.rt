@@ -3,10 +3,11 @@
 ghost use mathlib.Core.Path.{_≡_};
 ghost use mathlib.Core.Bool.{true};
 ghost use mathlib.Core.List.{List};
-ghost use Prim.Native.Nat.{ℕ, _+_, _≤_, _<_, min};
+ghost use Prim.Native.Nat.{ℕ, _+_, _*_, _≤_, _<_, min};
 ghost use lib.ListN.{length as ListN·length};
 ghost use Rattle.words.specs.Flags.{copies, over, wordFlags};
 ghost use Rattle.words.specs.Loops.{stretch};
+ghost use Rattle.masks.specs.Checks.{limit};
 ghost use Rattle.masks.specs.Frozen.{overFrom};
 ghost use Rattle.masks.specs.Positions.{positionsAnswer, placeBehind, leftOf, nextPositions, positionsOver};
 ghost use Rattle.masks.specs.TrueIdx.{onesFrom, onesLeft};
@@ -20,7 +21,7 @@ use words::word::down;
 
 // A position as an index of the gathers.
 fn index(position: usize) -> u32
-    requires { ⌜ position ≤ 8388608 ⌝ }
+    requires { ⌜ position ≤ 2 * limit ⌝ }
     ensures { λ r. ⌜ r ≡ position ⌝ }
 {
     position as u32
@@ -34,7 +35,7 @@ fn position(index: u32) -> usize
 
 // Positions in a row from `first` on.
 fn write_row(part: &mut [u32], first: usize)
-    requires { ⌜ first + ListN·length (now part) ≤ 8388608 ⌝ }
+    requires { ⌜ first + ListN·length (now part) ≤ 2 * limit ⌝ }
     ensures { λ _. ⌜ now (part .exit) ≡ onesFrom first (copies (ListN·length (now (part .entry))) true) ⌝ }
 {
     let mut i = 0;
@@ -46,7 +47,7 @@ fn write_row(part: &mut [u32], first: usize)
 
 // n of them, written from `at` on.
 fn write_run(out: &mut [u32], at: usize, first: usize, n: usize)
-    requires { ⌜ (at + n ≤ ListN·length (now out)) × (first + n ≤ 8388608) ⌝ }
+    requires { ⌜ (at + n ≤ ListN·length (now out)) × (first + n ≤ 2 * limit) ⌝ }
     ensures { λ _. ⌜ now (out .exit) ≡ overFrom (now (out .entry)) at (onesFrom first (copies n true)) ⌝ }
 {
     let end = at + n;
@@ -56,7 +57,7 @@ fn write_run(out: &mut [u32], at: usize, first: usize, n: usize)
 // The positions of a word's ones behind those written, as many as there is room for: run by run, since ones that stand side by side
 // are written without a look at each. The word's first flag is number `first`.
 fn write_word(out: &mut [u32], done: usize, word: u64, first: usize) -> usize
-    requires { ⌜ (done ≤ ListN·length (now out)) × (first ≤ 4194304) ⌝ }
+    requires { ⌜ (done ≤ ListN·length (now out)) × (first ≤ limit) ⌝ }
     ensures count { λ r. ⌜ r ≡ min (ListN·length (now (out .entry))) (done + ListN·length (onesFrom first (wordFlags word))) ⌝ }
     ensures positions { λ _. ⌜ now (out .exit) ≡ overFrom (now (out .entry)) done (onesFrom first (wordFlags word)) ⌝ }
 {
@@ -83,7 +84,7 @@ fn write_word(out: &mut [u32], done: usize, word: u64, first: usize) -> usize
 
 // Those of a span from a place on, word by word.
 fn write_words(out: &mut [u32], bytes: &[u8], start: usize, length: usize, place: usize) -> usize
-    requires { ⌜ (start ≤ 4194304) × ((length ≤ 4194304) × (place ≤ length)) ⌝ }
+    requires { ⌜ (start ≤ limit) × ((length ≤ limit) × (place ≤ length)) ⌝ }
     ensures count { λ r. ⌜ r ≡ min (ListN·length (now (out .entry))) (ListN·length (onesLeft (stretch (now (bytes .entry)) start length) place)) ⌝ }
     ensures positions { λ _. ⌜ now (out .exit) ≡ overFrom (now (out .entry)) 0 (onesLeft (stretch (now (bytes .entry)) start length) place) ⌝ }
 {
@@ -102,7 +103,7 @@ fn write_words(out: &mut [u32], bytes: &[u8], start: usize, length: usize, place
 
 // Those of a cursor. Without a mask they are a row.
 fn write_positions(cursor: TrueIdxIter, bytes: &[u8], out: &mut [u32]) -> usize
-    requires { ⌜ (cursor .start ≤ 4194304) × ((cursor .length ≤ 4194304) × (cursor .place ≤ cursor .length)) ⌝ }
+    requires { ⌜ (cursor .start ≤ limit) × ((cursor .length ≤ limit) × (cursor .place ≤ cursor .length)) ⌝ }
     ensures count { λ r. ⌜ r ≡ min (ListN·length (now (out .entry))) (ListN·length (leftOf cursor (now (bytes .entry)))) ⌝ }
     ensures positions { λ _. ⌜ now (out .exit) ≡ over (now (out .entry)) (leftOf cursor (now (bytes .entry))) ⌝ }
 {

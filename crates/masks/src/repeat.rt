@@ -6,7 +6,7 @@ ghost use Rattle.words.specs.Flags.{copies};
 ghost use Rattle.words.specs.Loops.{stretch};
 ghost use Rattle.masks.specs.Appends.{pushedAnswer, appendAnswer, appendBytes, extendRepeated, growChecks, repeated, SameOrOver};
 ghost use Rattle.masks.specs.Builder.{Room, filling, appended};
-ghost use Rattle.masks.specs.Checks.{firstFailed};
+ghost use Rattle.masks.specs.Checks.{firstFailed, limit};
 use crate::bitmap::Bitmap;
 use crate::builder::BitmapBuilder;
 use crate::builder::Pushed;
@@ -78,7 +78,7 @@ fn append_repeated(
     n: usize,
     repeats: usize,
 ) -> BitmapBuilder
-    requires { ⌜ (start + n ≤ 8388608) × Room b (n * repeats) (length (now buf)) ⌝ }
+    requires { ⌜ (start + n ≤ 2 * limit) × Room b (n * repeats) (length (now buf)) ⌝ }
     ensures { λ r. ⌜ filling r (now (buf .exit)) ≡ appended (filling b (now (buf .entry))) (repeated repeats (stretch (now (bytes .entry)) start n)) ⌝ }
 {
     if repeats == 0 {
@@ -110,7 +110,7 @@ fn append_runs(
     n: usize,
     repeats: usize,
 ) -> BitmapBuilder
-    requires { ⌜ (start + n ≤ 8388608) × Room b (n * repeats) (length (now buf)) ⌝ }
+    requires { ⌜ (start + n ≤ 2 * limit) × Room b (n * repeats) (length (now buf)) ⌝ }
     ensures { λ r. ⌜ filling r (now (buf .exit)) ≡ appended (filling b (now (buf .entry))) (repeated repeats (stretch (now (bytes .entry)) start n)) ⌝ }
 {
     let mut grown = b;

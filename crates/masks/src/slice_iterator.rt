@@ -1,12 +1,12 @@
 // The runs of ones of a mask, one by one.
 ghost use mathlib.Core.Path.{_≡_};
-ghost use mathlib.Core.Bool.{true, _&&_};
+ghost use mathlib.Core.Bool.{_&&_};
 ghost use Prim.Native.Nat.{_+_, _*_, _≤_};
 ghost use lib.Dec.{eqb, leb};
 ghost use lib.ListN.{length as ListN·length};
 ghost use Rattle.words.specs.Loops.{stretch};
-ghost use Rattle.masks.specs.Iterator.{leadingFrom};
-ghost use Rattle.masks.specs.SliceIterator.{slicesAnswer, newSlices, runOf, sliceAnswer, nextSlice};
+ghost use Rattle.masks.specs.Checks.{limit};
+ghost use Rattle.masks.specs.SliceIterator.{slicesAnswer, newSlices, firstRun, sliceAnswer, nextSlice};
 use crate::bitmap::Bitmap;
 use crate::checks::mask_failure;
 use crate::cursor::cursor_failure;
@@ -49,13 +49,14 @@ fn all_ones(byte: u8, bit: usize, left: usize) -> bool
     }
 }
 
-// The run of ones that begins at `first`: over bytes and, inside them, over bits, both left at the run's end. A byte of ones
-// is passed over at once.
-fn run_from(bytes: &[u8], start: usize, length: usize, first: usize) -> Run
-    requires { ⌜ (start ≤ 4194304) × ((length ≤ 4194304) × ((start + length ≤ 8 * ListN·length (now bytes)) × (first ≤ length))) ⌝ }
-    ensures { λ r. ⌜ r ≡ runOf first (leadingFrom true (stretch (now (bytes .entry)) start length) first) ⌝ }
+// Finds the first run of ones from `place` on: over bytes and, inside them, over bits, both left at the run's end. Passes over a byte
+// of ones at once, and over a zero before the run. Where there is no run it is empty, at the length.
+fn run_from(bytes: &[u8], start: usize, length: usize, place: usize) -> Run
+    requires { ⌜ (start ≤ limit) × ((length ≤ limit) × ((start + length ≤ 8 * ListN·length (now bytes)) × (place ≤ length))) ⌝ }
+    ensures { λ r. ⌜ r ≡ firstRun (stretch (now (bytes .entry)) start length) place ⌝ }
 {
-    let mut at = first;
+    let mut first = place;
+    let mut at = place;
     'bytes: loop {
         if at >= length {
             let ones = at - first;
@@ -76,10 +77,15 @@ fn run_from(bytes: &[u8], start: usize, length: usize, first: usize) -> Run
         'bits: while bit < stop {
             if (byte >> bit) % 2 == 0 {
                 let ones = at - first;
-                break 'bytes Run {
-                    start: first,
-                    length: ones,
-                };
+                if ones > 0 {
+                    break 'bytes Run {
+                        start: first,
+                        length: ones,
+                    };
+                }
+                at += 1;
+                first = at;
+                continue 'bytes;
             }
             bit += 1;
             at += 1;
@@ -103,7 +109,7 @@ impl SlicesIterator {
         })
     }
 
-    // The next run of ones. A run that the place cuts begins there.
+    // The next run of ones. A run that the place cuts begins there. The zeros before a run are passed over by words.
     pub fn next(self, bytes: &[u8]) -> Slice
         ensures { λ r. ⌜ sliceAnswer r ≡ nextSlice self (now (bytes .entry)) ⌝ }
     {
@@ -111,16 +117,16 @@ impl SlicesIterator {
         if refusal != 0 {
             return Slice::Refused(refusal, self);
         }
-        let first = self.place + zeros_from(bytes, self.start, self.length, self.place);
-        if first >= self.length {
+        let near = self.place + zeros_from(bytes, self.start, self.length, self.place);
+        let run = run_from(bytes, self.start, self.length, near);
+        if run.length == 0 {
             return Slice::Done(SlicesIterator {
                 start: self.start,
                 length: self.length,
                 place: self.length,
             });
         }
-        let run = run_from(bytes, self.start, self.length, first);
-        let past = first + run.length;
+        let past = run.start + run.length;
         Slice::Next(
             run,
             SlicesIterator {

@@ -5,6 +5,7 @@ ghost use Prim.Native.Nat.{ℕ, _≤_, min};
 ghost use lib.ListN.{take};
 ghost use Rattle.words.specs.Flags.{wordOf, wordFlags};
 ghost use Rattle.words.specs.Loops.{stretch};
+ghost use Rattle.masks.specs.Checks.{limit};
 ghost use Rattle.masks.specs.Iterator.{leadingFrom};
 use words::ends::leading_in_word;
 use words::word::byte_word;
@@ -28,7 +29,7 @@ pub(crate) fn leading_from(
     length: usize,
     place: usize,
 ) -> usize
-    requires { ⌜ (start ≤ 4194304) × ((length ≤ 4194304) × (place ≤ length)) ⌝ }
+    requires { ⌜ (start ≤ limit) × ((length ≤ limit) × (place ≤ length)) ⌝ }
     ensures { λ r. ⌜ r ≡ leadingFrom flag (stretch (now (bytes .entry)) start length) place ⌝ }
 {
     let k = least(64, length - place);
@@ -42,7 +43,7 @@ pub(crate) fn leading_from(
 // The same of zeros, for the cursors that look for a one: it is mostly among the flags of one load, or these are the last, and the
 // rest is left to `leading_from`, so that this stands in the body of its caller.
 pub(crate) fn zeros_from(bytes: &[u8], start: usize, length: usize, place: usize) -> usize
-    requires { ⌜ (start ≤ 4194304) × ((length ≤ 4194304) × (place ≤ length)) ⌝ }
+    requires { ⌜ (start ≤ limit) × ((length ≤ limit) × (place ≤ length)) ⌝ }
     ensures { λ r. ⌜ r ≡ leadingFrom false (stretch (now (bytes .entry)) start length) place ⌝ }
 {
     let left = length - place;
@@ -66,7 +67,7 @@ pub(crate) fn near_word(bytes: &[u8], bit: usize) -> u64
 
 // `leading_from` word by word, up to one that has another flag.
 fn leading_by_words(flag: bool, bytes: &[u8], start: usize, length: usize, place: usize) -> usize
-    requires { ⌜ (start ≤ 4194304) × ((length ≤ 4194304) × (place ≤ length)) ⌝ }
+    requires { ⌜ (start ≤ limit) × ((length ≤ limit) × (place ≤ length)) ⌝ }
     ensures { λ r. ⌜ r ≡ leadingFrom flag (stretch (now (bytes .entry)) start length) place ⌝ }
 {
     let mut at = place;

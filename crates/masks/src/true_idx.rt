@@ -3,7 +3,7 @@ ghost use mathlib.Core.Path.{_≡_};
 ghost use mathlib.Core.Bool.{false};
 ghost use Prim.Native.Nat.{_≤_};
 ghost use Rattle.masks.specs.declared.bitmap.Optional.the-variants.{Present};
-ghost use Rattle.masks.specs.Checks.{firstFailed};
+ghost use Rattle.masks.specs.Checks.{firstFailed, limit};
 ghost use Rattle.masks.specs.Iterator.{leadingFrom};
 ghost use Rattle.masks.specs.TrueIdx.{trueIterAnswer, newTrue, newTrueChecks, firstTrue, trueIdxAnswer, nextTrue, trueChecks, trueFlags};
 use crate::bitmap::Bitmap;
@@ -96,7 +96,7 @@ pub(crate) fn next_failure(cursor: TrueIdxIter, size: usize) -> u8
 
 // How many flags before the next one are zero.
 fn zeros_next(cursor: TrueIdxIter, bytes: &[u8]) -> usize
-    requires { ⌜ (cursor .start ≤ 4194304) × ((cursor .length ≤ 4194304) × (cursor .place ≤ cursor .length)) ⌝ }
+    requires { ⌜ (cursor .start ≤ limit) × ((cursor .length ≤ limit) × (cursor .place ≤ cursor .length)) ⌝ }
     ensures { λ r. ⌜ r ≡ leadingFrom false (trueFlags cursor (now (bytes .entry))) (cursor .place) ⌝ }
 {
     if cursor.masked {

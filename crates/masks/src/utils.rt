@@ -1,11 +1,13 @@
-// Counts over bare spans. Each works from the three parts of the aligned split, and its answer does not depend on the address.
+// Counts over bare spans. Each hands the address on to the aligned split and works from its three parts; the answer does not depend
+// on the address.
 ghost use mathlib.Core.Path.{_≡_};
 ghost use mathlib.Core.Bool.{true, false};
-ghost use Prim.Native.Nat.{_+_, _-_, _*_, _%_, _≤_, _<_};
+ghost use Prim.Native.Nat.{_+_, _-_, _*_, _/_, _%_, _≤_, _<_};
 ghost use Rattle.words.specs.Ends.{leading, trailing};
 ghost use Rattle.words.specs.Flags.{count};
 ghost use Rattle.words.specs.Loops.{stretch};
 ghost use Rattle.masks.specs.Aligned.{Bounded, splitFlags};
+ghost use Rattle.masks.specs.Checks.{limit};
 ghost use Rattle.masks.specs.Utils.{zeros, countedAnswer, spanCount};
 use crate::aligned::Aligned;
 use crate::aligned::AlignedBitmapSlice;
@@ -39,7 +41,7 @@ fn ones_of(bytes: &[u8], s: AlignedBitmapSlice) -> usize
 
 // How many flags at the front of n words from the byte `at` on equal `flag`.
 fn leading_words(flag: bool, bytes: &[u8], at: usize, n: usize) -> usize
-    requires { ⌜ (at ≤ 4194304) × (n ≤ 65536) ⌝ }
+    requires { ⌜ (at ≤ limit) × (n ≤ limit / 64) ⌝ }
     ensures { λ r. ⌜ r ≡ leading flag (stretch (now (bytes .entry)) (8 * at) (64 * n)) ⌝ }
 {
     let mut i = 0;
@@ -55,7 +57,7 @@ fn leading_words(flag: bool, bytes: &[u8], at: usize, n: usize) -> usize
 
 // The same at the end.
 fn trailing_words(flag: bool, bytes: &[u8], at: usize, n: usize) -> usize
-    requires { ⌜ (at ≤ 4194304) × (n ≤ 65536) ⌝ }
+    requires { ⌜ (at ≤ limit) × (n ≤ limit / 64) ⌝ }
     ensures { λ r. ⌜ r ≡ trailing flag (stretch (now (bytes .entry)) (8 * at) (64 * n)) ⌝ }
 {
     let mut i = 0;
@@ -113,25 +115,26 @@ fn short_zeros(bytes: &[u8], start: usize, length: usize) -> usize
     length - few
 }
 
-// The zeros of any span, by the three parts of its split at the address remainder 0.
-fn long_zeros(bytes: &[u8], start: usize, length: usize) -> usize
-    requires { ⌜ (start ≤ 8388608) × (length ≤ 4194304) ⌝ }
+// The zeros of any span, by the three parts of its split.
+fn long_zeros(bytes: &[u8], start: usize, length: usize, address: usize) -> usize
+    requires { ⌜ (start ≤ 2 * limit) × ((length ≤ limit) × (address ≤ 7)) ⌝ }
     ensures { λ r. ⌜ r ≡ zeros (stretch (now (bytes .entry)) start length) ⌝ }
 {
-    let s = split(bytes, start, length, 0);
+    let s = split(bytes, start, length, address);
     let ones = ones_of(bytes, s);
     length - ones
 }
 
-// The zeros of a span whose checks have passed. It is too large for the body of a call, which reads a short span itself.
-pub(crate) fn zeros_at(bytes: &[u8], start: usize, length: usize) -> usize
-    requires { ⌜ (start ≤ 8388608) × (length ≤ 4194304) ⌝ }
+// The zeros of a span whose checks have passed. It is too large for the body of a call, which reads a short span itself. The address
+// remainder is that of `count_zeros`; other calls pass 0.
+pub(crate) fn zeros_at(bytes: &[u8], start: usize, length: usize, address: usize) -> usize
+    requires { ⌜ (start ≤ 2 * limit) × ((length ≤ limit) × (address ≤ 7)) ⌝ }
     ensures { λ r. ⌜ r ≡ zeros (stretch (now (bytes .entry)) start length) ⌝ }
 {
     if start % 8 + length <= 64 {
         return short_zeros(bytes, start, length);
     }
-    long_zeros(bytes, start, length)
+    long_zeros(bytes, start, length, address)
 }
 
 // How many flags of a span are zero. `zeros_at` is outside this body and gets a slice of its own: the slice given here, which it
@@ -149,7 +152,7 @@ pub fn count_zeros(bytes: &[u8], start: usize, length: usize, address: usize) ->
     if start % 8 + length <= 64 {
         return Counted::Count(short_zeros(bytes, start, length));
     }
-    Counted::Count(zeros_at(&bytes[0..], start, length))
+    Counted::Count(zeros_at(&bytes[0..], start, length, address))
 }
 
 fn leading_flags(flag: bool, bytes: &[u8], start: usize, length: usize, address: usize) -> Counted

@@ -9,6 +9,7 @@ use masks::bitmask::Position;
 use masks::bitmask::Span;
 use masks::bitmask::Window;
 use masks::chunks::BitChunks;
+use masks::chunks::BitChunksExact;
 use masks::chunks::Chunk;
 use masks::chunks::Chunks;
 use masks::chunks::Remainder;
@@ -23,7 +24,7 @@ pub fn answer(call: usize, args: &[u64], x: &[u8], list: &mut [u64]) -> usize {
     match call {
         8 => aligned(AlignedBitmapSlice::new(x, start, length, third), x, list),
         9 => chunks(BitChunks::new(x, start, length), x, list),
-        10 => chunks(BitChunks::new_exact(x, start), x, list),
+        10 => chunks(BitChunksExact::new(x, start), x, list),
         11 => parts(
             bitmask::split_at_unchecked(x, start, length, third),
             x,

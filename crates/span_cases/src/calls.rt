@@ -8,6 +8,7 @@ use masks::bitmask;
 use masks::bitmask::Parts;
 use masks::bitmask::Window;
 use masks::chunks::BitChunks;
+use masks::chunks::BitChunksExact;
 use masks::chunks::Chunk;
 use masks::chunks::Chunks;
 use masks::chunks::Remainder;
@@ -65,7 +66,7 @@ pub fn chunks(bytes: &[u8], start: usize, length: usize) -> Answer {
 }
 
 pub fn chunks_exact(bytes: &[u8], length: usize) -> Answer {
-    new_cursor(BitChunks::new_exact(bytes, length))
+    new_cursor(BitChunksExact::new(bytes, length))
 }
 
 // The word and the cursor behind it; or the cursor alone.

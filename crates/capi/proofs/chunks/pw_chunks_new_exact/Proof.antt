@@ -3,8 +3,8 @@ use borrow.Author.Needs.{needs}
 use Rattle.capi.proofs.chunks.pw_chunks_new_exact.Statement.{statement}
 use Rattle.capi.proofs.chunks.pw_chunks_new_exact.Tie as tie
 
-new-exact-requires : tie.Need-new-exact-requires
-new-exact-requires c κs = search needs
+new-requires : tie.Need-new-requires
+new-requires c κs = search needs
 
 new-out-requires : tie.Need-new-out-requires
 new-out-requires c κs = search needs
@@ -13,4 +13,4 @@ returns : tie.Need-returns
 returns c = rw (c .before .new-exact .ensures) at (c .new-out .ensures)
 
 pub pw-chunks-new-exact-spec : {M : Type 1} → statement M
-pw-chunks-new-exact-spec = tie.close (tie.spec new-exact-requires new-out-requires returns)
+pw-chunks-new-exact-spec = tie.close (tie.spec new-requires new-out-requires returns)

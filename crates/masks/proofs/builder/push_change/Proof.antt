@@ -1,13 +1,10 @@
--- In each arm the answer of `push` is known: `change-done`, or `change-refused`, since a refusal's number is never 0.
+-- In each arm the answer of `push` is known: `renewed-done`, or `renewed-refused`, since a refusal's number is never 0.
 use mathlib.Core.Path.{sym, ap, _∙_}
 use borrow.Author.Needs.{needs}
 use Rattle.masks.specs.Appends.{pushedAnswer}
-use Rattle.masks.proofs.AppendLaws.{change-done, change-refused}
+use Rattle.masks.proofs.AppendLaws.{renewed-done, renewed-refused, renewed-bytes}
 use Rattle.masks.proofs.builder.push_change.Statement.{statement}
 use Rattle.masks.proofs.builder.push_change.Tie as tie
-
-copied-requires : tie.Need-copied-requires
-copied-requires c κs = search needs
 
 push-requires : tie.Need-push-requires
 push-requires c κs = search needs
@@ -25,7 +22,10 @@ returns : tie.Need-returns
 returns c =
     let call = c .before .before .before .before .before in
     let did = call .push .ensures in
-    rw (sym (call .before .before .copied .ensures)) (change-done _ _ (ap pushedAnswer (sym (c .before .next .given .1)) ∙ did .0), did .1)
+    let a = call .before .before .before .args in (
+      (λ b. renewed-done b _ (a .flag) (a .buf .now) _ (ap pushedAnswer (sym (c .before .next .given .1)) ∙ did .0)),
+      (λ b. renewed-bytes b _ (a .flag) (a .buf .now) _ (did .1)),
+    )
 
 same-length-2 : tie.Need-same-length-2
 same-length-2 c = search needs
@@ -34,13 +34,15 @@ returns-2 : tie.Need-returns-2
 returns-2 c =
     let call = c .before .before .before .before .before in
     let did = call .push .ensures in
-    rw (sym (call .before .before .copied .ensures)) (change-refused _ _ _ _ _ (ap pushedAnswer (sym (c .before .number .given .1)) ∙ did .0), did .1)
+    let a = call .before .before .before .args in (
+      (λ b. renewed-refused b _ (a .flag) (a .buf .now) _ _ (ap pushedAnswer (sym (c .before .number .given .1)) ∙ did .0)),
+      (λ b. renewed-bytes b _ (a .flag) (a .buf .now) _ (did .1)),
+    )
 
 pub push-change-spec : {M : Type 1} → statement M
 push-change-spec =
     tie.close
     (tie.spec
-    copied-requires
     push-requires
     enum-known-next
     enum-known-number

@@ -1,31 +1,30 @@
--- The invariant of both loops: the flags from `first` to `at` are ones. A byte (`run-byte`) or a bit (`run-more`) of ones keeps it;
--- the run ends at a zero (`run-stop`) or at the span's end (`run-end`).
+-- The invariant of both loops: the flags from `place` to `first` are zeros, those from there to `at` are ones (`Walking`). A byte of ones
+-- (`walk-byte`), a one (`walk-one`) or a zero before the run (`walk-zero`) keeps it; the run ends at a zero behind ones (`walk-stop`) or at
+-- the span's end (`walk-end`).
 use mathlib.Core.Path.{_≡_, refl}
-use mathlib.Core.Bool.{true}
 use Prim.Native.Nat.{_+_, _-_, _*_, _/_, _≤_}
 use native.Mathlib.Omega.{arith}
 use Rattle.words.specs.Loops.{stretch}
-use Rattle.masks.proofs.IteratorLaws.{Alike}
-use Rattle.masks.proofs.RunLaws.{run-end, run-byte, run-stop, run-more}
+use Rattle.masks.proofs.RunLaws.{Walking, walk-begins, walk-byte, walk-stop, walk-zero, walk-one, walk-end}
 use borrow.Author.Needs.{needs}
 use Rattle.masks.proofs.slice_iterator.run_from.Statement.{statement}
 use Rattle.masks.proofs.slice_iterator.run_from.Tie as tie
 
 abbrev Inv-bits : tie.InvT-bits
-Inv-bits bytes start length first at₀ flag byte bit₀ left stop at bit =
-    Alike (stretch bytes start length) true length first at × ((start + at ≡ 8 * (flag / 8) + bit) × ((bit₀ ≤ bit) × (bit ≤ stop)))
+Inv-bits bytes start length place first₀ at₀ flag byte bit₀ left stop first at bit =
+    Walking (stretch bytes start length) length place first at × ((start + at ≡ 8 * (flag / 8) + bit) × ((bit₀ ≤ bit) × (bit ≤ stop)))
 
 abbrev μ-bits : tie.MeasureT-bits
-μ-bits bytes start length first at₀ flag byte bit₀ left stop at bit = stop - bit
+μ-bits bytes start length place first₀ at₀ flag byte bit₀ left stop first at bit = stop - bit
 
 abbrev Inv-bytes : tie.InvT-bytes
-Inv-bytes bytes start length first at₀ at = Alike (stretch bytes start length) true length first at
+Inv-bytes bytes start length place first₀ at₀ first at = Walking (stretch bytes start length) length place first at
 
 abbrev μ-bytes : tie.MeasureT-bytes
-μ-bytes bytes start length first at₀ at = length - at
+μ-bytes bytes start length place first₀ at₀ first at = length - at
 
 bytes-holds : tie.Need-bytes-holds Inv-bits μ-bits Inv-bytes μ-bytes
-bytes-holds c = search needs
+bytes-holds c = walk-begins _ _ _ (c .before .pre .1 .1 .1)
 
 sub-ones : tie.Need-sub-ones Inv-bits μ-bits Inv-bytes μ-bytes
 sub-ones c = search needs
@@ -49,7 +48,7 @@ bytes-less : tie.Need-bytes-less Inv-bits μ-bits Inv-bytes μ-bytes
 bytes-less c = search needs
 
 bytes-again : tie.Need-bytes-again Inv-bits μ-bits Inv-bytes μ-bytes
-bytes-again c = run-byte _ _ _ _ _ (c .before .before .before .before .bytes .inv) _ _ (c .before .all-ones .ensures) (c .if2 .taken) refl
+bytes-again c = walk-byte _ _ _ _ _ _ (c .before .before .before .before .bytes .inv) _ _ (c .before .all-ones .ensures) (c .if2 .taken) refl
 
 add-least : tie.Need-add-least Inv-bits μ-bits Inv-bytes μ-bytes
 add-least c = search needs
@@ -75,11 +74,22 @@ shr-if3 c = search needs
 sub-ones-2 : tie.Need-sub-ones-2 Inv-bits μ-bits Inv-bytes μ-bytes
 sub-ones-2 c = search needs
 
+add-at-2 : tie.Need-add-at-2 Inv-bits μ-bits Inv-bytes μ-bytes
+add-at-2 c = search needs
+
+bytes-less-3 : tie.Need-bytes-less-3 Inv-bits μ-bits Inv-bytes μ-bytes
+bytes-less-3 c = search needs
+
+bytes-again-3 : tie.Need-bytes-again-3 Inv-bits μ-bits Inv-bytes μ-bytes
+bytes-again-3 c =
+    let inv = c .before .before .before .bits .inv in
+    walk-zero _ _ _ _ _ _ (inv .0) _ _ _ (search needs) (inv .1 .0) (search needs) refl (c .before .if3 .taken) (c .if4 .left)
+
 add-bit : tie.Need-add-bit Inv-bits μ-bits Inv-bytes μ-bytes
 add-bit c = search needs
 
-add-at-2 : tie.Need-add-at-2 Inv-bits μ-bits Inv-bytes μ-bytes
-add-at-2 c = search needs
+add-at-3 : tie.Need-add-at-3 Inv-bits μ-bits Inv-bytes μ-bytes
+add-at-3 c = search needs
 
 bits-less : tie.Need-bits-less Inv-bits μ-bits Inv-bytes μ-bytes
 bits-less c = search needs
@@ -87,15 +97,15 @@ bits-less c = search needs
 bits-again : tie.Need-bits-again Inv-bits μ-bits Inv-bytes μ-bytes
 bits-again c =
     let inv = c .before .before .bits .inv in
-    (run-more _ _ _ _ _ (inv .0) _ _ _ (search needs) (inv .1 .0) (search needs) refl (c .if3 .left), (omega arith, (omega arith, omega arith)))
+    (walk-one _ _ _ _ _ _ (inv .0) _ _ _ (search needs) (inv .1 .0) (search needs) refl (c .if3 .left), (omega arith, (omega arith, omega arith)))
 
 returns : tie.Need-returns Inv-bits μ-bits Inv-bytes μ-bytes
-returns c = run-end _ _ _ _ _ (c .before .bytes .inv) (c .if1 .taken)
+returns c = walk-end _ _ _ _ _ _ (c .before .bytes .inv) (c .if1 .taken)
 
 returns-2 : tie.Need-returns-2 Inv-bits μ-bits Inv-bytes μ-bytes
 returns-2 c =
-    let inv = c .before .before .bits .inv in
-    run-stop _ _ _ _ _ (inv .0) _ _ _ (search needs) (inv .1 .0) (search needs) refl (c .if3 .taken)
+    let inv = c .before .before .before .bits .inv in
+    walk-stop _ _ _ _ _ _ (inv .0) _ _ _ (search needs) (inv .1 .0) (search needs) refl (c .before .if3 .taken) (c .if4 .taken)
 
 pub run-from-spec : {M : Type 1} → statement M
 run-from-spec =
@@ -122,8 +132,11 @@ run-from-spec =
     cast-if3
     shr-if3
     sub-ones-2
-    add-bit
     add-at-2
+    bytes-less-3
+    bytes-again-3
+    add-bit
+    add-at-3
     bits-less
     bits-again
     returns

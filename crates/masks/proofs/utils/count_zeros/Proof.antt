@@ -46,7 +46,7 @@ zeros-at-requires : tie.Need-zeros-at-requires
 zeros-at-requires c κs =
     let no = c .before .before in
     let a = aligned-allowed _ _ _ _ (sym (no .before .aligned-failure .ensures) ∙ no .if2 .left) in
-    (omega (arith, a .0), a .1 .0)
+    (omega (arith, a .0), a .1)
 
 returns-4 : tie.Need-returns-4
 unfolding spanCount

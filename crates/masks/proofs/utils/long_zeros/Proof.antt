@@ -11,7 +11,7 @@ split-requires : tie.Need-split-requires
 split-requires c κs = search needs
 
 ones-of-requires : tie.Need-ones-of-requires
-ones-of-requires c κs = rw (c .split .ensures) (split-bounded _ _ _ _ (c .before .before .pre .0) (c .before .before .pre .1))
+ones-of-requires c κs = rw (c .split .ensures) (split-bounded _ _ _ _ (c .before .before .pre .0) (c .before .before .pre .1 .0))
 
 sub-result : tie.Need-sub-result
 sub-result c = omega (arith, ones-most _ _ _ (length-window _ _ _) (split-count _ _ _ _ _ _ (c .before .split .ensures) (c .ones-of .ensures)))

@@ -1,13 +1,13 @@
--- The number of the checks decides; behind the zeros from the place on the span ends (`no-run`) or a run begins (`a-run`).
+-- The number of the checks decides; behind the zeros from the place on the walk found no run (`no-run`) or one (`a-run`).
 use mathlib.Core.Path.{sym, ap, _∙_}
 use native.Mathlib.Omega.{arith}
+use Rattle.words.proofs.Windows.{length-window}
 use Rattle.masks.specs.Answer.{given}
 use Rattle.masks.specs.SliceIterator.{nextSlice}
-use Rattle.masks.specs.declared.slice_iterator.Run.{Run}
 use Rattle.masks.proofs.CheckLaws.{is-refused, is-given}
 use Rattle.masks.proofs.CursorLaws.{cursor-allowed}
 use Rattle.masks.proofs.IteratorLaws.{alike-inside}
-use Rattle.masks.proofs.RunLaws.{a-run, no-run}
+use Rattle.masks.proofs.RunLaws.{a-run, no-run, run-inside}
 use borrow.Author.Needs.{needs}
 use Rattle.masks.proofs.slice_iterator.SlicesIterator.next.Statement.{statement}
 use Rattle.masks.proofs.slice_iterator.SlicesIterator.next.Tie as tie
@@ -24,41 +24,46 @@ zeros-from-requires c κs =
     let span = cursor-allowed _ _ _ _ (sym (c .before .cursor-failure .ensures) ∙ c .if1 .left) in
     (span .starts, (span .short, span .reached))
 
-add-first : tie.Need-add-first
-add-first c =
+add-near : tie.Need-add-near
+add-near c =
     let e = c .before .before in
     let span = cursor-allowed _ _ _ _ (sym (e .before .cursor-failure .ensures) ∙ e .if1 .left) in
     omega (arith, alike-inside _ _ _ _ _ _ (span .reached) (c .before .zeros-from .ensures), span .short)
 
+run-from-requires : tie.Need-run-from-requires
+run-from-requires c κs =
+    let e = c .before .before in
+    let span = cursor-allowed _ _ _ _ (sym (e .before .cursor-failure .ensures) ∙ e .if1 .left) in
+    (span .starts, (span .short, (span .inside, alike-inside _ _ _ _ _ _ (span .reached) (c .before .zeros-from .ensures))))
+
 returns-2 : tie.Need-returns-2
 unfolding nextSlice
 returns-2 c =
-    let z = c .before .before .before in
-    ap given (no-run _ _ _ (z .zeros-from .ensures) (c .if2 .taken)) ∙ is-given _ _ _ _ (z .before .before .cursor-failure .ensures) (z .before .if1 .left)
-
-run-from-requires : tie.Need-run-from-requires
-run-from-requires c κs =
-    let e = c .before .before .before .before in
-    let span = cursor-allowed _ _ _ _ (sym (e .before .cursor-failure .ensures) ∙ e .if1 .left) in
-    (span .starts, (span .short, (span .inside, omega (arith, c .if2 .left))))
+    let walk = c .before .before in
+    let pass = walk .before .before in
+    let passed = pass .before in
+    let cursor = passed .before .before .before .args .self in
+    ap given (no-run cursor _ _ _ (length-window _ _ _) (pass .zeros-from .ensures) (walk .run-from .ensures) (c .if2 .taken))
+    ∙ is-given _ _ _ _ (passed .before .cursor-failure .ensures) (passed .if1 .left)
 
 add-past : tie.Need-add-past
 add-past c =
-    let s = c .before .before in
-    let e = s .before .before .before .before in
-    let span = cursor-allowed _ _ _ _ (sym (e .before .cursor-failure .ensures) ∙ e .if1 .left) in
-    omega (
-      arith,
-      span .short,
-      alike-inside _ _ _ _ _ _ (omega (arith, s .if2 .left)) (ap (λ (r : Run). r .length) (c .before .run-from .ensures)),
-    )
+    let walk = c .before .before .before in
+    let pass = walk .before .before in
+    let passed = pass .before in
+    let span = cursor-allowed _ _ _ _ (sym (passed .before .cursor-failure .ensures) ∙ passed .if1 .left) in
+    let near = alike-inside _ _ _ _ _ _ (span .reached) (pass .zeros-from .ensures) in
+    omega (arith, span .short, run-inside _ _ _ _ (length-window _ _ _) near (walk .run-from .ensures))
 
 returns-3 : tie.Need-returns-3
 unfolding nextSlice
 returns-3 c =
-    let s = c .before .before in
-    let z = s .before .before .before in
-    ap given (a-run _ _ _ _ (z .zeros-from .ensures) (s .if2 .left) (c .before .run-from .ensures)) ∙ is-given _ _ _ _ (z .before .before .cursor-failure .ensures) (z .before .if1 .left)
+    let walk = c .before .before .before in
+    let pass = walk .before .before in
+    let passed = pass .before in
+    let cursor = passed .before .before .before .args .self in
+    ap given (a-run cursor _ _ _ (length-window _ _ _) (pass .zeros-from .ensures) (walk .run-from .ensures) (c .before .if2 .left))
+    ∙ is-given _ _ _ _ (passed .before .cursor-failure .ensures) (passed .if1 .left)
 
 pub next-spec : {M : Type 1} → statement M
 next-spec =
@@ -67,8 +72,8 @@ next-spec =
     cursor-failure-requires
     returns
     zeros-from-requires
-    add-first
-    returns-2
+    add-near
     run-from-requires
+    returns-2
     add-past
     returns-3)
