@@ -66,7 +66,7 @@ fn requests() -> File {
     let mut file = File::default();
     file.note("Requests with the answers of compare/model, written by compare/cases: do not edit. In compare/, this writes them anew:");
     file.note("cargo run --release -p cases -- ../crates/cases");
-    file.note("crates/requests/src/lines.rt says what a line means; tests/cases.py computes the answers again.");
+    file.note("docs/REQUESTS.md says what a line means; tests/cases.py computes the answers again.");
     words::write(&mut file);
     spans::write(&mut file);
     masks::write(&mut file);
