@@ -15,7 +15,7 @@ import sys
 
 ROOT = os.path.dirname(os.path.dirname(os.path.abspath(__file__)))
 PAGE = os.path.join(ROOT, "docs", "CALLS.md")
-CRATES = ("words", "masks", "dispatch", "report")
+CRATES = ("words", "activity", "masks", "dispatch", "report")
 CALL = re.compile(r"^`([\w:]+)(?:\(.*\))?`$")
 
 
@@ -126,7 +126,7 @@ def refusals(crate):
                 names += re.findall(r"`([\w:]+)`", line)
             elif " = " in line:
                 for name in names or ["*"]:
-                    found.setdefault(name, set()).update(re.findall(r"\b\d\b", line.split(" = ")[1]))
+                    found.setdefault(name, set()).update(re.findall(r"\b\d+\b", line.split(" = ")[1]))
             above = line
     return found
 
@@ -159,7 +159,7 @@ def facts():
     for crate in CRATES:
         numbers, wrong, named = refusals(crate), wrong_answers(crate), witnessed(crate)
         for name, (args, definitions) in functions(crate).items():
-            checks = sorted(numbers.get(name, numbers.get("*", ())))
+            checks = sorted(numbers.get(name, numbers.get("*", ())), key=int)
             if name in rows:
                 complaints.append(f"two public functions are named {name}")
             if name in numbers and name not in named:

@@ -131,7 +131,8 @@ unfolding columnCounts
 at-columns rows c h = at-from rows 0 64 c h ∙ ap (λ (x : ℕ). count (column rows x)) (zero-add c)
 
 -- 64 numbers, each the count of its column, are the counts
-pub columns-are : (rows out : List ℕ) → length out ≡ 64 → ((c : ℕ) → c < 64 → getD out c 0 ≡ count (column rows c)) → out ≡ columnCounts rows
+pub columns-are : (rows out : List ℕ) → length out ≡ 64 → ((c : ℕ) → c < 64 → getD out c 0 ≡ count (column rows c))
+    → out ≡ columnCounts rows
 columns-are rows out long each =
     ext-getD 0 out (columnCounts rows) (long ∙ sym (length-columns rows))
     (λ c h. let p : c < 64 = omega arith in each c p ∙ sym (at-columns rows c p))

@@ -1,4 +1,5 @@
 -- The laws of the crate, a file for each topic. Those marked `pub` are cited by the crates above.
+mod AdderLaws
 pub mod AnyFlag
 mod Behind
 pub mod Bits

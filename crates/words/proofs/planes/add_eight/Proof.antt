@@ -1,5 +1,5 @@
 -- `totals-eight`: two fours and a full adder.
-use Rattle.words.proofs.PlaneLaws.{totals-eight}
+use Rattle.words.proofs.AdderLaws.{totals-eight}
 use borrow.Author.Needs.{needs}
 use Rattle.words.proofs.planes.add_eight.Statement.{statement}
 use Rattle.words.proofs.planes.add_eight.Tie as tie
@@ -43,7 +43,10 @@ add-from-requires : tie.Need-add-from-requires
 add-from-requires c κs = search needs
 
 returns : tie.Need-returns
-returns c = totals-eight _ _ _ _ _ _ _ _ _ _ _ _ (c .before .before .before .before .before .before .before .before .before .pre) (c .before .before .before .before .before .add-four .ensures) (c .before .before .before .before .add-four2 .ensures) (c .before .before .full-add .ensures) (c .add-from .ensures)
+returns c =
+    totals-eight _ _ _ _ _ _ _ _ _ _ _ _ (c .before .before .before .before .before .before .before .before .before .pre)
+    (c .before .before .before .before .before .add-four .ensures) (c .before .before .before .before .add-four2 .ensures)
+    (c .before .before .full-add .ensures) (c .add-from .ensures)
 
 pub add-eight-spec : {M : Type 1} → statement M
 add-eight-spec =

@@ -1,5 +1,5 @@
 -- `four-more`: the three full adders, column by column.
-use Rattle.words.proofs.PlaneLaws.{four-more}
+use Rattle.words.proofs.AdderLaws.{four-more}
 use borrow.Author.Needs.{needs}
 use Rattle.words.proofs.planes.add_four.Statement.{statement}
 use Rattle.words.proofs.planes.add_four.Tie as tie
@@ -50,7 +50,9 @@ full-add-requires-3 : tie.Need-full-add-requires-3
 full-add-requires-3 c κs = search needs
 
 returns : tie.Need-returns
-returns c = four-more _ _ _ _ _ _ _ _ _ _ (c .before .before .before .before .before .before .before .before .pre) (c .before .before .before .before .full-add .ensures) (c .before .full-add2 .ensures) (c .full-add3 .ensures)
+returns c =
+    four-more _ _ _ _ _ _ _ _ _ _ (c .before .before .before .before .before .before .before .before .pre)
+    (c .before .before .before .before .full-add .ensures) (c .before .full-add2 .ensures) (c .full-add3 .ensures)
 
 pub add-four-spec : {M : Type 1} → statement M
 add-four-spec =

@@ -37,7 +37,8 @@ loop-less : tie.Need-loop-less Inv-loop μ-loop
 loop-less c = search needs
 
 loop-again : tie.Need-loop-again Inv-loop μ-loop
-loop-again c = (omega arith, simp length-set (c .before .before .loop .inv .1), way-step _ _ _ (omega arith) ∙ c .before .before .loop .inv .2)
+loop-again c =
+    (omega arith, simp length-set (c .before .before .loop .inv .1), way-step _ _ _ (omega arith) ∙ c .before .before .loop .inv .2)
 
 returns : tie.Need-returns Inv-loop μ-loop
 returns c = way-end _ _ _ _ (omega arith) (c .before .loop .inv .2)

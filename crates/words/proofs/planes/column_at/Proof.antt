@@ -42,7 +42,9 @@ loop-less : tie.Need-loop-less Inv-loop μ-loop
 loop-less c = search needs
 
 loop-again : tie.Need-loop-again Inv-loop μ-loop
-loop-again c = down-more _ _ _ _ _ (c .before .before .before .before .pre .0) (c .before .before .loop-test .taken) (c .before .before .before .loop .inv) (c .digit-at .ensures .0)
+loop-again c =
+    down-more _ _ _ _ _ (c .before .before .before .before .pre .0) (c .before .before .loop-test .taken)
+    (c .before .before .before .loop .inv) (c .digit-at .ensures .0)
 
 returns : tie.Need-returns Inv-loop μ-loop
 returns c = down-end _ _ _ _ (c .loop-test .left) (c .before .loop .inv .1)

@@ -1,5 +1,5 @@
 -- `full-adds`: a full adder in each column.
-use Rattle.words.proofs.PlaneLaws.{full-adds}
+use Rattle.words.proofs.AdderLaws.{full-adds}
 use Rattle.words.proofs.planes.full_add.Statement.{statement}
 use Rattle.words.proofs.planes.full_add.Tie as tie
 

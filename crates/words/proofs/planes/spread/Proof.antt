@@ -34,7 +34,9 @@ loop-less : tie.Need-loop-less Inv-loop μ-loop
 loop-less c = search needs
 
 loop-again : tie.Need-loop-again Inv-loop μ-loop
-loop-again c = wrote-more _ _ _ _ (c .before .loop-test .taken) (c .before .before .loop .inv .1) (c .before .before .loop .inv .2) (c .column-at .ensures)
+loop-again c =
+    wrote-more _ _ _ _ (c .before .loop-test .taken) (c .before .before .loop .inv .1) (c .before .before .loop .inv .2)
+    (c .column-at .ensures)
 
 returns : tie.Need-returns Inv-loop μ-loop
 returns c = wrote-all _ _ _ (c .loop-test .left) (c .before .loop .inv)
