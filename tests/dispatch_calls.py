@@ -20,6 +20,9 @@ COMBINATIONS = {
 SEARCHES = {"bitmask": ("nth_set_bit_idx", "nth_set_bit_idx_rev")}
 
 
+ITEM = re.compile(r"(?m)^impl (\w+)|^(\})|^pub(?:\(crate\))? (?:struct|enum) (\w+)|\bpub fn (\w+)(.*?)\bensures\b", re.S)
+
+
 def code_of(path):
     """A source without its comments."""
     return re.sub(r"//[^\n]*", "", path.read_text(encoding="utf-8"))
@@ -39,7 +42,7 @@ def masks():
     functions, types, methods = {}, set(), {}
     for path in sorted((ROOT / "crates/masks/src").glob("*.rt")):
         text, owner = code_of(path), ""
-        for match in re.finditer(r"(?m)^impl (\w+)|^(\})|^pub(?:\(crate\))? (?:struct|enum) (\w+)|\bpub fn (\w+)(.*?)\bensures\b", text, re.S):
+        for match in ITEM.finditer(text):
             if match[1]:
                 owner = match[1]
             elif match[2]:

@@ -35,8 +35,7 @@ def words_only():
         for j, y in enumerate(WORDS):
             z = WORDS[(i + j + 1) % 10]
             by_name = [hex_word(flagwise(f, x, y, z)) for f in OPS]
-            constant = [hex_word(flagwise(lambda p, q: q if p else flag, x, y)) for flag in (False, True)]
-            show("ops", i, j, *by_name, *constant, *by_name)
+            show("ops", i, j, *by_name, *by_name)
 
 
 def word_cases():

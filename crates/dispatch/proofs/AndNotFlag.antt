@@ -32,11 +32,13 @@ module _ (p : Bitmap) (pBytes : List ℕ) (r : Bitmap) (rBytes : List ℕ) (t : 
 -- ---- an absent mask
 
 pub no-revocation : (p : Bitmap) (pBytes rBytes : List ℕ) (t : ℕ)
-    → mayReassign (Present p) pBytes Absent rBytes t ≡ checked (andNotAtChecks (Present p) pBytes Absent rBytes t) tt (getD (maskFlags p pBytes) t false)
+    → mayReassign (Present p) pBytes Absent rBytes t
+    ≡ checked (andNotAtChecks (Present p) pBytes Absent rBytes t) tt (getD (maskFlags p pBytes) t false)
 no-revocation p pBytes rBytes t = sym (is-and-not-at (Present p) pBytes Absent rBytes t) ∙ no-second p pBytes rBytes t
 
 pub no-permission : (pBytes : List ℕ) (r : Bitmap) (rBytes : List ℕ) (t : ℕ)
-    → mayReassign Absent pBytes (Present r) rBytes t ≡ checked (andNotAtChecks Absent pBytes (Present r) rBytes t) tt (not (getD (maskFlags r rBytes) t false))
+    → mayReassign Absent pBytes (Present r) rBytes t
+    ≡ checked (andNotAtChecks Absent pBytes (Present r) rBytes t) tt (not (getD (maskFlags r rBytes) t false))
 no-permission pBytes r rBytes t = sym (is-and-not-at Absent pBytes (Present r) rBytes t) ∙ no-first pBytes r rBytes t
 
 pub no-mask : (pBytes rBytes : List ℕ) (t : ℕ) → mayReassign Absent pBytes Absent rBytes t ≡ given true

@@ -23,7 +23,8 @@ passed-mask : (M : Optional) (bytes : List ℕ) (i : ℕ) → firstFailed (index
 unfolding indexChecks
 passed-mask (Present m) bytes i e =
     let span = mask-allowed m bytes (both-left (maskChecks m bytes) (indexInside i m ∷ []) e) in
-    (span .starts, (span .short, ltb-true i (m .length) (check-allowed 5 (ltb i (m .length)) (both-right (maskChecks m bytes) (indexInside i m ∷ []) e))))
+    let inside = both-right (maskChecks m bytes) (indexInside i m ∷ []) e in
+    (span .starts, (span .short, ltb-true i (m .length) (check-allowed 5 (ltb i (m .length)) inside)))
 passed-mask Absent bytes i e = tt
 
 -- and in each of two

@@ -27,7 +27,8 @@ use Rattle.masks.specs.Iterator.{iterChecks, newIter, nthFlag, takeLeadi
 use Rattle.masks.specs.Mask.{maskChecks, zeroedChecks, pieceChecks, sliceChecks, tryNewOf, newZeroedOf, newZeroedBytes, unsetBitsOf, sliceOf}
 use Rattle.masks.specs.Refusals.{numbers, among, allAmong, Refuses, RefusesUnwritten, Refusals, mayGive, appendFamily}
 use Rattle.masks.specs.Refusals.{Family, addressed, spans, cursors, unmasked-cursors, splits, builders, pushed-words, span-appends, gathers}
-use Rattle.masks.specs.Refusals.{piece-appends, zeroed-masks, masks, slices, combinations, inversions, intersections, indexed-pairs, indexed-masks, stated-masks, stated-lengths}
+use Rattle.masks.specs.Refusals.{piece-appends, zeroed-masks, masks, slices, combinations, inversions, intersections}
+use Rattle.masks.specs.Refusals.{indexed-pairs, indexed-masks, stated-masks, stated-lengths}
 use Rattle.masks.specs.Positions.{nextPositions, positionsOver}
 use Rattle.masks.specs.Search.{searchFrom, searchBack}
 use Rattle.masks.specs.SliceIterator.{runChecks, newSlices, nextSlice}
@@ -167,7 +168,8 @@ unfolding
     numbers allAmong among spanChecks addressChecks outputChecks alignedChecks cursorChecks splitChecks builderChecks
     maskChecks zeroedChecks pieceChecks sliceChecks pairChecks notChecks selectChecks commonChecks newTrueChecks trueChecks
     alignedOf spanCount newChunks nextChunk chunksRemainder splitAt windowAt searchFrom searchBack
-    newZeroedOf newZeroedBytes tryNewOf sliceOf unsetBitsOf pairOf pairBytes eachOf eachBytes eqOf edgesOf commonOf andNotAtOf andNotAtChecks indexChecks lengthChecks
+    newZeroedOf newZeroedBytes tryNewOf sliceOf unsetBitsOf pairOf pairBytes eachOf eachBytes eqOf edgesOf commonOf
+    andNotAtOf andNotAtChecks indexChecks lengthChecks
     newSlices nextSlice newIter nthFlag takeLeading newTrue nextTrue nextPositions positionsOver
 refusals =
     record {

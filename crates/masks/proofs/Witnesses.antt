@@ -17,7 +17,8 @@ use Rattle.masks.specs.Iterator.{newIter, nthFlag, takeLeading}
 use Rattle.masks.specs.Mask.{cutZeros, recounts, maskChecks, zeroedChecks, pieceChecks, sliceChecks, tryNewOf, newZeroedOf, unsetBitsOf, sliceOf}
 use Rattle.masks.specs.Positions.{nextPositions}
 use Rattle.masks.specs.Refusals.{addressed, spans, cursors, unmasked-cursors, splits, builders, pushed-words, span-appends, gathers, piece-appends}
-use Rattle.masks.specs.Refusals.{zeroed-masks, masks, slices, combinations, inversions, intersections, indexed-pairs, indexed-masks, stated-masks, stated-lengths}
+use Rattle.masks.specs.Refusals.{zeroed-masks, masks, slices, combinations, inversions, intersections}
+use Rattle.masks.specs.Refusals.{indexed-pairs, indexed-masks, stated-masks, stated-lengths}
 use Rattle.masks.specs.Search.{searchFrom, searchBack}
 use Rattle.masks.specs.SliceIterator.{newSlices, nextSlice}
 use Rattle.masks.specs.TrueIdx.{newTrueChecks, trueChecks, newTrue, nextTrue}

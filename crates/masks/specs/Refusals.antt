@@ -173,8 +173,10 @@ pub record Refusals : Type 0 where
   pub common : (a : Bitmap) (aBytes : List ℕ) (b : Bitmap) (bBytes : List ℕ) → Refuses (mayGive intersections) tt (commonOf a aBytes b bBytes)
   pub and-not-at : (a : Bitmap) (aBytes : List ℕ) (b : Bitmap) (bBytes : List ℕ) (i : ℕ)
       → Refuses (mayGive indexed-pairs) tt (andNotAtOf (Present a) aBytes (Present b) bBytes i)
-  pub and-not-at-first : (a : Bitmap) (aBytes bBytes : List ℕ) (i : ℕ) → Refuses (mayGive indexed-masks) tt (andNotAtOf (Present a) aBytes Absent bBytes i)
-  pub and-not-at-second : (aBytes : List ℕ) (b : Bitmap) (bBytes : List ℕ) (i : ℕ) → Refuses (mayGive indexed-masks) tt (andNotAtOf Absent aBytes (Present b) bBytes i)
+  pub and-not-at-first : (a : Bitmap) (aBytes bBytes : List ℕ) (i : ℕ)
+      → Refuses (mayGive indexed-masks) tt (andNotAtOf (Present a) aBytes Absent bBytes i)
+  pub and-not-at-second : (aBytes : List ℕ) (b : Bitmap) (bBytes : List ℕ) (i : ℕ)
+      → Refuses (mayGive indexed-masks) tt (andNotAtOf Absent aBytes (Present b) bBytes i)
   -- of no mask nothing is asked
   pub and-not-at-none : (aBytes bBytes : List ℕ) (i : ℕ) → Refuses [] tt (andNotAtOf Absent aBytes Absent bBytes i)
   -- cursors

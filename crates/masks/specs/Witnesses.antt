@@ -24,7 +24,8 @@ use Rattle.masks.specs.Iterator.{iterAt, newIter, nthFlag, takeLeading}
 use Rattle.masks.specs.Mask.{maskOf, tryNewOf, newZeroedOf, unsetBitsOf, sliceOf}
 use Rattle.masks.specs.Refusals.{mayGive}
 use Rattle.masks.specs.Refusals.{Family, addressed, spans, cursors, unmasked-cursors, splits, builders, pushed-words, span-appends, gathers}
-use Rattle.masks.specs.Refusals.{piece-appends, zeroed-masks, masks, slices, combinations, inversions, intersections, indexed-pairs, indexed-masks, stated-masks, stated-lengths}
+use Rattle.masks.specs.Refusals.{piece-appends, zeroed-masks, masks, slices, combinations, inversions, intersections}
+use Rattle.masks.specs.Refusals.{indexed-pairs, indexed-masks, stated-masks, stated-lengths}
 use Rattle.masks.specs.Search.{searchFrom, searchBack}
 use Rattle.masks.specs.SliceIterator.{slicesAt, newSlices, nextSlice}
 use Rattle.masks.specs.Positions.{nextPositions}
@@ -236,8 +237,10 @@ witnesses intersections =
     ∷ []
 witnesses indexed-pairs =
     -- `and_not_at` of two masks, where the first is refused and where the second is
-    (atMasks (λ m. atNumber (Present m) (Present whole) 0) ++ (atNumber (Present shorter) (Present whole) 0 ∷ atNumber (Present whole) (Present whole) 8 ∷ []))
-    ∷ (atMasks (λ m. atNumber (Present whole) (Present m) 0) ++ (atNumber (Present whole) (Present shorter) 0 ∷ atNumber (Present whole) (Present whole) 8 ∷ []))
+    (atMasks (λ m. atNumber (Present m) (Present whole) 0)
+    ++ (atNumber (Present shorter) (Present whole) 0 ∷ atNumber (Present whole) (Present whole) 8 ∷ []))
+    ∷ (atMasks (λ m. atNumber (Present whole) (Present m) 0)
+    ++ (atNumber (Present whole) (Present shorter) 0 ∷ atNumber (Present whole) (Present whole) 8 ∷ []))
     ∷ []
 witnesses indexed-masks =
     -- `and_not_at` of the first mask alone, and of the second

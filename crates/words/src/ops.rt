@@ -59,17 +59,6 @@ pub fn select_word(x: u64, y: u64, z: u64) -> u64
     (x & y) | (!x & z)
 }
 
-// The second's flag where the first's is set, else the constant.
-pub fn select_constant_word(x: u64, y: u64, flag: bool) -> u64
-    ensures { λ r. ⌜ wordFlags r ≡ zipWith (λ p q. cond p q flag) (wordFlags x) (wordFlags y) ⌝ }
-{
-    if flag {
-        or_not_word(y, x)
-    } else {
-        and_word(x, y)
-    }
-}
-
 // The operation by its name.
 pub fn combine_word(op: Op, x: u64, y: u64, z: u64) -> u64
     ensures { λ r. ⌜ wordFlags r ≡ zip3 (opOf op) (wordFlags x) (wordFlags y) (wordFlags z) ⌝ }

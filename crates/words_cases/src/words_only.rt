@@ -145,8 +145,6 @@ fn op_word(j: usize, x: u64, y: u64, z: u64) -> u64 {
         4 => ops::xor_word(x, y),
         5 => ops::not_word(x),
         6 => ops::select_word(x, y, z),
-        7 => ops::select_constant_word(x, y, false),
-        8 => ops::select_constant_word(x, y, true),
-        _ => ops::combine_word(tables::op((j % 16 + 7) % 16), x, y, z),
+        _ => ops::combine_word(tables::op((j % 14 + 7) % 14), x, y, z),
     }
 }

@@ -16,7 +16,8 @@ earlier-requires c κs = search needs
 
 returns : tie.Need-returns
 returns c =
-    two-pieces _ _ _ _ _ (c .earlier .ensures) (c .before .before .before .mask-failure .ensures) (one-check _ _ _ _ (c .before .failed .ensures) refl)
+    two-pieces _ _ _ _ _ (c .earlier .ensures) (c .before .before .before .mask-failure .ensures)
+    (one-check _ _ _ _ (c .before .failed .ensures) refl)
 
 pub inside-failure-spec : {M : Type 1} → statement M
 inside-failure-spec =

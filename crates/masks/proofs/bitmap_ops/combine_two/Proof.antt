@@ -31,7 +31,8 @@ returns-2 c =
     let d = c .before in
     let write = d .before .before .before in
     let by = write .before .before in (
-      pair-given _ _ _ _ _ _ _ (by .before .before .pair-failure .ensures) _ _ _ (by .before .if1 .left) (by .pair-shortcut .ensures) (d .result-count .ensures) (c .result-mask .ensures),
+      pair-given _ _ _ _ _ _ _ (by .before .before .pair-failure .ensures) _ _ _ (by .before .if1 .left) (by .pair-shortcut .ensures)
+          (d .result-count .ensures) (c .result-mask .ensures),
       pair-written _ _ _ _ _ _ _ (by .before .before .pair-failure .ensures) _ _ (by .before .if1 .left) (by .pair-shortcut .ensures) (write .write-result .ensures),
     )
 

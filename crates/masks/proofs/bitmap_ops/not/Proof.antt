@@ -27,7 +27,8 @@ returns-2 c =
     let d = c .before in
     let write = d .before .before .before in
     let known = write .before .before in
-    each-given _ _ _ _ _ _ (known .before .not-failure .ensures) _ _ _ _ (known .if1 .left) (d .not-counted .ensures) (c .result-mask .ensures) (write .combine-frozen .ensures) (not-each _ _ _)
+    each-given _ _ _ _ _ _ (known .before .not-failure .ensures) _ _ _ _ (known .if1 .left)
+    (d .not-counted .ensures) (c .result-mask .ensures) (write .combine-frozen .ensures) (not-each _ _ _)
 
 pub not-spec : {M : Type 1} → statement M
 not-spec =

@@ -28,7 +28,8 @@ returns-2 c =
     let d = c .before in
     let write = d .before .before .before in
     let known = write .before .before in
-    each-given _ _ _ _ _ _ (known .before .pair-failure .ensures) _ _ _ _ (known .if1 .left) (d .not-counted .ensures) (c .result-mask .ensures) (write .select-frozen .ensures)
+    each-given _ _ _ _ _ _ (known .before .pair-failure .ensures) _ _ _ _ (known .if1 .left)
+    (d .not-counted .ensures) (c .result-mask .ensures) (write .select-frozen .ensures)
     (constant-length _ _ _ _ _ _ _ (pair-lengths _ _ _ _ _ (sym (known .before .pair-failure .ensures) ∙ known .if1 .left)))
 
 pub select-constant-spec : {M : Type 1} → statement M

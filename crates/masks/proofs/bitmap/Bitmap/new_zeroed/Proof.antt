@@ -43,8 +43,10 @@ returns-2 c =
     let known = fill .before .before in
     let e = known .before in
     let number = check-before _ _ _ _ _ _ _ (e .earlier .ensures) (e .before .failed .ensures)
-    (e .before .before .within-limit .ensures) (e .before .before .before .frozen-failure .ensures) in
-    (ap given (c .mask-of .ensures) ∙ is-given _ _ _ _ number (known .if1 .left), fill .fill-frozen .ensures ∙ is-new _ _ _ _ number (known .if1 .left))
+    (e .before .before .within-limit .ensures) (e .before .before .before .frozen-failure .ensures) in (
+      ap given (c .mask-of .ensures) ∙ is-given _ _ _ _ number (known .if1 .left),
+      fill .fill-frozen .ensures ∙ is-new _ _ _ _ number (known .if1 .left),
+    )
 
 pub new-zeroed-spec : {M : Type 1} → statement M
 new-zeroed-spec =

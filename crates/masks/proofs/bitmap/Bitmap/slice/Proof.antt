@@ -42,7 +42,8 @@ returns-3 c =
     let cut = c .before .before .before .before in
     let piece = cut .before .before .before in
     ap given (c .cut-mask .ensures)
-    ∙ slice-right _ _ _ _ _ (piece .piece-failure .ensures) _ (cut .before .before .if1 .left) (sym (c .before .before .cut .given .1) ∙ cut .cut-count .ensures)
+    ∙ slice-right _ _ _ _ _ (piece .piece-failure .ensures) _ (cut .before .before .if1 .left)
+    (sym (c .before .before .cut .given .1) ∙ cut .cut-count .ensures)
 
 pub slice-spec : {M : Type 1} → statement M
 slice-spec =
