@@ -1,7 +1,7 @@
 -- The calls that append to a builder: their checks, and the flags that they append. Assumes nothing.
 --
--- Each call appends a list of flags where all its checks pass. Else the builder and the buffer are as they came. Contracts and
--- histories read the same two tables, `appendChecks` and `appendFlags`.
+-- Each call appends a list of flags where all its checks pass. Else the builder and the buffer are as they came. The
+-- contracts and the step of a history read the same two tables, `appendChecks` and `appendFlags`.
 use mathlib.Core.Path.{_≡_}
 use mathlib.Core.Logic.{_⊎_}
 use Prim.Native.Nat.{ℕ, _+_, _*_, _<_}
