@@ -1,5 +1,6 @@
 //! The calls by their names: a request's arguments handed to the model, and its answer as the tokens of a line.
 
+use crate::arguments::Args;
 use crate::token::Token;
 use model::combine::{self, Op};
 use model::loops::{self, Stretch, WordOp};
@@ -26,75 +27,6 @@ pub enum Output {
 pub struct Reply {
     pub tokens: Vec<Token>,
     pub output: Output,
-}
-
-/// The arguments that are not yet taken.
-pub struct Args<'a>(pub &'a [Token]);
-
-impl Args<'_> {
-    fn token(&mut self) -> Token {
-        let (&first, rest) = self.0.split_first().expect("an argument is missing");
-        self.0 = rest;
-        first
-    }
-
-    fn word(&mut self) -> u64 {
-        match self.token() {
-            Token::Number(number) => number,
-            other => panic!("a number expected, not {other}"),
-        }
-    }
-
-    fn number(&mut self) -> usize {
-        self.word() as usize
-    }
-
-    fn flag(&mut self) -> bool {
-        match self.word() {
-            0 => false,
-            1 => true,
-            other => panic!("a flag expected, not {other}"),
-        }
-    }
-
-    fn mask(&mut self) -> Mask {
-        let (start, length) = (self.number(), self.number());
-        let zeros = match self.token() {
-            Token::Number(zeros) => Some(zeros as usize),
-            _ => None,
-        };
-        Mask { start, length, zeros }
-    }
-
-    fn optional(&mut self) -> Option<Mask> {
-        let (present, mask) = (self.flag(), self.mask());
-        present.then_some(mask)
-    }
-
-    fn builder(&mut self) -> Builder {
-        Builder { length: self.number(), word: self.word(), ones: self.number() }
-    }
-
-    fn cursor(&mut self) -> Cursor {
-        Cursor { start: self.number(), length: self.number(), place: self.number(), masked: true }
-    }
-
-    fn true_cursor(&mut self) -> Cursor {
-        let cursor = self.cursor();
-        Cursor { masked: self.flag(), ..cursor }
-    }
-
-    fn op(&mut self) -> WordOp {
-        WordOp::ALL[self.number()]
-    }
-
-    fn span<'b>(&mut self, bytes: &'b [u8]) -> Span<'b> {
-        Span { bytes, start: self.number(), length: self.number() }
-    }
-
-    fn stretch<'b>(&mut self, bytes: &'b [u8]) -> Stretch<'b> {
-        Stretch { bytes, start: self.number() }
-    }
 }
 
 /// An answer of fixed shape: the refusal or 0, then the values, then the record.

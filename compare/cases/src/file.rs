@@ -1,6 +1,7 @@
 //! The case file: lent bytes, requests and the model's answers, line by line, and how many of each call there are.
 
-use crate::calls::{Args, Lents, Output, Reply, answer};
+use crate::arguments::Args;
+use crate::calls::{Lents, Output, Reply, answer};
 use crate::token::{Checksum, Token, values};
 use std::collections::BTreeMap;
 use std::fmt::Write;

@@ -2,12 +2,16 @@
 //!
 //!     cargo run --release -p cases -- ../crates/cases
 //!
-//! writes two files into that folder: `stdin`, the requests, and `stdout`, what the program must print of them: how many requests and single
-//! calls of each call there are, and that none differs. With `--check` behind the folder nothing is written; the files are compared with what
-//! would be. Nothing is drawn by chance: each run gives the same bytes. With `--refusals` how many calls were refused is printed too.
+//! writes two files into that folder: `stdin`, the requests, and `stdout`, what the program must print of them: how many requests and
+//! single calls of each call there are, and that none differs. With `--check` behind the folder nothing is written; the files are
+//! compared with what would be. Nothing is drawn by chance: each run gives the same bytes. With `--refusals` how many calls were refused
+//! is printed too.
 
+mod arguments;
 mod builders;
+mod builders_outside;
 mod calls;
+mod combinations;
 mod cursors;
 mod dispatch;
 mod file;

@@ -1,5 +1,5 @@
-//! The loops over words, as lists of flags: stretches of lent bytes read, combined and written. No check is made: a stretch reads false past
-//! the end of its bytes, what does not fit an output is left out, and what an output has behind the answer stays.
+//! The loops over words, as lists of flags: stretches of lent bytes read, combined and written. No check is made: a stretch reads false
+//! past the end of its bytes, what does not fit an output is left out, and what an output has behind the answer stays.
 
 use crate::{Answer, flag_at};
 
