@@ -72,7 +72,6 @@ CALLS = {
     "xor_word": word_op(XOR, 2),
     "not_word": word_op(NOT, 1),
     "select_word": word_op(SELECT, 3),
-    "select_constant_word": ("nnn", lambda l, p, q, flag: [OPS[SELECT](p, q, WORD * flag, 64)]),
     "combine_word": ("nnnn", lambda l, op, p, q, r: [OPS[op](p, q, r, 64)]),
     "combine": ("nnnnn", lambda l, op, a, b, c, n: ([], written(op, stretches(l, a, b, c), n, l.o))),
     "copy": ("nn", lambda l, start, n: ([], written(OR, [(l.x, start)] * 3, n, l.o))),

@@ -113,7 +113,6 @@ fn of_words(name: &str, a: &mut Args, l: &Lents) -> Option<Reply> {
         "xor_word" => word_op(WordOp::Xor, [a.word(), a.word(), 0]),
         "not_word" => word_op(WordOp::Not, [a.word(), 0, 0]),
         "select_word" => word_op(WordOp::Select, [a.word(), a.word(), a.word()]),
-        "select_constant_word" => word_op(WordOp::Select, [a.word(), a.word(), if a.flag() { u64::MAX } else { 0 }]),
         "combine_word" => word_op(a.op(), [a.word(), a.word(), a.word()]),
         _ => return None,
     }))

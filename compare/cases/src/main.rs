@@ -31,7 +31,7 @@ use std::process::ExitCode;
 /// The calls in the order in which the program has them.
 const ORDER: &str = "merge_reversed nth_set_bit_u32 nth_set_bit_u64 low_flags down up behind constant_word constant_flags ones_in_word \
     ones_below none_from leading_in_word trailing_in_word combine_word and_word and_not_word or_word or_not_word xor_word not_word \
-    select_word select_constant_word load_padded_le_u64 byte_word word_from flag_at count_ones equal count_ones_of any_set \
+    select_word load_padded_le_u64 byte_word word_from flag_at count_ones equal count_ones_of any_set \
     AlignedBitmapSlice::new split_at_unchecked get_u32 nth_set_bit_idx nth_set_bit_idx_rev count_zeros leading_zeros leading_ones \
     trailing_zeros trailing_ones BitChunks::new BitChunksExact::new BitChunks::next remainder BitmapBuilder::new Bitmap::new try_new \
     slice unset_bits num_edges eq num_intersections_with and_not_at may_reassign SlicesIterator::new SlicesIterator::next \

@@ -72,7 +72,6 @@ fn single_words(f: &mut File) {
         f.ask(&format!("{name} {words} {words}"));
     }
     f.ask(&format!("select_word {words} {words} {words}"));
-    f.ask(&format!("select_constant_word {words} {words} 0,1"));
     f.ask(&format!("combine_word 0..7 {words} {words} {words}"));
     for op in 0..7 {
         f.ask(&format!("combine_word {op} {} {} {}", show(WORDS[6]), show(WORDS[9]), show(WORDS[3])));
