@@ -10,23 +10,22 @@ use borrow.Author.Tests.{leb-true}
 use Rattle.words.specs.Flags.{flagsOf}
 use Rattle.words.specs.Ops.{opOf, zip3}
 use Rattle.words.specs.declared.ops.Op.{Op}
-use Rattle.words.proofs.Windows.{length-copies, length-window}
+use Rattle.words.proofs.Windows.{length-window}
 use Rattle.masks.specs.Answer.{given, refused, decided}
 use Rattle.masks.specs.Checks.{Check, check, firstFailed, limit, outputChecks, withinLimit}
 use Rattle.masks.specs.Combine.{eachBytes, eachOf, notChecks, notFlags, pairBytes, pairChecks}
 use Rattle.masks.specs.Combine.{pairEach, pairFlags, pairMask, pairOf, pairShortcut}
-use Rattle.masks.specs.Combine.{resultCount, resultFlags, selectChecks, selectConstantFlags, selectFlags}
+use Rattle.masks.specs.Combine.{resultCount, selectChecks, selectConstantFlags, selectFlags}
 use Rattle.masks.specs.Mask.{Recounted, maskChecks, maskFlags, maskOf, pieceChecks, sliceOf, slicedMask, uncounted, unsetBitsOf, zeroCount}
 use Rattle.masks.specs.TrueCounts.{Sound, TrueCount}
 use Rattle.masks.specs.declared.bitmap.Bitmap.{Bitmap}
 use Rattle.masks.specs.declared.bitmap.Unset.the-variants.{Known}
-use Rattle.masks.specs.declared.shortcuts.Shortcut.{Shortcut}
-use Rattle.masks.specs.declared.shortcuts.Shortcut.the-variants.{Each, All}
 use Rattle.masks.proofs.AnswerLaws.{given-number, given-value, refused-state}
 use Rattle.masks.proofs.CheckLaws.{both-left, both-right, first-allowed, rest-allowed}
 use Rattle.masks.proofs.CombineLaws.{pair-lengths, select-lengths}
 use Rattle.masks.proofs.LengthLaws.{length-not, length-zip2, length-zip3, output-allowed}
 use Rattle.masks.proofs.MaskLaws.{mask-allowed, piece-allowed}
+use Rattle.masks.proofs.PairPlain.{each-length, flags-length}
 use Rattle.masks.proofs.SliceTruth.{none-true, result-true, slice-accepted, slice-flags, slice-true}
 use Rattle.masks.proofs.TrueLaws.{flags-by-operation, true-count}
 use Rattle.histories.specs.MaskRows.{Combination, pair, invert, select, selectConstant, MaskCall, slice, unsetBits, combine}
@@ -133,24 +132,13 @@ by-flag op [] b e = refl
 by-flag op (x ∷ a) [] e = refl
 by-flag op (x ∷ a) (y ∷ b) e = ap₂ (λ (z : Bool) (t : List Bool). z ∷ t) (same-flag op x y) (by-flag op a b (omega arith))
 
-result-long : (s : Shortcut) (n : ℕ) (flags : List Bool) → length flags ≡ n → length (resultFlags s n flags) ≡ n
-result-long Each n flags e = e
-result-long (All x) n flags e = length-copies n x
-
 module _ (op : Op) (a : Bitmap) (aB : List ℕ) (b : Bitmap) (bB : List ℕ) (e : a .length ≡ b .length) where
-  each-long : length (pairEach op a aB b bB) ≡ a .length
-  each-long =
-      let first = length-window (flagsOf aB) (a .start) (a .length) in
-      let even = first ∙ e ∙ sym (length-window (flagsOf bB) (b .start) (b .length)) in
-      length-zip3 (opOf op) (maskFlags a aB) (maskFlags b bB) (maskFlags b bB) even even ∙ first
-
   pub pair-long : length (pairFlags op a aB b bB) ≡ a .length
-  unfolding pairFlags
-  pair-long = result-long (pairShortcut op a aB b bB) (a .length) (pairEach op a aB b bB) each-long
+  pair-long = flags-length a aB b bB e op
 
   pub pair-true : TrueCount (resultCount (pairShortcut op a aB b bB) (a .length)) (pairFlags op a aB b bB)
   unfolding pairFlags
-  pair-true = result-true (pairShortcut op a aB b bB) (a .length) (pairEach op a aB b bB) each-long
+  pair-true = result-true (pairShortcut op a aB b bB) (a .length) (pairEach op a aB b bB) (each-length a aB b bB e op)
 
 -- what the checks of two masks give of the first's length
 two-room : (a : Bitmap) (aB : List ℕ) (b : Bitmap) (bB out : List ℕ) → firstFailed (pairChecks a aB b bB (length out)) ≡ 0

@@ -44,13 +44,14 @@ module _ (a : Bitmap) (aBytes : List ℕ) (b : Bitmap) (bBytes : List ℕ) (same
   unfolding pairFlags shortcut
   at-and-not j h = at-each AndNot j h
 
-  each-length : (op : Op) → length (pairEach op a aBytes b bBytes) ≡ a .length
+  pub each-length : (op : Op) → length (pairEach op a aBytes b bBytes) ≡ a .length
   each-length op =
       let first = length-window (flagsOf aBytes) (a .start) (a .length) in
       let second = length-window (flagsOf bBytes) (b .start) (b .length) in
       length-zip3 (opOf op) (maskFlags a aBytes) (maskFlags b bBytes) (maskFlags b bBytes) (first ∙ same ∙ sym second) (first ∙ same ∙ sym second) ∙ first
 
-  flags-length : (op : Op) → length (pairFlags op a aBytes b bBytes) ≡ a .length
+  -- a combination has as many flags as its masks
+  pub flags-length : (op : Op) → length (pairFlags op a aBytes b bBytes) ≡ a .length
   unfolding pairFlags
   flags-length op = go (pairShortcut op a aBytes b bBytes)
     where
