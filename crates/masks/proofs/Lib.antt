@@ -29,6 +29,7 @@ pub mod PushLaws
 pub mod Refusals
 pub mod RepeatLaws
 pub mod RoomLaws
+pub mod RuleRows
 pub mod RunLaws
 pub mod RunsPlain
 pub mod RunsWhole

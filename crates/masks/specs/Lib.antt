@@ -17,6 +17,7 @@ pub mod Iterator
 pub mod Mask
 pub mod Positions
 pub mod Refusals
+pub mod RuleRows
 pub mod Search
 pub mod SliceIterator
 pub mod TrueCounts
