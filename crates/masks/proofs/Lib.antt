@@ -20,6 +20,8 @@ pub mod IteratorLaws
 pub mod LengthLaws
 pub mod Listing
 pub mod MaskLaws
+pub mod OrderLaws
+pub mod OrderRows
 pub mod PairPlain
 pub mod PartLaws
 pub mod PositionLaws

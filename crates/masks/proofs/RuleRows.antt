@@ -7,7 +7,7 @@ use Rattle.words.specs.Ops.{zip3}
 use Rattle.masks.specs.Answer.{decided, kept}
 use Rattle.masks.specs.Appends.{allBelow, constantChecks, gatherChecks, gathered, spanGrowChecks, wordChecks}
 use Rattle.masks.specs.Builder.{appended, builderChecks, builderFlags, inProgress, possible}
-use Rattle.masks.specs.Checks.{earlier, firstFailed, outputChecks, spanChecks}
+use Rattle.masks.specs.Checks.{earlier, firstFailed, rank, placeIn, outputChecks, spanChecks}
 use Rattle.masks.specs.Combine.{eachBytes, eachOf, notChecks, pairBytes, pairChecks, pairFlags, pairMask, pairOf, shortcut}
 use Rattle.masks.specs.Freeze.{frozenOver}
 use Rattle.masks.specs.Frozen.{frozen, overFrom, packed}
@@ -19,7 +19,7 @@ pub all-hold : RulesHold
 unfolding
     rows
     bits wordOf flagsOf count copies window over anySet zip3 xor
-    firstFailed earlier spanChecks outputChecks decided kept
+    firstFailed earlier rank placeIn spanChecks outputChecks decided kept
     maskChecks tryNewOf unsetBitsOf zeroCount zeros sliceOf sliceChecks pieceChecks cutZeros recounts keptCount
     packed frozen overFrom inProgress appended builderFlags possible builderChecks
     constantChecks wordChecks spanGrowChecks gatherChecks allBelow gathered frozenOver

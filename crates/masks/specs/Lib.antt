@@ -15,6 +15,7 @@ pub mod Freeze
 pub mod Frozen
 pub mod Iterator
 pub mod Mask
+pub mod OrderRows
 pub mod Positions
 pub mod Refusals
 pub mod RuleRows
