@@ -3,6 +3,7 @@ pub mod Accepted
 pub mod AndNotFlag
 pub mod AnswerLaws
 pub mod AppendLaws
+pub mod AppendPlain
 pub mod AtIndexLaws
 pub mod BitmaskLaws
 pub mod CheckLaws
