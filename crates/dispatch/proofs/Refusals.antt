@@ -2,7 +2,7 @@
 use mathlib.Core.Path.{refl}
 use Rattle.masks.specs.Answer.{decided}
 use Rattle.masks.specs.AtIndex.{andNotAtChecks, indexChecks, lengthChecks}
-use Rattle.masks.specs.Checks.{earlier, firstFailed, spanChecks}
+use Rattle.masks.specs.Checks.{earlier, firstFailed, rank, placeIn, spanChecks}
 use Rattle.masks.specs.Mask.{maskChecks}
 use Rattle.masks.specs.Refusals.{numbers, among, allAmong}
 use Rattle.masks.specs.declared.bitmap.Optional.the-variants.{Present, Absent}
@@ -18,5 +18,5 @@ refusals Absent pBytes (Present r) rBytes t = refuses-by (andNotAtChecks Absent 
 refusals Absent pBytes Absent rBytes t = refuses-by (andNotAtChecks Absent pBytes Absent rBytes t) _ _ _ refl
 
 pub witnessed : Witnessed
-unfolding mayReassign andNotAtChecks indexChecks lengthChecks maskChecks spanChecks firstFailed earlier decided
+unfolding mayReassign andNotAtChecks indexChecks lengthChecks maskChecks spanChecks firstFailed earlier rank placeIn decided
 witnessed = record { first = refl; second = refl; permission = refl; revocation = refl }

@@ -3,7 +3,7 @@ use mathlib.Core.Path.{refl}
 use Rattle.masks.proofs.WrongAnswers.{sameCode, tried, plain, flag, bits, flagsOf, window}
 use Rattle.masks.specs.Answer.{decided}
 use Rattle.masks.specs.AtIndex.{andNotAtChecks, andNotFlag, flagOr, indexChecks, lengthChecks}
-use Rattle.masks.specs.Checks.{earlier, firstFailed, spanChecks}
+use Rattle.masks.specs.Checks.{earlier, firstFailed, rank, placeIn, spanChecks}
 use Rattle.masks.specs.Mask.{maskChecks}
 use Rattle.dispatch.specs.Dispatch.{mayReassign, reassignable}
 use Rattle.dispatch.specs.WrongAnswers.{WrongAnswers}
@@ -11,7 +11,7 @@ use Rattle.dispatch.specs.WrongAnswers.{WrongAnswers}
 pub ruled-out : WrongAnswers
 unfolding
     sameCode bits flagsOf window
-    firstFailed earlier spanChecks maskChecks andNotAtChecks indexChecks lengthChecks decided mayReassign reassignable andNotFlag flagOr
+    firstFailed earlier rank placeIn spanChecks maskChecks andNotAtChecks indexChecks lengthChecks decided mayReassign reassignable andNotFlag flagOr
 ruled-out =
     record {
       with-both = tried (plain flag) refl refl refl;

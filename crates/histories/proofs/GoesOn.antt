@@ -13,7 +13,7 @@ use Rattle.masks.specs.Answer.{decided, kept}
 use Rattle.masks.specs.Appends.{allBelow, constantChecks, gatherChecks, gathered, innerChecks}
 use Rattle.masks.specs.Appends.{repeated, spanGrowChecks, subsliceChecks, wordChecks}
 use Rattle.masks.specs.Builder.{Filling, appended, builderChecks, builderFlags, inProgress, possible}
-use Rattle.masks.specs.Checks.{earlier, firstFailed, outputChecks, spanChecks}
+use Rattle.masks.specs.Checks.{earlier, firstFailed, rank, placeIn, outputChecks, spanChecks}
 use Rattle.masks.specs.Combine.{eachBytes, eachOf, notChecks, pairBytes, pairChecks, pairFlags, pairMask, pairOf, selectChecks, shortcut}
 use Rattle.masks.specs.Freeze.{freezeBytes, freezeChecks, frozenMask, frozenOver, validityOf}
 use Rattle.masks.specs.Frozen.{frozen, overFrom, packed}
@@ -112,7 +112,7 @@ comes {h = h} u a e l = record { answers = a; comes = record { fair = fair-calls
 pub accepted-kinds : AcceptedKinds
 unfolding
     bits wordOf flagsOf count copies window over anySet zip zip3 zipWith flatMap xor
-    firstFailed earlier spanChecks outputChecks decided kept
+    firstFailed earlier rank placeIn spanChecks outputChecks decided kept
     maskChecks tryNewOf unsetBitsOf zeroCount zeros sliceOf sliceChecks pieceChecks cutZeros recounts keptCount
     packed frozen overFrom inProgress appended builderFlags possible builderChecks
     constantChecks wordChecks spanGrowChecks innerChecks subsliceChecks gatherChecks allBelow gathered repeated frozenOver
@@ -147,7 +147,7 @@ accepted-kinds =
 pub refused-kinds : RefusedKinds
 unfolding
     bits wordOf flagsOf count copies window over anySet zip zip3 zipWith flatMap xor
-    firstFailed earlier spanChecks outputChecks decided kept
+    firstFailed earlier rank placeIn spanChecks outputChecks decided kept
     maskChecks tryNewOf unsetBitsOf zeroCount zeros sliceOf sliceChecks pieceChecks cutZeros recounts keptCount
     packed frozen overFrom inProgress appended builderFlags possible builderChecks
     constantChecks wordChecks spanGrowChecks innerChecks subsliceChecks gatherChecks allBelow gathered repeated frozenOver

@@ -8,7 +8,7 @@ use lib.Dec.{leb, eqb}
 use borrow.Author.Tests.{le-leb, lt-leb, leb-true, leb-false, eq-eqb, ne-eqb}
 use Rattle.words.proofs.Windows.{lt-or-le}
 use Rattle.masks.specs.Answer.{Answer, given, refused, decided, kept, unlessEmpty}
-use Rattle.masks.specs.Checks.{Check, check, rank, earlier, failure, firstFailed, limit, withinLimit, spanChecks, addressChecks}
+use Rattle.masks.specs.Checks.{Check, check, rank, placeIn, earlier, failure, firstFailed, limit, withinLimit, spanChecks, addressChecks}
 use mathlib.Core.Logic.{_⊎_, inl, inr, ⊎-elim}
 
 -- ---- a choice by a test, where the test is known
@@ -62,7 +62,7 @@ second-least (suc a) zero p q h = absurd (q refl)
 second-least (suc a) (suc b) p q h = second-one a b h
 
 -- the first of least rank among three, either way round
-earlier-assoc : (a b c : ℕ) → earlier (earlier a b) c ≡ earlier a (earlier b c)
+pub earlier-assoc : (a b c : ℕ) → earlier (earlier a b) c ≡ earlier a (earlier b c)
 earlier-assoc zero b c = ap (λ (x : ℕ). earlier x c) (none-earlier b) ∙ sym (none-earlier (earlier b c))
 earlier-assoc (suc a) zero c = ap (λ (x : ℕ). earlier x c) (earlier-none (suc a)) ∙ ap (earlier (suc a)) (sym (none-earlier c))
 earlier-assoc (suc a) (suc b) zero = earlier-none (earlier (suc a) (suc b)) ∙ ap (earlier (suc a)) (sym (earlier-none (suc b)))
@@ -246,14 +246,14 @@ and-right false y e = absurd (let z : _≡_ {A = ℕ} 0 1 = cc e in omega arith)
 
 -- the checks of a span: where start and length are within the limit, check 2 decides; else it is 1
 span-number : (a b t : Bool) → (a && b) ≡ true → cond t 0 2 ≡ earlier (cond a 0 1) (earlier (cond b 0 1) (earlier (cond t 0 2) 0))
-unfolding earlier
+unfolding earlier rank placeIn
 span-number true true true h = refl
 span-number true true false h = refl
 span-number true false t h = absurd (let z : _≡_ {A = ℕ} 0 1 = cc h in omega arith)
 span-number false b t h = absurd (let z : _≡_ {A = ℕ} 0 1 = cc h in omega arith)
 
 over-number : (a b t : Bool) → (a && b) ≡ false → 1 ≡ earlier (cond a 0 1) (earlier (cond b 0 1) (earlier (cond t 0 2) 0))
-unfolding earlier
+unfolding earlier rank placeIn
 over-number true true t h = absurd (let z : _≡_ {A = ℕ} 0 1 = cc h in omega arith)
 over-number true false true h = refl
 over-number true false false h = refl

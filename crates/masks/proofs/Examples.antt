@@ -9,7 +9,7 @@ use Rattle.words.specs.Ops.{zip3}
 use Rattle.masks.specs.Answer.{decided, kept}
 use Rattle.masks.specs.Appends.{allBelow, constantChecks, gatherChecks, gathered, repeated, spanGrowChecks}
 use Rattle.masks.specs.Builder.{appended, builderChecks, builderFlags, inProgress, possible}
-use Rattle.masks.specs.Checks.{earlier, firstFailed, outputChecks, spanChecks}
+use Rattle.masks.specs.Checks.{earlier, firstFailed, rank, placeIn, outputChecks, spanChecks}
 use Rattle.masks.specs.Combine.{eachBytes, eachOf, pairBytes, pairChecks, pairFlags, pairOf, selectChecks, shortcut}
 use Rattle.masks.specs.Compare.{edges, edgesOf}
 use Rattle.masks.specs.Cursor.{cursorChecks, listing}
@@ -26,7 +26,7 @@ pub all-hold : ExamplesHold
 unfolding
     examples
     bits wordOf flagsOf count copies window over anySet leading nthPlace zip3 xor
-    firstFailed earlier spanChecks outputChecks decided kept
+    firstFailed earlier rank placeIn spanChecks outputChecks decided kept
     maskChecks tryNewOf unsetBitsOf zeroCount zeros sliceOf sliceChecks pieceChecks cutZeros recounts keptCount
     packed frozen overFrom inProgress appended builderFlags possible builderChecks
     constantChecks spanGrowChecks gatherChecks allBelow gathered repeated frozenOver

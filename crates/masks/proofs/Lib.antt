@@ -3,6 +3,7 @@ pub mod Accepted
 pub mod AndNotFlag
 pub mod AnswerLaws
 pub mod AppendLaws
+pub mod AppendPlain
 pub mod AtIndexLaws
 pub mod BitmaskLaws
 pub mod CheckLaws
@@ -20,6 +21,8 @@ pub mod IteratorLaws
 pub mod LengthLaws
 pub mod Listing
 pub mod MaskLaws
+pub mod OrderLaws
+pub mod OrderRows
 pub mod PairPlain
 pub mod PartLaws
 pub mod PositionLaws
@@ -29,6 +32,7 @@ pub mod PushLaws
 pub mod Refusals
 pub mod RepeatLaws
 pub mod RoomLaws
+pub mod RuleRows
 pub mod RunLaws
 pub mod RunsPlain
 pub mod RunsWhole

@@ -8,7 +8,7 @@ use lib.Dec.{eqb, leb}
 use lib.ListN.{length}
 use borrow.Author.Tests.{le-leb, lt-leb, leb-true, leb-false, eq-eqb, ne-eqb}
 use Rattle.masks.specs.Answer.{Answer, given, refused, decided}
-use Rattle.masks.specs.Checks.{Check, check, firstFailed, limit, withinLimit, spanChecks}
+use Rattle.masks.specs.Checks.{Check, check, rank, placeIn, firstFailed, limit, withinLimit, spanChecks}
 use Rattle.masks.specs.Mask.{cutMask, cutZeros, slicedMask, sliceOf, sliceChecks, countValid, maskChecks, pieceChecks}
 use Rattle.masks.specs.Mask.{PieceAllowed, recounts, recountedOf, keptCount, slicedCount, recountValid, cutOf}
 use Rattle.masks.specs.declared.bitmap.Bitmap.{Bitmap}
@@ -91,7 +91,7 @@ cut-right old n cut u v e = go (recountValid old n cut u) e
 
 -- every number of a piece's checks is put before 7
 pub piece-before : (m : Bitmap) (bytes : List ℕ) (offset n : ℕ) → before 7 (pieceChecks m bytes offset n) ≡ true
-unfolding pieceChecks maskChecks spanChecks
+unfolding pieceChecks maskChecks spanChecks rank placeIn
 piece-before m bytes offset n = refl
 
 -- ---- the answer of a slice

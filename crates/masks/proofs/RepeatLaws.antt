@@ -1,23 +1,21 @@
 -- Flags repeated in turn, and their number taken exactly. Assumes nothing.
 use mathlib.Core.Path.{_≡_, refl, sym, ap, _∙_, subst}
-use mathlib.Core.Bool.{Bool, true, false, cond}
+use mathlib.Core.Bool.{Bool, true, false}
 use mathlib.Core.List.{List, [], _∷_, _++_, append-assoc, append-nil}
 use mathlib.Core.Logic.{_⊎_, inl, inr, ⊎-elim}
 use Prim.Native.Nat.{ℕ, zero, suc, _+_, _*_, _≤_, _<_}
 use native.Mathlib.Nat.{zero-mul, mul-zero, suc-mul, mul-one, mul-comm, mul-le-mul, mul-le-mul-right, le-mul-of-pos-right}
 use native.Mathlib.Omega.{arith}
-use lib.Dec.{leb}
 use lib.ListN.{length, getD, length-append}
 use borrow.Author.Tests.{lt-leb}
 use Rattle.words.specs.Flags.{copies, window}
 use Rattle.words.proofs.Windows.{length-copies, length-window, window-add}
 use Rattle.masks.specs.Appends.{repeated, SameOrOver, growChecks}
-use Rattle.masks.specs.Builder.{Filling, appended, possible, builderChecks, Room}
-use Rattle.masks.specs.Checks.{check, earlier, failure, firstFailed, limit, withinLimit, outputChecks}
+use Rattle.masks.specs.Builder.{Filling, appended, Room}
+use Rattle.masks.specs.Checks.{firstFailed, limit}
 use Rattle.masks.specs.declared.builder.BitmapBuilder.{BitmapBuilder}
 use Rattle.masks.proofs.AppendLaws.{append-then}
-use Rattle.masks.proofs.CheckLaws.{earlier-none, none-earlier, first-least}
-use Rattle.masks.proofs.RoomLaws.{room-after}
+use Rattle.masks.proofs.RoomLaws.{room-after, over-limit}
 
 -- ---- repeated flags
 
@@ -96,25 +94,12 @@ product-often k n h q = subst (SameOrOver k) (mul-comm k n) (product-long n k h 
 pub product-fits : (k n : ℕ) → k ≤ limit → n ≤ limit → n * k ≤ 17592186044416
 product-fits k n h q = mul-le-mul q h
 
--- over the limit check 1 decides, which is the first
-one-first : (x : ℕ) → earlier 1 x ≡ 1
-one-first zero = earlier-none 1
-one-first (suc x) = first-least 1 (suc x) (λ e. omega arith) (λ e. omega arith) (omega arith)
-
-then-one : (t : Bool) → earlier (cond t 0 1) 1 ≡ 1
-then-one true = none-earlier 1
-then-one false = one-first 1
-
-over-limit : (b : BitmapBuilder) (n size : ℕ) → limit < n → firstFailed (growChecks b n size) ≡ 1
-unfolding builderChecks firstFailed
-over-limit b n size h =
-    ap (λ (t : Bool). earlier (failure (withinLimit (b .length))) (earlier (cond t 0 1) (firstFailed (check 4 (possible b size) ∷ outputChecks (b .length + n) size))))
-    (lt-leb (b .length + n) limit (omega arith))
-    ∙ ap (earlier (failure (withinLimit (b .length)))) (one-first (firstFailed (check 4 (possible b size) ∷ outputChecks (b .length + n) size)))
-    ∙ then-one (leb (b .length) limit)
+-- over the limit check 1 decides
+too-long : (b : BitmapBuilder) (n size : ℕ) → limit < n → 1 ≡ firstFailed (growChecks b n size)
+too-long b n size h = over-limit b n size (lt-leb (b .length + n) limit (omega arith))
 
 pub exact-product : (b : BitmapBuilder) (r p size c : ℕ) → SameOrOver r p → c ≡ firstFailed (growChecks b r size) → c ≡ firstFailed (growChecks b p size)
 exact-product b r p size c h e = e ∙ ⊎-elim
     (λ (q : r ≡ p). ap (λ (x : ℕ). firstFailed (growChecks b x size)) q)
-    (λ (q : (limit < r) × (limit < p)). over-limit b r size (q .0) ∙ sym (over-limit b p size (q .1)))
+    (λ (q : (limit < r) × (limit < p)). sym (too-long b r size (q .0)) ∙ too-long b p size (q .1))
     h

@@ -16,13 +16,14 @@ use Rattle.words.proofs.Plain.{overAt-before, overAt-in}
 use Rattle.words.proofs.Windows.{length-window, window-add, window-ext, as-window, at-in, bits-window}
 use Rattle.masks.specs.Builder.{Filling, inProgress, appended, builderFlags, noneFrom, possible, builderChecks, Room}
 use Rattle.masks.specs.Appends.{innerChecks}
-use Rattle.masks.specs.Checks.{check, earlier, firstFailed, limit, withinLimit, spanChecks, outputChecks}
+use Rattle.masks.specs.Checks.{check, rank, placeIn, earlier, firstFailed, limit, withinLimit, spanChecks, outputChecks}
 use Rattle.masks.specs.Frozen.{packed, overFrom}
 use Rattle.masks.specs.Mask.{maskChecks, countValid}
 use Rattle.masks.specs.declared.bitmap.Bitmap.{Bitmap}
 use Rattle.masks.specs.declared.builder.BitmapBuilder.{BitmapBuilder}
 use Rattle.masks.proofs.AppendLaws.{Parts, grown, appended-grown, parts-of, parts-long, progress-of, word-back, length-progress}
-use Rattle.masks.proofs.CheckLaws.{when-le, one-check, earlier-none, and-left, and-right, first-allowed, rest-allowed, both-left, both-right, SpanAllowed, span-allowed}
+use Rattle.masks.proofs.CheckLaws.{one-check, earlier-none, none-earlier, first-least, and-left, and-right, first-allowed, rest-allowed, both-left, both-right, SpanAllowed, span-allowed}
+use Rattle.masks.proofs.OrderLaws.{leads, led}
 use Rattle.masks.proofs.FrozenLaws.{flags-packed, length-overFrom, flags-overFrom}
 
 -- ---- the number of a builder's checks, by the tests that decide it
@@ -35,20 +36,21 @@ and-all : (t : Bool) → (t && (true && true)) ≡ t
 and-all true = refl
 and-all false = refl
 
-one-first : (x : ℕ) → 1 ≡ earlier 1 x
-unfolding earlier
-one-first zero = refl
-one-first (suc x) = when-le 1 (suc x) 1 (suc x) (omega arith)
+-- check 1 is put before those of a builder and its buffer
+limit-leads : (p : Bool) (n size : ℕ) → leads 1 (check 4 p ∷ outputChecks n size) ≡ true
+unfolding outputChecks rank placeIn
+limit-leads p n size = refl
 
 pub over-limit : (b : BitmapBuilder) (n size : ℕ) → leb (b .length + n) limit ≡ false → 1 ≡ firstFailed (builderChecks b (b .length + n) size)
-unfolding firstFailed builderChecks earlier
+unfolding firstFailed builderChecks
 over-limit b n size e =
-    let behind = firstFailed (check 4 (possible b size) ∷ outputChecks (b .length + n) size) in
-    either (leb (b .length) limit) behind ∙ ap (λ (t : Bool). earlier (cond (leb (b .length) limit) 0 1) (earlier (cond t 0 1) behind)) (sym e)
+    let behind = check 4 (possible b size) ∷ outputChecks (b .length + n) size in
+    either (leb (b .length) limit) (firstFailed behind) (sym (led 0 behind (limit-leads (possible b size) (b .length + n) size)))
+    ∙ ap (λ (t : Bool). earlier (cond (leb (b .length) limit) 0 1) (earlier (cond t 0 1) (firstFailed behind))) (sym e)
   where
-    either : (t : Bool) (x : ℕ) → 1 ≡ earlier (cond t 0 1) (earlier 1 x)
-    either true x = one-first x
-    either false x = one-first (earlier 1 x)
+    either : (t : Bool) (x : ℕ) → 1 ≡ earlier 1 x → 1 ≡ earlier (cond t 0 1) (earlier 1 x)
+    either true x h = h ∙ sym (none-earlier (earlier 1 x))
+    either false x h = sym (first-least 1 1 (λ q. omega arith) (λ q. omega arith) (omega arith)) ∙ ap (earlier 1) h
 
 pub in-limit : (b : BitmapBuilder) (n size r : ℕ) → leb (b .length + n) limit ≡ true → r ≡ firstFailed (check 4 (possible b size) ∷ outputChecks (b .length + n) size)
     → r ≡ firstFailed (builderChecks b (b .length + n) size)
@@ -59,7 +61,7 @@ in-limit b n size r e p =
     (sym (le-leb (b .length) limit (omega arith))) (sym e)
 
 pub impossible : (t : Bool) (n size : ℕ) → t ≡ false → 4 ≡ firstFailed (check 4 t ∷ outputChecks n size)
-unfolding firstFailed outputChecks earlier
+unfolding firstFailed outputChecks earlier rank placeIn
 impossible t n size e = last (leb (8 * ((n + 63) / 64)) size) ∙ ap (λ (s : Bool). earlier (cond s 0 4) (firstFailed (outputChecks n size))) (sym e)
   where
     last : (t : Bool) → 4 ≡ earlier 4 (earlier (cond t 0 9) 0)

@@ -8,7 +8,7 @@ use Rattle.masks.specs.Appends.{allBelow, wordChecks, constantChecks, sp
 use Rattle.masks.specs.AtIndex.{andNotAtChecks, andNotAtOf, indexChecks, lengthChecks}
 use Rattle.masks.specs.Bitmask.{splitChecks, splitAt, windowAt}
 use Rattle.masks.specs.Builder.{builderChecks, possible}
-use Rattle.masks.specs.Checks.{earlier, firstFailed, spanChecks, addressChecks, outputChecks}
+use Rattle.masks.specs.Checks.{earlier, firstFailed, rank, placeIn, spanChecks, addressChecks, outputChecks}
 use Rattle.masks.specs.Chunks.{newChunks, nextChunk, chunksRemainder}
 use Rattle.masks.specs.Combine.{pairChecks, pairOf, eachOf, notChecks, selectChecks}
 use Rattle.masks.specs.Compare.{eqOf, edgesOf, commonChecks, commonOf}
@@ -27,7 +27,7 @@ use Rattle.masks.specs.Witnesses.{witnesses, Witnessed}
 
 pub witnessed : Witnessed
 unfolding
-    witnesses decided unlessEmpty firstFailed earlier bits count flagsOf window anySet zeros cutZeros recounts possible allBelow
+    witnesses decided unlessEmpty firstFailed earlier rank placeIn bits count flagsOf window anySet zeros cutZeros recounts possible allBelow
     spanChecks addressChecks outputChecks alignedChecks cursorChecks splitChecks builderChecks wordChecks constantChecks
     spanGrowChecks innerChecks subsliceChecks gatherChecks
     maskChecks zeroedChecks pieceChecks sliceChecks pairChecks notChecks selectChecks commonChecks newTrueChecks trueChecks

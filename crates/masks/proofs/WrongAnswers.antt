@@ -20,7 +20,7 @@ use Rattle.masks.specs.Appends.{allBelow, constantChecks, gatherChecks, 
 use Rattle.masks.specs.AtIndex.{andNotAtChecks, andNotAtOf, andNotFlag, flagOr, indexChecks, lengthChecks}
 use Rattle.masks.specs.Bitmask.{splitAt, splitChecks, windowAt, windowWord}
 use Rattle.masks.specs.Builder.{appended, builderChecks, builderFlags, inProgress, possible}
-use Rattle.masks.specs.Checks.{addressChecks, earlier, firstFailed, outputChecks, spanChecks}
+use Rattle.masks.specs.Checks.{addressChecks, earlier, firstFailed, rank, placeIn, outputChecks, spanChecks}
 use Rattle.masks.specs.Chunks.{chunkStep, chunkWord, chunksRemainder, newChunks, nextChunk, remainderWord}
 use Rattle.masks.specs.Combine.{eachBytes, eachOf, notChecks, pairBytes, pairChecks, pairFlags, pairMask, pairOf, selectChecks, shortcut}
 use Rattle.masks.specs.Compare.{commonChecks, commonOf, edges, edgesOf, eqOf}
@@ -140,7 +140,7 @@ combineCode = writing (plain maskCode)
 pub spans-ruled-out : WrongSpans
 unfolding
     sameCode bits wordOf flagsOf count window leading trailing nthPlace zeros
-    firstFailed earlier spanChecks addressChecks alignedChecks cursorChecks splitChecks decided unlessEmpty
+    firstFailed earlier rank placeIn spanChecks addressChecks alignedChecks cursorChecks splitChecks decided unlessEmpty
     alignedOf prefixLength bulkStart bulkOffset spanCount newChunks nextChunk chunkStep chunkWord chunksRemainder remainderWord
     splitAt windowAt windowWord searchFrom searchBack nthFrom nthBack
 spans-ruled-out =
@@ -165,7 +165,7 @@ spans-ruled-out =
 pub builders-ruled-out : WrongBuilders
 unfolding
     sameCode bits wordOf flagsOf count copies window over anySet
-    firstFailed earlier spanChecks outputChecks builderChecks possible decided kept
+    firstFailed earlier rank placeIn spanChecks outputChecks builderChecks possible decided kept
     wordChecks constantChecks spanGrowChecks innerChecks subsliceChecks maskChecks gatherChecks allBelow gathered repeated
     inProgress appended packed overFrom builderFlags frozen frozenOver
 builders-ruled-out =
@@ -187,7 +187,7 @@ builders-ruled-out =
 pub masks-ruled-out : WrongMasks
 unfolding
     sameCode bits wordOf flagsOf count copies window over zip3 zipWith sameFlags xor
-    firstFailed earlier spanChecks outputChecks maskChecks zeroedChecks pieceChecks sliceChecks pairChecks notChecks selectChecks commonChecks
+    firstFailed earlier rank placeIn spanChecks outputChecks maskChecks zeroedChecks pieceChecks sliceChecks pairChecks notChecks selectChecks commonChecks
     decided kept zeroCount zeros cutZeros recounts keptCount packed frozen
     tryNewOf newZeroedOf newZeroedBytes sliceOf unsetBitsOf pairOf pairBytes pairMask pairFlags shortcut eachOf eachBytes
     eqOf edgesOf edges commonOf andNotAtOf andNotAtChecks indexChecks lengthChecks andNotFlag flagOr
@@ -224,7 +224,7 @@ masks-ruled-out =
 pub cursors-ruled-out : WrongCursors
 unfolding
     sameCode bits flagsOf count copies window leading nthPlace
-    firstFailed earlier spanChecks cursorChecks maskChecks newTrueChecks trueChecks decided unlessEmpty
+    firstFailed earlier rank placeIn spanChecks cursorChecks maskChecks newTrueChecks trueChecks decided unlessEmpty
     newSlices nextSlice sliceStep runStart leadingFrom newIter nthFlag flagStep takeLeading
     newTrue firstTrue nextTrue trueStep trueFlags nthFrom nextPositions positionsOver placeBehind onesLeft onesFrom over kept
 cursors-ruled-out =

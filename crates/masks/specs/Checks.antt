@@ -5,7 +5,7 @@
 use Prim.Native.Nat.{ℕ, zero, suc, _+_, _*_, _/_}
 use mathlib.Core.Bool.{Bool, true, false, cond}
 use mathlib.Core.List.{List, [], _∷_, _++_}
-use lib.Dec.{leb}
+use lib.Dec.{leb, eqb}
 
 pub record Check : Type 0 where
   pub number : ℕ
@@ -14,9 +14,31 @@ pub record Check : Type 0 where
 abbrev pub check : ℕ → Bool → Check
 check n t = record { number = n; holds = t }
 
--- the order of the checks
-abbrev pub rank : ℕ → ℕ
-rank n = n
+-- ---- the order of the checks
+
+-- the numbers in the order in which they decide, the first one first; a later number is put between two others by a row
+abbrev pub order : List ℕ
+order =
+    1
+    ∷ 2
+    ∷ 3
+    ∷ 4
+    ∷ 5
+    ∷ 6
+    ∷ 7
+    ∷ 8
+    ∷ 9
+    ∷ []
+
+-- the place of a number in a list, counted from 0; the list's length where it is not there
+unfoldable pub placeIn : List ℕ → ℕ → ℕ
+placeIn [] n = 0
+placeIn (m ∷ ms) n = cond (eqb n m) 0 (suc (placeIn ms n))
+
+unfoldable pub rank : ℕ → ℕ
+rank n = placeIn order n
+
+-- ---- the first failed check
 
 -- of two numbers, each 0 where nothing failed, the one that is put first
 unfoldable pub earlier : ℕ → ℕ → ℕ

@@ -1,6 +1,7 @@
 -- What the contracts of this crate mean. `Checks`, `Answer` and `Mask` are read first.
 pub mod Aligned
 pub mod Answer
+pub mod AppendPlain
 pub mod Appends
 pub mod AtIndex
 pub mod Bitmask
@@ -15,8 +16,10 @@ pub mod Freeze
 pub mod Frozen
 pub mod Iterator
 pub mod Mask
+pub mod OrderRows
 pub mod Positions
 pub mod Refusals
+pub mod RuleRows
 pub mod Search
 pub mod SliceIterator
 pub mod TrueCounts
