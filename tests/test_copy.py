@@ -9,7 +9,7 @@ An EDIT is a file in the form of the must-fail edits: `file: src/x.rt`, then pai
 the file. A `file:` of an edit below crates/NAME is of that crate; elsewhere it is written from the repository on (`file: crates/masks/src/x.rt`).
 Several edits are tried one by one, each in a fresh copy; `A.edit+B.edit` applies two together. An edit that touches no file of src/ is left out.
 
-A copy has the sources alone. The program is compiled as `rt try` compiles it, at -O3, with no proof, and run on its file `stdin` (or FILE):
+A copy has the sources alone. The program is compiled as `rt try` compiles it, but at -O1, with no proof, and run on its file `stdin` (or FILE):
 the interpreter, with its limit of ten million steps, is not waited for. What it prints is compared with the file `stdout` of the repository
 (or --expect FILE, `-` for what the unedited sources print). --show prints the first differing lines.
 
@@ -96,13 +96,13 @@ def apply(copy, edits):
 
 
 def toolchain(folder, program):
-    """The kit's tools behind scripts: the first module is compiled at -O3 and what is linked is kept; then nothing more is compiled."""
+    """The kit's tools behind scripts: the first module is compiled at -O1 and what is linked is kept; then nothing more is compiled."""
     _, own = kit()
     tools = own / "toolchain"
     (folder / "bin").mkdir(parents=True)
     os.symlink(tools / "lib", folder / "lib")
     os.symlink(tools / "bin" / "llvm-ar", folder / "bin" / "llvm-ar")
-    clang = f'[ -e "{program}" ] && exit 1\nexec "{tools}/bin/clang" "${{@/#-O0/-O3}}"\n'
+    clang = f'[ -e "{program}" ] && exit 1\nexec "{tools}/bin/clang" "${{@/#-O0/-O1}}"\n'
     link = f'"{tools}/bin/ld.lld" "$@" || exit $?\ncp program "{program}"\n'
     for name, text in ("clang", clang), ("ld.lld", link):
         path = folder / "bin" / name
