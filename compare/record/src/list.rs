@@ -1,42 +1,49 @@
 //! The list: its lines, and how many records of each call there are.
 
+use crate::lines::{Lent, Token};
 use std::fmt::Write;
 
-/// The calls in the order of crates/replay's names.rt, in which the program prints them.
-const CALLS: [&str; 44] = [
+/// The calls that are recorded, in the order of crates/requests' names.rt, in which the program prints them.
+const CALLS: [&str; 49] = [
     "merge_reversed",
     "nth_set_bit_u32",
     "nth_set_bit_u64",
+    "AlignedBitmapSlice::new",
+    "split_at_unchecked",
+    "get_u32",
+    "nth_set_bit_idx",
+    "nth_set_bit_idx_rev",
     "count_zeros",
     "leading_zeros",
     "leading_ones",
     "trailing_zeros",
     "trailing_ones",
-    "AlignedBitmapSlice",
-    "BitChunks",
-    "BitChunksExact",
-    "split_at_unchecked",
-    "get_u32",
-    "nth_set_bit_idx",
-    "nth_set_bit_idx_rev",
-    "SlicesIterator",
-    "BitmapIter",
-    "TrueIdxIter",
-    "TrueIdxIter_without_mask",
-    "push",
-    "extend_constant",
-    "push_word_with_len_unchecked",
-    "extend_from_slice",
-    "extend_each_repeated_from_slice_unchecked",
-    "subslice_extend_from_bitmap",
-    "gather_extend_from_slice",
-    "opt_gather_extend_from_slice",
-    "freeze",
-    "into_opt_validity",
-    "new_zeroed",
+    "BitChunks::new",
+    "BitChunksExact::new",
+    "BitChunks::next",
+    "remainder",
     "try_new",
     "slice",
     "unset_bits",
+    "num_edges",
+    "eq",
+    "num_intersections_with",
+    "SlicesIterator::new",
+    "SlicesIterator::next",
+    "TrueIdxIter::new",
+    "TrueIdxIter::next",
+    "nth",
+    "take_leading_ones",
+    "take_leading_zeros",
+    "push",
+    "push_word_with_len_unchecked",
+    "extend_constant",
+    "freeze",
+    "into_opt_validity",
+    "new_zeroed",
+    "extend_from_slice",
+    "extend_each_repeated_from_slice_unchecked",
+    "subslice_extend_from_bitmap",
     "and",
     "and_not",
     "or",
@@ -45,14 +52,13 @@ const CALLS: [&str; 44] = [
     "not",
     "select",
     "select_constant",
-    "eq",
-    "num_edges",
-    "num_intersections_with",
+    "gather_extend_from_slice",
+    "opt_gather_extend_from_slice",
 ];
 
-/// Numbers in a row, each behind a space.
+/// Numbers in a row.
 #[derive(Default)]
-pub struct Numbers(String);
+pub struct Numbers(Vec<Token>);
 
 impl Numbers {
     pub fn of(numbers: &[usize]) -> Self {
@@ -60,17 +66,12 @@ impl Numbers {
     }
 
     pub fn number(mut self, n: usize) -> Self {
-        write!(self.0, " {n}").unwrap();
+        self.0.push(Some(n as u64));
         self
     }
 
-    /// Decimal where the number is small, so that it fits what is read as one.
-    pub fn large(self, n: usize) -> Self {
-        if n < 1 << 59 { self.number(n) } else { self.word(n as u64) }
-    }
-
     pub fn word(mut self, w: u64) -> Self {
-        write!(self.0, " x{w:x}").unwrap();
+        self.0.push(Some(w));
         self
     }
 
@@ -79,7 +80,7 @@ impl Numbers {
         match zeros {
             Some(zeros) => self.number(zeros),
             None => {
-                self.0.push_str(" ?");
+                self.0.push(None);
                 self
             }
         }
@@ -97,12 +98,13 @@ impl Numbers {
 
 pub struct List {
     text: String,
-    records: [usize; CALLS.len()],
+    lent: Lent,
+    requests: [usize; CALLS.len()],
 }
 
 impl List {
     pub fn new() -> Self {
-        Self { text: String::new(), records: [0; CALLS.len()] }
+        Self { text: String::new(), lent: Lent::default(), requests: [0; CALLS.len()] }
     }
 
     pub fn comment(&mut self, text: &str) {
@@ -111,7 +113,15 @@ impl List {
 
     /// The bytes that the records below are asked about: x, y or z.
     pub fn lend(&mut self, letter: char, bytes: &[u8]) {
-        write!(self.text, "{letter} ").unwrap();
+        match letter {
+            'x' => self.lent.x = bytes.to_vec(),
+            'z' => self.lent.z = bytes.to_vec(),
+            _ => (),
+        }
+        self.text.push(letter);
+        if !bytes.is_empty() {
+            self.text.push(' ');
+        }
         for byte in bytes {
             write!(self.text, "{byte:02x}").unwrap();
         }
@@ -119,9 +129,11 @@ impl List {
     }
 
     pub fn record(&mut self, call: &str, request: Numbers, answer: Numbers) {
-        let place = CALLS.iter().position(|&name| name == call).expect("a call of the table");
-        self.records[place] += 1;
-        writeln!(self.text, "{call}{} ={}", request.0, answer.0).unwrap();
+        let lines = self.lent.lines(call, &request.0, &answer.0);
+        for call in lines.calls {
+            self.requests[CALLS.iter().position(|&name| name == call).expect("a call of the table")] += 1;
+        }
+        self.text.push_str(&lines.text);
     }
 
     pub fn text(&self) -> &str {
@@ -131,11 +143,13 @@ impl List {
     /// What the program prints where no answer differs.
     pub fn totals(&self) -> String {
         let mut totals = String::new();
-        for (call, records) in CALLS.iter().zip(self.records) {
-            assert!(records > 0, "no record of {call}");
-            writeln!(totals, "{call}: {records} records, 0 differ").unwrap();
+        for (call, requests) in CALLS.iter().zip(self.requests) {
+            assert!(requests > 0, "no request of {call}");
+            writeln!(totals, "{call}: {requests} requests, {requests} calls, 0 differ").unwrap();
         }
-        writeln!(totals, "total: {} records, 0 differ", self.records.iter().sum::<usize>()).unwrap();
+        let all = self.requests.iter().sum::<usize>();
+        writeln!(totals, "total: {all} requests, {all} calls, 0 differ").unwrap();
+        writeln!(totals, "requests with no answer: 0").unwrap();
         writeln!(totals, "malformed lines: 0").unwrap();
         totals
     }

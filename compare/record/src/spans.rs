@@ -110,10 +110,10 @@ fn searches(list: &mut List, draw: &mut Draw, x: &[u8]) {
         let mask = BitMask::new(x, start, length);
         let index = if i % 16 == 0 { draw.pick(&[1 << 40, 1 << 63, usize::MAX - 256]) } else { draw.below(length + 40) };
         let answer = Numbers::default().word(mask.get_u32(index) as u64);
-        list.record("get_u32", Numbers::of(&[start, length]).large(index), answer);
+        list.record("get_u32", Numbers::of(&[start, length]).number(index), answer);
         let n = if i % 16 == 1 { usize::MAX - i } else { draw.below(mask.set_bits() + 3) };
         let from = if draw.flag() { draw.below(length + 40) } else { draw.below(40) };
-        let request = |place: usize| Numbers::of(&[start, length]).large(n).number(place);
+        let request = |place: usize| Numbers::of(&[start, length]).number(n).number(place);
         list.record("nth_set_bit_idx", request(from), found(mask.nth_set_bit_idx(n, from)));
         let end = if draw.flag() { draw.below(length + 40) } else { length + draw.below(500) };
         list.record("nth_set_bit_idx_rev", request(end), found(mask.nth_set_bit_idx_rev(n, end)));

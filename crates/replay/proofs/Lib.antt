@@ -1,2 +1,0 @@
--- The laws of the crate.
-pub mod SameLaws

@@ -1,0 +1,66 @@
+// Digits, and bytes in a text.
+ghost use mathlib.Core.Path.{_≡_};
+ghost use Prim.Native.Nat.{_≤_};
+ghost use lib.ListN.{length};
+
+// The value of a digit, 16 for what is none.
+pub fn digit(b: u8) -> u64
+    ensures { λ r. ⌜ r ≤ 16 ⌝ }
+{
+    if b < b'0' {
+        return 16;
+    }
+    if b <= b'9' {
+        return wide(b - b'0');
+    }
+    if b < b'a' {
+        return 16;
+    }
+    if b <= b'f' {
+        return wide(b - b'a') + 10;
+    }
+    16
+}
+
+fn wide(x: u8) -> u64
+    ensures { λ r. ⌜ r ≡ x ⌝ }
+{
+    x as u64
+}
+
+// Byte i, 0 where there is none.
+pub fn at(text: &[u8], i: usize) -> u8 {
+    if i < text.len() { text[i] } else { 0 }
+}
+
+// Where the byte first stands, or the text ends.
+pub fn find(text: &[u8], b: u8) -> usize
+    ensures { λ r. ⌜ r ≤ length (now (text .entry)) ⌝ }
+{
+    let mut i = 0;
+    while i < text.len() {
+        if text[i] == b {
+            return i;
+        }
+        i += 1;
+    }
+    i
+}
+
+// The text behind its first k bytes.
+pub fn behind(text: &[u8], k: usize) -> &[u8] {
+    if k <= text.len() {
+        &text[k..]
+    } else {
+        &text[0..0]
+    }
+}
+
+// The first k bytes.
+pub fn before(text: &[u8], k: usize) -> &[u8] {
+    if k <= text.len() {
+        &text[0..k]
+    } else {
+        &text[0..0]
+    }
+}

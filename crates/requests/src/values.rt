@@ -1,0 +1,206 @@
+// The numbers of a request and of an answer, as arrays by value: what makes a call then lends nothing but the call's own bytes.
+//
+// Of a request `[u64; 24]`: the call's arguments from place 0 on, at most nine; at UNKNOWN a bit for each of them that is `?`; from SIZES
+// on how many of x, y, z, o and i are lent.
+// Of an answer `[u64; 12]`: its tokens from place 0 on, at most eight; at TOKENS how many they are, at UNKNOWNS a bit for each that is
+// `?`, at NONES one for each that is `-`.
+ghost use Prim.Native.Nat.{_≤_};
+use masks::bitmap::Bitmap;
+use masks::bitmap::Optional;
+use masks::bitmap::Unset;
+use masks::builder::BitmapBuilder;
+
+pub const UNKNOWN: usize = 11;
+
+pub const SIZES: usize = 16;
+
+pub const TOKENS: usize = 8;
+
+pub const UNKNOWNS: usize = 9;
+
+pub const NONES: usize = 10;
+
+// Argument i.
+pub fn word(v: [u64; 24], i: usize) -> u64 {
+    v[i % 24]
+}
+
+pub fn size(v: [u64; 24], i: usize) -> usize {
+    v[i % 24] as usize
+}
+
+pub fn flag(v: [u64; 24], i: usize) -> bool {
+    v[i % 24] != 0
+}
+
+pub fn low(v: [u64; 24], i: usize) -> u32 {
+    (v[i % 24] % 4294967296) as u32
+}
+
+// The mask of the arguments i, i + 1 and i + 2.
+pub fn mask(v: [u64; 24], i: usize) -> Bitmap {
+    let at = i % 8;
+    let unset = count(v[at + 2], (v[UNKNOWN] >> (at + 2)) % 2 == 1);
+    Bitmap {
+        start: v[at] as usize,
+        length: v[at + 1] as usize,
+        unset: unset,
+    }
+}
+
+fn count(zeros: u64, unknown: bool) -> Unset {
+    if unknown {
+        Unset::Unknown
+    } else {
+        Unset::Known(zeros as usize)
+    }
+}
+
+// The mask behind argument i, if that is not 0.
+pub fn optional(v: [u64; 24], i: usize) -> Optional {
+    let at = i % 8;
+    if v[at] == 0 {
+        Optional::Absent
+    } else {
+        Optional::Present(mask(v, at + 1))
+    }
+}
+
+// The builder of the first three arguments.
+pub fn builder(v: [u64; 24]) -> BitmapBuilder {
+    BitmapBuilder {
+        length: v[0] as usize,
+        word: v[1],
+        ones: v[2] as usize,
+    }
+}
+
+pub fn big(n: usize) -> u64 {
+    n as u64
+}
+
+pub fn wide(x: u32) -> u64 {
+    x as u64
+}
+
+pub fn byte(x: u8) -> u64 {
+    x as u64
+}
+
+pub fn digit(flag: bool) -> u64 {
+    if flag { 1 } else { 0 }
+}
+
+// An answer of the first n of six numbers.
+pub fn tokens(n: u64, a: u64, b: u64, c: u64, d: u64, e: u64, f: u64) -> [u64; 12] {
+    [a, b, c, d, e, f, 0, 0, n, 0, 0, 0]
+}
+
+// A call that gives nothing.
+pub fn nothing() -> [u64; 12] {
+    tokens(1, 0, 0, 0, 0, 0, 0)
+}
+
+pub fn one(a: u64) -> [u64; 12] {
+    tokens(2, 0, a, 0, 0, 0, 0)
+}
+
+pub fn two(a: u64, b: u64) -> [u64; 12] {
+    tokens(3, 0, a, b, 0, 0, 0)
+}
+
+// None, where one number would be.
+pub fn none() -> [u64; 12] {
+    [0, 0, 0, 0, 0, 0, 0, 0, 2, 0, 2, 0]
+}
+
+pub fn refused(number: u8) -> [u64; 12] {
+    tokens(1, byte(number), 0, 0, 0, 0, 0)
+}
+
+// A builder, behind 0 or the refusing number.
+pub fn built(number: u8, b: BitmapBuilder) -> [u64; 12] {
+    tokens(4, byte(number), big(b.length), b.word, big(b.ones), 0, 0)
+}
+
+// A mask, behind 0 or the refusing number.
+pub fn masked(number: u8, m: Bitmap) -> [u64; 12] {
+    let unset = m.unset;
+    [
+        byte(number),
+        big(m.start),
+        big(m.length),
+        known(unset),
+        0,
+        0,
+        0,
+        0,
+        4,
+        8 * unknown(unset),
+        0,
+        0,
+    ]
+}
+
+// A number, and a mask.
+pub fn counted(zeros: usize, m: Bitmap) -> [u64; 12] {
+    let unset = m.unset;
+    [
+        0,
+        big(zeros),
+        big(m.start),
+        big(m.length),
+        known(unset),
+        0,
+        0,
+        0,
+        5,
+        16 * unknown(unset),
+        0,
+        0,
+    ]
+}
+
+fn known(unset: Unset) -> u64 {
+    match unset {
+        Unset::Known(zeros) => zeros as u64,
+        Unset::Unknown => 0,
+    }
+}
+
+fn unknown(unset: Unset) -> u64
+    ensures { λ r. ⌜ r ≤ 1 ⌝ }
+{
+    match unset {
+        Unset::Known(_) => 0,
+        Unset::Unknown => 1,
+    }
+}
+
+// A cursor, behind 0 or the refusing number.
+pub fn cursor(number: u8, start: usize, length: usize, place: usize) -> [u64; 12] {
+    tokens(4, byte(number), big(start), big(length), big(place), 0, 0)
+}
+
+// A number, and the cursor behind it.
+pub fn given(value: u64, start: usize, length: usize, place: usize) -> [u64; 12] {
+    tokens(5, 0, value, big(start), big(length), big(place), 0)
+}
+
+// None, and the cursor at its end.
+pub fn ended(start: usize, length: usize, place: usize) -> [u64; 12] {
+    [
+        0,
+        0,
+        big(start),
+        big(length),
+        big(place),
+        0,
+        0,
+        0,
+        5,
+        0,
+        2,
+        0,
+    ]
+}
