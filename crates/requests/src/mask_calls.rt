@@ -3,6 +3,8 @@ use crate::span_calls;
 use crate::values;
 use dispatch::dispatch::Reassign;
 use dispatch::dispatch::may_reassign;
+use masks::at_index::FlagAt;
+use masks::at_index::and_not_at;
 use masks::bitmap::Bitmap;
 use masks::bitmap::Counting;
 use masks::bitmap::Made;
@@ -37,6 +39,13 @@ pub fn comparing(call: usize, v: [u64; 24], x: &[u8], y: &[u8]) -> [u64; 12] {
             x,
             values::mask(v, 3),
             y,
+        )),
+        2 => flag_at(and_not_at(
+            values::optional(v, 0),
+            x,
+            values::optional(v, 4),
+            y,
+            values::size(v, 8),
         )),
         _ => may(may_reassign(
             values::optional(v, 0),
@@ -109,6 +118,13 @@ fn compared(r: Compared) -> [u64; 12] {
     match r {
         Compared::Equal(equal) => values::one(values::digit(equal)),
         Compared::Refused(number) => values::refused(number),
+    }
+}
+
+fn flag_at(r: FlagAt) -> [u64; 12] {
+    match r {
+        FlagAt::Flag(flag) => values::one(values::digit(flag)),
+        FlagAt::Refused(number) => values::refused(number),
     }
 }
 

@@ -25,7 +25,7 @@ fn words_row(r: usize) -> [u8; 144] {
             b"2-constant_flags 1-ones_in_word 2-ones_below 2-none_from 3-leading_in_word 3-trailing_in_word 4-combine_word ",
         ),
         2 => padded(
-            b"2-and_word 2-and_not_word 2-or_word 2-or_not_word 2-xor_word 1-not_word 3-select_word 3-select_constant_word ",
+            b"2-and_word 2-and_not_word 2-or_word 2-or_not_word 2-xor_word 1-not_word 3-select_word ",
         ),
         3 => padded(b"0-load_padded_le_u64 1-byte_word 1-word_from 1-flag_at 2-count_ones "),
         _ => padded(b"3-equal 5-count_ones_of 5-any_set "),

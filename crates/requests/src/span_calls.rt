@@ -7,6 +7,7 @@ use masks::bitmask::Parts;
 use masks::bitmask::Position;
 use masks::bitmask::Window;
 use masks::chunks::BitChunks;
+use masks::chunks::BitChunksExact;
 use masks::chunks::Chunk;
 use masks::chunks::Chunks;
 use masks::chunks::Remainder;
@@ -111,7 +112,7 @@ pub fn chunks(call: usize, v: [u64; 24], x: &[u8]) -> [u64; 12] {
     };
     match call {
         0 => made(BitChunks::new(x, first, second)),
-        1 => made(BitChunks::new_exact(x, first)),
+        1 => made(BitChunksExact::new(x, first)),
         2 => chunk(c.next(x)),
         _ => rest(c.remainder(x)),
     }

@@ -84,8 +84,7 @@ pub fn operation(call: usize, v: [u64; 24]) -> [u64; 12] {
         3 => values::one(ops::or_not_word(p, q)),
         4 => values::one(ops::xor_word(p, q)),
         5 => values::one(ops::not_word(p)),
-        6 => values::one(ops::select_word(p, q, r)),
-        _ => values::one(ops::select_constant_word(p, q, values::flag(v, 2))),
+        _ => values::one(ops::select_word(p, q, r)),
     }
 }
 
