@@ -8,7 +8,7 @@ use masks::builder::Made;
 use masks::builder::Pushed;
 use masks::builder::Validity;
 
-pub fn answer(call: usize, v: [u64; 24], buf: &mut [u8]) -> [u64; 12] {
+pub(crate) fn answer(call: usize, v: [u64; 24], buf: &mut [u8]) -> [u64; 12] {
     let b = values::builder(v);
     match call {
         0 => appended(b.push(buf, values::flag(v, 3))),
@@ -22,7 +22,7 @@ pub fn answer(call: usize, v: [u64; 24], buf: &mut [u8]) -> [u64; 12] {
 }
 
 // Appends that read x.
-pub fn extending(call: usize, v: [u64; 24], x: &[u8], buf: &mut [u8]) -> [u64; 12] {
+pub(crate) fn extending(call: usize, v: [u64; 24], x: &[u8], buf: &mut [u8]) -> [u64; 12] {
     let b = values::builder(v);
     let first = values::size(v, 3);
     let second = values::size(v, 4);
@@ -46,7 +46,13 @@ pub fn extending(call: usize, v: [u64; 24], x: &[u8], buf: &mut [u8]) -> [u64; 1
 }
 
 // Appends that read x at indices.
-pub fn gathering(call: usize, v: [u64; 24], x: &[u8], idxs: &[u32], buf: &mut [u8]) -> [u64; 12] {
+pub(crate) fn gathering(
+    call: usize,
+    v: [u64; 24],
+    x: &[u8],
+    idxs: &[u32],
+    buf: &mut [u8],
+) -> [u64; 12] {
     let b = values::builder(v);
     let start = values::size(v, 3);
     let n = values::size(v, 4);

@@ -10,7 +10,7 @@ use crate::words_calls;
 pub const ROOM: usize = 524352;
 
 // The first `size` of the bytes at a place.
-pub fn part(inputs: &[u8], place: usize, size: usize) -> &[u8] {
+pub(crate) fn part(inputs: &[u8], place: usize, size: usize) -> &[u8] {
     let first = place % 4 * ROOM;
     let end = first + size % 1048576;
     if end <= inputs.len() {
@@ -32,7 +32,7 @@ fn z(inputs: &[u8], v: [u64; 24]) -> &[u8] {
     part(inputs, 2, values::size(v, 18))
 }
 
-pub fn answer(
+pub(crate) fn answer(
     call: usize,
     v: [u64; 24],
     inputs: &[u8],

@@ -12,7 +12,7 @@ use masks::true_idx::TrueIdx;
 use masks::true_idx::TrueIdxIter;
 use masks::true_idx::TrueIter;
 
-pub fn answer(call: usize, v: [u64; 24], x: &[u8]) -> [u64; 12] {
+pub(crate) fn answer(call: usize, v: [u64; 24], x: &[u8]) -> [u64; 12] {
     match call {
         0 => slices(SlicesIterator::new(values::mask(v, 0), x)),
         1 => slice(runs(v).next(x)),
@@ -21,7 +21,7 @@ pub fn answer(call: usize, v: [u64; 24], x: &[u8]) -> [u64; 12] {
     }
 }
 
-pub fn flags(call: usize, v: [u64; 24], x: &[u8]) -> [u64; 12] {
+pub(crate) fn flags(call: usize, v: [u64; 24], x: &[u8]) -> [u64; 12] {
     let c = BitmapIter {
         start: values::size(v, 0),
         length: values::size(v, 1),
@@ -36,7 +36,7 @@ pub fn flags(call: usize, v: [u64; 24], x: &[u8]) -> [u64; 12] {
     }
 }
 
-pub fn chunk(v: [u64; 24], x: &[u8], out: &mut [u32]) -> [u64; 12] {
+pub(crate) fn chunk(v: [u64; 24], x: &[u8], out: &mut [u32]) -> [u64; 12] {
     wrote(positions(v).next_chunk(x, out))
 }
 

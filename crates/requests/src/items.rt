@@ -105,7 +105,7 @@ fn begun() -> Items {
     }
 }
 
-pub fn read(text: &[u8], list: &mut [u64]) -> Items {
+pub(crate) fn read(text: &[u8], list: &mut [u64]) -> Items {
     let mut r = begun();
     let mut i = 0;
     while i < text.len() {
@@ -397,7 +397,7 @@ fn next_of_last(r: Items, kind: u64, value: u64, list: &mut [u64]) -> Items {
 }
 
 // Keeps an answer.
-pub fn keep(list: &mut [u64], answer: [u64; 12]) {
+pub(crate) fn keep(list: &mut [u64], answer: [u64; 12]) {
     let mut i: usize = 0;
     while i < 12 {
         put(list, KEPT + i, answer[i]);
@@ -406,7 +406,7 @@ pub fn keep(list: &mut [u64], answer: [u64; 12]) {
 }
 
 // The answer that is kept.
-pub fn kept(list: &[u64]) -> [u64; 12] {
+pub(crate) fn kept(list: &[u64]) -> [u64; 12] {
     let mut answer = [0u64; 12];
     let mut i: usize = 0;
     while i < 12 {
@@ -416,26 +416,26 @@ pub fn kept(list: &[u64]) -> [u64; 12] {
     answer
 }
 
-pub fn get(list: &[u64], at: usize) -> u64 {
+pub(crate) fn get(list: &[u64], at: usize) -> u64 {
     if at < list.len() { list[at] } else { 0 }
 }
 
-pub fn put(list: &mut [u64], at: usize, value: u64) {
+pub(crate) fn put(list: &mut [u64], at: usize, value: u64) {
     if at < list.len() {
         list[at] = value;
     }
 }
 
 // Of item j its kind, its first number, how many values it has.
-pub fn kind(list: &[u64], j: usize) -> u64 {
+pub(crate) fn kind(list: &[u64], j: usize) -> u64 {
     get(list, j % MOST * 4)
 }
 
-pub fn first(list: &[u64], j: usize) -> u64 {
+pub(crate) fn first(list: &[u64], j: usize) -> u64 {
     get(list, j % MOST * 4 + 1)
 }
 
-pub fn count(list: &[u64], j: usize) -> u64 {
+pub(crate) fn count(list: &[u64], j: usize) -> u64 {
     get(list, j % MOST * 4 + 2)
 }
 
@@ -443,7 +443,7 @@ pub fn count(list: &[u64], j: usize) -> u64 {
 pub const LEFT: usize = 12;
 
 // Choice `t` of the arguments, the last token the fastest, over the sizes of `whole`.
-pub fn choice(list: &[u64], tokens: usize, t: u64, whole: [u64; 24]) -> [u64; 24] {
+pub(crate) fn choice(list: &[u64], tokens: usize, t: u64, whole: [u64; 24]) -> [u64; 24] {
     let mut v = whole;
     let mut unknown: u64 = 0;
     let mut rest = t;
@@ -530,7 +530,7 @@ fn unknown_bit(kind: u64, k: usize) -> u64 {
 }
 
 // Whether the items from `from` to `end` are an answer.
-pub fn same(list: &[u64], from: usize, end: usize, answer: [u64; 12]) -> bool {
+pub(crate) fn same(list: &[u64], from: usize, end: usize, answer: [u64; 12]) -> bool {
     let mut i = from;
     let mut token = 0;
     let mut good = true;

@@ -26,7 +26,7 @@ pub struct State {
     pub printed: u64,
 }
 
-pub fn new() -> State {
+pub(crate) fn new() -> State {
     State {
         x: 0,
         y: 0,
@@ -45,7 +45,7 @@ pub fn new() -> State {
 }
 
 // One line more.
-pub fn line(
+pub(crate) fn line(
     s: State,
     line: &[u8],
     inputs: &mut [u8],
@@ -90,7 +90,7 @@ fn kind(line: &[u8]) -> u8 {
 }
 
 // A line that has no place.
-pub fn too_long(mut s: State) -> State {
+pub(crate) fn too_long(mut s: State) -> State {
     s.lines = tally::sum(s.lines, 1);
     malformed(s)
 }

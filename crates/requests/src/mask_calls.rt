@@ -15,7 +15,7 @@ use masks::builder::BitmapBuilder;
 use masks::compare;
 use masks::compare::Compared;
 
-pub fn answer(call: usize, v: [u64; 24], x: &[u8]) -> [u64; 12] {
+pub(crate) fn answer(call: usize, v: [u64; 24], x: &[u8]) -> [u64; 12] {
     let m = values::mask(v, 0);
     match call {
         0 => values::built(0, BitmapBuilder::new()),
@@ -27,11 +27,11 @@ pub fn answer(call: usize, v: [u64; 24], x: &[u8]) -> [u64; 12] {
     }
 }
 
-pub fn zeroed(v: [u64; 24], out: &mut [u8]) -> [u64; 12] {
+pub(crate) fn zeroed(v: [u64; 24], out: &mut [u8]) -> [u64; 12] {
     made(Bitmap::new_zeroed(values::size(v, 0), out))
 }
 
-pub fn comparing(call: usize, v: [u64; 24], x: &[u8], y: &[u8]) -> [u64; 12] {
+pub(crate) fn comparing(call: usize, v: [u64; 24], x: &[u8], y: &[u8]) -> [u64; 12] {
     match call {
         0 => compared(compare::eq(values::mask(v, 0), x, values::mask(v, 3), y)),
         1 => span_calls::counted(compare::num_intersections_with(
@@ -57,7 +57,13 @@ pub fn comparing(call: usize, v: [u64; 24], x: &[u8], y: &[u8]) -> [u64; 12] {
     }
 }
 
-pub fn combining(call: usize, v: [u64; 24], x: &[u8], y: &[u8], out: &mut [u8]) -> [u64; 12] {
+pub(crate) fn combining(
+    call: usize,
+    v: [u64; 24],
+    x: &[u8],
+    y: &[u8],
+    out: &mut [u8],
+) -> [u64; 12] {
     let lhs = values::mask(v, 0);
     let rhs = values::mask(v, 3);
     match call {
@@ -69,7 +75,7 @@ pub fn combining(call: usize, v: [u64; 24], x: &[u8], y: &[u8], out: &mut [u8]) 
     }
 }
 
-pub fn selecting(
+pub(crate) fn selecting(
     call: usize,
     v: [u64; 24],
     x: &[u8],

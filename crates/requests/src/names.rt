@@ -106,7 +106,7 @@ fn begun(number: usize) -> Call {
     }
 }
 
-pub fn call_of(text: &[u8]) -> Call {
+pub(crate) fn call_of(text: &[u8]) -> Call {
     let mut r = 0;
     while r < ROWS {
         let c = in_row(r, text);
@@ -169,7 +169,7 @@ fn closed(mut c: Call, size: usize) -> Call {
 }
 
 // Prints the name of a call.
-pub fn print(call: usize) {
+pub(crate) fn print(call: usize) {
     print_in(row(call / 8), call % 8);
 }
 

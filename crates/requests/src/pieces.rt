@@ -15,7 +15,7 @@ pub struct Pieces {
 }
 
 // Reads bytes into the front of a buffer, or compares them with it.
-pub fn read(text: &[u8], buffer: &mut [u8], compare: bool) -> Pieces {
+pub(crate) fn read(text: &[u8], buffer: &mut [u8], compare: bool) -> Pieces {
     let mut p = Pieces {
         size: 0,
         good: true,
@@ -168,7 +168,7 @@ pub struct Numbers {
 }
 
 // The numbers of the first `many` items, into the front of a list, or compared with it.
-pub fn read_numbers(items: &[u64], many: usize, list: &mut [u32], compare: bool) -> Numbers {
+pub(crate) fn read_numbers(items: &[u64], many: usize, list: &mut [u32], compare: bool) -> Numbers {
     let mut n = Numbers {
         size: 0,
         good: true,
@@ -233,7 +233,7 @@ fn number(list: &mut [u32], at: usize, value: u32, compare: bool) -> bool {
 }
 
 // Copies bytes to the front of a buffer.
-pub fn copy(from: &[u8], to: &mut [u8]) {
+pub(crate) fn copy(from: &[u8], to: &mut [u8]) {
     let mut i = 0;
     while i < from.len() {
         stored(to, i, from[i], false);
@@ -241,7 +241,7 @@ pub fn copy(from: &[u8], to: &mut [u8]) {
     }
 }
 
-pub fn copy_numbers(from: &[u32], to: &mut [u32]) {
+pub(crate) fn copy_numbers(from: &[u32], to: &mut [u32]) {
     let mut i = 0;
     while i < from.len() {
         number(to, i, from[i], false);
@@ -249,7 +249,7 @@ pub fn copy_numbers(from: &[u32], to: &mut [u32]) {
     }
 }
 
-pub fn same_numbers(a: &[u32], b: &[u32]) -> bool {
+pub(crate) fn same_numbers(a: &[u32], b: &[u32]) -> bool {
     let mut good = a.len() == b.len();
     let mut i = 0;
     while i < a.len() {

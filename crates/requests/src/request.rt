@@ -36,7 +36,7 @@ fn malformed() -> Outcome {
 }
 
 // `whole` has the sizes of what is lent. The answer of the last call is kept in the list.
-pub fn request(
+pub(crate) fn request(
     line: &[u8],
     whole: [u64; 24],
     inputs: &[u8],

@@ -14,7 +14,7 @@ use masks::chunks::Remainder;
 use masks::utils;
 use masks::utils::Counted;
 
-pub fn answer(call: usize, v: [u64; 24], x: &[u8]) -> [u64; 12] {
+pub(crate) fn answer(call: usize, v: [u64; 24], x: &[u8]) -> [u64; 12] {
     let start = values::size(v, 0);
     let length = values::size(v, 1);
     let third = values::size(v, 2);
@@ -28,7 +28,7 @@ pub fn answer(call: usize, v: [u64; 24], x: &[u8]) -> [u64; 12] {
     }
 }
 
-pub fn counting(call: usize, v: [u64; 24], x: &[u8]) -> [u64; 12] {
+pub(crate) fn counting(call: usize, v: [u64; 24], x: &[u8]) -> [u64; 12] {
     let start = values::size(v, 0);
     let length = values::size(v, 1);
     let address = values::size(v, 2);
@@ -41,7 +41,7 @@ pub fn counting(call: usize, v: [u64; 24], x: &[u8]) -> [u64; 12] {
     }
 }
 
-pub fn counted(r: Counted) -> [u64; 12] {
+pub(crate) fn counted(r: Counted) -> [u64; 12] {
     match r {
         Counted::Count(n) => values::one(values::big(n)),
         Counted::Refused(number) => values::refused(number),
@@ -102,7 +102,7 @@ fn position(r: Position) -> [u64; 12] {
     }
 }
 
-pub fn chunks(call: usize, v: [u64; 24], x: &[u8]) -> [u64; 12] {
+pub(crate) fn chunks(call: usize, v: [u64; 24], x: &[u8]) -> [u64; 12] {
     let first = values::size(v, 0);
     let second = values::size(v, 1);
     let c = BitChunks {

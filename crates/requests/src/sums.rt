@@ -5,7 +5,7 @@ use crate::values;
 pub const FIRST: u64 = 14695981039346656037;
 
 // One number more.
-pub fn mix(sum: u64, value: u64) -> u64 {
+pub(crate) fn mix(sum: u64, value: u64) -> u64 {
     let a = std::num::wrapping_add_u64(sum, value);
     let b = a ^ (a << 13);
     let c = b ^ (b >> 7);
@@ -13,7 +13,7 @@ pub fn mix(sum: u64, value: u64) -> u64 {
 }
 
 // An answer: how many tokens it has, and of each its kind and its value.
-pub fn answer(sum: u64, a: [u64; 12]) -> u64 {
+pub(crate) fn answer(sum: u64, a: [u64; 12]) -> u64 {
     let many = a[values::TOKENS] % 9;
     let mut all = mix(sum, many);
     let mut i = 0;
@@ -31,7 +31,7 @@ fn token(sum: u64, a: [u64; 12], i: u64) -> u64 {
 }
 
 // Bytes, eight at a time, zeros behind the last.
-pub fn bytes(sum: u64, b: &[u8]) -> u64 {
+pub(crate) fn bytes(sum: u64, b: &[u8]) -> u64 {
     let words = words_of(b.len());
     let mut all = sum;
     let mut i = 0;
@@ -60,7 +60,7 @@ fn byte(b: &[u8], i: usize) -> u64 {
     values::byte(text::at(b, i))
 }
 
-pub fn numbers(sum: u64, n: &[u32]) -> u64 {
+pub(crate) fn numbers(sum: u64, n: &[u32]) -> u64 {
     let mut all = sum;
     let mut i = 0;
     while i < n.len() {

@@ -8,7 +8,7 @@ use crate::values;
 const TALLY: usize = 8192;
 
 // One number and another, or the greatest there is.
-pub fn sum(a: u64, b: u64) -> u64 {
+pub(crate) fn sum(a: u64, b: u64) -> u64 {
     let all = std::num::wrapping_add_u64(a, b);
     if all < a { 18446744073709551615 } else { all }
 }
@@ -20,7 +20,7 @@ fn place(call: usize) -> usize
 }
 
 // Counts a request.
-pub fn count(list: &mut [u64], call: usize, calls: u64, differs: bool) {
+pub(crate) fn count(list: &mut [u64], call: usize, calls: u64, differs: bool) {
     let at = place(call);
     add(list, at, 1);
     add(list, at + 1, calls);
@@ -34,7 +34,7 @@ fn add(list: &mut [u64], at: usize, more: u64) {
 }
 
 // A line for each call that was requested.
-pub fn print(list: &[u64]) {
+pub(crate) fn print(list: &[u64]) {
     let mut call = 0;
     while call < names::CALLS {
         print_call(list, call);
@@ -51,7 +51,7 @@ fn print_call(list: &[u64], call: usize) {
     }
 }
 
-pub fn numbers(requests: u64, calls: u64, differing: u64) {
+pub(crate) fn numbers(requests: u64, calls: u64, differing: u64) {
     io::write_all(1, b": ");
     io::print_decimal(1, requests);
     io::write_all(1, b" requests, ");
@@ -62,7 +62,7 @@ pub fn numbers(requests: u64, calls: u64, differing: u64) {
 }
 
 // A line that differs, with what the last call gave.
-pub fn print_differing(line: u64, call: usize, answer: [u64; 12]) {
+pub(crate) fn print_differing(line: u64, call: usize, answer: [u64; 12]) {
     print_number(line);
     io::write_all(1, b" differs: ");
     names::print(call);
@@ -71,7 +71,7 @@ pub fn print_differing(line: u64, call: usize, answer: [u64; 12]) {
     io::write_all(1, b"\n");
 }
 
-pub fn print_malformed(line: u64) {
+pub(crate) fn print_malformed(line: u64) {
     print_number(line);
     io::write_all(1, b" is malformed\n");
 }

@@ -4,7 +4,7 @@ ghost use Prim.Native.Nat.{_≤_};
 ghost use lib.ListN.{length};
 
 // The value of a digit, 16 for what is none.
-pub fn digit(b: u8) -> u64
+pub(crate) fn digit(b: u8) -> u64
     ensures { λ r. ⌜ r ≤ 16 ⌝ }
 {
     if b < b'0' {
@@ -29,12 +29,12 @@ fn wide(x: u8) -> u64
 }
 
 // Byte i, 0 where there is none.
-pub fn at(text: &[u8], i: usize) -> u8 {
+pub(crate) fn at(text: &[u8], i: usize) -> u8 {
     if i < text.len() { text[i] } else { 0 }
 }
 
 // Where the byte first stands, or the text ends.
-pub fn find(text: &[u8], b: u8) -> usize
+pub(crate) fn find(text: &[u8], b: u8) -> usize
     ensures { λ r. ⌜ r ≤ length (now (text .entry)) ⌝ }
 {
     let mut i = 0;
@@ -48,7 +48,7 @@ pub fn find(text: &[u8], b: u8) -> usize
 }
 
 // The text behind its first k bytes.
-pub fn behind(text: &[u8], k: usize) -> &[u8] {
+pub(crate) fn behind(text: &[u8], k: usize) -> &[u8] {
     if k <= text.len() {
         &text[k..]
     } else {
@@ -57,7 +57,7 @@ pub fn behind(text: &[u8], k: usize) -> &[u8] {
 }
 
 // The first k bytes.
-pub fn before(text: &[u8], k: usize) -> &[u8] {
+pub(crate) fn before(text: &[u8], k: usize) -> &[u8] {
     if k <= text.len() {
         &text[0..k]
     } else {

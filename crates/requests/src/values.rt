@@ -21,24 +21,24 @@ pub const UNKNOWNS: usize = 9;
 pub const NONES: usize = 10;
 
 // Argument i.
-pub fn word(v: [u64; 24], i: usize) -> u64 {
+pub(crate) fn word(v: [u64; 24], i: usize) -> u64 {
     v[i % 24]
 }
 
-pub fn size(v: [u64; 24], i: usize) -> usize {
+pub(crate) fn size(v: [u64; 24], i: usize) -> usize {
     v[i % 24] as usize
 }
 
-pub fn flag(v: [u64; 24], i: usize) -> bool {
+pub(crate) fn flag(v: [u64; 24], i: usize) -> bool {
     v[i % 24] != 0
 }
 
-pub fn low(v: [u64; 24], i: usize) -> u32 {
+pub(crate) fn low(v: [u64; 24], i: usize) -> u32 {
     (v[i % 24] % 4294967296) as u32
 }
 
 // The mask of the arguments i, i + 1 and i + 2.
-pub fn mask(v: [u64; 24], i: usize) -> Bitmap {
+pub(crate) fn mask(v: [u64; 24], i: usize) -> Bitmap {
     let at = i % 8;
     let unset = count(v[at + 2], (v[UNKNOWN] >> (at + 2)) % 2 == 1);
     Bitmap {
@@ -57,7 +57,7 @@ fn count(zeros: u64, unknown: bool) -> Unset {
 }
 
 // The mask behind argument i, if that is not 0.
-pub fn optional(v: [u64; 24], i: usize) -> Optional {
+pub(crate) fn optional(v: [u64; 24], i: usize) -> Optional {
     let at = i % 8;
     if v[at] == 0 {
         Optional::Absent
@@ -67,7 +67,7 @@ pub fn optional(v: [u64; 24], i: usize) -> Optional {
 }
 
 // The builder of the first three arguments.
-pub fn builder(v: [u64; 24]) -> BitmapBuilder {
+pub(crate) fn builder(v: [u64; 24]) -> BitmapBuilder {
     BitmapBuilder {
         length: v[0] as usize,
         word: v[1],
@@ -75,56 +75,56 @@ pub fn builder(v: [u64; 24]) -> BitmapBuilder {
     }
 }
 
-pub fn big(n: usize) -> u64 {
+pub(crate) fn big(n: usize) -> u64 {
     n as u64
 }
 
-pub fn wide(x: u32) -> u64 {
+pub(crate) fn wide(x: u32) -> u64 {
     x as u64
 }
 
-pub fn byte(x: u8) -> u64 {
+pub(crate) fn byte(x: u8) -> u64 {
     x as u64
 }
 
-pub fn digit(flag: bool) -> u64 {
+pub(crate) fn digit(flag: bool) -> u64 {
     if flag { 1 } else { 0 }
 }
 
 // An answer of the first n of six numbers.
-pub fn tokens(n: u64, a: u64, b: u64, c: u64, d: u64, e: u64, f: u64) -> [u64; 12] {
+pub(crate) fn tokens(n: u64, a: u64, b: u64, c: u64, d: u64, e: u64, f: u64) -> [u64; 12] {
     [a, b, c, d, e, f, 0, 0, n, 0, 0, 0]
 }
 
 // A call that gives nothing.
-pub fn nothing() -> [u64; 12] {
+pub(crate) fn nothing() -> [u64; 12] {
     tokens(1, 0, 0, 0, 0, 0, 0)
 }
 
-pub fn one(a: u64) -> [u64; 12] {
+pub(crate) fn one(a: u64) -> [u64; 12] {
     tokens(2, 0, a, 0, 0, 0, 0)
 }
 
-pub fn two(a: u64, b: u64) -> [u64; 12] {
+pub(crate) fn two(a: u64, b: u64) -> [u64; 12] {
     tokens(3, 0, a, b, 0, 0, 0)
 }
 
 // None, where one number would be.
-pub fn none() -> [u64; 12] {
+pub(crate) fn none() -> [u64; 12] {
     [0, 0, 0, 0, 0, 0, 0, 0, 2, 0, 2, 0]
 }
 
-pub fn refused(number: u8) -> [u64; 12] {
+pub(crate) fn refused(number: u8) -> [u64; 12] {
     tokens(1, byte(number), 0, 0, 0, 0, 0)
 }
 
 // A builder, behind 0 or the refusing number.
-pub fn built(number: u8, b: BitmapBuilder) -> [u64; 12] {
+pub(crate) fn built(number: u8, b: BitmapBuilder) -> [u64; 12] {
     tokens(4, byte(number), big(b.length), b.word, big(b.ones), 0, 0)
 }
 
 // A mask, behind 0 or the refusing number.
-pub fn masked(number: u8, m: Bitmap) -> [u64; 12] {
+pub(crate) fn masked(number: u8, m: Bitmap) -> [u64; 12] {
     let unset = m.unset;
     [
         byte(number),
@@ -143,7 +143,7 @@ pub fn masked(number: u8, m: Bitmap) -> [u64; 12] {
 }
 
 // A number, and a mask.
-pub fn counted(zeros: usize, m: Bitmap) -> [u64; 12] {
+pub(crate) fn counted(zeros: usize, m: Bitmap) -> [u64; 12] {
     let unset = m.unset;
     [
         0,
@@ -178,17 +178,17 @@ fn unknown(unset: Unset) -> u64
 }
 
 // A cursor, behind 0 or the refusing number.
-pub fn cursor(number: u8, start: usize, length: usize, place: usize) -> [u64; 12] {
+pub(crate) fn cursor(number: u8, start: usize, length: usize, place: usize) -> [u64; 12] {
     tokens(4, byte(number), big(start), big(length), big(place), 0, 0)
 }
 
 // A number, and the cursor behind it.
-pub fn given(value: u64, start: usize, length: usize, place: usize) -> [u64; 12] {
+pub(crate) fn given(value: u64, start: usize, length: usize, place: usize) -> [u64; 12] {
     tokens(5, 0, value, big(start), big(length), big(place), 0)
 }
 
 // None, and the cursor at its end.
-pub fn ended(start: usize, length: usize, place: usize) -> [u64; 12] {
+pub(crate) fn ended(start: usize, length: usize, place: usize) -> [u64; 12] {
     [
         0,
         0,

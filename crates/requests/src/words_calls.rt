@@ -11,7 +11,7 @@ use words::ops::Op;
 use words::word;
 
 // Calls on words alone.
-pub fn plain(call: usize, v: [u64; 24]) -> [u64; 12] {
+pub(crate) fn plain(call: usize, v: [u64; 24]) -> [u64; 12] {
     let w = values::word(v, 0);
     let k = values::size(v, 1);
     match call {
@@ -27,7 +27,7 @@ pub fn plain(call: usize, v: [u64; 24]) -> [u64; 12] {
 }
 
 // More of them.
-pub fn counting(call: usize, v: [u64; 24]) -> [u64; 12] {
+pub(crate) fn counting(call: usize, v: [u64; 24]) -> [u64; 12] {
     let w = values::word(v, 0);
     let k = values::size(v, 1);
     let flag = values::flag(v, 0);
@@ -73,7 +73,7 @@ fn op(n: u64) -> Op {
 }
 
 // The operations on words.
-pub fn operation(call: usize, v: [u64; 24]) -> [u64; 12] {
+pub(crate) fn operation(call: usize, v: [u64; 24]) -> [u64; 12] {
     let p = values::word(v, 0);
     let q = values::word(v, 1);
     let r = values::word(v, 2);
@@ -89,7 +89,7 @@ pub fn operation(call: usize, v: [u64; 24]) -> [u64; 12] {
 }
 
 // Calls that read x.
-pub fn reading(call: usize, v: [u64; 24], x: &[u8]) -> [u64; 12] {
+pub(crate) fn reading(call: usize, v: [u64; 24], x: &[u8]) -> [u64; 12] {
     let at = values::size(v, 0);
     match call {
         0 => values::one(word::load_padded_le_u64(x)),
@@ -101,7 +101,7 @@ pub fn reading(call: usize, v: [u64; 24], x: &[u8]) -> [u64; 12] {
 }
 
 // Calls that read x, y and z.
-pub fn comparing(call: usize, v: [u64; 24], x: &[u8], y: &[u8], z: &[u8]) -> [u64; 12] {
+pub(crate) fn comparing(call: usize, v: [u64; 24], x: &[u8], y: &[u8], z: &[u8]) -> [u64; 12] {
     let o = op(values::word(v, 0));
     let first = values::size(v, 0);
     let second = values::size(v, 1);
@@ -116,7 +116,7 @@ pub fn comparing(call: usize, v: [u64; 24], x: &[u8], y: &[u8], z: &[u8]) -> [u6
 }
 
 // Calls that write the output.
-pub fn writing(call: usize, v: [u64; 24], x: &[u8], out: &mut [u8]) -> [u64; 12] {
+pub(crate) fn writing(call: usize, v: [u64; 24], x: &[u8], out: &mut [u8]) -> [u64; 12] {
     let first = values::size(v, 0);
     let second = values::size(v, 1);
     match call {
@@ -134,7 +134,7 @@ fn stored(_: ()) -> [u64; 12] {
     values::nothing()
 }
 
-pub fn combining(v: [u64; 24], x: &[u8], y: &[u8], z: &[u8], out: &mut [u8]) -> [u64; 12] {
+pub(crate) fn combining(v: [u64; 24], x: &[u8], y: &[u8], z: &[u8], out: &mut [u8]) -> [u64; 12] {
     loops::combine(
         op(values::word(v, 0)),
         x,
