@@ -10,6 +10,7 @@ pub mod CheckLaws
 pub mod ChunkLaws
 pub mod CombineLaws
 pub mod CompareLaws
+pub mod CountPlain
 pub mod CursorLaws
 pub mod Examples
 pub mod ExtendLaws

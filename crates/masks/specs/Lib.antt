@@ -10,6 +10,7 @@ pub mod Checks
 pub mod Chunks
 pub mod Combine
 pub mod Compare
+pub mod CountPlain
 pub mod Cursor
 pub mod Examples
 pub mod Freeze
