@@ -12,6 +12,7 @@ pub mod CombineLaws
 pub mod CompareLaws
 pub mod CountPlain
 pub mod CursorLaws
+pub mod CursorPlain
 pub mod Examples
 pub mod ExtendLaws
 pub mod FreezeLaws

@@ -12,6 +12,7 @@ pub mod Combine
 pub mod Compare
 pub mod CountPlain
 pub mod Cursor
+pub mod CursorPlain
 pub mod Examples
 pub mod Freeze
 pub mod Frozen
