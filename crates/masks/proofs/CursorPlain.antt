@@ -1,20 +1,24 @@
 -- Where a call leaves its cursor: the statement of `specs/CursorPlain.antt`. Assumes nothing.
-use mathlib.Core.Path.{_≡_, refl, sym, ap, _∙_}
-use mathlib.Core.Bool.{Bool, true, false, cond}
-use mathlib.Core.List.{List, []}
+use mathlib.Core.Path.{_≡_, refl, sym, ap, _∙_, subst}
+use mathlib.Core.Bool.{Bool, true, false, cond, not}
+use mathlib.Core.List.{List, [], _∷_, _++_}
 use mathlib.Core.Option.{Option, none, some}
-use Prim.Native.Nat.{ℕ, zero, suc, _+_, _/_, _≤_, _<_}
+use Prim.Native.Nat.{ℕ, zero, suc, _+_, _-_, _/_, _≤_, _<_}
 use native.Mathlib.Omega.{arith}
-use lib.Dec.{ltb}
-use lib.ListN.{length, getD, take, length-take}
-use borrow.Author.Tests.{ltb-true, ltb-false, lt-ltb, le-ltb}
-use Rattle.words.specs.Flags.{flagAt}
+use lib.Dec.{leb, ltb}
+use lib.ListN.{length, getD, take, drop, length-take, length-drop}
+use lib.Seq.{getD-drop}
+use borrow.Author.Tests.{leb-true, ltb-true, ltb-false, lt-ltb, le-ltb}
+use Rattle.words.specs.Ends.{leading}
+use Rattle.words.specs.Flags.{flagAt, flagsOf}
 use Rattle.words.specs.Loops.{stretch}
+use Rattle.words.proofs.EndLaws.{leading-le}
 use Rattle.words.proofs.Plain.{at-stretch}
+use Rattle.words.proofs.Windows.{length-window}
 use Rattle.masks.specs.Answer.{given, unlessEmpty}
-use Rattle.masks.specs.Checks.{firstFailed, spanChecks}
+use Rattle.masks.specs.Checks.{Check, check, firstFailed, spanChecks}
 use Rattle.masks.specs.Chunks.{chunksAt, newChunks, nextChunk, chunkStep, chunkChecks, chunkWord}
-use Rattle.masks.specs.Cursor.{Step, item, ended}
+use Rattle.masks.specs.Cursor.{Step, item, ended, cursorChecks}
 use Rattle.masks.specs.CursorPlain.{NewPlaces, ChunkPlaces, FlagPlaces, RunPlaces, OnePlaces, CursorsPlainly}
 use Rattle.masks.specs.Iterator.{iterAt, iterFlags, movedTo, newIter, iterChecks, flagStep, nthFlag, leadingFrom, takeLeading}
 use Rattle.masks.specs.Mask.{maskChecks}
@@ -28,7 +32,8 @@ use Rattle.masks.specs.declared.iterator.BitmapIter.{BitmapIter}
 use Rattle.masks.specs.declared.slice_iterator.Run.{Run}
 use Rattle.masks.specs.declared.slice_iterator.SlicesIterator.{SlicesIterator}
 use Rattle.masks.specs.declared.true_idx.TrueIdxIter.{TrueIdxIter}
-use Rattle.masks.proofs.AnswerLaws.{given-value}
+use Rattle.masks.proofs.AnswerLaws.{given-number, given-value}
+use Rattle.masks.proofs.CheckLaws.{both-right, check-allowed}
 
 -- ---- a step that is chosen by a test
 
@@ -71,6 +76,63 @@ chunk-places c bytes d =
           (ltb-false (c .place) (c .length / 64) (r .0), r .1);
     }
 
+-- the first flags of a list are alike, and the one behind them is not
+first-alike : (x : Bool) (l : List Bool) (j : ℕ) → j < leading x l → getD l j false ≡ x
+unfolding leading
+first-alike x [] j h = absurd (omega arith)
+first-alike true (true ∷ l) zero h = refl
+first-alike true (true ∷ l) (suc j) h = first-alike true l j (omega arith)
+first-alike true (false ∷ l) j h = absurd (omega arith)
+first-alike false (true ∷ l) j h = absurd (omega arith)
+first-alike false (false ∷ l) zero h = refl
+first-alike false (false ∷ l) (suc j) h = first-alike false l j (omega arith)
+
+then-other : (x : Bool) (l : List Bool) → leading x l < length l → getD l (leading x l) false ≡ not x
+unfolding leading
+then-other x [] h = absurd (omega arith)
+then-other true (true ∷ l) h = then-other true l (omega arith)
+then-other true (false ∷ l) h = refl
+then-other false (true ∷ l) h = refl
+then-other false (false ∷ l) h = then-other false l (omega arith)
+
+-- the flags of a span from a place on
+abbrev restOf : List ℕ → ℕ → ℕ → ℕ → List Bool
+restOf bytes start n place = drop place (stretch bytes start n)
+
+-- those of them that `take_leading_` takes
+module _ (x : Bool) (bytes : List ℕ) (start n place : ℕ) where
+  rest-long : length (restOf bytes start n place) ≡ n - place
+  rest-long = length-drop place (stretch bytes start n) ∙ ap (λ (m : ℕ). m - place) (length-window (flagsOf bytes) start n)
+
+  rest-at : (j : ℕ) → place + j < n → getD (restOf bytes start n place) j false ≡ flagAt bytes (start + (place + j))
+  rest-at j h = getD-drop place (stretch bytes start n) j false ∙ at-stretch bytes start n (place + j) h
+
+  taken-alike : (j : ℕ) → j < leading x (restOf bytes start n place) → flagAt bytes (start + (place + j)) ≡ x
+  taken-alike j h = sym (rest-at j (omega (arith, leading-le x (restOf bytes start n place), rest-long))) ∙ first-alike x (restOf bytes start n place) j h
+
+  taken-stops : place + leading x (restOf bytes start n place) < n → flagAt bytes (start + (place + leading x (restOf bytes start n place))) ≡ not x
+  taken-stops h = sym (rest-at (leading x (restOf bytes start n place)) h) ∙ then-other x (restOf bytes start n place) (omega (arith, rest-long))
+
+  taken-inside : place ≤ n → place + leading x (restOf bytes start n place) ≤ n
+  taken-inside h = omega (arith, leading-le x (restOf bytes start n place), rest-long)
+
+-- the number that it gives
+taken-number : (x : Bool) (c : BitmapIter) (bytes : List ℕ) (k : ℕ) (d : BitmapIter) → given (k, d) ≡ takeLeading x c bytes
+    → k ≡ leading x (restOf bytes (c .start) (c .length) (c .place))
+unfolding takeLeading leadingFrom
+taken-number x c bytes k d e =
+    let many : ℕ = leadingFrom x (iterFlags c bytes) (c .place) in
+    ap (λ (p : ℕ × BitmapIter). p .0) (given-value (firstFailed (iterChecks c bytes)) c (k, d) (many, movedTo c (c .place + many)) e)
+
+place-inside : (x : Bool) (c : BitmapIter) (bytes : List ℕ) (k : ℕ) (d : BitmapIter) → given (k, d) ≡ takeLeading x c bytes → c .place ≤ c .length
+unfolding takeLeading cursorChecks
+place-inside x c bytes k d e =
+    let many : ℕ = leadingFrom x (iterFlags c bytes) (c .place) in
+    let six : List Check = check 6 (leb (c .place) (c .length)) ∷ [] in
+    let span : List Check = spanChecks (c .start) (c .length) (length bytes) in
+    leb-true (c .place) (c .length)
+    (check-allowed 5 (leb (c .place) (c .length)) (both-right span six (sym (given-number (firstFailed (span ++ six)) c (k, d) (many, movedTo c (c .place + many)) e))))
+
 flag-places : (c : BitmapIter) (bytes : List ℕ) (d : BitmapIter) → FlagPlaces c bytes d
 unfolding nthFlag flagStep takeLeading
 flag-places c bytes d =
@@ -90,6 +152,15 @@ flag-places c bytes d =
           let many : ℕ = leadingFrom x (iterFlags c bytes) (c .place) in
           let r : _≡_ {A = ℕ × BitmapIter} (k, d) (many, movedTo c (c .place + many)) = given-value number c (k, d) (many, movedTo c (c .place + many)) e in
           ap (λ (p : ℕ × BitmapIter). p .1) r ∙ ap (λ (p : ℕ × BitmapIter). movedTo c (c .place + p .0)) (sym r);
+      inside = λ x k e.
+          subst (λ (m : ℕ). c .place + m ≤ c .length) (sym (taken-number x c bytes k d e))
+          (taken-inside x bytes (c .start) (c .length) (c .place) (place-inside x c bytes k d e));
+      alike = λ x k j e h.
+          taken-alike x bytes (c .start) (c .length) (c .place) j (subst (λ (m : ℕ). j < m) (taken-number x c bytes k d e) h);
+      stops = λ x k e h.
+          let q = taken-number x c bytes k d e in
+          ap (λ (m : ℕ). flagAt bytes (c .start + (c .place + m))) q
+          ∙ taken-stops x bytes (c .start) (c .length) (c .place) (subst (λ (m : ℕ). c .place + m < c .length) q h);
     }
 
 run-places : (c : SlicesIterator) (bytes : List ℕ) (d : SlicesIterator) → RunPlaces c bytes d

@@ -5,7 +5,7 @@
 -- back the cursor that it got.
 use Prim.Native.Nat.{ℕ, zero, suc, _+_, _/_, _≤_, _<_}
 use mathlib.Core.Path.{_≡_}
-use mathlib.Core.Bool.{Bool, true, false}
+use mathlib.Core.Bool.{Bool, true, false, not}
 use mathlib.Core.List.{List, []}
 use lib.ListN.{length, getD}
 use Rattle.words.specs.Flags.{flagAt}
@@ -44,6 +44,11 @@ pub record FlagPlaces (c : BitmapIter) (bytes : List ℕ) (d : BitmapIter) : Typ
       → (c .place + k < c .length) × ((x ≡ flagAt bytes (c .start + (c .place + k))) × (d ≡ iterAt (c .start) (c .length) (c .place + k + 1)))
   pub at-end : (k : ℕ) → given (ended d) ≡ nthFlag c bytes k → (c .length ≤ c .place + k) × (d ≡ iterAt (c .start) (c .length) (c .length))
   pub taken : (x : Bool) (k : ℕ) → given (k, d) ≡ takeLeading x c bytes → d ≡ iterAt (c .start) (c .length) (c .place + k)
+  -- these k flags are alike, and no more: at the length, or before a flag of the other kind
+  pub inside : (x : Bool) (k : ℕ) → given (k, d) ≡ takeLeading x c bytes → c .place + k ≤ c .length
+  pub alike : (x : Bool) (k j : ℕ) → given (k, d) ≡ takeLeading x c bytes → j < k → flagAt bytes (c .start + (c .place + j)) ≡ x
+  pub stops : (x : Bool) (k : ℕ) → given (k, d) ≡ takeLeading x c bytes → c .place + k < c .length
+      → flagAt bytes (c .start + (c .place + k)) ≡ not x
 
 -- `SlicesIterator::next`
 pub record RunPlaces (c : SlicesIterator) (bytes : List ℕ) (d : SlicesIterator) : Type 0 where
