@@ -10,7 +10,9 @@ pub mod CheckLaws
 pub mod ChunkLaws
 pub mod CombineLaws
 pub mod CompareLaws
+pub mod CountPlain
 pub mod CursorLaws
+pub mod CursorPlain
 pub mod Examples
 pub mod ExtendLaws
 pub mod FreezeLaws

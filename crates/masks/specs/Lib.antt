@@ -10,7 +10,9 @@ pub mod Checks
 pub mod Chunks
 pub mod Combine
 pub mod Compare
+pub mod CountPlain
 pub mod Cursor
+pub mod CursorPlain
 pub mod Examples
 pub mod Freeze
 pub mod Frozen
