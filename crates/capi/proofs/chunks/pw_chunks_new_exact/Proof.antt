@@ -10,7 +10,7 @@ new-out-requires : tie.Need-new-out-requires
 new-out-requires c κs = search needs
 
 returns : tie.Need-returns
-returns c = rw (c .before .new-exact .ensures) at (c .new-out .ensures)
+returns c = rw (c .before .new .ensures) at (c .new-out .ensures)
 
 pub pw-chunks-new-exact-spec : {M : Type 1} → statement M
 pw-chunks-new-exact-spec = tie.close (tie.spec new-requires new-out-requires returns)
