@@ -8,8 +8,10 @@
  * freed, and there is no state between calls: a record goes in and comes back by value, and any numbers in it are allowed. A builder and
  * a cursor go in as their numbers, which are quicker to hand from call to call than a record. Each call tests its arguments and answers
  * in `refusal` 0, or one of the numbers listed for it; it has then written nothing. Where several tests fail, the answer is the one that
- * stands first in 1, 2, 3, 4, 5, 6, 7, 8, 9. On refusal a record in the answer is the very one that the call got, where it got one of that
- * kind and gives it back; every other field is 0. */
+ * stands first in 1, 2, 3, 4, 5, 6, 7, 8, 9; the calls on a window of minutes have 16 alone. On refusal a record in the answer is the
+ * very one that the call got, where it got one of that kind and gives it back; every other field is 0.
+ *
+ * An array in a prototype must have as many elements as stand there. */
 #ifndef PORUWHINA_H
 #define PORUWHINA_H
 
@@ -47,6 +49,8 @@ extern "C" {
 #define PW_REFUSED_ADDRESS_REMAINDER 8
 /* The output, the builder's buffer included, is below 8 * ceil(new length / 64) bytes. */
 #define PW_REFUSED_OUTPUT_TOO_SMALL 9
+/* A window's width is 0 or over 256, or no run of minutes at its width leaves the window. */
+#define PW_REFUSED_IMPOSSIBLE_WINDOW 16
 
 /* ---- written by tests/declarations.py from crates/capi: change it there */
 
@@ -157,6 +161,14 @@ typedef struct {
     size_t second_start;
     size_t second_length;
 } pw_spans_answer;
+
+/* A window of minutes without its arrays: the place where its next word goes, how many words it keeps now, and its width. */
+typedef struct {
+    uint8_t refusal;
+    size_t place;
+    size_t fill;
+    size_t width;
+} pw_window_answer;
 
 /* ---- The calls of words. Nothing is refused. */
 
@@ -410,6 +422,21 @@ pw_step_answer pw_true_idx_next_chunk(size_t start, size_t length, size_t place,
 pw_flag pw_may_reassign(bool permitted, pw_mask permission, const uint8_t *permission_bytes,
     size_t permission_bytes_len, bool revoked, pw_mask revocation, const uint8_t *revocation_bytes,
     size_t revocation_bytes_len, size_t truck);
+
+/* ---- Who was busy lately. */
+
+/* Makes a window that keeps `width` words, 1 to 256, and has none yet: all words and counts are 0. Refuses with 16; every other field
+ * is then 0, and both arrays stay as they are. */
+pw_window_answer pw_activity_new(uint64_t words[256], uint32_t counts[64], size_t width);
+
+/* Puts the word of the next minute into the window, in the stead of the oldest where all places are taken. Refuses with 16; the window
+ * is then the one that came: place, fill, width and both arrays. */
+pw_window_answer pw_activity_push_minute(uint64_t words[256], uint32_t counts[64], size_t place, size_t fill,
+    size_t width, uint64_t word);
+
+/* Writes to `out` for each flag how many of the kept words have it set. Refuses with 16; `out` then stays as it is. */
+uint8_t pw_activity_counts(const uint64_t words[256], const uint32_t counts[64], size_t place, size_t fill,
+    size_t width, uint32_t out[64]);
 
 /* ---- version */
 

@@ -33,6 +33,7 @@ NUMBERS = {
     "PW_REFUSED_COUNT_NOT_OF_SLICE": (CHECKS + "Mask.antt", r"check (\d+) \(recountValid "),
     "PW_REFUSED_ADDRESS_REMAINDER": (CHECKS + "Checks.antt", r"check (\d+) \(leb address 7\)"),
     "PW_REFUSED_OUTPUT_TOO_SMALL": (CHECKS + "Checks.antt", r"check (\d+) \(leb \(8 \* \(\(n \+ 63\) / 64\)\) size\)"),
+    "PW_REFUSED_IMPOSSIBLE_WINDOW": ("crates/activity/specs/Refusals.antt", r"\nmayGive = (\d+) ∷ \[\]"),
 }
 
 
@@ -113,7 +114,8 @@ def compared():
     for name in sorted({path.stem for path in in_rust.CALLS.glob("*.rs")} - {"mod"}):
         if not re.search(rf"^mod {name};$", (in_rust.CALLS / "mod.rs").read_text(), re.M):
             yield f"bindings/rust/src/calls/mod.rs does not have the module {name}"
-    answers = {name for name, (_, fields) in records().items() if fields[0][0] == "refusal"}
+    # an export that gives a u8 gives the number itself
+    answers = {"u8", *(name for name, (_, fields) in records().items() if fields[0][0] == "refusal")}
     for export in exports():
         if (export.name in refusals()) != (export.result in answers):
             yield f"crates/capi/specs/Refusals.antt and {export.name} differ in whether it can refuse"

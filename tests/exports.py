@@ -7,10 +7,13 @@ ROOT = pathlib.Path(__file__).resolve().parent.parent
 CAPI = ROOT / "crates/capi"
 
 # The order in which the modules are declared; a module that is not named here comes behind these.
-ORDER = ["word", "spans", "search", "chunks", "builder", "mask", "combine", "at_index", "cursors", "reassign"]
+ORDER = ["word", "spans", "search", "chunks", "builder", "mask", "combine", "at_index", "cursors", "reassign", "window"]
 
-# What a refused export gives back, by the encoding that its contract names; of every other encoding all fields are 0.
+# What a refused export gives back, by its name or by the encoding that its contract names; of every other all fields are 0.
 KEPT = {
+    "pw_activity_new": "every other field is then 0, and both arrays stay as they are",
+    "pw_activity_push_minute": "the window is then the one that came: place, fill, width and both arrays",
+    "pw_activity_counts": "`out` then stays as it is",
     "asSameMask": "the mask is then the one that came, every field as it came",
     "asZeros": "the mask is then the one that came, every field as it came, and `zeros` 0",
     "asBuilder": "the builder is then the one that came",
@@ -26,7 +29,7 @@ class Export:
         self.arguments = pairs(arguments)
         self.comment = said(comment)
         encoding = re.search(r"≡\s*(as\w+)", contract)
-        self.kept = KEPT.get(encoding[1] if encoding else "", "every other field is then 0")
+        self.kept = KEPT.get(name) or KEPT.get(encoding[1] if encoding else "", "every other field is then 0")
         self.numbers = refusals().get(name)
 
     def sentences(self):

@@ -7,7 +7,8 @@ use std::fmt;
 /// numbers, the same for all calls. After a refusal nothing has changed.
 ///
 /// From [`Bitmap`](crate::Bitmap), [`BitmapBuilder`](crate::BitmapBuilder) and what stands beside them come 1, 2, 5 and 6 alone:
-/// the types keep their records true and give each call the room that it needs. [`calls`](crate::calls) can give every number.
+/// the types keep their records true and give each call the room that it needs. From
+/// [`ActivityWindow`](crate::ActivityWindow) comes 16 alone. [`calls`](crate::calls) can give every number.
 ///
 /// ```
 /// use poruwhina::{Bitmap, Refusal};
@@ -42,9 +43,11 @@ pub enum Refusal {
     AddressRemainder = 8,
     /// 9: Does the output, the builder's buffer included, hold 8 × ceil(new length / 64) bytes?
     OutputTooSmall = 9,
+    /// 16: Is the width of the window of minutes 1 to 256, and the window one that a run of minutes at its width leaves?
+    ImpossibleWindow = 16,
 }
 
-const ALL: [Refusal; 9] = [
+const ALL: [Refusal; 10] = [
     Refusal::AboveLimit,
     Refusal::OutsideBytes,
     Refusal::CountAboveLength,
@@ -54,10 +57,11 @@ const ALL: [Refusal; 9] = [
     Refusal::CountNotOfSlice,
     Refusal::AddressRemainder,
     Refusal::OutputTooSmall,
+    Refusal::ImpossibleWindow,
 ];
 
 impl Refusal {
-    /// The number, 1 to 9.
+    /// The number, 1 to 9 or 16.
     ///
     /// ```
     /// assert_eq!(poruwhina::Refusal::OutputTooSmall.number(), 9);
@@ -90,6 +94,7 @@ impl Refusal {
             Refusal::CountNotOfSlice => "the known count is below the zeros cut off, or the rest above the new length",
             Refusal::AddressRemainder => "the address remainder is above 7",
             Refusal::OutputTooSmall => "the output does not hold 8 × ceil(new length / 64) bytes",
+            Refusal::ImpossibleWindow => "the width is not 1 to 256, or no run of minutes leaves the window",
         }
     }
 }

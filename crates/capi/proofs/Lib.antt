@@ -1,3 +1,4 @@
 -- The laws of the crate.
 pub mod RecordLaws
 pub mod Refusals
+pub mod WindowLaws

@@ -1,6 +1,6 @@
 -- Each export refuses by the numbers listed for it alone, and gives back what came. Assumes nothing.
 --
--- An encoding keeps the answer's number, so that what masks and dispatch say of the answer holds of the record that crosses.
+-- An encoding keeps the answer's number, so that what masks, dispatch and activity say of the answer holds of the record that crosses.
 use Prim.Native.Nat.{ℕ}
 use mathlib.Core.Path.{_≡_, refl, sym, ap, subst, _∙_}
 use mathlib.Core.Bool.{Bool, true, false, not, cond}
@@ -28,17 +28,21 @@ use Rattle.masks.specs.declared.bitmask.Span.{Span}
 use Rattle.masks.specs.declared.builder.BitmapBuilder.{BitmapBuilder}
 use Rattle.masks.proofs.Refusals as masks
 use Rattle.dispatch.proofs.Refusals as dispatch
+use Rattle.activity.specs.Checks.{widthFits, leftByMinutes}
+use Rattle.activity.proofs.Refusals as activity
 use Rattle.capi.specs.Answers.{asBit, asBuilder, asCursor, asFlag, asMask, asNumber, asPosition, asRemainder, asRun, asSameMask}
 use Rattle.capi.specs.Answers.{asSpans, asSplit, asStep, asTaken, asValidity, asWord, asZeros, nthAnswer}
 use Rattle.capi.specs.Records.{builderIn, builderOut, chunksOut, chunksPlace, iterOut, iterPlace, maskIn, optionalIn}
 use Rattle.capi.specs.Records.{slicesOut, slicesPlace, trueIn, trueOut, truePlace}
-use Rattle.capi.specs.Refusals.{Appends, Gives, GivesBack, GivesBoth, Refusals, builderOf}
+use Rattle.capi.specs.Refusals.{Appends, Gives, GivesBack, GivesBoth, Refusals, builderOf, numbers}
+use Rattle.capi.specs.Window.{asWindow, unlessRefused, windowIn}
 use Rattle.capi.specs.declared.records.Cursor.{Cursor}
 use Rattle.capi.specs.declared.records.Mask.{Mask}
+use Rattle.capi.proofs.WindowLaws.{stays}
 
--- are these all from 1 to 9
-abbrev InNine : List ℕ → Type 0
-InNine ns = allAmong ns (1 ∷ 2 ∷ 3 ∷ 4 ∷ 5 ∷ 6 ∷ 7 ∷ 8 ∷ 9 ∷ []) ≡ true
+-- are these all numbers of refusals
+abbrev Listed : List ℕ → Type 0
+Listed ns = allAmong ns numbers ≡ true
 
 -- the number of an answer, 0 where it refuses nothing
 abbrev numberIn : {S A : Type 0} → Answer S A → ℕ
@@ -47,16 +51,16 @@ numberIn (refused k s) = k
 
 -- ---- what is said of an answer is said of its number
 
-no-number : (ns : List ℕ) → InNine ns → Gives ns 0
+no-number : (ns : List ℕ) → Listed ns → Gives ns 0
 no-number ns l = record { listed = l; number = λ h. absurd (h refl) }
 
-some-number : (ns : List ℕ) (k : ℕ) → InNine ns → among k ns ≡ true → Gives ns k
+some-number : (ns : List ℕ) (k : ℕ) → Listed ns → among k ns ≡ true → Gives ns k
 some-number ns k l e = record { listed = l; number = λ h. e }
 
-nothing-back : {A : Type 0} (ns : List ℕ) (came back : A) → InNine ns → GivesBack ns 0 came back
+nothing-back : {A : Type 0} (ns : List ℕ) (came back : A) → Listed ns → GivesBack ns 0 came back
 nothing-back ns came back l = record { gives = no-number ns l; same = λ h. absurd (h refl) }
 
-number-in : {S A : Type 0} (ns : List ℕ) (s : S) → InNine ns → (a : Answer S A) → Refuses ns s a → Gives ns (numberIn a)
+number-in : {S A : Type 0} (ns : List ℕ) (s : S) → Listed ns → (a : Answer S A) → Refuses ns s a → Gives ns (numberIn a)
 number-in ns s l (given x) r = no-number ns l
 number-in ns s l (refused k t) r = some-number ns k l (r .number k t refl)
 
@@ -66,7 +70,7 @@ unwritten-in ns s (given x) before after r h = absurd (h refl)
 unwritten-in ns s (refused k t) before after r h = r .unwritten k t refl
 
 -- of an encoding that keeps the number
-module _ {S A : Type 0} (ns : List ℕ) (s : S) (l : InNine ns) (a : Answer S A) (k : ℕ) (e : k ≡ numberIn a) where
+module _ {S A : Type 0} (ns : List ℕ) (s : S) (l : Listed ns) (a : Answer S A) (k : ℕ) (e : k ≡ numberIn a) where
   gives : Refuses ns s a → Gives ns k
   gives r = subst (λ (n : ℕ). Gives ns n) (sym e) (number-in ns s l a r)
 
@@ -137,7 +141,7 @@ nth-gives Missing = no-number [] refl
 
 -- ---- what comes back
 
-module _ (ns : List ℕ) (l : InNine ns) where
+module _ (ns : List ℕ) (l : Listed ns) where
   mask-back : {S : Type 0} (m : Mask) (s : S) (a : Answer S Bitmap) → Refuses ns s a
       → GivesBack ns (asSameMask m a .refusal) m (asSameMask m a .mask)
   unfolding asSameMask
@@ -205,10 +209,27 @@ true-in : (start n place masked : ℕ) → (masked ≡ 0 → ⊥) → trueIn sta
 unfolding trueIn
 true-in start n place masked h = ap (λ (x : Bool). trueAt start n place (not x)) (ne-eqb masked 0 h)
 
+-- ---- a window of minutes, whose one number is 16
+
+sixteen : (x : Bool) (k : ℕ) → k ≡ cond x 0 16 → (k ≡ 0 → ⊥) → k ≡ 16
+sixteen true k e h = absurd (h e)
+sixteen false k e h = e
+
+module _ (x : Bool) (k : ℕ) (e : k ≡ cond x 0 16) where
+  window-gives : Gives (16 ∷ []) k
+  unfolding allAmong among
+  window-gives = record { listed = refl; number = λ h. rw (sixteen x k e h) refl }
+
+  window-back : {A : Type 0} (came back : A) → (k ≡ 16 → back ≡ came) → GivesBack (16 ∷ []) k came back
+  window-back came back b = record { gives = window-gives; same = λ h. b (sixteen x k e h) }
+
+  array-back : (came new : List ℕ) → GivesBack (16 ∷ []) k came (unlessRefused k came new)
+  array-back came new = record { gives = window-gives; same = λ h. sym (stays k came new h) }
+
 -- ---- the exports
 
 pub refusals : Refusals
-unfolding allAmong among optionalIn trueIn asWord asBit asRun
+unfolding allAmong among optionalIn trueIn asWord asBit asRun asWindow
 refusals =
     record {
       pw-nth-set-bit-u64 = λ w n. nth-gives _;
@@ -312,4 +333,16 @@ refusals =
       no-permission = λ p pBytes q qBytes truck.
           gives _ _ refl _ _ (of-flag _) (dispatch.refusals Absent pBytes (Present (maskIn q)) qBytes truck);
       neither = λ p pBytes q qBytes truck. gives _ _ refl _ _ (of-flag _) (dispatch.refusals Absent pBytes Absent qBytes truck);
+      pw-activity-new = λ width words counts.
+          record {
+            gives = array-back (widthFits width) _ (activity.refusals .new-number width) words _;
+            unwritten = λ h. sym (stays _ counts _ h);
+          };
+      pw-activity-push-minute = λ words counts place fill width word.
+          window-back (leftByMinutes (windowIn words counts place fill width)) _
+          (activity.refusals .push-number (windowIn words counts place fill width) word) _ _
+          (activity.refusals .push-refused (windowIn words counts place fill width) word);
+      pw-activity-counts = λ words counts place fill width out.
+          array-back (leftByMinutes (windowIn words counts place fill width)) _
+          (activity.refusals .counts-number (windowIn words counts place fill width)) out _;
     }

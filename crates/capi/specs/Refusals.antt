@@ -32,18 +32,24 @@ use Rattle.masks.specs.SliceIterator.{slicesAt, newSlices, nextSlice}
 use Rattle.masks.specs.TrueIdx.{newTrue, nextTrue}
 use Rattle.masks.specs.Utils.{spanCount, zeros}
 use Rattle.dispatch.specs.Dispatch.{mayReassign}
+use Rattle.activity.specs.Window.{newOf, pushOf, countsOf}
 use Rattle.capi.specs.Answers.{asBit, asBuilder, asCursor, asFlag, asMask, asNumber, asPosition, asRemainder, asRun, asSameMask}
 use Rattle.capi.specs.Answers.{asSpans, asSplit, asTaken, asValidity, asWord, asZeros, nthAnswer}
 use Rattle.capi.specs.Records.{builderIn, chunksOut, chunksPlace, iterOut, iterPlace, maskIn, optionalIn, slicesOut, slicesPlace}
 use Rattle.capi.specs.Records.{trueIn, trueOut, truePlace}
+use Rattle.capi.specs.Window.{asWindow, unlessRefused, windowIn}
 use Rattle.capi.specs.declared.records.Builder.{Builder}
 use Rattle.capi.specs.declared.records.Mask.{Mask}
 
 -- ---- what is said of an export
 
--- the number k that comes out is 0 or one of these, which are all from 1 to 9
+-- the numbers by which a call may refuse
+abbrev pub numbers : List ℕ
+numbers = 1 ∷ 2 ∷ 3 ∷ 4 ∷ 5 ∷ 6 ∷ 7 ∷ 8 ∷ 9 ∷ 16 ∷ []
+
+-- the number k that comes out is 0 or one of these
 pub record Gives (ns : List ℕ) (k : ℕ) : Type 0 where
-  pub listed : allAmong ns (1 ∷ 2 ∷ 3 ∷ 4 ∷ 5 ∷ 6 ∷ 7 ∷ 8 ∷ 9 ∷ []) ≡ true
+  pub listed : allAmong ns numbers ≡ true
   pub number : (k ≡ 0 → ⊥) → among k ns ≡ true
 
 -- besides, where it is not 0, what came is given back as it came: a record, a cursor's place, the elements of a buffer
@@ -201,3 +207,12 @@ pub record Refusals : Type 0 where
       → Gives (1 ∷ 2 ∷ 3 ∷ 6 ∷ []) (asFlag (mayReassign (optionalIn false p) pBytes (optionalIn true q) qBytes truck) .refusal)
   pub neither : (p : Mask) (pBytes : List ℕ) (q : Mask) (qBytes : List ℕ) (truck : ℕ)
       → Gives [] (asFlag (mayReassign (optionalIn false p) pBytes (optionalIn false q) qBytes truck) .refusal)
+  -- a window of minutes: a new one, of which both arrays stay; one minute on, where the window stays; its counts, where the output stays
+  pub pw-activity-new : (width : ℕ) (words counts : List ℕ) → let r = newOf width in
+      GivesBoth (16 ∷ []) (asWindow r .refusal) words (unlessRefused (r .refusal) words (r .window .words))
+      counts (unlessRefused (r .refusal) counts (r .window .counts))
+  pub pw-activity-push-minute : (words counts : List ℕ) (place fill width word : ℕ) → let a = windowIn words counts place fill width in
+      GivesBack (16 ∷ []) (asWindow (pushOf a word) .refusal) a (pushOf a word .window)
+  pub pw-activity-counts : (words counts : List ℕ) (place fill width : ℕ) (out : List ℕ)
+      → let r = countsOf (windowIn words counts place fill width) in
+      GivesBack (16 ∷ []) (r .refusal) out (unlessRefused (r .refusal) out (r .counts))

@@ -162,3 +162,12 @@ pub(crate) fn step_of(
         place: place,
     }
 }
+
+// A window of minutes without its arrays: the place where its next word goes, how many words it keeps now, and its width.
+#[repr(C)]
+pub struct WindowAnswer {
+    pub refusal: u8,
+    pub place: usize,
+    pub fill: usize,
+    pub width: usize,
+}

@@ -1,4 +1,4 @@
-// The calls of words, masks and dispatch as functions that C and Rust link. Records cross as numbers, a slice as its pointer and
+// The calls of words, activity, masks and dispatch as functions that C and Rust link. Records cross as numbers, a slice as its pointer and
 // its count of elements; include/poruwhina.h declares them all.
 //
 // Nothing is decided here: each export turns its numbers into the call's records, makes the call, and turns the answer into
@@ -15,4 +15,5 @@ pub mod reassign;
 mod records;
 pub mod search;
 pub mod spans;
+pub mod window;
 pub mod word;

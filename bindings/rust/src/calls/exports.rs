@@ -100,6 +100,13 @@ unsafe extern "C" {
         permitted: bool, permission: Mask, permission_bytes: *const u8, permission_bytes_len: usize, revoked: bool, revocation: Mask,
         revocation_bytes: *const u8, revocation_bytes_len: usize, truck: usize,
     ) -> Flag;
+    pub fn pw_activity_new(words: *mut [u64; 256], counts: *mut [u32; 64], width: usize) -> WindowAnswer;
+    pub fn pw_activity_push_minute(
+        words: *mut [u64; 256], counts: *mut [u32; 64], place: usize, fill: usize, width: usize, word: u64,
+    ) -> WindowAnswer;
+    pub fn pw_activity_counts(
+        words: *const [u64; 256], counts: *const [u32; 64], place: usize, fill: usize, width: usize, out: *mut [u32; 64],
+    ) -> u8;
     pub fn pw_interface_1() -> u32;
 }
 

@@ -288,3 +288,23 @@ pub struct SpansAnswer {
     /// The length of the second span.
     pub second_length: usize,
 }
+
+/// A window of minutes without its arrays, or a refusal.
+///
+/// ```
+/// use poruwhina::calls::{WindowAnswer, activity_new};
+///
+/// assert_eq!(activity_new(&mut [0; 256], &mut [0; 64], 0), WindowAnswer { refusal: 16, ..WindowAnswer::default() });
+/// ```
+#[repr(C)]
+#[derive(Clone, Copy, Debug, PartialEq, Eq, Default)]
+pub struct WindowAnswer {
+    /// The number of the check that failed, or 0.
+    pub refusal: u8,
+    /// The place where the next word goes.
+    pub place: usize,
+    /// How many words are kept now.
+    pub fill: usize,
+    /// How many words are kept at most, 1 to 256.
+    pub width: usize,
+}
