@@ -336,6 +336,39 @@ static void dispatch(void) {
 }
 
 /* Each number, beside the nearest arguments that pass; a refusal gives the record back and writes nothing. */
+/* A window of width 2, three minutes and three trucks. */
+static void activity(void) {
+    uint64_t kept[256];
+    uint32_t counts[64], counted[64];
+    memset(kept, 0xEE, sizeof kept);
+    memset(counts, 0xEE, sizeof counts);
+    pw_window_answer w = pw_activity_new(kept, counts, 0);
+    CHECK(w.refusal == PW_REFUSED_IMPOSSIBLE_WINDOW && w.place == 0 && w.fill == 0 && w.width == 0);
+    w = pw_activity_new(kept, counts, 257);
+    CHECK(w.refusal == PW_REFUSED_IMPOSSIBLE_WINDOW && kept[0] == 0xEEEEEEEEEEEEEEEE && counts[63] == 0xEEEEEEEE);
+    w = pw_activity_new(kept, counts, 2);
+    CHECK(w.refusal == 0 && w.place == 0 && w.fill == 0 && w.width == 2);
+    bool zero = true;
+    for (size_t i = 0; i < 256; i++) zero = zero && kept[i] == 0 && counts[i % 64] == 0;
+    CHECK(zero);
+    w = pw_activity_push_minute(kept, counts, w.place, w.fill, w.width, 5);
+    CHECK(w.refusal == 0 && w.place == 1 && w.fill == 1 && w.width == 2 && kept[0] == 5);
+    w = pw_activity_push_minute(kept, counts, w.place, w.fill, w.width, 1);
+    CHECK(w.refusal == 0 && w.place == 0 && w.fill == 2 && counts[0] == 2 && counts[1] == 0 && counts[2] == 1);
+    w = pw_activity_push_minute(kept, counts, w.place, w.fill, w.width, 2); /* the first minute goes */
+    CHECK(w.refusal == 0 && w.place == 1 && w.fill == 2 && kept[0] == 2 && kept[1] == 1);
+    CHECK(pw_activity_counts(kept, counts, w.place, w.fill, w.width, counted) == 0);
+    CHECK(counted[0] == 1 && counted[1] == 1 && counted[2] == 0 && counted[63] == 0);
+    counts[63] = UINT32_MAX; /* a count that is off, and a stray word */
+    CHECK(pw_activity_counts(kept, counts, 1, 2, 2, counted) == PW_REFUSED_IMPOSSIBLE_WINDOW && counted[63] == 0);
+    w = pw_activity_push_minute(kept, counts, 1, 2, 2, 9);
+    CHECK(w.refusal == PW_REFUSED_IMPOSSIBLE_WINDOW && w.place == 1 && w.fill == 2 && w.width == 2);
+    CHECK(kept[1] == 1 && counts[0] == 1 && counts[63] == UINT32_MAX);
+    counts[63] = 0;
+    kept[255] = 1;
+    CHECK(pw_activity_counts(kept, counts, 1, 2, 2, counted) == PW_REFUSED_IMPOSSIBLE_WINDOW);
+}
+
 static void refusals(void) {
     clean();
     CHECK(pw_extend_constant(0, 0, 0, out, OUT, PW_FLAG_LIMIT + 1, true).refusal == PW_REFUSED_ABOVE_LIMIT);
@@ -383,6 +416,7 @@ int main(void) {
     position_chunks();
     at_one_index();
     dispatch();
+    activity();
     refusals();
     printf("%d checks, %d wrong\n", checks, wrong);
     return wrong != 0;

@@ -2,7 +2,7 @@
 //! proved against its contract.
 //!
 //! A [`Bitmap`] is made from bytes, from flags or by a [`BitmapBuilder`], cut, combined with others, counted, searched and
-//! walked; [`may_reassign`] answers for one truck. The names are those of polars-arrow's bitmap module, of which the library is
+//! walked; [`may_reassign`] answers for one truck. An [`ActivityWindow`] counts who was busy in the last minutes. The names are those of polars-arrow's bitmap module, of which the library is
 //! a port. What a call cannot do it refuses, by a [`Refusal`] with its number and words, and nothing has changed then.
 //!
 //! ```
@@ -126,6 +126,7 @@
 //! Whoever goes through many flags takes runs, positions or words where these will do, and appends by spans and words.
 #![deny(unsafe_code, missing_docs)]
 
+mod activity;
 mod bitmap;
 mod builder;
 pub mod calls;
@@ -133,6 +134,7 @@ mod dispatch;
 mod iterator;
 mod refusal;
 
+pub use activity::ActivityWindow;
 pub use bitmap::Bitmap;
 pub use builder::BitmapBuilder;
 pub use dispatch::may_reassign;

@@ -3,6 +3,7 @@
 mod appending;
 mod combining;
 mod lists;
+mod minutes;
 mod positions;
 mod reading;
 mod refusing;

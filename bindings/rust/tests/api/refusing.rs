@@ -105,7 +105,7 @@ fn the_record_as_it_came() {
 #[test]
 fn numbers_and_words() {
     let known: Vec<u8> = (0..=255).filter(|&number| Refusal::from_number(number).is_some()).collect();
-    assert_eq!(known, [1, 2, 3, 4, 5, 6, 7, 8, 9]);
+    assert_eq!(known, [1, 2, 3, 4, 5, 6, 7, 8, 9, 16]);
     for number in known {
         let refusal = Refusal::from_number(number).unwrap();
         assert_eq!(refusal.number(), number);
