@@ -4,10 +4,11 @@
     python3 tests/calls_page.py --write    writes these cells anew
 
 Taken from the sources: a call's arguments and the definitions that its `ensures` cite (src/*.rt), the numbers by which it may
-refuse (specs/Refusals.antt), the wrong answers tried (specs/Wrong*.antt), and how many lines a file has. Written by hand are the
-column `answer`, the order of the rows, and the table of edits. Checked besides: that the first table has just the files
-that public contracts reach, that each file of specs/ is named, that specs/Witnesses.antt names each call that may refuse, and
-that the wrong answer of each edit is one of its call's row."""
+refuse (specs/Refusals.antt), the wrong answers tried (specs/Wrong*.antt), and how many lines a file has: those with definitions
+and comments, without imports and empty lines. Written by hand are the column `answer`, the order of the rows, and the table of
+edits. Checked besides: that the first table has just the files that public contracts reach, that these define nothing that no
+contract reaches, that each file of specs/ is named, that specs/Witnesses.antt names each call that may refuse, and that the wrong
+answer of each edit is one of its call's row. The sum of the first table is said in the pages of TOTAL."""
 import glob
 import os
 import re
@@ -16,6 +17,10 @@ import sys
 ROOT = os.path.dirname(os.path.dirname(os.path.abspath(__file__)))
 PAGE = os.path.join(ROOT, "docs", "CALLS.md")
 CRATES = ("words", "activity", "masks", "dispatch", "report")
+TOTAL = re.compile(r"[\d,]+(?= lines of definitions\s+and\s+contracts)")
+NAME = r"[^\W\d][\w'·-]*"
+SAID_IN = ("README.md", os.path.join("docs", "CALLS.md"), os.path.join("docs", "TRUST.md"))
+PLAIN = {"bitAt", "flagAt"}  # the sentence on Arrow's numbering, which the definitions of words/specs/Flags.antt are proved to say
 CALL = re.compile(r"^`([\w:]+)(?:\(.*\))?`$")
 
 
@@ -94,21 +99,49 @@ def uses(text):
     return [(f"{crate}/specs/{name}.antt", {n.split(" as ")[-1].strip() for n in names.split(",")}) for crate, name, names in found]
 
 
-def reached():
-    """The files that the clauses of public functions cite, and what these use in turn."""
-    waiting, found = [], set()
+def clauses():
+    """For each source file its text, and the names that the clauses of its public functions have."""
     for crate in CRATES:
         for path in glob.glob(os.path.join(ROOT, "crates", crate, "src", "*.rt")):
             text = re.sub(r"//[^\n]*", "", read(path))
             heads = [head_of(text, match.start(1)) for match in re.finditer(r"\bpub fn (\w+)", text)]
-            words = set(re.findall(r"[\w·]+", " ".join(re.findall(r"⌜(.*?)⌝", " ".join(heads), re.S))))
-            waiting += [file for file, names in uses(text) if names & words]
+            yield text, set(re.findall(NAME, " ".join(re.findall(r"⌜(.*?)⌝", " ".join(heads), re.S))))
+
+
+def reached():
+    """The files that the clauses of public functions cite, and what these use in turn."""
+    waiting = [file for text, words in clauses() for file, names in uses(text) if names & words]
+    found = set()
     while waiting:
         file = waiting.pop()
         if file not in found:
             found.add(file)
             waiting += [used for used, _ in uses(read("crates", file))]
     return found
+
+
+def parts(file):
+    """The definitions of a file by name, each with its text, without comments."""
+    text = re.sub(r"--[^\n]*", "", read("crates", file))
+    starts = list(re.finditer(rf"(?m)^(?:unfoldable |abbrev )?pub (?:record |data )?(?!use |mod )({NAME})", text))
+    ends = [start.start() for start in starts[1:]] + [len(text)]
+    return {start[1]: text[start.start() : end] for start, end in zip(starts, ends)}
+
+
+def unreached(files):
+    """The definitions of these files that no clause of a public function reaches, by the names alone."""
+    known, waiting, found = {}, set(), set()
+    for file in files:
+        for name, text in parts(file).items():
+            known.setdefault(name, []).append((file, text))
+    for _, words in clauses():
+        waiting |= {word.split("·")[-1] for word in words}
+    while waiting:
+        name = waiting.pop()
+        if name in known and name not in found:
+            found.add(name)
+            waiting |= set(re.findall(NAME, " ".join(text for _, text in known[name])))
+    return [f"{file}: no contract reaches {name}" for name in sorted(set(known) - found - PLAIN) for file, _ in known[name]]
 
 
 # ---- the tables of specs/
@@ -156,10 +189,11 @@ def witnessed(crate):
 def facts():
     """The cells of each call's row, by column; and complaints."""
     rows, complaints = {}, []
+    order = re.findall(r"\d+", re.search(r"(?m)^order =(.*?)^$", read("crates", "masks", "specs", "Checks.antt"), re.S)[1])
     for crate in CRATES:
         numbers, wrong, named = refusals(crate), wrong_answers(crate), witnessed(crate)
         for name, (args, definitions) in functions(crate).items():
-            checks = sorted(numbers.get(name, numbers.get("*", ())), key=int)
+            checks = sorted(numbers.get(name, numbers.get("*", ())), key=lambda n: (order.index(n) if n in order else 0, int(n)))
             if name in rows:
                 complaints.append(f"two public functions are named {name}")
             if name in numbers and name not in named:
@@ -175,10 +209,12 @@ def facts():
 
 
 def size_of(path):
-    """The lines of a file; of a crate's src the clauses of its public functions."""
+    """The lines of a file, without imports and empty lines; of a crate's src the clauses of its public functions."""
     if path.endswith("/src"):
         return str(sum(len(definitions) for _, definitions in functions(path.split("/")[0]).values()))
-    return str(read("crates", path).count("\n")) if os.path.isfile(os.path.join(ROOT, "crates", path)) else "no such file"
+    if not os.path.isfile(os.path.join(ROOT, "crates", path)):
+        return "no such file"
+    return str(sum(1 for line in read("crates", path).split("\n") if line and not re.match(r"(unfoldable )?(pub )?use ", line)))
 
 
 def cells_of(line):
@@ -222,15 +258,25 @@ def main():
     complaints += [f"no row for {name}" for name in rows if name not in seen]
     first = "\n".join(old).split("| file | lines | what |")[1].split("\n\n")[0]
     believed = set(re.findall(r"`(\S+\.antt)`", first))
+    total = f"{sum(int(size_of(path)) for path in re.findall(r'(?m)^. `(.*?)`', first)):,}"
     complaints += [f"{path}: in the contracts or in the first table, not in both" for path in sorted(believed ^ reached())]
     complaints += [f"{path} is not named" for path in definitions() if f"`{path}`" not in "\n".join(old)]
     complaints += [f"{seen.count(name)} rows for {name}" for name in sorted(set(seen)) if seen.count(name) > 1]
+    complaints += unreached(believed)
+    for page in SAID_IN:
+        said = TOTAL.findall(read(page))
+        if "--write" not in sys.argv and said != [total]:
+            complaints.append(f"{page}: the lines of definitions and contracts are {total}, and it says {' '.join(said) or 'nothing'}")
     if "--write" in sys.argv:
         with open(PAGE, "w", encoding="utf-8") as file:
             file.write("\n".join(out))
+        for page in SAID_IN:
+            text = TOTAL.sub(total, read(page))
+            with open(os.path.join(ROOT, page), "w", encoding="utf-8") as file:
+                file.write(text)
     else:
         complaints += [f"line {k}: is   {a}\n{' ' * 8}wants {b}" for k, (a, b) in enumerate(zip(old, out), 1) if a != b]
-    print("\n".join(complaints + [f"{len(rows)} public functions, {len(complaints)} complaints"]))
+    print("\n".join(complaints + [f"{len(rows)} public functions, {total} lines to believe, {len(complaints)} complaints"]))
     return 1 if complaints else 0
 
 

@@ -15,18 +15,20 @@ use Rattle.histories.specs.Agreement.{Agrees, countShown, flagOf, flagSh
 use Rattle.histories.specs.Agreement.{nthShown, refrozen, thenFrozen, runsOf, runsShown}
 use Rattle.masks.specs.Answer.{Answer, given, unlessEmpty}
 use Rattle.masks.specs.Appends.{subsliceChecks}
-use Rattle.masks.specs.Builder.{Filling, appended, filling, newBuilder, Room}
+use Rattle.masks.specs.Builder.{Filling, appended, filling, newBuilder}
 use Rattle.masks.specs.Checks.{firstFailed, spanChecks}
 use Rattle.masks.specs.Cursor.{item, ended, cursorChecks}
 use Rattle.masks.specs.Freeze.{freezeChecks, frozenMask, frozenOver}
 use Rattle.masks.specs.Frozen.{frozen, frozenSize}
 use Rattle.histories.specs.Owed.{Stands}
 use Rattle.masks.specs.Iterator.{flagStep, iterAt, iterFlags, movedTo, newIter, nthFlag}
+use Rattle.masks.specs.Listing.{runsLeft}
 use Rattle.masks.specs.Mask.{maskChecks, maskFlags, maskOf, unsetBitsOf, zeroCount}
 use Rattle.masks.specs.Search.{nthBack, nthFrom, searchBack, searchFrom}
-use Rattle.masks.specs.SliceIterator.{newSlices, runsFrom, runsLeft, slicesAt}
+use Rattle.masks.specs.SliceIterator.{newSlices, runsFrom, slicesAt}
 use Rattle.masks.specs.TrueCounts.{TrueCount}
 use Rattle.masks.specs.Utils.{zeros}
+use Rattle.masks.specs.Workers.{Room}
 use Rattle.masks.specs.declared.bitmap.Bitmap.{Bitmap}
 use Rattle.masks.specs.declared.bitmap.Unset.the-variants.{Known}
 use Rattle.masks.specs.declared.iterator.BitmapIter.{BitmapIter}

@@ -14,12 +14,13 @@ use Rattle.masks.specs.Answer.{decided, kept}
 use Rattle.masks.specs.Appends.{Append, pushFlag, extendConstant, pushWord, extendSlice, extendRepeated, extendBitmap}
 use Rattle.masks.specs.Appends.{extendGather, extendOptGather, appendChecks, appendFlags, constantChecks, gatherChecks, gathered}
 use Rattle.masks.specs.Appends.{growChecks, innerChecks, repeated, spanGrowChecks, subsliceChecks, wordChecks, allBelow}
-use Rattle.masks.specs.Builder.{Filling, appended, builderChecks, builderFlags, noneFrom, Room}
+use Rattle.masks.specs.Builder.{Filling, appended, builderChecks, builderFlags, noneFrom}
 use Rattle.masks.specs.Checks.{Check, check, firstFailed, limit, spanChecks, withinLimit}
 use Rattle.masks.specs.Freeze.{frozenMask, frozenOver}
 use Rattle.masks.specs.Frozen.{frozen}
 use Rattle.masks.specs.Mask.{maskChecks, maskFlags}
 use Rattle.masks.specs.Utils.{zeros}
+use Rattle.masks.specs.Workers.{Room}
 use Rattle.masks.specs.declared.builder.BitmapBuilder.{BitmapBuilder}
 use Rattle.masks.proofs.CheckLaws.{both-left, both-right}
 use Rattle.masks.proofs.FreezeLaws.{frozen-flags, true-zeros}

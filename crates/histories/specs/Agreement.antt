@@ -11,10 +11,11 @@ use Rattle.words.specs.Flags.{over}
 use Rattle.masks.specs.Answer.{Answer, given, refused}
 use Rattle.masks.specs.Appends.{appendAnswer, appendBytes, extendBitmap}
 use Rattle.masks.specs.Builder.{newBuilder}
-use Rattle.masks.specs.Cursor.{Step, item, ended, listing}
+use Rattle.masks.specs.Cursor.{Step, item, ended}
 use Rattle.masks.specs.Freeze.{freezeBytes, freezeOf}
 use Rattle.masks.specs.Frozen.{frozen, frozenSize}
 use Rattle.masks.specs.Iterator.{newIter, nthFlag}
+use Rattle.masks.specs.Listing.{listing}
 use Rattle.masks.specs.Mask.{maskFlags, Recounted, unsetBitsOf}
 use Rattle.masks.specs.Search.{nthBack, nthFrom, searchBack, searchFrom}
 use Rattle.masks.specs.SliceIterator.{newSlices, nextSlice, runsFrom}

@@ -12,11 +12,12 @@ use Rattle.words.specs.Flags.{flagsOf}
 use Rattle.words.proofs.Windows.{length-window}
 use Rattle.masks.specs.Aligned.{bulkOffset, bulkStart, bytesToAligned, short}
 use Rattle.masks.specs.Appends.{growChecks, innerChecks, subsliceChecks}
-use Rattle.masks.specs.Builder.{Room, builderChecks, possible}
+use Rattle.masks.specs.Builder.{builderChecks, possible}
 use Rattle.masks.specs.Checks.{check, earlier, firstFailed, limit, outputChecks, spanChecks, withinLimit}
 use Rattle.masks.specs.Mask.{countFits, countValid, maskChecks, maskFlags, maskOf, pieceChecks, slicedMask, tryNewOf, uncounted}
 use Rattle.masks.specs.TrueCounts.{TrueCount, Truthful}
 use Rattle.masks.specs.Utils.{zeros}
+use Rattle.masks.specs.Workers.{Room}
 use Rattle.masks.specs.declared.bitmap.Bitmap.{Bitmap}
 use Rattle.masks.specs.declared.bitmap.Unset.{Unset}
 use Rattle.masks.specs.declared.bitmap.Unset.the-variants.{Known, Unknown}

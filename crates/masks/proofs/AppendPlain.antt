@@ -20,9 +20,10 @@ use Rattle.masks.specs.AppendPlain.{newCount, newFlag, builderFlag, Appe
 use Rattle.masks.specs.Appends.{Append, pushFlag, extendConstant, pushWord, extendSlice, extendRepeated, extendBitmap, extendGather, extendOptGather}
 use Rattle.masks.specs.Appends.{appendChecks, appendFlags, appendAnswer, appendBytes, growChecks, wordChecks, constantChecks, spanGrowChecks, subsliceChecks}
 use Rattle.masks.specs.Appends.{innerChecks, gatherChecks, allBelow, gathered, repeated}
-use Rattle.masks.specs.Builder.{Filling, filling, appended, builderFlags, inProgress, noneFrom, Room}
+use Rattle.masks.specs.Builder.{Filling, filling, appended, builderFlags, inProgress, noneFrom}
 use Rattle.masks.specs.Checks.{check, firstFailed, withinLimit, spanChecks}
 use Rattle.masks.specs.Mask.{maskChecks, maskFlags}
+use Rattle.masks.specs.Workers.{Room}
 use Rattle.masks.specs.declared.bitmap.Bitmap.{Bitmap}
 use Rattle.masks.specs.declared.builder.BitmapBuilder.{BitmapBuilder}
 use Rattle.masks.proofs.AnswerLaws.{given-number, given-value}

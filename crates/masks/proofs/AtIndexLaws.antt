@@ -9,9 +9,10 @@ use lib.ListN.{getD}
 use borrow.Author.Tests.{ltb-true}
 use Rattle.words.specs.Flags.{flagsOf}
 use Rattle.words.proofs.Windows.{at-in}
-use Rattle.masks.specs.AtIndex.{andNotAtChecks, indexChecks, Indexed, indexInside, lengthChecks}
+use Rattle.masks.specs.AtIndex.{andNotAtChecks, indexChecks, indexInside, lengthChecks}
 use Rattle.masks.specs.Checks.{firstFailed}
 use Rattle.masks.specs.Mask.{maskChecks, maskFlags}
+use Rattle.masks.specs.Workers.{Indexed}
 use Rattle.masks.specs.declared.bitmap.Bitmap.{Bitmap}
 use Rattle.masks.specs.declared.bitmap.Optional.{Optional}
 use Rattle.masks.specs.declared.bitmap.Optional.the-variants.{Present, Absent}

@@ -17,10 +17,11 @@ use Rattle.words.specs.declared.ops.Op.the-variants.{And, AndNot, Or, OrNot, Xo
 use Rattle.words.proofs.Bytes.{flags-inj, flags-over}
 use Rattle.masks.specs.Answer.{Answer, given, refused, decided, kept}
 use Rattle.masks.specs.Checks.{Check, check, firstFailed, outputChecks}
-use Rattle.masks.specs.Combine.{shortcut, resultFlags, resultMask, resultCount, hasShortcut, pairChecks, pairShortcut, pairEach}
-use Rattle.masks.specs.Combine.{pairFlags, pairMask, pairOf, pairBytes, PairInLimit, eachOf, eachBytes, selectChecks}
+use Rattle.masks.specs.Combine.{shortcut, resultFlags, resultMask, resultCount, pairChecks, pairShortcut, pairEach}
+use Rattle.masks.specs.Combine.{pairFlags, pairMask, pairOf, pairBytes, eachOf, eachBytes, selectChecks}
 use Rattle.masks.specs.Frozen.{packed, frozen, frozenSize, overFrom}
 use Rattle.masks.specs.Mask.{maskOf, maskFlags, maskChecks, uncounted, zeroCount}
+use Rattle.masks.specs.Workers.{hasShortcut, PairInLimit}
 use Rattle.masks.specs.declared.bitmap.Bitmap.{Bitmap}
 use Rattle.masks.specs.declared.bitmap.Unset.{Unset}
 use Rattle.masks.specs.declared.shortcuts.Shortcut.{Shortcut}

@@ -12,11 +12,12 @@ use Rattle.masks.specs.Builder.{appended, builderChecks, builderFlags, i
 use Rattle.masks.specs.Checks.{earlier, firstFailed, rank, placeIn, outputChecks, spanChecks}
 use Rattle.masks.specs.Combine.{eachBytes, eachOf, pairBytes, pairChecks, pairFlags, pairOf, selectChecks, shortcut}
 use Rattle.masks.specs.Compare.{edges, edgesOf}
-use Rattle.masks.specs.Cursor.{cursorChecks, listing}
+use Rattle.masks.specs.Cursor.{cursorChecks}
 use Rattle.masks.specs.Examples.{examples, ExamplesHold}
 use Rattle.masks.specs.Freeze.{frozenOver}
 use Rattle.masks.specs.Frozen.{frozen, overFrom, packed}
 use Rattle.masks.specs.Iterator.{leadingFrom}
+use Rattle.masks.specs.Listing.{listing}
 use Rattle.masks.specs.Mask.{cutZeros, keptCount, maskChecks, pieceChecks, recounts, sliceChecks, sliceOf, tryNewOf, unsetBitsOf, zeroCount}
 use Rattle.masks.specs.Search.{nthBack, nthFrom, searchBack, searchFrom}
 use Rattle.masks.specs.SliceIterator.{newSlices, nextSlice, runStart, sliceStep}

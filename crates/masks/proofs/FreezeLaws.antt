@@ -15,12 +15,13 @@ use Rattle.words.proofs.Bytes.{length-flags, flags-over}
 use Rattle.words.proofs.Counting.{count-append, count-le, count-not}
 use Rattle.words.proofs.Plain.{window-part, at-over}
 use Rattle.words.proofs.Windows.{length-window, window-add, as-window, at-in, over-append, over-none}
-use Rattle.masks.specs.Builder.{filling, inProgress, builderFlags, builderChecks, noneFrom, Room}
+use Rattle.masks.specs.Builder.{filling, inProgress, builderFlags, builderChecks, noneFrom}
 use Rattle.masks.specs.Checks.{firstFailed}
 use Rattle.masks.specs.Freeze.{allOnes, frozenMask, validityOf, freezeChecks, frozenOver}
 use Rattle.masks.specs.Frozen.{packed, frozen, frozenSize, overFrom}
 use Rattle.masks.specs.Mask.{maskFlags}
 use Rattle.masks.specs.Utils.{zeros}
+use Rattle.masks.specs.Workers.{Room}
 use Rattle.masks.specs.declared.bitmap.Bitmap.{Bitmap}
 use Rattle.masks.specs.declared.builder.BitmapBuilder.{BitmapBuilder}
 use Rattle.masks.proofs.AppendLaws.{low-count, low-window, window-front}

@@ -14,7 +14,8 @@ use Rattle.words.proofs.Bits.{length-bits}
 use Rattle.words.proofs.Plain.{window-part}
 use Rattle.words.proofs.Windows.{at-window}
 use Rattle.masks.specs.Appends.{gathered, allBelow}
-use Rattle.masks.specs.Builder.{Filling, appended, Room}
+use Rattle.masks.specs.Builder.{Filling, appended}
+use Rattle.masks.specs.Workers.{Room}
 use Rattle.masks.proofs.AppendLaws.{append-then, take-copies, one-copy}
 use Rattle.masks.proofs.PartLaws.{length-low}
 use Rattle.masks.proofs.RoomLaws.{room-after}

@@ -11,8 +11,9 @@ use Rattle.words.specs.Counts.{anySet}
 use Rattle.words.specs.Flags.{bits, window}
 use Rattle.words.proofs.Windows.{bits-window}
 use Rattle.masks.specs.Appends.{constantChecks}
-use Rattle.masks.specs.Builder.{noneFrom, builderChecks, Inside, Room}
+use Rattle.masks.specs.Builder.{noneFrom, builderChecks}
 use Rattle.masks.specs.Checks.{firstFailed, limit, withinLimit}
+use Rattle.masks.specs.Workers.{Inside, Room}
 use Rattle.masks.specs.declared.builder.BitmapBuilder.{BitmapBuilder}
 use Rattle.masks.proofs.AppendLaws.{word-back}
 use Rattle.masks.proofs.CheckLaws.{none-earlier, one-check, two-pieces}

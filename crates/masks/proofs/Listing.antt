@@ -8,7 +8,8 @@ use lib.Dec.{leb}
 use borrow.Author.Tests.{le-leb}
 use Rattle.masks.specs.Answer.{Answer, given}
 use Rattle.masks.specs.Checks.{Check, check, earlier, firstFailed}
-use Rattle.masks.specs.Cursor.{Step, item, ended, itemThen, listing, cursorOf, afterCalls}
+use Rattle.masks.specs.Cursor.{Step, item, ended}
+use Rattle.masks.specs.Listing.{itemThen, listing, cursorOf, afterCalls}
 use Rattle.masks.proofs.CheckLaws.{both-left, passed-before}
 
 -- one call from c, where Ok says that its checks pass: the first item of what is left, and a cursor with the others before it

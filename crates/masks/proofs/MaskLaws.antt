@@ -10,7 +10,8 @@ use borrow.Author.Tests.{le-leb, lt-leb, leb-true, leb-false, eq-eqb, ne-eqb}
 use Rattle.masks.specs.Answer.{Answer, given, refused, decided}
 use Rattle.masks.specs.Checks.{Check, check, rank, placeIn, firstFailed, limit, withinLimit, spanChecks}
 use Rattle.masks.specs.Mask.{cutMask, cutZeros, slicedMask, sliceOf, sliceChecks, countValid, maskChecks, pieceChecks}
-use Rattle.masks.specs.Mask.{PieceAllowed, recounts, recountedOf, keptCount, slicedCount, recountValid, cutOf}
+use Rattle.masks.specs.Mask.{recounts, keptCount, slicedCount, recountValid}
+use Rattle.masks.specs.Workers.{PieceAllowed, recountedOf, cutOf}
 use Rattle.masks.specs.declared.bitmap.Bitmap.{Bitmap}
 use Rattle.masks.specs.declared.bitmap.Cut.{Cut}
 use Rattle.masks.specs.declared.bitmap.Unset.{Unset}

@@ -7,7 +7,8 @@ use native.Mathlib.Omega.{arith}
 use lib.ListN.{length, take, getD}
 use Rattle.words.proofs.Windows.{lt-or-le}
 use Rattle.masks.specs.Answer.{given}
-use Rattle.masks.specs.Cursor.{ended, listing, afterCalls}
+use Rattle.masks.specs.Cursor.{ended}
+use Rattle.masks.specs.Listing.{listing, afterCalls}
 use Rattle.masks.specs.Positions.{leftOf, placeBehind}
 use Rattle.masks.specs.TrueIdx.{nextTrue, trueMoved, trueFlags}
 use Rattle.masks.specs.declared.true_idx.TrueIdxIter.{TrueIdxIter}

@@ -13,8 +13,9 @@ use Rattle.words.proofs.Loads.{from-end}
 use Rattle.words.proofs.Merging.{or-behind}
 use Rattle.words.proofs.Plain.{window-part}
 use Rattle.words.proofs.Windows.{lt-or-le, window-all, window-drop, window-ext, at-in, word-value}
-use Rattle.masks.specs.Builder.{Filling, filling, builderOf, inProgress, appended, noneFrom, Inside}
+use Rattle.masks.specs.Builder.{Filling, filling, builderOf, inProgress, appended, noneFrom}
 use Rattle.masks.specs.Frozen.{packed, overFrom}
+use Rattle.masks.specs.Workers.{Inside}
 use Rattle.masks.specs.declared.builder.BitmapBuilder.{BitmapBuilder}
 use Rattle.masks.proofs.AppendLaws.{Parts, appended-grown, length-progress, low-window, no-count, no-bytes}
 use Rattle.masks.proofs.FrozenLaws.{Small, overFrom-none, written-bytes}

@@ -10,9 +10,10 @@ use lib.ListN.{length, getD, length-append}
 use borrow.Author.Tests.{lt-leb}
 use Rattle.words.specs.Flags.{copies, window}
 use Rattle.words.proofs.Windows.{length-copies, length-window, window-add}
-use Rattle.masks.specs.Appends.{repeated, SameOrOver, growChecks}
-use Rattle.masks.specs.Builder.{Filling, appended, Room}
+use Rattle.masks.specs.Appends.{repeated, growChecks}
+use Rattle.masks.specs.Builder.{Filling, appended}
 use Rattle.masks.specs.Checks.{firstFailed, limit}
+use Rattle.masks.specs.Workers.{SameOrOver, Room}
 use Rattle.masks.specs.declared.builder.BitmapBuilder.{BitmapBuilder}
 use Rattle.masks.proofs.AppendLaws.{append-then}
 use Rattle.masks.proofs.RoomLaws.{room-after, over-limit}

@@ -14,11 +14,12 @@ use Rattle.words.proofs.Counting.{count-append, count-le, count-padded}
 use Rattle.words.proofs.Loads.{had-room}
 use Rattle.words.proofs.Plain.{overAt-before, overAt-in}
 use Rattle.words.proofs.Windows.{length-window, window-add, window-ext, as-window, at-in, bits-window}
-use Rattle.masks.specs.Builder.{Filling, inProgress, appended, builderFlags, noneFrom, possible, builderChecks, Room}
+use Rattle.masks.specs.Builder.{Filling, inProgress, appended, builderFlags, noneFrom, possible, builderChecks}
 use Rattle.masks.specs.Appends.{innerChecks}
 use Rattle.masks.specs.Checks.{check, rank, placeIn, earlier, firstFailed, limit, withinLimit, spanChecks, outputChecks}
 use Rattle.masks.specs.Frozen.{packed, overFrom}
 use Rattle.masks.specs.Mask.{maskChecks, countValid}
+use Rattle.masks.specs.Workers.{Room}
 use Rattle.masks.specs.declared.bitmap.Bitmap.{Bitmap}
 use Rattle.masks.specs.declared.builder.BitmapBuilder.{BitmapBuilder}
 use Rattle.masks.proofs.AppendLaws.{Parts, grown, appended-grown, parts-of, parts-long, progress-of, word-back, length-progress}

@@ -18,7 +18,8 @@ use Rattle.words.proofs.Plain.{at-bits, at-flags}
 use Rattle.words.proofs.Windows.{lt-or-le, length-window, in-window, as-window}
 use Rattle.masks.specs.Cursor.{Step, item, ended}
 use Rattle.masks.specs.Iterator.{leadingFrom}
-use Rattle.masks.specs.SliceIterator.{slicesMoved, runOf, runStart, firstRun, sliceStep}
+use Rattle.masks.specs.SliceIterator.{slicesMoved, runOf, runStart, sliceStep}
+use Rattle.masks.specs.Workers.{firstRun}
 use Rattle.masks.specs.declared.slice_iterator.Run.{Run}
 use Rattle.masks.specs.declared.slice_iterator.SlicesIterator.{SlicesIterator}
 use Rattle.masks.proofs.CheckLaws.{and-left, and-right}

@@ -15,7 +15,8 @@ use Rattle.words.proofs.EndLaws.{leading-le}
 use Rattle.words.proofs.Windows.{lt-or-le}
 use Rattle.masks.specs.Cursor.{item, ended}
 use Rattle.masks.specs.Iterator.{leadingFrom}
-use Rattle.masks.specs.SliceIterator.{runOf, runStart, sliceStep, withOne, runsFrom, runsLeft, listed}
+use Rattle.masks.specs.Listing.{runsLeft, listed}
+use Rattle.masks.specs.SliceIterator.{runOf, runStart, sliceStep, withOne, runsFrom}
 use Rattle.masks.specs.declared.slice_iterator.Run.{Run}
 use Rattle.masks.specs.declared.slice_iterator.SlicesIterator.{SlicesIterator}
 

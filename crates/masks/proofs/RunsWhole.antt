@@ -14,10 +14,11 @@ use Rattle.words.specs.Loops.{stretch}
 use Rattle.words.proofs.Windows.{lt-or-le, length-window}
 use Rattle.masks.specs.Answer.{Answer, given}
 use Rattle.masks.specs.Checks.{check, firstFailed, spanChecks}
-use Rattle.masks.specs.Cursor.{Step, item, ended, cursorChecks, listing}
+use Rattle.masks.specs.Cursor.{Step, item, ended, cursorChecks}
 use Rattle.masks.specs.Iterator.{leadingFrom}
+use Rattle.masks.specs.Listing.{listing, runsLeft, listed, Maximal, AllRuns, no-run, run-at}
 use Rattle.masks.specs.Mask.{countValid, maskChecks, maskFlags}
-use Rattle.masks.specs.SliceIterator.{slicesAt, slicesMoved, runOf, runChecks, runStart, sliceStep, nextSlice, runsFrom, runsLeft, listed, Maximal, AllRuns, no-run, run-at}
+use Rattle.masks.specs.SliceIterator.{slicesAt, slicesMoved, runOf, runChecks, runStart, sliceStep, nextSlice, runsFrom}
 use Rattle.masks.specs.declared.bitmap.Bitmap.{Bitmap}
 use Rattle.masks.specs.declared.slice_iterator.Run.{Run}
 use Rattle.masks.specs.declared.slice_iterator.SlicesIterator.{SlicesIterator}

@@ -13,7 +13,7 @@ use Rattle.words.specs.Flags.{count}
 use Rattle.words.specs.Nth.{nthPlace}
 use Rattle.words.proofs.Windows.{lt-or-le}
 use Rattle.masks.specs.Checks.{firstFailed}
-use Rattle.masks.specs.Cursor.{listing}
+use Rattle.masks.specs.Listing.{listing}
 use Rattle.masks.specs.Search.{nthFrom, nthBack}
 use Rattle.masks.specs.TrueIdx.{trueFlags, trueChecks, nextTrue, onesFrom, onesLeft}
 use Rattle.masks.specs.declared.true_idx.TrueIdxIter.{TrueIdxIter}

@@ -21,7 +21,8 @@ use Rattle.words.proofs.NthLaws.{nth-low, nth-high, nth-lt}
 use Rattle.words.proofs.Plain.{count-empty, nth-found, nth-missing, missing-nth}
 use Rattle.words.proofs.Windows.{lt-or-le, length-window, window-add, window-all, window-cut, window-drop}
 use Rattle.masks.specs.Bitmask.{windowWord}
-use Rattle.masks.specs.Search.{nthFrom, nthBack, seen}
+use Rattle.masks.specs.Search.{nthFrom, nthBack}
+use Rattle.masks.specs.Workers.{seen}
 use Rattle.masks.specs.declared.bitmask.Seen.the-variants.{There, Only}
 use Rattle.masks.proofs.BitmaskLaws.{window-flags}
 

@@ -15,10 +15,11 @@ use Rattle.words.proofs.Windows.{in-window, length-copies, length-window}
 use Rattle.masks.specs.Answer.{Answer, given, refused, decided, checked}
 use Rattle.masks.specs.Checks.{Check, check, earlier, firstFailed, limit, spanChecks, withinLimit}
 use Rattle.masks.specs.Combine.{resultCount, resultFlags}
-use Rattle.masks.specs.Mask.{countFits, countValid, cutOf, cutZeros, keptCount, maskChecks, maskFlags, maskOf, pieceChecks}
+use Rattle.masks.specs.Mask.{countFits, countValid, cutZeros, keptCount, maskChecks, maskFlags, maskOf, pieceChecks}
 use Rattle.masks.specs.Mask.{recounts, recountValid, sliceChecks, slicedCount, slicedMask, sliceOf, uncounted}
 use Rattle.masks.specs.TrueCounts.{TrueCount, Truthful}
 use Rattle.masks.specs.Utils.{zeros}
+use Rattle.masks.specs.Workers.{cutOf}
 use Rattle.masks.specs.declared.bitmap.Bitmap.{Bitmap}
 use Rattle.masks.specs.declared.bitmap.Cut.{Cut}
 use Rattle.masks.specs.declared.bitmap.Unset.{Unset}

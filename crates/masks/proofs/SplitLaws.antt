@@ -13,11 +13,12 @@ use mathlib.Core.Logic.{_⊎_, inl, inr, ⊎-elim}
 use borrow.Author.Tests.{leb-true, leb-false}
 use Rattle.words.proofs.Windows.{length-window, window-add, window-cut, window-all, bits-window, in-window}
 use Rattle.masks.specs.Aligned.{bytesToAligned, bulkOffset, short, prefixLength, bulkStart, bulkLength, suffixLength}
-use Rattle.masks.specs.Aligned.{alignedSplit, emptySplit, splitFlags, alignedOf, alignedChecks, Bounded}
+use Rattle.masks.specs.Aligned.{alignedSplit, emptySplit, alignedOf, alignedChecks}
 use Rattle.masks.specs.declared.aligned.AlignedBitmapSlice.{AlignedBitmapSlice}
 use Rattle.masks.specs.Answer.{Answer, given, refused, decided, unlessEmpty}
 use Rattle.masks.specs.Checks.{firstFailed, limit, spanChecks, addressChecks}
 use Rattle.masks.specs.Utils.{spanCount}
+use Rattle.masks.specs.Workers.{splitFlags, Bounded}
 use Rattle.masks.proofs.CheckLaws.{by-test, when-le, when-gt, both-left, both-right, is-given, span-allowed, SpanAllowed, address-allowed}
 
 -- the first whole word is not before the span's first flag, and at most a word further

@@ -16,11 +16,12 @@ use Rattle.words.proofs.Plain.{nth-inside}
 use Rattle.words.proofs.Windows.{lt-or-le}
 use Rattle.masks.specs.Answer.{Answer, given}
 use Rattle.masks.specs.Checks.{Check, check, earlier, firstFailed, spanChecks, withinLimit}
-use Rattle.masks.specs.Cursor.{Step, item, ended, cursorChecks, listing}
+use Rattle.masks.specs.Cursor.{Step, item, ended, cursorChecks}
+use Rattle.masks.specs.Listing.{listing, AllOnes, no-one, one-at}
 use Rattle.masks.specs.Mask.{countValid, maskChecks}
 use Rattle.masks.specs.Positions.{leftOf}
 use Rattle.masks.specs.Search.{nthFrom}
-use Rattle.masks.specs.TrueIdx.{newTrueChecks, firstTrue, trueMoved, trueFlags, trueChecks, trueStep, nextTrue, onesFrom, onesLeft, AllOnes, no-one, one-at}
+use Rattle.masks.specs.TrueIdx.{newTrueChecks, firstTrue, trueMoved, trueFlags, trueChecks, trueStep, nextTrue, onesFrom, onesLeft}
 use Rattle.masks.specs.declared.bitmap.Optional.{Optional}
 use Rattle.masks.specs.declared.bitmap.Optional.the-variants.{Present, Absent}
 use Rattle.masks.specs.declared.true_idx.TrueIdxIter.{TrueIdxIter}

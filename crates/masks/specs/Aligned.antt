@@ -1,15 +1,15 @@
 -- The aligned split of a span: a prefix, whole words at addresses divisible by 8, and a suffix. Assumes nothing.
 --
 -- The address is that of the first lent byte, as its remainder by 8: the Rust takes the address itself.
-use Prim.Native.Nat.{ℕ, _+_, _-_, _*_, _/_, _%_, _≤_}
+use Prim.Native.Nat.{ℕ, _+_, _-_, _*_, _/_, _%_}
 use mathlib.Core.Bool.{Bool, cond}
 use mathlib.Core.List.{List, _++_}
 use lib.Dec.{leb}
-use lib.ListN.{length, take}
-use Rattle.words.specs.Flags.{wordOf, wordFlags}
+use lib.ListN.{length}
+use Rattle.words.specs.Flags.{wordOf}
 use Rattle.words.specs.Loops.{stretch}
 use Rattle.masks.specs.Answer.{Answer, given, refused, checked, unlessEmpty}
-use Rattle.masks.specs.Checks.{Check, limit, spanChecks, addressChecks}
+use Rattle.masks.specs.Checks.{Check, spanChecks, addressChecks}
 use Rattle.masks.specs.declared.aligned.AlignedBitmapSlice.{AlignedBitmapSlice}
 use Rattle.masks.specs.declared.aligned.Aligned.{Aligned}
 use Rattle.masks.specs.declared.aligned.Aligned.the-variants.{Split, Refused}
@@ -49,19 +49,6 @@ alignedSplit bytes start n address =
       «suffix_len» = suffixLength start n address;
     }
 
--- the flags of a split's parts, and those that it stands for: its parts in a row
-abbrev pub prefixFlags : AlignedBitmapSlice → List Bool
-prefixFlags s = take (s .«prefix_len») (wordFlags (s .prefix))
-
-abbrev pub bulkFlags : List ℕ → AlignedBitmapSlice → List Bool
-bulkFlags bytes s = stretch bytes (8 * s .«bulk_start») (64 * s .«bulk_len»)
-
-abbrev pub suffixFlags : AlignedBitmapSlice → List Bool
-suffixFlags s = take (s .«suffix_len») (wordFlags (s .suffix))
-
-unfoldable pub splitFlags : List ℕ → AlignedBitmapSlice → List Bool
-splitFlags bytes s = prefixFlags s ++ (bulkFlags bytes s ++ suffixFlags s)
-
 -- of no flags: all 0
 abbrev pub emptySplit : AlignedBitmapSlice
 emptySplit = record { prefix = 0; «prefix_len» = 0; «bulk_start» = 0; «bulk_len» = 0; suffix = 0; «suffix_len» = 0 }
@@ -77,10 +64,3 @@ alignedAnswer (Refused n) = refused n tt
 unfoldable pub alignedOf : List ℕ → ℕ → ℕ → ℕ → Answer (Unit {0}) AlignedBitmapSlice
 alignedOf bytes start n address =
     unlessEmpty n (given emptySplit) (checked (alignedChecks start n (length bytes) address) tt (alignedSplit bytes start n address))
-
--- a split of a span within the flag limit: what the counts over its parts ask
-pub record Bounded (s : AlignedBitmapSlice) : Type 0 where
-  pub prefixFits : s .«prefix_len» ≤ 64
-  pub suffixFits : s .«suffix_len» ≤ 64
-  pub bulkStarts : s .«bulk_start» ≤ limit
-  pub bulkFits : s .«bulk_len» ≤ limit / 64

@@ -2,9 +2,7 @@
 --
 -- Each call appends a list of flags where all its checks pass. Else the builder and the buffer are as they came. The
 -- contracts and the step of a history read the same two tables, `appendChecks` and `appendFlags`.
-use mathlib.Core.Path.{_≡_}
-use mathlib.Core.Logic.{_⊎_}
-use Prim.Native.Nat.{ℕ, _+_, _*_, _<_}
+use Prim.Native.Nat.{ℕ, _+_, _*_}
 use mathlib.Core.Bool.{Bool, true, false, _&&_}
 use mathlib.Core.List.{List, [], _∷_, _++_}
 use lib.Dec.{leb, ltb}
@@ -13,7 +11,7 @@ use Rattle.words.specs.Flags.{copies, window, wordFlags}
 use Rattle.words.specs.Loops.{stretch}
 use Rattle.masks.specs.Answer.{Answer, given, refused, checked, decided, kept}
 use Rattle.masks.specs.Builder.{filling, appended, builderChecks, noneFrom}
-use Rattle.masks.specs.Checks.{Check, check, firstFailed, limit, withinLimit, spanChecks}
+use Rattle.masks.specs.Checks.{Check, check, firstFailed, withinLimit, spanChecks}
 use Rattle.masks.specs.Mask.{maskChecks, maskFlags}
 use Rattle.masks.specs.declared.bitmap.Bitmap.{Bitmap}
 use Rattle.masks.specs.declared.builder.BitmapBuilder.{BitmapBuilder}
@@ -115,7 +113,3 @@ pushedAnswer (Refused n b) = refused n b
 -- what a call over the caller's own record answers: 0 or the number of a check, and the record that it leaves
 abbrev pub changeAnswer : ℕ → BitmapBuilder → Answer BitmapBuilder BitmapBuilder
 changeAnswer n b = decided n b b
-
--- a number that stands for another: the same, or over the flag limit as that is
-abbrev pub SameOrOver : ℕ → ℕ → Type 0
-SameOrOver r p = (r ≡ p) ⊎ ((limit < r) × (limit < p))

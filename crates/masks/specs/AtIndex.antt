@@ -1,11 +1,11 @@
 -- The combination `and_not` at one index, where either mask may be absent. Assumes nothing.
-use Prim.Native.Nat.{ℕ, _≤_, _<_}
+use Prim.Native.Nat.{ℕ}
 use mathlib.Core.Bool.{Bool, true, false, not, _&&_}
 use mathlib.Core.List.{List, [], _∷_, _++_}
 use lib.Dec.{eqb, ltb}
 use lib.ListN.{getD}
 use Rattle.masks.specs.Answer.{Answer, given, refused, checked}
-use Rattle.masks.specs.Checks.{Check, check, limit}
+use Rattle.masks.specs.Checks.{Check, check}
 use Rattle.masks.specs.Mask.{maskChecks, maskFlags}
 use Rattle.masks.specs.declared.at_index.FlagAt.{FlagAt}
 use Rattle.masks.specs.declared.bitmap.Bitmap.{Bitmap}
@@ -51,10 +51,3 @@ andNotAtChecks first aBytes second bBytes i = indexChecks first aBytes i ++ (ind
 unfoldable pub andNotAtOf : Optional → List ℕ → Optional → List ℕ → ℕ → Answer (Unit {0}) Bool
 andNotAtOf first aBytes second bBytes i =
     checked (andNotAtChecks first aBytes second bBytes i) tt (andNotFlag first aBytes second bBytes i)
-
--- ---- what the workers ask
-
--- the index lies in the mask, if there is one, and the mask within the limit
-abbrev pub Indexed : Optional → ℕ → Type 0
-Indexed (Present m) i = (m .start ≤ limit) × ((m .length ≤ limit) × (i < m .length))
-Indexed Absent i = Unit {0}

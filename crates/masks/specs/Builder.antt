@@ -1,13 +1,12 @@
 -- The builder: its checks, and one definition of appending a list of flags. Assumes nothing.
-use mathlib.Core.Path.{_≡_}
-use Prim.Native.Nat.{ℕ, _+_, _*_, _/_, _%_, _≤_, _<_}
-use mathlib.Core.Bool.{Bool, true, not, _&&_}
+use Prim.Native.Nat.{ℕ, _+_, _*_, _/_, _%_}
+use mathlib.Core.Bool.{Bool, not, _&&_}
 use mathlib.Core.List.{List, _∷_, _++_}
 use lib.Dec.{leb}
 use lib.ListN.{length, take, drop}
 use Rattle.words.specs.Counts.{anySet}
 use Rattle.words.specs.Flags.{count, wordFlags, wordOf, flagsOf, window}
-use Rattle.masks.specs.Checks.{Check, check, limit, withinLimit, outputChecks}
+use Rattle.masks.specs.Checks.{Check, check, withinLimit, outputChecks}
 use Rattle.masks.specs.Frozen.{packed, overFrom}
 use Rattle.masks.specs.declared.builder.BitmapBuilder.{BitmapBuilder}
 
@@ -62,18 +61,3 @@ possible b size =
 -- checks 1, 4 and 9 of a call that makes the builder n flags long, over a buffer of so many bytes
 unfoldable pub builderChecks : BitmapBuilder → ℕ → ℕ → List Check
 builderChecks b n size = withinLimit (b .length) ∷ withinLimit n ∷ check 4 (possible b size) ∷ outputChecks n size
-
--- what the workers ask of a builder to which n flags are to be appended: it is possible, and within the limit and the buffer
-pub record Room (b : BitmapBuilder) (n size : ℕ) : Type 0 where
-  pub short : b .length + n ≤ limit
-  pub low : noneFrom (b .word) (b .length % 64) ≡ true
-  pub few : b .ones ≤ 64 * (b .length / 64)
-  pub holds : 8 * ((b .length + n + 63) / 64) ≤ size
-
--- what it takes to join the k flags of a word to those in progress: no flag of the two words stands where another belongs, and
--- the word stays unfilled
-pub record Inside (b : BitmapBuilder) (flags k : ℕ) : Type 0 where
-  pub short : b .length ≤ limit
-  pub room : b .length % 64 + k < 64
-  pub low : noneFrom (b .word) (b .length % 64) ≡ true
-  pub few : noneFrom flags k ≡ true

@@ -1,5 +1,5 @@
 -- The combinations of masks: flag by flag, or by the counts alone where these say that the result is constant. Assumes nothing.
-use Prim.Native.Nat.{ℕ, _≤_}
+use Prim.Native.Nat.{ℕ}
 use mathlib.Core.Bool.{Bool, true, false, not, cond, _&&_, _||_}
 use mathlib.Core.List.{List, [], _∷_, _++_, map, zipWith}
 use lib.Dec.{eqb}
@@ -9,7 +9,7 @@ use Rattle.words.specs.Ops.{opOf, zip3}
 use Rattle.words.specs.declared.ops.Op.{Op}
 pub use Rattle.words.specs.declared.ops.Op.the-variants.{And, AndNot, Or, OrNot, Xor, Not, Select}
 use Rattle.masks.specs.Answer.{Answer, given, refused, checked, kept}
-use Rattle.masks.specs.Checks.{Check, check, firstFailed, limit, outputChecks}
+use Rattle.masks.specs.Checks.{Check, check, firstFailed, outputChecks}
 use Rattle.masks.specs.Frozen.{frozen}
 use Rattle.masks.specs.Mask.{maskOf, maskFlags, maskChecks, zeroCount, uncounted}
 use Rattle.masks.specs.declared.bitmap.Bitmap.{Bitmap}
@@ -136,21 +136,3 @@ selectConstantOf s sBytes t tBytes x out = eachOf (pairChecks s sBytes t tBytes 
 abbrev pub selectConstantBytes : Bitmap → List ℕ → Bitmap → List ℕ → Bool → List ℕ → List ℕ
 selectConstantBytes s sBytes t tBytes x out =
     eachBytes (pairChecks s sBytes t tBytes (length out)) (selectConstantFlags s sBytes t tBytes x) out
-
--- ---- what the workers ask and answer
-
--- an operation that has a shortcut
-abbrev pub hasShortcut : Op → Bool
-hasShortcut And = true
-hasShortcut Or = true
-hasShortcut Xor = true
-hasShortcut AndNot = false
-hasShortcut OrNot = false
-hasShortcut Not = false
-hasShortcut Select = false
-
-pub record PairInLimit (a b : Bitmap) : Type 0 where
-  pub startA : a .start ≤ limit
-  pub lengthA : a .length ≤ limit
-  pub startB : b .start ≤ limit
-  pub lengthB : b .length ≤ limit

@@ -15,9 +15,9 @@ use Rattle.masks.specs.Appends.{Append, pushFlag, extendConstant, extend
 use Rattle.masks.specs.Builder.{newBuilder}
 use Rattle.masks.specs.Combine.{OrNot, pairOf, pairBytes, selectOf, selectBytes}
 use Rattle.masks.specs.Compare.{edgesOf}
-use Rattle.masks.specs.Cursor.{listing}
 use Rattle.masks.specs.Freeze.{freezeBytes, freezeOf, intoOptValidityOf}
 use Rattle.masks.specs.Frozen.{frozen}
+use Rattle.masks.specs.Listing.{listing}
 use Rattle.masks.specs.Mask.{emptyMask, maskOf, Recounted, sliceOf, tryNewOf, unsetBitsOf}
 use Rattle.masks.specs.Search.{searchFrom, searchBack}
 use Rattle.masks.specs.SliceIterator.{newSlices, nextSlice, runOf}

@@ -17,6 +17,7 @@ pub mod Examples
 pub mod Freeze
 pub mod Frozen
 pub mod Iterator
+pub mod Listing
 pub mod Mask
 pub mod OrderRows
 pub mod Positions
@@ -28,6 +29,7 @@ pub mod TrueCounts
 pub mod TrueIdx
 pub mod Utils
 pub mod Witnesses
+pub mod Workers
 pub mod WrongBuilders
 pub mod WrongCursors
 pub mod WrongMasks

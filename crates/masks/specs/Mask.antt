@@ -1,5 +1,5 @@
 -- The mask: its flags, its zero count, and what a slice makes of them. Assumes nothing.
-use Prim.Native.Nat.{ℕ, _+_, _-_, _/_, _≤_, max}
+use Prim.Native.Nat.{ℕ, _+_, _-_, _/_, max}
 use mathlib.Core.Bool.{Bool, true, false, cond, not, _&&_}
 use mathlib.Core.List.{List, [], _∷_, _++_}
 use lib.Dec.{eqb, leb}
@@ -7,12 +7,11 @@ use lib.ListN.{length}
 use Rattle.words.specs.Flags.{copies, over}
 use Rattle.words.specs.Loops.{stretch}
 use Rattle.masks.specs.Answer.{Answer, given, refused, checked, kept}
-use Rattle.masks.specs.Checks.{Check, check, firstFailed, limit, outputChecks, withinLimit, spanChecks}
+use Rattle.masks.specs.Checks.{Check, check, firstFailed, outputChecks, withinLimit, spanChecks}
 use Rattle.masks.specs.Frozen.{frozen}
 use Rattle.masks.specs.Utils.{zeros}
 use Rattle.masks.specs.declared.bitmap.Bitmap.{Bitmap}
 use Rattle.masks.specs.declared.bitmap.Counting.{Counting}
-use Rattle.masks.specs.declared.bitmap.Cut.{Cut}
 use Rattle.masks.specs.declared.bitmap.Made.{Made}
 use Rattle.masks.specs.declared.bitmap.Sliced.{Sliced}
 use Rattle.masks.specs.declared.bitmap.Unset.{Unset}
@@ -121,14 +120,6 @@ abbrev pub recountValid : ℕ → ℕ → ℕ → Unset → Bool
 recountValid old n cut Unknown = true
 recountValid old n cut (Known z) = cond (recounts old n z) (leb cut z && leb (z - cut) n) true
 
--- a recount: z less the zeros cut off, of n flags
-unfoldable pub recountedOf : ℕ → ℕ → ℕ → Cut
-recountedOf z cut n = cond (leb cut z && leb (z - cut) n) (Cut.Count (Known (z - cut))) Cut.Wrong
-
--- the count of a slice, or that check 7 fails
-abbrev pub cutOf : ℕ → ℕ → ℕ → Unset → Cut
-cutOf old n cut u = cond (recountValid old n cut u) (Cut.Count (slicedCount old n cut u)) Cut.Wrong
-
 -- checks 1, 2, 3 and 6
 unfoldable pub pieceChecks : Bitmap → List ℕ → ℕ → ℕ → List Check
 pieceChecks m bytes offset n =
@@ -149,9 +140,3 @@ slicedAnswer (Sliced.Refused k m) = refused k m
 
 unfoldable pub sliceOf : Bitmap → List ℕ → ℕ → ℕ → Answer Bitmap Bitmap
 sliceOf m bytes offset n = checked (sliceChecks m bytes offset n) m (slicedMask m bytes offset n)
-
--- what is known of a piece whose checks 1, 2, 3 and 6 have passed
-pub record PieceAllowed (m : Bitmap) (offset n : ℕ) : Type 0 where
-  pub starts : m .start ≤ limit
-  pub short : m .length ≤ limit
-  pub inside : offset + n ≤ m .length

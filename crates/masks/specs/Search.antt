@@ -1,21 +1,17 @@
 -- The set flag number n of a list, counted from a place on, and counted down from below an end. Assumes nothing.
-use Prim.Native.Nat.{ℕ, _+_, _-_, _≤_, _<_}
-use mathlib.Core.Path.{_≡_}
+use Prim.Native.Nat.{ℕ, _+_, _-_}
 use mathlib.Core.Bool.{Bool, cond}
 use mathlib.Core.List.{List}
 use mathlib.Core.Option.{Option, none, some}
 use lib.Dec.{ltb}
 use lib.ListN.{length, take, drop}
-use Rattle.words.specs.Flags.{bits, count}
+use Rattle.words.specs.Flags.{count}
 use Rattle.words.specs.Loops.{stretch}
 use Rattle.words.specs.Nth.{nthPlace}
 use Rattle.masks.specs.Answer.{Answer, given, refused, checked}
-use Rattle.masks.specs.Bitmask.{windowWord}
 use Rattle.masks.specs.Checks.{spanChecks}
 use Rattle.masks.specs.declared.bitmask.Position.{Position}
 use Rattle.masks.specs.declared.bitmask.Position.the-variants.{At, Missing, Refused}
-use Rattle.masks.specs.declared.bitmask.Seen.{Seen}
-use Rattle.masks.specs.declared.bitmask.Seen.the-variants.{There, Only}
 
 -- the position, at or after `from`, of the n-th set flag there, counted from 0; none if at most n are set
 unfoldable pub nthFrom : List Bool → ℕ → ℕ → Option ℕ
@@ -24,24 +20,6 @@ nthFrom l n from = cond (ltb n (count (drop from l))) (some (from + nthPlace (dr
 -- the position of the n-th set flag counted down from below `end`: of c set flags before it, the one numbered c - 1 - n
 unfoldable pub nthBack : List Bool → ℕ → ℕ → Option ℕ
 nthBack l n end = cond (ltb n (count (take end l))) (some (nthPlace (take end l) (count (take end l) - 1 - n))) none
-
--- what a window says of the set flag n: where it is in the window, or how many are set there
-unfoldable pub seen : List Bool → ℕ → Seen
-seen l n = cond (ltb n (count l)) (There (nthPlace l n)) (Only (count l))
-
--- ---- windows passed over
-
--- the search for `left` from `at` on is the one asked for, and a window there with too few set flags is among the last two
-pub record PassedFrom (bytes : List ℕ) (start size n from left at : ℕ) : Type 0 where
-  pub same : nthFrom (stretch bytes start size) left at ≡ nthFrom (stretch bytes start size) n from
-  pub inside : at < size
-  pub stops : count (bits 32 (windowWord bytes start size at)) ≤ left → size < at + 64
-
--- the same down from `below`
-pub record PassedBack (bytes : List ℕ) (start size n end left below : ℕ) : Type 0 where
-  pub same : nthBack (stretch bytes start size) left below ≡ nthBack (stretch bytes start size) n end
-  pub inside : below ≤ size
-  pub stops : count (bits 32 (windowWord bytes start below (below - 32))) ≤ left → below < 64
 
 -- ---- the calls: checks 1 and 2
 

@@ -1,10 +1,9 @@
 -- The runs of ones of a mask, one by one. Assumes nothing.
-use Prim.Native.Nat.{ℕ, suc, _+_, _≤_, _<_}
-use mathlib.Core.Path.{_≡_}
+use Prim.Native.Nat.{ℕ, suc, _+_}
 use mathlib.Core.Bool.{Bool, true, false, cond}
 use mathlib.Core.List.{List, [], _∷_}
 use lib.Dec.{ltb, eqb}
-use lib.ListN.{length, drop, getD}
+use lib.ListN.{length}
 use Rattle.words.specs.Loops.{stretch}
 use Rattle.masks.specs.Answer.{Answer, given, refused, checked}
 use Rattle.masks.specs.Checks.{Check}
@@ -48,10 +47,6 @@ runChecks c bytes = cursorChecks (c .start) (c .length) (c .place) (length bytes
 unfoldable pub runStart : List Bool → ℕ → ℕ
 runStart l place = place + leadingFrom false l place
 
--- all the ones from there on. With none the run is empty, at the length.
-unfoldable pub firstRun : List Bool → ℕ → Run
-firstRun l place = runOf (runStart l place) (leadingFrom true l (runStart l place))
-
 -- that run, and the cursor just past it; none, and the cursor at the length
 unfoldable pub sliceStep : SlicesIterator → List Bool → Step SlicesIterator Run
 sliceStep c l =
@@ -79,28 +74,3 @@ unfoldable pub runsFrom : ℕ → List Bool → List Run
 runsFrom k [] = []
 runsFrom k (false ∷ l) = runsFrom (suc k) l
 runsFrom k (true ∷ l) = withOne k (runsFrom (suc k) l)
-
--- the runs that a cursor at a place has before it
-unfoldable pub runsLeft : List Bool → ℕ → List Run
-runsLeft l place = runsFrom place (drop place l)
-
--- a step's run, and the runs that the cursor behind it has before it
-abbrev pub listed : List Bool → Step SlicesIterator Run → List Run
-listed l (item r c) = r ∷ runsLeft l (c .place)
-listed l (ended c) = []
-
--- ---- what the runs of a list are
-
--- ones that nothing extends: at either side a zero or an end of the list
-pub record Maximal (l : List Bool) (r : Run) : Type 0 where
-  pub some : 0 < r .length
-  pub inside : r .start + r .length ≤ length l
-  pub ones : (j : ℕ) → r .start ≤ j → j < r .start + r .length → getD l j false ≡ true
-  pub begins : (j : ℕ) → suc j ≡ r .start → getD l j false ≡ false
-  pub stops : getD l (r .start + r .length) false ≡ false
-
--- all runs from the flag p on: maximal, rising, two of them never side by side; every other flag from there on is a zero
-pub data AllRuns (l : List Bool) : ℕ → List Run → Type 0 where
-  no-run : {p : ℕ} → ((j : ℕ) → p ≤ j → getD l j false ≡ false) → AllRuns l p []
-  run-at : {p : ℕ} {r : Run} {more : List Run} → p ≤ r .start → ((j : ℕ) → p ≤ j → j < r .start → getD l j false ≡ false) → Maximal l r
-      → AllRuns l (suc (r .start + r .length)) more → AllRuns l p (r ∷ more)

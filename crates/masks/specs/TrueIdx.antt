@@ -1,11 +1,10 @@
 -- The positions of the ones of a mask; with no mask every position. Assumes nothing.
-use Prim.Native.Nat.{ℕ, suc, _+_, _≤_, _<_}
-use mathlib.Core.Path.{_≡_}
+use Prim.Native.Nat.{ℕ, suc, _+_}
 use mathlib.Core.Bool.{Bool, true, false, cond}
 use mathlib.Core.List.{List, [], _∷_, _++_}
 use mathlib.Core.Option.{Option, none, some}
 use lib.Dec.{leb, eqb}
-use lib.ListN.{length, drop, getD}
+use lib.ListN.{length, drop}
 use Rattle.words.specs.Flags.{copies}
 use Rattle.words.specs.Loops.{stretch}
 use Rattle.masks.specs.Answer.{Answer, given, refused, checked}
@@ -85,9 +84,3 @@ onesFrom k (true ∷ l) = k ∷ onesFrom (suc k) l
 -- the positions that a cursor at a place has before it
 unfoldable pub onesLeft : List Bool → ℕ → List ℕ
 onesLeft l place = onesFrom place (drop place l)
-
--- all ones from the flag p on, rising; every other flag from there on is a zero
-pub data AllOnes (l : List Bool) : ℕ → List ℕ → Type 0 where
-  no-one : {p : ℕ} → ((j : ℕ) → p ≤ j → getD l j false ≡ false) → AllOnes l p []
-  one-at : {p i : ℕ} {more : List ℕ} → p ≤ i → ((j : ℕ) → p ≤ j → j < i → getD l j false ≡ false) → getD l i false ≡ true
-      → AllOnes l (suc i) more → AllOnes l p (i ∷ more)

@@ -1,7 +1,8 @@
 // What the zero counts of two masks say of their combination, before any flag of them is read.
 ghost use mathlib.Core.Path.{_≡_};
 ghost use Rattle.words.specs.declared.ops.Op.the-variants.{Xor};
-ghost use Rattle.masks.specs.Combine.{PairInLimit, hasShortcut, pairShortcut, resultCount, shortcut};
+ghost use Rattle.masks.specs.Combine.{pairShortcut, resultCount, shortcut};
+ghost use Rattle.masks.specs.Workers.{PairInLimit, hasShortcut};
 use crate::bitmap::Bitmap;
 use crate::bitmap::Unset;
 use crate::bitmap::not_counted;

@@ -16,8 +16,9 @@ use Rattle.masks.specs.Checks.{firstFailed}
 use Rattle.masks.specs.Compare.{edges}
 use Rattle.masks.specs.Cursor.{item, ended}
 use Rattle.masks.specs.Iterator.{leadingFrom}
+use Rattle.masks.specs.Listing.{listed, runsLeft}
 use Rattle.masks.specs.Mask.{maskChecks, maskFlags, maskOf, zeroCount}
-use Rattle.masks.specs.SliceIterator.{listed, nextSlice, runOf, runsFrom, runsLeft, runStart, slicesAt, sliceStep}
+use Rattle.masks.specs.SliceIterator.{nextSlice, runOf, runsFrom, runStart, slicesAt, sliceStep}
 use Rattle.masks.specs.Utils.{zeros}
 use Rattle.masks.specs.declared.bitmap.Bitmap.{Bitmap}
 use Rattle.masks.specs.declared.bitmap.Unset.the-variants.{Unknown}

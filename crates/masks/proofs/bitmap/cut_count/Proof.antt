@@ -1,7 +1,7 @@
 -- By the mask's count: unknown (`cut-unknown`), recounted (`cut-known`) or kept (`cut-kept`).
 use Rattle.masks.proofs.MaskLaws.{cut-known, cut-kept, cut-unknown}
+use Rattle.masks.specs.Workers.{cutOf, recountedOf}
 use mathlib.Core.Path.{ap, _∙_}
-use Rattle.masks.specs.Mask.{cutOf, recountedOf}
 use mathlib.Core.Path.{sym}
 use borrow.Author.Needs.{needs}
 use Rattle.masks.proofs.bitmap.cut_count.Statement.{statement}

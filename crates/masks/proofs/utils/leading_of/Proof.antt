@@ -1,6 +1,6 @@
 -- Part by part: the next is read where all of one is alike.
-use Rattle.masks.specs.Aligned.{splitFlags, prefixFlags, bulkFlags, suffixFlags}
 use Rattle.masks.proofs.PartLaws.{length-low, front-most, front-first, front-middle, front-last}
+use Rattle.masks.specs.Workers.{splitFlags, prefixFlags, bulkFlags, suffixFlags}
 use native.Mathlib.Omega.{arith}
 use Rattle.words.proofs.Windows.{length-window}
 use borrow.Author.Needs.{needs}

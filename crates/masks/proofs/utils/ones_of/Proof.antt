@@ -1,6 +1,6 @@
 -- `count-three` adds the counts of the three parts; each is at most its part's length, so the sums fit.
 use native.Mathlib.Omega.{arith}
-use Rattle.masks.specs.Aligned.{splitFlags}
+use Rattle.masks.specs.Workers.{splitFlags}
 use Rattle.words.proofs.Counting.{low-within, count-within}
 use Rattle.masks.proofs.PartLaws.{count-taken, count-three}
 use borrow.Author.Needs.{needs}
