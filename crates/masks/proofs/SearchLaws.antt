@@ -13,8 +13,7 @@ use lib.Seq.{take-all, take-take, length-take-le}
 use borrow.Author.Tests.{lt-ltb, le-ltb}
 use Rattle.words.specs.Flags.{bits, count, flagsOf, window}
 use Rattle.words.specs.Loops.{stretch}
-use Rattle.words.specs.Nth.{nthPlace, nthOne}
-use Rattle.words.specs.declared.nth.Nth.the-variants.{At as Nth·At, Missing as Nth·Missing}
+use Rattle.words.specs.Nth.{atPlace, nthOne, nthPlace, onlyOnes}
 use Rattle.words.proofs.Bits.{length-bits}
 use Rattle.words.proofs.Counting.{count-append, count-le, count-padded}
 use Rattle.words.proofs.NthLaws.{nth-low, nth-high, nth-lt}
@@ -178,22 +177,24 @@ seen-only l n k e = ⊎-elim
     (lt-or-le n (count l))
 
 -- from the answer of a word, asked for a number of at most d
-pub see-there : (d w n m i : ℕ) → m ≡ min n d → nthOne (bits d w) m ≡ Nth·At i → There i ≡ seen (bits d w) n
+pub see-there : (d w n m i : ℕ) → m ≡ min n d → nthOne (bits d w) m ≡ atPlace i → There i ≡ seen (bits d w) n
 unfolding seen
 see-there d w n m i p e = ⊎-elim
     (λ (h : m < count (bits d w)).
-    let a : nthOne (bits d w) m ≡ Nth·At (nthPlace (bits d w) m) = nth-found (bits d w) m h in
+    let a : nthOne (bits d w) m ≡ atPlace (nthPlace (bits d w) m) = nth-found (bits d w) m h in
     let q : i ≡ nthPlace (bits d w) m = cc in
     let z : m ≡ n = omega (arith, count-le (bits d w), length-bits d w) in
     rw (lt-ltb n (count (bits d w)) (omega arith)) (ap There (q ∙ ap (nthPlace (bits d w)) z)))
     (λ (h : count (bits d w) ≤ m).
-    let a : nthOne (bits d w) m ≡ Nth·Missing = nth-missing (bits d w) m h in
+    let a : nthOne (bits d w) m ≡ onlyOnes (count (bits d w)) = nth-missing (bits d w) m h in
     let z : _≡_ {A = ℕ} 0 1 = cc in absurd (omega arith))
     (lt-or-le m (count (bits d w)))
 
-pub see-only : (d w n m k : ℕ) → m ≡ min n d → nthOne (bits d w) m ≡ Nth·Missing → k ≡ count (bits d w) → Only k ≡ seen (bits d w) n
+pub see-only : (d w n m k : ℕ) → m ≡ min n d → nthOne (bits d w) m ≡ onlyOnes k → Only k ≡ seen (bits d w) n
 unfolding seen
-see-only d w n m k p e q = rw (le-ltb n (count (bits d w)) (omega (arith, missing-nth (bits d w) m e))) (ap Only q)
+see-only d w n m k p e =
+    let told : (k ≡ count (bits d w)) × (count (bits d w) ≤ m) = missing-nth (bits d w) m k e in
+    rw (le-ltb n (count (bits d w)) (omega (arith, told .1))) (ap Only (told .0))
 
 -- ---- the turns of the two loops, over the flags of a span
 

@@ -280,7 +280,7 @@ fn wide(x: u32) -> usize
     x as usize
 }
 
-// The one place where the set flags of a window are counted.
+// What the word answers, at the width of a position: the searches count no flag themselves. No word of 32 flags has one numbered 32.
 fn nth_in_window(w: u32, n: usize) -> Seen
     ensures { λ r. ⌜ r ≡ seen (bits 32 w) n ⌝ }
 {
@@ -288,11 +288,11 @@ fn nth_in_window(w: u32, n: usize) -> Seen
     let found = nth_set_bit_u32(w, number as u32);
     match found {
         Nth::At(i) => Seen::There(wide(i)),
-        Nth::Missing => Seen::Only(wide(u32::count_ones(w))),
+        Nth::Missing(ones) => Seen::Only(wide(ones)),
     }
 }
 
-// No window has a set flag number 32.
+// How many flags of a window are set: what the word answers where it is asked for a flag that no word has.
 fn ones_in_window(w: u32) -> usize
     ensures { λ r. ⌜ r ≡ count (bits 32 w) ⌝ }
 {

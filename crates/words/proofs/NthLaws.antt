@@ -13,8 +13,7 @@ use lib.ListN.{length, take}
 use lib.Seq.{take-all}
 use Rattle.words.specs.Flags.{bits, copies, count, digit}
 use borrow.Author.Tests.{lt-ltb, le-ltb}
-use Rattle.words.specs.declared.nth.Nth.the-variants.{At, Missing}
-use Rattle.words.specs.Nth.{nthPlace, nthOne}
+use Rattle.words.specs.Nth.{atPlace, nthOne, nthPlace, onlyOnes}
 use Rattle.words.proofs.Bits.{bits-add, bits-mod, bits-shl, bits-take, length-bits}
 use Rattle.words.proofs.Counting.{ones-bits, count-append, count-copies}
 use Rattle.words.proofs.Windows.{lt-or-le}
@@ -131,10 +130,10 @@ pub place-one : (d w n : ℕ) → d ≤ 1 → n < count (bits d w) → 0 ≡ nth
 place-one d w n l h = omega (arith, place-lt d w n h)
 
 -- the answer, at any width
-pub found : (d w n r : ℕ) → w < 2 ^ d → n < ones w → r ≡ nthPlace (bits d w) n → At r ≡ nthOne (bits d w) n
+pub found : (d w n r : ℕ) → w < 2 ^ d → n < ones w → r ≡ nthPlace (bits d w) n → atPlace r ≡ nthOne (bits d w) n
 unfolding nthOne
-found d w n r b h p = rw (lt-ltb n (count (bits d w)) (omega (arith, ones-bits d w b))) (ap At p)
+found d w n r b h p = rw (lt-ltb n (count (bits d w)) (omega (arith, ones-bits d w b))) (ap atPlace p)
 
-pub missing : (d w n : ℕ) → w < 2 ^ d → ones w ≤ n → Missing ≡ nthOne (bits d w) n
+pub missing : (d w n : ℕ) → w < 2 ^ d → ones w ≤ n → onlyOnes (ones w) ≡ nthOne (bits d w) n
 unfolding nthOne
-missing d w n b h = rw (le-ltb n (count (bits d w)) (omega (arith, ones-bits d w b)))
+missing d w n b h = rw (le-ltb n (count (bits d w)) (omega (arith, ones-bits d w b))) (ap onlyOnes (sym (ones-bits d w b)))

@@ -17,9 +17,8 @@ use Rattle.words.specs.Flags.{isOne, digit, bitAt, flagAt, bits, wordOf,
 use Rattle.words.specs.Counts.{anySet, sameFlags}
 use Rattle.words.specs.Loops.{stretch, combined, wholeWords}
 use Rattle.words.specs.Merge.{merged}
-use Rattle.words.specs.Nth.{nthPlace, nthOne}
+use Rattle.words.specs.Nth.{atPlace, nthOne, nthPlace, onlyOnes}
 use Rattle.words.specs.Ops.{opOf, zip3}
-use Rattle.words.specs.declared.nth.Nth.the-variants.{At, Missing}
 use Rattle.words.specs.declared.ops.Op.{Op}
 use Rattle.words.proofs.AnyFlag.{any-some}
 use Rattle.words.proofs.Bits.{length-bits, halves, eqb-isOne}
@@ -237,20 +236,20 @@ nth-before (true ∷ l) zero h = refl
 nth-before (true ∷ l) (suc n) h = omega (arith, nth-before l n (omega arith))
 
 -- `nthOne l n` is that place if more than n flags are set,
-pub nth-found : (l : List Bool) (n : ℕ) → n < count l → nthOne l n ≡ At (nthPlace l n)
+pub nth-found : (l : List Bool) (n : ℕ) → n < count l → nthOne l n ≡ atPlace (nthPlace l n)
 unfolding nthOne
 nth-found l n h = rw (lt-ltb n (count l) h)
 
--- and `Missing` if at most n are,
-pub nth-missing : (l : List Bool) (n : ℕ) → count l ≤ n → nthOne l n ≡ Missing
+-- and the number of the set flags if at most n are,
+pub nth-missing : (l : List Bool) (n : ℕ) → count l ≤ n → nthOne l n ≡ onlyOnes (count l)
 unfolding nthOne
 nth-missing l n h = rw (le-ltb n (count l) h)
 
--- and only then.
-pub missing-nth : (l : List Bool) (n : ℕ) → nthOne l n ≡ Missing → count l ≤ n
-missing-nth l n e = ⊎-elim
-    (λ (h : n < count l). absurd (let f : nthOne l n ≡ At (nthPlace l n) = nth-found l n h in let z : _≡_ {A = ℕ} 0 1 = cc in omega arith))
-    (λ (h : count l ≤ n). h)
+-- and only then: a number that it gives is that of the set flags, and at most n.
+pub missing-nth : (l : List Bool) (n k : ℕ) → nthOne l n ≡ onlyOnes k → (k ≡ count l) × (count l ≤ n)
+missing-nth l n k e = ⊎-elim
+    (λ (h : n < count l). absurd (let f : nthOne l n ≡ atPlace (nthPlace l n) = nth-found l n h in let z : _≡_ {A = ℕ} 0 1 = cc in omega arith))
+    (λ (h : count l ≤ n). let f : nthOne l n ≡ onlyOnes (count l) = nth-missing l n h in let p : k ≡ count l = cc in (p, h))
     (lt-or-le n (count l))
 
 -- ---- is a flag set, and are two lists the same

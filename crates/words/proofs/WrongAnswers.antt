@@ -10,10 +10,8 @@ use lib.Dec.{eqb}
 use borrow.Author.Tests.{eq-eqb}
 use Rattle.words.specs.Flags.{bits, count, digit, flagsOf, window}
 use Rattle.words.specs.Merge.{merged}
-use Rattle.words.specs.Nth.{nthOne, nthPlace}
+use Rattle.words.specs.Nth.{Found, atPlace, nthOne, nthPlace, onlyOnes}
 use Rattle.words.specs.WrongAnswers.{Tried, WrongAnswers}
-use Rattle.words.specs.declared.nth.Nth.{Nth}
-use Rattle.words.specs.declared.nth.Nth.the-variants.{At, Missing}
 
 -- ---- codes
 
@@ -49,9 +47,9 @@ tried code {right = right} {first = first} {second = second} e f s =
 abbrev flagsCode : List Bool → List ℕ
 flagsCode l = map digit l
 
-abbrev nthCode : Nth → List ℕ
-nthCode (At k) = 1 ∷ k ∷ []
-nthCode Missing = 0 ∷ []
+abbrev nthCode : Found → List ℕ
+nthCode (atPlace k) = 1 ∷ k ∷ []
+nthCode (onlyOnes k) = 0 ∷ k ∷ []
 
 pub ruled-out : WrongAnswers
 unfolding sameCode bits count flagsOf window merged nthOne nthPlace
@@ -61,5 +59,8 @@ ruled-out =
       merge-reversed = tried flagsCode refl refl refl;
       merge-reversed-at-0 = tried flagsCode refl refl refl;
       nth-set-bit-u32 = tried nthCode refl refl refl;
+      nth-set-bit-u32-missing = tried nthCode refl refl refl;
       nth-set-bit-u64 = tried nthCode refl refl refl;
+      nth-set-bit-u64-missing = tried nthCode refl refl refl;
+      nth-set-bit-u64-few = tried nthCode refl refl refl;
     }

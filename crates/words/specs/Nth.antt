@@ -14,6 +14,15 @@ nthPlace (false ∷ l) n = suc (nthPlace l n)
 nthPlace (true ∷ l) zero = 0
 nthPlace (true ∷ l) (suc n) = suc (nthPlace l n)
 
--- that place, or that at most n flags are set
-unfoldable pub nthOne : List Bool → ℕ → Nth
-nthOne l n = cond (ltb n (count l)) (At (nthPlace l n)) Missing
+-- what a word says of its set flag n: the place where it is, or how many flags are set where at most n are
+pub data Found : Type 0 where
+  atPlace : ℕ → Found
+  onlyOnes : ℕ → Found
+
+unfoldable pub nthOne : List Bool → ℕ → Found
+nthOne l n = cond (ltb n (count l)) (atPlace (nthPlace l n)) (onlyOnes (count l))
+
+-- the answer of the calls, case by case
+abbrev pub nthFound : Nth → Found
+nthFound (At k) = atPlace k
+nthFound (Missing k) = onlyOnes k

@@ -8,7 +8,7 @@ use mathlib.Core.Path.{_≡_}
 use mathlib.Core.List.{List, [], _∷_}
 use Rattle.words.specs.Flags.{bits, flagsOf, window, wordFlags}
 use Rattle.words.specs.Merge.{merged}
-use Rattle.words.specs.Nth.{nthOne}
+use Rattle.words.specs.Nth.{nthFound, nthOne}
 use Rattle.words.specs.declared.nth.Nth.the-variants.{At, Missing}
 
 -- what a definition gives is the right answer and neither of the wrong ones
@@ -42,15 +42,36 @@ pub record WrongAnswers : Type 0 where
       (wordFlags 5)
   -- `nth_set_bit_u32` of 0x2D, whose bits 0, 2, 3 and 5 are set, with n 2
   pub nth-set-bit-u32 : Tried (nthOne (bits 32 0x2D) 2)
-      (At 3)
+      (nthFound (At 3))
       -- n counted from 1
-      (At 2)
+      (nthFound (At 2))
       -- zeros counted
-      (At 6)
+      (nthFound (At 6))
+  -- the same with n 4
+  pub nth-set-bit-u32-missing : Tried (nthOne (bits 32 0x2D) 4)
+      (nthFound (Missing 4))
+      -- 0 in place of the number
+      (nthFound (Missing 0))
+      -- the number of zeros
+      (nthFound (Missing 28))
   -- `nth_set_bit_u64` of a word with the bits 0 and 40 set, with n 1
   pub nth-set-bit-u64 : Tried (nthOne (bits 64 0x10000000001) 1)
-      (At 40)
+      (nthFound (At 40))
       -- the upper half not read
-      Missing
+      (nthFound (Missing 1))
       -- the place in the upper half
-      (At 8)
+      (nthFound (At 8))
+  -- the same with n 2
+  pub nth-set-bit-u64-missing : Tried (nthOne (bits 64 0x10000000001) 2)
+      (nthFound (Missing 2))
+      -- 0 in place of the number
+      (nthFound (Missing 0))
+      -- the number of zeros
+      (nthFound (Missing 62))
+  -- the same with n 7
+  pub nth-set-bit-u64-few : Tried (nthOne (bits 64 0x10000000001) 7)
+      (nthFound (Missing 2))
+      -- n itself
+      (nthFound (Missing 7))
+      -- the upper half not counted
+      (nthFound (Missing 1))

@@ -4,12 +4,12 @@ ghost use mathlib.Core.Path.{_≡_};
 ghost use lib.Dec.{ltb};
 ghost use Prim.Native.Nat.{_<_, _≤_};
 ghost use Rattle.words.specs.Flags.{bits, count};
-ghost use Rattle.words.specs.Nth.{nthPlace, nthOne};
+ghost use Rattle.words.specs.Nth.{nthFound, nthPlace, nthOne};
 
-// Where the set flag number n is, if there are so many.
+// Where the set flag number n is, counted from 0; or, where at most n flags are set, how many are.
 pub enum Nth {
     At(u32),
-    Missing,
+    Missing(u32),
 }
 
 // x if the set flag n is not among the first `ones`, else 0. A choice between two numbers is compiled without a jump.
@@ -40,22 +40,26 @@ fn wide(x: u32) -> u64
     x as u64
 }
 
+// The one count of the word decides whether it has a set flag n, and is the answer where it has none.
 pub fn nth_set_bit_u64(w: u64, n: u64) -> Nth
-    ensures { λ r. ⌜ r ≡ nthOne (bits 64 w) n ⌝ }
+    ensures { λ r. ⌜ nthFound r ≡ nthOne (bits 64 w) n ⌝ }
 {
-    if n < wide(u64::count_ones(w)) {
+    let ones = u64::count_ones(w);
+    if n < wide(ones) {
         Nth::At(descend(w, n as u32, 64))
     } else {
-        Nth::Missing
+        Nth::Missing(ones)
     }
 }
 
+// The same of a word of 32 flags.
 pub fn nth_set_bit_u32(w: u32, n: u32) -> Nth
-    ensures { λ r. ⌜ r ≡ nthOne (bits 32 w) n ⌝ }
+    ensures { λ r. ⌜ nthFound r ≡ nthOne (bits 32 w) n ⌝ }
 {
-    if n < u32::count_ones(w) {
+    let ones = u32::count_ones(w);
+    if n < ones {
         Nth::At(descend(w as u64, n, 32))
     } else {
-        Nth::Missing
+        Nth::Missing(ones)
     }
 }

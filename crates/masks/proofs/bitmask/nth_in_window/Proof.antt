@@ -1,7 +1,7 @@
 -- No window has a set flag from number 32 on, so that the least of n and 32 is asked for in place of n: `see-there`, `see-only`.
 use mathlib.Core.Path.{sym, ap, _∙_}
-use Rattle.masks.specs.declared.bitmask.Seen.the-variants.{There}
-use Rattle.words.proofs.Counting.{ones-bits}
+use Rattle.masks.specs.declared.bitmask.Seen.the-variants.{There, Only}
+use Rattle.words.specs.Nth.{nthFound}
 use Rattle.masks.proofs.SearchLaws.{see-there, see-only}
 use borrow.Author.Needs.{needs}
 use Rattle.masks.proofs.bitmask.nth_in_window.Statement.{statement}
@@ -22,8 +22,8 @@ enum-known-found c = search needs
 wide-requires : tie.Need-wide-requires
 wide-requires c κs = search needs
 
-enum-told : tie.Need-enum-told
-enum-told c = search needs
+enum-known-found-2 : tie.Need-enum-known-found-2
+enum-known-found-2 c = search needs
 
 wide-requires-2 : tie.Need-wide-requires-2
 wide-requires-2 c κs = search needs
@@ -31,13 +31,14 @@ wide-requires-2 c κs = search needs
 returns : tie.Need-returns
 returns c =
     let e = c .before .before .before .before in
-    ap There (c .wide .ensures) ∙ see-there 32 _ _ _ _ (e .before .least .ensures) (sym (e .nth-set-bit-u32 .ensures) ∙ c .before .before .found .given .1)
+    ap There (c .wide .ensures)
+    ∙ see-there 32 _ _ _ _ (e .before .least .ensures) (sym (e .nth-set-bit-u32 .ensures) ∙ ap nthFound (c .before .before .found .given .1))
 
 returns-2 : tie.Need-returns-2
 returns-2 c =
-    let e = c .before .before .before in
-    see-only 32 _ _ _ _ (e .before .least .ensures) (sym (e .nth-set-bit-u32 .ensures) ∙ c .before .enum-told .given .1)
-    (c .wide2 .ensures ∙ sym (ones-bits 32 _ (e .before .before .fits .w .fits)))
+    let e = c .before .before .before .before in
+    ap Only (c .wide2 .ensures)
+    ∙ see-only 32 _ _ _ _ (e .before .least .ensures) (sym (e .nth-set-bit-u32 .ensures) ∙ ap nthFound (c .before .before .found2 .given .1))
 
 pub nth-in-window-spec : {M : Type 1} → statement M
 nth-in-window-spec =
@@ -48,7 +49,7 @@ nth-in-window-spec =
     nth-set-bit-u32-requires
     enum-known-found
     wide-requires
-    enum-told
+    enum-known-found-2
     wide-requires-2
     returns
     returns-2)
