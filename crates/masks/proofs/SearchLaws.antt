@@ -21,8 +21,6 @@ use Rattle.words.proofs.Plain.{count-empty, nth-found, nth-missing, missing-nth
 use Rattle.words.proofs.Windows.{lt-or-le, length-window, window-add, window-all, window-cut, window-drop}
 use Rattle.masks.specs.Bitmask.{windowWord}
 use Rattle.masks.specs.Search.{nthFrom, nthBack}
-use Rattle.masks.specs.Workers.{seen}
-use Rattle.masks.specs.declared.bitmask.Seen.the-variants.{There, Only}
 use Rattle.masks.proofs.BitmaskLaws.{window-flags}
 
 -- zeros behind a list move no set flag
@@ -152,49 +150,28 @@ pub record IsOnly (l : List Bool) (n k : ℕ) : Type 0 where
   pub few : count l ≤ n
   pub number : k ≡ count l
 
-pub seen-there : (l : List Bool) (n i : ℕ) → seen l n ≡ There i → IsThere l n i
-unfolding seen
+pub seen-there : (l : List Bool) (n i : ℕ) → nthOne l n ≡ atPlace i → IsThere l n i
 seen-there l n i e = ⊎-elim
     (λ (h : n < count l).
-    let a : seen l n ≡ There (nthPlace l n) = rw (lt-ltb n (count l) h) in
+    let a : nthOne l n ≡ atPlace (nthPlace l n) = nth-found l n h in
     let p : i ≡ nthPlace l n = cc in
     record { many = h; place = p; inside = omega (arith, nth-lt l n h) })
     (λ (h : count l ≤ n).
-    let a : seen l n ≡ Only (count l) = rw (le-ltb n (count l) h) in
+    let a : nthOne l n ≡ onlyOnes (count l) = nth-missing l n h in
     let z : _≡_ {A = ℕ} 0 1 = cc in absurd (omega arith))
     (lt-or-le n (count l))
 
-pub seen-only : (l : List Bool) (n k : ℕ) → seen l n ≡ Only k → IsOnly l n k
-unfolding seen
-seen-only l n k e = ⊎-elim
-    (λ (h : n < count l).
-    let a : seen l n ≡ There (nthPlace l n) = rw (lt-ltb n (count l) h) in
-    let z : _≡_ {A = ℕ} 0 1 = cc in absurd (omega arith))
-    (λ (h : count l ≤ n).
-    let a : seen l n ≡ Only (count l) = rw (le-ltb n (count l) h) in
-    let p : k ≡ count l = cc in
-    record { few = h; number = p })
-    (lt-or-le n (count l))
+pub seen-only : (l : List Bool) (n k : ℕ) → nthOne l n ≡ onlyOnes k → IsOnly l n k
+seen-only l n k e = let told : (k ≡ count l) × (count l ≤ n) = missing-nth l n k e in record { few = told .1; number = told .0 }
 
--- from the answer of a word, asked for a number of at most d
-pub see-there : (d w n m i : ℕ) → m ≡ min n d → nthOne (bits d w) m ≡ atPlace i → There i ≡ seen (bits d w) n
-unfolding seen
-see-there d w n m i p e = ⊎-elim
-    (λ (h : m < count (bits d w)).
-    let a : nthOne (bits d w) m ≡ atPlace (nthPlace (bits d w) m) = nth-found (bits d w) m h in
-    let q : i ≡ nthPlace (bits d w) m = cc in
-    let z : m ≡ n = omega (arith, count-le (bits d w), length-bits d w) in
-    rw (lt-ltb n (count (bits d w)) (omega arith)) (ap There (q ∙ ap (nthPlace (bits d w)) z)))
-    (λ (h : count (bits d w) ≤ m).
-    let a : nthOne (bits d w) m ≡ onlyOnes (count (bits d w)) = nth-missing (bits d w) m h in
-    let z : _≡_ {A = ℕ} 0 1 = cc in absurd (omega arith))
-    (lt-or-le m (count (bits d w)))
-
-pub see-only : (d w n m k : ℕ) → m ≡ min n d → nthOne (bits d w) m ≡ onlyOnes k → Only k ≡ seen (bits d w) n
-unfolding seen
-see-only d w n m k p e =
-    let told : (k ≡ count (bits d w)) × (count (bits d w) ≤ m) = missing-nth (bits d w) m k e in
-    rw (le-ltb n (count (bits d w)) (omega (arith, told .1))) (ap Only (told .0))
+-- no word of d flags has a set flag from number d on
+pub ask-least : (d w n m : ℕ) → m ≡ min n d → nthOne (bits d w) m ≡ nthOne (bits d w) n
+ask-least d w n m p = ⊎-elim
+    (λ (h : n < d). let z : m ≡ n = omega arith in ap (nthOne (bits d w)) z)
+    (λ (h : d ≤ n).
+    nth-missing (bits d w) m (omega (arith, count-le (bits d w), length-bits d w))
+    ∙ sym (nth-missing (bits d w) n (omega (arith, count-le (bits d w), length-bits d w))))
+    (lt-or-le n d)
 
 -- ---- the turns of the two loops, over the flags of a span
 

@@ -9,7 +9,7 @@ use lib.Dec.{leb, ltb}
 use lib.ListN.{take}
 use Rattle.words.specs.Flags.{bits, count, wordFlags}
 use Rattle.words.specs.Loops.{stretch}
-use Rattle.words.specs.Nth.{nthPlace}
+use Rattle.words.specs.Nth.{Found, atPlace, onlyOnes}
 use Rattle.words.specs.declared.ops.Op.{Op}
 use Rattle.words.specs.declared.ops.Op.the-variants.{And, AndNot, Or, OrNot, Xor, Not, Select}
 use Rattle.masks.specs.Bitmask.{windowWord}
@@ -118,9 +118,10 @@ SameOrOver r p = (r ≡ p) ⊎ ((limit < r) × (limit < p))
 
 -- ---- `bitmask`: searches by windows of 32 flags
 
--- what a window says of the set flag n: where it is in the window, or how many are set there
-unfoldable pub seen : List Bool → ℕ → Seen
-seen l n = cond (ltb n (count l)) (There (nthPlace l n)) (Only (count l))
+-- what a window says of a set flag, case by case: where it is in the window, or how many are set there
+abbrev pub seenFound : Seen → Found
+seenFound (There k) = atPlace k
+seenFound (Only k) = onlyOnes k
 
 -- the search for `left` from `at` on is the one asked for, and a window there with too few set flags is among the last two
 pub record PassedFrom (bytes : List ℕ) (start size n from left at : ℕ) : Type 0 where

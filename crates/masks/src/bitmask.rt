@@ -4,12 +4,12 @@ ghost use Prim.Native.Nat.{_+_, _*_, _≤_, _<_};
 ghost use lib.ListN.{length as ListN·length};
 ghost use Rattle.words.specs.Flags.{bits, count, wordOf};
 ghost use Rattle.words.specs.Loops.{stretch};
-ghost use Rattle.words.specs.Nth.{nthPlace};
+ghost use Rattle.words.specs.Nth.{nthOne, nthPlace};
 ghost use Rattle.masks.specs.Answer.{given};
 ghost use Rattle.masks.specs.Bitmask.{partsAnswer, splitAt, splitChecks, windowAnswer, windowAt, windowWord};
 ghost use Rattle.masks.specs.Checks.{firstFailed, limit};
 ghost use Rattle.masks.specs.Search.{positionAnswer, searchFrom, searchBack, nthFrom, nthBack};
-ghost use Rattle.masks.specs.Workers.{PassedFrom, PassedBack, seen};
+ghost use Rattle.masks.specs.Workers.{PassedFrom, PassedBack, seenFound};
 use crate::bitmap::Bitmap;
 use crate::checks::earlier;
 use crate::checks::failed;
@@ -282,7 +282,7 @@ fn wide(x: u32) -> usize
 
 // What the word answers, at the width of a position: the searches count no flag themselves. No word of 32 flags has one numbered 32.
 fn nth_in_window(w: u32, n: usize) -> Seen
-    ensures { λ r. ⌜ r ≡ seen (bits 32 w) n ⌝ }
+    ensures { λ r. ⌜ seenFound r ≡ nthOne (bits 32 w) n ⌝ }
 {
     let number = least(n, 32);
     let found = nth_set_bit_u32(w, number as u32);

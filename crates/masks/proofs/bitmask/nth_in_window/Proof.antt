@@ -1,8 +1,7 @@
--- No window has a set flag from number 32 on, so that the least of n and 32 is asked for in place of n: `see-there`, `see-only`.
+-- The word's answer, case by case. No window has a set flag from number 32 on, so that the least of n and 32 is asked for: `ask-least`.
 use mathlib.Core.Path.{sym, ap, _∙_}
-use Rattle.masks.specs.declared.bitmask.Seen.the-variants.{There, Only}
-use Rattle.words.specs.Nth.{nthFound}
-use Rattle.masks.proofs.SearchLaws.{see-there, see-only}
+use Rattle.words.specs.Nth.{atPlace, nthFound, onlyOnes}
+use Rattle.masks.proofs.SearchLaws.{ask-least}
 use borrow.Author.Needs.{needs}
 use Rattle.masks.proofs.bitmask.nth_in_window.Statement.{statement}
 use Rattle.masks.proofs.bitmask.nth_in_window.Tie as tie
@@ -31,14 +30,14 @@ wide-requires-2 c κs = search needs
 returns : tie.Need-returns
 returns c =
     let e = c .before .before .before .before in
-    ap There (c .wide .ensures)
-    ∙ see-there 32 _ _ _ _ (e .before .least .ensures) (sym (e .nth-set-bit-u32 .ensures) ∙ ap nthFound (c .before .before .found .given .1))
+    ap atPlace (c .wide .ensures) ∙ sym (ap nthFound (c .before .before .found .given .1)) ∙ e .nth-set-bit-u32 .ensures
+    ∙ ask-least 32 _ _ _ (e .before .least .ensures)
 
 returns-2 : tie.Need-returns-2
 returns-2 c =
     let e = c .before .before .before .before in
-    ap Only (c .wide2 .ensures)
-    ∙ see-only 32 _ _ _ _ (e .before .least .ensures) (sym (e .nth-set-bit-u32 .ensures) ∙ ap nthFound (c .before .before .found2 .given .1))
+    ap onlyOnes (c .wide2 .ensures) ∙ sym (ap nthFound (c .before .before .found2 .given .1)) ∙ e .nth-set-bit-u32 .ensures
+    ∙ ask-least 32 _ _ _ (e .before .least .ensures)
 
 pub nth-in-window-spec : {M : Type 1} → statement M
 nth-in-window-spec =
