@@ -99,6 +99,14 @@ typedef struct {
     size_t value;
 } pw_position;
 
+/* The position of a set bit of a word, where `found`; else, in `ones`, how many bits of the word are set. */
+typedef struct {
+    uint8_t refusal;
+    bool found;
+    uint32_t value;
+    uint32_t ones;
+} pw_nth_answer;
+
 /* A mask. */
 typedef struct {
     uint8_t refusal;
@@ -178,11 +186,11 @@ uint64_t pw_load_padded_le_u64(const uint8_t *part, size_t part_len);
 /* The flags of `current` from `offset` on, then the low flags of `next`; `current` at offset 0 and from 64 on. */
 uint64_t pw_merge_reversed(uint64_t current, uint64_t next, size_t offset);
 
-/* The position of set bit n of a word, counted from 0; not found where at most n are set. Refuses nothing. */
-pw_position pw_nth_set_bit_u64(uint64_t w, uint64_t n);
+/* The position of set bit n of a word, counted from 0; where at most n are set, how many are. Refuses nothing. */
+pw_nth_answer pw_nth_set_bit_u64(uint64_t w, uint64_t n);
 
-/* The position of set bit n of a word of 32 bits, counted from 0; not found where at most n are set. Refuses nothing. */
-pw_position pw_nth_set_bit_u32(uint32_t w, uint32_t n);
+/* The position of set bit n of a word of 32 bits, counted from 0; where at most n are set, how many are. Refuses nothing. */
+pw_nth_answer pw_nth_set_bit_u32(uint32_t w, uint32_t n);
 
 /* ---- The calls over bare spans, which are the aligned split, the counts, a span cut in two and a window. */
 
@@ -442,14 +450,14 @@ uint8_t pw_activity_counts(const uint64_t words[256], const uint32_t counts[64],
 
 /* The version of the interface. A program that includes this file refers to it, so that a library of another version does not link,
  * where the compiler is GCC or Clang. */
-uint32_t pw_interface_1(void);
+uint32_t pw_interface_2(void);
 #if defined(__GNUC__)
 #if defined(__has_attribute)
 #if __has_attribute(retain)
 __attribute__((retain))
 #endif
 #endif
-__attribute__((used)) static uint32_t (*const pw_interface)(void) = pw_interface_1;
+__attribute__((used)) static uint32_t (*const pw_interface)(void) = pw_interface_2;
 #endif
 
 #ifdef __cplusplus

@@ -66,6 +66,10 @@ static bool is_at(pw_position p, size_t value) { return p.refusal == 0 && p.foun
 
 static bool is_missing(pw_position p) { return p.refusal == 0 && !p.found; }
 
+static bool is_bit(pw_nth_answer a, uint32_t value) { return a.refusal == 0 && a.found && a.value == value && a.ones == 0; }
+
+static bool has_only(pw_nth_answer a, uint32_t ones) { return a.refusal == 0 && !a.found && a.value == 0 && a.ones == ones; }
+
 /* Whether an append to a new builder freezes to these first flags. */
 static bool freezes_to(pw_builder_answer a, uint8_t first) {
     if (a.refusal != 0 || !untouched()) return false;
@@ -83,10 +87,13 @@ static void words(void) {
     CHECK(pw_merge_reversed(0xFF00, 0x2D, 8) == 0x2D000000000000FF);
     CHECK(pw_merge_reversed(0xFF00, 0x2D, 0) == 0xFF00);
     CHECK(pw_merge_reversed(0xFF00, 0x2D, 64) == 0xFF00);
-    CHECK(is_at(pw_nth_set_bit_u64(0x2D, 2), 3));
-    CHECK(is_missing(pw_nth_set_bit_u64(0x2D, 4)));
-    CHECK(is_at(pw_nth_set_bit_u32(0x80000000, 0), 31));
-    CHECK(is_missing(pw_nth_set_bit_u32(0x80000000, 1)));
+    CHECK(is_bit(pw_nth_set_bit_u64(0x2D, 2), 3));
+    CHECK(has_only(pw_nth_set_bit_u64(0x2D, 4), 4));
+    CHECK(has_only(pw_nth_set_bit_u64(UINT64_MAX, UINT64_MAX), 64));
+    CHECK(has_only(pw_nth_set_bit_u64(0, 0), 0));
+    CHECK(is_bit(pw_nth_set_bit_u32(0x80000000, 0), 31));
+    CHECK(has_only(pw_nth_set_bit_u32(0x80000000, 1), 1));
+    CHECK(has_only(pw_nth_set_bit_u32(UINT32_MAX, 32), 32));
 }
 
 static void spans(void) {

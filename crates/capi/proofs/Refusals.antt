@@ -8,8 +8,7 @@ use mathlib.Core.List.{List, [], _∷_}
 use mathlib.Core.Option.{Option, none, some}
 use lib.Dec.{eqb}
 use borrow.Author.Tests.{ne-eqb}
-use Rattle.words.specs.declared.nth.Nth.{Nth}
-use Rattle.words.specs.declared.nth.Nth.the-variants.{At, Missing}
+use Rattle.words.specs.Nth.{Found, atPlace, onlyOnes}
 use Rattle.masks.specs.Answer.{Answer, given, refused}
 use Rattle.masks.specs.Appends.{Append, appendAnswer, appendBytes, pushFlag, extendConstant, pushWord, extendSlice, extendRepeated}
 use Rattle.masks.specs.Appends.{extendBitmap, extendGather, extendOptGather}
@@ -30,8 +29,8 @@ use Rattle.masks.proofs.Refusals as masks
 use Rattle.dispatch.proofs.Refusals as dispatch
 use Rattle.activity.specs.Checks.{widthFits, leftByMinutes}
 use Rattle.activity.proofs.Refusals as activity
-use Rattle.capi.specs.Answers.{asBit, asBuilder, asCursor, asFlag, asMask, asNumber, asPosition, asRemainder, asRun, asSameMask}
-use Rattle.capi.specs.Answers.{asSpans, asSplit, asStep, asTaken, asValidity, asWord, asZeros, nthAnswer}
+use Rattle.capi.specs.Answers.{asBit, asBuilder, asCursor, asFlag, asMask, asNth, asNumber, asPosition, asRemainder, asRun, asSameMask}
+use Rattle.capi.specs.Answers.{asSpans, asSplit, asStep, asTaken, asValidity, asWord, asZeros}
 use Rattle.capi.specs.Records.{builderIn, builderOut, chunksOut, chunksPlace, iterOut, iterPlace, maskIn, optionalIn}
 use Rattle.capi.specs.Records.{slicesOut, slicesPlace, trueIn, trueOut, truePlace}
 use Rattle.capi.specs.Refusals.{Appends, Gives, GivesBack, GivesBoth, Refusals, builderOf, numbers}
@@ -134,10 +133,10 @@ unfolding asSpans
 of-spans (given (a, b)) = refl
 of-spans (refused k s) = refl
 
-nth-gives : (w : Nth) → Gives [] (asPosition (nthAnswer w) .refusal)
-unfolding asPosition nthAnswer allAmong
-nth-gives (At p) = no-number [] refl
-nth-gives Missing = no-number [] refl
+nth-gives : (w : Found) → Gives [] (asNth w .refusal)
+unfolding asNth allAmong
+nth-gives (atPlace p) = no-number [] refl
+nth-gives (onlyOnes k) = no-number [] refl
 
 -- ---- what comes back
 

@@ -6,8 +6,7 @@ use Prim.Native.Nat.{ℕ}
 use mathlib.Core.Bool.{Bool, true, false}
 use mathlib.Core.Option.{Option, none, some}
 use Rattle.words.specs.Flags.{digit}
-use Rattle.words.specs.declared.nth.Nth.{Nth}
-use Rattle.words.specs.declared.nth.Nth.the-variants.{At, Missing}
+use Rattle.words.specs.Nth.{Found, atPlace, onlyOnes}
 use Rattle.masks.specs.Answer.{Answer, given, refused}
 use Rattle.masks.specs.Cursor.{Step, item, ended}
 use Rattle.masks.specs.Mask.{Recounted}
@@ -21,6 +20,7 @@ use Rattle.capi.specs.declared.answers.BuilderAnswer.{BuilderAnswer}
 use Rattle.capi.specs.declared.answers.CursorAnswer.{CursorAnswer}
 use Rattle.capi.specs.declared.answers.Flag.{Flag}
 use Rattle.capi.specs.declared.answers.MaskAnswer.{MaskAnswer}
+use Rattle.capi.specs.declared.answers.NthAnswer.{NthAnswer}
 use Rattle.capi.specs.declared.answers.Number.{Number}
 use Rattle.capi.specs.declared.answers.Position.{Position}
 use Rattle.capi.specs.declared.answers.SpansAnswer.{SpansAnswer}
@@ -57,9 +57,9 @@ asPosition (given none) = positionOf 0 false 0
 asPosition (refused k s) = positionOf k false 0
 
 -- the set bit of a word, whose call refuses nothing
-unfoldable pub nthAnswer : Nth → Answer (Unit {0}) (Option ℕ)
-nthAnswer (At p) = given (some p)
-nthAnswer Missing = given none
+unfoldable pub asNth : Found → NthAnswer
+asNth (atPlace p) = record { refusal = 0; found = true; value = p; ones = 0 }
+asNth (onlyOnes k) = record { refusal = 0; found = false; value = 0; ones = k }
 
 -- ---- a mask
 

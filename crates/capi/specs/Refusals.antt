@@ -2,7 +2,7 @@
 --
 -- A field for each export that can refuse, through the definition that its contract cites; the numbers listed are those that the header
 -- has for it. Exports that are not here give no number: `pw_load_padded_le_u64`, `pw_merge_reversed`, `pw_builder_new`,
--- `pw_bitmap_new` and `pw_interface_1`.
+-- `pw_bitmap_new` and `pw_interface_2`.
 use Prim.Native.Nat.{ℕ}
 use mathlib.Core.Path.{_≡_}
 use mathlib.Core.Bool.{Bool, true, false}
@@ -33,8 +33,8 @@ use Rattle.masks.specs.TrueIdx.{newTrue, nextTrue}
 use Rattle.masks.specs.Utils.{spanCount, zeros}
 use Rattle.dispatch.specs.Dispatch.{mayReassign}
 use Rattle.activity.specs.Window.{newOf, pushOf, countsOf}
-use Rattle.capi.specs.Answers.{asBit, asBuilder, asCursor, asFlag, asMask, asNumber, asPosition, asRemainder, asRun, asSameMask}
-use Rattle.capi.specs.Answers.{asSpans, asSplit, asTaken, asValidity, asWord, asZeros, nthAnswer}
+use Rattle.capi.specs.Answers.{asBit, asBuilder, asCursor, asFlag, asMask, asNth, asNumber, asPosition, asRemainder, asRun, asSameMask}
+use Rattle.capi.specs.Answers.{asSpans, asSplit, asTaken, asValidity, asWord, asZeros}
 use Rattle.capi.specs.Records.{builderIn, chunksOut, chunksPlace, iterOut, iterPlace, maskIn, optionalIn, slicesOut, slicesPlace}
 use Rattle.capi.specs.Records.{trueIn, trueOut, truePlace}
 use Rattle.capi.specs.Window.{asWindow, unlessRefused, windowIn}
@@ -85,8 +85,8 @@ Counts ns count bytes start n address = Gives ns (asNumber (spanCount bytes star
 
 pub record Refusals : Type 0 where
   -- words
-  pub pw-nth-set-bit-u64 : (w n : ℕ) → Gives [] (asPosition (nthAnswer (nthOne (bits 64 w) n)) .refusal)
-  pub pw-nth-set-bit-u32 : (w n : ℕ) → Gives [] (asPosition (nthAnswer (nthOne (bits 32 w) n)) .refusal)
+  pub pw-nth-set-bit-u64 : (w n : ℕ) → Gives [] (asNth (nthOne (bits 64 w) n) .refusal)
+  pub pw-nth-set-bit-u32 : (w n : ℕ) → Gives [] (asNth (nthOne (bits 32 w) n) .refusal)
   -- spans
   pub pw-aligned-new : (bytes : List ℕ) (start n address : ℕ)
       → Gives (1 ∷ 2 ∷ 8 ∷ []) (asSplit (alignedOf bytes start n address) .refusal)

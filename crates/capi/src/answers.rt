@@ -28,6 +28,15 @@ pub struct Position {
     pub value: usize,
 }
 
+// The position of a set bit of a word, where `found`; else, in `ones`, how many bits of the word are set.
+#[repr(C)]
+pub struct NthAnswer {
+    pub refusal: u8,
+    pub found: bool,
+    pub value: u32,
+    pub ones: u32,
+}
+
 // A mask.
 #[repr(C)]
 pub struct MaskAnswer {

@@ -5,8 +5,8 @@ use super::records::*;
 unsafe extern "C" {
     pub fn pw_load_padded_le_u64(part: *const u8, part_len: usize) -> u64;
     pub fn pw_merge_reversed(current: u64, next: u64, offset: usize) -> u64;
-    pub fn pw_nth_set_bit_u64(w: u64, n: u64) -> Position;
-    pub fn pw_nth_set_bit_u32(w: u32, n: u32) -> Position;
+    pub fn pw_nth_set_bit_u64(w: u64, n: u64) -> NthAnswer;
+    pub fn pw_nth_set_bit_u32(w: u32, n: u32) -> NthAnswer;
     pub fn pw_aligned_new(bytes: *const u8, bytes_len: usize, start: usize, length: usize, address: usize) -> SplitAnswer;
     pub fn pw_count_zeros(bytes: *const u8, bytes_len: usize, start: usize, length: usize, address: usize) -> Number;
     pub fn pw_leading_zeros(bytes: *const u8, bytes_len: usize, start: usize, length: usize, address: usize) -> Number;
@@ -107,9 +107,9 @@ unsafe extern "C" {
     pub fn pw_activity_counts(
         words: *const [u64; 256], counts: *const [u32; 64], place: usize, fill: usize, width: usize, out: *mut [u32; 64],
     ) -> u8;
-    pub fn pw_interface_1() -> u32;
+    pub fn pw_interface_2() -> u32;
 }
 
 /// A library of another version has no such symbol, and does not link.
 #[used]
-static INTERFACE: unsafe extern "C" fn() -> u32 = pw_interface_1;
+static INTERFACE: unsafe extern "C" fn() -> u32 = pw_interface_2;

@@ -113,6 +113,68 @@ pub struct Position {
     pub value: usize,
 }
 
+/// The position of a set bit of a word, or how many of its bits are set. Nothing is refused: `refusal` is 0.
+///
+/// ```
+/// use poruwhina::calls::{nth_set_bit_u64, NthAnswer};
+///
+/// assert_eq!(nth_set_bit_u64(0x2D, 2), NthAnswer { refusal: 0, found: true, value: 3, ones: 0 });
+/// assert_eq!(nth_set_bit_u64(0x2D, 9), NthAnswer { refusal: 0, found: false, value: 0, ones: 4 });
+/// ```
+#[repr(C)]
+#[derive(Clone, Copy, Debug, PartialEq, Eq, Default)]
+pub struct NthAnswer {
+    /// 0.
+    pub refusal: u8,
+    /// Is there such a bit.
+    pub found: bool,
+    /// Its position, where there is.
+    pub value: u32,
+    /// How many bits of the word are set, where there is none.
+    pub ones: u32,
+}
+
+impl NthAnswer {
+    /// The position, or how many bits are set. What polars-arrow gives, which has no number, is `.position().ok()`.
+    ///
+    /// ```
+    /// use poruwhina::calls::{nth_set_bit_u32, Missing};
+    ///
+    /// assert_eq!(nth_set_bit_u32(0x8000_0001, 1).position(), Ok(31));
+    /// assert_eq!(nth_set_bit_u32(0x8000_0001, 7).position(), Err(Missing { ones: 2 }));
+    ///
+    /// // Set bit 33 of two words in a row: the first has 32, and one of the second is left to pass over.
+    /// let Err(first) = nth_set_bit_u32(u32::MAX, 33).position() else { unreachable!() };
+    /// assert_eq!(nth_set_bit_u32(0b1010, 33 - first.ones).position(), Ok(3));
+    /// ```
+    #[inline]
+    pub fn position(self) -> Result<u32, Missing> {
+        if self.found { Ok(self.value) } else { Err(Missing { ones: self.ones }) }
+    }
+}
+
+/// A word has no such set bit: it has `ones` of them.
+///
+/// ```
+/// use poruwhina::calls::{nth_set_bit_u64, Missing};
+///
+/// let missing: Missing = nth_set_bit_u64(0b1000, 1).position().unwrap_err();
+/// assert_eq!(missing.to_string(), "of the word's bits 1 are set");
+/// ```
+#[derive(Clone, Copy, Debug, PartialEq, Eq, Hash)]
+pub struct Missing {
+    /// How many bits of the word are set.
+    pub ones: u32,
+}
+
+impl std::fmt::Display for Missing {
+    fn fmt(&self, f: &mut std::fmt::Formatter<'_>) -> std::fmt::Result {
+        write!(f, "of the word's bits {} are set", self.ones)
+    }
+}
+
+impl std::error::Error for Missing {}
+
 /// A mask or a refusal.
 ///
 /// ```

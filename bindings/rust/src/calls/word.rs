@@ -28,28 +28,28 @@ pub fn merge_reversed(current: u64, next: u64, offset: usize) -> u64 {
     unsafe { exports::pw_merge_reversed(current, next, offset) }
 }
 
-/// The position of set bit n of a word, counted from 0; not found where at most n are set. Refuses nothing.
+/// The position of set bit n of a word, counted from 0; where at most n are set, how many are. Refuses nothing.
 ///
 /// ```
 /// use poruwhina::calls::nth_set_bit_u64;
 ///
-/// assert_eq!(nth_set_bit_u64(0x2D, 2).value, 3);
-/// assert!(!nth_set_bit_u64(0x2D, 4).found);
+/// assert_eq!(nth_set_bit_u64(0x2D, 2).position(), Ok(3));
+/// assert_eq!(nth_set_bit_u64(0x2D, 4).position().unwrap_err().ones, 4);
 /// ```
 #[inline]
-pub fn nth_set_bit_u64(w: u64, n: u64) -> Position {
+pub fn nth_set_bit_u64(w: u64, n: u64) -> NthAnswer {
     unsafe { exports::pw_nth_set_bit_u64(w, n) }
 }
 
-/// The position of set bit n of a word of 32 bits, counted from 0; not found where at most n are set. Refuses nothing.
+/// The position of set bit n of a word of 32 bits, counted from 0; where at most n are set, how many are. Refuses nothing.
 ///
 /// ```
 /// use poruwhina::calls::nth_set_bit_u32;
 ///
-/// assert_eq!(nth_set_bit_u32(0x8000_0001, 1).value, 31);
-/// assert!(!nth_set_bit_u32(0x8000_0001, 2).found);
+/// assert_eq!(nth_set_bit_u32(0x8000_0001, 1).position(), Ok(31));
+/// assert_eq!(nth_set_bit_u32(0x8000_0001, 2).position().unwrap_err().ones, 2);
 /// ```
 #[inline]
-pub fn nth_set_bit_u32(w: u32, n: u32) -> Position {
+pub fn nth_set_bit_u32(w: u32, n: u32) -> NthAnswer {
     unsafe { exports::pw_nth_set_bit_u32(w, n) }
 }
