@@ -46,8 +46,8 @@ def counting(of):
 CALLS = {
     "load_padded_le_u64": ("", lambda l: [piece(l.x, 0, 64)]),
     "merge_reversed": ("nnn", lambda l, *a: [merged(*a)]),
-    "nth_set_bit_u32": ("nn", lambda l, w, n: [found(places(w), n)]),
-    "nth_set_bit_u64": ("nn", lambda l, w, n: [found(places(w), n)]),
+    "nth_set_bit_u32": ("nn", lambda l, w, n: set_bit(w, n)),
+    "nth_set_bit_u64": ("nn", lambda l, w, n: set_bit(w, n)),
     "store_le_u64": ("n", lambda l, w: ([], over(l.o, words_of(w, 64)))),
     "store_at": ("nn", lambda l, at, w: ([], over(l.o, words_of(w, 64), min(at, len(l.o))))),
     "store_whole": ("nn", lambda l, at, w: ([], over(l.o, words_of(w, 64), at) if at + 8 <= len(l.o) else l.o)),

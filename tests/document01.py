@@ -123,6 +123,12 @@ def found(row, k):
     return row[k] if 0 <= k < len(row) else MISSING
 
 
+def set_bit(word, n):
+    """Where set bit n is, counted from 0; or none, and the number of set bits (paper 02, (f))."""
+    ones = word.bit_count()
+    return [places(word)[n]] if n < ones else [MISSING, ones]
+
+
 def read(op, masks, n):
     """The first flags of up to three stretches combined, their number, and what all later ones of the n are."""
     most = min(n, max(max(8 * lent.size - start, 0) for lent, start in masks))

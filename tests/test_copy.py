@@ -16,6 +16,7 @@ the interpreter, with its limit of ten million steps, is not waited for. What it
 The exit status is 0 if every program printed what is expected of every copy, 1 if one did not, 2 if an edit does not fit or does not compile.
 """
 
+import contextlib
 import os
 import pathlib
 import shutil
@@ -137,8 +138,9 @@ def printed(program, stdin):
     return run.stdout + (b"" if run.returncode == 0 else f"it ended with status {run.returncode}\n".encode())
 
 
-def made(edits, name, stdin):
-    """What the program prints over a copy with these edits."""
+@contextlib.contextmanager
+def compiled(edits, name):
+    """The program, compiled from a copy with these edits."""
     with tempfile.TemporaryDirectory(prefix="test-copy-") as folder:
         copy = pathlib.Path(folder)
         shutil.copy(ROOT / "crates.txt", copy)
@@ -146,7 +148,13 @@ def made(edits, name, stdin):
             if (ROOT / "crates" / crate).is_dir():
                 shutil.copytree(ROOT / "crates" / crate / "src", copy / "crates" / crate / "src")
         apply(copy, edits)
-        return printed(compile_program(copy, name), stdin)
+        yield compile_program(copy, name)
+
+
+def made(edits, name, stdin):
+    """What the program prints over a copy with these edits."""
+    with compiled(edits, name) as program:
+        return printed(program, stdin)
 
 
 def difference(expected, got):

@@ -49,6 +49,7 @@ fn reply(answer: Answer, may_miss: bool, marks: bool) -> Reply {
     match answer.state {
         State::None => {}
         State::Mask(Mask { start, length, zeros }) => tokens.extend([number(start), number(length), zeros.map_or(Token::Unknown, number)]),
+        State::Ones(ones) => tokens.push(number(ones)),
         State::Builder(Builder { length, word, ones }) => tokens.extend([number(length), Token::Number(word), number(ones)]),
         State::Cursor(Cursor { start, length, place, masked }) => {
             tokens.extend([number(start), number(length), number(place)]);

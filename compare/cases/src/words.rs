@@ -33,6 +33,14 @@ fn lengths() -> String {
     format!("{},{}", list(&NEAR_LENGTHS), list(&FAR_LENGTHS))
 }
 
+/// The last set bit of a word, the one past it, and one past the largest word's.
+fn last_set_bit(f: &mut File, name: &str, word: u64) {
+    let ones = word.count_ones();
+    for n in [ones.saturating_sub(1), ones, 65] {
+        f.ask(&format!("{name} {} {n}", show(word)));
+    }
+}
+
 fn single_words(f: &mut File) {
     let (words, places) = (list(&WORDS), list(&PLACES));
     for flag in 0..2 {
@@ -63,6 +71,8 @@ fn single_words(f: &mut File) {
         f.ask(&format!("nth_set_bit_u64 {word} 0..67,xffffffff,{places}"));
         f.ask(&format!("nth_set_bit_u32 {} 0..35,x80000000,xffffffff", WORDS[i] % (1 << 32)));
         f.ask(&format!("nth_set_bit_u32 {} {}", WORDS[i] % (1 << 32), 3 * i));
+        last_set_bit(f, "nth_set_bit_u64", WORDS[i]);
+        last_set_bit(f, "nth_set_bit_u32", WORDS[i] % (1 << 32));
     }
     let single: Vec<u64> = (0..64).map(|bit| 1 << bit).collect();
     f.ask(&format!("nth_set_bit_u64 {} 0,1", list(&single)));

@@ -63,6 +63,13 @@ pub fn position(a: calls::Position) -> Answer {
     Answer { refusal: a.refusal, values: there(a.found, vec![a.value as u64]), state: State::None }
 }
 
+/// Where there is no such bit, how many there are is the record, which the original does not give.
+pub fn set_bit(a: calls::NthAnswer) -> Answer {
+    assert!(!a.found || a.ones == 0, "a number beside a position: {a:?}");
+    let state = if a.found { State::None } else { State::Ones(a.ones as usize) };
+    Answer { refusal: a.refusal, values: there(a.found, vec![a.value.into()]), state }
+}
+
 pub fn split(a: calls::SplitAnswer) -> Answer {
     let lengths = [a.prefix_len, a.bulk_start, a.bulk_len].map(|length| length as u64);
     let values = [&[a.prefix], &lengths[..], &[a.suffix, a.suffix_len as u64]].concat();

@@ -84,6 +84,8 @@ pub enum State {
     Mask(Mask),
     Builder(Builder),
     Cursor(Cursor),
+    /// How many flags of a word are set, where it has not the one that is asked for.
+    Ones(usize),
 }
 
 /// What a call answers: the number of the check that refuses it, or 0; its numbers, none of them where it finds nothing; and its

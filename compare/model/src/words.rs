@@ -1,7 +1,7 @@
 //! The calls on words. No check is made.
 
 use crate::loops::WordOp;
-use crate::{Answer, flag_at, flags_word, run_at_front, word_flags};
+use crate::{Answer, State, flag_at, flags_word, run_at_front, word_flags};
 
 pub fn load_padded_le_u64(part: &[u8]) -> Answer {
     let flags: Vec<bool> = part.iter().take(8).flat_map(|&byte| word_flags(byte.into()).into_iter().take(8)).collect();
@@ -18,10 +18,13 @@ pub fn merge_reversed(current: u64, next: u64, offset: usize) -> Answer {
     Answer::word(flags_word(&flags))
 }
 
-/// The position of set bit n. A 32-bit word has its upper half zero.
+/// The position of set bit n, or how many are set. A 32-bit word has its upper half zero.
 pub fn nth_set_bit(word: u64, n: u64) -> Answer {
-    let places = (0..64usize).filter(|j| word >> j & 1 == 1);
-    Answer::values(usize::try_from(n).ok().and_then(|n| places.into_iter().nth(n)))
+    let places: Vec<usize> = (0..64).filter(|j| word >> j & 1 == 1).collect();
+    match usize::try_from(n).ok().and_then(|n| places.get(n)) {
+        Some(&place) => Answer::values([place]),
+        None => Answer::record(State::Ones(places.len())),
+    }
 }
 
 /// The first k flags of a word; all of them where there are fewer.

@@ -43,6 +43,12 @@ impl Lines {
         }
     }
 
+    /// A request whose answer is a position or none, behind which the library says how many there are: the Rust does not.
+    fn uncounted(&mut self, call: &'static str, request: &[Token], answer: &[Token]) {
+        self.request(call, request, answer);
+        self.text.push_str(if answer.is_empty() { " - _\n" } else { "\n" });
+    }
+
     /// A request whose answer is these numbers, or none.
     fn plain(&mut self, call: &'static str, request: &[Token], answer: &[Token]) {
         self.request(call, request, answer);
@@ -110,10 +116,8 @@ fn builder(flags: &[bool]) -> ([Token; 3], Vec<u8>) {
 }
 
 /// The calls whose numbers are written as they are.
-const PLAIN: [&str; 13] = [
+const PLAIN: [&str; 11] = [
     "merge_reversed",
-    "nth_set_bit_u32",
-    "nth_set_bit_u64",
     "count_zeros",
     "leading_zeros",
     "leading_ones",
@@ -125,6 +129,8 @@ const PLAIN: [&str; 13] = [
     "eq",
     "num_edges",
 ];
+
+const WORD_SEARCHES: [&str; 2] = ["nth_set_bit_u32", "nth_set_bit_u64"];
 
 const COMBINATIONS: [&str; 8] = ["and", "and_not", "or", "or_not", "xor", "not", "select", "select_constant"];
 
@@ -158,6 +164,8 @@ impl Lent {
         let mut lines = Lines::default();
         if let Some(name) = named(call, &PLAIN) {
             lines.plain(name, request, answer);
+        } else if let Some(name) = named(call, &WORD_SEARCHES) {
+            lines.uncounted(name, request, answer);
         } else if let Some(name) = named(call, &COMBINATIONS) {
             self.combined(&mut lines, name, request, answer);
         } else if let Some(name) = named(call, &APPENDS) {

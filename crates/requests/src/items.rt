@@ -6,7 +6,8 @@ ghost use Prim.Native.Nat.{_≤_};
 use crate::text;
 use crate::values;
 
-// The kinds: a number and those behind it, `?`, `-`, a number so many times, `=`, `@`, `#`, and from SIZE on the sizes of x, y, z, o, i.
+// The kinds: a number and those behind it, `?`, `-`, a number so many times, `=`, `@`, `#`, `_`, and from SIZE on the sizes of x, y, z, o,
+// i.
 pub const NUMBER: u64 = 0;
 
 pub const UNKNOWN: u64 = 1;
@@ -20,6 +21,8 @@ pub const EQUALS: u64 = 4;
 pub const LAST: u64 = 5;
 
 pub const CALLS: u64 = 6;
+
+const ANY: u64 = 7;
 
 pub const SIZE: u64 = 8;
 
@@ -156,6 +159,7 @@ fn letter(r: Items, b: u8) -> Items {
         b'=' => at(r, BEFORE, WHOLE, EQUALS),
         b'?' => at(r, BEFORE, WHOLE, UNKNOWN),
         b'-' => at(r, BEFORE, WHOLE, NONE),
+        b'_' => at(r, BEFORE, WHOLE, ANY),
         b'@' => at(r, BEFORE, OPEN, LAST),
         b'#' => at(r, BEFORE, OPEN, CALLS),
         b'x' => hexadecimal(r),
@@ -315,14 +319,14 @@ fn added(mut r: Items, kind: u64, first: u64, count: u64, list: &mut [u64]) -> I
     sized(r, kind)
 }
 
-// Sizes stand behind the plain arguments.
+// Sizes stand behind the plain arguments, and no argument is `_`.
 fn sized(mut r: Items, kind: u64) -> Items {
     if r.answered {
         return r;
     }
     if SIZE <= kind {
         r.sized = true;
-    } else if r.sized {
+    } else if r.sized | (kind == ANY) {
         r.good = false;
     }
     r
@@ -546,5 +550,6 @@ fn is_token(list: &[u64], j: usize, answer: [u64; 12], token: u64) -> bool {
     let at = token % 8;
     let kind_of = (answer[values::UNKNOWNS] >> at) % 2 + 2 * ((answer[values::NONES] >> at) % 2);
     let value = answer[at as usize];
-    (kind(list, j) == kind_of) & (first(list, j) == value) & (count(list, j) == 1)
+    let same = (kind(list, j) == kind_of) & (first(list, j) == value) & (count(list, j) == 1);
+    same | ((kind(list, j) == ANY) & (kind_of == NUMBER))
 }

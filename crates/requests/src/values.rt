@@ -114,6 +114,11 @@ pub(crate) fn none() -> [u64; 12] {
     [0, 0, 0, 0, 0, 0, 0, 0, 2, 0, 2, 0]
 }
 
+// None, and how many there are.
+pub(crate) fn none_of(many: u64) -> [u64; 12] {
+    [0, 0, many, 0, 0, 0, 0, 0, 3, 0, 2, 0]
+}
+
 pub(crate) fn refused(number: u8) -> [u64; 12] {
     tokens(1, byte(number), 0, 0, 0, 0, 0)
 }

@@ -16,8 +16,8 @@ pub(crate) fn plain(call: usize, v: [u64; 24]) -> [u64; 12] {
     let k = values::size(v, 1);
     match call {
         0 => values::one(merge::merge_reversed(w, values::word(v, 1), values::size(v, 2))),
-        1 => position(nth::nth_set_bit_u32(values::low(v, 0), values::low(v, 1))),
-        2 => position(nth::nth_set_bit_u64(w, values::word(v, 1))),
+        1 => set_bit(nth::nth_set_bit_u32(values::low(v, 0), values::low(v, 1))),
+        2 => set_bit(nth::nth_set_bit_u64(w, values::word(v, 1))),
         3 => values::one(word::low_flags(w, k)),
         4 => values::one(word::down(w, k)),
         5 => values::one(word::up(w, k)),
@@ -44,10 +44,10 @@ pub(crate) fn counting(call: usize, v: [u64; 24]) -> [u64; 12] {
     }
 }
 
-fn position(r: Nth) -> [u64; 12] {
+fn set_bit(r: Nth) -> [u64; 12] {
     match r {
         Nth::At(place) => values::one(values::wide(place)),
-        Nth::Missing => values::none(),
+        Nth::Missing(ones) => values::none_of(values::wide(ones)),
     }
 }
 

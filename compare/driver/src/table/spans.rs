@@ -103,14 +103,14 @@ fn words() -> [Call; 4] {
         Call {
             name: "nth_set_bit_u64",
             shape: Shape::NOTHING.args(Args::Nth),
-            ours: |r, _| ours::position(calls::nth_set_bit_u64(r.words[0], r.n as u64)),
+            ours: |r, _| ours::set_bit(calls::nth_set_bit_u64(r.words[0], r.n as u64)),
             model: |r, _| words::nth_set_bit(r.words[0], r.n as u64),
             theirs: Theirs::Answer(|r, _| Some(Outcome::words(bitmask::nth_set_bit_u64(r.words[0], r.n as u64)))),
         },
         Call {
             name: "nth_set_bit_u32",
             shape: Shape::NOTHING.args(Args::Nth),
-            ours: |r, _| ours::position(calls::nth_set_bit_u32(r.words[0] as u32, r.n as u32)),
+            ours: |r, _| ours::set_bit(calls::nth_set_bit_u32(r.words[0] as u32, r.n as u32)),
             model: |r, _| words::nth_set_bit((r.words[0] as u32).into(), (r.n as u32).into()),
             theirs: Theirs::Answer(|r, _| Some(Outcome::words(bitmask::nth_set_bit_u32(r.words[0] as u32, r.n as u32).map(u64::from)))),
         },
