@@ -5,14 +5,18 @@ use mathlib.Core.List.{List, [], _∷_, _++_, map, append-assoc}
 use Prim.Native.Nat.{ℕ, zero, suc, _+_, _-_, _*_, _/_, _%_, _≤_, _<_}
 use native.Mathlib.Omega.{arith}
 use lib.ListN.{length, take, length-take, length-append}
+use lib.Dec.{eqb}
 use lib.Seq.{take-all}
 use Rattle.words.specs.Ends.{leading, trailing}
-use Rattle.words.specs.Flags.{bits, count, flagsOf, window, wordOf}
+use Rattle.words.specs.Flags.{bits, copies, count, flagsOf, window, wordOf}
+use Rattle.words.specs.Uniform.{allAre}
 use Rattle.words.proofs.Bits.{length-bits}
-use Rattle.words.proofs.Counting.{count-append, count-padded, count-not, count-le, count-short}
+use Rattle.words.proofs.Counting.{count-append, count-copies, count-padded, count-not, count-le, count-short}
 use Rattle.words.proofs.EndLaws.{leading-le, leading-some, leading-all, trailing-le, trailing-some, trailing-all}
-use Rattle.words.proofs.Windows.{in-window, length-window, window-add, window-cut}
-use Rattle.masks.specs.Utils.{zeros}
+pub use Rattle.words.proofs.Loads.{moved-flags, near-flags}
+use Rattle.words.proofs.UniformLaws.{eqb-both}
+use Rattle.words.proofs.Windows.{in-window, length-copies, length-window, window-add}
+use Rattle.masks.specs.Utils.{zeros, zerosOfAll}
 
 -- ---- the parts that are words
 
@@ -150,22 +154,7 @@ module _ (x : Bool) (l : List Bool) (s n : ℕ) where
       let all : 64 * i ≡ trailing x last = omega (arith, trailing-le x last, length-window l (s + 64 * (n - i)) (64 * i)) in
       ap (λ (m : ℕ). 64 * m) (sym e) ∙ all ∙ ap₂ (λ (y m : ℕ). trailing x (window l y (64 * m))) f e
 
--- the flags of a word that was read from a flag on, moved down
-pub moved-flags : (l : List Bool) (at k n x r : ℕ) → k + n ≤ 64 → bits 64 x ≡ window l at 64 → bits 64 r ≡ window (bits 64 x) k 64
-    → take n (bits 64 r) ≡ window l (at + k) n
-moved-flags l at k n x r h p q =
-    let e : at + (k + 0) ≡ at + k = omega arith in
-    ap (take n) q ∙ window-cut (bits 64 x) k 64 0 n (omega arith) ∙ ap (λ (t : List Bool). window t (k + 0) n) p
-    ∙ in-window l at 64 (k + 0) n (omega arith) ∙ ap (λ (y : ℕ). window l y n) e
-
--- the flags of a span that fits the word from its first byte on
-pub near-flags : (l : List Bool) (start n x r : ℕ) → start % 8 + n ≤ 64 → bits 64 x ≡ window l (8 * (start / 8)) 64 → bits 64 r ≡ window (bits 64 x) (start % 8) 64
-    → take n (bits 64 r) ≡ window l start n
-near-flags l start n x r h p q =
-    let at : 8 * (start / 8) + start % 8 ≡ start = omega arith in
-    moved-flags l (8 * (start / 8)) (start % 8) n x r h p q ∙ ap (λ (k : ℕ). window l k n) at
-
--- and its ones
+-- the ones of a span that fits the word from its first byte on
 pub short-count : (bytes : List ℕ) (start n x r c : ℕ) → start % 8 + n ≤ 64 → bits 64 x ≡ window (flagsOf bytes) (8 * (start / 8)) 64
     → bits 64 r ≡ window (bits 64 x) (start % 8) 64
     → c ≡ count (take n (bits 64 r)) → c ≡ count (window (flagsOf bytes) start n)
@@ -199,3 +188,15 @@ front-most x k w r e = omega (arith, leading-le x (take k (bits 64 w)), length-t
 
 pub end-most : (x : Bool) (k w r : ℕ) → r ≡ trailing x (take k (bits 64 w)) → r ≤ 64
 end-most x k w r e = omega (arith, trailing-le x (take k (bits 64 w)), length-take k (bits 64 w), length-bits 64 w)
+
+-- all flags are x just where the zeros are as many as they would then be
+pub all-zeros : (x : Bool) (l : List Bool) (n : ℕ) (t : Bool) → length l ≡ n → t ≡ allAre x l → t ≡ eqb (zeros l) (zerosOfAll x n)
+unfolding zeros allAre
+all-zeros true l n t e p = p ∙ eqb-both (count l) (length l * 1) (count (map not l)) 0 (λ h. omega (arith, count-not l)) (λ h. omega (arith, count-not l))
+all-zeros false l n t e p = p ∙ eqb-both (count l) (length l * 0) (count (map not l)) n (λ h. omega (arith, count-not l)) (λ h. omega (arith, count-not l))
+
+-- `zerosOfAll` is what it is called
+pub zeros-of-all : (x : Bool) (n : ℕ) → zeros (copies n x) ≡ zerosOfAll x n
+unfolding zeros
+zeros-of-all true n = omega (arith, count-not (copies n true), count-copies n true, length-copies n true)
+zeros-of-all false n = omega (arith, count-not (copies n false), count-copies n false, length-copies n false)

@@ -4,17 +4,10 @@ use mathlib.Core.Bool.{Bool, true, false}
 use mathlib.Core.List.{List}
 use Prim.Native.Nat.{ℕ, _+_, _-_, _*_, _^_, _≤_, _<_}
 use native.Mathlib.Omega.{arith}
-use lib.ListN.{length, take, drop}
-use lib.Seq.{take-all}
-use Rattle.words.specs.Flags.{bits, flagsOf, window, wordOf}
+use lib.ListN.{take}
+use Rattle.words.specs.Flags.{bits, window, wordOf}
+pub use Rattle.words.proofs.Loads.{whole-part, whole-stretch}
 use Rattle.words.proofs.Windows.{length-window, window-take, word-value}
-
--- `&bytes[0..]` is all bytes
-pub whole-part : (bytes : List ℕ) → take (length bytes - 0) (drop 0 bytes) ≡ bytes
-whole-part bytes = take-all (length bytes - 0) bytes (omega arith)
-
-pub whole-stretch : (bytes : List ℕ) (start n : ℕ) → window (flagsOf (take (length bytes - 0) (drop 0 bytes))) start n ≡ window (flagsOf bytes) start n
-whole-stretch bytes start n = ap (λ (l : List ℕ). window (flagsOf l) start n) (whole-part bytes)
 
 -- the first k flags of a word that was read from a flag on
 pub low-value : (l : List Bool) (bit k w r : ℕ) → r < 2 ^ 64 → k ≤ 64 → bits 64 w ≡ window l bit 64 → bits 64 r ≡ window (take k (bits 64 w)) 0 64 → r ≡ wordOf (window l bit k)

@@ -3,12 +3,13 @@
 ghost use mathlib.Core.Path.{_≡_};
 ghost use mathlib.Core.Bool.{true, false};
 ghost use Prim.Native.Nat.{_+_, _-_, _*_, _/_, _%_, _≤_, _<_};
+ghost use lib.Dec.{eqb};
 ghost use Rattle.words.specs.Ends.{leading, trailing};
 ghost use Rattle.words.specs.Flags.{count};
 ghost use Rattle.words.specs.Loops.{stretch};
 ghost use Rattle.masks.specs.Checks.{limit};
-ghost use Rattle.masks.specs.Utils.{zeros, countedAnswer, spanCount};
 ghost use Rattle.masks.specs.Workers.{Bounded, splitFlags};
+ghost use Rattle.masks.specs.Utils.{zeros, zerosOfAll, countedAnswer, spanCount};
 use crate::aligned::Aligned;
 use crate::aligned::AlignedBitmapSlice;
 use crate::aligned::aligned_failure;
@@ -16,6 +17,7 @@ use crate::aligned::split;
 use words::counts::count_ones;
 use words::ends::leading_in_word;
 use words::ends::trailing_in_word;
+use words::uniform::all_are;
 use words::word::byte_word;
 use words::word::down;
 use words::word::low_flags;
@@ -135,6 +137,13 @@ pub(crate) fn zeros_at(bytes: &[u8], start: usize, length: usize, address: usize
         return short_zeros(bytes, start, length);
     }
     long_zeros(bytes, start, length, address)
+}
+
+// Are all flags of a span `flag`: what its zeros would say. They are not counted; the first word with another flag ends the search.
+pub(crate) fn all_flags(flag: bool, bytes: &[u8], start: usize, length: usize) -> bool
+    ensures { λ r. ⌜ r ≡ eqb (zeros (stretch (now (bytes .entry)) start length)) (zerosOfAll flag length) ⌝ }
+{
+    all_are(flag, bytes, start, length)
 }
 
 // How many flags of a span are zero. `zeros_at` is outside this body and gets a slice of its own: the slice given here, which it

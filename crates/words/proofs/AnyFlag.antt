@@ -116,9 +116,13 @@ some-any l h = sym (any-count l ∙ lt-ltb 0 (count l) h)
 pub zero-any : (l : List Bool) → count l ≡ 0 → false ≡ anySet l
 zero-any l e = sym (any-count l ∙ le-ltb 0 (count l) (omega arith))
 
+-- zeros behind a list set nothing
+pub any-padded : (l : List Bool) (d : ℕ) → length l ≤ d → anySet (window l 0 d) ≡ anySet l
+any-padded l d h = any-count (window l 0 d) ∙ ap (ltb 0) (count-padded l d h) ∙ sym (any-count l)
+
 -- at most a word
 pub any-short : (l : List Bool) (len w : ℕ) (t : Bool) → length l ≡ len → len ≤ 64 → bits 64 w ≡ window l 0 64 → t ≡ anySet (bits 64 w) → t ≡ anySet l
-any-short l len w t e h p q = q ∙ ap anySet p ∙ any-count (window l 0 64) ∙ ap (ltb 0) (count-padded l 64 (omega arith)) ∙ sym (any-count l)
+any-short l len w t e h p q = q ∙ ap anySet p ∙ any-padded l 64 (omega arith)
 
 -- ---- with an end at the first words that have one
 

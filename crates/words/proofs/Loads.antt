@@ -203,3 +203,25 @@ with-room at n out new old h e = e ∙ ap (λ (t : Bool). cond t new old) (sym (
 -- what a caller who knows of the room learns
 pub had-room : (at n : ℕ) (out new old : List Bool) → out ≡ cond (leb (at + 8) n) new old → at + 8 ≤ n → out ≡ new
 had-room at n out new old e h = e ∙ ap (λ (t : Bool). cond t new old) (le-leb (at + 8) n h)
+
+-- the flags of a word that was read from a flag on, moved down
+pub moved-flags : (l : List Bool) (at k n x r : ℕ) → k + n ≤ 64 → bits 64 x ≡ window l at 64 → bits 64 r ≡ window (bits 64 x) k 64
+    → take n (bits 64 r) ≡ window l (at + k) n
+moved-flags l at k n x r h p q =
+    let e : at + (k + 0) ≡ at + k = omega arith in
+    ap (take n) q ∙ window-cut (bits 64 x) k 64 0 n (omega arith) ∙ ap (λ (t : List Bool). window t (k + 0) n) p
+    ∙ in-window l at 64 (k + 0) n (omega arith) ∙ ap (λ (y : ℕ). window l y n) e
+
+-- the flags of a span that fits the word from its first byte on
+pub near-flags : (l : List Bool) (start n x r : ℕ) → start % 8 + n ≤ 64 → bits 64 x ≡ window l (8 * (start / 8)) 64 → bits 64 r ≡ window (bits 64 x) (start % 8) 64
+    → take n (bits 64 r) ≡ window l start n
+near-flags l start n x r h p q =
+    let at : 8 * (start / 8) + start % 8 ≡ start = omega arith in
+    moved-flags l (8 * (start / 8)) (start % 8) n x r h p q ∙ ap (λ (k : ℕ). window l k n) at
+
+-- `&bytes[0..]` is all bytes
+pub whole-part : (bytes : List ℕ) → take (length bytes - 0) (drop 0 bytes) ≡ bytes
+whole-part bytes = take-all (length bytes - 0) bytes (omega arith)
+
+pub whole-stretch : (bytes : List ℕ) (start n : ℕ) → window (flagsOf (take (length bytes - 0) (drop 0 bytes))) start n ≡ window (flagsOf bytes) start n
+whole-stretch bytes start n = ap (λ (l : List ℕ). window (flagsOf l) start n) (whole-part bytes)

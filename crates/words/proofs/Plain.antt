@@ -13,12 +13,13 @@ use lib.ListN.{length, take, drop, getD, length-append, length-take, length-drop
 use lib.Seq.{getD-take, getD-drop, getD-append-add, length-take-le}
 use lib.Dec.{eqb}
 use borrow.Author.Tests.{lt-ltb, le-ltb}
-use Rattle.words.specs.Flags.{isOne, digit, bitAt, flagAt, bits, wordOf, flagsOf, count, window, over, overAt}
+use Rattle.words.specs.Flags.{isOne, digit, bitAt, flagAt, bits, wordOf, flagsOf, copies, count, window, over, overAt}
 use Rattle.words.specs.Counts.{anySet, sameFlags}
 use Rattle.words.specs.Loops.{stretch, combined, wholeWords}
 use Rattle.words.specs.Merge.{merged}
 use Rattle.words.specs.Nth.{atPlace, nthOne, nthPlace, onlyOnes}
 use Rattle.words.specs.Ops.{opOf, zip3}
+use Rattle.words.specs.Uniform.{allAre}
 use Rattle.words.specs.declared.ops.Op.{Op}
 use Rattle.words.proofs.AnyFlag.{any-some}
 use Rattle.words.proofs.Bits.{length-bits, halves, eqb-isOne}
@@ -26,6 +27,7 @@ use Rattle.words.proofs.Bytes.{length-flags}
 use Rattle.words.proofs.Combining.{at-zip-in}
 use Rattle.words.proofs.Counting.{count-append}
 use Rattle.words.proofs.NthLaws.{nth-lt}
+use Rattle.words.proofs.UniformLaws.{all-none, all-cons}
 use Rattle.words.proofs.Windows.{lt-or-le, length-window, window-all, window-cut, at-in, bits-window, length-over, overAt-past}
 
 -- ---- numbers and bytes
@@ -286,3 +288,21 @@ equal-same a b e = ap (sameFlags a) (sym e) ∙ itself a
     itself [] = refl
     itself (true ∷ a) = itself a
     itself (false ∷ a) = itself a
+
+-- ---- are all flags one flag
+
+-- A list whose flags are all x is so many copies of x,
+pub all-copies : (x : Bool) (l : List Bool) → allAre x l ≡ true → l ≡ copies (length l) x
+unfolding copies xor
+all-copies x [] e = refl
+all-copies true (true ∷ l) e = ap (λ (t : List Bool). true ∷ t) (all-copies true l (sym (all-cons true true l) ∙ e))
+all-copies false (false ∷ l) e = ap (λ (t : List Bool). false ∷ t) (all-copies false l (sym (all-cons false false l) ∙ e))
+all-copies true (false ∷ l) e = absurd (let f : false ≡ true = sym (all-cons true false l) ∙ e in let z : _≡_ {A = ℕ} 0 1 = cc f in omega arith)
+all-copies false (true ∷ l) e = absurd (let f : false ≡ true = sym (all-cons false true l) ∙ e in let z : _≡_ {A = ℕ} 0 1 = cc f in omega arith)
+
+-- and copies of x are all x.
+pub copies-all : (x : Bool) (n : ℕ) → allAre x (copies n x) ≡ true
+unfolding copies xor
+copies-all x zero = all-none x
+copies-all true (suc n) = all-cons true true (copies n true) ∙ copies-all true n
+copies-all false (suc n) = all-cons false false (copies n false) ∙ copies-all false n

@@ -9,4 +9,5 @@ pub mod Merge
 pub mod Nth
 pub mod Ops
 pub mod Planes
+pub mod Uniform
 pub mod WrongAnswers

@@ -123,7 +123,7 @@ fn any_behind(flag: bool, len: usize, n: usize) -> bool
 }
 
 // Is a flag of a word set.
-fn is_set(w: u64) -> bool
+pub(crate) fn is_set(w: u64) -> bool
     ensures { λ r. ⌜ r ≡ anySet (wordFlags w) ⌝ }
 {
     w != 0

@@ -12,4 +12,5 @@ pub mod merge;
 pub mod nth;
 pub mod ops;
 mod planes;
+pub mod uniform;
 pub mod word;
