@@ -14,22 +14,14 @@ use Rattle.masks.specs.Aligned.{bulkOffset, bulkStart, bytesToAligned, s
 use Rattle.masks.specs.Appends.{growChecks, innerChecks, subsliceChecks}
 use Rattle.masks.specs.Builder.{builderChecks, possible}
 use Rattle.masks.specs.Checks.{check, earlier, firstFailed, limit, outputChecks, spanChecks, withinLimit}
-use Rattle.masks.specs.Mask.{countFits, countValid, maskChecks, maskFlags, maskOf, pieceChecks, slicedMask, tryNewOf, uncounted}
-use Rattle.masks.specs.TrueCounts.{TrueCount, Truthful}
-use Rattle.masks.specs.Utils.{zeros}
+use Rattle.masks.specs.Mask.{countValid, maskChecks, maskFlags, maskOf, pieceChecks, slicedMask, tryNewOf, uncounted}
+use Rattle.masks.specs.TrueCounts.{Truthful}
 use Rattle.masks.specs.Workers.{Room}
 use Rattle.masks.specs.declared.bitmap.Bitmap.{Bitmap}
-use Rattle.masks.specs.declared.bitmap.Unset.{Unset}
-use Rattle.masks.specs.declared.bitmap.Unset.the-variants.{Known, Unknown}
 use Rattle.masks.specs.declared.builder.BitmapBuilder.{BitmapBuilder}
 use Rattle.masks.proofs.CheckLaws.{SpanAllowed, passed-before, span-allowed}
-use Rattle.masks.proofs.PartLaws.{zeros-most}
+use Rattle.masks.proofs.MaskLaws.{true-valid}
 use Rattle.masks.proofs.SliceTruth.{none-true}
-
--- a true count is at most the length
-true-fits : (u : Unset) (l : List Bool) (n : ℕ) → length l ≡ n → TrueCount u l → countFits u n ≡ true
-true-fits (Known z) l n e t = le-leb z n (zeros-most l n z e t)
-true-fits Unknown l n e t = refl
 
 -- every span within the limit and its bytes is accepted,
 pub span-accepted : (start n size : ℕ) → start ≤ limit → n ≤ limit → start + n ≤ 8 * size → 0 ≡ firstFailed (spanChecks start n size)
@@ -42,7 +34,7 @@ pub mask-accepted : (m : Bitmap) (bytes : List ℕ) → m .start ≤ limit → m
 unfolding maskChecks firstFailed earlier
 mask-accepted m bytes a b c t =
     passed-before (spanChecks (m .start) (m .length) (length bytes)) (check 3 (countValid m bytes) ∷ []) 0 0 (span-accepted (m .start) (m .length) (length bytes) a b c) refl
-    (rw (true-fits (m .unset) (maskFlags m bytes) (m .length) (length-window (flagsOf bytes) (m .start) (m .length)) t))
+    (rw (true-valid (m .unset) (maskFlags m bytes) t))
 
 -- the mask that `try_new` gives
 pub new-accepted : (bytes : List ℕ) (start n : ℕ) → firstFailed (spanChecks start n (length bytes)) ≡ 0 → 0 ≡ firstFailed (maskChecks (maskOf start n (uncounted n)) bytes)

@@ -211,7 +211,7 @@ pub passed-before : (A B : List Check) (r n : ℕ) → n ≡ firstFailed A → n
 passed-before A B r n p z q = q ∙ sym (none-earlier (firstFailed B)) ∙ ap (λ (x : ℕ). earlier x (firstFailed B)) (sym z ∙ p) ∙ sym (failed-append A B)
 
 -- a check that is made after the others have passed
-last-made : (cs : List Check) (n k : ℕ) (t : Bool) → n ≡ firstFailed cs → n ≡ 0 → cond t 0 (suc k) ≡ firstFailed (cs ++ (check (suc k) t ∷ []))
+pub last-made : (cs : List Check) (n k : ℕ) (t : Bool) → n ≡ firstFailed cs → n ≡ 0 → cond t 0 (suc k) ≡ firstFailed (cs ++ (check (suc k) t ∷ []))
 unfolding firstFailed
 last-made cs n k t p z = passed-before cs (check (suc k) t ∷ []) (cond t 0 (suc k)) n p z (sym (earlier-none (cond t 0 (suc k))))
 
@@ -304,11 +304,10 @@ failed-ranked (c ∷ cs) k e n =
     (failure-ranked c (rank k) (leb-true (rank (c .number)) (rank k) (and-left (leb (rank (c .number)) (rank k)) (before k cs) e)))
     (failed-ranked cs k (and-right (leb (rank (c .number)) (rank k)) (before k cs) e)) n
 
--- a refusal by the checks that are put first
-pub first-refused : {S A : Type 0} (cs : List Check) (n k : ℕ) (t : Bool) (s : S) (a : A) → before (suc k) cs ≡ true → n ≡ firstFailed cs → (n ≡ 0 → ⊥)
-    → refused n s ≡ decided (firstFailed (cs ++ (check (suc k) t ∷ []))) s a
-first-refused cs n k t s a b p z =
-    is-refused n (firstFailed (cs ++ (check (suc k) t ∷ []))) s a (p ∙ sym (failed-append cs (check (suc k) t ∷ []) ∙ ap (earlier (firstFailed cs)) (single t) ∙ keeps t)) z
+-- the number of the checks that are put first, where one of them failed: the last one need not be made
+pub first-number : (cs : List Check) (n k : ℕ) (t : Bool) → before (suc k) cs ≡ true → n ≡ firstFailed cs → (n ≡ 0 → ⊥)
+    → n ≡ firstFailed (cs ++ (check (suc k) t ∷ []))
+first-number cs n k t b p z = p ∙ sym (failed-append cs (check (suc k) t ∷ []) ∙ ap (earlier (firstFailed cs)) (single t) ∙ keeps t)
   where
     single : (t : Bool) → firstFailed (check (suc k) t ∷ []) ≡ cond t 0 (suc k)
     single t = sym (one-check (cond t 0 (suc k)) (suc k) t t refl refl)
@@ -316,6 +315,11 @@ first-refused cs n k t s a b p z =
     keeps : (t : Bool) → earlier (firstFailed cs) (cond t 0 (suc k)) ≡ firstFailed cs
     keeps true = earlier-none (firstFailed cs)
     keeps false = first-least (firstFailed cs) (suc k) (λ e. z (p ∙ e)) (λ e. omega arith) (failed-ranked cs (suc k) b (λ e. z (p ∙ e)))
+
+-- a refusal by the checks that are put first
+pub first-refused : {S A : Type 0} (cs : List Check) (n k : ℕ) (t : Bool) (s : S) (a : A) → before (suc k) cs ≡ true → n ≡ firstFailed cs → (n ≡ 0 → ⊥)
+    → refused n s ≡ decided (firstFailed (cs ++ (check (suc k) t ∷ []))) s a
+first-refused cs n k t s a b p z = is-refused n (firstFailed (cs ++ (check (suc k) t ∷ []))) s a (first-number cs n k t b p z) z
 
 -- the words of n flags, against those of an output
 pub words-test : (n size : ℕ) → leb ((n + 63) / 64) (size / 8) ≡ leb (8 * ((n + 63) / 64)) size

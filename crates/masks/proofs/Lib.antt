@@ -47,5 +47,6 @@ pub mod SplitLaws
 pub mod TrueIdxLaws
 pub mod TrueIdxPlain
 pub mod TrueLaws
+pub mod Uncounted
 pub mod Witnesses
 pub mod WrongAnswers

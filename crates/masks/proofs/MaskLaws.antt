@@ -6,11 +6,13 @@ use Prim.Native.Nat.{ℕ, zero, suc, _+_, _-_, _/_, _≤_, _<_, max}
 use native.Mathlib.Omega.{arith}
 use lib.Dec.{eqb, leb}
 use lib.ListN.{length}
-use borrow.Author.Tests.{le-leb, lt-leb, leb-true, leb-false, eq-eqb, ne-eqb}
+use borrow.Author.Tests.{le-leb, lt-leb, leb-true, leb-false, eq-eqb, eqb-true, ne-eqb}
 use Rattle.masks.specs.Answer.{Answer, given, refused, decided}
 use Rattle.masks.specs.Checks.{Check, check, rank, placeIn, firstFailed, limit, withinLimit, spanChecks}
-use Rattle.masks.specs.Mask.{cutMask, cutZeros, slicedMask, sliceOf, sliceChecks, countValid, maskChecks, pieceChecks}
+use Rattle.masks.specs.Mask.{cutMask, cutZeros, slicedMask, sliceOf, sliceChecks, countIs, countValid, maskChecks, maskFlags, pieceChecks}
 use Rattle.masks.specs.Mask.{recounts, keptCount, slicedCount, recountValid}
+use Rattle.masks.specs.TrueCounts.{Sound, TrueCount, Truthful}
+use Rattle.masks.specs.Utils.{zeros}
 use Rattle.masks.specs.Workers.{PieceAllowed, recountedOf, cutOf}
 use Rattle.masks.specs.declared.bitmap.Bitmap.{Bitmap}
 use Rattle.masks.specs.declared.bitmap.Cut.{Cut}
@@ -23,6 +25,26 @@ use Rattle.masks.proofs.CheckLaws.{span-allowed, SpanAllowed, first-all
 pub mask-allowed : (m : Bitmap) (bytes : List ℕ) → firstFailed (maskChecks m bytes) ≡ 0 → SpanAllowed (m .start) (m .length) (length bytes)
 unfolding maskChecks
 mask-allowed m bytes e = span-allowed (m .start) (m .length) (length bytes) (both-left (spanChecks (m .start) (m .length) (length bytes)) (check 3 (countValid m bytes) ∷ []) e)
+
+-- its count is not known, or true: check 3 says just that
+count-true : (u : Unset) (l : List Bool) → countIs u (zeros l) ≡ true → TrueCount u l
+count-true (Known z) l e = eqb-true z (zeros l) e
+count-true Unknown l e = tt
+
+pub true-valid : (u : Unset) (l : List Bool) → TrueCount u l → countIs u (zeros l) ≡ true
+true-valid (Known z) l t = eq-eqb z (zeros l) t
+true-valid Unknown l t = refl
+
+pub mask-truthful : (m : Bitmap) (bytes : List ℕ) → firstFailed (maskChecks m bytes) ≡ 0 → Truthful m bytes
+unfolding maskChecks
+mask-truthful m bytes e =
+    count-true (m .unset) (maskFlags m bytes)
+    (check-allowed 2 (countValid m bytes) (both-right (spanChecks (m .start) (m .length) (length bytes)) (check 3 (countValid m bytes) ∷ []) e))
+
+pub mask-sound : (m : Bitmap) (bytes : List ℕ) → firstFailed (maskChecks m bytes) ≡ 0 → Sound m bytes
+mask-sound m bytes e =
+    let a = mask-allowed m bytes e in
+    record { starts = a .starts; short = a .short; inside = a .inside; counts = mask-truthful m bytes e }
 
 pub piece-allowed : (m : Bitmap) (bytes : List ℕ) (offset n : ℕ) → firstFailed (pieceChecks m bytes offset n) ≡ 0 → PieceAllowed m offset n
 unfolding pieceChecks

@@ -10,6 +10,7 @@ use lib.ListN.{length}
 use borrow.Author.Tests.{eq-eqb, eqb-true}
 use Rattle.masks.proofs.AnswerLaws.{refused-number, refused-state, refused-failed}
 use Rattle.masks.proofs.CheckLaws.{and-left, and-right, is-kept}
+use Rattle.masks.proofs.SliceTruth.{slice-number}
 use Rattle.masks.specs.Aligned.{alignedChecks, alignedOf}
 use Rattle.masks.specs.Answer.{Answer, given, refused, checked, kept, unlessEmpty}
 use Rattle.masks.specs.Appends.{Append, pushFlag, extendConstant, pushWord, extendSlice, extendRepeated, extendBitmap, extendGather, extendOptGather}
@@ -34,6 +35,7 @@ use Rattle.masks.specs.Search.{searchFrom, searchBack}
 use Rattle.masks.specs.SliceIterator.{runChecks, newSlices, nextSlice}
 use Rattle.masks.specs.TrueIdx.{trueAt, newTrueChecks, trueChecks, newTrue, nextTrue}
 use Rattle.masks.specs.Utils.{spanCount}
+use Rattle.masks.specs.declared.bitmap.Bitmap.{Bitmap}
 use Rattle.masks.specs.declared.bitmap.Optional.the-variants.{Present, Absent}
 use Rattle.masks.specs.declared.builder.BitmapBuilder.{BitmapBuilder}
 
@@ -163,6 +165,20 @@ append-listed (extendBitmap m bytes start n) b buf = refl
 append-listed (extendGather bytes start n idxs) b buf = refl
 append-listed (extendOptGather bytes start n idxs) b buf = refl
 
+-- the numbers of a piece's checks, which decide alone
+not-seven : (k : ℕ) → NoneOrAmong k (1 ∷ 1 ∷ 2 ∷ 3 ∷ 1 ∷ 1 ∷ 1 ∷ 6 ∷ []) → k ≡ 7 → ⊥
+unfolding among
+not-seven k p e = ⊎-elim
+    (λ (z : k ≡ 0). omega arith)
+    (λ (h : among k (1 ∷ 1 ∷ 2 ∷ 3 ∷ 1 ∷ 1 ∷ 1 ∷ 6 ∷ []) ≡ true).
+    let z : _≡_ {A = ℕ} 0 1 = ap (λ (t : Bool). cond t 0 1) (sym h ∙ ap (λ (x : ℕ). among x (1 ∷ 1 ∷ 2 ∷ 3 ∷ 1 ∷ 1 ∷ 1 ∷ 6 ∷ [])) e) in omega arith)
+    p
+
+seven-never : (m : Bitmap) (bytes : List ℕ) (offset n : ℕ) → firstFailed (sliceChecks m bytes offset n) ≡ 7 → ⊥
+unfolding numbers pieceChecks maskChecks spanChecks
+seven-never m bytes offset n e =
+    not-seven (firstFailed (pieceChecks m bytes offset n)) (failed-among (pieceChecks m bytes offset n)) (slice-number m bytes offset n ∙ e)
+
 pub refusals : Refusals
 unfolding
     numbers allAmong among spanChecks addressChecks outputChecks alignedChecks cursorChecks splitChecks builderChecks
@@ -189,6 +205,7 @@ refusals =
       zeroed = λ n out. refuses-unwritten (zeroedChecks n (length out)) _ _ _ _ _ refl;
       try-new = λ bytes start n. refuses-by (spanChecks start n (length bytes)) _ _ _ refl;
       slice = λ m bytes offset n. refuses-by (sliceChecks m bytes offset n) _ _ _ refl;
+      never-seven = seven-never;
       unset-bits = λ m bytes. refuses-by (maskChecks m bytes) _ _ _ refl;
       pair = λ op a aBytes b bBytes out. refuses-unwritten (pairChecks a aBytes b bBytes (length out)) _ _ _ _ _ refl;
       not-of = λ m bytes out. refuses-unwritten (notChecks m bytes (length out)) _ _ _ _ _ refl;

@@ -1,4 +1,4 @@
--- A slice of a mask with a true count has a true count, and check 7 never fails; a slice of the whole changes
+-- A slice of a mask with a true count has a true count, and check 7 never fails, whatever the input; a slice of the whole changes
 -- nothing; the count of a combination is true of the flags it writes. Assumes nothing.
 use mathlib.Core.Path.{_≡_, refl, sym, ap, ap₂, _∙_, subst}
 use mathlib.Core.Bool.{Bool, true, false, not, cond, _&&_}
@@ -8,14 +8,14 @@ use native.Mathlib.Nat.{mul-zero}
 use native.Mathlib.Omega.{arith}
 use lib.Dec.{eqb, leb}
 use lib.ListN.{length}
-use borrow.Author.Tests.{le-leb, leb-true, eqb-true}
+use borrow.Author.Tests.{le-leb, eqb-true}
 use Rattle.words.specs.Flags.{copies, count, digit, flagsOf, window}
 use Rattle.words.proofs.Counting.{count-add, count-copies, count-not}
 use Rattle.words.proofs.Windows.{in-window, length-copies, length-window}
 use Rattle.masks.specs.Answer.{Answer, given, refused, decided, checked}
-use Rattle.masks.specs.Checks.{Check, check, earlier, firstFailed, limit, spanChecks, withinLimit}
+use Rattle.masks.specs.Checks.{Check, check, earlier, firstFailed, limit, withinLimit}
 use Rattle.masks.specs.Combine.{resultCount, resultFlags}
-use Rattle.masks.specs.Mask.{countFits, countValid, cutZeros, keptCount, maskChecks, maskFlags, maskOf, pieceChecks}
+use Rattle.masks.specs.Mask.{cutZeros, keptCount, maskChecks, maskFlags, maskOf, pieceChecks}
 use Rattle.masks.specs.Mask.{recounts, recountValid, sliceChecks, slicedCount, slicedMask, sliceOf, uncounted}
 use Rattle.masks.specs.TrueCounts.{TrueCount, Truthful}
 use Rattle.masks.specs.Utils.{zeros}
@@ -26,8 +26,8 @@ use Rattle.masks.specs.declared.bitmap.Unset.{Unset}
 use Rattle.masks.specs.declared.bitmap.Unset.the-variants.{Known, Unknown}
 use Rattle.masks.specs.declared.shortcuts.Shortcut.{Shortcut}
 use Rattle.masks.specs.declared.shortcuts.Shortcut.the-variants.{Each, All}
-use Rattle.masks.proofs.CheckLaws.{both-right, check-allowed, passed-before}
-use Rattle.masks.proofs.MaskLaws.{mask-allowed, piece-allowed, slice-refused, slice-right}
+use Rattle.masks.proofs.CheckLaws.{both-left, first-number, last-made, passed-before}
+use Rattle.masks.proofs.MaskLaws.{mask-allowed, mask-truthful, piece-allowed, piece-before, slice-right}
 use Rattle.masks.proofs.PartLaws.{zeros-most, zeros-none}
 
 zeros-add : (l : List Bool) (k a b : ℕ) → zeros (window l k (a + b)) ≡ zeros (window l k a) + zeros (window l (k + a) b)
@@ -128,28 +128,40 @@ valid-slice : (m : Bitmap) (bytes : List ℕ) (offset n : ℕ) → offset + n �
 unfolding cutZeros
 valid-slice m bytes offset n h t = never-wrong (flagsOf bytes) (m .start) (m .length) offset n h (m .unset) t
 
--- with a true count check 7 decides nothing
-pub slice-accepted : (m : Bitmap) (bytes : List ℕ) (offset n : ℕ) → Truthful m bytes
-    → sliceOf m bytes offset n ≡ checked (pieceChecks m bytes offset n) m (slicedMask m bytes offset n)
-unfolding decided
-slice-accepted m bytes offset n t = go (firstFailed (pieceChecks m bytes offset n)) refl
+piece-truthful : (m : Bitmap) (bytes : List ℕ) (offset n : ℕ) → firstFailed (pieceChecks m bytes offset n) ≡ 0 → Truthful m bytes
+unfolding pieceChecks
+piece-truthful m bytes offset n e =
+    mask-truthful m bytes
+    (both-left (maskChecks m bytes) (withinLimit offset ∷ withinLimit n ∷ withinLimit (m .start + offset) ∷ check 6 (leb (offset + n) (m .length)) ∷ []) e)
+
+-- check 7 decides nothing: where the others pass the count is true, or not known
+pub slice-number : (m : Bitmap) (bytes : List ℕ) (offset n : ℕ) → firstFailed (pieceChecks m bytes offset n) ≡ firstFailed (sliceChecks m bytes offset n)
+unfolding sliceChecks
+slice-number m bytes offset n = go (firstFailed (pieceChecks m bytes offset n)) refl
   where
-    go : (k : ℕ) → k ≡ firstFailed (pieceChecks m bytes offset n) → sliceOf m bytes offset n ≡ decided k m (slicedMask m bytes offset n)
+    valid : Bool
+    valid = recountValid (m .length) n (cutZeros m bytes offset n) (m .unset)
+
+    go : (k : ℕ) → k ≡ firstFailed (pieceChecks m bytes offset n) → k ≡ firstFailed (pieceChecks m bytes offset n ++ (check 7 valid ∷ []))
     go zero e =
-        let valid = valid-slice m bytes offset n (piece-allowed m bytes offset n (sym e) .inside) t in
-        sym (slice-right m bytes offset n 0 e (slicedCount (m .length) n (cutZeros m bytes offset n) (m .unset)) refl
-        (sym (ap (λ (b : Bool). cond b (Cut.Count (slicedCount (m .length) n (cutZeros m bytes offset n) (m .unset))) Cut.Wrong) valid)))
-    go (suc k) e = sym (slice-refused m bytes offset n (suc k) e (λ z. omega arith))
+        ap (λ (t : Bool). cond t 0 7) (sym (valid-slice m bytes offset n (piece-allowed m bytes offset n (sym e) .inside) (piece-truthful m bytes offset n (sym e))))
+        ∙ last-made (pieceChecks m bytes offset n) 0 6 valid e refl
+    go (suc k) e = first-number (pieceChecks m bytes offset n) (suc k) 6 valid (piece-before m bytes offset n) e (λ z. omega arith)
+
+pub slice-accepted : (m : Bitmap) (bytes : List ℕ) (offset n : ℕ)
+    → sliceOf m bytes offset n ≡ checked (pieceChecks m bytes offset n) m (slicedMask m bytes offset n)
+unfolding sliceOf
+slice-accepted m bytes offset n = ap (λ (k : ℕ). decided k m (slicedMask m bytes offset n)) (sym (slice-number m bytes offset n))
 
 -- ---- the whole
 
-whole-count : (old : ℕ) (u : Unset) → countFits u old ≡ true → (slicedCount old old 0 u ≡ u) × (recountValid old old 0 u ≡ true)
+whole-count : (old : ℕ) (u : Unset) (l : List Bool) → length l ≡ old → TrueCount u l → (slicedCount old old 0 u ≡ u) × (recountValid old old 0 u ≡ true)
 unfolding recounts keptCount
-whole-count old Unknown f = (refl, refl)
-whole-count old (Known z) f = go (eqb z 0) (eqb z old) refl refl
+whole-count old Unknown l e t = (refl, refl)
+whole-count old (Known z) l e t = go (eqb z 0) (eqb z old) refl refl
   where
     fits : z ≤ old
-    fits = leb-true z old f
+    fits = zeros-most l old z e t
 
     far : leb old (old + max (old / 5) 32) ≡ true
     far = le-leb old (old + max (old / 5) 32) (omega arith)
@@ -162,11 +174,7 @@ whole-count old (Known z) f = go (eqb z 0) (eqb z old) refl refl
         × (cond (not a && (not b && leb old (old + max (old / 5) 32))) (leb 0 z && leb (z - 0) old) true ≡ true)
     go true b p q = (ap Known (sym (eqb-true z 0 p)), refl)
     go false true p q = (ap Known (sym (eqb-true z old q)), refl)
-    go false false p q = rw (far, less) (refl, ap₂ _&&_ (le-leb 0 z (omega arith)) f)
-
-mask-count : (m : Bitmap) (bytes : List ℕ) → firstFailed (maskChecks m bytes) ≡ 0 → countFits (m .unset) (m .length) ≡ true
-unfolding maskChecks
-mask-count m bytes e = check-allowed 2 (countValid m bytes) (both-right (spanChecks (m .start) (m .length) (length bytes)) (check 3 (countValid m bytes) ∷ []) e)
+    go false false p q = rw (far, less) (refl, ap₂ _&&_ (le-leb 0 z (omega arith)) (le-leb z old fits))
 
 none-cut : (m : Bitmap) (bytes : List ℕ) → cutZeros m bytes 0 (m .length) ≡ 0
 unfolding cutZeros
@@ -181,11 +189,11 @@ whole-allowed m bytes e =
     passed-before (maskChecks m bytes) (withinLimit 0 ∷ withinLimit (m .length) ∷ withinLimit (m .start + 0) ∷ check 6 (leb (0 + m .length) (m .length)) ∷ []) 0 0 (sym e) refl
     (rw (le-leb (m .length) limit (a .short), le-leb (m .start + 0) limit (omega (arith, a .starts)), le-leb (0 + m .length) (m .length) (omega arith)))
 
--- a slice of the whole gives every mask back as it was, a false count of at most the length included
+-- a slice of the whole gives every mask back as it was
 pub slice-whole : (m : Bitmap) (bytes : List ℕ) → firstFailed (maskChecks m bytes) ≡ 0 → sliceOf m bytes 0 (m .length) ≡ given m
 slice-whole m bytes e =
     let none = none-cut m bytes in
-    let known = whole-count (m .length) (m .unset) (mask-count m bytes e) in
+    let known = whole-count (m .length) (m .unset) (maskFlags m bytes) (length-window (flagsOf bytes) (m .start) (m .length)) (mask-truthful m bytes e) in
     let s : m .start + 0 ≡ m .start = omega arith in
     sym (slice-right m bytes 0 (m .length) 0 (whole-allowed m bytes e) (m .unset) refl
     (sym (ap (λ (x : ℕ). cutOf (m .length) (m .length) x (m .unset)) none ∙ ap₂ (λ (b : Bool) (u : Unset). cond b (Cut.Count u) Cut.Wrong) (known .1) (known .0))))

@@ -10,8 +10,8 @@ unfoldable pub use Rattle.words.proofs.WrongAnswers.{sameCode}
 pub use Rattle.words.proofs.WrongAnswers.{tried}
 use Rattle.words.specs.Counts.{anySet, sameFlags}
 use Rattle.words.specs.Ends.{leading, trailing}
-unfoldable pub use Rattle.words.specs.Flags.{bits, flagsOf, window}
-use Rattle.words.specs.Flags.{copies, count, digit, over, wordOf}
+unfoldable pub use Rattle.words.specs.Flags.{bits, count, flagsOf, window}
+use Rattle.words.specs.Flags.{copies, digit, over, wordOf}
 use Rattle.words.specs.Nth.{nthPlace}
 use Rattle.words.specs.Ops.{zip3}
 use Rattle.masks.specs.Aligned.{alignedChecks, alignedOf, bulkOffset, bulkStart, prefixLength}
@@ -198,9 +198,11 @@ masks-ruled-out =
       try-new = tried (plain maskCode) refl refl refl;
       slice = tried (answer maskCode maskCode) refl refl refl;
       slice-refused = tried (answer maskCode maskCode) refl refl refl;
+      unset-bits-refused = tried (answer maskCode recountedCode) refl refl refl;
       unset-bits = tried (answer maskCode recountedCode) refl refl refl;
       and = tried combineCode refl refl refl;
       and-refused = tried combineCode refl refl refl;
+      and-outside = tried combineCode refl refl refl;
       and-not = tried combineCode refl refl refl;
       or = tried combineCode refl refl refl;
       or-not = tried combineCode refl refl refl;

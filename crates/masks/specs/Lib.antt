@@ -11,6 +11,7 @@ pub mod Chunks
 pub mod Combine
 pub mod Compare
 pub mod CountPlain
+pub mod CountsUnseen
 pub mod Cursor
 pub mod CursorPlain
 pub mod Examples

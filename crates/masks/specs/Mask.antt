@@ -35,13 +35,14 @@ maskFlags m bytes = stretch bytes (m .start) (m .length)
 
 -- ---- the zero count
 
--- check 3: a known zero count is at most the length
-abbrev pub countFits : Unset → ℕ → Bool
-countFits (Known z) n = leb z n
-countFits Unknown n = true
+-- is a known count this number
+abbrev pub countIs : Unset → ℕ → Bool
+countIs (Known z) n = eqb z n
+countIs Unknown n = true
 
+-- check 3: a known zero count is the number of zeros among the mask's flags
 abbrev pub countValid : Bitmap → List ℕ → Bool
-countValid m bytes = countFits (m .unset) (m .length)
+countValid m bytes = countIs (m .unset) (zeros (maskFlags m bytes))
 
 abbrev pub countOr : Unset → ℕ → ℕ
 countOr (Known z) n = z

@@ -2,7 +2,8 @@
 --
 -- A row has two numbers, the one that decides first, and the number of a call at an input at which the checks of both fail. Each
 -- call goes through the definition that its contract cites. So an order in which two of these numbers are exchanged fails a row.
--- No call makes the checks of any other two numbers (`mayGive` of `Refusals`), so these rows decide the order as far as it shows.
+-- No call makes the checks of any other two numbers (`mayGive` of `Refusals`), save 6 and 7 of `slice`: where its 7 fails, 3 or an
+-- earlier one fails too (`never-seven`). So these rows decide the order as far as it shows.
 use Prim.Native.Nat.{ℕ}
 use mathlib.Core.Path.{_≡_}
 use mathlib.Core.Bool.{true, false}
@@ -33,12 +34,9 @@ pub record Both : Type 0 where
 abbrev pub both : ℕ → ℕ → ℕ → Both
 both first second computed = record { first = first; second = second; computed = computed }
 
--- a mask past the byte, one of a count above its length, one of the byte with a count of 7, of which slices cut too few
+-- a mask past the byte, and one of the byte, which has four zeros, with a false count of 7: a slice of it cuts too few
 abbrev pub past : Bitmap
 past = maskOf 2 7 Unknown
-
-abbrev pub overcounted : Bitmap
-overcounted = maskOf 0 8 (Known 9)
 
 abbrev pub miscounted : Bitmap
 miscounted = maskOf 0 8 (Known 7)
@@ -48,7 +46,7 @@ miscounted = maskOf 0 8 (Known 7)
 unfoldable pub orderRows : List Both
 orderRows =
     both 1 2 (numberOf (windowAt byte tooLong 1 0))
-    ∷ both 1 3 (numberOf (unsetBitsOf (maskOf 0 tooLong (Known 4194306)) byte))
+    ∷ both 1 3 (numberOf (unsetBitsOf (maskOf tooLong 1 (Known 0)) byte))
     ∷ both 1 4 (toImpossible (extendConstant tooLong true))
     ∷ both 1 5 (numberOf (newTrue tooLong (Present whole) byte))
     ∷ both 1 6 (numberOf (nextTrue (trueAt 0 tooLong 4194306 false) []))
@@ -62,16 +60,15 @@ orderRows =
     ∷ both 2 7 (numberOf (sliceOf (maskOf 2 7 (Known 6)) byte 4 3))
     ∷ both 2 8 (numberOf (spanCount byte 2 7 8 0))
     ∷ both 2 9 (notNumber past [])
-    ∷ both 3 4 (toImpossible (extendBitmap overcounted byte 0 1))
-    ∷ both 3 5 (numberOf (commonOf whole byte (maskOf 0 7 (Known 8)) byte))
-    ∷ both 3 6 (atNumber Absent (Present overcounted) 8)
-    ∷ both 3 7 (numberOf (sliceOf overcounted byte 4 4))
-    ∷ both 3 9 (selectConstantNumber overcounted [])
+    ∷ both 3 4 (toImpossible (extendBitmap miscounted byte 0 1))
+    ∷ both 3 5 (numberOf (commonOf whole byte (maskOf 0 7 (Known 7)) byte))
+    ∷ both 3 6 (atNumber Absent (Present miscounted) 8)
+    ∷ both 3 7 (numberOf (sliceOf miscounted byte 4 4))
+    ∷ both 3 9 (selectConstantNumber miscounted [])
     ∷ both 4 6 (toImpossible (extendGather byte 0 8 (8 ∷ [])))
     ∷ both 4 9 (numberOf (freezeOf (builderOf 1 2 0) []))
     ∷ both 5 6 (atNumber (Present whole) (Present shorter) 8)
     ∷ both 5 9 (selectNumber shorter [])
-    ∷ both 6 7 (numberOf (sliceOf miscounted byte 4 5))
     ∷ both 6 9 (toNoBytes (pushWord 2 1))
     ∷ []
 

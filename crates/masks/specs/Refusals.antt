@@ -15,13 +15,13 @@ use Rattle.masks.specs.Appends.{Append, pushFlag, extendConstant, pushWo
 use Rattle.masks.specs.Appends.{extendBitmap, extendGather, extendOptGather, appendAnswer, appendBytes}
 use Rattle.masks.specs.AtIndex.{andNotAtOf}
 use Rattle.masks.specs.Bitmask.{splitAt, windowAt}
-use Rattle.masks.specs.Checks.{Check}
+use Rattle.masks.specs.Checks.{Check, firstFailed}
 use Rattle.masks.specs.Chunks.{newChunks, nextChunk, chunksRemainder}
 use Rattle.masks.specs.Combine.{pairOf, pairBytes, notOf, notBytes, selectOf, selectBytes, selectConstantOf, selectConstantBytes}
 use Rattle.masks.specs.Compare.{eqOf, edgesOf, commonOf}
 use Rattle.masks.specs.Freeze.{freezeOf, intoOptValidityOf, freezeBytes}
 use Rattle.masks.specs.Iterator.{newIter, nthFlag, takeLeading}
-use Rattle.masks.specs.Mask.{tryNewOf, newZeroedOf, newZeroedBytes, unsetBitsOf, sliceOf}
+use Rattle.masks.specs.Mask.{tryNewOf, newZeroedOf, newZeroedBytes, unsetBitsOf, sliceChecks, sliceOf}
 use Rattle.masks.specs.Positions.{nextPositions, positionsOver}
 use Rattle.masks.specs.Search.{searchFrom, searchBack}
 use Rattle.masks.specs.SliceIterator.{newSlices, nextSlice}
@@ -112,7 +112,7 @@ mayGive piece-appends = 1 ∷ 2 ∷ 3 ∷ 4 ∷ 6 ∷ 9 ∷ []
 mayGive zeroed-masks = 1 ∷ 9 ∷ []
 -- `Bitmap::unset_bits`, `eq`, `num_edges`, `SlicesIterator::new`
 mayGive masks = 1 ∷ 2 ∷ 3 ∷ []
--- `Bitmap::slice`
+-- `Bitmap::slice`; its 7 never comes out: `never-seven`
 mayGive slices = 1 ∷ 2 ∷ 3 ∷ 6 ∷ 7 ∷ []
 -- `and`, `and_not`, `or`, `or_not`, `xor`, `select`, `select_constant`
 mayGive combinations = 1 ∷ 2 ∷ 3 ∷ 5 ∷ 9 ∷ []
@@ -160,6 +160,8 @@ pub record Refusals : Type 0 where
   pub zeroed : (n : ℕ) (out : List ℕ) → RefusesUnwritten (mayGive zeroed-masks) tt (newZeroedOf n out) out (newZeroedBytes n out)
   pub try-new : (bytes : List ℕ) (start n : ℕ) → Refuses (mayGive spans) tt (tryNewOf bytes start n)
   pub slice : (m : Bitmap) (bytes : List ℕ) (offset n : ℕ) → Refuses (mayGive slices) m (sliceOf m bytes offset n)
+  -- check 7 stands in the list and is never answered no: where the others pass, the count is true or not known
+  pub never-seven : (m : Bitmap) (bytes : List ℕ) (offset n : ℕ) → firstFailed (sliceChecks m bytes offset n) ≡ 7 → ⊥
   pub unset-bits : (m : Bitmap) (bytes : List ℕ) → Refuses (mayGive masks) m (unsetBitsOf m bytes)
   pub pair : (op : Op) (a : Bitmap) (aBytes : List ℕ) (b : Bitmap) (bBytes out : List ℕ)
       → RefusesUnwritten (mayGive combinations) tt (pairOf op a aBytes b bBytes out) out (pairBytes op a aBytes b bBytes out)

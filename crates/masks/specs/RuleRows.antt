@@ -1,4 +1,5 @@
--- Rules of document 01 that the twelve examples leave open, as a table of rows, the paper's words above each. Assumes nothing.
+-- Rules of document 01 that the twelve examples leave open, and paper 02's on counts, as a table of rows, the paper's words above
+-- each. Assumes nothing.
 --
 -- A row has what the definitions give at one input, and what the paper's words give there, worked out by hand. Each call goes through
 -- the definition that its contract cites, as in `Examples`. A definition that reads the rule otherwise fails a row: laws that serve
@@ -70,17 +71,24 @@ rows =
     -- Gathers append the flag at each index, in the order of the indices. 1,0,2 of 1,0,1,1,0,1; 4,0,9 of 0,1,1,0,1, from bit 1 on.
     ∷ row (frozenIn 8 (extendGather A-bytes 0 6 (1 ∷ 0 ∷ 2 ∷ []) ∷ [])) (mask (first 0x06) (Known 1))
     ∷ row (frozenIn 8 (extendOptGather A-bytes 1 5 (4 ∷ 0 ∷ 9 ∷ []) ∷ [])) (mask (first 0x01) (Known 2))
-    -- `and` all zero if either count equals the length; its count is then known as its length. Four ones with a false count of 4, on
-    -- either side; and four zeros whose count is unknown: it is counted.
-    ∷ row (pairOfTold And 4 (Known 4) 0xFF Unknown 0xFF) (mask (first 0) (Known 4))
-    ∷ row (pairOfTold And 4 Unknown 0xFF (Known 4) 0xFF) (mask (first 0) (Known 4))
+    -- `and` all zero if either count equals the length; its count is then known as its length. Four zeros, counted or not, on either side.
+    ∷ row (pairOfTold And 4 (Known 4) 0xF0 Unknown 0xFF) (mask (first 0) (Known 4))
+    ∷ row (pairOfTold And 4 Unknown 0xFF (Known 4) 0xF0) (mask (first 0) (Known 4))
     ∷ row (pairOfTold And 4 Unknown 0xF0 Unknown 0xFF) (mask (first 0) (Known 4))
-    -- `or` all one if either count is 0; its count is unknown. Four zeros with a false count of 0, on either side.
-    ∷ row (pairOfTold Or 4 (Known 0) 0 Unknown 0) (mask (first 0x0F) Unknown)
-    ∷ row (pairOfTold Or 4 Unknown 0 (Known 0) 0) (mask (first 0x0F) Unknown)
-    -- `xor` constant if both masks are constant by count. Ones by count and zeros by count, either way round, over equal flags.
-    ∷ row (pairOfTold Xor 4 (Known 0) 0xFF (Known 4) 0xFF) (mask (first 0x0F) Unknown)
-    ∷ row (pairOfTold Xor 4 (Known 4) 0xFF (Known 0) 0xFF) (mask (first 0x0F) Unknown)
+    -- `or` all one if either count is 0; its count is unknown. Four ones on either side.
+    ∷ row (pairOfTold Or 4 (Known 0) 0xFF Unknown 0) (mask (first 0x0F) Unknown)
+    ∷ row (pairOfTold Or 4 Unknown 0 (Known 0) 0xFF) (mask (first 0x0F) Unknown)
+    -- `xor` constant if both masks are constant by count: alike, all zero with its count; else all one.
+    ∷ row (pairOfTold Xor 4 (Known 0) 0xFF (Known 0) 0xFF) (mask (first 0) (Known 4))
+    ∷ row (pairOfTold Xor 4 (Known 4) 0 Unknown 0) (mask (first 0) (Known 4))
+    ∷ row (pairOfTold Xor 4 (Known 0) 0xFF (Known 4) 0) (mask (first 0x0F) Unknown)
+    -- Each call that takes a mask counts a known one again and refuses it with 3 unless it is exact (paper 02). Four ones with a
+    -- count of 4, four zeros with one of 0, two of four with one of 1 and of 3; in the first mask, and in the second.
+    ∷ row (pairOfTold And 4 (Known 4) 0xFF Unknown 0xFF) (refusal 3)
+    ∷ row (pairOfTold Or 4 Unknown 0 (Known 0) 0) (refusal 3)
+    ∷ row (pairOfTold AndNot 4 (Known 1) 0x03 (Known 2) 0x03) (refusal 3)
+    ∷ row (pairOfTold AndNot 4 (Known 2) 0x03 (Known 3) 0x03) (refusal 3)
+    ∷ row (pairOfTold AndNot 4 (Known 2) 0x03 (Known 2) 0x06) (mask (first 0x01) Unknown)
     -- `try_new` gives known 0 for length 0; a result's count is known as 0 for length 0, with a shortcut or without.
     ∷ row (madeValue (tryNewOf [] 0 0)) (count (Known 0))
     ∷ row (pairOfTold AndNot 0 Unknown 0 Unknown 0) (mask (lent 8) (Known 0))

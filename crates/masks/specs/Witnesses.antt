@@ -1,11 +1,13 @@
--- For each call an input for each number by which it may refuse, so that no number of the table `mayGive` is idle. Assumes nothing.
+-- For each call an input for each number by which it may refuse, so that no number of the table `mayGive` is idle, save the 7 of
+-- `slice`, which `never-seven` of `Refusals` rules out. Assumes nothing.
 --
 -- `proofs/Witnesses.antt` computes what the definitions that the calls' contracts cite give at these inputs. The calls stand above
 -- their lists, in the order of these.
 use Prim.Native.Nat.{ℕ}
 use mathlib.Core.Path.{_≡_}
-use mathlib.Core.Bool.{true, false}
+use mathlib.Core.Bool.{true, false, cond}
 use mathlib.Core.List.{List, [], _∷_, _++_}
+use lib.Dec.{eqb}
 use lib.ListN.{length, drop, replicate}
 use Rattle.words.specs.Ends.{leading, trailing}
 use Rattle.words.specs.Loops.{stretch}
@@ -72,9 +74,9 @@ atSpans f = f tooLong 1 ∷ f 2 7 ∷ []
 abbrev pub atCursors : (ℕ → ℕ → ℕ → ℕ) → List ℕ
 atCursors f = f tooLong 1 0 ∷ f 2 7 0 ∷ f 0 8 9 ∷ []
 
--- at masks that checks 1 to 3 refuse
+-- at masks that checks 1 to 3 refuse: the byte has four zeros
 abbrev pub atMasks : (Bitmap → ℕ) → List ℕ
-atMasks f = f (maskOf 0 tooLong Unknown) ∷ f (maskOf 2 7 Unknown) ∷ f (maskOf 0 8 (Known 9)) ∷ []
+atMasks f = f (maskOf 0 tooLong Unknown) ∷ f (maskOf 2 7 Unknown) ∷ f (maskOf 0 8 (Known 3)) ∷ []
 
 -- at spans and address remainders that checks 1, 2 and 8 refuse
 abbrev pub atAddresses : (ℕ → ℕ → ℕ → ℕ) → List ℕ
@@ -213,9 +215,9 @@ witnesses masks =
     ∷ atMasks (λ m. numberOf (newSlices m byte))
     ∷ []
 witnesses slices =
-    -- `Bitmap::slice`. For 7: the first four flags of the byte have one zero, so a count of 7, which is false, leaves 6 for the other four
+    -- `Bitmap::slice`. For 7 there is none: `never-seven`
     (atMasks (λ m. numberOf (sliceOf m byte 0 1))
-    ++ (numberOf (sliceOf whole byte 1 8) ∷ numberOf (sliceOf (maskOf 0 8 (Known 7)) byte 4 4) ∷ []))
+    ++ (numberOf (sliceOf whole byte 1 8) ∷ []))
     ∷ []
 witnesses combinations =
     -- `and`, `and_not`, `or`, `or_not`, `xor`, `select`, `select_constant`
@@ -256,6 +258,11 @@ witnesses stated-lengths =
     (numberOf (newTrue tooLong Absent []) ∷ [])
     ∷ []
 
--- the statement: each family has a call, and each of its calls gives all the family's numbers
+-- the numbers but 7
+abbrev pub butSeven : List ℕ → List ℕ
+butSeven [] = []
+butSeven (k ∷ ks) = cond (eqb k 7) (butSeven ks) (k ∷ butSeven ks)
+
+-- the statement: each family has a call, and each of its calls gives all the family's numbers, save 7
 abbrev pub Witnessed : Type 0
-Witnessed = (f : Family) → witnesses f ≡ mayGive f ∷ replicate (length (drop 1 (witnesses f))) (mayGive f)
+Witnessed = (f : Family) → witnesses f ≡ butSeven (mayGive f) ∷ replicate (length (drop 1 (witnesses f))) (butSeven (mayGive f))

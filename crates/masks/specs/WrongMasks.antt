@@ -93,11 +93,18 @@ pub record WrongMasks : Type 0 where
       (given (maskOf 4 4 Unknown))
   -- `Bitmap::slice` to the last 4 of 8 flags, with a false count of 7
   pub slice-refused : Tried (sliceOf (maskOf 0 8 (Known 7)) two 4 4)
+      (refused 3 (maskOf 0 8 (Known 7)))
+      -- found false only where it is cut
       (refused 7 (maskOf 0 8 (Known 7)))
-      -- more zeros than flags
-      (given (maskOf 4 4 (Known 6)))
       -- refused, and the mask cut
-      (refused 7 (maskOf 4 4 (Known 7)))
+      (refused 3 (maskOf 4 4 (Known 7)))
+  -- `Bitmap::unset_bits` of 9 flags from the flag 3 on, with a false count of 6
+  pub unset-bits-refused : Tried (unsetBitsOf (maskOf 3 9 (Known 6)) two)
+      (refused 3 (maskOf 3 9 (Known 6)))
+      -- the count believed
+      (given (recounted (Known 6) 6))
+      -- the count corrected
+      (given (recounted (Known 7) 7))
   -- `Bitmap::unset_bits` of 9 flags from the flag 3 on
   pub unset-bits : Tried (unsetBitsOf (maskOf 3 9 Unknown) two)
       (given (recounted (Known 7) 7))
@@ -119,6 +126,13 @@ pub record WrongMasks : Type 0 where
       (refused 5 tt, [])
       -- the output measured first
       (refused 9 tt, [])
+  -- `and` of 4 flags with a false count and of 4 outside their bytes
+  pub and-outside : Tried (pairedIn And (maskOf 0 4 (Known 1)) leftBytes (maskOf 5 4 Unknown) rightBytes (lent 8))
+      (refused 2 tt, lent 8)
+      -- the first mask's checks made alone
+      (refused 3 tt, lent 8)
+      -- the count believed
+      (four Unknown (first 0x00))
   -- `and_not`
   pub and-not : Tried (paired AndNot left leftBytes right rightBytes)
       (four Unknown (first 0x02))

@@ -7,12 +7,13 @@ ghost use Prim.Native.Nat.{_+_, _*_, _≤_};
 ghost use lib.Dec.{leb};
 ghost use lib.ListN.{length};
 ghost use Rattle.masks.specs.Checks.{earlier as Checks·earlier, rank as Checks·rank, firstFailed, limit, check, withinLimit, spanChecks, addressChecks, outputChecks};
-ghost use Rattle.masks.specs.Mask.{countFits, maskChecks};
+ghost use Rattle.masks.specs.Mask.{countValid, maskChecks};
 ghost use Rattle.masks.specs.Appends.{innerChecks};
 ghost use Rattle.masks.specs.Builder.{possible, builderChecks, noneFrom};
 use crate::bitmap::Bitmap;
 use crate::bitmap::Unset;
 use crate::builder::BitmapBuilder;
+use crate::utils::zeros_at;
 use words::counts::none_from;
 
 // Of two numbers the one that is put first.
@@ -82,25 +83,27 @@ pub(crate) fn address_failure(address: usize) -> u8
     failed(8, address <= 7)
 }
 
-// Is a known zero count at most the length.
-fn count_fits(unset: Unset, length: usize) -> bool
-    ensures { λ r. ⌜ r ≡ countFits unset length ⌝ }
+// Is a known zero count that of the mask's flags: they are counted again.
+fn count_valid(mask: Bitmap, bytes: &[u8]) -> bool
+    requires { ⌜ (mask .start ≤ limit) × (mask .length ≤ limit) ⌝ }
+    ensures { λ r. ⌜ r ≡ countValid mask (now (bytes .entry)) ⌝ }
 {
+    let unset = mask.unset;
     match unset {
-        Unset::Known(zeros) => zeros <= length,
+        Unset::Known(zeros) => zeros == zeros_at(bytes, mask.start, mask.length, 0),
         Unset::Unknown => true,
     }
 }
 
-// Checks 1 to 3 of a mask.
+// Checks 1 to 3 of a mask. Its zeros are counted only where 1 and 2 pass: both come before 3.
 pub fn mask_failure(mask: Bitmap, bytes: &[u8]) -> u8
     ensures { λ r. ⌜ r ≡ firstFailed (maskChecks mask (now (bytes .entry))) ⌝ }
 {
-    let unset = mask.unset;
-    earlier(
-        span_failure(mask.start, mask.length, bytes.len()),
-        failed(3, count_fits(unset, mask.length)),
-    )
+    let span = span_failure(mask.start, mask.length, bytes.len());
+    if span != 0 {
+        return span;
+    }
+    failed(3, count_valid(mask, bytes))
 }
 
 // Is a + b, taken exactly, at most c.

@@ -1,6 +1,8 @@
--- The span's checks, then that of the count: `two-pieces` and `one-check`.
+-- The checks of the span, and where they have passed that of the count, which comes after them: `first-number`, `passed-before`.
+use mathlib.Core.Path.{refl, sym, _∙_}
+use Rattle.masks.specs.Checks.{rank, placeIn, spanChecks}
 use Rattle.masks.specs.Mask.{maskChecks}
-use Rattle.masks.proofs.CheckLaws.{two-pieces, one-check}
+use Rattle.masks.proofs.CheckLaws.{first-number, one-check, passed-before, span-allowed}
 use borrow.Author.Needs.{needs}
 use Rattle.masks.proofs.checks.mask_failure.Statement.{statement}
 use Rattle.masks.proofs.checks.mask_failure.Tie as tie
@@ -8,22 +10,24 @@ use Rattle.masks.proofs.checks.mask_failure.Tie as tie
 span-failure-requires : tie.Need-span-failure-requires
 span-failure-requires c κs = search needs
 
-count-fits-requires : tie.Need-count-fits-requires
-count-fits-requires c κs = search needs
+returns : tie.Need-returns
+unfolding maskChecks spanChecks rank placeIn
+returns c = first-number _ _ 2 _ refl (c .before .span-failure .ensures) (c .if1 .taken)
+
+count-valid-requires : tie.Need-count-valid-requires
+count-valid-requires c κs = let a = span-allowed _ _ _ (sym (c .before .span-failure .ensures) ∙ c .if1 .left) in (a .starts, a .short)
 
 failed-requires : tie.Need-failed-requires
 failed-requires c κs = search needs
 
-earlier-requires : tie.Need-earlier-requires
-earlier-requires c κs = search needs
-
-returns : tie.Need-returns
+returns-2 : tie.Need-returns-2
 unfolding maskChecks
-returns c =
-    two-pieces _ _ _ _ _ (c .earlier .ensures) (c .before .before .before .span-failure .ensures)
-    (one-check _ _ _ _ (c .before .failed .ensures) (c .before .before .count-fits .ensures))
+returns-2 c =
+    let t = c .before .before in
+    passed-before _ _ _ _ (t .before .span-failure .ensures) (t .if1 .left)
+    (one-check _ _ _ _ (c .failed .ensures) (c .before .count-valid .ensures))
 
 pub mask-failure-spec : {M : Type 1} → statement M
 mask-failure-spec =
     tie.close
-    (tie.spec span-failure-requires count-fits-requires failed-requires earlier-requires returns)
+    (tie.spec span-failure-requires returns count-valid-requires failed-requires returns-2)
