@@ -2,4 +2,5 @@
 pub mod AndNotFlag
 pub mod DispatchLaws
 pub mod Refusals
+pub mod Uncounted
 pub mod WrongAnswers

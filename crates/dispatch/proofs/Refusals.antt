@@ -6,7 +6,9 @@ use Rattle.masks.specs.Checks.{earlier, firstFailed, rank, placeIn, spanChecks}
 use Rattle.masks.specs.Mask.{maskChecks}
 use Rattle.masks.specs.Refusals.{numbers, among, allAmong}
 use Rattle.masks.specs.declared.bitmap.Optional.the-variants.{Present, Absent}
+use Rattle.masks.specs.Utils.{zeros}
 use Rattle.masks.proofs.Refusals.{refuses-by}
+use Rattle.masks.proofs.WrongAnswers.{bits, count, flagsOf, window}
 use Rattle.dispatch.specs.Dispatch.{mayReassign}
 use Rattle.dispatch.specs.Refusals.{Refusals, Witnessed}
 
@@ -18,5 +20,5 @@ refusals Absent pBytes (Present r) rBytes t = refuses-by (andNotAtChecks Absent 
 refusals Absent pBytes Absent rBytes t = refuses-by (andNotAtChecks Absent pBytes Absent rBytes t) _ _ _ refl
 
 pub witnessed : Witnessed
-unfolding mayReassign andNotAtChecks indexChecks lengthChecks maskChecks spanChecks firstFailed earlier rank placeIn decided
+unfolding mayReassign andNotAtChecks indexChecks lengthChecks maskChecks spanChecks firstFailed earlier rank placeIn decided zeros count window flagsOf bits
 witnessed = record { first = refl; second = refl; permission = refl; revocation = refl }

@@ -5,8 +5,10 @@ use Prim.Native.Nat.{ℕ}
 use mathlib.Core.Bool.{true, false}
 use mathlib.Core.List.{List, [], _∷_}
 use Rattle.masks.specs.Answer.{given, refused}
+use Rattle.masks.specs.Mask.{withCount}
 use Rattle.masks.specs.WrongMasks.{Tried, left, leftBytes, right, rightBytes}
 use Rattle.masks.specs.declared.bitmap.Optional.the-variants.{Present, Absent}
+use Rattle.masks.specs.declared.bitmap.Unset.the-variants.{Known}
 use Rattle.dispatch.specs.Dispatch.{mayReassign}
 
 -- the permission 1,1,0,0 and the revocation 1,0,1,0, which begins at the flag 2
@@ -39,3 +41,10 @@ pub record WrongAnswers : Type 0 where
       (given false)
       -- lengths compared with the truck's number
       (refused 5 tt)
+  -- `may_reassign` of truck 0, the revocation's count one too many: it has two zeros
+  pub stale-count : Tried (mayReassign (Present left) leftBytes (Present (withCount right (Known 3))) rightBytes 0)
+      (refused 3 tt)
+      -- the count held to the length alone
+      (given false)
+      -- the count of the permission mask checked alone, and the revocation ignored
+      (given true)

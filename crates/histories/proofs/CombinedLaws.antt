@@ -19,10 +19,11 @@ use Rattle.masks.specs.TrueCounts.{Sound}
 use Rattle.masks.specs.declared.bitmap.Bitmap.{Bitmap}
 use Rattle.masks.proofs.Accepted.{mask-accepted}
 use Rattle.masks.proofs.CheckLaws.{is-given, is-new, passed-before}
+use Rattle.masks.proofs.MaskLaws.{mask-sound}
 use Rattle.histories.specs.Agreement.{Combines, FitAt, Fits}
 use Rattle.histories.specs.History.{lentAt}
 use Rattle.histories.specs.MaskRows.{Combination, pair, invert, select, selectConstant, combinationRow, pairOp}
-use Rattle.histories.specs.Owed.{Honest, Stands, lentFlags}
+use Rattle.histories.specs.Owed.{Stands, lentFlags}
 use Rattle.histories.specs.Rows.{Argument, own, other, Every, Lent, Tuple, Writes, each}
 use Rattle.histories.proofs.MaskRowLaws.{combination-lawful, constant-writable, not-writable, pair-writable, select-writable}
 use Rattle.histories.proofs.RowLaws.{flags-all}
@@ -116,7 +117,7 @@ module _ (n : ℕ) (out : List ℕ) (room : frozenSize n ≤ length out) where
       record {
         result = m;
         accepted = given-mask cs m ok;
-        written = new-bytes cs _ _ out ok (pair-writable op x y out (f .0 .sound .counts) (f .1 .0 .sound .counts) (sym ok) .same);
+        written = new-bytes cs _ _ out ok (pair-writable op x y out (sym ok) .same);
       }
   accepts invert a f =
       let x = a .0 in
@@ -142,14 +143,10 @@ module _ (n : ℕ) (out : List ℕ) (room : frozenSize n ≤ length out) where
 
 -- ---- with the history's own mask in any places
 
-fit-honest : (n k : ℕ) (a : Tuple Lent k) → Every (Fit n) k a → Every Honest k a
-fit-honest n zero a f = tt
-fit-honest n (suc k) a f = (f .0 .sound .counts, fit-honest n k (a .1) (f .1))
-
 module _ (m : Bitmap) (bytes : List ℕ) (l : List Bool) (s : Stands m bytes l) where
   fit-at : (p : Argument) → FitAt (m .length) p → Fit (m .length) (lentAt m bytes p)
   fit-at own f = record { sound = s .sound; long = refl }
-  fit-at (other n its) f = record { sound = f .0; long = f .1 }
+  fit-at (other n its) f = record { sound = mask-sound n its (f .0); long = f .1 }
 
   fit-all : (n : ℕ) (a : Tuple Argument n) → Every (FitAt (m .length)) n a → Every (Fit (m .length)) n (each (lentAt m bytes) n a)
   fit-all zero a f = tt
@@ -168,6 +165,6 @@ module _ (m : Bitmap) (bytes : List ℕ) (l : List Bool) (s : Stands m bytes l) 
         result = x .result;
         accepted = x .accepted;
         written = x .written ∙ ap (λ (k : Tuple (List Bool) (r .masks)). over out (frozen (r .flags k))) same;
-        flags = combination-lawful c out .made t (fit-honest (m .length) (r .masks) t fit) (x .result) (x .accepted) .flags
+        flags = combination-lawful c out .made t (x .result) (x .accepted) .flags
             ∙ ap (r .flags) same;
       }

@@ -1,19 +1,22 @@
 -- Demand 3, proved: whatever calls a history is made of, the mask that it has come to agrees with its reference list in all that is
 -- compared; so two histories with equal lists agree, and where the lists differ, length or frozen bytes differ. Assumes nothing.
-use mathlib.Core.Path.{_≡_, sym, ap, _∙_, subst}
+use mathlib.Core.Path.{_≡_, refl, sym, ap, _∙_, subst}
 use mathlib.Core.Bool.{Bool}
 use mathlib.Core.List.{List, []}
 use mathlib.Core.Option.{Option, none, some}
-use Prim.Native.Nat.{ℕ, _≤_}
+use Prim.Native.Nat.{ℕ, zero, suc, _≤_}
 use native.Mathlib.Omega.{arith}
 use lib.ListN.{length}
+use Rattle.masks.specs.Answer.{decided}
+use Rattle.masks.specs.Checks.{firstFailed}
 use Rattle.masks.specs.Frozen.{frozenSize}
+use Rattle.masks.specs.Mask.{maskChecks}
 use Rattle.masks.specs.TrueCounts.{TrueCount}
 use Rattle.masks.specs.declared.bitmap.Bitmap.{Bitmap}
 use Rattle.masks.specs.declared.bitmap.Unset.{Unset}
 use Rattle.masks.specs.declared.bitmap.Unset.the-variants.{Known}
 use Rattle.histories.specs.Agreement.{Agrees, Alike, ComesTo, Fits, OneMeaning, refrozen}
-use Rattle.histories.specs.History.{History, State, listOf, rowFlags, startOf}
+use Rattle.histories.specs.History.{History, State, masked, waiting, afterTry, firstList, fromMask, listOf, rowFlags, startOf}
 use Rattle.histories.specs.Library.{Demand3, LibraryCall, libraryCall, masks}
 use Rattle.histories.specs.MaskRows.{combinationRow}
 use Rattle.histories.specs.Owed.{Lawful, Stands}
@@ -22,7 +25,9 @@ use Rattle.histories.proofs.AgreementLaws.{agrees, frozen-same}
 use Rattle.histories.proofs.HistoryLaws.{Holds}
 use Rattle.histories.proofs.HistoryTheorem.{run-holds, start-holds}
 use Rattle.histories.proofs.MaskRowLaws.{masks-lawful}
+use Rattle.histories.proofs.ReferenceLaws.{mask-flags}
 use Rattle.histories.proofs.RowLaws.{row-flags}
+use Rattle.histories.proofs.TruthfulLaws.{step-truthful}
 
 -- two masks that agree with one list
 module _ (m m′ : Bitmap) (bytes bytes′ : List ℕ) (l : List Bool) (a : Agrees m bytes l) (a′ : Agrees m′ bytes′ l) where
@@ -65,27 +70,40 @@ told-apart m m′ bytes bytes′ l l′ a a′ e buf h f =
 stands : {m : Bitmap} {bytes : List ℕ} {l : List Bool} → Agrees m bytes l → Stands m bytes l
 stands a = record { sound = a .sound; flags = a .flags }
 
+-- an imported mask, whose checks pass or not
+import-accepted : (m : Bitmap) (bytes : List ℕ) → firstFailed (maskChecks m bytes) ≡ 0 → startOf (fromMask m bytes) ≡ masked m bytes
+unfolding decided
+import-accepted m bytes e = ap (λ (k : ℕ). afterTry bytes (decided k tt m) .state) e
+
+import-refused : (k : ℕ) (m : Bitmap) (bytes : List ℕ) → (k ≡ 0 → ⊥) → afterTry bytes (decided k tt m) .state ≡ waiting
+unfolding decided
+import-refused zero m bytes h = absurd (h refl)
+import-refused (suc k) m bytes h = refl
+
 -- the theorem, for any table whose rows are lawful
 module _ {Code : Type 0} (callOf : Code → RowCall) (lawful : (c : Code) → Lawful (callOf c)) where
   comes-to : (h : History Code) (m : Bitmap) (bytes : List ℕ) → ComesTo callOf h m bytes → Agrees m bytes (listOf callOf h)
   comes-to h m bytes c =
       agrees m bytes (listOf callOf h)
-      (subst (λ (s : State). Holds s (listOf callOf h)) (c .ends)
-      (run-holds callOf lawful (h .calls) (startOf (h .start)) [] (start-holds (h .start)) (c .fair)))
+      (subst (λ (s : State). Holds s (listOf callOf h)) c
+      (run-holds callOf lawful (h .calls) (startOf (h .start)) (firstList (h .start)) (start-holds (h .start))))
 
   pub one-meaning : OneMeaning callOf
   one-meaning =
       record {
+        imported = λ m bytes e. (import-accepted m bytes e, mask-flags m bytes);
+        notImported = λ m bytes h. import-refused (firstFailed (maskChecks m bytes)) m bytes h;
+        truthful = step-truthful callOf lawful;
         agrees = comes-to;
         alike = λ h h′ m m′ bytes bytes′ c c′ e.
             both-agree m m′ bytes bytes′ (listOf callOf h′) (subst (Agrees m bytes) e (comes-to h m bytes c)) (comes-to h′ m′ bytes′ c′);
         apart = λ h h′ m m′ bytes bytes′ c c′ differ buf r e f.
             differ (told-apart m m′ bytes bytes′ (listOf callOf h) (listOf callOf h′) (comes-to h m bytes c) (comes-to h′ m′ bytes′ c′)
             e buf r f);
-        onward = λ h h′ m m′ bytes bytes′ c c′ e d fair t t′.
-            row-flags m bytes (listOf callOf h) (stands (comes-to h m bytes c)) (callOf d) (lawful d) fair t
+        onward = λ h h′ m m′ bytes bytes′ c c′ e d t t′.
+            row-flags m bytes (listOf callOf h) (stands (comes-to h m bytes c)) (callOf d) (lawful d) t
             ∙ ap (λ (l : List Bool). rowFlags l (callOf d)) e
-            ∙ sym (row-flags m′ bytes′ (listOf callOf h′) (stands (comes-to h′ m′ bytes′ c′)) (callOf d) (lawful d) fair t′);
+            ∙ sym (row-flags m′ bytes′ (listOf callOf h′) (stands (comes-to h′ m′ bytes′ c′)) (callOf d) (lawful d) t′);
       }
 
 -- the table of all lawful calls there are

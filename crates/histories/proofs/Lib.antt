@@ -8,3 +8,4 @@ pub mod HistoryTheorem
 pub mod MaskRowLaws
 pub mod ReferenceLaws
 pub mod RowLaws
+pub mod TruthfulLaws

@@ -11,11 +11,11 @@ use Rattle.words.specs.Flags.{flagsOf}
 use Rattle.words.specs.Ops.{opOf, zip3}
 use Rattle.words.specs.declared.ops.Op.{Op}
 use Rattle.words.proofs.Windows.{length-window}
-use Rattle.masks.specs.Answer.{given, refused, decided}
+use Rattle.masks.specs.Answer.{given, refused, checked, decided}
 use Rattle.masks.specs.Checks.{Check, check, firstFailed, limit, outputChecks, withinLimit}
 use Rattle.masks.specs.Combine.{eachBytes, eachOf, notChecks, notFlags, pairBytes, pairChecks}
 use Rattle.masks.specs.Combine.{pairEach, pairFlags, pairMask, pairOf, pairShortcut}
-use Rattle.masks.specs.Combine.{resultCount, selectChecks, selectConstantFlags, selectFlags}
+use Rattle.masks.specs.Combine.{resultCount, resultMask, selectChecks, selectConstantFlags, selectFlags}
 use Rattle.masks.specs.Mask.{Recounted, maskChecks, maskFlags, maskOf, pieceChecks, sliceOf, slicedMask, uncounted, unsetBitsOf, zeroCount}
 use Rattle.masks.specs.TrueCounts.{Sound, TrueCount}
 use Rattle.masks.specs.declared.bitmap.Bitmap.{Bitmap}
@@ -24,7 +24,7 @@ use Rattle.masks.proofs.AnswerLaws.{given-number, given-value, refused-state}
 use Rattle.masks.proofs.CheckLaws.{both-left, both-right, first-allowed, rest-allowed}
 use Rattle.masks.proofs.CombineLaws.{pair-lengths, select-lengths}
 use Rattle.masks.proofs.LengthLaws.{length-not, length-zip2, length-zip3, output-allowed}
-use Rattle.masks.proofs.MaskLaws.{mask-allowed, piece-allowed}
+use Rattle.masks.proofs.MaskLaws.{mask-allowed, mask-truthful, piece-allowed}
 use Rattle.masks.proofs.PairPlain.{each-length, flags-length}
 use Rattle.masks.proofs.SliceTruth.{none-true, result-true, slice-accepted, slice-flags, slice-true}
 use Rattle.masks.proofs.TrueLaws.{flags-by-operation, true-count}
@@ -34,7 +34,7 @@ use Rattle.histories.specs.MaskRows.{pairOp, pairRow, recounted, selectR
 use Rattle.histories.specs.Owed.{Honest, Lawful, LawfulKeeps, LawfulWrites, Stands, lentFlags}
 use Rattle.histories.specs.ReferenceList.{Pair, and, andNot, or, orNot, xor}
 use Rattle.histories.specs.ReferenceList.{flagByFlag, inverted, pairFlag, piece, selected, selectedOr}
-use Rattle.histories.specs.Rows.{Lent}
+use Rattle.histories.specs.Rows.{Every, Lent, one, two, three}
 use Rattle.histories.proofs.ReferenceLaws.{mask-piece, selected-same}
 use Rattle.histories.proofs.RowLaws.{Writable, written-stands}
 
@@ -67,7 +67,7 @@ slice-made : (offset n : ℕ) (m : Bitmap) (bytes : List ℕ) → Sound m bytes 
     → Stands g bytes (piece offset n (maskFlags m bytes))
 slice-made offset n m bytes s g e =
     let k = firstFailed (pieceChecks m bytes offset n) in
-    let e′ : given g ≡ decided k m (slicedMask m bytes offset n) = sym e ∙ slice-accepted m bytes offset n (s .counts) in
+    let e′ : given g ≡ decided k m (slicedMask m bytes offset n) = sym e ∙ slice-accepted m bytes offset n in
     subst (λ (x : Bitmap). Stands x bytes (piece offset n (maskFlags m bytes))) (sym (given-value k m g (slicedMask m bytes offset n) e′))
     (slice-stands m bytes offset n (sym (given-number k m g (slicedMask m bytes offset n) e′)) s)
 
@@ -112,6 +112,47 @@ count-left m bytes k g e =
 pub count-lawful : LawfulKeeps countRow
 count-lawful = record { made = count-made; left = count-left }
 
+-- ---- the masks of an accepted combination have no count or a true one
+
+passed : (cs : List Check) (m g : Bitmap) → checked cs (tt {0}) m ≡ given g → firstFailed cs ≡ 0
+passed cs m g e = sym (given-number (firstFailed cs) tt g m (sym e))
+
+abbrev uncountedMask : List Bitmap → ℕ → Bitmap
+uncountedMask from n = resultMask from n (uncounted n)
+
+one-honest : (x : Lent) (size : ℕ) → firstFailed (notChecks (x .mask) (x .bytes) size) ≡ 0 → Every Honest 1 (one x)
+unfolding notChecks
+one-honest x size e =
+    (mask-truthful (x .mask) (x .bytes) (both-left (maskChecks (x .mask) (x .bytes)) (outputChecks (x .mask .length) size) e), tt)
+
+two-honest : (x y : Lent) (size : ℕ) → firstFailed (pairChecks (x .mask) (x .bytes) (y .mask) (y .bytes) size) ≡ 0
+    → Every Honest 2 (two x y)
+unfolding pairChecks
+two-honest x y size e =
+    let first = maskChecks (x .mask) (x .bytes) in
+    let second = maskChecks (y .mask) (y .bytes) in
+    let rest : List Check = check 5 (eqb (x .mask .length) (y .mask .length)) ∷ outputChecks (x .mask .length) size in (
+      mask-truthful (x .mask) (x .bytes) (both-left first (second ++ rest) e),
+      (mask-truthful (y .mask) (y .bytes) (both-left second rest (both-right first (second ++ rest) e)), tt),
+    )
+
+three-honest : (x y z : Lent) (size : ℕ)
+    → firstFailed (selectChecks (x .mask) (x .bytes) (y .mask) (y .bytes) (z .mask) (z .bytes) size) ≡ 0 → Every Honest 3 (three x y z)
+unfolding selectChecks
+three-honest x y z size e =
+    let first = maskChecks (x .mask) (x .bytes) in
+    let second = maskChecks (y .mask) (y .bytes) in
+    let third = maskChecks (z .mask) (z .bytes) in
+    let five : List Check = check 5 (eqb (x .mask .length) (z .mask .length)) ∷ outputChecks (x .mask .length) size in
+    let rest : List Check = check 5 (eqb (x .mask .length) (y .mask .length)) ∷ five in
+    let later = both-right first (second ++ (third ++ rest)) e in (
+      mask-truthful (x .mask) (x .bytes) (both-left first (second ++ (third ++ rest)) e),
+      (
+        mask-truthful (y .mask) (y .bytes) (both-left second (third ++ rest) later),
+        (mask-truthful (z .mask) (z .bytes) (both-left third rest (both-right second (third ++ rest) later)), tt),
+      ),
+    )
+
 -- ---- two masks
 
 -- the five operations: what the code's do, flag by flag, is what the reference list says
@@ -151,22 +192,23 @@ two-room a aB b bB out e =
           (both-right (maskChecks b bB) rest (both-right (maskChecks a aB) (maskChecks b bB ++ rest) e))),
     )
 
-pub pair-writable : (op : Pair) (x y : Lent) (out : List ℕ) → Honest x → Honest y
+pub pair-writable : (op : Pair) (x y : Lent) (out : List ℕ)
     → firstFailed (pairChecks (x .mask) (x .bytes) (y .mask) (y .bytes) (length out)) ≡ 0
     → Writable (x .mask .length) (resultCount (pairShortcut (pairOp op) (x .mask) (x .bytes) (y .mask) (y .bytes)) (x .mask .length))
     (pairFlags (pairOp op) (x .mask) (x .bytes) (y .mask) (y .bytes)) (flagByFlag op (lentFlags x) (lentFlags y)) out
-pair-writable op x y out t u e =
+pair-writable op x y out e =
     let a = x .mask in
     let b = y .mask in
     let aB = x .bytes in
     let bB = y .bytes in
     let same : a .length ≡ b .length = pair-lengths a aB b bB (length out) e in
     let even = length-window (flagsOf aB) (a .start) (a .length) ∙ same ∙ sym (length-window (flagsOf bB) (b .start) (b .length)) in
+    let honest = two-honest x y (length out) e in
     record {
       long = pair-long (pairOp op) a aB b bB same;
       short = two-room a aB b bB out e .0;
       room = two-room a aB b bB out e .1;
-      same = flags-by-operation (pairOp op) a aB b bB same t u ∙ by-flag op (maskFlags a aB) (maskFlags b bB) even;
+      same = flags-by-operation (pairOp op) a aB b bB same (honest .0) (honest .1 .0) ∙ by-flag op (maskFlags a aB) (maskFlags b bB) even;
       counts = pair-true (pairOp op) a aB b bB same;
     }
 
@@ -174,13 +216,18 @@ pub pair-lawful : (op : Pair) (out : List ℕ) → LawfulWrites (pairRow op out)
 unfolding pairOf pairBytes pairMask
 pair-lawful op out =
     record {
-      made = λ a t g e.
+      honest = λ a g e.
+          let x = a .0 in
+          let y = a .1 .0 in
+          two-honest x y (length out)
+          (passed (pairChecks (x .mask) (x .bytes) (y .mask) (y .bytes) (length out)) (pairMask (pairOp op) (x .mask) (x .bytes) (y .mask) (y .bytes)) g e);
+      made = λ a g e.
           let x = a .0 in
           let y = a .1 .0 in
           written-stands (pairChecks (x .mask) (x .bytes) (y .mask) (y .bytes) (length out)) (x .mask ∷ y .mask ∷ []) (x .mask .length)
           (resultCount (pairShortcut (pairOp op) (x .mask) (x .bytes) (y .mask) (y .bytes)) (x .mask .length))
           (pairFlags (pairOp op) (x .mask) (x .bytes) (y .mask) (y .bytes)) (flagByFlag op (lentFlags x) (lentFlags y)) out g e
-          (pair-writable op x y out (t .0) (t .1 .0));
+          (pair-writable op x y out);
     }
 
 -- ---- combinations with no shortcut: their count is unknown, save 0 for no flags
@@ -204,7 +251,10 @@ pub not-lawful : (out : List ℕ) → LawfulWrites (notRow out)
 unfolding eachOf eachBytes
 not-lawful out =
     record {
-      made = λ a t g e.
+      honest = λ a g e.
+          let x = a .0 in
+          one-honest x (length out) (passed (notChecks (x .mask) (x .bytes) (length out)) (uncountedMask (x .mask ∷ []) (x .mask .length)) g e);
+      made = λ a g e.
           let x = a .0 in
           written-stands (notChecks (x .mask) (x .bytes) (length out)) (x .mask ∷ []) (x .mask .length) (uncounted (x .mask .length))
           (notFlags (x .mask) (x .bytes)) (inverted (lentFlags x)) out g e (not-writable x out);
@@ -246,7 +296,14 @@ pub select-lawful : (out : List ℕ) → LawfulWrites (selectRow out)
 unfolding eachOf eachBytes
 select-lawful out =
     record {
-      made = λ a t g e.
+      honest = λ a g e.
+          let x = a .0 in
+          let y = a .1 .0 in
+          let z = a .1 .1 .0 in
+          three-honest x y z (length out)
+          (passed (selectChecks (x .mask) (x .bytes) (y .mask) (y .bytes) (z .mask) (z .bytes) (length out))
+          (uncountedMask (x .mask ∷ y .mask ∷ z .mask ∷ []) (x .mask .length)) g e);
+      made = λ a g e.
           let x = a .0 in
           let y = a .1 .0 in
           let z = a .1 .1 .0 in
@@ -281,7 +338,13 @@ pub constant-lawful : (c : Bool) (out : List ℕ) → LawfulWrites (constantRow 
 unfolding eachOf eachBytes
 constant-lawful c out =
     record {
-      made = λ a t g e.
+      honest = λ a g e.
+          let x = a .0 in
+          let y = a .1 .0 in
+          two-honest x y (length out)
+          (passed (pairChecks (x .mask) (x .bytes) (y .mask) (y .bytes) (length out))
+          (uncountedMask (x .mask ∷ y .mask ∷ []) (x .mask .length)) g e);
+      made = λ a g e.
           let x = a .0 in
           let y = a .1 .0 in
           written-stands (pairChecks (x .mask) (x .bytes) (y .mask) (y .bytes) (length out)) (x .mask ∷ y .mask ∷ []) (x .mask .length)

@@ -19,12 +19,15 @@ use Rattle.masks.proofs.AnswerLaws.{given-number, given-value}
 use Rattle.masks.proofs.CheckLaws.{is-new}
 use Rattle.masks.proofs.FreezeLaws.{frozen-front}
 use Rattle.histories.specs.Agreement.{stateFlags}
-use Rattle.histories.specs.History.{FairAt, FairRow, afterKept, afterWritten, flagsAt, lentAt}
+use Rattle.histories.specs.History.{afterKept, afterWritten, flagsAt, lentAt}
 use Rattle.histories.specs.History.{rowFlags, stepRow, writtenAnswer, writtenBytes, writtenFlags}
-use Rattle.histories.specs.Owed.{Honest, Lawful, LawfulKeeps, LawfulWrites, Stands, lentFlags}
-use Rattle.histories.specs.Rows.{Argument, own, other, Every, Keeps, RowCall, Tuple, Writes, each, keep, write}
+use Rattle.histories.specs.Owed.{Lawful, LawfulKeeps, LawfulWrites, Stands, lentFlags}
+use Rattle.histories.specs.Rows.{Argument, own, other, Keeps, RowCall, Tuple, Writes, each, keep, write}
 use Rattle.histories.proofs.HistoryLaws.{Holds}
 use Rattle.histories.proofs.ReferenceLaws.{mask-flags}
+
+pub not-accepted : {A : Type 0} → false ≡ true → A
+not-accepted e = absurd (let z : _≡_ {A = ℕ} 0 1 = cc in omega arith)
 
 -- ---- the masks that a call is given
 
@@ -32,14 +35,6 @@ abbrev joined : {A : Type 0} (n : ℕ) → A → Tuple A n → Tuple A (suc n)
 joined n x t = (x, t)
 
 module _ (m : Bitmap) (bytes : List ℕ) (l : List Bool) (s : Stands m bytes l) where
-  honest-at : (p : Argument) → FairAt p → Honest (lentAt m bytes p)
-  honest-at own f = s .sound .counts
-  honest-at (other n its) f = f
-
-  pub honest-all : (n : ℕ) (a : Tuple Argument n) → Every FairAt n a → Every Honest n (each (lentAt m bytes) n a)
-  honest-all zero a f = tt
-  honest-all (suc n) a f = (honest-at (a .0) (f .0), honest-all n (a .1) (f .1))
-
   flags-at : (p : Argument) → lentFlags (lentAt m bytes p) ≡ flagsAt l p
   flags-at own = s .flags
   flags-at (other n its) = sym (mask-flags n its)
@@ -58,38 +53,33 @@ module _ (m : Bitmap) (bytes : List ℕ) (l : List Bool) (s : Stands m bytes l) 
   written-holds : (r : Writes) (a : Tuple Argument (r .masks)) → LawfulWrites r → (x : Answer (Unit {0}) Bitmap)
       → writtenAnswer m bytes r a ≡ x
       → let o = afterWritten m bytes (writtenBytes m bytes r a) x in
-      (o .accepted ≡ true → Every FairAt (r .masks) a) → Holds (o .state) (cond (o .accepted) (writtenFlags l r a) l)
-  written-holds r a w (given g) e fair =
+      Holds (o .state) (cond (o .accepted) (writtenFlags l r a) l)
+  written-holds r a w (given g) e =
       subst (λ (t : Tuple (List Bool) (r .masks)). Stands g (writtenBytes m bytes r a) (r .flags t)) (flags-all (r .masks) a)
-      (w .made (each (lentAt m bytes) (r .masks) a) (honest-all (r .masks) a (fair refl)) g e)
-  written-holds r a w (refused k t) e fair = s
+      (w .made (each (lentAt m bytes) (r .masks) a) g e)
+  written-holds r a w (refused k t) e = s
 
-  pub row-holds : (c : RowCall) → Lawful c → (stepRow m bytes c .accepted ≡ true → FairRow c)
-      → Holds (stepRow m bytes c .state) (cond (stepRow m bytes c .accepted) (rowFlags l c) l)
-  row-holds (keep r) w fair = kept-holds r w (r .answer m bytes) refl
-  row-holds (write r a) w fair = written-holds r a w (writtenAnswer m bytes r a) refl fair
+  pub row-holds : (c : RowCall) → Lawful c → Holds (stepRow m bytes c .state) (cond (stepRow m bytes c .accepted) (rowFlags l c) l)
+  row-holds (keep r) w = kept-holds r w (r .answer m bytes) refl
+  row-holds (write r a) w = written-holds r a w (writtenAnswer m bytes r a) refl
 
   -- ---- the flags that an accepted call gives
-
-  not-accepted : {A : Type 0} → false ≡ true → A
-  not-accepted e = absurd (let z : _≡_ {A = ℕ} 0 1 = cc in omega arith)
 
   kept-flags : (r : Keeps) → LawfulKeeps r → (x : Answer Bitmap Bitmap) → r .answer m bytes ≡ x → afterKept bytes x .accepted ≡ true
       → stateFlags (afterKept bytes x .state) ≡ r .flags l
   kept-flags r w (given g) e t = kept-holds r w (given g) e .flags
   kept-flags r w (refused k g) e t = not-accepted t
 
-  written-flags : (r : Writes) (a : Tuple Argument (r .masks)) → LawfulWrites r → Every FairAt (r .masks) a
+  written-flags : (r : Writes) (a : Tuple Argument (r .masks)) → LawfulWrites r
       → (x : Answer (Unit {0}) Bitmap) → writtenAnswer m bytes r a ≡ x
       → let o = afterWritten m bytes (writtenBytes m bytes r a) x in
       o .accepted ≡ true → stateFlags (o .state) ≡ writtenFlags l r a
-  written-flags r a w fair (given g) e t = written-holds r a w (given g) e (λ u. fair) .flags
-  written-flags r a w fair (refused k u) e t = not-accepted t
+  written-flags r a w (given g) e t = written-holds r a w (given g) e .flags
+  written-flags r a w (refused k u) e t = not-accepted t
 
-  pub row-flags : (c : RowCall) → Lawful c → FairRow c → stepRow m bytes c .accepted ≡ true
-      → stateFlags (stepRow m bytes c .state) ≡ rowFlags l c
-  row-flags (keep r) w fair t = kept-flags r w (r .answer m bytes) refl t
-  row-flags (write r a) w fair t = written-flags r a w fair (writtenAnswer m bytes r a) refl t
+  pub row-flags : (c : RowCall) → Lawful c → stepRow m bytes c .accepted ≡ true → stateFlags (stepRow m bytes c .state) ≡ rowFlags l c
+  row-flags (keep r) w t = kept-flags r w (r .answer m bytes) refl t
+  row-flags (write r a) w t = written-flags r a w (writtenAnswer m bytes r a) refl t
 
 -- ---- rows that write flags behind a list of checks
 

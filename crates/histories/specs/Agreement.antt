@@ -9,17 +9,19 @@ use lib.Dec.{ltb}
 use lib.ListN.{length, getD, take}
 use Rattle.words.specs.Flags.{over}
 use Rattle.masks.specs.Answer.{Answer, given, refused}
-use Rattle.masks.specs.Appends.{appendAnswer, appendBytes, extendBitmap}
+use Rattle.masks.specs.Appends.{Append, appendAnswer, appendBytes, pushFlag, extendConstant, pushWord, extendSlice}
+use Rattle.masks.specs.Appends.{extendRepeated, extendBitmap, extendGather, extendOptGather}
 use Rattle.masks.specs.Builder.{newBuilder}
+use Rattle.masks.specs.Checks.{firstFailed}
 use Rattle.masks.specs.Cursor.{Step, item, ended}
 use Rattle.masks.specs.Freeze.{freezeBytes, freezeOf}
 use Rattle.masks.specs.Frozen.{frozen, frozenSize}
 use Rattle.masks.specs.Iterator.{newIter, nthFlag}
 use Rattle.masks.specs.Listing.{listing}
-use Rattle.masks.specs.Mask.{maskFlags, Recounted, unsetBitsOf}
+use Rattle.masks.specs.Mask.{maskChecks, maskFlags, Recounted, unsetBitsOf}
 use Rattle.masks.specs.Search.{nthBack, nthFrom, searchBack, searchFrom}
 use Rattle.masks.specs.SliceIterator.{newSlices, nextSlice, runsFrom}
-use Rattle.masks.specs.TrueCounts.{Sound, TrueCount}
+use Rattle.masks.specs.TrueCounts.{Sound, TrueCount, Truthful}
 use Rattle.masks.specs.Utils.{zeros}
 use Rattle.masks.specs.declared.bitmap.Bitmap.{Bitmap}
 use Rattle.masks.specs.declared.bitmap.Unset.the-variants.{Known}
@@ -27,10 +29,11 @@ use Rattle.masks.specs.declared.builder.BitmapBuilder.{BitmapBuilder}
 use Rattle.masks.specs.declared.iterator.BitmapIter.{BitmapIter}
 use Rattle.masks.specs.declared.slice_iterator.Run.{Run}
 use Rattle.masks.specs.declared.slice_iterator.SlicesIterator.{SlicesIterator}
-use Rattle.histories.specs.History.{FairHistory, FairRow, History, State, waiting, building, masked, noMask}
-use Rattle.histories.specs.History.{endOf, listOf, stepRow, writtenAnswer, writtenBytes, writtenFlags}
+use Rattle.histories.specs.History.{Call, tryNew, append, freeze, intoOptValidity, make, History, fromMask}
+use Rattle.histories.specs.History.{State, waiting, building, masked, noMask, endOf, listOf, startOf, step}
+use Rattle.histories.specs.History.{stepRow, writtenAnswer, writtenBytes, writtenFlags}
 use Rattle.histories.specs.MaskRows.{Combination, combinationRow}
-use Rattle.histories.specs.Rows.{Argument, own, other, Every, RowCall, Tuple, Writes}
+use Rattle.histories.specs.Rows.{Argument, own, other, Every, RowCall, Tuple, Writes, keep, write}
 
 -- ---- what the calls show of a mask: `none` where a call is refused
 
@@ -78,11 +81,11 @@ runsOf k bytes (refused n s) = none
 abbrev pub runsShown : ℕ → Bitmap → List ℕ → Option (List Run)
 runsShown k m bytes = runsOf k bytes (newSlices m bytes)
 
--- ---- combinations with other such masks of n flags
+-- ---- combinations with other masks of n flags, whose checks pass
 
 abbrev pub FitAt : ℕ → Argument → Type 0
 FitAt n own = Unit {0}
-FitAt n (other m bytes) = Sound m bytes × (m .length ≡ n)
+FitAt n (other m bytes) = (firstFailed (maskChecks m bytes) ≡ 0) × (m .length ≡ n)
 
 abbrev pub Fits : ℕ → (r : Writes) → Tuple Argument (r .masks) → Type 0
 Fits n r a = Every (FitAt n) (r .masks) a
@@ -111,7 +114,7 @@ pub record Agrees (m : Bitmap) (bytes : List ℕ) (l : List Bool) : Type 0 where
   pub nth : (n : ℕ) → nthShown m bytes n ≡ some (flagOf l n)
   pub forward : (n from : ℕ) → searchFrom bytes (m .start) (m .length) n from ≡ given (nthFrom l n from)
   pub backward : (n end : ℕ) → searchBack bytes (m .start) (m .length) n end ≡ given (nthBack l n end)
-  -- each combination with other such masks of its length, in an output that is large enough
+  -- each combination with other masks of its length whose checks pass, in an output that is large enough
   pub combined : (c : Combination) (out : List ℕ) (a : Tuple Argument (combinationRow c out .masks))
       → Fits (m .length) (combinationRow c out) a → frozenSize (m .length) ≤ length out → Combines m bytes l (combinationRow c out) a out
 
@@ -139,13 +142,48 @@ stateFlags (building f) = []
 stateFlags (masked m bytes) = maskFlags m bytes
 stateFlags noMask = []
 
--- a history that is fair has come to a mask
-pub record ComesTo {Code : Type 0} (callOf : Code → RowCall) (h : History Code) (m : Bitmap) (bytes : List ℕ) : Type 0 where
-  pub fair : FairHistory callOf h
-  pub ends : endOf callOf h ≡ masked m bytes
+-- a history has come to a mask
+abbrev pub ComesTo : {Code : Type 0} → (Code → RowCall) → History Code → Bitmap → List ℕ → Type 0
+ComesTo callOf h m bytes = endOf callOf h ≡ masked m bytes
+
+-- the history that begins with an imported mask and has no call yet
+abbrev pub importedHistory : {Code : Type 0} → Bitmap → List ℕ → History Code
+importedHistory m bytes = record { start = fromMask m bytes; calls = [] }
+
+-- each other mask that a call takes has no count or a true one
+abbrev pub TruthfulAt : Argument → Type 0
+TruthfulAt own = Unit {0}
+TruthfulAt (other m bytes) = Truthful m bytes
+
+abbrev pub TruthfulRow : RowCall → Type 0
+TruthfulRow (keep r) = Unit {0}
+TruthfulRow (write r a) = Every TruthfulAt (r .masks) a
+
+abbrev pub TruthfulAppend : Append → Type 0
+TruthfulAppend (pushFlag x) = Unit {0}
+TruthfulAppend (extendConstant n x) = Unit {0}
+TruthfulAppend (pushWord w n) = Unit {0}
+TruthfulAppend (extendSlice bytes start n) = Unit {0}
+TruthfulAppend (extendRepeated bytes start n k) = Unit {0}
+TruthfulAppend (extendBitmap m bytes offset n) = Truthful m bytes
+TruthfulAppend (extendGather bytes start n idxs) = Unit {0}
+TruthfulAppend (extendOptGather bytes start n idxs) = Unit {0}
+
+abbrev pub TruthfulCall : {Code : Type 0} → (Code → RowCall) → Call Code → Type 0
+TruthfulCall callOf (tryNew bytes start n) = Unit {0}
+TruthfulCall callOf (append a) = TruthfulAppend a
+TruthfulCall callOf freeze = Unit {0}
+TruthfulCall callOf intoOptValidity = Unit {0}
+TruthfulCall callOf (make c) = TruthfulRow (callOf c)
 
 -- of the table's calls that make a mask from masks, beside `try_new`, appends, `freeze` and `into_opt_validity`
 pub record OneMeaning {Code : Type 0} (callOf : Code → RowCall) : Type 0 where
+  -- an imported mask whose checks pass begins a history, whose list is the flags in its bytes; another is no start
+  pub imported : (m : Bitmap) (bytes : List ℕ) → firstFailed (maskChecks m bytes) ≡ 0
+      → ComesTo callOf (importedHistory m bytes) m bytes × (listOf callOf (importedHistory m bytes) ≡ maskFlags m bytes)
+  pub notImported : (m : Bitmap) (bytes : List ℕ) → (firstFailed (maskChecks m bytes) ≡ 0 → ⊥) → startOf (fromMask m bytes) ≡ waiting
+  -- each other mask that an accepted call takes has no count or a true one
+  pub truthful : (s : State) (c : Call Code) → step callOf s c .accepted ≡ true → TruthfulCall callOf c
   -- every mask that a history has come to agrees with the history's reference list
   pub agrees : (h : History Code) (m : Bitmap) (bytes : List ℕ) → ComesTo callOf h m bytes → Agrees m bytes (listOf callOf h)
   -- two histories with equal lists agree in all that is compared
@@ -157,6 +195,6 @@ pub record OneMeaning {Code : Type 0} (callOf : Code → RowCall) : Type 0 where
       → m .length ≡ m′ .length → refrozen m bytes buf ≡ refrozen m′ bytes′ buf → ⊥
   -- a call of the table that two histories with equal lists both make next, accepted both times, gives masks with the same flags
   pub onward : (h h′ : History Code) (m m′ : Bitmap) (bytes bytes′ : List ℕ) → ComesTo callOf h m bytes → ComesTo callOf h′ m′ bytes′
-      → listOf callOf h ≡ listOf callOf h′ → (c : Code) → FairRow (callOf c)
+      → listOf callOf h ≡ listOf callOf h′ → (c : Code)
       → stepRow m bytes (callOf c) .accepted ≡ true → stepRow m′ bytes′ (callOf c) .accepted ≡ true
       → stateFlags (stepRow m bytes (callOf c) .state) ≡ stateFlags (stepRow m′ bytes′ (callOf c) .state)

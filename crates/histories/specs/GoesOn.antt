@@ -15,7 +15,7 @@ use Rattle.masks.specs.declared.bitmap.Bitmap.{Bitmap}
 use Rattle.masks.specs.declared.bitmap.Unset.the-variants.{Known, Unknown}
 use Rattle.histories.specs.Agreement.{ComesTo}
 use Rattle.histories.specs.History.{Call, tryNew, append, freeze, intoOptValidity, make}
-use Rattle.histories.specs.History.{Fed, History, FairHistory, fromBuilder, fromSpan}
+use Rattle.histories.specs.History.{Fed, History, fromBuilder, fromSpan, fromMask}
 use Rattle.histories.specs.History.{building, noMask, endOf, listOf, startOf, step, trace}
 use Rattle.histories.specs.Library.{LibraryCall, libraryCall, masks}
 use Rattle.histories.specs.MaskRows.{pair, invert, select, selectConstant, MaskCall, slice, unsetBits, combine}
@@ -95,6 +95,11 @@ pub record AcceptedKinds : Type 0 where
   -- the history's own mask in both places, and a call on what that gave
   pub own-twice : Comes (onA (combine (pair xor) (lent 8) (two own own) ∷ combine invert (lent 8) (one own) ∷ [])) (1 ∷ 1 ∷ 1 ∷ [])
       (maskOf 0 6 Unknown) (first 0x3F) (1 ∷ 1 ∷ 1 ∷ 1 ∷ 1 ∷ 1 ∷ [])
+  -- an imported mask, its count true or unknown
+  pub imports : Comes (record { start = fromMask (maskOf 2 4 (Known 1)) A; calls = make (masks unsetBits) ∷ [] }) (1 ∷ [])
+      (maskOf 2 4 (Known 1)) A (1 ∷ 1 ∷ 0 ∷ 1 ∷ [])
+  pub imports-uncounted : Comes (record { start = fromMask (maskOf 2 4 Unknown) A; calls = make (masks (slice 1 2)) ∷ [] }) (1 ∷ [])
+      (maskOf 3 2 Unknown) A (1 ∷ 0 ∷ [])
 
 -- ---- each kind of call that a history can have refused: the mask and the list are those without it
 
@@ -124,7 +129,15 @@ pub record RefusedKinds : Type 0 where
   -- then a span inside its bytes
   pub try-new : Comes (record { start = fromSpan; calls = tryNew A 2 7 ∷ tryNew A 2 4 ∷ [] }) (0 ∷ 1 ∷ []) (maskOf 2 4 Unknown) A
       (1 ∷ 1 ∷ 0 ∷ 1 ∷ [])
+  -- an imported mask with a stale count, or past its byte, is no start: then a span
+  pub import-stale : Comes (record { start = fromMask (maskOf 0 6 (Known 3)) A; calls = tryNew A 2 4 ∷ [] }) (1 ∷ []) (maskOf 2 4 Unknown) A
+      (1 ∷ 1 ∷ 0 ∷ 1 ∷ [])
+  pub import-past : Comes (record { start = fromMask (maskOf 2 7 Unknown) A; calls = make (masks unsetBits) ∷ tryNew A 2 4 ∷ [] }) (0 ∷ 1 ∷ [])
+      (maskOf 2 4 Unknown) A (1 ∷ 1 ∷ 0 ∷ 1 ∷ [])
+  -- a stale count of another mask
+  pub piece-stale : RefusedAppend (extendBitmap (maskOf 0 6 (Known 3)) A 0 3)
   pub slices : RefusedOnA (slice 3 4)
+  pub and-stale : RefusedOnA (combine (pair and) (lent 8) (two own (other (maskOf 0 6 (Known 0)) (0x33 ∷ []))))
   -- masks of two lengths, or no byte to write to
   pub ands : RefusedOnA (combine (pair and) (lent 8) (two own five))
   pub and-nots : RefusedOnA (combine (pair andNot) [] (two own B))
@@ -139,7 +152,7 @@ pub record RefusedKinds : Type 0 where
 -- mask that it has come to is `counted` of `Agreement`
 
 pub record NeverRefused {Code : Type 0} (callOf : Code → RowCall) : Type 0 where
-  pub freezes : (h : History Code) (f : Filling) → FairHistory callOf h → endOf callOf h ≡ building f
+  pub freezes : (h : History Code) (f : Filling) → endOf callOf h ≡ building f
       → step callOf (building f) freeze .accepted ≡ true
-  pub validity : (h : History Code) (f : Filling) → FairHistory callOf h → endOf callOf h ≡ building f
+  pub validity : (h : History Code) (f : Filling) → endOf callOf h ≡ building f
       → step callOf (building f) intoOptValidity .accepted ≡ true

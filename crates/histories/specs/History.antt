@@ -5,20 +5,18 @@
 -- history's own record and bytes, and which calls were refused; its words are those of `ReferenceList` and of the rows. Which
 -- calls make a mask from masks is a table: codes, and the row that each stands for.
 use Prim.Native.Nat.{ℕ}
-use mathlib.Core.Path.{_≡_}
 use mathlib.Core.Bool.{Bool, true, false, cond}
 use mathlib.Core.List.{List, [], _∷_, _++_}
 use mathlib.Core.Option.{Option, none, some}
-use Rattle.masks.specs.Answer.{Answer, given, refused}
+use Rattle.masks.specs.Answer.{Answer, given, refused, checked}
 use Rattle.masks.specs.Appends.{Append, appendAnswer, appendBytes}
 use Rattle.masks.specs.Builder.{Filling, filling, newBuilder}
 use Rattle.masks.specs.Freeze.{freezeBytes, freezeOf, intoOptValidityOf}
-use Rattle.masks.specs.Mask.{tryNewOf}
-use Rattle.masks.specs.TrueCounts.{Truthful}
+use Rattle.masks.specs.Mask.{maskChecks, tryNewOf}
 use Rattle.masks.specs.declared.bitmap.Bitmap.{Bitmap}
 use Rattle.masks.specs.declared.builder.BitmapBuilder.{BitmapBuilder}
 use Rattle.histories.specs.ReferenceList.{added, flagsIn, spanFlags}
-use Rattle.histories.specs.Rows.{Argument, own, other, Every, Lent, RowCall, Tuple, Writes, each, keep, withBytes, write}
+use Rattle.histories.specs.Rows.{Argument, own, other, Lent, RowCall, Tuple, Writes, each, keep, withBytes, write}
 
 -- ---- the calls, with their arguments save the history's own record and bytes
 
@@ -40,14 +38,11 @@ pub data State : Type 0 where
   masked : Bitmap → List ℕ → State
   noMask : State
 
--- a history begins with a new builder and any buffer, or with `try_new` calls, up to the first accepted one
+-- a history begins with a new builder and any buffer, with `try_new` calls, up to the first accepted one, or with an imported mask
 pub data Start : Type 0 where
   fromBuilder : List ℕ → Start
   fromSpan : Start
-
-abbrev pub startOf : Start → State
-startOf (fromBuilder buf) = building (filling newBuilder buf)
-startOf fromSpan = waiting
+  fromMask : Bitmap → List ℕ → Start
 
 -- what a call leaves, and whether it was accepted
 pub record Outcome : Type 0 where
@@ -102,6 +97,14 @@ writtenBytes m bytes r a = r .bytes (each (lentAt m bytes) (r .masks) a)
 abbrev pub stepRow : Bitmap → List ℕ → RowCall → Outcome
 stepRow m bytes (keep r) = afterKept bytes (r .answer m bytes)
 stepRow m bytes (write r a) = afterWritten m bytes (writtenBytes m bytes r a) (writtenAnswer m bytes r a)
+
+-- ---- where a history begins
+
+-- an imported mask is put to the checks that each call puts a mask to; where one fails it is no start, and nothing is there yet
+abbrev pub startOf : Start → State
+startOf (fromBuilder buf) = building (filling newBuilder buf)
+startOf fromSpan = waiting
+startOf (fromMask m bytes) = afterTry bytes (checked (maskChecks m bytes) tt m) .state
 
 -- ---- one call, a list of calls, and what the reference list is fed of them
 
@@ -179,27 +182,6 @@ abbrev pub reference : {Code : Type 0} → (Code → RowCall) → List Bool → 
 reference callOf l [] = l
 reference callOf l (s ∷ ss) = reference callOf (listStep callOf l s) ss
 
--- ---- fairness: each other mask that an accepted call takes has no count or a true one
-
-abbrev pub FairAt : Argument → Type 0
-FairAt own = Unit {0}
-FairAt (other m bytes) = Truthful m bytes
-
-abbrev pub FairRow : RowCall → Type 0
-FairRow (keep r) = Unit {0}
-FairRow (write r a) = Every FairAt (r .masks) a
-
-abbrev pub FairCall : {Code : Type 0} → (Code → RowCall) → Call Code → Type 0
-FairCall callOf (tryNew bytes start n) = Unit {0}
-FairCall callOf (append a) = Unit {0}
-FairCall callOf freeze = Unit {0}
-FairCall callOf intoOptValidity = Unit {0}
-FairCall callOf (make c) = FairRow (callOf c)
-
-abbrev pub Fair : {Code : Type 0} → (Code → RowCall) → State → List (Call Code) → Type 0
-Fair callOf s [] = Unit {0}
-Fair callOf s (c ∷ cs) = (step callOf s c .accepted ≡ true → FairCall callOf c) × Fair callOf (step callOf s c .state) cs
-
 -- ---- a history: where it begins, and its calls, refused ones included
 
 pub record History (Code : Type 0) : Type 0 where
@@ -209,9 +191,11 @@ pub record History (Code : Type 0) : Type 0 where
 abbrev pub endOf : {Code : Type 0} → (Code → RowCall) → History Code → State
 endOf callOf h = run callOf (startOf (h .start)) (h .calls)
 
--- the list begins empty; a span's flags take its place
-abbrev pub listOf : {Code : Type 0} → (Code → RowCall) → History Code → List Bool
-listOf callOf h = reference callOf [] (trace callOf (startOf (h .start)) (h .calls))
+-- the list begins empty, or with the flags in the imported mask's bytes; an accepted span's flags take its place
+abbrev pub firstList : Start → List Bool
+firstList (fromBuilder buf) = []
+firstList fromSpan = []
+firstList (fromMask m bytes) = flagsIn m bytes
 
-abbrev pub FairHistory : {Code : Type 0} → (Code → RowCall) → History Code → Type 0
-FairHistory callOf h = Fair callOf (startOf (h .start)) (h .calls)
+abbrev pub listOf : {Code : Type 0} → (Code → RowCall) → History Code → List Bool
+listOf callOf h = reference callOf (firstList (h .start)) (trace callOf (startOf (h .start)) (h .calls))

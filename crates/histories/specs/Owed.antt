@@ -22,10 +22,10 @@ pub record Stands (m : Bitmap) (bytes : List ℕ) (l : List Bool) : Type 0 where
   pub sound : Sound m bytes
   pub flags : maskFlags m bytes ≡ l
 
--- given masks with no false count, where the call is accepted: a sound mask, with the row's flags of theirs
+-- where the call is accepted: each of its masks has no count or a true one; and it gives a sound mask, with the row's flags of theirs
 pub record LawfulWrites (r : Writes) : Type 0 where
-  pub made : (a : Tuple Lent (r .masks)) → Every Honest (r .masks) a → (m : Bitmap) → r .answer a ≡ given m
-      → Stands m (r .bytes a) (r .flags (each lentFlags (r .masks) a))
+  pub honest : (a : Tuple Lent (r .masks)) (m : Bitmap) → r .answer a ≡ given m → Every Honest (r .masks) a
+  pub made : (a : Tuple Lent (r .masks)) (m : Bitmap) → r .answer a ≡ given m → Stands m (r .bytes a) (r .flags (each lentFlags (r .masks) a))
 
 -- the same of a sound mask in its bytes; and a refusal hands back what came
 pub record LawfulKeeps (r : Keeps) : Type 0 where

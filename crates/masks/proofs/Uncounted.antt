@@ -186,23 +186,26 @@ module _ (m : Bitmap) (bytes : List ℕ) (e : firstFailed (maskChecks m bytes) �
   unfolding indexChecks
   index-alike i = ap (λ (cs : List Check). cs ++ (indexInside i m ∷ [])) same-checks
 
+  pub at-checks-left : (second : Optional) (bB : List ℕ) (i : ℕ)
+      → andNotAtChecks (Present m) bytes second bB i ≡ andNotAtChecks (Present (forgot m)) bytes second bB i
+  unfolding andNotAtChecks lengthChecks
+  at-checks-left second bB i =
+      ap (λ (cs : List Check). cs ++ (indexChecks second bB i ++ lengthChecks (Present m) second)) (index-alike i)
+
+  pub at-checks-right : (first : Optional) (aB : List ℕ) (i : ℕ)
+      → andNotAtChecks first aB (Present m) bytes i ≡ andNotAtChecks first aB (Present (forgot m)) bytes i
+  unfolding andNotAtChecks lengthChecks
+  at-checks-right (Present a) aB i =
+      ap (λ (cs : List Check). indexChecks (Present a) aB i ++ (cs ++ lengthChecks (Present a) (Present m))) (index-alike i)
+  at-checks-right Absent aB i = ap (λ (cs : List Check). indexChecks Absent aB i ++ (cs ++ lengthChecks Absent (Present m))) (index-alike i)
+
   at-left : (second : Optional) (bB : List ℕ) (i : ℕ) → andNotAtOf (Present m) bytes second bB i ≡ andNotAtOf (Present (forgot m)) bytes second bB i
-  unfolding andNotAtOf andNotAtChecks andNotFlag flagOr lengthChecks
-  at-left (Present b) bB i =
-      ap (λ (cs : List Check). checked (cs ++ (indexChecks (Present b) bB i ++ lengthChecks (Present m) (Present b))) tt
-      (andNotFlag (Present m) bytes (Present b) bB i)) (index-alike i)
-  at-left Absent bB i =
-      ap (λ (cs : List Check). checked (cs ++ (indexChecks Absent bB i ++ lengthChecks (Present m) Absent)) tt
-      (andNotFlag (Present m) bytes Absent bB i)) (index-alike i)
+  unfolding andNotAtOf andNotFlag flagOr
+  at-left second bB i = ap (λ (cs : List Check). checked cs tt (andNotFlag (Present m) bytes second bB i)) (at-checks-left second bB i)
 
   at-right : (first : Optional) (aB : List ℕ) (i : ℕ) → andNotAtOf first aB (Present m) bytes i ≡ andNotAtOf first aB (Present (forgot m)) bytes i
-  unfolding andNotAtOf andNotAtChecks andNotFlag flagOr lengthChecks
-  at-right (Present a) aB i =
-      ap (λ (cs : List Check). checked (indexChecks (Present a) aB i ++ (cs ++ lengthChecks (Present a) (Present m))) tt
-      (andNotFlag (Present a) aB (Present m) bytes i)) (index-alike i)
-  at-right Absent aB i =
-      ap (λ (cs : List Check). checked (indexChecks Absent aB i ++ (cs ++ lengthChecks Absent (Present m))) tt
-      (andNotFlag Absent aB (Present m) bytes i)) (index-alike i)
+  unfolding andNotAtOf andNotFlag flagOr
+  at-right first aB i = ap (λ (cs : List Check). checked cs tt (andNotFlag first aB (Present m) bytes i)) (at-checks-right first aB i)
 
 -- ---- the theorem
 
