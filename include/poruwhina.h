@@ -11,6 +11,10 @@
  * stands first in 1, 2, 3, 4, 5, 6, 7, 8, 9; the calls on a window of minutes have 16 alone. On refusal a record in the answer is the
  * very one that the call got, where it got one of that kind and gives it back; every other field is 0.
  *
+ * Each call that takes a mask counts the zeros of one whose count is known again, and refuses a count that is not exact. A record that
+ * this library gave you may go in without its count (`known` 0), with the bytes that it came with: every answer is the same, save the
+ * counts in records given, and nothing is counted. A record from elsewhere goes in with its count: without it a false count is not found.
+ *
  * An array in a prototype must have as many elements as stand there. */
 #ifndef PORUWHINA_H
 #define PORUWHINA_H
@@ -34,8 +38,8 @@ extern "C" {
 #define PW_REFUSED_ABOVE_LIMIT 1
 /* start + length is over 8 * the bytes lent. */
 #define PW_REFUSED_OUTSIDE_BYTES 2
-/* A known zero count is over the length. */
-#define PW_REFUSED_COUNT_ABOVE_LENGTH 3
+/* A known zero count is not the number of zeros. Each call that takes a mask counts a known one again. */
+#define PW_REFUSED_FALSE_COUNT 3
 /* A bit in the builder's word from length mod 64 up, ones over 64 * (length div 64), or a buffer of less than 8 * (length div 64) bytes. */
 #define PW_REFUSED_IMPOSSIBLE_BUILDER 4
 /* Masks, or a mask and the length stated for it, differ in length. */
@@ -43,7 +47,8 @@ extern "C" {
 /* A slice's end, a split point or a cursor's place is over the length; an index or a truck is not below it; a pushed word has more than
  * 64 flags, or a set bit beyond them. */
 #define PW_REFUSED_OUTSIDE_MASK 6
-/* A slice recounts, and the known count is below the zeros cut off, or the rest of it over the new length. */
+/* A slice recounts, and the known count is below the zeros cut off, or the rest of it over the new length. No call gives it: a known
+ * count is exact, since 3 comes before. */
 #define PW_REFUSED_COUNT_NOT_OF_SLICE 7
 /* The address remainder is over 7. */
 #define PW_REFUSED_ADDRESS_REMAINDER 8

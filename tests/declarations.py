@@ -26,7 +26,7 @@ NUMBERS = {
     "PW_FLAG_LIMIT": ("crates/masks/src/bitmap.rt", r"pub const LIMIT: usize = (\d+);"),
     "PW_REFUSED_ABOVE_LIMIT": (CHECKS + "Checks.antt", r"check (\d+) \(leb n limit\)"),
     "PW_REFUSED_OUTSIDE_BYTES": (CHECKS + "Checks.antt", r"check (\d+) \(leb \(start \+ n\) \(8 \* size\)\)"),
-    "PW_REFUSED_COUNT_ABOVE_LENGTH": (CHECKS + "Mask.antt", r"check (\d+) \(countValid "),
+    "PW_REFUSED_FALSE_COUNT": (CHECKS + "Mask.antt", r"check (\d+) \(countValid "),
     "PW_REFUSED_IMPOSSIBLE_BUILDER": (CHECKS + "Builder.antt", r"check (\d+) \(possible "),
     "PW_REFUSED_UNEQUAL_LENGTHS": (CHECKS + "Combine.antt", r"check (\d+) \(eqb \(\w \.length\) \(\w \.length\)\)"),
     "PW_REFUSED_OUTSIDE_MASK": (CHECKS + "Mask.antt", r"check (\d+) \(leb \(offset \+ n\) \(m \.length\)\)"),

@@ -385,9 +385,11 @@ static void refusals(void) {
     CHECK(made.refusal == PW_REFUSED_OUTSIDE_BYTES && is_mask(made.mask, 0, 0, 0, 0));
     pw_mask counted = {0, 6, 7, 255};
     pw_zeros_answer zeros = pw_unset_bits(counted, A, 1);
-    CHECK(zeros.refusal == PW_REFUSED_COUNT_ABOVE_LENGTH && is_mask(zeros.mask, 0, 6, 7, 255)); /* as it came */
-    counted.zeros = 6;
-    CHECK(pw_unset_bits(counted, A, 1).refusal == 0 && pw_unset_bits(counted, A, 1).zeros == 6);
+    CHECK(zeros.refusal == PW_REFUSED_FALSE_COUNT && is_mask(zeros.mask, 0, 6, 7, 255)); /* as it came */
+    counted.zeros = 3; /* a stale count: A has two zeros */
+    CHECK(pw_unset_bits(counted, A, 1).refusal == PW_REFUSED_FALSE_COUNT);
+    counted.zeros = 2;
+    CHECK(pw_unset_bits(counted, A, 1).refusal == 0 && pw_unset_bits(counted, A, 1).zeros == 2);
     pw_builder_answer b = pw_push(1, 2, 0, out, OUT, true);
     CHECK(b.refusal == PW_REFUSED_IMPOSSIBLE_BUILDER && is_builder(b.builder, 1, 2, 0));
     pw_mask five = {0, 5, 0, 0};
@@ -399,8 +401,8 @@ static void refusals(void) {
     CHECK(made.refusal == PW_REFUSED_OUTSIDE_BYTES && is_mask(made.mask, 3, 6, 77, 0));
     zeros = pw_unset_bits(odd, A, 1);
     CHECK(zeros.refusal == PW_REFUSED_OUTSIDE_BYTES && zeros.zeros == 0 && is_mask(zeros.mask, 3, 6, 77, 0));
-    pw_mask low = {0, 6, 1, 1}; /* one zero too few: both of A are cut off */
-    CHECK(pw_slice(low, A, 1, 0, 1).refusal == PW_REFUSED_COUNT_NOT_OF_SLICE);
+    pw_mask low = {0, 6, 1, 1}; /* one zero too few: both of A are cut off, and 3 comes before 7 */
+    CHECK(pw_slice(low, A, 1, 0, 1).refusal == PW_REFUSED_FALSE_COUNT);
     CHECK(pw_count_zeros(A, 1, 0, 6, 8).refusal == PW_REFUSED_ADDRESS_REMAINDER); /* edge */
     CHECK(pw_new_zeroed(65, out, 15).refusal == PW_REFUSED_OUTPUT_TOO_SMALL); /* edge */
     pw_cursor past = {0, 6, 7, 1};

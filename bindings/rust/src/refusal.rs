@@ -27,8 +27,8 @@ pub enum Refusal {
     AboveLimit = 1,
     /// 2: Is start + length at most 8 × the bytes lent?
     OutsideBytes = 2,
-    /// 3: Is a known zero count at most the length?
-    CountAboveLength = 3,
+    /// 3: Is a known zero count the number of zeros? Each call that takes a mask counts a known one again.
+    FalseCount = 3,
     /// 4: Is the builder possible: no bit in its word from length mod 64 up, ones at most 64 × (length div 64), buffer at least
     /// 8 × (length div 64) bytes?
     ImpossibleBuilder = 4,
@@ -37,7 +37,8 @@ pub enum Refusal {
     /// 6: Does the inner piece lie in its mask: slice end and split point at most the length, a cursor's place too, gather
     /// index and truck below it, pushed word of at most 64 flags with none beyond?
     OutsideMask = 6,
-    /// 7: Where a slice recounts, is the known count at least the zeros cut off, and the rest at most the new length?
+    /// 7: Where a slice recounts, is the known count at least the zeros cut off, and the rest at most the new length? It always is,
+    /// since check 3 comes before: no call gives this number.
     CountNotOfSlice = 7,
     /// 8: Is the address remainder at most 7?
     AddressRemainder = 8,
@@ -50,7 +51,7 @@ pub enum Refusal {
 const ALL: [Refusal; 10] = [
     Refusal::AboveLimit,
     Refusal::OutsideBytes,
-    Refusal::CountAboveLength,
+    Refusal::FalseCount,
     Refusal::ImpossibleBuilder,
     Refusal::UnequalLengths,
     Refusal::OutsideMask,
@@ -87,7 +88,7 @@ impl Refusal {
         match self {
             Refusal::AboveLimit => "a start or a length is above 4,194,304",
             Refusal::OutsideBytes => "start + length is above 8 × the bytes lent",
-            Refusal::CountAboveLength => "a known zero count is above the length",
+            Refusal::FalseCount => "a known zero count is not the number of zeros",
             Refusal::ImpossibleBuilder => "the builder is not possible: its word, ones or buffer do not fit its length",
             Refusal::UnequalLengths => "the masks combined, or a mask and the length stated for it, are not equal in length",
             Refusal::OutsideMask => "the inner piece does not lie in its mask",

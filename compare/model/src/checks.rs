@@ -36,9 +36,11 @@ impl Checks {
         self.limited(&[start, length]).check(2, start + length <= 8 * span.bytes.len() as u128)
     }
 
-    /// 1, 2 and 3 of a mask.
+    /// 1, 2 and 3 of a mask: a known count is the number of zeros, which are counted only where 1 and 2 of the mask hold.
     pub fn mask(self, lent: Lent) -> Self {
-        self.span(lent.span()).check(3, lent.mask.zeros.is_none_or(|zeros| zeros <= lent.mask.length))
+        let inside = Checks::default().span(lent.span()).passed();
+        let exact = |zeros: usize| !inside || zeros == lent.flags().into_iter().filter(|&flag| !flag).count();
+        self.span(lent.span()).check(3, lent.mask.zeros.is_none_or(exact))
     }
 
     /// 1, 2 and 6 of a cursor; without a mask check 2 is not made.

@@ -4,7 +4,7 @@
 //! the first check that fails ([`Refusal`](crate::Refusal) has the words; 0 says that none did), and after a refusal no lent
 //! byte has changed. So these functions are safe, whatever the numbers are. What they do not do is keep a record and its bytes
 //! together, which is the caller's part here and that of the types above elsewhere: a mask whose known count is false for the
-//! bytes it is given with gets the answer that the library's definitions give for that count.
+//! bytes it is given with is refused.
 //!
 //! This is the one module with `unsafe`. Each use is a call of an export, and the argument is the same for all: an export is
 //! proved to return on every input, reading and writing nothing but the slices lent to it. A slice crosses as its pointer and

@@ -73,7 +73,7 @@ fn from_the_plain_calls() {
     let builder = calls::Builder { length: 1, word: 2, ones: 0 };
     let small = calls::Mask { start: 0, length: 1, zeros: 0, known: 0 };
     let numbers = [
-        (calls::unset_bits(mask, &bytes).refusal, Refusal::CountAboveLength),
+        (calls::unset_bits(mask, &bytes).refusal, Refusal::FalseCount),
         (calls::push(builder, &mut [0; 8], true).refusal, Refusal::ImpossibleBuilder),
         (calls::slice(calls::Mask { zeros: 31, ..mask }, &[0; 13], 0, 68).refusal, Refusal::CountNotOfSlice),
         (calls::count_zeros(&bytes, 0, 1, 8).refusal, Refusal::AddressRemainder),
