@@ -5,8 +5,10 @@ use mathlib.Core.List.{List, [], _∷_, _++_}
 use Prim.Native.Nat.{ℕ, zero, suc, _+_, _-_, _/_, _≤_, _<_, max}
 use native.Mathlib.Omega.{arith}
 use lib.Dec.{eqb, leb}
-use lib.ListN.{length}
-use borrow.Author.Tests.{le-leb, lt-leb, leb-true, leb-false, eq-eqb, eqb-true, ne-eqb}
+use lib.ListN.{length, drop, take}
+use borrow.Author.Tests.{le-leb, lt-leb, leb-true, leb-false, eq-eqb, eqb-true, eqb-false, ne-eqb}
+use Rattle.words.specs.Loops.{stretch}
+use Rattle.words.proofs.Loads.{whole-stretch}
 use Rattle.masks.specs.Answer.{Answer, given, refused, decided}
 use Rattle.masks.specs.Checks.{Check, check, rank, placeIn, firstFailed, limit, withinLimit, spanChecks}
 use Rattle.masks.specs.Mask.{cutMask, cutZeros, slicedMask, sliceOf, sliceChecks, countIs, countValid, maskChecks, maskFlags, pieceChecks}
@@ -30,6 +32,19 @@ mask-allowed m bytes e = span-allowed (m .start) (m .length) (length bytes) (bot
 count-true : (u : Unset) (l : List Bool) → countIs u (zeros l) ≡ true → TrueCount u l
 count-true (Known z) l e = eqb-true z (zeros l) e
 count-true Unknown l e = tt
+
+-- a count that is compared from the other side, with a number that it equals
+pub count-told : (z n v : ℕ) (r : Bool) → z ≡ v → r ≡ eqb n v → r ≡ eqb z n
+count-told z n v r e p = p ∙ ap (eqb n) (sym e) ∙ go (eqb n z) refl
+  where
+    go : (t : Bool) → eqb n z ≡ t → t ≡ eqb z n
+    go true h = sym (eq-eqb z n (sym (eqb-true n z h)))
+    go false h = sym (ne-eqb z n (λ s. eqb-false n z h (sym s)))
+
+-- a known count, compared with the zeros of the flags in the whole of the bytes
+pub known-valid : (u : Unset) (z : ℕ) (bytes : List ℕ) (start n : ℕ) (r : Bool) → u ≡ Known z
+    → r ≡ eqb z (zeros (stretch (take (length bytes - 0) (drop 0 bytes)) start n)) → r ≡ countIs u (zeros (stretch bytes start n))
+known-valid u z bytes start n r k e = e ∙ ap (λ (l : List Bool). eqb z (zeros l)) (whole-stretch bytes start n) ∙ ap (λ (x : Unset). countIs x (zeros (stretch bytes start n))) (sym k)
 
 pub true-valid : (u : Unset) (l : List Bool) → TrueCount u l → countIs u (zeros l) ≡ true
 true-valid (Known z) l t = eq-eqb z (zeros l) t

@@ -4,15 +4,18 @@ ghost use mathlib.Core.Path.{_≡_};
 ghost use mathlib.Core.Bool.{cond, _&&_};
 ghost use mathlib.Core.List.{[], _∷_, _++_};
 ghost use Prim.Native.Nat.{_+_, _*_, _≤_};
-ghost use lib.Dec.{leb};
+ghost use lib.Dec.{eqb, leb};
 ghost use lib.ListN.{length};
+ghost use Rattle.words.specs.Loops.{stretch};
 ghost use Rattle.masks.specs.Checks.{earlier as Checks·earlier, rank as Checks·rank, firstFailed, limit, check, withinLimit, spanChecks, addressChecks, outputChecks};
 ghost use Rattle.masks.specs.Mask.{countValid, maskChecks};
 ghost use Rattle.masks.specs.Appends.{innerChecks};
 ghost use Rattle.masks.specs.Builder.{possible, builderChecks, noneFrom};
+ghost use Rattle.masks.specs.Utils.{zeros};
 use crate::bitmap::Bitmap;
 use crate::bitmap::Unset;
 use crate::builder::BitmapBuilder;
+use crate::utils::all_flags;
 use crate::utils::zeros_at;
 use words::counts::none_from;
 
@@ -83,14 +86,29 @@ pub(crate) fn address_failure(address: usize) -> u8
     failed(8, address <= 7)
 }
 
-// Is a known zero count that of the mask's flags: they are counted again.
+// Is z the number of zeros of a span: its flags are counted, save where all of them are to be ones, or zeros.
+fn count_is(z: usize, bytes: &[u8], start: usize, length: usize) -> bool
+    requires { ⌜ (start ≤ limit) × (length ≤ limit) ⌝ }
+    ensures { λ r. ⌜ r ≡ eqb z (zeros (stretch (now (bytes .entry)) start length)) ⌝ }
+{
+    if z == 0 {
+        return all_flags(true, bytes, start, length);
+    }
+    if z == length {
+        return all_flags(false, bytes, start, length);
+    }
+    z == zeros_at(bytes, start, length, 0)
+}
+
+// Check 3: is a known zero count that of the mask's flags. `count_is` is outside this body and gets a slice of its own, so that a mask
+// whose count is unknown costs nothing.
 fn count_valid(mask: Bitmap, bytes: &[u8]) -> bool
     requires { ⌜ (mask .start ≤ limit) × (mask .length ≤ limit) ⌝ }
     ensures { λ r. ⌜ r ≡ countValid mask (now (bytes .entry)) ⌝ }
 {
     let unset = mask.unset;
     match unset {
-        Unset::Known(zeros) => zeros == zeros_at(bytes, mask.start, mask.length, 0),
+        Unset::Known(z) => count_is(z, &bytes[0..], mask.start, mask.length),
         Unset::Unknown => true,
     }
 }
