@@ -82,8 +82,11 @@ def span_checks(lent, start, n):
 
 
 def mask_checks(mask, lent):
+    """1, 2 and 3: a known count is that of the flags, which are counted only where they lie in the bytes and the limit."""
     start, n, known = mask
-    return span_checks(lent, start, n) + [(3, known is None or known <= n)]
+    inside = span_checks(lent, start, n)
+    counted = known is None or not all(held for _, held in inside) or known == zeros(piece(lent, start, n), n)
+    return inside + [(3, counted)]
 
 
 def cursor_checks(lent, start, n, place, masked=True):

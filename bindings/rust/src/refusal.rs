@@ -6,9 +6,10 @@ use std::fmt;
 /// Why a call was refused: the first of the library's questions that was answered no. They are put in the order of their
 /// numbers, the same for all calls. After a refusal nothing has changed.
 ///
-/// From [`Bitmap`](crate::Bitmap), [`BitmapBuilder`](crate::BitmapBuilder) and what stands beside them come 1, 2, 5 and 6 alone:
-/// the types keep their records true and give each call the room that it needs. From
-/// [`ActivityWindow`](crate::ActivityWindow) comes 16 alone. [`calls`](crate::calls) can give every number.
+/// From [`Bitmap`](crate::Bitmap), [`BitmapBuilder`](crate::BitmapBuilder) and what stands beside them come 1, 2, 5 and 6 alone, and 3
+/// from [`try_from_counted_span`](crate::Bitmap::try_from_counted_span): the types keep their records true and give each call the
+/// room that it needs. From [`ActivityWindow`](crate::ActivityWindow) comes 16 alone. [`calls`](crate::calls) can give every number
+/// but 7.
 ///
 /// ```
 /// use poruwhina::{Bitmap, Refusal};
@@ -27,7 +28,7 @@ pub enum Refusal {
     AboveLimit = 1,
     /// 2: Is start + length at most 8 × the bytes lent?
     OutsideBytes = 2,
-    /// 3: Is a known zero count the number of zeros? Each call that takes a mask counts a known one again.
+    /// 3: Is a known zero count the number of zeros among the flags? Each call that takes a mask counts a known one again.
     FalseCount = 3,
     /// 4: Is the builder possible: no bit in its word from length mod 64 up, ones at most 64 × (length div 64), buffer at least
     /// 8 × (length div 64) bytes?
@@ -37,8 +38,8 @@ pub enum Refusal {
     /// 6: Does the inner piece lie in its mask: slice end and split point at most the length, a cursor's place too, gather
     /// index and truck below it, pushed word of at most 64 flags with none beyond?
     OutsideMask = 6,
-    /// 7: Where a slice recounts, is the known count at least the zeros cut off, and the rest at most the new length? It always is,
-    /// since check 3 comes before: no call gives this number.
+    /// 7: Where a slice recounts, is the known count at least the zeros cut off, and the rest at most the new length? No call gives
+    /// this number: a known count is exact, since 3 comes before.
     CountNotOfSlice = 7,
     /// 8: Is the address remainder at most 7?
     AddressRemainder = 8,

@@ -1,9 +1,12 @@
 //! Histories: forty that end in one list, as spans of bytes, as whole words and parts of them, by every append, slice and combination,
-//! from other lists too, with refused calls in between; and ten whose lists freeze alike and differ in length.
+//! from other lists too, with refused calls in between; five that begin with an imported mask and end in the same list; and ten whose
+//! lists freeze alike and differ in length.
 //!
 //! A step is a letter and three numbers x, y and z of three digits; 999 stands for one past the flag limit. `LENT` bytes are lent to all.
 //!
 //!     t  try_new: y flags from x on of the history's own bytes, instead of the new builder that a history starts with
+//!     l  unset_bits of an imported mask: y flags from x on of the history's own bytes, whose count z says: 0 unknown, 1 exact, and
+//!        three stale ones, which are refused, so that the history has not begun: 2 one zero too many, 3 none, 4 all
 //!     p  push: flag x of the lent bytes; m the same by push_mut
 //!     c  extend_constant: x flags, all of them y
 //!     w  push_word_with_len_unchecked: y flags from x on; where z is not 0 the word has 64, also those past y
@@ -17,7 +20,7 @@
 //!
 //! The digits of z say which mask each argument of a combination is: 0 the history's own; then, over the lent bytes and as long as the
 //! own one, 1 from x on, 2 the same counted, 3 from y on, 4 the same counted; and two that are refused, 5 from x on with one flag more,
-//! 6 from x on with a count over its length. A capital letter is the same call with only the first eight bytes of its output lent.
+//! 6 from x on with a stale count, one zero too many. A capital letter is the same call with only the first eight bytes of its output lent.
 
 use crate::file::File;
 use crate::patterns::{MOST, low, paint, zeros};
@@ -66,6 +69,14 @@ const ONE_LIST: [&str; 40] = [
     "t040100000 a256000010 u000000000 q037000100 x512000010 x037000010 n000000000 x512000020",
 ];
 
+const IMPORTED: [&str; 5] = [
+    "l037100001",
+    "l037100002 l037100003 l037100004 l037100000 u000000000",
+    "l030200001 s150051000 s007100000",
+    "l037100001 x100000010 x100000060 u000000000 x100000020",
+    "l020200000 n000000000 s017100000 K512000010 n000000000",
+];
+
 const ZEROS: [&str; 6] = [
     "c001000000 f000000000",
     "c002000000 f000000000",
@@ -87,6 +98,8 @@ pub fn write(f: &mut File) {
     f.note("histories: forty that end in one list");
     let target: Vec<String> = ONE_LIST.iter().map(|steps| told(f, steps)).collect();
     assert!(target.iter().all(|told| *told == target[0]), "a history that ends in another list");
+    f.note("histories: five that begin with an imported mask and end in the same list");
+    assert!(IMPORTED.iter().all(|steps| told(f, steps) == target[0]), "an imported history that ends in another list");
     for (note, group) in [("lists of zeros", &ZEROS[..]), ("lists that end in zeros", &ZEROS_BEHIND)] {
         f.note(&format!("histories: {note}, which freeze alike and differ in length"));
         let lists: Vec<String> = group.iter().map(|steps| told(f, steps)).collect();
@@ -129,6 +142,15 @@ impl History<'_> {
                 let own = self.own.clone();
                 self.f.lend('x', &own);
                 self.f.ask(&format!("try_new {x} {y}"));
+                self.took(false);
+            }
+            'l' => {
+                let own = self.own.clone();
+                self.f.lend('x', &own);
+                let exact = zeros(&own, x, y);
+                let count = if z == 0 { "?".to_string() } else { show([exact, exact + 1, 0, y][z as usize - 1]) };
+                self.f.ask(&format!("unset_bits {x} {y} {count}"));
+                assert_eq!(self.f.last[0] == Token::Number(3), z > 1, "a stale count");
                 self.took(false);
             }
             's' | 'u' => {
@@ -205,7 +227,7 @@ impl History<'_> {
             0 => self.own_mask(),
             2 | 4 if inside => format!("{start} {length} {}", zeros(&bytes, start, length)),
             5 => format!("{start} {} ?", length + 1),
-            6 => format!("{start} {length} {}", length + 1),
+            6 if inside => format!("{start} {length} {}", zeros(&bytes, start, length) + 1),
             _ => format!("{start} {length} ?"),
         }
     }

@@ -2,6 +2,7 @@
 
 use crate::file::File;
 use crate::patterns::paint;
+use crate::token::Token;
 
 /// A request with places that fail a check: `{good|bad|number}`. Long bytes are lent, so that a start past the limit lies in them.
 const SPANS: [&str; 12] = [
@@ -22,14 +23,14 @@ const SPANS: [&str; 12] = [
 const CURSORS: [&str; 12] = [
     "BitChunks::next {3|4194305|1} 70 {0|71|6} x:{524352|9|2}",
     "remainder {3|4194305|1} 70 {0|71|6} x:{524352|9|2}",
-    "SlicesIterator::new {3|4194305|1} 70 {?|71|3} x:{524352|9|2}",
+    "SlicesIterator::new {3|4194305|1} 70 {?|1|3} x:{524352|9|2}",
     "SlicesIterator::next {3|4194305|1} 70 {0|71|6} x:{524352|9|2}",
     "BitmapIter::new {3|4194305|1} 70 x:{524352|9|2}",
     "BitmapIter::next {3|4194305|1} 70 {0|71|6} x:{524352|9|2}",
     "nth {3|4194305|1} 70 {0|71|6} 5 x:{524352|9|2}",
     "take_leading_ones {3|4194305|1} 70 {0|71|6} x:{524352|9|2}",
     "take_leading_zeros {3|4194305|1} 70 {0|71|6} x:{524352|9|2}",
-    "TrueIdxIter::new {70|69|5} 1 {3|4194305|1} 70 {?|71|3} x:{524352|9|2}",
+    "TrueIdxIter::new {70|69|5} 1 {3|4194305|1} 70 {?|1|3} x:{524352|9|2}",
     "TrueIdxIter::next {3|4194305|1} 70 {0|71|6} 1 x:{524352|9|2}",
     "next_chunk {3|4194305|1} 70 {0|71|6} 1 x:{524352|9|2}",
 ];
@@ -38,17 +39,29 @@ const WITHOUT_MASK: [&str; 2] = ["TrueIdxIter::next {3|4194305|1} 70 {0|71|6} 0 
 
 const MASKS: [&str; 6] = [
     "try_new {3|4194305|1} 70 x:{524352|9|2}",
-    "slice {3|4194305|1} 70 {?|71|3} {0|66|6} 5 x:{524352|9|2}",
-    "slice 3 70 {?|71|3} {0|66|6} {5|4194305|1} x:{524352|9|2}",
-    "unset_bits {3|4194305|1} 70 {?|71|3} x:{524352|9|2}",
-    "num_edges {3|4194305|1} 70 {?|71|3} x:{524352|9|2}",
-    "not {3|4194305|1} 70 {?|71|3} x:{524352|9|2} o:{16|15|9}",
+    "slice {3|4194305|1} 70 {?|1|3} {0|66|6} 5 x:{524352|9|2}",
+    "slice 3 70 {?|1|3} {0|66|6} {5|4194305|1} x:{524352|9|2}",
+    "unset_bits {3|4194305|1} 70 {?|1|3} x:{524352|9|2}",
+    "num_edges {3|4194305|1} 70 {?|1|3} x:{524352|9|2}",
+    "not {3|4194305|1} 70 {?|1|3} x:{524352|9|2} o:{16|15|9}",
 ];
 
 /// Two masks of 70 flags, and what stands behind them in a call.
-const TWO: &str = "{3|4194305|1} 70 {?|71|3} {5|4194305|1} {70|69|5} {?|71|3}";
+const TWO: &str = "{3|4194305|1} 70 {?|1|3} {5|4194305|1} {70|69|5} {?|1|3}";
 const TWO_SIZES: &str = "x:{524352|9|2} y:{524352|9|2}";
-const OPTIONAL: &str = "1 {3|4194305|1} 70 {?|71|3} 1 {5|4194305|1} {70|69|5} {?|71|3} {64|70|6}";
+const OPTIONAL: &str = "1 {3|4194305|1} 70 {?|1|3} 1 {5|4194305|1} {70|69|5} {?|1|3} {64|70|6}";
+
+/// Requests with a stale count and other checks that fail, and the number that decides.
+const STALE: [(&str, u64); 8] = [
+    ("slice 3 70 1 66 5 x:524352", 3),
+    ("slice 3 70 1 66 4194305 x:524352", 1),
+    ("slice 3 70 1 0 70 x:9", 2),
+    ("subslice_extend_from_bitmap 1 2 0 3 70 1 0 1 x:524352 o:16", 3),
+    ("subslice_extend_from_bitmap 1 2 0 3 70 1 70 1 x:524352 o:0", 3),
+    ("TrueIdxIter::new 69 1 3 70 1 x:524352", 3),
+    ("and_not 3 70 1 5 70 ? x:524352 y:9 o:16", 2),
+    ("and_not 3 70 ? 5 69 1 x:524352 y:524352 o:0", 3),
+];
 
 /// Appends of one flag to builders just below the limit.
 const APPENDS: [&str; 11] = [
@@ -58,7 +71,7 @@ const APPENDS: [&str; 11] = [
     "extend_constant {4194303|4194304|1} 0 {0|4194305|4} 1 1 o:{524352|524287|9}",
     "extend_from_slice {4194303|4194304|1} 0 {0|4194305|4} 3 1 x:{9|0|2} o:{524352|524287|9}",
     "extend_each_repeated_from_slice_unchecked {4194303|4194304|1} 0 {0|4194305|4} 3 1 1 x:{9|0|2} o:{524352|524287|9}",
-    "subslice_extend_from_bitmap {4194303|4194304|1} 0 {0|4194305|4} 0 70 {?|71|3} {3|70|6} 1 x:{9|8|2} o:{524352|524287|9}",
+    "subslice_extend_from_bitmap {4194303|4194304|1} 0 {0|4194305|4} 0 70 {?|1|3} {3|70|6} 1 x:{9|8|2} o:{524352|524287|9}",
     "gather_extend_from_slice {4194303|4194304|1} 0 {0|4194305|4} 3 {1|0|6} x:{9|0|2} o:{524352|524287|9}",
     "opt_gather_extend_from_slice {4194303|4194304|1} 0 {0|4194305|4} 3 1 x:{9|0|2} o:{524352|524287|9}",
     "freeze {4194303|4194305|1} 0 {0|4194306|4} o:{524352|524287|9}",
@@ -80,14 +93,19 @@ pub fn write(f: &mut File) {
         choices(f, &format!("{name} {TWO} {TWO_SIZES} o:{{16|15|9}}"));
     }
     choices(f, &format!("select_constant {TWO} 1 {TWO_SIZES} o:{{16|15|9}}"));
-    choices(f, &format!("select {TWO} 6 70 {{?|71|3}} {TWO_SIZES} z:{{524352|9|2}} o:{{16|15|9}}"));
-    choices(f, "select 3 70 ? 5 70 ? {6|4194305|1} {70|69|5} {?|71|3} z:{524352|9|2} o:{16|15|9}");
+    choices(f, &format!("select {TWO} 6 70 {{?|1|3}} {TWO_SIZES} z:{{524352|9|2}} o:{{16|15|9}}"));
+    choices(f, "select 3 70 ? 5 70 ? {6|4194305|1} {70|69|5} {?|1|3} z:{524352|9|2} o:{16|15|9}");
     choices(f, &format!("eq {} {TWO_SIZES}", TWO.replace("{70|69|5}", "70")));
     choices(f, &format!("num_intersections_with {TWO} {TWO_SIZES}"));
     for name in ["and_not_at", "may_reassign"] {
         choices(f, &format!("{name} {OPTIONAL} {TWO_SIZES}"));
-        choices(f, &format!("{name} 1 {{3|4194305|1}} 70 {{?|71|3}} 0 0 0 ? {{64|70|6}} x:{{524352|9|2}}"));
-        choices(f, &format!("{name} 0 0 0 ? 1 {{3|4194305|1}} 70 {{?|71|3}} {{64|70|6}} y:{{524352|9|2}}"));
+        choices(f, &format!("{name} 1 {{3|4194305|1}} 70 {{?|1|3}} 0 0 0 ? {{64|70|6}} x:{{524352|9|2}}"));
+        choices(f, &format!("{name} 0 0 0 ? 1 {{3|4194305|1}} 70 {{?|1|3}} {{64|70|6}} y:{{524352|9|2}}"));
+    }
+    f.note("several checks at once: a stale count beside others");
+    for (request, number) in STALE {
+        f.ask(request);
+        assert_eq!(f.last[0], Token::Number(number), "{request}");
     }
     f.note("several checks at once: the builder, and outputs of new masks");
     f.lend_numbers(&[0]);

@@ -41,7 +41,10 @@ impl<'a> History<'a> {
         let mut style = Wide { random, longest: 1_000 };
         if style.random.once_in(4) {
             let Piece { mask, bytes } = piece(Kind::Span, style.length(), &mut style);
-            let mask = Mask { zeros: if mask.length == 0 { Some(0) } else { None }, ..mask };
+            let zeros = zeros(&model::Lent { mask, bytes: &bytes }.flags());
+            // as `try_new` gives it, or an imported mask with its count
+            let known = mask.length == 0 || style.random.once_in(2);
+            let mask = Mask { zeros: known.then_some(zeros), ..mask };
             let lent = model::Lent { mask, bytes: &bytes };
             let (list, bitmap) = (lent.flags(), theirs::bitmap(lent));
             return Self { calls, stage: Stage::Masked(mask, bitmap), bytes, list };
@@ -81,7 +84,7 @@ impl<'a> History<'a> {
     }
 
     /// Puts the state into a request: the builder with its buffer, or the mask in one of the places, beside masks of its length that
-    /// have no count or a true one.
+    /// have no count or a true one, and now and then a false one, which the call refuses.
     fn lend(&self, request: &mut Request, pieces: usize, random: &mut Random) {
         match self.stage {
             Stage::Building(builder, _) => {
@@ -93,6 +96,9 @@ impl<'a> History<'a> {
                 let mut style = Wide { random, longest: 1_000 };
                 for i in 0..pieces {
                     request.pieces[i] = if i == place { self.piece(mask) } else { true_piece(mask.length, &mut style) };
+                    if i != place && style.random.once_in(16) {
+                        request.pieces[i].mask.zeros = Some(style.random.below(mask.length + 2));
+                    }
                 }
                 if !request.out.is_empty() && !style.random.once_in(8) {
                     request.out = output(frozen_size(mask.length as u128) as usize, &mut style);
@@ -153,8 +159,8 @@ impl<'a> History<'a> {
                 self.bytes = out;
                 return Stage::Masked(ours, combine(request, &masks));
             }
-            // Of the calls on a mask only `slice` is such a one; of those that give a mask `unset_bits` is left.
-            Theirs::Refusing(_) => {
+            // Of the calls that give a mask `slice` and `unset_bits` are left.
+            _ if call.name == "slice" => {
                 bitmap.slice(request.n, request.m);
                 self.list = self.list[request.n..request.n + request.m].to_vec();
             }

@@ -2,7 +2,7 @@
 
 use crate::listed::{Listed, Met};
 use crate::request::Request;
-use model::{Answer, Builder, Cursor, Lent, Mask, State, frozen_size, zeros};
+use model::{Answer, Builder, Cursor, Lent, Mask, State, frozen_size};
 use original::SharedStorage;
 use original::bitmap::bitmask::BitMask;
 use original::bitmap::{Bitmap, BitmapBuilder};
@@ -58,7 +58,7 @@ pub enum Theirs {
 
 pub fn bitmap(lent: Lent) -> Bitmap {
     let storage = SharedStorage::from_vec(lent.bytes.to_vec());
-    // SAFETY: the span lies in the bytes, which accepted requests have. The count may be false; no call reads flags by it.
+    // SAFETY: the span lies in the bytes and the count is exact or unknown, which accepted requests have.
     unsafe { Bitmap::from_inner_unchecked(storage, lent.mask.start, lent.mask.length, lent.mask.zeros) }
 }
 
@@ -126,9 +126,4 @@ pub fn at_address<T>(bytes: &[u8], address: usize, f: impl FnOnce(&[u8]) -> T) -
     let placed = &mut room[address..address + bytes.len()];
     placed.copy_from_slice(bytes);
     f(placed)
-}
-
-/// Whether a mask's known count is that of its flags.
-pub fn true_count(lent: Lent) -> bool {
-    lent.mask.zeros.is_none_or(|known| known == zeros(&lent.flags()))
 }

@@ -9,8 +9,7 @@ use crate::refusal::{Refusal, check};
 /// A call that combines two masks.
 type Combine = fn(calls::Mask, &[u8], calls::Mask, &[u8], &mut [u8]) -> calls::MaskAnswer;
 
-/// Combining reads the zero counts of its masks, where the result can be told from them at once; a count that is not known
-/// is counted for it and not kept. Call [`unset_bits`](Bitmap::unset_bits) first on a mask that is combined often.
+/// Whether a count is known makes no difference to a combination, in its answer or in its time: it goes without the counts of its masks.
 impl Bitmap {
     /// The flags set in both. Refused with 5.
     ///

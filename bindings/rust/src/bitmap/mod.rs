@@ -103,6 +103,26 @@ impl Bitmap {
         Ok(Bitmap::from_record(Arc::new(bytes), answer.mask))
     }
 
+    /// `length` flags of the bytes from bit `start` on, of which `zeros` are said to be zeros: a mask from elsewhere, with the count
+    /// that came with it. Refused with 1, 2, and with 3 where the count is not exact.
+    ///
+    /// The flags are counted here, once. Bytes whose count does not matter go through [`try_from_span`](Bitmap::try_from_span).
+    ///
+    /// ```
+    /// use poruwhina::{Bitmap, Refusal};
+    ///
+    /// let imported = Bitmap::try_from_counted_span([0x2D], 0, 6, 2)?;
+    /// assert_eq!(imported.lazy_unset_bits(), Some(2));
+    /// assert_eq!(Bitmap::try_from_counted_span([0x2D], 0, 6, 3), Err(Refusal::FalseCount));
+    /// # Ok::<(), Refusal>(())
+    /// ```
+    pub fn try_from_counted_span(bytes: impl Into<Vec<u8>>, start: usize, length: usize, zeros: usize) -> Result<Bitmap, Refusal> {
+        let bytes = bytes.into();
+        let answer = calls::unset_bits(calls::Mask { start, length, zeros, known: 1 }, &bytes);
+        check(answer.refusal)?;
+        Ok(Bitmap::from_record(Arc::new(bytes), answer.mask))
+    }
+
     /// The number of flags.
     ///
     /// ```
@@ -171,7 +191,8 @@ impl Bitmap {
 
     /// The `length` flags from `offset` on, over the same bytes. Refused with 1 and 6.
     ///
-    /// A known count of 0 or of all stays known; another is recounted where few flags are cut off, and else is forgotten.
+    /// A known count of 0 or of all stays known; another is recounted where few flags are cut off, and else is forgotten. The library
+    /// counts a mask whose count is known again before it cuts it.
     ///
     /// ```
     /// use poruwhina::{Bitmap, Refusal};
@@ -182,7 +203,7 @@ impl Bitmap {
     /// # Ok::<(), Refusal>(())
     /// ```
     pub fn sliced(&self, offset: usize, length: usize) -> Result<Bitmap, Refusal> {
-        let answer = calls::slice(self.record(), &self.bytes, offset, length);
+        let answer = calls::slice(self.counted_record(), &self.bytes, offset, length);
         check(answer.refusal)?;
         Ok(Bitmap::from_record(Arc::clone(&self.bytes), answer.mask))
     }
@@ -231,10 +252,16 @@ impl Bitmap {
         Bitmap { bytes, start: mask.start, length: mask.length, zeros }
     }
 
-    /// The record for the library, to be used with `bytes` alone.
+    /// The record for the library, to be used with `bytes` alone, without its count: a known one is exact, and no answer but that of
+    /// `slice` depends on it (the repository's theorem on counts), so that nothing is counted again.
     pub(crate) fn record(&self) -> calls::Mask {
+        calls::Mask { start: self.start, length: self.length, zeros: 0, known: 0 }
+    }
+
+    /// The same with its count, where that is known.
+    fn counted_record(&self) -> calls::Mask {
         let zeros = self.lazy_unset_bits();
-        calls::Mask { start: self.start, length: self.length, zeros: zeros.unwrap_or(0), known: u8::from(zeros.is_some()) }
+        calls::Mask { zeros: zeros.unwrap_or(0), known: u8::from(zeros.is_some()), ..self.record() }
     }
 
     pub(crate) fn bytes(&self) -> &[u8] {

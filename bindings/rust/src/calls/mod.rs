@@ -3,8 +3,9 @@
 //! Every call is total. Any record, a damaged one too, and any bytes get an answer, or in the field `refusal` the number of
 //! the first check that fails ([`Refusal`](crate::Refusal) has the words; 0 says that none did), and after a refusal no lent
 //! byte has changed. So these functions are safe, whatever the numbers are. What they do not do is keep a record and its bytes
-//! together, which is the caller's part here and that of the types above elsewhere: a mask whose known count is false for the
-//! bytes it is given with is refused.
+//! together, which is the caller's part here and that of the types above elsewhere. A mask whose known count is false for the
+//! bytes that it is given with is refused with 3, for which its flags are counted at each call. A record that the library gave may
+//! go in with `known` 0: every answer is then the same, save the counts in records given. One from elsewhere goes in with its count.
 //!
 //! This is the one module with `unsafe`. Each use is a call of an export, and the argument is the same for all: an export is
 //! proved to return on every input, reading and writing nothing but the slices lent to it. A slice crosses as its pointer and

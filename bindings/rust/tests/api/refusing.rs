@@ -19,6 +19,10 @@ fn from_the_types() {
     assert_eq!(Bitmap::try_new([], 1), Err(Refusal::OutsideBytes));
     assert_eq!(Bitmap::try_from_span([0], 2, 7), Err(Refusal::OutsideBytes));
 
+    assert_eq!(Bitmap::try_from_counted_span([0], above, 0, 0), Err(Refusal::AboveLimit));
+    assert_eq!(Bitmap::try_from_counted_span([0], 2, 7, 7), Err(Refusal::OutsideBytes));
+    assert_eq!(Bitmap::try_from_counted_span([0], 0, 0, 1), Err(Refusal::FalseCount));
+
     let unequal = Err(Refusal::UnequalLengths);
     for refused in [mask.and(&other), mask.and_not(&other), mask.or(&other), mask.or_not(&other), mask.xor(&other)] {
         assert_eq!(refused, unequal);
@@ -75,7 +79,7 @@ fn from_the_plain_calls() {
     let numbers = [
         (calls::unset_bits(mask, &bytes).refusal, Refusal::FalseCount),
         (calls::push(builder, &mut [0; 8], true).refusal, Refusal::ImpossibleBuilder),
-        (calls::slice(calls::Mask { zeros: 31, ..mask }, &[0; 13], 0, 68).refusal, Refusal::CountNotOfSlice),
+        (calls::slice(calls::Mask { zeros: 31, ..mask }, &[0; 13], 0, 68).refusal, Refusal::FalseCount),
         (calls::count_zeros(&bytes, 0, 1, 8).refusal, Refusal::AddressRemainder),
         (calls::not(small, &bytes, &mut [0; 7]).refusal, Refusal::OutputTooSmall),
     ];
@@ -141,4 +145,59 @@ fn the_limit() -> Result<(), Refusal> {
 #[should_panic(expected = "refused with 1")]
 fn collecting_too_many_flags_panics() {
     let _: Bitmap = std::iter::repeat_n(true, Bitmap::LIMIT + 1).collect();
+}
+
+/// Of each length and start bit the exact count is taken, and every other one refused.
+#[test]
+fn a_false_count_is_refused() -> Result<(), Refusal> {
+    let bytes: Vec<u8> = (0..26_u32).map(|i| (i * i * 37 + 11) as u8).collect();
+    for (bytes, start, length) in
+        [vec![0; 26], vec![0xFF; 26], bytes].iter().flat_map(|b| (0..8).flat_map(move |s| [0, 1, 40, 63, 64, 65, 129].map(|n| (b, s, n))))
+    {
+        let zeros = Bitmap::try_from_span(bytes.clone(), start, length)?.unset_bits();
+        for claimed in 0..=length + 1 {
+            let made = Bitmap::try_from_counted_span(bytes.clone(), start, length, claimed);
+            if claimed == zeros {
+                assert_eq!(made?.lazy_unset_bits(), Some(zeros));
+            } else {
+                assert_eq!(made, Err(Refusal::FalseCount), "{claimed} zeros for {zeros} of {length} from {start} on");
+            }
+        }
+    }
+    Ok(())
+}
+
+/// Every plain call that takes a mask refuses a stale count with 3, in each of its places, and writes nothing.
+#[test]
+fn a_stale_count_at_each_call() {
+    let (bytes, length) = ([0x2D], 6);
+    let good = calls::Mask { start: 0, length, zeros: 2, known: 1 };
+    for zeros in [0, 1, 3, 6, 7, usize::MAX] {
+        let stale = calls::Mask { zeros, ..good };
+        let mut out = [0xAA; 8];
+        let mut numbers = vec![
+            calls::unset_bits(stale, &bytes).refusal,
+            calls::slice(stale, &bytes, 0, 6).refusal,
+            calls::not(stale, &bytes, &mut out).refusal,
+            calls::num_edges(stale, &bytes).refusal,
+            calls::slices_new(stale, &bytes).refusal,
+            calls::true_idx_new(length, true, stale, &bytes).refusal,
+            calls::subslice_extend_from_bitmap(calls::builder_new(), &mut out, stale, &bytes, 0, 6).refusal,
+        ];
+        for (a, b) in [(stale, good), (good, stale)] {
+            for call in [calls::and, calls::and_not, calls::or, calls::or_not, calls::xor] {
+                numbers.push(call(a, &bytes, b, &bytes, &mut out).refusal);
+            }
+            numbers.push(calls::select_constant(a, &bytes, b, &bytes, true, &mut out).refusal);
+            numbers.push(calls::eq(a, &bytes, b, &bytes).refusal);
+            numbers.push(calls::num_intersections_with(a, &bytes, b, &bytes).refusal);
+            numbers.push(calls::and_not_at(true, a, &bytes, true, b, &bytes, 0).refusal);
+            numbers.push(calls::may_reassign(true, a, &bytes, true, b, &bytes, 0).refusal);
+        }
+        for (a, b, c) in [(stale, good, good), (good, stale, good), (good, good, stale)] {
+            numbers.push(calls::select(a, &bytes, b, &bytes, c, &bytes, &mut out).refusal);
+        }
+        assert!(numbers.iter().all(|&number| number == Refusal::FalseCount.number()), "{zeros} zeros: {numbers:?}");
+        assert_eq!(out, [0xAA; 8]);
+    }
 }

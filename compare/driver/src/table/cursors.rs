@@ -1,10 +1,10 @@
 //! The cursors over words, runs, flags and positions. A new cursor is compared whole, from its first answer to none.
 
 use super::Call;
-use crate::listed::{Listed, Met};
+use crate::listed::Met;
 use crate::ours;
 use crate::request::{Args, Request, Shape};
-use crate::theirs::{Outcome, Theirs, Visit, bitmap, true_count};
+use crate::theirs::{Outcome, Theirs, Visit, bitmap};
 use model::{Answer, Cursor, Lent, Mask, State, cursors, spans};
 use original::bitmap::Bitmap;
 use original::bitmap::iterator::TrueIdxIter;
@@ -76,7 +76,7 @@ fn their_flags(r: &Request, _: &mut Met, visit: Visit) {
     BitmapIter::new(r.bytes(), r.span().start, r.span().length).for_each(|flag| visit(&[flag.into()]));
 }
 
-fn their_positions(r: &Request, met: &mut Met, visit: Visit) {
+fn their_positions(r: &Request, _: &mut Met, visit: Visit) {
     let lent = r.optional(0).map(bitmap);
     let positions = TrueIdxIter::new(r.n, lent.as_ref());
     let remaining = positions.size_hint().0;
@@ -85,10 +85,7 @@ fn their_positions(r: &Request, met: &mut Met, visit: Visit) {
         visit(&[position as u64]);
         many += 1;
     }
-    if many != remaining {
-        assert!(!r.optional(0).is_none_or(true_count), "a remaining count that no false count explains");
-        met.note(Listed::FalseRemaining);
-    }
+    assert_eq!(many, remaining, "the original's remaining positions");
 }
 
 fn new_cursors() -> [Call; 5] {

@@ -1,7 +1,7 @@
 //! The calls that make a mask, cut it, count it, compare it and combine it.
 
 use super::Call;
-use crate::listed::{Listed, Met};
+use crate::listed::Met;
 use crate::ours;
 use crate::request::{Args, Request, Shape};
 use crate::theirs::{Outcome, Theirs, bitmap, mask};
@@ -25,19 +25,10 @@ fn their_try_new(r: &Request, refusal: u8, _: &mut Met) -> Option<Outcome> {
     })
 }
 
-/// Where the library answers 7 the original goes on with a count above the new length, or one that has wrapped and reads as unknown.
-fn their_slice(r: &Request, refusal: u8, met: &mut Met) -> Option<Outcome> {
-    if !matches!(refusal, 0 | 7) {
-        return None;
-    }
+fn their_slice(r: &Request, _: &mut Met) -> Option<Outcome> {
     let mut cut = bitmap(r.lent(0));
     cut.slice(r.n, r.m);
-    if refusal == 0 {
-        return Some(Outcome::mask(&cut));
-    }
-    assert!(cut.lazy_unset_bits().is_none_or(|zeros| zeros > r.m), "a count that fits: {:?}", mask(&cut));
-    met.note(Listed::FalseCountCut);
-    None
+    Some(Outcome::mask(&cut))
 }
 
 fn their_unset_bits(r: &Request, _: &mut Met) -> Option<Outcome> {
@@ -74,7 +65,7 @@ fn makers() -> [Call; 4] {
             shape: Shape::masks(1).args(Args::Inner),
             ours: |r, _| ours::sliced(r.pieces[0].mask, |mask| calls::slice(mask, r.bytes(), r.n, r.m)),
             model: |r, _| model::mask::slice(r.lent(0), r.n, r.m),
-            theirs: Theirs::Refusing(their_slice),
+            theirs: Theirs::Answer(their_slice),
         },
     ]
 }
