@@ -304,8 +304,9 @@ pw_builder_answer pw_opt_gather_extend_from_slice(size_t length, uint64_t word, 
  * Refuses with 1, 4, 9; every other field is then 0. */
 pw_mask_answer pw_freeze(size_t length, uint64_t word, size_t ones, uint8_t *buf, size_t buf_len);
 
-/* The bytes and the mask that pw_freeze gives; no mask where all flags are set, so for no flags too. Refuses with 1, 4, 9; every other
- * field is then 0. */
+/* The bytes and the mask that pw_freeze gives; no mask where all flags are set, so for no flags too. As in Arrow, no mask means all
+ * ones here; pw_may_reassign takes no permission mask for no truck: end the builder of a permission mask with pw_freeze. Refuses with
+ * 1, 4, 9; every other field is then 0. */
 pw_validity_answer pw_into_opt_validity(size_t length, uint64_t word, size_t ones, uint8_t *buf, size_t buf_len);
 
 /* ---- The calls that make a mask, cut it, count it and compare it. */
@@ -411,7 +412,8 @@ pw_step_answer pw_take_leading_zeros(size_t start, size_t length, size_t place, 
     size_t bytes_len);
 
 /* A cursor before the first position of a one in a mask of `length` flags. Where not `present` there is no mask: record and bytes are
- * not read, every position is given, and 1 is the only refusal. Refuses with 1, 2, 3, 5; every other field is then 0. */
+ * not read, every position is given, as in Arrow, and 1 is the only refusal. For pw_may_reassign no permission mask means no truck.
+ * Refuses with 1, 2, 3, 5; every other field is then 0. */
 pw_cursor_answer pw_true_idx_new(size_t length, bool present, pw_mask mask, const uint8_t *bytes, size_t bytes_len);
 
 /* The next position of a one, in `value`. Without a mask 2 does not come. Refuses with 1, 2, 6; `place` is then the one that came,
@@ -429,9 +431,10 @@ pw_step_answer pw_true_idx_next_chunk(size_t start, size_t length, size_t place,
 /* ---- Dispatch. */
 
 /* Whether truck number `truck` may be reassigned: its flag in the permission mask, and not in the revocation mask. Where not
- * `permitted` there is no permission mask, which stands for all ones; where not `revoked` no revocation mask, which stands for all
- * zeros: record and bytes are then not read. 5 comes with both masks alone; without any mask nothing is refused. Refuses with 1, 2, 3,
- * 5, 6; every other field is then 0. */
+ * `permitted` there is no permission mask, and the answer is no for every truck; where not `revoked` no revocation mask, which takes
+ * nothing away: record and bytes are then not read. 5 comes with both masks alone; without any mask nothing is refused. No permission
+ * mask is the opposite of the none of pw_into_opt_validity and of no mask in pw_true_idx_new, which mean all ones: end the builder of
+ * a permission mask with pw_freeze. Refuses with 1, 2, 3, 5, 6; every other field is then 0. */
 pw_flag pw_may_reassign(bool permitted, pw_mask permission, const uint8_t *permission_bytes,
     size_t permission_bytes_len, bool revoked, pw_mask revocation, const uint8_t *revocation_bytes,
     size_t revocation_bytes_len, size_t truck);

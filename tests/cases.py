@@ -135,7 +135,7 @@ CALLS = {
     "TrueIdxIter::next": ("nnnn", lambda l, *a: next_true(l.x, *a)),
     "next_chunk": ("nnnn", lambda l, *a: next_chunk(l.x, *a, l.i)),
     "and_not_at": ("OOn", lambda l, a, b, index: and_not_at(a, l.x, b, l.y, index)),
-    "may_reassign": ("OOn", lambda l, a, b, truck: and_not_at(a, l.x, b, l.y, truck)),
+    "may_reassign": ("OOn", lambda l, a, b, truck: may_reassign(a, l.x, b, l.y, truck)),
 }
 
 WRITERS = {name for name in CALLS if name.split("_")[0] in ("store", "copy", "push", "extend", "subslice", "gather", "opt")}

@@ -355,6 +355,12 @@ def and_not_at(first, a, second, b, index):
     return [int(yes and not no)]
 
 
+def may_reassign(permission, p, revocation, r, truck):
+    """Paper 02 (d): an operator with no permission mask may reassign nothing; the checks are those of `and_not_at`."""
+    flag = and_not_at(permission, p, revocation, r, truck)
+    return [0] if permission is None else flag
+
+
 # Cursors: start, length, place; the one over positions has a mask or not.
 
 

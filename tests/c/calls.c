@@ -336,9 +336,11 @@ static void dispatch(void) {
     CHECK(pw_may_reassign(true, MASK_A, A, 1, true, MASK_A, revoked, 1, 0).value);
     CHECK(!pw_may_reassign(true, MASK_A, A, 1, true, MASK_A, revoked, 1, 1).value);
     CHECK(!pw_may_reassign(true, MASK_A, A, 1, true, MASK_A, revoked, 1, 2).value);
-    CHECK(pw_may_reassign(false, MASK_A, NULL, 0, true, MASK_A, revoked, 1, 1).value);
+    CHECK(!pw_may_reassign(false, MASK_A, NULL, 0, true, MASK_A, revoked, 1, 1).value); /* no permission mask: no truck */
+    CHECK(pw_may_reassign(false, MASK_A, NULL, 0, true, MASK_A, revoked, 1, 6).refusal == PW_REFUSED_OUTSIDE_MASK);
     CHECK(pw_may_reassign(true, MASK_A, A, 1, false, MASK_A, NULL, 0, 2).value);
-    CHECK(pw_may_reassign(false, MASK_A, NULL, 0, false, MASK_A, NULL, 0, SIZE_MAX).value);
+    CHECK(pw_may_reassign(false, MASK_A, NULL, 0, false, MASK_A, NULL, 0, SIZE_MAX).refusal == 0);
+    CHECK(!pw_may_reassign(false, MASK_A, NULL, 0, false, MASK_A, NULL, 0, SIZE_MAX).value);
     CHECK(pw_may_reassign(true, MASK_A, A, 1, true, MASK_A, revoked, 1, 6).refusal == PW_REFUSED_OUTSIDE_MASK);
 }
 

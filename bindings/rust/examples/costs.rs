@@ -5,7 +5,7 @@
 use std::hint::black_box;
 use std::time::Instant;
 
-use poruwhina::{Bitmap, BitmapBuilder, Refusal, may_reassign};
+use poruwhina::{Bitmap, BitmapBuilder, Permission, Refusal, may_reassign};
 
 const FLAGS: usize = 1_000_000;
 const SHORT: usize = 40;
@@ -75,7 +75,7 @@ fn main() -> Result<(), Refusal> {
     cost("chunks, per word of 64", FLAGS / 64, || mask.chunks().fold(0, |a, b| a ^ b));
     cost("push, per flag", FLAGS, || pushed(&flags));
     call_cost("get", || black_box(&mask).get(FLAGS / 2));
-    call_cost("may_reassign", || may_reassign(Some(black_box(&mask)), Some(&mask), FLAGS / 2));
+    call_cost("may_reassign", || may_reassign(Permission::Mask(black_box(&mask)), Some(&mask), FLAGS / 2));
     call_cost("clone", || black_box(&mask).clone());
     call_cost("sliced, 40 flags", || black_box(&short).sliced(1, SHORT - 2));
     call_cost("and, 40 flags", || black_box(&short).and(black_box(&short)));

@@ -238,6 +238,11 @@ impl BitmapBuilder {
 
     /// The mask of the flags, or none where all are set, as of an empty builder: Arrow's validity.
     ///
+    /// **Not for a permission mask.** This none means all ones, as in Arrow. [`may_reassign`](crate::may_reassign) takes no
+    /// permission mask for *no truck*, the opposite: an operator with every truck would lose them all. End the builder of a
+    /// permission mask with [`freeze`](BitmapBuilder::freeze). An `Option<Bitmap>` does not turn into a
+    /// [`Permission`](crate::Permission), so handing it on does not compile.
+    ///
     /// ```
     /// use poruwhina::{Bitmap, BitmapBuilder};
     ///

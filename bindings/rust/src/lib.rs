@@ -6,7 +6,7 @@
 //! a port. What a call cannot do it refuses, by a [`Refusal`] with its number and words, and nothing has changed then.
 //!
 //! ```
-//! use poruwhina::{Bitmap, BitmapBuilder, may_reassign};
+//! use poruwhina::{Bitmap, BitmapBuilder, Permission, may_reassign};
 //!
 //! // Trucks 0 to 59 and 62 are permitted, 60 and 61 are not.
 //! let mut builder = BitmapBuilder::new();
@@ -17,7 +17,7 @@
 //!
 //! // Truck 62 is revoked.
 //! let revocation: Bitmap = (0..63).map(|truck| truck == 62).collect();
-//! assert!(!may_reassign(Some(&permission), Some(&revocation), 62)?);
+//! assert!(!may_reassign(Permission::Mask(&permission), Some(&revocation), 62)?);
 //!
 //! // The trucks of the pit that has numbers 58 to 62.
 //! let allowed = permission.and_not(&revocation)?.sliced(58, 5)?;
@@ -137,7 +137,7 @@ mod refusal;
 pub use activity::ActivityWindow;
 pub use bitmap::Bitmap;
 pub use builder::BitmapBuilder;
-pub use dispatch::may_reassign;
+pub use dispatch::{Permission, may_reassign};
 pub use iterator::{BitChunks, BitmapIter, SlicesIterator, TrueIdxIter};
 pub use refusal::Refusal;
 

@@ -244,7 +244,7 @@ fn chunk_out(r: TrueChunk) -> StepAnswer
 }
 
 // A cursor before the first position of a one in a mask of `length` flags. Where not `present` there is no mask: record and bytes
-// are not read, every position is given, and 1 is the only refusal.
+// are not read, every position is given, as in Arrow, and 1 is the only refusal. For pw_may_reassign no permission mask means no truck.
 #[no_mangle]
 pub extern "C" fn pw_true_idx_new(
     length: usize,

@@ -18,6 +18,7 @@ ruled-out =
       with-both = tried (plain flag) refl refl refl;
       with-revocation = tried (plain flag) refl refl refl;
       with-none = tried (plain flag) refl refl refl;
+      with-permission = tried (plain flag) refl refl refl;
       behind-the-end = tried (plain flag) refl refl refl;
       stale-count = tried (plain flag) refl refl refl;
     }

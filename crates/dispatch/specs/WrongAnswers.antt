@@ -20,20 +20,27 @@ pub record WrongAnswers : Type 0 where
       (given true)
       -- trucks counted from 1
       (refused 6 tt)
-  -- `may_reassign` of truck 2 with no permission mask
-  pub with-revocation : Tried (mayReassign Absent [] (Present right) rightBytes 2)
+  -- `may_reassign` of truck 1, which is not revoked, with no permission mask
+  pub with-revocation : Tried (mayReassign Absent [] (Present right) rightBytes 1)
       (given false)
-      -- the revocation not inverted
+      -- an absent permission taken for all ones
       (given true)
-      -- the bytes of the absent mask tested
+      -- the bytes of the absent permission tested
       (refused 2 tt)
   -- `may_reassign` of truck 9 with no mask
   pub with-none : Tried (mayReassign Absent [] Absent [] 9)
-      (given true)
-      -- an absent permission taken for zeros
       (given false)
+      -- yes where both masks are absent
+      (given true)
       -- the truck held to the length of no mask
       (refused 6 tt)
+  -- `may_reassign` of truck 0 with no revocation mask
+  pub with-permission : Tried (mayReassign (Present left) leftBytes Absent [] 0)
+      (given true)
+      -- an absent revocation taken for all ones
+      (given false)
+      -- the bytes of the absent revocation tested
+      (refused 2 tt)
   -- `may_reassign` of truck 4
   pub behind-the-end : Tried (mayReassign (Present left) leftBytes (Present right) rightBytes 4)
       (refused 6 tt)

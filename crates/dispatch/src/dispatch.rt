@@ -1,4 +1,5 @@
-// May a truck be reassigned: its flag in the permission mask, and not in the revocation mask. Either mask may be absent.
+// May a truck be reassigned: its flag in the permission mask, and not in the revocation mask. Either mask may be absent; with no
+// permission mask no truck may be reassigned.
 //
 // Of masks only combinations and searches are used: `tests/dispatch_calls.py` holds the sources of this crate to that.
 ghost use mathlib.Core.Path.{_≡_};
@@ -12,7 +13,9 @@ pub enum Reassign {
     Refused(u8),
 }
 
-// May truck number `truck` be reassigned. An absent permission mask stands for ones, an absent revocation mask for zeros.
+// Returns whether truck number `truck` may be reassigned. An absent permission mask means no for every truck, unlike an absent mask
+// of `TrueIdxIter` and the none of `into_opt_validity`, which stand for all ones; an absent revocation mask takes nothing away. The
+// checks are those of `and_not_at`, so a revocation mask alone is still put to 1, 2, 3 and 6.
 pub fn may_reassign(
     permission: Optional,
     permission_bytes: &[u8],
@@ -22,15 +25,18 @@ pub fn may_reassign(
 ) -> Reassign
     ensures { λ r. ⌜ reassignAnswer r ≡ mayReassign permission (now («permission_bytes» .entry)) revocation (now («revocation_bytes» .entry)) truck ⌝ }
 {
-    let flag = and_not_at(
+    let answer = and_not_at(
         permission,
         permission_bytes,
         revocation,
         revocation_bytes,
         truck,
     );
-    match flag {
-        FlagAt::Flag(may) => Reassign::May(may),
+    match answer {
+        FlagAt::Flag(flag) => match permission {
+            Optional::Present(_) => Reassign::May(flag),
+            Optional::Absent => Reassign::May(false),
+        },
         FlagAt::Refused(number) => Reassign::Refused(number),
     }
 }

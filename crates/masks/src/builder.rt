@@ -112,7 +112,8 @@ impl BitmapBuilder {
         Made::Mask(frozen_mask(self))
     }
 
-    // The same, but no mask where the ones equal the length.
+    // The same, but no mask where the ones equal the length: Arrow's none, which means all ones. dispatch takes no permission mask
+    // for no truck, so there a builder is ended by `freeze`.
     pub fn into_opt_validity(self, buf: &mut [u8]) -> Validity
         ensures answer { λ r. ⌜ validityAnswer r ≡ intoOptValidityOf self (now (buf .entry)) ⌝ }
         ensures bytes { λ _. ⌜ now (buf .exit) ≡ freezeBytes self (now (buf .entry)) ⌝ }

@@ -106,7 +106,8 @@ fn zeros_next(cursor: TrueIdxIter, bytes: &[u8]) -> usize
 }
 
 impl TrueIdxIter {
-    // A cursor at the first position. The length is stated beside the mask, which must agree.
+    // A cursor at the first position. The length is stated beside the mask, which must agree. No mask is Arrow's none, which means
+    // all ones: every position below the length is given.
     pub fn new(length: usize, mask: Optional, bytes: &[u8]) -> TrueIter
         ensures { λ r. ⌜ trueIterAnswer r ≡ newTrue length mask (now (bytes .entry)) ⌝ }
     {

@@ -1,6 +1,6 @@
 //! Masks combined, against the lists combined flag by flag, and one mask by many routes.
 
-use poruwhina::{Bitmap, BitmapBuilder, may_reassign};
+use poruwhina::{Bitmap, BitmapBuilder, Permission, may_reassign};
 
 use crate::lists::{Random, patterns, runs, word, zeros};
 use crate::{flags_of, mask_at};
@@ -115,9 +115,9 @@ fn dispatch_reads_the_flag_of_and_not() {
     let (permission, revocation) = (mask_at(&permitted, 3), mask_at(&revoked, 6));
     let both = permission.and_not(&revocation).unwrap();
     for truck in 0..130 {
-        assert_eq!(may_reassign(Some(&permission), Some(&revocation), truck).ok(), both.get(truck));
-        assert_eq!(may_reassign(Some(&permission), None, truck), Ok(permitted[truck]));
-        assert_eq!(may_reassign(None, Some(&revocation), truck), Ok(!revoked[truck]));
-        assert_eq!(may_reassign(None, None, truck), Ok(true));
+        assert_eq!(may_reassign(Permission::Mask(&permission), Some(&revocation), truck).ok(), both.get(truck));
+        assert_eq!(may_reassign(Permission::Mask(&permission), None, truck), Ok(permitted[truck]));
+        assert_eq!(may_reassign(Permission::NoMask, Some(&revocation), truck), Ok(false));
+        assert_eq!(may_reassign(Permission::NoMask, None, truck), Ok(false));
     }
 }

@@ -1,6 +1,6 @@
 //! Each refusal, the limit of 4,194,304 flags on both sides, and that nothing has changed after a refusal.
 
-use poruwhina::{Bitmap, BitmapBuilder, Refusal, TrueIdxIter, calls, may_reassign};
+use poruwhina::{Bitmap, BitmapBuilder, Permission, Refusal, TrueIdxIter, calls, may_reassign};
 
 use crate::flags_of;
 
@@ -32,13 +32,13 @@ fn from_the_types() {
     assert_eq!(mask.select(&mask, &other), unequal);
     assert_eq!(mask.select_constant(&other, true), unequal);
     assert_eq!(mask.num_intersections_with(&other), Err(Refusal::UnequalLengths));
-    assert_eq!(may_reassign(Some(&mask), Some(&other), 0), Err(Refusal::UnequalLengths));
+    assert_eq!(may_reassign(Permission::Mask(&mask), Some(&other), 0), Err(Refusal::UnequalLengths));
     assert_eq!(TrueIdxIter::new(2, Some(&mask)).err(), Some(Refusal::UnequalLengths));
 
     assert_eq!(mask.sliced(2, 2), Err(Refusal::OutsideMask));
     assert_eq!(mask.split_at(4), Err(Refusal::OutsideMask));
-    assert_eq!(may_reassign(Some(&mask), None, 3), Err(Refusal::OutsideMask));
-    assert_eq!(may_reassign(Some(&mask), None, usize::MAX), Err(Refusal::OutsideMask));
+    assert_eq!(may_reassign(Permission::Mask(&mask), None, 3), Err(Refusal::OutsideMask));
+    assert_eq!(may_reassign(Permission::Mask(&mask), None, usize::MAX), Err(Refusal::OutsideMask));
 }
 
 #[test]

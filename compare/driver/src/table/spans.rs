@@ -71,13 +71,12 @@ fn their_parts(r: &Request, _: &mut Met) -> Option<Outcome> {
     Some(Outcome::values([left.1, left.2, right.1, right.2]))
 }
 
-/// With both masks flag `truck` of `and_not`, with one its own flag.
+/// With both masks flag `truck` of `and_not`, with the permission alone its own flag. The Rust has no such rule as that for none.
 fn their_reassign(r: &Request, _: &mut Met) -> Option<Outcome> {
     let may = match (r.optional(0), r.optional(1)) {
         (Some(permission), Some(revocation)) => and_not(&bitmap(permission), &bitmap(revocation)).get_bit(r.n),
         (Some(permission), None) => bitmap(permission).get_bit(r.n),
-        (None, Some(revocation)) => !bitmap(revocation).get_bit(r.n),
-        (None, None) => return None,
+        (None, _) => return None,
     };
     Some(Outcome::values([may.into()]))
 }
