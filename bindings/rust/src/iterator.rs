@@ -164,8 +164,9 @@ pub struct TrueIdxIter<'a> {
 }
 
 impl<'a> TrueIdxIter<'a> {
-    /// The positions below `length` of the ones of a mask of that length, or all of them where there is no mask. Refused with
-    /// 5 for a mask of another length, with 1 for a length above [`Bitmap::LIMIT`].
+    /// The positions below `length` of the ones of a mask of that length, or all of them where there is no mask: as in Arrow, no
+    /// mask means all ones here, while [`Permission::NoMask`](crate::Permission::NoMask) means no truck. Refused with 5 for a
+    /// mask of another length, with 1 for a length above [`Bitmap::LIMIT`].
     ///
     /// ```
     /// use poruwhina::{Bitmap, Refusal, TrueIdxIter};
