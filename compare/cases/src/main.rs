@@ -18,6 +18,7 @@ mod file;
 mod histories;
 mod masks;
 mod patterns;
+mod run_lists;
 mod several;
 mod spans;
 mod token;
@@ -79,6 +80,7 @@ fn requests() -> File {
     dispatch::write(&mut file);
     several::write(&mut file);
     histories::write(&mut file);
+    run_lists::write(&mut file);
     file
 }
 

@@ -1,4 +1,4 @@
--- The theorem on histories, and its laws.
+-- The theorem on histories, and its laws; the theorem on run lists.
 pub mod AgreementLaws
 pub mod CombinedLaws
 pub mod GoesOn
@@ -8,4 +8,7 @@ pub mod HistoryTheorem
 pub mod MaskRowLaws
 pub mod ReferenceLaws
 pub mod RowLaws
+pub mod RunListLaws
+pub mod RunListRows
+pub mod RunLists
 pub mod TruthfulLaws

@@ -1,0 +1,42 @@
+-- Lists of runs that keep all conditions of `RunList` but one: each is the run list of no list of flags, so that each condition is
+-- needed. Beside them run lists and the lists of flags that they stand for. Assumes nothing.
+use Prim.Native.Nat.{ℕ}
+use mathlib.Core.Path.{_≡_}
+use mathlib.Core.Bool.{Bool, true, false}
+use mathlib.Core.List.{List, [], _∷_, map}
+use Rattle.words.specs.Flags.{isOne}
+use Rattle.masks.specs.SliceIterator.{runOf}
+use Rattle.masks.specs.declared.slice_iterator.Run.{Run}
+use Rattle.histories.specs.RunLists.{HasRuns, everyRun, isApart, isInside, isLong}
+
+-- no list of n flags has these runs; whether they are long enough, apart and inside
+pub record NoRunList (n : ℕ) (rs : List Run) (x y z : Bool) : Type 0 where
+  pub long : everyRun isLong rs ≡ x
+  pub apart : isApart rs ≡ y
+  pub inside : everyRun (isInside n) rs ≡ z
+  pub none : (l : List Bool) → HasRuns n rs l → ⊥
+
+-- the list of flags that has these runs, 1 for set
+abbrev pub Stand : List Run → ℕ → List ℕ → Type 0
+Stand rs n flags = HasRuns n rs (map isOne flags)
+
+pub record RunListRows : Type 0 where
+  -- an empty run: alone, before and behind another one
+  pub empty : NoRunList 4 (runOf 1 0 ∷ []) false true true
+  pub empty-first : NoRunList 4 (runOf 0 0 ∷ runOf 1 1 ∷ []) false true true
+  pub empty-last : NoRunList 4 (runOf 0 1 ∷ runOf 4 0 ∷ []) false true true
+  -- runs that fall, a run twice, runs that overlap, and runs with no flag between them
+  pub falling : NoRunList 4 (runOf 2 1 ∷ runOf 0 1 ∷ []) true false true
+  pub twice : NoRunList 4 (runOf 1 1 ∷ runOf 1 1 ∷ []) true false true
+  pub overlapping : NoRunList 4 (runOf 0 3 ∷ runOf 2 2 ∷ []) true false true
+  pub touching : NoRunList 4 (runOf 0 1 ∷ runOf 1 2 ∷ []) true false true
+  -- a run that ends one flag past the length, one that begins there, and one in no flags
+  pub past : NoRunList 4 (runOf 0 1 ∷ runOf 2 3 ∷ []) true true false
+  pub behind : NoRunList 4 (runOf 4 1 ∷ []) true true false
+  pub no-flags : NoRunList 0 (runOf 0 1 ∷ []) true true false
+  -- the same mended
+  pub one : Stand (runOf 1 1 ∷ []) 4 (0 ∷ 1 ∷ 0 ∷ 0 ∷ [])
+  pub rising : Stand (runOf 0 1 ∷ runOf 2 1 ∷ []) 4 (1 ∷ 0 ∷ 1 ∷ 0 ∷ [])
+  pub to-the-end : Stand (runOf 0 1 ∷ runOf 2 2 ∷ []) 4 (1 ∷ 0 ∷ 1 ∷ 1 ∷ [])
+  pub over-all : Stand (runOf 0 4 ∷ []) 4 (1 ∷ 1 ∷ 1 ∷ 1 ∷ [])
+  pub none : Stand [] 4 (0 ∷ 0 ∷ 0 ∷ 0 ∷ [])
