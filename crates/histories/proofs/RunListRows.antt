@@ -11,7 +11,7 @@ use borrow.Author.Tests.{eq-eqb}
 use Rattle.masks.specs.SliceIterator.{runsFrom, withOne}
 use Rattle.masks.specs.declared.slice_iterator.Run.{Run}
 use Rattle.masks.proofs.SpanLaws.{not-both}
-use Rattle.histories.specs.RunLists.{HasRuns, everyRun, isApart, isInside, isLong}
+use Rattle.histories.specs.RunLists.{HasRuns, everyRun, gapCalls, isApart, isInside, isLong, savingFrom}
 use Rattle.histories.specs.RunListRows.{NoRunList, RunListRows}
 
 -- ---- all lists of n flags, gone through
@@ -67,7 +67,7 @@ broken {n = n} {rs = rs} a b c e = record { long = a; apart = b; inside = c; non
 -- ---- the table
 
 pub run-list-rows : RunListRows
-unfolding somePass sameRuns runsFrom withOne everyRun isApart
+unfolding somePass sameRuns runsFrom withOne everyRun isApart gapCalls savingFrom
 run-list-rows =
     record {
       empty = broken refl refl refl refl;
@@ -85,4 +85,6 @@ run-list-rows =
       to-the-end = record { long = refl; runs = refl };
       over-all = record { long = refl; runs = refl };
       none = record { long = refl; runs = refl };
+      saved = refl;
+      saved-without = refl;
     }

@@ -1,13 +1,15 @@
 -- Lists of runs that keep all conditions of `RunList` but one: each is the run list of no list of flags, so that each condition is
--- needed. Beside them run lists and the lists of flags that they stand for. Assumes nothing.
+-- needed. Beside them run lists, the lists of flags that they stand for, and the calls that save one. Assumes nothing.
 use Prim.Native.Nat.{ℕ}
 use mathlib.Core.Path.{_≡_}
 use mathlib.Core.Bool.{Bool, true, false}
 use mathlib.Core.List.{List, [], _∷_, map}
 use Rattle.words.specs.Flags.{isOne}
+use Rattle.masks.specs.Appends.{extendConstant}
 use Rattle.masks.specs.SliceIterator.{runOf}
 use Rattle.masks.specs.declared.slice_iterator.Run.{Run}
-use Rattle.histories.specs.RunLists.{HasRuns, everyRun, isApart, isInside, isLong}
+use Rattle.histories.specs.History.{append}
+use Rattle.histories.specs.RunLists.{HasRuns, everyRun, isApart, isInside, isLong, savingFrom}
 
 -- no list of n flags has these runs; whether they are long enough, apart and inside
 pub record NoRunList (n : ℕ) (rs : List Run) (x y z : Bool) : Type 0 where
@@ -40,3 +42,8 @@ pub record RunListRows : Type 0 where
   pub to-the-end : Stand (runOf 0 1 ∷ runOf 2 2 ∷ []) 4 (1 ∷ 0 ∷ 1 ∷ 1 ∷ [])
   pub over-all : Stand (runOf 0 4 ∷ []) 4 (1 ∷ 1 ∷ 1 ∷ 1 ∷ [])
   pub none : Stand [] 4 (0 ∷ 0 ∷ 0 ∷ 0 ∷ [])
+  -- 1, 0, 1, 1 saved, the empty gaps before the first run and behind the last made and left out
+  pub saved : savingFrom (λ (k : ℕ). false) 4 0 (runOf 0 1 ∷ runOf 2 2 ∷ []) ≡ map append
+      (extendConstant 0 false ∷ extendConstant 1 true ∷ extendConstant 1 false ∷ extendConstant 2 true ∷ extendConstant 0 false ∷ [])
+  pub saved-without : savingFrom (λ (k : ℕ). true) 4 0 (runOf 0 1 ∷ runOf 2 2 ∷ []) ≡ map append
+      (extendConstant 1 true ∷ extendConstant 1 false ∷ extendConstant 2 true ∷ [])

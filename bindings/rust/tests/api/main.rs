@@ -6,6 +6,7 @@ mod lists;
 mod minutes;
 mod positions;
 mod reading;
+mod rebuilding;
 mod refusing;
 
 use lists::{packed, patterns};
