@@ -13,13 +13,14 @@ use Rattle.words.specs.Flags.{copies, flagsOf}
 use Rattle.words.proofs.Windows.{length-copies, length-window}
 use Rattle.masks.specs.Answer.{decided, kept}
 use Rattle.masks.specs.Appends.{constantChecks, growChecks}
-use Rattle.masks.specs.Builder.{Filling, Room, appended, filling, newBuilder}
+use Rattle.masks.specs.Builder.{Filling, appended, filling, newBuilder}
 use Rattle.masks.specs.Checks.{check, earlier, firstFailed, limit, spanChecks, withinLimit}
 use Rattle.masks.specs.Freeze.{freezeChecks, frozenMask, frozenOver}
 use Rattle.masks.specs.Frozen.{frozenSize}
 use Rattle.masks.specs.Mask.{countValid, maskChecks, maskFlags}
-use Rattle.masks.specs.SliceIterator.{newSlices, runsFrom, runsLeft, slicesAt}
-use Rattle.masks.specs.TrueCounts.{Truthful}
+use Rattle.masks.specs.Listing.{runsLeft}
+use Rattle.masks.specs.SliceIterator.{newSlices, runsFrom, slicesAt}
+use Rattle.masks.specs.Workers.{Room}
 use Rattle.masks.specs.declared.bitmap.Bitmap.{Bitmap}
 use Rattle.masks.specs.declared.builder.BitmapBuilder.{BitmapBuilder}
 use Rattle.masks.specs.declared.slice_iterator.Run.{Run}
@@ -27,6 +28,7 @@ use Rattle.masks.proofs.Accepted.{builder-accepted}
 use Rattle.masks.proofs.CheckLaws.{and-left, both-left, is-given, passed-before, span-allowed}
 use Rattle.masks.proofs.CursorLaws.{over-mask}
 use Rattle.masks.proofs.FreezeLaws.{same-checks}
+use Rattle.masks.proofs.MaskLaws.{mask-sound}
 use Rattle.masks.proofs.RoomLaws.{room-after, room-less}
 use Rattle.masks.proofs.RunsWhole.{lists-runs}
 use Rattle.histories.specs.Agreement.{runsOf, runsShown}
@@ -225,10 +227,8 @@ module _ (m : Bitmap) (bytes : List ℕ) (ok : firstFailed (maskChecks m bytes) 
       saves (m .length) (runsFrom 0 (maskFlags m bytes)) (maskFlags m bytes) has
       (span-allowed (m .start) (m .length) (length bytes) in-bytes .short) leaves buf large
 
-  stands : Truthful m bytes → Stands m bytes (maskFlags m bytes)
-  stands t =
-      let a = span-allowed (m .start) (m .length) (length bytes) in-bytes in
-      record { sound = record { starts = a .starts; short = a .short; inside = a .inside; counts = t }; flags = refl }
+  stands : Stands m bytes (maskFlags m bytes)
+  stands = record { sound = mask-sound m bytes ok; flags = refl }
 
   rebuilt : Rebuilt m bytes
   rebuilt =
@@ -236,9 +236,9 @@ module _ (m : Bitmap) (bytes : List ℕ) (ok : firstFailed (maskChecks m bytes) 
         runs = runsFrom 0 (maskFlags m bytes);
         listed = listed;
         saved = rebuilt-saves;
-        alike = λ t leaves buf large.
+        alike = λ leaves buf large.
             let s = rebuilt-saves leaves buf large in
-            both-agree m (s .mask) bytes (s .bytes) (maskFlags m bytes) (agrees m bytes (maskFlags m bytes) (stands t)) (s .agrees);
+            both-agree m (s .mask) bytes (s .bytes) (maskFlags m bytes) (agrees m bytes (maskFlags m bytes) stands) (s .agrees);
       }
 
 -- ---- the theorem

@@ -15,7 +15,6 @@ use Rattle.masks.specs.Checks.{firstFailed, limit}
 use Rattle.masks.specs.Frozen.{frozenSize}
 use Rattle.masks.specs.Mask.{maskChecks, maskFlags}
 use Rattle.masks.specs.SliceIterator.{runsFrom}
-use Rattle.masks.specs.TrueCounts.{Truthful}
 use Rattle.masks.specs.declared.bitmap.Bitmap.{Bitmap}
 use Rattle.masks.specs.declared.slice_iterator.Run.{Run}
 use Rattle.histories.specs.Agreement.{Agrees, Alike, runsShown}
@@ -88,8 +87,8 @@ pub record Rebuilt (m : Bitmap) (bytes : List ℕ) : Type 0 where
   pub listed : (k : ℕ) → m .length < k → runsShown k m bytes ≡ some runs
   pub saved : (leaves : ℕ → Bool) (buf : List ℕ) → frozenSize (m .length) ≤ length buf
       → Saves (maskFlags m bytes) buf (savingFrom leaves (m .length) 0 runs)
-  -- the mask saved answers as the mask that was taken apart, if that one's count is unknown or true
-  pub alike : Truthful m bytes → (leaves : ℕ → Bool) (buf : List ℕ) (large : frozenSize (m .length) ≤ length buf)
+  -- the mask saved answers as the mask that was taken apart
+  pub alike : (leaves : ℕ → Bool) (buf : List ℕ) (large : frozenSize (m .length) ≤ length buf)
       → Alike m bytes (saved leaves buf large .mask) (saved leaves buf large .bytes)
 
 -- ---- the statement
