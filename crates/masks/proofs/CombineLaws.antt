@@ -21,9 +21,12 @@ use Rattle.masks.specs.Combine.{shortcut, resultFlags, resultMask, resul
 use Rattle.masks.specs.Combine.{pairFlags, pairMask, pairOf, pairBytes, eachOf, eachBytes, selectChecks}
 use Rattle.masks.specs.Frozen.{packed, frozen, frozenSize, overFrom}
 use Rattle.masks.specs.Mask.{maskOf, maskFlags, maskChecks, uncounted, zeroCount}
-use Rattle.masks.specs.Workers.{hasShortcut, PairInLimit}
+use Rattle.masks.specs.Workers.{asksFor, eitherAll, xorAll}
 use Rattle.masks.specs.declared.bitmap.Bitmap.{Bitmap}
 use Rattle.masks.specs.declared.bitmap.Unset.{Unset}
+use Rattle.masks.specs.Utils.{zerosOfAll}
+use Rattle.masks.specs.declared.shortcuts.Asked.{Asked}
+use Rattle.masks.specs.declared.shortcuts.Asked.the-variants.{Nothing, Either, Both}
 use Rattle.masks.specs.declared.shortcuts.Shortcut.{Shortcut}
 use Rattle.masks.specs.declared.shortcuts.Shortcut.the-variants.{Each, All}
 use Rattle.masks.proofs.CheckLaws.{both-left, both-right, first-allowed, rest-allowed, is-given, is-refused, is-kept, is-new}
@@ -51,39 +54,72 @@ frozen-written out out′ l p q e =
 
 -- ---- shortcuts
 
-pub no-shortcut : (op : Op) (n l r : ℕ) → hasShortcut op ≡ false → Each ≡ shortcut op n l r
-unfolding shortcut
-no-shortcut And n l r e = absurd (let z : _≡_ {A = ℕ} 0 1 = cc e in omega arith)
-no-shortcut Or n l r e = absurd (let z : _≡_ {A = ℕ} 0 1 = cc e in omega arith)
-no-shortcut Xor n l r e = absurd (let z : _≡_ {A = ℕ} 0 1 = cc e in omega arith)
-no-shortcut AndNot n l r e = refl
-no-shortcut OrNot n l r e = refl
-no-shortcut Not n l r e = refl
-no-shortcut Select n l r e = refl
+pub either-first : (x l r : Bool) → l ≡ true → All x ≡ eitherAll x l r
+unfolding eitherAll
+either-first x l r e = rw e
 
-pub and-first : (n l r : ℕ) → l ≡ n → All false ≡ shortcut And n l r
-unfolding shortcut
-and-first n l r e = rw (eq-eqb l n e)
+pub either-second : (x l r : Bool) → l ≡ false → r ≡ true → All x ≡ eitherAll x l r
+unfolding eitherAll
+either-second x l r e f = rw (e, f)
 
-pub and-second : (n l r : ℕ) → (l ≡ n → ⊥) → r ≡ n → All false ≡ shortcut And n l r
-unfolding shortcut
-and-second n l r h e = rw (ne-eqb l n h, eq-eqb r n e)
+pub either-none : (x l r : Bool) → l ≡ false → r ≡ false → Each ≡ eitherAll x l r
+unfolding eitherAll
+either-none x l r e f = rw (e, f)
 
-pub and-none : (n l r : ℕ) → (l ≡ n → ⊥) → (r ≡ n → ⊥) → Each ≡ shortcut And n l r
-unfolding shortcut
-and-none n l r h k = rw (ne-eqb l n h, ne-eqb r n k)
+-- what was asked says which operation it is
+abbrev flagAsked : Asked → Bool
+flagAsked (Either x) = x
+flagAsked Both = false
+flagAsked Nothing = false
 
-pub or-first : (n l r : ℕ) → l ≡ 0 → All true ≡ shortcut Or n l r
-unfolding shortcut
-or-first n l r e = rw (eq-eqb l 0 e)
+abbrev askedAs : Asked → ℕ
+askedAs Nothing = 0
+askedAs (Either x) = 1
+askedAs Both = 2
 
-pub or-second : (n l r : ℕ) → (l ≡ 0 → ⊥) → r ≡ 0 → All true ≡ shortcut Or n l r
+pub nothing-asked : (op : Op) (n l r : ℕ) → asksFor op ≡ Nothing → Each ≡ shortcut op n l r
 unfolding shortcut
-or-second n l r h e = rw (ne-eqb l 0 h, eq-eqb r 0 e)
+nothing-asked And n l r e = absurd (let z : _≡_ {A = ℕ} 1 0 = ap askedAs e in omega arith)
+nothing-asked Or n l r e = absurd (let z : _≡_ {A = ℕ} 1 0 = ap askedAs e in omega arith)
+nothing-asked Xor n l r e = absurd (let z : _≡_ {A = ℕ} 2 0 = ap askedAs e in omega arith)
+nothing-asked AndNot n l r e = refl
+nothing-asked OrNot n l r e = refl
+nothing-asked Not n l r e = refl
+nothing-asked Select n l r e = refl
 
-pub or-none : (n l r : ℕ) → (l ≡ 0 → ⊥) → (r ≡ 0 → ⊥) → Each ≡ shortcut Or n l r
-unfolding shortcut
-or-none n l r h k = rw (ne-eqb l 0 h, ne-eqb r 0 k)
+pub both-asked : (op : Op) (n l r : ℕ) (s : Shortcut) → asksFor op ≡ Both → s ≡ shortcut Xor n l r → s ≡ shortcut op n l r
+both-asked And n l r s e p = absurd (let z : _≡_ {A = ℕ} 1 2 = ap askedAs e in omega arith)
+both-asked Or n l r s e p = absurd (let z : _≡_ {A = ℕ} 1 2 = ap askedAs e in omega arith)
+both-asked Xor n l r s e p = p
+both-asked AndNot n l r s e p = absurd (let z : _≡_ {A = ℕ} 0 2 = ap askedAs e in omega arith)
+both-asked OrNot n l r s e p = absurd (let z : _≡_ {A = ℕ} 0 2 = ap askedAs e in omega arith)
+both-asked Not n l r s e p = absurd (let z : _≡_ {A = ℕ} 0 2 = ap askedAs e in omega arith)
+both-asked Select n l r s e p = absurd (let z : _≡_ {A = ℕ} 0 2 = ap askedAs e in omega arith)
+
+pub either-asked : (op : Op) (x : Bool) (n m l r : ℕ) (s : Shortcut) → asksFor op ≡ Either x → n ≡ m
+    → s ≡ eitherAll x (eqb l (zerosOfAll x n)) (eqb r (zerosOfAll x m)) → s ≡ shortcut op n l r
+unfolding shortcut eitherAll
+either-asked And x n m l r s e h p =
+    p ∙ ap (λ (y : Bool). eitherAll y (eqb l (zerosOfAll y n)) (eqb r (zerosOfAll y m))) (sym (ap flagAsked e))
+    ∙ ap (λ (k : ℕ). eitherAll false (eqb l n) (eqb r k)) (sym h)
+either-asked Or x n m l r s e h p = p ∙ ap (λ (y : Bool). eitherAll y (eqb l (zerosOfAll y n)) (eqb r (zerosOfAll y m))) (sym (ap flagAsked e))
+either-asked Xor x n m l r s e h p = absurd (let z : _≡_ {A = ℕ} 2 1 = ap askedAs e in omega arith)
+either-asked AndNot x n m l r s e h p = absurd (let z : _≡_ {A = ℕ} 0 1 = ap askedAs e in omega arith)
+either-asked OrNot x n m l r s e h p = absurd (let z : _≡_ {A = ℕ} 0 1 = ap askedAs e in omega arith)
+either-asked Not x n m l r s e h p = absurd (let z : _≡_ {A = ℕ} 0 1 = ap askedAs e in omega arith)
+either-asked Select x n m l r s e h p = absurd (let z : _≡_ {A = ℕ} 0 1 = ap askedAs e in omega arith)
+
+pub xor-same : (a b : Bool) → a ≡ true → All false ≡ xorAll a b
+unfolding xorAll
+xor-same a b e = rw e
+
+pub xor-opposite : (a b : Bool) → a ≡ false → b ≡ true → All true ≡ xorAll a b
+unfolding xorAll
+xor-opposite a b e f = rw (e, f)
+
+pub xor-mixed : (a b : Bool) → a ≡ false → b ≡ false → Each ≡ xorAll a b
+unfolding xorAll
+xor-mixed a b e f = rw (e, f)
 
 -- `xor` by its four tests
 pub xor-by : (n l r : ℕ) (a b c d : Bool) (s : Shortcut) → eqb l n ≡ a → eqb r n ≡ b → eqb l 0 ≡ c → eqb r 0 ≡ d
@@ -91,19 +127,40 @@ pub xor-by : (n l r : ℕ) (a b c d : Bool) (s : Shortcut) → eqb l n ≡ a →
 unfolding shortcut
 xor-by n l r a b c d s p q u v e = rw (p, q, u, v) e
 
-pub xor-each : (c : Bool) → Each ≡ cond ((true && false) || (c && false)) (All false) (cond ((c && false) || (true && false)) (All true) Each)
-xor-each true = refl
-xor-each false = refl
+-- with a first mask that is all zero, and with one that is all one
+pub xor-clear : (n m l r : ℕ) (s : Shortcut) → n ≡ m → eqb l n ≡ true → s ≡ xorAll (eqb r m) (eqb r 0) → s ≡ shortcut Xor n l r
+unfolding xorAll
+xor-clear n m l r s same e p = go (eqb r n) (eqb r 0) (eqb l 0) refl refl refl
+  where
+    both : (b d : Bool) → eqb r n ≡ b → eqb r 0 ≡ d → s ≡ xorAll b d
+    both b d u v = p ∙ ap₂ xorAll (ap (eqb r) (sym same) ∙ u) v
+
+    go : (b d c : Bool) → eqb r n ≡ b → eqb r 0 ≡ d → eqb l 0 ≡ c → s ≡ shortcut Xor n l r
+    go true d c u v w = xor-by n l r true true c d s e u w v (both true d u v)
+    go false true true u v w =
+        absurd (eqb-false r n u (eqb-true r 0 v ∙ sym (eqb-true l 0 w) ∙ eqb-true l n e))
+    go false true false u v w = xor-by n l r true false false true s e u w v (both false true u v)
+    go false false true u v w = xor-by n l r true false true false s e u w v (both false false u v)
+    go false false false u v w = xor-by n l r true false false false s e u w v (both false false u v)
+
+pub xor-full : (n m l r : ℕ) (s : Shortcut) → n ≡ m → eqb l n ≡ false → eqb l 0 ≡ true → s ≡ xorAll (eqb r 0) (eqb r m) → s ≡ shortcut Xor n l r
+unfolding xorAll
+xor-full n m l r s same e f p = go (eqb r n) (eqb r 0) refl refl
+  where
+    both : (b d : Bool) → eqb r n ≡ b → eqb r 0 ≡ d → s ≡ xorAll d b
+    both b d u v = p ∙ ap₂ xorAll v (ap (eqb r) (sym same) ∙ u)
+
+    go : (b d : Bool) → eqb r n ≡ b → eqb r 0 ≡ d → s ≡ shortcut Xor n l r
+    go true true u v = xor-by n l r false true true true s e u f v (both true true u v)
+    go true false u v = xor-by n l r false true true false s e u f v (both true false u v)
+    go false true u v = xor-by n l r false false true true s e u f v (both false true u v)
+    go false false u v = xor-by n l r false false true false s e u f v (both false false u v)
+
+-- with one that is neither
+pub xor-other : (n l r : ℕ) → eqb l n ≡ false → eqb l 0 ≡ false → Each ≡ shortcut Xor n l r
+xor-other n l r e f = xor-by n l r false (eqb r n) false (eqb r 0) Each e refl f refl refl
 
 -- ---- the answer of two masks combined
-
-pub pair-in-limit : (a : Bitmap) (aBytes : List ℕ) (b : Bitmap) (bBytes : List ℕ) (size : ℕ) → firstFailed (pairChecks a aBytes b bBytes size) ≡ 0 → PairInLimit a b
-unfolding pairChecks
-pair-in-limit a aBytes b bBytes size e =
-    let rest : List Check = check 5 (eqb (a .length) (b .length)) ∷ outputChecks (a .length) size in
-    let one = mask-allowed a aBytes (both-left (maskChecks a aBytes) (maskChecks b bBytes ++ rest) e) in
-    let two = mask-allowed b bBytes (both-left (maskChecks b bBytes) rest (both-right (maskChecks a aBytes) (maskChecks b bBytes ++ rest) e)) in
-    record { startA = one .starts; lengthA = one .short; startB = two .starts; lengthB = two .short }
 
 pub pair-lengths : (a : Bitmap) (aBytes : List ℕ) (b : Bitmap) (bBytes : List ℕ) (size : ℕ) → firstFailed (pairChecks a aBytes b bBytes size) ≡ 0
     → a .length ≡ b .length

@@ -3,9 +3,9 @@
 use mathlib.Core.Path.{_≡_}
 use mathlib.Core.Logic.{_⊎_}
 use Prim.Native.Nat.{ℕ, _+_, _-_, _*_, _/_, _%_, _≤_, _<_}
-use mathlib.Core.Bool.{Bool, true, false, cond, _&&_}
+use mathlib.Core.Bool.{Bool, true, false, cond, _&&_, _||_}
 use mathlib.Core.List.{List, _++_}
-use lib.Dec.{leb}
+use lib.Dec.{eqb, leb}
 use lib.ListN.{take}
 use Rattle.words.specs.Flags.{bits, count, wordFlags}
 use Rattle.words.specs.Loops.{stretch}
@@ -16,9 +16,10 @@ use Rattle.masks.specs.Bitmask.{windowWord}
 use Rattle.masks.specs.Builder.{noneFrom}
 use Rattle.masks.specs.Checks.{limit}
 use Rattle.masks.specs.Iterator.{leadingFrom}
-use Rattle.masks.specs.Mask.{recountValid, slicedCount}
+use Rattle.masks.specs.Mask.{recountValid, slicedCount, zeroCount}
 use Rattle.masks.specs.Search.{nthFrom, nthBack}
 use Rattle.masks.specs.SliceIterator.{runOf, runStart}
+use Rattle.masks.specs.Utils.{zerosOfAll}
 use Rattle.masks.specs.declared.aligned.AlignedBitmapSlice.{AlignedBitmapSlice}
 use Rattle.masks.specs.declared.bitmap.Bitmap.{Bitmap}
 use Rattle.masks.specs.declared.bitmap.Cut.{Cut}
@@ -29,6 +30,10 @@ use Rattle.masks.specs.declared.bitmap.Unset.the-variants.{Known}
 use Rattle.masks.specs.declared.bitmask.Seen.{Seen}
 use Rattle.masks.specs.declared.bitmask.Seen.the-variants.{There, Only}
 use Rattle.masks.specs.declared.builder.BitmapBuilder.{BitmapBuilder}
+use Rattle.masks.specs.declared.shortcuts.Asked.{Asked}
+use Rattle.masks.specs.declared.shortcuts.Asked.the-variants.{Nothing, Either, Both}
+use Rattle.masks.specs.declared.shortcuts.Shortcut.{Shortcut}
+use Rattle.masks.specs.declared.shortcuts.Shortcut.the-variants.{Each, All}
 use Rattle.masks.specs.declared.slice_iterator.Run.{Run}
 
 -- ---- `utils`: counts over the parts of an aligned split
@@ -71,22 +76,27 @@ cutOf old n cut u = cond (recountValid old n cut u) (Cut.Count (slicedCount old 
 
 -- ---- `shortcuts`
 
--- an operation that has a shortcut
-abbrev pub hasShortcut : Op → Bool
-hasShortcut And = true
-hasShortcut Or = true
-hasShortcut Xor = true
-hasShortcut AndNot = false
-hasShortcut OrNot = false
-hasShortcut Not = false
-hasShortcut Select = false
+-- what an operation asks of its masks for a shortcut: whether either is all zero, all one, or whether both are constant
+abbrev pub asksFor : Op → Asked
+asksFor And = Either false
+asksFor Or = Either true
+asksFor Xor = Both
+asksFor AndNot = Nothing
+asksFor OrNot = Nothing
+asksFor Not = Nothing
+asksFor Select = Nothing
 
--- two masks within the limit
-pub record PairInLimit (a b : Bitmap) : Type 0 where
-  pub startA : a .start ≤ limit
-  pub lengthA : a .length ≤ limit
-  pub startB : b .start ≤ limit
-  pub lengthB : b .length ≤ limit
+-- a mask is all x, by its count
+abbrev pub isAll : Bool → Bitmap → List ℕ → Bool
+isAll x m bytes = eqb (zeroCount m bytes) (zerosOfAll x (m .length))
+
+-- the shortcut of `and`, x 0, and of `or`, x 1: whether each mask is all x
+unfoldable pub eitherAll : Bool → Bool → Bool → Shortcut
+eitherAll x l r = cond (l || r) (All x) Each
+
+-- the shortcut of `xor` with a constant mask: whether the other is all the same, all the opposite
+unfoldable pub xorAll : Bool → Bool → Shortcut
+xorAll same opposite = cond same (All false) (cond opposite (All true) Each)
 
 -- ---- `at_index`
 

@@ -1,12 +1,14 @@
-// What the zero counts of two masks say of their combination, before any flag of them is read.
+// What the zero counts of two masks say of their combination. A count that is unknown is not made for it: whether a mask is constant is
+// mostly decided by its first word.
 ghost use mathlib.Core.Path.{_≡_};
+ghost use mathlib.Core.Bool.{not};
 ghost use Rattle.words.specs.declared.ops.Op.the-variants.{Xor};
-ghost use Rattle.masks.specs.Combine.{pairShortcut, resultCount, shortcut};
-ghost use Rattle.masks.specs.Workers.{PairInLimit, hasShortcut};
+ghost use Rattle.masks.specs.Combine.{pairShortcut, resultCount};
+ghost use Rattle.masks.specs.Workers.{asksFor, eitherAll, isAll, xorAll};
 use crate::bitmap::Bitmap;
 use crate::bitmap::Unset;
 use crate::bitmap::not_counted;
-use crate::bitmap::zero_count;
+use crate::utils::all_flags;
 use words::ops::Op;
 
 // What the counts say of a result: nothing, or that all its flags are the same.
@@ -15,89 +17,95 @@ pub(crate) enum Shortcut {
     All(bool),
 }
 
-// What the counts l and r of two masks of n flags say.
-fn by_counts(op: Op, n: usize, l: usize, r: usize) -> Shortcut
-    ensures { λ s. ⌜ s ≡ shortcut op n l r ⌝ }
+// What an operation asks of its masks for a shortcut: nothing, whether either is all of a flag, or whether both are constant.
+enum Asked {
+    Nothing,
+    Either(bool),
+    Both,
+}
+
+// The zeros of n flags that are all `flag`.
+fn zeros_of_all(flag: bool, n: usize) -> usize
+    ensures { λ r. ⌜ r ≡ zerosOfAll flag n ⌝ }
 {
-    match op {
-        Op::And => {
-            if l == n {
-                return Shortcut::All(false);
-            }
-            if r == n {
-                return Shortcut::All(false);
-            }
-            Shortcut::Each
-        }
-        Op::Or => {
-            if l == 0 {
-                return Shortcut::All(true);
-            }
-            if r == 0 {
-                return Shortcut::All(true);
-            }
-            Shortcut::Each
-        }
-        Op::Xor => xor_shortcut(n, l, r),
-        Op::AndNot => Shortcut::Each,
-        Op::OrNot => Shortcut::Each,
-        Op::Not => Shortcut::Each,
-        Op::Select => Shortcut::Each,
+    if flag { 0 } else { n }
+}
+
+// Is a mask all `flag` by its count. A known count says so; an unknown one is not counted: the first word with another flag says no.
+fn is_all(flag: bool, mask: Bitmap, bytes: &[u8]) -> bool
+    ensures { λ r. ⌜ r ≡ isAll flag mask (now (bytes .entry)) ⌝ }
+{
+    let unset = mask.unset;
+    match unset {
+        Unset::Known(zeros) => zeros == zeros_of_all(flag, mask.length),
+        Unset::Unknown => all_flags(flag, bytes, mask.start, mask.length),
     }
 }
 
-fn xor_shortcut(n: usize, l: usize, r: usize) -> Shortcut
-    ensures { λ s. ⌜ s ≡ shortcut Xor n l r ⌝ }
+// The shortcut of `and` and `or`: the result is all `flag` if either mask is.
+fn either_all(flag: bool, lhs: Bitmap, left: &[u8], rhs: Bitmap, right: &[u8]) -> Shortcut
+    ensures { λ s. ⌜ s ≡ eitherAll flag (isAll flag lhs (now (left .entry))) (isAll flag rhs (now (right .entry))) ⌝ }
 {
-    if l == n {
-        if r == n {
-            return Shortcut::All(false);
-        }
-        if r == 0 {
-            return Shortcut::All(true);
-        }
-        return Shortcut::Each;
+    if is_all(flag, lhs, left) {
+        return Shortcut::All(flag);
     }
-    if l == 0 {
-        if r == 0 {
-            return Shortcut::All(false);
-        }
-        if r == n {
-            return Shortcut::All(true);
-        }
-        return Shortcut::Each;
+    if is_all(flag, rhs, right) {
+        return Shortcut::All(flag);
     }
     Shortcut::Each
 }
 
-// What the counts of two masks say; they are counted only for an operation that has a shortcut.
-pub(crate) fn pair_shortcut(op: Op, lhs: Bitmap, left: &[u8], rhs: Bitmap, right: &[u8]) -> Shortcut
-    requires { ⌜ PairInLimit lhs rhs ⌝ }
-    ensures { λ s. ⌜ s ≡ pairShortcut op lhs (now (left .entry)) rhs (now (right .entry)) ⌝ }
+// The shortcut of `xor` with a mask that is all `flag`.
+fn xor_all(flag: bool, mask: Bitmap, bytes: &[u8]) -> Shortcut
+    ensures { λ s. ⌜ s ≡ xorAll (isAll flag mask (now (bytes .entry))) (isAll (not flag) mask (now (bytes .entry))) ⌝ }
 {
-    if has_shortcut(op) {
-        by_counts(
-            op,
-            lhs.length,
-            zero_count(lhs, left),
-            zero_count(rhs, right),
-        )
-    } else {
-        Shortcut::Each
+    if is_all(flag, mask, bytes) {
+        return Shortcut::All(false);
+    }
+    if is_all(!flag, mask, bytes) {
+        return Shortcut::All(true);
+    }
+    Shortcut::Each
+}
+
+// The shortcut of `xor`: both masks are constant.
+fn xor_shortcut(lhs: Bitmap, left: &[u8], rhs: Bitmap, right: &[u8]) -> Shortcut
+    requires { ⌜ lhs .length ≡ rhs .length ⌝ }
+    ensures { λ s. ⌜ s ≡ pairShortcut Xor lhs (now (left .entry)) rhs (now (right .entry)) ⌝ }
+{
+    if is_all(false, lhs, left) {
+        return xor_all(false, rhs, right);
+    }
+    if is_all(true, lhs, left) {
+        return xor_all(true, rhs, right);
+    }
+    Shortcut::Each
+}
+
+fn asks(op: Op) -> Asked
+    ensures { λ r. ⌜ r ≡ asksFor op ⌝ }
+{
+    match op {
+        Op::And => Asked::Either(false),
+        Op::Or => Asked::Either(true),
+        Op::Xor => Asked::Both,
+        Op::AndNot => Asked::Nothing,
+        Op::OrNot => Asked::Nothing,
+        Op::Not => Asked::Nothing,
+        Op::Select => Asked::Nothing,
     }
 }
 
-fn has_shortcut(op: Op) -> bool
-    ensures { λ r. ⌜ r ≡ hasShortcut op ⌝ }
+// What the counts of two masks say. One place asks for `and` and `or`, so that the questions are compiled into it.
+pub(crate) fn pair_shortcut(op: Op, lhs: Bitmap, left: &[u8], rhs: Bitmap, right: &[u8]) -> Shortcut
+    requires { ⌜ lhs .length ≡ rhs .length ⌝ }
+    ensures { λ s. ⌜ s ≡ pairShortcut op lhs (now (left .entry)) rhs (now (right .entry)) ⌝ }
 {
-    match op {
-        Op::And => true,
-        Op::Or => true,
-        Op::Xor => true,
-        Op::AndNot => false,
-        Op::OrNot => false,
-        Op::Not => false,
-        Op::Select => false,
+    let asked = asks(op);
+    match asked {
+        Asked::Nothing => Shortcut::Each,
+        Asked::Either(flag) => either_all(flag, lhs, left, rhs, right),
+        Asked::Both => xor_shortcut(lhs, left, rhs, right),
     }
 }
 

@@ -97,6 +97,10 @@ all-low x k w u r t p q e =
     ∙ ap (λ (l : List Bool). anySet (take k l)) p ∙ ap anySet (take-map (xor x) k (bits 64 w)))
     ∙ all-any x (take k (bits 64 w))
 
+-- where a test says no, nothing is owed
+pub unsaid : {A : Type 0} → false ≡ true → A
+unsaid e = absurd (let z : _≡_ {A = ℕ} 0 1 = cc e in omega arith)
+
 -- ---- windows
 
 all-cut : (x : Bool) (l : List Bool) (k n a b : ℕ) → n ≡ a + b → allAre x (window l k n) ≡ (allAre x (window l k a) && allAre x (window l (k + a) b))

@@ -1,9 +1,9 @@
 // Whether all flags of a stretch are one flag. The first word with another flag ends the search, so that a stretch of mixed flags is
 // mostly decided by one load.
 ghost use mathlib.Core.Path.{_≡_};
-ghost use mathlib.Core.Bool.{xor};
+ghost use mathlib.Core.Bool.{true, false, xor};
 ghost use mathlib.Core.List.{map};
-ghost use Prim.Native.Nat.{_*_, _-_, _%_, _≤_};
+ghost use Prim.Native.Nat.{_*_, _-_, _≤_};
 ghost use lib.ListN.{length, take};
 ghost use Rattle.words.specs.Flags.{flagsOf, window, wordFlags};
 ghost use Rattle.words.specs.Loops.{stretch};
@@ -74,19 +74,21 @@ fn counted_are(flag: bool, bytes: &[u8], start: usize, len: usize) -> bool
     if flag { ones == len } else { ones == 0 }
 }
 
-// The same of a stretch that is longer than the flags of its first eight bytes: these, whole words, and the rest. One that reaches past
-// the bytes is counted.
-fn long_are(flag: bool, bytes: &[u8], start: usize, len: usize) -> bool
-    requires { ⌜ 64 - start % 8 ≤ len ⌝ }
+// The same: the flags of the first eight bytes, whole words, and the rest. A stretch that reaches past the bytes is counted.
+fn parts_are(flag: bool, bytes: &[u8], start: usize, len: usize) -> bool
     ensures { λ r. ⌜ r ≡ allAre flag (stretch (now (bytes .entry)) start len) ⌝ }
 {
+    let w = down(byte_word(bytes, start / 8), start % 8);
     let k = 64 - start % 8;
+    if len <= k {
+        return low_are(flag, w, len);
+    }
     let n = (len - k) / 64;
     let q = start / 8 + 8;
     if room(bytes.len(), q) < n {
         return counted_are(flag, bytes, start, len);
     }
-    if !low_are(flag, down(byte_word(bytes, start / 8), start % 8), k) {
+    if !low_are(flag, w, k) {
         return false;
     }
     if !words_are(flag, bytes, q, n) {
@@ -95,18 +97,24 @@ fn long_are(flag: bool, bytes: &[u8], start: usize, len: usize) -> bool
     low_are(flag, byte_word(bytes, q + 8 * n), (len - k) % 64)
 }
 
-// Are all flags of a stretch `flag`. Its first eight bytes decide it where they have another flag or all of the stretch; the rest is
-// outside this body and gets a slice of its own, so that the slice given here stays in registers.
+// Is another flag than `flag` among those of the first eight bytes. Where there are fewer bytes, nothing is said.
+fn differs_early(flag: bool, bytes: &[u8], start: usize, len: usize) -> bool
+    ensures { λ r. ⌜ (r ≡ true → allAre flag (stretch (now (bytes .entry)) start len) ≡ false) ⌝ }
+{
+    if room(bytes.len(), start / 8) == 0 {
+        return false;
+    }
+    let w = down(full_word(bytes, start / 8), start % 8);
+    !low_are(flag, w, least(len, 64 - start % 8))
+}
+
+// Are all flags of a stretch `flag`. The first load is in this body, and mixed flags end there. What comes after it is not, and gets a
+// slice of its own, so that the slice given here stays in registers.
 pub fn all_are(flag: bool, bytes: &[u8], start: usize, len: usize) -> bool
     ensures { λ r. ⌜ r ≡ allAre flag (stretch (now (bytes .entry)) start len) ⌝ }
 {
-    let w = down(byte_word(bytes, start / 8), start % 8);
-    let k = 64 - start % 8;
-    if len <= k {
-        return low_are(flag, w, len);
+    if differs_early(flag, bytes, start, len) {
+        return false;
     }
-    if low_are(flag, w, k) {
-        return long_are(flag, &bytes[0..], start, len);
-    }
-    false
+    parts_are(flag, &bytes[0..], start, len)
 }

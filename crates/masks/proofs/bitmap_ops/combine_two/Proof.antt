@@ -1,6 +1,6 @@
 -- The number of the checks decides; where all have passed, count and bytes follow from the shortcut (`pair-given`, `pair-written`).
 use mathlib.Core.Path.{sym, _∙_}
-use Rattle.masks.proofs.CombineLaws.{pair-in-limit, pair-refused, pair-given, pair-written}
+use Rattle.masks.proofs.CombineLaws.{pair-lengths, pair-refused, pair-given, pair-written}
 use borrow.Author.Needs.{needs}
 use Rattle.masks.proofs.bitmap_ops.combine_two.Statement.{statement}
 use Rattle.masks.proofs.bitmap_ops.combine_two.Tie as tie
@@ -12,7 +12,7 @@ returns : tie.Need-returns
 returns c = pair-refused _ _ _ _ _ _ _ (c .before .pair-failure .ensures) (c .if1 .taken)
 
 pair-shortcut-requires : tie.Need-pair-shortcut-requires
-pair-shortcut-requires c κs = pair-in-limit _ _ _ _ _ (sym (c .before .pair-failure .ensures) ∙ c .if1 .left)
+pair-shortcut-requires c κs = pair-lengths _ _ _ _ _ (sym (c .before .pair-failure .ensures) ∙ c .if1 .left)
 
 write-result-requires : tie.Need-write-result-requires
 write-result-requires c κs = search needs

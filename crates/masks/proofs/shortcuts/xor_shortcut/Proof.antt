@@ -1,41 +1,47 @@
--- Each path through the tests decides enough of the four comparisons that `xor-by` takes.
-use lib.Dec.{eqb}
-use mathlib.Core.Path.{refl, sym, _∙_}
-use Rattle.masks.proofs.CombineLaws.{xor-by, xor-each}
-use mathlib.Core.Bool.{true, false}
-use borrow.Author.Tests.{eq-eqb, ne-eqb}
+-- The first mask is all zero (`xor-clear`), all one (`xor-full`), or neither (`xor-other`).
+use mathlib.Core.Path.{sym, _∙_}
+use Rattle.masks.proofs.CombineLaws.{xor-clear, xor-full, xor-other}
+use borrow.Author.Needs.{needs}
 use Rattle.masks.proofs.shortcuts.xor_shortcut.Statement.{statement}
 use Rattle.masks.proofs.shortcuts.xor_shortcut.Tie as tie
 
+is-all-requires : tie.Need-is-all-requires
+is-all-requires c κs = search needs
+
+xor-all-requires : tie.Need-xor-all-requires
+xor-all-requires c κs = search needs
+
 returns : tie.Need-returns
-returns c = xor-by _ _ _ true true _ _ _ (eq-eqb _ _ (c .before .if1 .taken)) (eq-eqb _ _ (c .if2 .taken)) refl refl refl
+returns c =
+    let first = c .before in
+    xor-clear _ _ _ _ _ (first .before .before .before .before .pre) (sym (first .before .is-all .ensures) ∙ first .if1 .taken) (c .xor-all .ensures)
+
+is-all-requires-2 : tie.Need-is-all-requires-2
+is-all-requires-2 c κs = search needs
+
+xor-all-requires-2 : tie.Need-xor-all-requires-2
+xor-all-requires-2 c κs = search needs
 
 returns-2 : tie.Need-returns-2
 returns-2 c =
-    xor-by _ _ _ true false false true _ (eq-eqb _ _ (c .before .before .if1 .taken)) (ne-eqb _ _ (c .before .if2 .left))
-    (ne-eqb _ _ (λ e. c .before .if2 .left (c .if3 .taken ∙ sym e ∙ c .before .before .if1 .taken))) (eq-eqb _ _ (c .if3 .taken)) refl
+    let second = c .before in
+    let first = second .before .before in
+    xor-full _ _ _ _ _ (first .before .before .before .before .pre) (sym (first .before .is-all .ensures) ∙ first .if1 .left)
+    (sym (second .before .is-all2 .ensures) ∙ second .if2 .taken) (c .xor-all2 .ensures)
 
 returns-3 : tie.Need-returns-3
 returns-3 c =
-    xor-by _ _ _ true false _ false _ (eq-eqb _ _ (c .before .before .if1 .taken)) (ne-eqb _ _ (c .before .if2 .left)) refl
-    (ne-eqb _ _ (c .if3 .left)) (xor-each (eqb (c .before .before .before .args .l) 0))
-
-returns-4 : tie.Need-returns-4
-returns-4 c = xor-by _ _ _ false _ true true _ (ne-eqb _ _ (c .before .before .if1 .left)) refl (eq-eqb _ _ (c .before .if4 .taken)) (eq-eqb _ _ (c .if5 .taken)) refl
-
-returns-5 : tie.Need-returns-5
-returns-5 c =
-    xor-by _ _ _ false true true false _ (ne-eqb _ _ (c .before .before .before .if1 .left))
-    (eq-eqb _ _ (c .if6 .taken)) (eq-eqb _ _ (c .before .before .if4 .taken)) (ne-eqb _ _ (c .before .if5 .left)) refl
-
-returns-6 : tie.Need-returns-6
-returns-6 c =
-    xor-by _ _ _ false false true false _ (ne-eqb _ _ (c .before .before .before .if1 .left))
-    (ne-eqb _ _ (c .if6 .left)) (eq-eqb _ _ (c .before .before .if4 .taken)) (ne-eqb _ _ (c .before .if5 .left)) refl
-
-returns-7 : tie.Need-returns-7
-returns-7 c = xor-by _ _ _ false _ false _ _ (ne-eqb _ _ (c .before .if1 .left)) refl (ne-eqb _ _ (c .if4 .left)) refl refl
+    let first = c .before .before in
+    xor-other _ _ _ (sym (first .before .is-all .ensures) ∙ first .if1 .left) (sym (c .before .is-all2 .ensures) ∙ c .if2 .left)
 
 pub xor-shortcut-spec : {M : Type 1} → statement M
 xor-shortcut-spec =
-    tie.close (tie.spec returns returns-2 returns-3 returns-4 returns-5 returns-6 returns-7)
+    tie.close
+    (tie.spec
+    is-all-requires
+    xor-all-requires
+    returns
+    is-all-requires-2
+    xor-all-requires-2
+    returns-2
+    returns-3)
