@@ -91,7 +91,7 @@ pub record WrongMasks : Type 0 where
       (given (maskOf 4 4 (Known 4)))
       -- the count dropped
       (given (maskOf 4 4 Unknown))
-  -- `Bitmap::slice` to the last 4 of 8 flags, with a false count of 7
+  -- `Bitmap::slice` to the last 4 of 8 flags, four of them zeros, with a false count of 7
   pub slice-refused : Tried (sliceOf (maskOf 0 8 (Known 7)) two 4 4)
       (refused 3 (maskOf 0 8 (Known 7)))
       -- found false only where it is cut
@@ -105,6 +105,19 @@ pub record WrongMasks : Type 0 where
       (given (recounted (Known 6) 6))
       -- the count corrected
       (given (recounted (Known 7) 7))
+  -- `Bitmap::unset_bits` of four ones, said to be zeros, and of four zeros, said to be ones
+  pub unset-bits-all : Tried (unsetBitsOf (maskOf 0 4 (Known 4)) onesBytes)
+      (refused 3 (maskOf 0 4 (Known 4)))
+      -- a count of all believed
+      (given (record { mask = maskOf 0 4 (Known 4); zeros = 4 }))
+      -- the mask given back corrected
+      (refused 3 (maskOf 0 4 (Known 0)))
+  pub unset-bits-none : Tried (unsetBitsOf (maskOf 0 4 (Known 0)) (0xF0 ∷ []))
+      (refused 3 (maskOf 0 4 (Known 0)))
+      -- a count of 0 believed
+      (given (record { mask = maskOf 0 4 (Known 0); zeros = 0 }))
+      -- the mask given back uncounted
+      (refused 3 (maskOf 0 4 Unknown))
   -- `Bitmap::unset_bits` of 9 flags from the flag 3 on
   pub unset-bits : Tried (unsetBitsOf (maskOf 3 9 Unknown) two)
       (given (recounted (Known 7) 7))
@@ -119,8 +132,8 @@ pub record WrongMasks : Type 0 where
       (four Unknown (first 0x31))
       -- the right mask's start ignored
       (four Unknown (first 0x00))
-  -- `and` of 4 flags and of 3 with a count of 4, with no byte to write to
-  pub and-refused : Tried (pairedIn And left leftBytes (maskOf 2 3 (Known 4)) rightBytes [])
+  -- `and` of 4 flags and of 3 with a false count of 3, with no byte to write to
+  pub and-refused : Tried (pairedIn And left leftBytes (maskOf 2 3 (Known 3)) rightBytes [])
       (refused 3 tt, [])
       -- the lengths compared first
       (refused 5 tt, [])
@@ -133,6 +146,13 @@ pub record WrongMasks : Type 0 where
       (refused 3 tt, lent 8)
       -- the count believed
       (four Unknown (first 0x00))
+  -- `and` where the second mask's count is one too many
+  pub and-stale : Tried (pairedIn And (maskOf 0 4 (Known 2)) leftBytes (maskOf 2 4 (Known 3)) rightBytes (lent 8))
+      (refused 3 tt, lent 8)
+      -- the first mask's count checked alone
+      (four Unknown (first 0x01))
+      -- refused, and written
+      (refused 3 tt, first 0x01)
   -- `and_not`
   pub and-not : Tried (paired AndNot left leftBytes right rightBytes)
       (four Unknown (first 0x02))
@@ -247,10 +267,10 @@ pub record WrongMasks : Type 0 where
       0
       -- the number of a length over the limit
       1
-  -- `mask_failure` of 8 flags in one byte with a count of 9
-  pub mask-failure : Tried (firstFailed (maskChecks (maskOf 0 8 (Known 9)) (0x2D ∷ [])))
+  -- `mask_failure` of 8 flags, four of them zeros, with a count of 3
+  pub mask-failure : Tried (firstFailed (maskChecks (maskOf 0 8 (Known 3)) (0x2D ∷ [])))
       3
-      -- the count not looked at
+      -- the count not looked at, or held to the length
       0
       -- the count taken for a length
       2
