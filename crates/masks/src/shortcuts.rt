@@ -4,6 +4,7 @@ ghost use mathlib.Core.Path.{_≡_};
 ghost use mathlib.Core.Bool.{not};
 ghost use Rattle.words.specs.declared.ops.Op.the-variants.{Xor};
 ghost use Rattle.masks.specs.Combine.{pairShortcut, resultCount};
+ghost use Rattle.masks.specs.Utils.{zerosOfAll};
 ghost use Rattle.masks.specs.Workers.{asksFor, eitherAll, isAll, xorAll};
 use crate::bitmap::Bitmap;
 use crate::bitmap::Unset;
