@@ -176,12 +176,6 @@ pub zeros-none : (bytes : List ℕ) (start n : ℕ) → n ≡ 0 → zeros (windo
 unfolding zeros
 zeros-none bytes start n e = omega (arith, count-not (window (flagsOf bytes) start n), length-window (flagsOf bytes) start n)
 
-pub no-leading : (x : Bool) (bytes : List ℕ) (start n : ℕ) → n ≡ 0 → leading x (window (flagsOf bytes) start n) ≡ 0
-no-leading x bytes start n e = omega (arith, leading-le x (window (flagsOf bytes) start n), length-window (flagsOf bytes) start n)
-
-pub no-trailing : (x : Bool) (bytes : List ℕ) (start n : ℕ) → n ≡ 0 → trailing x (window (flagsOf bytes) start n) ≡ 0
-no-trailing x bytes start n e = omega (arith, trailing-le x (window (flagsOf bytes) start n), length-window (flagsOf bytes) start n)
-
 -- at most a word of flags is alike in a word
 pub front-most : (x : Bool) (k w r : ℕ) → r ≡ leading x (take k (bits 64 w)) → r ≤ 64
 front-most x k w r e = omega (arith, leading-le x (take k (bits 64 w)), length-take k (bits 64 w), length-bits 64 w)

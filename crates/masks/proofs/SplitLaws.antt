@@ -1,5 +1,5 @@
 -- The aligned split: its parts are in bounds, and in a row they are the span's flags. Assumes nothing.
-use mathlib.Core.Path.{_≡_, refl, sym, ap, ap₂, _∙_, subst}
+use mathlib.Core.Path.{_≡_, refl, sym, ap, ap₂, _∙_}
 use mathlib.Core.Bool.{Bool, true, false, cond}
 use mathlib.Core.List.{List, [], _∷_, _++_}
 use Prim.Native.Nat.{ℕ, zero, suc, _+_, _-_, _*_, _/_, _%_, _^_, _≤_, _<_}
@@ -13,13 +13,11 @@ use mathlib.Core.Logic.{_⊎_, inl, inr, ⊎-elim}
 use borrow.Author.Tests.{leb-true, leb-false}
 use Rattle.words.proofs.Windows.{length-window, window-add, window-cut, window-all, bits-window, in-window}
 use Rattle.masks.specs.Aligned.{bytesToAligned, bulkOffset, short, prefixLength, bulkStart, bulkLength, suffixLength}
-use Rattle.masks.specs.Aligned.{alignedSplit, emptySplit, alignedOf, alignedChecks}
+use Rattle.masks.specs.Aligned.{alignedSplit, alignedChecks}
 use Rattle.masks.specs.declared.aligned.AlignedBitmapSlice.{AlignedBitmapSlice}
-use Rattle.masks.specs.Answer.{Answer, given, refused, decided, unlessEmpty}
 use Rattle.masks.specs.Checks.{firstFailed, limit, spanChecks, addressChecks}
-use Rattle.masks.specs.Utils.{spanCount}
 use Rattle.masks.specs.Workers.{splitFlags, Bounded}
-use Rattle.masks.proofs.CheckLaws.{by-test, when-le, when-gt, both-left, both-right, is-given, span-allowed, SpanAllowed, address-allowed}
+use Rattle.masks.proofs.CheckLaws.{by-test, when-le, when-gt, both-left, both-right, span-allowed, SpanAllowed, address-allowed}
 
 -- the first whole word is not before the span's first flag, and at most a word further
 pub record Offset (start offset : ℕ) : Type 0 where
@@ -97,21 +95,7 @@ split-flags bytes start n address =
     (word-flags (flagsOf bytes) (start + n - suffixLength start n address) (suffixLength start n address) low)
     ∙ three-parts (flagsOf bytes) start n (prefixLength start n address) (bulkStart start n address) h
 
--- ---- what a caller of `AlignedBitmapSlice::new` learns
-
-given-only : {S A : Type 0} (f : ℕ) (s : S) (a b : A) → given a ≡ decided f s b → (f ≡ 0) × (a ≡ b)
-unfolding decided
-given-only zero s a b e = (refl, cc)
-given-only (suc f) s a b e = absurd (let z : _≡_ {A = ℕ} 0 1 = cc in omega arith)
-
--- a split that was given: within bounds, and its flags are the span's
-pub record SplitKnown (bytes : List ℕ) (start n : ℕ) (s : AlignedBitmapSlice) : Type 0 where
-  pub bounded : Bounded s
-  pub flags : splitFlags bytes s ≡ stretch bytes start n
-
-no-flags : (bytes : List ℕ) (start : ℕ) → splitFlags bytes emptySplit ≡ stretch bytes start 0
-unfolding splitFlags window
-no-flags bytes start = refl
+-- ---- what a count over a split asks
 
 pub split-bounded : (bytes : List ℕ) (start n address : ℕ) → start ≤ 2 * limit → n ≤ limit → Bounded (alignedSplit bytes start n address)
 split-bounded bytes start n address hs hn =
@@ -119,46 +103,15 @@ split-bounded bytes start n address hs hn =
     let near : bulkStart start n address ≤ start / 8 + 8 = h .near in
     record { prefixFits = h .word; suffixFits = omega arith; bulkStarts = omega arith; bulkFits = omega arith }
 
-pub split-known : (bytes : List ℕ) (start n address : ℕ) (s : AlignedBitmapSlice) → given s ≡ alignedOf bytes start n address → SplitKnown bytes start n s
-unfolding alignedOf unlessEmpty alignedChecks
-split-known bytes start zero address s e =
-    let q : s ≡ emptySplit = cc in
-    record { bounded = subst Bounded (sym q) none; flags = ap (splitFlags bytes) q ∙ no-flags bytes start }
-  where
-    none : Bounded emptySplit
-    none = record { prefixFits = omega arith; suffixFits = omega arith; bulkStarts = omega arith; bulkFits = omega arith }
-split-known bytes start (suc n) address s e =
-    let g = given-only (firstFailed (spanChecks start (suc n) (length bytes) ++ addressChecks address)) tt s (alignedSplit bytes start (suc n) address) e in
-    let a = span-allowed start (suc n) (length bytes) (both-left (spanChecks start (suc n) (length bytes)) (addressChecks address) (g .0)) in
-    record {
-      bounded = subst Bounded (sym (g .1)) (split-bounded bytes start (suc n) address (omega (arith, a .starts)) (a .short));
-      flags = ap (splitFlags bytes) (g .1) ∙ split-flags bytes start (suc n) address;
-    }
+-- a number of a split's flags is the span's
+pub split-number : (f : List Bool → ℕ) (bytes : List ℕ) (start n address c : ℕ) (s : AlignedBitmapSlice)
+    → s ≡ alignedSplit bytes start n address → c ≡ f (splitFlags bytes s) → c ≡ f (stretch bytes start n)
+split-number f bytes start n address c s e p = p ∙ ap (λ (t : AlignedBitmapSlice). f (splitFlags bytes t)) e ∙ ap f (split-flags bytes start n address)
 
--- a count of the split's flags, and a refusal handed on
-pub counted : (bytes : List ℕ) (start n address v : ℕ) (s : AlignedBitmapSlice)
-    → given s ≡ alignedOf bytes start n address → (n ≡ 0 → v ≡ 0) → given v ≡ spanCount bytes start n address v
-unfolding alignedOf spanCount unlessEmpty
-counted bytes start zero address v s e h = ap given (h refl)
-counted bytes start (suc n) address v s e h =
-    let g = given-only (firstFailed (alignedChecks start (suc n) (length bytes) address)) tt s (alignedSplit bytes start (suc n) address) e in
-    is-given 0 (firstFailed (alignedChecks start (suc n) (length bytes) address)) tt v (sym (g .0)) refl
-
-refused-only : {S A B : Type 0} (f k : ℕ) (s : S) (a : A) (b : B) → refused k s ≡ decided f s a → refused k s ≡ decided f s b
-unfolding decided
-refused-only zero k s a b e = absurd (let z : _≡_ {A = ℕ} 0 1 = cc in omega arith)
-refused-only (suc f) k s a b e = let q : k ≡ suc f = cc in ap (λ (m : ℕ). refused m s) q
-
-pub count-refused : (bytes : List ℕ) (start n address v k : ℕ) → refused k tt ≡ alignedOf bytes start n address → refused k tt ≡ spanCount bytes start n address v
-unfolding alignedOf spanCount unlessEmpty
-count-refused bytes start zero address v k e = absurd (let z : _≡_ {A = ℕ} 0 1 = cc in omega arith)
-count-refused bytes start (suc n) address v k e =
-    refused-only (firstFailed (alignedChecks start (suc n) (length bytes) address)) k tt (alignedSplit bytes start (suc n) address) v e
-
--- the ones of a split are the span's
+-- its ones too
 pub split-count : (bytes : List ℕ) (start n address c : ℕ) (s : AlignedBitmapSlice)
     → s ≡ alignedSplit bytes start n address → c ≡ count (splitFlags bytes s) → c ≡ count (stretch bytes start n)
-split-count bytes start n address c s e p = p ∙ ap (λ (t : AlignedBitmapSlice). count (splitFlags bytes t)) e ∙ ap count (split-flags bytes start n address)
+split-count = split-number count
 
 -- what is known of a span whose checks have passed, with its address
 pub aligned-allowed : (start n size address : ℕ) → firstFailed (alignedChecks start n size address) ≡ 0 → (start ≤ 2 * limit) × ((n ≤ limit) × (address ≤ 7))

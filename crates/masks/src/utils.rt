@@ -8,9 +8,8 @@ ghost use Rattle.words.specs.Ends.{leading, trailing};
 ghost use Rattle.words.specs.Flags.{count};
 ghost use Rattle.words.specs.Loops.{stretch};
 ghost use Rattle.masks.specs.Checks.{limit};
-ghost use Rattle.masks.specs.Workers.{Bounded, splitFlags};
 ghost use Rattle.masks.specs.Utils.{zeros, zerosOfAll, countedAnswer, spanCount};
-use crate::aligned::Aligned;
+ghost use Rattle.masks.specs.Workers.{Bounded, splitFlags};
 use crate::aligned::AlignedBitmapSlice;
 use crate::aligned::aligned_failure;
 use crate::aligned::split;
@@ -164,24 +163,72 @@ pub fn count_zeros(bytes: &[u8], start: usize, length: usize, address: usize) ->
     Counted::Count(zeros_at(&bytes[0..], start, length, address))
 }
 
+// How many flags at the front of a span that fits a word equal `flag`: it is read as one.
+fn short_leading(flag: bool, bytes: &[u8], start: usize, length: usize) -> usize
+    requires { ⌜ start % 8 + length ≤ 64 ⌝ }
+    ensures { λ r. ⌜ r ≡ leading flag (stretch (now (bytes .entry)) start length) ⌝ }
+{
+    leading_in_word(flag, down(byte_word(bytes, start / 8), start % 8), length)
+}
+
+// The same of any span, by the three parts of its split.
+fn long_leading(flag: bool, bytes: &[u8], start: usize, length: usize, address: usize) -> usize
+    requires { ⌜ (start ≤ 2 * limit) × ((length ≤ limit) × (address ≤ 7)) ⌝ }
+    ensures { λ r. ⌜ r ≡ leading flag (stretch (now (bytes .entry)) start length) ⌝ }
+{
+    let s = split(bytes, start, length, address);
+    leading_of(flag, bytes, s)
+}
+
+// In the form of `count_zeros`: the short span is read in this body, and the longer ones get a slice of their own.
 fn leading_flags(flag: bool, bytes: &[u8], start: usize, length: usize, address: usize) -> Counted
     ensures { λ r. ⌜ countedAnswer r ≡ spanCount (now (bytes .entry)) start length address (leading flag (stretch (now (bytes .entry)) start length)) ⌝ }
 {
-    let split = AlignedBitmapSlice::new(bytes, start, length, address);
-    match split {
-        Aligned::Refused(number) => Counted::Refused(number),
-        Aligned::Split(s) => Counted::Count(leading_of(flag, bytes, s)),
+    if length == 0 {
+        return Counted::Count(0);
     }
+    let refusal = aligned_failure(start, length, bytes.len(), address);
+    if refusal != 0 {
+        return Counted::Refused(refusal);
+    }
+    if start % 8 + length <= 64 {
+        return Counted::Count(short_leading(flag, bytes, start, length));
+    }
+    Counted::Count(long_leading(flag, &bytes[0..], start, length, address))
 }
 
+// How many flags at the end of a span that fits a word equal `flag`: it is read as one.
+fn short_trailing(flag: bool, bytes: &[u8], start: usize, length: usize) -> usize
+    requires { ⌜ start % 8 + length ≤ 64 ⌝ }
+    ensures { λ r. ⌜ r ≡ trailing flag (stretch (now (bytes .entry)) start length) ⌝ }
+{
+    trailing_in_word(flag, down(byte_word(bytes, start / 8), start % 8), length)
+}
+
+// The same of any span, by the three parts of its split.
+fn long_trailing(flag: bool, bytes: &[u8], start: usize, length: usize, address: usize) -> usize
+    requires { ⌜ (start ≤ 2 * limit) × ((length ≤ limit) × (address ≤ 7)) ⌝ }
+    ensures { λ r. ⌜ r ≡ trailing flag (stretch (now (bytes .entry)) start length) ⌝ }
+{
+    let s = split(bytes, start, length, address);
+    trailing_of(flag, bytes, s)
+}
+
+// In the form of `count_zeros`: the short span is read in this body, and the longer ones get a slice of their own.
 fn trailing_flags(flag: bool, bytes: &[u8], start: usize, length: usize, address: usize) -> Counted
     ensures { λ r. ⌜ countedAnswer r ≡ spanCount (now (bytes .entry)) start length address (trailing flag (stretch (now (bytes .entry)) start length)) ⌝ }
 {
-    let split = AlignedBitmapSlice::new(bytes, start, length, address);
-    match split {
-        Aligned::Refused(number) => Counted::Refused(number),
-        Aligned::Split(s) => Counted::Count(trailing_of(flag, bytes, s)),
+    if length == 0 {
+        return Counted::Count(0);
     }
+    let refusal = aligned_failure(start, length, bytes.len(), address);
+    if refusal != 0 {
+        return Counted::Refused(refusal);
+    }
+    if start % 8 + length <= 64 {
+        return Counted::Count(short_trailing(flag, bytes, start, length));
+    }
+    Counted::Count(long_trailing(flag, &bytes[0..], start, length, address))
 }
 
 // How many zeros stand at the front of a span.

@@ -1,41 +1,74 @@
--- A split that was given has the span's flags (`split-known`), so its count is the span's (`counted`); a refusal stays one (`count-refused`).
+-- As `count_zeros`: of no flags 0 (`is-empty`); else the number of the checks decides (`not-empty`), and either call ensures the count.
 use mathlib.Core.Path.{sym, ap, _∙_}
+use native.Mathlib.Omega.{arith}
 use Rattle.words.specs.Ends.{trailing}
 use Rattle.masks.specs.Answer.{given}
-use Rattle.masks.specs.Aligned.{alignedAnswer}
-use Rattle.masks.proofs.PartLaws.{no-trailing}
-use Rattle.masks.proofs.SplitLaws.{split-known, counted, count-refused}
+use Rattle.masks.specs.Utils.{spanCount}
+use Rattle.masks.proofs.CheckLaws.{is-refused, is-given, is-empty, not-empty}
+use Rattle.masks.proofs.SpanLaws.{whole-stretch}
+use Rattle.masks.proofs.SplitLaws.{aligned-allowed}
 use borrow.Author.Needs.{needs}
 use Rattle.masks.proofs.utils.trailing_flags.Statement.{statement}
 use Rattle.masks.proofs.utils.trailing_flags.Tie as tie
 
-new-requires : tie.Need-new-requires
-new-requires c κs = search needs
-
-enum-known-split : tie.Need-enum-known-split
-enum-known-split c = search needs
-
-enum-known-split-2 : tie.Need-enum-known-split-2
-enum-known-split-2 c = search needs
-
-trailing-of-requires : tie.Need-trailing-of-requires
-trailing-of-requires c κs = split-known _ _ _ _ _ (sym (ap alignedAnswer (c .before .split2 .given .1)) ∙ c .before .before .before .new .ensures) .bounded
-
 returns : tie.Need-returns
-returns c = count-refused _ _ _ _ _ _ (sym (ap alignedAnswer (c .before .split .given .1)) ∙ c .before .before .before .new .ensures)
+unfolding spanCount
+returns c = is-empty _ _ _ (c .if1 .taken)
+
+aligned-failure-requires : tie.Need-aligned-failure-requires
+aligned-failure-requires c κs = search needs
 
 returns-2 : tie.Need-returns-2
-returns-2 c =
-    let was = sym (ap alignedAnswer (c .before .before .split2 .given .1)) ∙ c .before .before .before .before .new .ensures in
-    ap given (c .trailing-of .ensures ∙ ap (trailing _) (split-known _ _ _ _ _ was .flags)) ∙ counted _ _ _ _ _ _ was (no-trailing _ _ _ _)
+unfolding spanCount
+returns-2 c = not-empty _ _ _ _ (c .before .before .if1 .left) (is-refused _ _ _ _ (c .before .aligned-failure .ensures) (c .if2 .taken))
+
+add-if3 : tie.Need-add-if3
+add-if3 c = let a = aligned-allowed _ _ _ _ (sym (c .before .aligned-failure .ensures) ∙ c .if2 .left) in omega (arith, a .0, a .1 .0)
+
+short-trailing-requires : tie.Need-short-trailing-requires
+short-trailing-requires c κs = search needs
+
+returns-3 : tie.Need-returns-3
+unfolding spanCount
+returns-3 c =
+    let e = c .before .before .before in
+    not-empty _ _ _ _ (e .before .if1 .left) (ap given (c .short-trailing .ensures) ∙ is-given _ _ _ _ (e .aligned-failure .ensures) (c .before .before .if2 .left))
+
+sub-long-trailing : tie.Need-sub-long-trailing
+sub-long-trailing c = search needs
+
+part-long-trailing-start : tie.Need-part-long-trailing-start
+part-long-trailing-start c = search needs
+
+part-long-trailing-end : tie.Need-part-long-trailing-end
+part-long-trailing-end c = search needs
+
+long-trailing-requires : tie.Need-long-trailing-requires
+long-trailing-requires c κs =
+    let no = c .before .before in
+    let a = aligned-allowed _ _ _ _ (sym (no .before .aligned-failure .ensures) ∙ no .if2 .left) in
+    (omega (arith, a .0), a .1)
+
+returns-4 : tie.Need-returns-4
+unfolding spanCount
+returns-4 c =
+    let no = c .before .before .before in
+    let e = no .before in
+    not-empty _ _ _ _ (e .before .if1 .left)
+    (ap given (c .long-trailing .ensures ∙ ap (trailing _) (whole-stretch _ _ _)) ∙ is-given _ _ _ _ (e .aligned-failure .ensures) (no .if2 .left))
 
 pub trailing-flags-spec : {M : Type 1} → statement M
 trailing-flags-spec =
     tie.close
     (tie.spec
-    new-requires
-    enum-known-split
-    enum-known-split-2
-    trailing-of-requires
     returns
-    returns-2)
+    aligned-failure-requires
+    returns-2
+    add-if3
+    short-trailing-requires
+    returns-3
+    sub-long-trailing
+    part-long-trailing-start
+    part-long-trailing-end
+    long-trailing-requires
+    returns-4)
