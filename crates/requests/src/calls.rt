@@ -1,35 +1,22 @@
-// Makes a call by its number: the rows of names.rt.
+// Makes a call by its number: the rows of names.rt in notation.
 use crate::builder_calls;
 use crate::cursor_calls;
 use crate::mask_calls;
 use crate::span_calls;
 use crate::values;
 use crate::words_calls;
-
-// At most so many bytes of x, of y, of z and of o, which lie one after the other in one buffer.
-pub const ROOM: usize = 524352;
-
-// The first `size` of the bytes at a place.
-pub(crate) fn part(inputs: &[u8], place: usize, size: usize) -> &[u8] {
-    let first = place % 4 * ROOM;
-    let end = first + size % 1048576;
-    if end <= inputs.len() {
-        &inputs[first..end]
-    } else {
-        &inputs[0..0]
-    }
-}
+use notation::lent;
 
 fn x(inputs: &[u8], v: [u64; 24]) -> &[u8] {
-    part(inputs, 0, values::size(v, 16))
+    lent::part(inputs, 0, values::size(v, 16))
 }
 
 fn y(inputs: &[u8], v: [u64; 24]) -> &[u8] {
-    part(inputs, 1, values::size(v, 17))
+    lent::part(inputs, 1, values::size(v, 17))
 }
 
 fn z(inputs: &[u8], v: [u64; 24]) -> &[u8] {
-    part(inputs, 2, values::size(v, 18))
+    lent::part(inputs, 2, values::size(v, 18))
 }
 
 pub(crate) fn answer(

@@ -11,6 +11,7 @@ use masks::true_idx::TrueChunk;
 use masks::true_idx::TrueIdx;
 use masks::true_idx::TrueIdxIter;
 use masks::true_idx::TrueIter;
+use notation::numbers::NONES;
 
 pub(crate) fn answer(call: usize, v: [u64; 24], x: &[u8]) -> [u64; 12] {
     match call {
@@ -140,7 +141,7 @@ fn index(r: TrueIdx) -> [u64; 12] {
         TrueIdx::Index(n, c) => given(n, c),
         TrueIdx::Done(c) => {
             let mut a = given(0, c);
-            a[values::NONES] = 2;
+            a[NONES] = 2;
             a
         }
         TrueIdx::Refused(number, c) => place(number, c),

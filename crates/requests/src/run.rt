@@ -1,21 +1,11 @@
-// Standard input, a window at a time, taken apart into lines.
-use crate::lines;
-use crate::lines::State;
-use crate::tally;
-use crate::text;
-use libc::STDIN_FILENO;
+// Standard input, line by line, with room for what the lines lend.
+use crate::request;
+use notation::input;
+use notation::input::Input;
+use notation::lines;
 
-// At most so many reads are made, so that the program ends on input that does not.
-const READS: usize = 16384;
-
-// Of the line in progress its bytes so far, and whether it is too long; whether the input is at its end; what is kept from line to
-// line.
-struct Progress {
-    fill: usize,
-    long: bool,
-    over: bool,
-    state: State,
-}
+// At most this many steps are made, each to the end of a line or of a window, so that the program ends on input that does not.
+const STEPS: usize = 4194304;
 
 // Reads requests to the end of the input, makes them, and prints what came out.
 pub fn run() {
@@ -50,13 +40,8 @@ fn with_numbers(inputs: &mut [u8], out: &mut [u8]) {
 fn with_list(inputs: &mut [u8], given: &mut [u32], out: &mut [u8], numbers: &mut [u32]) {
     let mut space = [0u64; 16384];
     let list: &mut [u64] = &mut space;
-    let p = with_lines(inputs, given, out, numbers, list);
-    let state = p.state;
-    if !p.over {
-        io::write_all(1, b"standard input is too long\n");
-    }
-    tally::print(list);
-    print_totals(state);
+    let over = with_lines(inputs, given, out, numbers, list);
+    lines::print(over, list);
 }
 
 fn with_lines(
@@ -65,59 +50,14 @@ fn with_lines(
     out: &mut [u8],
     numbers: &mut [u32],
     list: &mut [u64],
-) -> Progress {
-    let mut space = [0u8; 16384];
-    let line: &mut [u8] = &mut space;
-    read(next(lines::new()), line, inputs, given, out, numbers, list)
-}
-
-fn print_totals(s: State) {
-    io::write_all(1, b"total");
-    tally::numbers(s.requests, s.calls, s.differing);
-    io::write_all(1, b"requests with no answer: ");
-    io::print_decimal(1, s.made);
-    io::write_all(1, b"\nmalformed lines: ");
-    io::print_decimal(1, s.malformed);
-    io::write_all(1, b"\n");
-}
-
-fn read(
-    p: Progress,
-    line: &mut [u8],
-    inputs: &mut [u8],
-    given: &mut [u32],
-    out: &mut [u8],
-    numbers: &mut [u32],
-    list: &mut [u64],
-) -> Progress {
-    let mut now = p;
-    let mut reads = 0;
-    while reads < READS {
-        reads += 1;
-        now = window_read(now, line, inputs, given, out, numbers, list);
-    }
-    now
-}
-
-// One read, unless the input is at its end.
-fn window_read(
-    p: Progress,
-    line: &mut [u8],
-    inputs: &mut [u8],
-    given: &mut [u32],
-    out: &mut [u8],
-    numbers: &mut [u32],
-    list: &mut [u64],
-) -> Progress {
-    if p.over {
-        return p;
-    }
-    let mut space = [0u8; 65536];
-    let window: &mut [u8] = &mut space;
-    let n = filled(window);
-    taken(
-        p,
-        text::before(window, n),
+) -> bool {
+    let mut window_space = [0u8; 65536];
+    let window: &mut [u8] = &mut window_space;
+    let mut line_space = [0u8; 16384];
+    let line: &mut [u8] = &mut line_space;
+    read(
+        input::begun(),
+        window,
         line,
         inputs,
         given,
@@ -127,108 +67,81 @@ fn window_read(
     )
 }
 
-fn filled(window: &mut [u8]) -> usize {
-    let got = libc::read(STDIN_FILENO, window);
-    io::count(got, window)
-}
-
-// A last line may have no line feed.
-fn taken(
-    p: Progress,
-    part: &[u8],
+// Whether the input was read to its end.
+fn read(
+    p: Input,
+    window: &mut [u8],
     line: &mut [u8],
     inputs: &mut [u8],
     given: &mut [u32],
     out: &mut [u8],
     numbers: &mut [u32],
     list: &mut [u64],
-) -> Progress {
-    if part.len() == 0 {
-        at_end(ended(p, line, inputs, given, out, numbers, list))
-    } else {
-        take(p, part, line, inputs, given, out, numbers, list)
-    }
-}
-
-fn at_end(mut p: Progress) -> Progress {
-    p.over = true;
-    p
-}
-
-fn take(
-    p: Progress,
-    part: &[u8],
-    line: &mut [u8],
-    inputs: &mut [u8],
-    given: &mut [u32],
-    out: &mut [u8],
-    numbers: &mut [u32],
-    list: &mut [u64],
-) -> Progress {
+) -> bool {
     let mut now = p;
-    let mut i = 0;
-    while i < part.len() {
-        let b = part[i];
-        i += 1;
-        now = byte(now, b, line, inputs, given, out, numbers, list);
+    let mut steps = 0;
+    while steps < STEPS {
+        steps += 1;
+        now = step(now, window, line, inputs, given, out, numbers, list);
+    }
+    now.over
+}
+
+// Goes on with the line, and makes it if it is whole.
+fn step(
+    p: Input,
+    window: &mut [u8],
+    line: &mut [u8],
+    inputs: &mut [u8],
+    given: &mut [u32],
+    out: &mut [u8],
+    numbers: &mut [u32],
+    list: &mut [u64],
+) -> Input {
+    if p.over {
+        return p;
+    }
+    let now = input::next(p, window, line);
+    if now.whole {
+        take(now, line, inputs, given, out, numbers, list);
     }
     now
 }
 
-fn byte(
-    p: Progress,
-    b: u8,
-    line: &mut [u8],
-    inputs: &mut [u8],
-    given: &mut [u32],
-    out: &mut [u8],
-    numbers: &mut [u32],
-    list: &mut [u64],
-) -> Progress {
-    if b == b'\n' {
-        ended(p, line, inputs, given, out, numbers, list)
-    } else {
-        longer(p, b, line)
-    }
-}
-
-fn longer(mut p: Progress, b: u8, line: &mut [u8]) -> Progress {
-    let fill = p.fill;
-    if fill < line.len() {
-        line[fill] = b;
-        p.fill = fill + 1;
-    } else {
-        p.long = true;
-    }
-    p
-}
-
-// A whole line: the next one begins empty.
-fn ended(
-    p: Progress,
+fn take(
+    p: Input,
     line: &[u8],
     inputs: &mut [u8],
     given: &mut [u32],
     out: &mut [u8],
     numbers: &mut [u32],
     list: &mut [u64],
-) -> Progress {
-    let fill = p.fill;
-    let state = p.state;
-    if p.long {
-        return next(lines::too_long(state));
+) {
+    if input::too_long(p) {
+        lines::too_long(list);
+    } else {
+        whole(input::line(p, line), inputs, given, out, numbers, list);
     }
-    if fill <= line.len() {
-        return next(lines::line(state, &line[0..fill], inputs, given, out, numbers, list));
-    }
-    next(state)
 }
 
-fn next(s: State) -> Progress {
-    Progress {
-        fill: 0,
-        long: false,
-        over: false,
-        state: s,
+// A line: what it lends, and its request.
+fn whole(
+    line: &[u8],
+    inputs: &mut [u8],
+    given: &mut [u32],
+    out: &mut [u8],
+    numbers: &mut [u32],
+    list: &mut [u64],
+) {
+    let from = lines::take(line, inputs, given, out, list);
+    if from < lines::NO_REQUEST {
+        request::request(
+            lines::request_of(line, from),
+            inputs,
+            given,
+            out,
+            numbers,
+            list,
+        );
     }
 }

@@ -1,24 +1,11 @@
-// The numbers of a request and of an answer, as arrays by value: what makes a call then lends nothing but the call's own bytes.
-//
-// Of a request `[u64; 24]`: the call's arguments from place 0 on, at most nine; at UNKNOWN a bit for each of them that is `?`; from SIZES
-// on how many of x, y, z, o and i are lent.
-// Of an answer `[u64; 12]`: its tokens from place 0 on, at most eight; at TOKENS how many they are, at UNKNOWNS a bit for each that is
-// `?`, at NONES one for each that is `-`.
+// The numbers of a request and of an answer, as arrays by value: what makes a call then lends nothing but the call's own bytes. `numbers` of
+// notation says which place has what.
 ghost use Prim.Native.Nat.{_≤_};
 use masks::bitmap::Bitmap;
 use masks::bitmap::Optional;
 use masks::bitmap::Unset;
 use masks::builder::BitmapBuilder;
-
-pub const UNKNOWN: usize = 11;
-
-pub const SIZES: usize = 16;
-
-pub const TOKENS: usize = 8;
-
-pub const UNKNOWNS: usize = 9;
-
-pub const NONES: usize = 10;
+use notation::numbers::UNKNOWN;
 
 // Argument i.
 pub(crate) fn word(v: [u64; 24], i: usize) -> u64 {

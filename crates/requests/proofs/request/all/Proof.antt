@@ -7,13 +7,13 @@ use Rattle.requests.proofs.request.all.Statement.{statement}
 use Rattle.requests.proofs.request.all.Tie as tie
 
 abbrev Inv-loop : tie.InvT-loop
-Inv-loop call tokens whole inputs given out₀ numbers₀ list₀ now₀ t₀ out numbers list now t = (t ≤ 4194304) × ((length out ≡ length out₀) × ((length numbers ≡ length numbers₀) × ((length list ≡ length list₀))))
+Inv-loop r whole inputs given out₀ numbers₀ list₀ now₀ t₀ out numbers list now t = (t ≤ 4194304) × ((length out ≡ length out₀) × ((length numbers ≡ length numbers₀) × (length list ≡ length list₀)))
 
 abbrev μ-loop : tie.MeasureT-loop
-μ-loop call tokens whole inputs given out₀ numbers₀ list₀ now₀ t₀ out numbers list now t = 4194304 - t
+μ-loop r whole inputs given out₀ numbers₀ list₀ now₀ t₀ out numbers list now t = 4194304 - t
 
-so-far-requires : tie.Need-so-far-requires Inv-loop μ-loop
-so-far-requires c κs = search needs
+none-ran-requires : tie.Need-none-ran-requires Inv-loop μ-loop
+none-ran-requires c κs = search needs
 
 loop-holds : tie.Need-loop-holds Inv-loop μ-loop
 loop-holds c = search needs
@@ -60,7 +60,7 @@ all-spec =
     (tie.spec
     Inv-loop
     μ-loop
-    so-far-requires
+    none-ran-requires
     loop-holds
     add-t
     turn-requires

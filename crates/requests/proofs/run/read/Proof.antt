@@ -1,4 +1,4 @@
--- The loop counts up to the number of reads.
+-- The loop counts up to the number of steps.
 use mathlib.Core.Path.{_≡_}
 use Prim.Native.Nat.{_≤_, _-_}
 use lib.ListN.{length}
@@ -7,19 +7,19 @@ use Rattle.requests.proofs.run.read.Statement.{statement}
 use Rattle.requests.proofs.run.read.Tie as tie
 
 abbrev Inv-loop : tie.InvT-loop
-Inv-loop line₀ inputs₀ given₀ out₀ numbers₀ list₀ now₀ reads₀ line inputs given out numbers list now reads = (reads ≤ 16384) × ((length line ≡ length line₀) × ((length inputs ≡ length inputs₀) × ((length given ≡ length given₀) × ((length out ≡ length out₀) × ((length numbers ≡ length numbers₀) × ((length list ≡ length list₀)))))))
+Inv-loop window₀ line₀ inputs₀ given₀ out₀ numbers₀ list₀ now₀ steps₀ window line inputs given out numbers list now steps = (steps ≤ 4194304) × ((length window ≡ length window₀) × ((length line ≡ length line₀) × ((length inputs ≡ length inputs₀) × ((length given ≡ length given₀) × ((length out ≡ length out₀) × ((length numbers ≡ length numbers₀) × (length list ≡ length list₀)))))))
 
 abbrev μ-loop : tie.MeasureT-loop
-μ-loop line₀ inputs₀ given₀ out₀ numbers₀ list₀ now₀ reads₀ line inputs given out numbers list now reads = 16384 - reads
+μ-loop window₀ line₀ inputs₀ given₀ out₀ numbers₀ list₀ now₀ steps₀ window line inputs given out numbers list now steps = 4194304 - steps
 
 loop-holds : tie.Need-loop-holds Inv-loop μ-loop
 loop-holds c = search needs
 
-add-reads : tie.Need-add-reads Inv-loop μ-loop
-add-reads c = search needs
+add-steps : tie.Need-add-steps Inv-loop μ-loop
+add-steps c = search needs
 
-window-read-requires : tie.Need-window-read-requires Inv-loop μ-loop
-window-read-requires c κs = search needs
+step-requires : tie.Need-step-requires Inv-loop μ-loop
+step-requires c κs = search needs
 
 loop-less : tie.Need-loop-less Inv-loop μ-loop
 loop-less c = search needs
@@ -45,6 +45,9 @@ same-length-5 c = search needs
 same-length-6 : tie.Need-same-length-6 Inv-loop μ-loop
 same-length-6 c = search needs
 
+same-length-7 : tie.Need-same-length-7 Inv-loop μ-loop
+same-length-7 c = search needs
+
 returns : tie.Need-returns Inv-loop μ-loop
 returns c = search needs
 
@@ -55,8 +58,8 @@ read-spec =
     Inv-loop
     μ-loop
     loop-holds
-    add-reads
-    window-read-requires
+    add-steps
+    step-requires
     loop-less
     loop-again
     same-length
@@ -65,4 +68,5 @@ read-spec =
     same-length-4
     same-length-5
     same-length-6
+    same-length-7
     returns)
