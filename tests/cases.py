@@ -19,8 +19,8 @@ from document01 import *
 SHOWN = 20
 
 
-# The calls by their names: the arguments (n a number, M a mask, O a mask or none, B a builder), and the answer from these and what
-# is lent. A call that has an output gives it beside its answer.
+# The calls by their names: the arguments (n a number, M a mask, O a mask or none, B a builder, W a window's place, fill and width), and
+# the answer from these and what is lent. A call that has an output gives it beside its answer.
 
 
 def sides(l):
@@ -37,6 +37,10 @@ def pair(op):
 
 def word_op(op, many):
     return "n" * many, lambda l, *words: [OPS[op](*(list(words) + [0, 0])[:3], 64)]
+
+
+def run_of_minutes(first, step, many):
+    return [first + k * step & WORD for k in range(many)]
 
 
 def counting(of):
@@ -136,11 +140,17 @@ CALLS = {
     "next_chunk": ("nnnn", lambda l, *a: next_chunk(l.x, *a, l.i)),
     "and_not_at": ("OOn", lambda l, a, b, index: and_not_at(a, l.x, b, l.y, index)),
     "may_reassign": ("OOn", lambda l, a, b, truck: may_reassign(a, l.x, b, l.y, truck)),
+    "ActivityWindow::new": ("n", lambda l, width: activity_new(width)),
+    "push_minute": ("Wn", lambda l, record, word: push_minutes(l.o, record, [word])),
+    "push_minutes": ("Wnnn", lambda l, record, *a: push_minutes(l.o, record, run_of_minutes(*a))),
+    "counts": ("W", lambda l, record: activity_counts(l.x.data, record)),
 }
 
 WRITERS = {name for name in CALLS if name.split("_")[0] in ("store", "copy", "push", "extend", "subslice", "gather", "opt")}
 WRITERS |= {"combine", "fill", "fill_whole", "freeze", "into_opt_validity", "new_zeroed", "and", "and_not", "or", "or_not", "xor", "not"}
-WRITERS |= {"select", "select_constant", "next_chunk"}
+WRITERS |= {"select", "select_constant", "ActivityWindow::new"}
+LISTERS = {"next_chunk", "counts"}  # these write numbers
+WRITERS |= LISTERS
 
 
 # Lines.
@@ -240,8 +250,8 @@ class Reader:
         l = Lents()
         l.x, l.y, l.z = [self.part(letter, sizes.get(letter)) for letter in "xyz"]
         l.i, l.o = self.numbers[: sizes.get("i")], self.bytes["o"][: sizes.get("o")]
-        l.whole = self.numbers if name == "next_chunk" else self.bytes["o"]
-        l.rest = l.whole[len(l.i if name == "next_chunk" else l.o) :]
+        l.whole = self.numbers if name in LISTERS else self.bytes["o"]
+        l.rest = l.whole[len(l.i if name in LISTERS else l.o) :]
         return l
 
     def call(self, name, row, l):
@@ -256,7 +266,8 @@ class Reader:
             answer = [0, *answer]
         except Refused as refusal:
             answer = [refusal.args[0], *refusal.args[1]]
-            out = l.whole if name in WRITERS else None
+            left = [out + l.rest for out in refusal.args[2:]]
+            out = (left or [l.whole])[0] if name in WRITERS else None
         self.last = answer
         if type(out) is bytes:
             self.left = out
@@ -301,7 +312,7 @@ class Reader:
             elif after.startswith("#"):
                 right = right and number(after[1:]) == taken(FIRST, output_symbols(out))
             else:
-                right = right and out == (numbers_in if name == "next_chunk" else bytes_in)(after.split(" "))
+                right = right and out == (numbers_in if name in LISTERS else bytes_in)(after.split(" "))
         return right, "%s | %s" % (answer, out if out is None or len(out) < 100 else "..")
 
     def range(self, name, rows, letters, told):

@@ -1,9 +1,10 @@
-"""The calls of the library as document 01 tells them, for tests/cases.py.
+"""The calls of the library as document 01 tells them, and paper 02 of the window of minutes, for tests/cases.py.
 
 A list of flags is one number here: flag j of it is bit j. Arrow numbers flag j of a buffer as bit j mod 8 of byte j div 8, the least
 significant bit first, so that the bytes read as one number, the first byte lowest, have flag j at bit j. Everything else is
 document 01's: its checks by their numbers, and what each call answers, as a list; a call that has an output gives it beside the list.
 Sums and products are exact. Nothing here is taken from the library or from the model that writes the case file."""
+import struct
 from functools import lru_cache
 
 LIMIT = 4194304
@@ -421,3 +422,46 @@ def next_true(lent, start, n, place, masked):
 def next_chunk(lent, start, n, place, masked, out):
     some, behind = positions(lent, start, n, place, masked, len(out))
     return [len(some), start, n, behind, masked], some + out[len(some) :]
+
+
+# Paper 02 (l): the window of minutes. Its arrays are bytes, 256 words and 64 counts; a refusal by 16 may leave an output of its own.
+
+
+def busy(words):
+    """For each of 64 flags how many of the words have it set."""
+    return [sum(word >> flag & 1 for word in words) for flag in range(64)]
+
+
+def window_bytes(words, counts):
+    return struct.pack("<256Q64I", *words, *counts)
+
+
+def window(data, record, came):
+    """The words and the counts of a window that minutes leave."""
+    numbers = struct.unpack("<256Q64I", data)
+    words, counts = list(numbers[:256]), list(numbers[256:])
+    place, fill, width = record
+    together = 1 <= width <= 256 and place < width and (place == fill or fill == width)
+    if not together or any(words[fill:]) or counts != busy(words[:fill]):
+        raise Refused(16, *came)
+    return words, counts
+
+
+def activity_new(width):
+    if not 1 <= width <= 256:
+        raise Refused(16, [0, 0, 0], bytes(2304))
+    return [0, 0, width], bytes(2304)
+
+
+def push_minutes(data, record, minutes):
+    """The minute that comes k-th goes k places on from the place, round the width."""
+    place, fill, width = record
+    words, _ = window(data, record, [record])
+    for k, word in enumerate(minutes):
+        words[(place + k) % width] = word
+    fill = min(fill + len(minutes), width)
+    return [(place + len(minutes)) % width, fill, width], window_bytes(words, busy(words[:fill]))
+
+
+def activity_counts(data, record):
+    return [], window(data, record, [[], [0] * 64])[1]

@@ -1,6 +1,7 @@
 //! The calls by their names: a request's arguments handed to the model, and its answer as the tokens of a line.
 
 use crate::arguments::Args;
+use crate::minutes;
 use crate::token::Token;
 use model::combine::{self, Op};
 use model::loops::{self, Stretch, WordOp};
@@ -72,9 +73,10 @@ fn ended(answer: Answer, builder: Builder, may_miss: bool) -> Reply {
 }
 
 /// The answer of the call of that name.
-pub fn answer(name: &str, mut args: Args, lents: Lents) -> Reply {
+pub fn answer(name: &str, mut args: Args, mut lents: Lents) -> Reply {
     let a = &mut args;
-    let reply = of_words(name, a, &lents)
+    let reply = minutes::answer(name, a, &mut lents)
+        .or_else(|| of_words(name, a, &lents))
         .or_else(|| of_spans(name, a, lents.x))
         .or_else(|| of_cursors(name, a, &lents))
         .or_else(|| of_masks(name, a, &lents))

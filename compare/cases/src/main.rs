@@ -17,6 +17,7 @@ mod dispatch;
 mod file;
 mod histories;
 mod masks;
+mod minutes;
 mod patterns;
 mod run_lists;
 mod several;
@@ -39,7 +40,8 @@ const ORDER: &str = "merge_reversed nth_set_bit_u32 nth_set_bit_u64 low_flags do
     TrueIdxIter::new TrueIdxIter::next BitmapIter::new BitmapIter::next nth take_leading_ones take_leading_zeros store_le_u64 store_at \
     store_whole copy copy_count fill fill_whole combine push push_mut push_word_with_len_unchecked extend_constant freeze \
     into_opt_validity new_zeroed extend_from_slice extend_each_repeated_from_slice_unchecked subslice_extend_from_bitmap and and_not or \
-    or_not xor not select select_constant gather_extend_from_slice opt_gather_extend_from_slice next_chunk";
+    or_not xor not select select_constant gather_extend_from_slice opt_gather_extend_from_slice next_chunk counts \
+    ActivityWindow::new push_minute push_minutes";
 
 fn main() -> ExitCode {
     let arguments: Vec<String> = std::env::args().skip(1).collect();
@@ -81,6 +83,7 @@ fn requests() -> File {
     several::write(&mut file);
     histories::write(&mut file);
     run_lists::write(&mut file);
+    minutes::write(&mut file);
     file
 }
 

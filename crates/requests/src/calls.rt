@@ -2,6 +2,7 @@
 use crate::builder_calls;
 use crate::cursor_calls;
 use crate::mask_calls;
+use crate::minute_calls;
 use crate::span_calls;
 use crate::values;
 use crate::words_calls;
@@ -32,7 +33,8 @@ pub(crate) fn answer(
         3..=11 => reading(call, v, inputs),
         12..=17 => writing(call, v, inputs, out),
         18 => gathering(call, v, inputs, given, out),
-        _ => listing(v, inputs, numbers),
+        19 => listing(call % 8, v, inputs, numbers),
+        _ => writing(call, v, inputs, out),
     }
 }
 
@@ -81,6 +83,7 @@ fn into(call: usize, v: [u64; 24], inputs: &[u8], out: &mut [u8]) -> [u64; 12] {
     match call / 8 {
         14 => builder_calls::answer(call % 8, v, out),
         16 => mask_calls::combining(call % 8, v, x(inputs, v), y(inputs, v), out),
+        20 => minute_calls::answer(call % 8, v, out),
         _ => into_more(call, v, inputs, out),
     }
 }
@@ -111,11 +114,18 @@ fn gathering(call: usize, v: [u64; 24], inputs: &[u8], given: &[u32], out: &mut 
     values::nothing()
 }
 
-fn listing(v: [u64; 24], inputs: &[u8], numbers: &mut [u32]) -> [u64; 12] {
+fn listing(k: usize, v: [u64; 24], inputs: &[u8], numbers: &mut [u32]) -> [u64; 12] {
     let many = values::size(v, 20);
     if many <= numbers.len() {
-        cursor_calls::chunk(v, x(inputs, v), &mut numbers[0..many])
+        listed(k, v, x(inputs, v), &mut numbers[0..many])
     } else {
         values::nothing()
+    }
+}
+
+fn listed(k: usize, v: [u64; 24], x: &[u8], numbers: &mut [u32]) -> [u64; 12] {
+    match k {
+        0 => cursor_calls::chunk(v, x, numbers),
+        _ => minute_calls::counts(v, x, numbers),
     }
 }
