@@ -10,6 +10,7 @@ use crate::bitmap::Bitmap;
 use crate::bitmap::Unset;
 use crate::bitmap::not_counted;
 use crate::utils::all_flags;
+use crate::utils::other_early;
 use words::ops::Op;
 
 // What the counts say of a result: nothing, or that all its flags are the same.
@@ -43,14 +44,32 @@ fn is_all(flag: bool, mask: Bitmap, bytes: &[u8]) -> bool
     }
 }
 
+// The same, for the masks that each call asks about: it is compiled into the call, with the first word of flags, and the rest is not. The
+// slice given here stays in registers.
+fn is_all_early(flag: bool, mask: Bitmap, bytes: &[u8]) -> bool
+    ensures { λ r. ⌜ r ≡ isAll flag mask (now (bytes .entry)) ⌝ }
+{
+    let unset = mask.unset;
+    match unset {
+        Unset::Known(zeros) => zeros == zeros_of_all(flag, mask.length),
+        Unset::Unknown => {
+            if other_early(flag, bytes, mask.start, mask.length) {
+                false
+            } else {
+                all_flags(flag, &bytes[0..], mask.start, mask.length)
+            }
+        }
+    }
+}
+
 // The shortcut of `and` and `or`: the result is all `flag` if either mask is.
 fn either_all(flag: bool, lhs: Bitmap, left: &[u8], rhs: Bitmap, right: &[u8]) -> Shortcut
     ensures { λ s. ⌜ s ≡ eitherAll flag (isAll flag lhs (now (left .entry))) (isAll flag rhs (now (right .entry))) ⌝ }
 {
-    if is_all(flag, lhs, left) {
+    if is_all_early(flag, lhs, left) {
         return Shortcut::All(flag);
     }
-    if is_all(flag, rhs, right) {
+    if is_all_early(flag, rhs, right) {
         return Shortcut::All(flag);
     }
     Shortcut::Each
@@ -74,10 +93,10 @@ fn xor_shortcut(lhs: Bitmap, left: &[u8], rhs: Bitmap, right: &[u8]) -> Shortcut
     requires { ⌜ lhs .length ≡ rhs .length ⌝ }
     ensures { λ s. ⌜ s ≡ pairShortcut Xor lhs (now (left .entry)) rhs (now (right .entry)) ⌝ }
 {
-    if is_all(false, lhs, left) {
+    if is_all_early(false, lhs, left) {
         return xor_all(false, rhs, right);
     }
-    if is_all(true, lhs, left) {
+    if is_all_early(true, lhs, left) {
         return xor_all(true, rhs, right);
     }
     Shortcut::Each

@@ -17,6 +17,7 @@ use words::counts::count_ones;
 use words::ends::leading_in_word;
 use words::ends::trailing_in_word;
 use words::uniform::all_are;
+use words::uniform::differs_early;
 use words::word::byte_word;
 use words::word::down;
 use words::word::low_flags;
@@ -143,6 +144,14 @@ pub(crate) fn all_flags(flag: bool, bytes: &[u8], start: usize, length: usize) -
     ensures { λ r. ⌜ r ≡ eqb (zeros (stretch (now (bytes .entry)) start length)) (zerosOfAll flag length) ⌝ }
 {
     all_are(flag, bytes, start, length)
+}
+
+// Does the first word of a span say that not all its flags are `flag`. It is small enough for the body of a call, where `all_flags` is
+// not.
+pub(crate) fn other_early(flag: bool, bytes: &[u8], start: usize, length: usize) -> bool
+    ensures { λ r. ⌜ (r ≡ true → eqb (zeros (stretch (now (bytes .entry)) start length)) (zerosOfAll flag length) ≡ false) ⌝ }
+{
+    differs_early(flag, bytes, start, length)
 }
 
 // How many flags of a span are zero. `zeros_at` is outside this body and gets a slice of its own: the slice given here, which it

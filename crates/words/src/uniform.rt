@@ -66,7 +66,7 @@ fn words_are(flag: bool, bytes: &[u8], p: usize, n: usize) -> bool
     true
 }
 
-// Are all flags of a stretch `flag`, by their count.
+// Are all flags of a stretch `flag`: by their count.
 fn counted_are(flag: bool, bytes: &[u8], start: usize, len: usize) -> bool
     ensures { λ r. ⌜ r ≡ allAre flag (stretch (now (bytes .entry)) start len) ⌝ }
 {
@@ -74,8 +74,9 @@ fn counted_are(flag: bool, bytes: &[u8], start: usize, len: usize) -> bool
     if flag { ones == len } else { ones == 0 }
 }
 
-// The same: the flags of the first eight bytes, whole words, and the rest. A stretch that reaches past the bytes is counted.
-fn parts_are(flag: bool, bytes: &[u8], start: usize, len: usize) -> bool
+// Are all flags of a stretch `flag`: those of the first eight bytes, whole words, and the rest. A stretch that reaches past the bytes is
+// counted.
+pub fn all_are(flag: bool, bytes: &[u8], start: usize, len: usize) -> bool
     ensures { λ r. ⌜ r ≡ allAre flag (stretch (now (bytes .entry)) start len) ⌝ }
 {
     let w = down(byte_word(bytes, start / 8), start % 8);
@@ -97,8 +98,9 @@ fn parts_are(flag: bool, bytes: &[u8], start: usize, len: usize) -> bool
     low_are(flag, byte_word(bytes, q + 8 * n), (len - k) % 64)
 }
 
-// Is another flag than `flag` among those of the first eight bytes. Where there are fewer bytes, nothing is said.
-fn differs_early(flag: bool, bytes: &[u8], start: usize, len: usize) -> bool
+// Is another flag than `flag` among those of the first eight bytes. Where there are fewer bytes, the answer is no. For callers that ask
+// this in their own bodies and call `all_are` only after a no.
+pub fn differs_early(flag: bool, bytes: &[u8], start: usize, len: usize) -> bool
     ensures { λ r. ⌜ (r ≡ true → allAre flag (stretch (now (bytes .entry)) start len) ≡ false) ⌝ }
 {
     if room(bytes.len(), start / 8) == 0 {
@@ -106,15 +108,4 @@ fn differs_early(flag: bool, bytes: &[u8], start: usize, len: usize) -> bool
     }
     let w = down(full_word(bytes, start / 8), start % 8);
     !low_are(flag, w, least(len, 64 - start % 8))
-}
-
-// Are all flags of a stretch `flag`. The first load is in this body, and mixed flags end there. What comes after it is not, and gets a
-// slice of its own, so that the slice given here stays in registers.
-pub fn all_are(flag: bool, bytes: &[u8], start: usize, len: usize) -> bool
-    ensures { λ r. ⌜ r ≡ allAre flag (stretch (now (bytes .entry)) start len) ⌝ }
-{
-    if differs_early(flag, bytes, start, len) {
-        return false;
-    }
-    parts_are(flag, &bytes[0..], start, len)
 }
