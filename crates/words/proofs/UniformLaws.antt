@@ -1,20 +1,22 @@
 -- Whether all flags of a list are one flag: by the flag, in lists joined, word by word, and by the flags unlike it. Assumes nothing.
 use mathlib.Core.Path.{_≡_, refl, sym, ap, ap₂, _∙_}
-use mathlib.Core.Bool.{Bool, true, false, not, xor, _&&_}
+use mathlib.Core.Bool.{Bool, true, false, not, xor, _&&_, _||_}
+use mathlib.Core.Logic.{⊎-elim}
 use mathlib.Core.List.{List, [], _∷_, _++_, map}
-use Prim.Native.Nat.{ℕ, zero, suc, _+_, _-_, _*_, _/_, _%_, _≤_, _<_}
+use Prim.Native.Nat.{ℕ, zero, suc, _+_, _-_, _*_, _/_, _%_, _≤_, _<_, min}
 use native.Mathlib.Omega.{arith}
-use lib.Dec.{eqb}
+use lib.Dec.{eqb, ltb}
+use lib.Seq.{take-all}
 use lib.ListN.{length, take, getD, length-take, length-map}
 use borrow.Author.Tests.{eq-eqb, ne-eqb, eqb-true, eqb-false}
 use Rattle.words.specs.Flags.{bits, count, digit, window}
 use Rattle.words.specs.Counts.{anySet}
 use Rattle.words.specs.Uniform.{allAre}
-use Rattle.words.proofs.AnyFlag.{and-false, any-padded}
+use Rattle.words.proofs.AnyFlag.{and-false, any-add, any-copies, any-padded}
 use Rattle.words.proofs.Bits.{length-bits}
 use Rattle.words.proofs.Counting.{count-le, span-word}
 use Rattle.words.proofs.Loads.{near-flags}
-use Rattle.words.proofs.Windows.{length-window, window-add, window-cut}
+use Rattle.words.proofs.Windows.{lt-or-le, in-window, length-window, window-add, window-cut, window-past}
 
 -- ---- by the flag
 
@@ -48,6 +50,10 @@ zero-xor : (y : Bool) → y ≡ xor false y
 unfolding xor
 zero-xor true = refl
 zero-xor false = refl
+
+or-false : (x : Bool) → (x || false) ≡ x
+or-false true = refl
+or-false false = refl
 
 and-again : (x y z : Bool) → (x && (y && z)) ≡ ((x && y) && z)
 and-again true y z = refl
@@ -103,6 +109,16 @@ unsaid e = absurd (let z : _≡_ {A = ℕ} 0 1 = cc e in omega arith)
 
 -- ---- windows
 
+at-map : (f : Bool → Bool) (l : List Bool) (k : ℕ) → k < length l → getD (map f l) k false ≡ f (getD l k false)
+at-map f [] k h = absurd (omega arith)
+at-map f (x ∷ l) zero h = refl
+at-map f (x ∷ l) (suc k) h = at-map f l k (omega arith)
+
+window-map : (f : Bool → Bool) (l : List Bool) (k n : ℕ) → k + n ≤ length l → window (map f l) k n ≡ map f (window l k n)
+unfolding window
+window-map f l k zero h = refl
+window-map f l k (suc n) h = ap₂ (λ (x : Bool) (t : List Bool). x ∷ t) (at-map f l k (omega arith)) (window-map f l (suc k) n (omega arith))
+
 all-cut : (x : Bool) (l : List Bool) (k n a b : ℕ) → n ≡ a + b → allAre x (window l k n) ≡ (allAre x (window l k a) && allAre x (window l (k + a) b))
 all-cut x l k n a b e = ap (λ (m : ℕ). allAre x (window l k m)) e ∙ ap (allAre x) (window-add l k a b) ∙ all-append x (window l k a) (window l (k + a) b)
 
@@ -142,17 +158,50 @@ pub near-are : (x : Bool) (l : List Bool) (start n v w : ℕ) (t : Bool) → sta
     → bits 64 w ≡ window (bits 64 v) (start % 8) 64 → t ≡ allAre x (take n (bits 64 w)) → t ≡ allAre x (window l start n)
 near-are x l start n v w t h p q e = e ∙ ap (allAre x) (near-flags l start n v w h p q)
 
+-- the first flags of a list's window, those past its end left out: they are not set
+any-inside : (l : List Bool) (s n : ℕ) → length l ≡ 64 → s ≤ 64 → anySet (take n (window l s 64)) ≡ anySet (window l s (min n (64 - s)))
+any-inside l s n e h = ⊎-elim
+    (λ (p : n < 64 - s).
+    let a : s + 0 ≡ s = omega arith in
+    let b : n ≡ min n (64 - s) = omega arith in
+    ap anySet (window-cut l s 64 0 n (omega arith)) ∙ ap₂ (λ (x y : ℕ). anySet (window l x y)) a b)
+    (λ (p : 64 - s ≤ n).
+    let m : min n 64 ≡ (64 - s) + (min n 64 - (64 - s)) = omega arith in
+    let b : 64 - s ≡ min n (64 - s) = omega arith in
+    ap anySet (first p) ∙ ap (λ (y : ℕ). anySet (window l s y)) m ∙ any-add l s (64 - s) (min n 64 - (64 - s))
+    ∙ ap (λ (t : List Bool). anySet (window l s (64 - s)) || anySet t) (window-past l (s + (64 - s)) (min n 64 - (64 - s)) (omega arith))
+    ∙ ap (λ (t : Bool). anySet (window l s (64 - s)) || t) (any-copies (min n 64 - (64 - s)) false ∙ and-false (ltb 0 (min n 64 - (64 - s))))
+    ∙ or-false (anySet (window l s (64 - s))) ∙ ap (λ (y : ℕ). anySet (window l s y)) b)
+    (lt-or-le n (64 - s))
+  where
+    first : 64 - s ≤ n → take n (window l s 64) ≡ window l s (min n 64)
+    first p = ⊎-elim
+        (λ (q : n < 64).
+        let a : s + 0 ≡ s = omega arith in
+        let b : n ≡ min n 64 = omega arith in
+        window-cut l s 64 0 n (omega arith) ∙ ap₂ (window l) a b)
+        (λ (q : 64 ≤ n).
+        let b : 64 ≡ min n 64 = omega arith in
+        take-all n (window l s 64) (omega (arith, length-window l s 64)) ∙ ap (window l s) b)
+        (lt-or-le n 64)
+
+-- a flag unlike x among the first flags of the eight bytes in which a stretch begins
+pub differs : (x : Bool) (l : List Bool) (start n w u v r : ℕ) (t : Bool) → bits 64 w ≡ window l (8 * (start / 8)) 64 → bits 64 u ≡ map (xor x) (bits 64 w)
+    → bits 64 v ≡ window (bits 64 u) (start % 8) 64 → bits 64 r ≡ window (take n (bits 64 v)) 0 64 → t ≡ anySet (bits 64 r)
+    → t ≡ true → allAre x (window l start n) ≡ false
+differs x l start n w u v r t pw pu pv pr pt said =
+    let k : ℕ = min n (64 - start % 8) in
+    let at : 8 * (start / 8) + start % 8 ≡ start = omega arith in
+    let near : window (bits 64 w) (start % 8) k ≡ window l start k =
+    ap (λ (m : List Bool). window m (start % 8) k) pw ∙ in-window l (8 * (start / 8)) 64 (start % 8) k (omega arith) ∙ ap (λ (y : ℕ). window l y k) at in
+    let some : t ≡ anySet (map (xor x) (window l start k)) =
+    pt ∙ ap anySet pr ∙ any-padded (take n (bits 64 v)) 64 (omega (arith, length-take n (bits 64 v), length-bits 64 v))
+    ∙ ap (λ (m : List Bool). anySet (take n m)) pv ∙ any-inside (bits 64 u) (start % 8) n (length-bits 64 u) (omega arith)
+    ∙ ap (λ (m : List Bool). anySet (window m (start % 8) k)) pu
+    ∙ ap anySet (window-map (xor x) (bits 64 w) (start % 8) k (omega (arith, length-bits 64 w))) ∙ ap (λ (m : List Bool). anySet (map (xor x) m)) near in
+    sym (all-exit x l start n start k (not t) (ap not some ∙ all-any x (window l start k)) (ap not said) (omega arith) (omega arith))
+
 -- ---- word by word
-
-at-map : (f : Bool → Bool) (l : List Bool) (k : ℕ) → k < length l → getD (map f l) k false ≡ f (getD l k false)
-at-map f [] k h = absurd (omega arith)
-at-map f (x ∷ l) zero h = refl
-at-map f (x ∷ l) (suc k) h = at-map f l k (omega arith)
-
-window-map : (f : Bool → Bool) (l : List Bool) (k n : ℕ) → k + n ≤ length l → window (map f l) k n ≡ map f (window l k n)
-unfolding window
-window-map f l k zero h = refl
-window-map f l k (suc n) h = ap₂ (λ (x : Bool) (t : List Bool). x ∷ t) (at-map f l k (omega arith)) (window-map f l (suc k) n (omega arith))
 
 pub length-unlike : (x : Bool) (l : List Bool) (p n : ℕ) → length (map (xor x) (window l p n)) ≡ n
 length-unlike x l p n = length-map (window l p n) (xor x) ∙ length-window l p n

@@ -103,9 +103,10 @@ pub fn all_are(flag: bool, bytes: &[u8], start: usize, len: usize) -> bool
 pub fn differs_early(flag: bool, bytes: &[u8], start: usize, len: usize) -> bool
     ensures { λ r. ⌜ (r ≡ true → allAre flag (stretch (now (bytes .entry)) start len) ≡ false) ⌝ }
 {
-    if room(bytes.len(), start / 8) == 0 {
+    let end = start / 8 + 8;
+    if bytes.len() < end {
         return false;
     }
-    let w = down(full_word(bytes, start / 8), start % 8);
-    !low_are(flag, w, least(len, 64 - start % 8))
+    let others = down(unlike(flag, full_word(bytes, start / 8)), start % 8);
+    is_set(low_flags(others, len))
 }

@@ -10,7 +10,7 @@ differs-early-requires : tie.Need-differs-early-requires
 differs-early-requires c κs = search needs
 
 returns : tie.Need-returns
-returns c = λ yes. sym (all-zeros _ _ _ _ (length-window _ _ _) refl) ∙ c .differs-early .ensures yes
+returns c = λ said. sym (all-zeros _ _ _ _ (length-window _ _ _) refl) ∙ c .differs-early .ensures said
 
 pub other-early-spec : {M : Type 1} → statement M
 other-early-spec = tie.close (tie.spec differs-early-requires returns)
