@@ -11,7 +11,7 @@ use lib.Count.{ones, ones-step}
 use lib.ListN.{length, take, length-take}
 use Rattle.words.specs.Flags.{bits, copies, count, digit, window, wordOf}
 use Rattle.words.proofs.Bits.{length-bits, digit-isOne, half-lt}
-use Rattle.words.proofs.Windows.{length-window, window-add, window-all, window-past, window-take, in-window, lt-or-le}
+use Rattle.words.proofs.Windows.{length-window, window-add, window-all, window-past, in-window, lt-or-le}
 
 -- the processor's count of a number's ones is the count of its flags
 pub ones-bits : (d n : ℕ) → n < 2 ^ d → count (bits d n) ≡ ones n
@@ -82,28 +82,6 @@ pub count-word : (w k : ℕ) → k ≡ count (bits 64 w) → k ≤ 64
 count-word w k e = omega (arith, count-le (bits 64 w), length-bits 64 w)
 
 -- ---- word by word
-
--- the ones of the k low flags of a word
-pub count-low : (l : List Bool) (bit k w r c : ℕ) → k ≤ 64 → bits 64 w ≡ window l bit 64 → bits 64 r ≡ window (take k (bits 64 w)) 0 64 → c ≡ count (bits 64 r)
-    → c ≡ count (window l bit k)
-count-low l bit k w r c h p q e =
-    e ∙ ap count (q ∙ ap (λ (t : List Bool). window (take k t) 0 64) p ∙ window-take l bit k 64)
-    ∙ count-padded (window l bit k) 64 (omega (arith, length-window l bit k))
-
--- the same where more are wanted than the word has, and the list ends within it
-pub count-rest : (l : List Bool) (bit k w r c : ℕ) → (64 < k → length l ≤ bit + 64) → bits 64 w ≡ window l bit 64 → bits 64 r ≡ window (take k (bits 64 w)) 0 64
-    → c ≡ count (bits 64 r) → c ≡ count (window l bit k)
-count-rest l bit k w r c h p q e = ⊎-elim
-    (λ (j : 64 < k).
-    let n : k ≡ 64 + (k - 64) = omega arith in
-    let z : bit + 0 ≡ bit = omega arith in
-    let low : window (take k (bits 64 w)) 0 64 ≡ window (window l bit k) 0 64 = ap (λ (t : List Bool). window (take k t) 0 64) p ∙ window-take l bit k 64 in
-    let a : c ≡ count (window l bit 64) = e ∙ ap count (q ∙ low ∙ in-window l bit k 0 64 (omega arith) ∙ ap (λ (x : ℕ). window l x 64) z) in
-    let b = count-cut l bit k 64 (k - 64) n in
-    let d : count (window l (bit + 64) (k - 64)) ≡ 0 = count-past l (bit + 64) (k - 64) (h j) in
-    omega arith)
-    (λ (j : k ≤ 64). count-low l bit k w r c j p q e)
-    (lt-or-le 64 k)
 
 -- one more word
 pub count-step : (l : List Bool) (i w c k : ℕ) → c ≡ count (window l 0 (64 * i)) → bits 64 w ≡ window l (64 * i) 64 → k ≡ count (bits 64 w)

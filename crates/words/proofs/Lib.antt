@@ -14,6 +14,7 @@ pub mod NthLaws
 pub mod Plain
 mod PlaneLaws
 mod Ranges
+mod RowLaws
 pub mod UniformLaws
 pub mod Windows
 pub mod Writing

@@ -103,10 +103,6 @@ all-low x k w u r t p q e =
     ∙ ap (λ (l : List Bool). anySet (take k l)) p ∙ ap anySet (take-map (xor x) k (bits 64 w)))
     ∙ all-any x (take k (bits 64 w))
 
--- where a test says no, nothing is owed
-pub unsaid : {A : Type 0} → false ≡ true → A
-unsaid e = absurd (let z : _≡_ {A = ℕ} 0 1 = cc e in omega arith)
-
 -- ---- windows
 
 at-map : (f : Bool → Bool) (l : List Bool) (k : ℕ) → k < length l → getD (map f l) k false ≡ f (getD l k false)

@@ -1,20 +1,19 @@
 // Counting and comparing. A stretch is `len` flags of the bytes from any flag on, zeros past their end. The time is bounded by
 // the bytes lent, whatever `len` is.
 ghost use mathlib.Core.Path.{_≡_};
-ghost use mathlib.Core.Bool.{false, not, _&&_};
+ghost use mathlib.Core.Bool.{true, false, not, _&&_};
 ghost use Prim.Native.Nat.{_*_, _+_, _-_, _≤_, _<_};
 ghost use lib.ListN.{length, drop};
 ghost use lib.Dec.{ltb};
 ghost use Rattle.words.specs.Flags.{flagsOf, count, digit, over, window, wordFlags};
 ghost use Rattle.words.specs.Ops.{opOf};
-ghost use Rattle.words.specs.Kernels.{InRange};
+ghost use Rattle.words.specs.Kernels.{InRange, WholeWords};
 ghost use Rattle.words.specs.Loops.{stretch, combined, wholeWords};
 ghost use Rattle.words.specs.Counts.{anySet, sameFlags};
 use crate::kernels::copy_bytes;
 use crate::kernels::copy_words;
 use crate::kernels::each_count;
 use crate::kernels::each_join;
-use crate::kernels::ones_words;
 use crate::loops::common_room;
 use crate::loops::copy;
 use crate::loops::least;
@@ -22,27 +21,55 @@ use crate::loops::room;
 use crate::loops::triple_word;
 use crate::loops::words_for;
 use crate::ops::Op;
+use crate::rows::ones_many;
+use crate::rows::ones_single;
+use crate::rows::ones_words;
+use crate::word::byte_word;
 use crate::word::down;
-use crate::word::low_flags;
+use crate::word::ones_below;
 use crate::word::ones_in_word;
-use crate::word::word_at;
 
-// How many flags of a stretch are set: up to a byte boundary, whole words, and the rest.
+// How many flags of a stretch are set. Whole words from a byte on, all in range, are counted with no look for partial ones. What is
+// rare is outside this body and gets a slice of its own, so that the slice given here stays in registers.
 pub fn count_ones(bytes: &[u8], start: usize, len: usize) -> usize
     ensures { λ r. ⌜ r ≡ count (stretch (now (bytes .entry)) start len) ⌝ }
 {
-    let p = start / 8;
-    let s = start % 8;
-    if len <= 64 {
-        return ones_in_word(low_flags(word_at(bytes, p, s), len));
+    if whole_words(bytes.len(), start, len) {
+        let n = len / 64;
+        if n < 128 {
+            return ones_single(bytes, start / 8, n);
+        }
+        return ones_many(&bytes[0..], start / 8, n);
     }
-    let h = (8 - s) % 8;
-    let q = p + (s + 7) / 8;
-    let n = least((len - h) / 64, room(bytes.len(), q));
-    let first = ones_in_word(low_flags(word_at(bytes, p, s), h));
+    count_mixed(&bytes[0..], start, len)
+}
+
+// Is a stretch whole words from a byte on, all in range.
+fn whole_words(size: usize, start: usize, len: usize) -> bool
+    ensures { λ r. ⌜ (r ≡ true → WholeWords size start len) ⌝ }
+{
+    if start % 8 + len % 64 == 0 {
+        len / 64 <= room(size, start / 8)
+    } else {
+        false
+    }
+}
+
+// The flags of the first eight bytes, whole words, and the rest. What fits a word is one load.
+fn count_mixed(bytes: &[u8], start: usize, len: usize) -> usize
+    ensures { λ r. ⌜ r ≡ count (stretch (now (bytes .entry)) start len) ⌝ }
+{
+    let k = 64 - start % 8;
+    let w = down(byte_word(bytes, start / 8), start % 8);
+    if len <= k {
+        return ones_below(w, len);
+    }
+    let q = start / 8 + 8;
+    let n = least((len - k) / 64, room(bytes.len(), q));
+    let first = ones_in_word(w);
     let mid = ones_words(bytes, q, n);
-    let rest = len - h - 64 * n;
-    let last = ones_in_word(low_flags(word_at(bytes, q + 8 * n, 0), rest));
+    let rest = len - k - 64 * n;
+    let last = ones_below(byte_word(bytes, q + 8 * n), rest);
     first + mid + last
 }
 
@@ -69,7 +96,7 @@ fn copy_then_count(bytes: &[u8], start: usize, len: usize, out: &mut [u8]) -> us
     ensures flags { λ _. ⌜ flagsOf (now (out .exit)) ≡ over (flagsOf (now (out .entry))) (wholeWords (stretch (now (bytes .entry)) start len)) ⌝ }
 {
     copy(bytes, start, len, out);
-    count_ones(bytes, start, len)
+    count_mixed(bytes, start, len)
 }
 
 // A number of words that no stretch over so many bytes exceeds.

@@ -242,21 +242,6 @@ pub(crate) fn each_join(
     }
 }
 
-// The ones of n words from the byte p on.
-pub(crate) fn ones_words(bytes: &[u8], p: usize, n: usize) -> usize
-    requires { ⌜ (8 * n ≤ length (now bytes) - p) × (64 * n < 2 ^ 64) ⌝ }
-    ensures { λ r. ⌜ r ≡ count (window (flagsOf (now (bytes .entry))) (8 * p) (64 * n)) ⌝ }
-{
-    let mut ones: usize = 0;
-    let mut i = 0;
-    while i < n {
-        let at = 8 * i;
-        ones += ones_in_word(full_word(bytes, p + at));
-        i += 1;
-    }
-    ones
-}
-
 // n words from the byte p on, over the front of out, and their ones: in one pass.
 pub(crate) fn copy_bytes(bytes: &[u8], p: usize, n: usize, out: &mut [u8]) -> usize
     requires { ⌜ (8 * n ≤ length (now bytes) - p) × ((8 * n ≤ length (now out)) × (64 * n < 2 ^ 64)) ⌝ }

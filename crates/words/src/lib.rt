@@ -12,5 +12,6 @@ pub mod merge;
 pub mod nth;
 pub mod ops;
 mod planes;
+mod rows;
 pub mod uniform;
 pub mod word;

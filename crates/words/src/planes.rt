@@ -31,12 +31,12 @@ fn add_one(planes: &mut [u64; 9], words: &[u64], at: usize)
 }
 
 // The two digits of a sum of three flags, in each column.
-struct Sum {
-    low: u64,
-    high: u64,
+pub(crate) struct Sum {
+    pub(crate) low: u64,
+    pub(crate) high: u64,
 }
 
-fn full_add(x: u64, y: u64, z: u64) -> Sum
+pub(crate) fn full_add(x: u64, y: u64, z: u64) -> Sum
     ensures { λ r. ⌜ Added x y z (r .low) (r .high) ⌝ }
 {
     let u = x ^ y;

@@ -1,5 +1,6 @@
 -- A flag of the first load is another (`differs`); at the early return nothing is said.
-use Rattle.words.proofs.UniformLaws.{differs, unsaid}
+use Rattle.words.proofs.AnyFlag.{unsaid}
+use Rattle.words.proofs.UniformLaws.{differs}
 use borrow.Author.Needs.{needs}
 use Rattle.words.proofs.uniform.differs_early.Statement.{statement}
 use Rattle.words.proofs.uniform.differs_early.Tie as tie

@@ -7,8 +7,8 @@ use native.Mathlib.Omega.{arith}
 use Rattle.words.specs.Flags.{flagsOf, window, count}
 use Rattle.words.proofs.Counting.{count-none, count-step, count-within, count-word, count-all, span-word}
 use borrow.Author.Needs.{needs}
-use Rattle.words.proofs.kernels.ones_words.Statement.{statement}
-use Rattle.words.proofs.kernels.ones_words.Tie as tie
+use Rattle.words.proofs.rows.ones_single.Statement.{statement}
+use Rattle.words.proofs.rows.ones_single.Tie as tie
 
 abbrev Inv-loop : tie.InvT-loop
 Inv-loop bytes p n ones₀ i₀ ones i = (i ≤ n) × (ones ≡ count (window (window (flagsOf bytes) (8 * p) (64 * n)) 0 (64 * i)))
@@ -50,8 +50,8 @@ loop-again c = (
 returns : tie.Need-returns Inv-loop μ-loop
 returns c = count-all _ _ _ _ (c .before .loop .inv .1) (length-window _ _ _) (c .before .loop .inv .0) (c .loop-test .left)
 
-pub ones-words-spec : {M : Type 1} → statement M
-ones-words-spec =
+pub ones-single-spec : {M : Type 1} → statement M
+ones-single-spec =
     tie.close
     (tie.spec
     Inv-loop
