@@ -21,12 +21,10 @@ use Rattle.masks.specs.Combine.{shortcut, resultFlags, resultMask, resul
 use Rattle.masks.specs.Combine.{pairFlags, pairMask, pairOf, pairBytes, eachOf, eachBytes, selectChecks}
 use Rattle.masks.specs.Frozen.{packed, frozen, frozenSize, overFrom}
 use Rattle.masks.specs.Mask.{maskOf, maskFlags, maskChecks, uncounted, zeroCount}
-use Rattle.masks.specs.Workers.{asksFor, eitherAll, xorAll}
+use Rattle.masks.specs.Workers.{hasShortcut, isOr, isXor, eitherAll, xorAll}
 use Rattle.masks.specs.declared.bitmap.Bitmap.{Bitmap}
 use Rattle.masks.specs.declared.bitmap.Unset.{Unset}
 use Rattle.masks.specs.Utils.{zerosOfAll}
-use Rattle.masks.specs.declared.shortcuts.Asked.{Asked}
-use Rattle.masks.specs.declared.shortcuts.Asked.the-variants.{Nothing, Either, Both}
 use Rattle.masks.specs.declared.shortcuts.Shortcut.{Shortcut}
 use Rattle.masks.specs.declared.shortcuts.Shortcut.the-variants.{Each, All}
 use Rattle.masks.proofs.CheckLaws.{both-left, both-right, first-allowed, rest-allowed, is-given, is-refused, is-kept, is-new}
@@ -66,48 +64,39 @@ pub either-none : (x l r : Bool) → l ≡ false → r ≡ false → Each ≡ ei
 unfolding eitherAll
 either-none x l r e f = rw (e, f)
 
--- what was asked says which operation it is
-abbrev flagAsked : Asked → Bool
-flagAsked (Either x) = x
-flagAsked Both = false
-flagAsked Nothing = false
+-- the tests say which operation it is
+not-both : {A : Type 0} → true ≡ false → A
+not-both e = absurd (let z : _≡_ {A = ℕ} 0 1 = cc e in omega arith)
 
-abbrev askedAs : Asked → ℕ
-askedAs Nothing = 0
-askedAs (Either x) = 1
-askedAs Both = 2
-
-pub nothing-asked : (op : Op) (n l r : ℕ) → asksFor op ≡ Nothing → Each ≡ shortcut op n l r
+pub no-shortcut : (op : Op) (n l r : ℕ) → hasShortcut op ≡ false → Each ≡ shortcut op n l r
 unfolding shortcut
-nothing-asked And n l r e = absurd (let z : _≡_ {A = ℕ} 1 0 = ap askedAs e in omega arith)
-nothing-asked Or n l r e = absurd (let z : _≡_ {A = ℕ} 1 0 = ap askedAs e in omega arith)
-nothing-asked Xor n l r e = absurd (let z : _≡_ {A = ℕ} 2 0 = ap askedAs e in omega arith)
-nothing-asked AndNot n l r e = refl
-nothing-asked OrNot n l r e = refl
-nothing-asked Not n l r e = refl
-nothing-asked Select n l r e = refl
+no-shortcut And n l r e = not-both e
+no-shortcut Or n l r e = not-both e
+no-shortcut Xor n l r e = not-both e
+no-shortcut AndNot n l r e = refl
+no-shortcut OrNot n l r e = refl
+no-shortcut Not n l r e = refl
+no-shortcut Select n l r e = refl
 
-pub both-asked : (op : Op) (n l r : ℕ) (s : Shortcut) → asksFor op ≡ Both → s ≡ shortcut Xor n l r → s ≡ shortcut op n l r
-both-asked And n l r s e p = absurd (let z : _≡_ {A = ℕ} 1 2 = ap askedAs e in omega arith)
-both-asked Or n l r s e p = absurd (let z : _≡_ {A = ℕ} 1 2 = ap askedAs e in omega arith)
-both-asked Xor n l r s e p = p
-both-asked AndNot n l r s e p = absurd (let z : _≡_ {A = ℕ} 0 2 = ap askedAs e in omega arith)
-both-asked OrNot n l r s e p = absurd (let z : _≡_ {A = ℕ} 0 2 = ap askedAs e in omega arith)
-both-asked Not n l r s e p = absurd (let z : _≡_ {A = ℕ} 0 2 = ap askedAs e in omega arith)
-both-asked Select n l r s e p = absurd (let z : _≡_ {A = ℕ} 0 2 = ap askedAs e in omega arith)
+pub is-xor : (op : Op) (n l r : ℕ) (s : Shortcut) → isXor op ≡ true → s ≡ shortcut Xor n l r → s ≡ shortcut op n l r
+is-xor And n l r s e p = not-both (sym e)
+is-xor Or n l r s e p = not-both (sym e)
+is-xor Xor n l r s e p = p
+is-xor AndNot n l r s e p = not-both (sym e)
+is-xor OrNot n l r s e p = not-both (sym e)
+is-xor Not n l r s e p = not-both (sym e)
+is-xor Select n l r s e p = not-both (sym e)
 
-pub either-asked : (op : Op) (x : Bool) (n m l r : ℕ) (s : Shortcut) → asksFor op ≡ Either x → n ≡ m
-    → s ≡ eitherAll x (eqb l (zerosOfAll x n)) (eqb r (zerosOfAll x m)) → s ≡ shortcut op n l r
+pub and-or : (op : Op) (n m l r : ℕ) (s : Shortcut) → hasShortcut op ≡ true → isXor op ≡ false → n ≡ m
+    → s ≡ eitherAll (isOr op) (eqb l (zerosOfAll (isOr op) n)) (eqb r (zerosOfAll (isOr op) m)) → s ≡ shortcut op n l r
 unfolding shortcut eitherAll
-either-asked And x n m l r s e h p =
-    p ∙ ap (λ (y : Bool). eitherAll y (eqb l (zerosOfAll y n)) (eqb r (zerosOfAll y m))) (sym (ap flagAsked e))
-    ∙ ap (λ (k : ℕ). eitherAll false (eqb l n) (eqb r k)) (sym h)
-either-asked Or x n m l r s e h p = p ∙ ap (λ (y : Bool). eitherAll y (eqb l (zerosOfAll y n)) (eqb r (zerosOfAll y m))) (sym (ap flagAsked e))
-either-asked Xor x n m l r s e h p = absurd (let z : _≡_ {A = ℕ} 2 1 = ap askedAs e in omega arith)
-either-asked AndNot x n m l r s e h p = absurd (let z : _≡_ {A = ℕ} 0 1 = ap askedAs e in omega arith)
-either-asked OrNot x n m l r s e h p = absurd (let z : _≡_ {A = ℕ} 0 1 = ap askedAs e in omega arith)
-either-asked Not x n m l r s e h p = absurd (let z : _≡_ {A = ℕ} 0 1 = ap askedAs e in omega arith)
-either-asked Select x n m l r s e h p = absurd (let z : _≡_ {A = ℕ} 0 1 = ap askedAs e in omega arith)
+and-or And n m l r s e f h p = p ∙ ap (λ (k : ℕ). eitherAll false (eqb l n) (eqb r k)) (sym h)
+and-or Or n m l r s e f h p = p
+and-or Xor n m l r s e f h p = not-both f
+and-or AndNot n m l r s e f h p = not-both (sym e)
+and-or OrNot n m l r s e f h p = not-both (sym e)
+and-or Not n m l r s e f h p = not-both (sym e)
+and-or Select n m l r s e f h p = not-both (sym e)
 
 pub xor-same : (a b : Bool) → a ≡ true → All false ≡ xorAll a b
 unfolding xorAll

@@ -30,8 +30,6 @@ use Rattle.masks.specs.declared.bitmap.Unset.the-variants.{Known}
 use Rattle.masks.specs.declared.bitmask.Seen.{Seen}
 use Rattle.masks.specs.declared.bitmask.Seen.the-variants.{There, Only}
 use Rattle.masks.specs.declared.builder.BitmapBuilder.{BitmapBuilder}
-use Rattle.masks.specs.declared.shortcuts.Asked.{Asked}
-use Rattle.masks.specs.declared.shortcuts.Asked.the-variants.{Nothing, Either, Both}
 use Rattle.masks.specs.declared.shortcuts.Shortcut.{Shortcut}
 use Rattle.masks.specs.declared.shortcuts.Shortcut.the-variants.{Each, All}
 use Rattle.masks.specs.declared.slice_iterator.Run.{Run}
@@ -76,15 +74,33 @@ cutOf old n cut u = cond (recountValid old n cut u) (Cut.Count (slicedCount old 
 
 -- ---- `shortcuts`
 
--- what an operation asks of its masks for a shortcut: whether either is all zero, all one, or whether both are constant
-abbrev pub asksFor : Op → Asked
-asksFor And = Either false
-asksFor Or = Either true
-asksFor Xor = Both
-asksFor AndNot = Nothing
-asksFor OrNot = Nothing
-asksFor Not = Nothing
-asksFor Select = Nothing
+-- an operation that has a shortcut
+abbrev pub hasShortcut : Op → Bool
+hasShortcut And = true
+hasShortcut Or = true
+hasShortcut Xor = true
+hasShortcut AndNot = false
+hasShortcut OrNot = false
+hasShortcut Not = false
+hasShortcut Select = false
+
+abbrev pub isXor : Op → Bool
+isXor And = false
+isXor Or = false
+isXor Xor = true
+isXor AndNot = false
+isXor OrNot = false
+isXor Not = false
+isXor Select = false
+
+abbrev pub isOr : Op → Bool
+isOr And = false
+isOr Or = true
+isOr Xor = false
+isOr AndNot = false
+isOr OrNot = false
+isOr Not = false
+isOr Select = false
 
 -- a mask is all x, by its count
 abbrev pub isAll : Bool → Bitmap → List ℕ → Bool

@@ -5,7 +5,7 @@ ghost use mathlib.Core.Bool.{not};
 ghost use Rattle.words.specs.declared.ops.Op.the-variants.{Xor};
 ghost use Rattle.masks.specs.Combine.{pairShortcut, resultCount};
 ghost use Rattle.masks.specs.Utils.{zerosOfAll};
-ghost use Rattle.masks.specs.Workers.{asksFor, eitherAll, isAll, xorAll};
+ghost use Rattle.masks.specs.Workers.{eitherAll, hasShortcut, isAll, isOr, isXor, xorAll};
 use crate::bitmap::Bitmap;
 use crate::bitmap::Unset;
 use crate::bitmap::not_counted;
@@ -17,13 +17,6 @@ use words::ops::Op;
 pub(crate) enum Shortcut {
     Each,
     All(bool),
-}
-
-// What an operation asks of its masks for a shortcut: nothing, whether either is all of a flag, or whether both are constant.
-enum Asked {
-    Nothing,
-    Either(bool),
-    Both,
 }
 
 // The zeros of n flags that are all `flag`.
@@ -102,31 +95,60 @@ fn xor_shortcut(lhs: Bitmap, left: &[u8], rhs: Bitmap, right: &[u8]) -> Shortcut
     Shortcut::Each
 }
 
-fn asks(op: Op) -> Asked
-    ensures { λ r. ⌜ r ≡ asksFor op ⌝ }
+fn has_shortcut(op: Op) -> bool
+    ensures { λ r. ⌜ r ≡ hasShortcut op ⌝ }
 {
     match op {
-        Op::And => Asked::Either(false),
-        Op::Or => Asked::Either(true),
-        Op::Xor => Asked::Both,
-        Op::AndNot => Asked::Nothing,
-        Op::OrNot => Asked::Nothing,
-        Op::Not => Asked::Nothing,
-        Op::Select => Asked::Nothing,
+        Op::And => true,
+        Op::Or => true,
+        Op::Xor => true,
+        Op::AndNot => false,
+        Op::OrNot => false,
+        Op::Not => false,
+        Op::Select => false,
     }
 }
 
-// What the counts of two masks say. One place asks for `and` and `or`, so that the questions are compiled into it.
+fn is_xor(op: Op) -> bool
+    ensures { λ r. ⌜ r ≡ isXor op ⌝ }
+{
+    match op {
+        Op::And => false,
+        Op::Or => false,
+        Op::Xor => true,
+        Op::AndNot => false,
+        Op::OrNot => false,
+        Op::Not => false,
+        Op::Select => false,
+    }
+}
+
+fn is_or(op: Op) -> bool
+    ensures { λ r. ⌜ r ≡ isOr op ⌝ }
+{
+    match op {
+        Op::And => false,
+        Op::Or => true,
+        Op::Xor => false,
+        Op::AndNot => false,
+        Op::OrNot => false,
+        Op::Not => false,
+        Op::Select => false,
+    }
+}
+
+// What the counts of two masks say. One place asks for both `and` and `or`, so that the questions are compiled into it.
 pub(crate) fn pair_shortcut(op: Op, lhs: Bitmap, left: &[u8], rhs: Bitmap, right: &[u8]) -> Shortcut
     requires { ⌜ lhs .length ≡ rhs .length ⌝ }
     ensures { λ s. ⌜ s ≡ pairShortcut op lhs (now (left .entry)) rhs (now (right .entry)) ⌝ }
 {
-    let asked = asks(op);
-    match asked {
-        Asked::Nothing => Shortcut::Each,
-        Asked::Either(flag) => either_all(flag, lhs, left, rhs, right),
-        Asked::Both => xor_shortcut(lhs, left, rhs, right),
+    if !has_shortcut(op) {
+        return Shortcut::Each;
     }
+    if is_xor(op) {
+        return xor_shortcut(lhs, left, rhs, right);
+    }
+    either_all(is_or(op), lhs, left, rhs, right)
 }
 
 // The count of a result of n flags.
