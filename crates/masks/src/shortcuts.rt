@@ -72,7 +72,7 @@ fn either_all(flag: bool, lhs: Bitmap, left: &[u8], rhs: Bitmap, right: &[u8]) -
 fn xor_all(flag: bool, mask: Bitmap, bytes: &[u8]) -> Shortcut
     ensures { λ s. ⌜ s ≡ xorAll (isAll flag mask (now (bytes .entry))) (isAll (not flag) mask (now (bytes .entry))) ⌝ }
 {
-    if is_all(flag, mask, bytes) {
+    if is_all_early(flag, mask, bytes) {
         return Shortcut::All(false);
     }
     if is_all(!flag, mask, bytes) {

@@ -5,14 +5,14 @@ use mathlib.Core.Logic.{⊎-elim}
 use mathlib.Core.List.{List, [], _∷_, _++_, map}
 use Prim.Native.Nat.{ℕ, zero, suc, _+_, _-_, _*_, _/_, _%_, _≤_, _<_, min}
 use native.Mathlib.Omega.{arith}
-use lib.Dec.{eqb, ltb}
+use lib.Dec.{eqb, leb, ltb}
 use lib.Seq.{take-all}
 use lib.ListN.{length, take, getD, length-take, length-map}
-use borrow.Author.Tests.{eq-eqb, ne-eqb, eqb-true, eqb-false}
-use Rattle.words.specs.Flags.{bits, count, digit, window}
+use borrow.Author.Tests.{eq-eqb, ne-eqb, eqb-true, eqb-false, le-leb, lt-leb, not-true}
+use Rattle.words.specs.Flags.{bits, count, digit, flagsOf, window}
 use Rattle.words.specs.Counts.{anySet}
-use Rattle.words.specs.Uniform.{allAre}
-use Rattle.words.proofs.AnyFlag.{and-false, any-add, any-copies, any-padded}
+use Rattle.words.specs.Uniform.{allAre, differsEarly}
+use Rattle.words.proofs.AnyFlag.{and-false, any-add, any-copies, any-padded, unsaid}
 use Rattle.words.proofs.Bits.{length-bits}
 use Rattle.words.proofs.Counting.{count-le, span-word}
 use Rattle.words.proofs.Loads.{near-flags}
@@ -54,6 +54,10 @@ zero-xor false = refl
 or-false : (x : Bool) → (x || false) ≡ x
 or-false true = refl
 or-false false = refl
+
+not-not : (x : Bool) → not (not x) ≡ x
+not-not true = refl
+not-not false = refl
 
 and-again : (x y z : Bool) → (x && (y && z)) ≡ ((x && y) && z)
 and-again true y z = refl
@@ -184,8 +188,8 @@ any-inside l s n e h = ⊎-elim
 -- a flag unlike x among the first flags of the eight bytes in which a stretch begins
 pub differs : (x : Bool) (l : List Bool) (start n w u v r : ℕ) (t : Bool) → bits 64 w ≡ window l (8 * (start / 8)) 64 → bits 64 u ≡ map (xor x) (bits 64 w)
     → bits 64 v ≡ window (bits 64 u) (start % 8) 64 → bits 64 r ≡ window (take n (bits 64 v)) 0 64 → t ≡ anySet (bits 64 r)
-    → t ≡ true → allAre x (window l start n) ≡ false
-differs x l start n w u v r t pw pu pv pr pt said =
+    → t ≡ not (allAre x (window l start (min n (64 - start % 8))))
+differs x l start n w u v r t pw pu pv pr pt =
     let k : ℕ = min n (64 - start % 8) in
     let at : 8 * (start / 8) + start % 8 ≡ start = omega arith in
     let near : window (bits 64 w) (start % 8) k ≡ window l start k =
@@ -195,7 +199,28 @@ differs x l start n w u v r t pw pu pv pr pt said =
     ∙ ap (λ (m : List Bool). anySet (take n m)) pv ∙ any-inside (bits 64 u) (start % 8) n (length-bits 64 u) (omega arith)
     ∙ ap (λ (m : List Bool). anySet (window m (start % 8) k)) pu
     ∙ ap anySet (window-map (xor x) (bits 64 w) (start % 8) k (omega (arith, length-bits 64 w))) ∙ ap (λ (m : List Bool). anySet (map (xor x) m)) near in
-    sym (all-exit x l start n start k (not t) (ap not some ∙ all-any x (window l start k)) (ap not said) (omega arith) (omega arith))
+    some ∙ sym (not-not (anySet (map (xor x) (window l start k)))) ∙ ap not (all-any x (window l start k))
+
+pub too-few : (x : Bool) (bytes : List ℕ) (start n : ℕ) → length bytes < start / 8 + 8 → false ≡ differsEarly x bytes start n
+unfolding differsEarly
+too-few x bytes start n h = rw (lt-leb (start / 8 + 8) (length bytes) h)
+
+pub enough : (x : Bool) (bytes : List ℕ) (start n : ℕ) (t : Bool) → start / 8 + 8 ≤ length bytes → t ≡ not (allAre x (window (flagsOf bytes) start (min n (64 - start % 8))))
+    → t ≡ differsEarly x bytes start n
+unfolding differsEarly
+enough x bytes start n t h e = rw (le-leb (start / 8 + 8) (length bytes) h) e
+
+-- a flag that differs early differs
+pub early-other : (x : Bool) (bytes : List ℕ) (start n : ℕ) (t : Bool) → t ≡ differsEarly x bytes start n → t ≡ true → allAre x (window (flagsOf bytes) start n) ≡ false
+unfolding differsEarly
+early-other x bytes start n t e said = go (leb (start / 8 + 8) (length bytes)) (sym said ∙ e)
+  where
+    first : List Bool
+    first = window (flagsOf bytes) start (min n (64 - start % 8))
+
+    go : (b : Bool) → true ≡ (b && not (allAre x first)) → allAre x (window (flagsOf bytes) start n) ≡ false
+    go true p = sym (all-exit x (flagsOf bytes) start n start (min n (64 - start % 8)) (allAre x first) refl (not-true (allAre x first) (sym p)) (omega arith) (omega arith))
+    go false p = unsaid (sym p)
 
 -- ---- word by word
 

@@ -9,7 +9,8 @@ use crate::word::ones_in_word;
 
 // The ones of seven words: added flag by flag, so that three words are counted in place of seven.
 fn seven_ones(a: u64, b: u64, c: u64, d: u64, e: u64, f: u64, g: u64) -> usize
-    ensures { λ r. ⌜ r ≡ count (wordFlags a) + count (wordFlags b) + count (wordFlags c) + count (wordFlags d) + count (wordFlags e) + count (wordFlags f) + count (wordFlags g) ⌝ }
+    ensures { λ r. ⌜ r ≡ count (wordFlags a) + count (wordFlags b) + count (wordFlags c) + count (wordFlags d)
+        + count (wordFlags e) + count (wordFlags f) + count (wordFlags g) ⌝ }
 {
     let x = full_add(a, b, c);
     let y = full_add(d, e, f);

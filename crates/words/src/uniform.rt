@@ -1,13 +1,13 @@
 // Whether all flags of a stretch are one flag. The first word with another flag ends the search, so that a stretch of mixed flags is
 // mostly decided by one load.
 ghost use mathlib.Core.Path.{_≡_};
-ghost use mathlib.Core.Bool.{true, false, xor};
+ghost use mathlib.Core.Bool.{xor};
 ghost use mathlib.Core.List.{map};
 ghost use Prim.Native.Nat.{_*_, _-_, _≤_};
 ghost use lib.ListN.{length, take};
 ghost use Rattle.words.specs.Flags.{flagsOf, window, wordFlags};
 ghost use Rattle.words.specs.Loops.{stretch};
-ghost use Rattle.words.specs.Uniform.{allAre};
+ghost use Rattle.words.specs.Uniform.{allAre, differsEarly};
 use crate::counts::count_ones;
 use crate::counts::is_set;
 use crate::loops::least;
@@ -98,10 +98,10 @@ pub fn all_are(flag: bool, bytes: &[u8], start: usize, len: usize) -> bool
     low_are(flag, byte_word(bytes, q + 8 * n), (len - k) % 64)
 }
 
-// Is another flag than `flag` among those of the first eight bytes. Where there are fewer bytes, the answer is no. For callers that ask
-// this in their own bodies and call `all_are` only after a no.
+// Is another flag than `flag` among those of the first eight bytes; where there are fewer bytes, no. For callers that ask this in their
+// own bodies, with one load, and call `all_are` after a no.
 pub fn differs_early(flag: bool, bytes: &[u8], start: usize, len: usize) -> bool
-    ensures { λ r. ⌜ (r ≡ true → allAre flag (stretch (now (bytes .entry)) start len) ≡ false) ⌝ }
+    ensures { λ r. ⌜ r ≡ differsEarly flag (now (bytes .entry)) start len ⌝ }
 {
     let end = start / 8 + 8;
     if bytes.len() < end {

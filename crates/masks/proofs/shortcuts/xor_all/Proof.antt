@@ -5,24 +5,24 @@ use borrow.Author.Needs.{needs}
 use Rattle.masks.proofs.shortcuts.xor_all.Statement.{statement}
 use Rattle.masks.proofs.shortcuts.xor_all.Tie as tie
 
-is-all-requires : tie.Need-is-all-requires
-is-all-requires c κs = search needs
+is-all-early-requires : tie.Need-is-all-early-requires
+is-all-early-requires c κs = search needs
 
 returns : tie.Need-returns
-returns c = xor-same _ _ (sym (c .before .is-all .ensures) ∙ c .if1 .taken)
+returns c = xor-same _ _ (sym (c .before .is-all-early .ensures) ∙ c .if1 .taken)
 
-is-all-requires-2 : tie.Need-is-all-requires-2
-is-all-requires-2 c κs = search needs
+is-all-requires : tie.Need-is-all-requires
+is-all-requires c κs = search needs
 
 returns-2 : tie.Need-returns-2
 returns-2 c =
     let first = c .before .before in
-    xor-opposite _ _ (sym (first .before .is-all .ensures) ∙ first .if1 .left) (sym (c .before .is-all2 .ensures) ∙ c .if2 .taken)
+    xor-opposite _ _ (sym (first .before .is-all-early .ensures) ∙ first .if1 .left) (sym (c .before .is-all .ensures) ∙ c .if2 .taken)
 
 returns-3 : tie.Need-returns-3
 returns-3 c =
     let first = c .before .before in
-    xor-mixed _ _ (sym (first .before .is-all .ensures) ∙ first .if1 .left) (sym (c .before .is-all2 .ensures) ∙ c .if2 .left)
+    xor-mixed _ _ (sym (first .before .is-all-early .ensures) ∙ first .if1 .left) (sym (c .before .is-all .ensures) ∙ c .if2 .left)
 
 pub xor-all-spec : {M : Type 1} → statement M
-xor-all-spec = tie.close (tie.spec is-all-requires returns is-all-requires-2 returns-2 returns-3)
+xor-all-spec = tie.close (tie.spec is-all-early-requires returns is-all-requires returns-2 returns-3)

@@ -1,5 +1,6 @@
--- `all-zeros`, as for `all_flags`.
+-- `all-zeros`, as for `all_flags`, and `early-other`: a flag that differs early differs.
 use mathlib.Core.Path.{refl, sym, _∙_}
+use Rattle.words.proofs.UniformLaws.{early-other}
 use Rattle.words.proofs.Windows.{length-window}
 use Rattle.masks.proofs.PartLaws.{all-zeros}
 use borrow.Author.Needs.{needs}
@@ -10,7 +11,7 @@ differs-early-requires : tie.Need-differs-early-requires
 differs-early-requires c κs = search needs
 
 returns : tie.Need-returns
-returns c = λ said. sym (all-zeros _ _ _ _ (length-window _ _ _) refl) ∙ c .differs-early .ensures said
+returns c = λ said. sym (all-zeros _ _ _ _ (length-window _ _ _) refl) ∙ early-other _ _ _ _ _ (c .differs-early .ensures) said
 
 pub other-early-spec : {M : Type 1} → statement M
 other-early-spec = tie.close (tie.spec differs-early-requires returns)

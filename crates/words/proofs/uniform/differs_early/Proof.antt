@@ -1,6 +1,6 @@
--- A flag of the first load is another (`differs`); at the early return nothing is said.
-use Rattle.words.proofs.AnyFlag.{unsaid}
-use Rattle.words.proofs.UniformLaws.{differs}
+-- Too few bytes: no (`too-few`). Else the flags of the first load decide (`differs`).
+use native.Mathlib.Omega.{arith}
+use Rattle.words.proofs.UniformLaws.{differs, enough, too-few}
 use borrow.Author.Needs.{needs}
 use Rattle.words.proofs.uniform.differs_early.Statement.{statement}
 use Rattle.words.proofs.uniform.differs_early.Tie as tie
@@ -9,7 +9,7 @@ add-end : tie.Need-add-end
 add-end c = search needs
 
 returns : tie.Need-returns
-returns c = unsaid
+returns c = too-few _ _ _ _ (omega arith)
 
 full-word-requires : tie.Need-full-word-requires
 full-word-requires c κs = search needs
@@ -31,7 +31,8 @@ returns-2 c =
     let low = c .before in
     let word = low .before .before in
     let a = word .before .before .before .before .args in
-    λ said. differs _ _ _ (a .len) _ _ _ _ _ (word .before .full-word .ensures) (word .unlike .ensures) (low .before .down .ensures) (low .low-flags .ensures) (c .is-set .ensures) said
+    enough _ _ _ _ _ (omega arith)
+    (differs _ _ _ (a .len) _ _ _ _ _ (word .before .full-word .ensures) (word .unlike .ensures) (low .before .down .ensures) (low .low-flags .ensures) (c .is-set .ensures))
 
 pub differs-early-spec : {M : Type 1} → statement M
 differs-early-spec =
