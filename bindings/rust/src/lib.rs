@@ -37,8 +37,9 @@
 //! - **A record stays with the bytes that it was made for.** Both are private fields of one value, and are read together.
 //! - **Nobody alters the bytes.** A `Bitmap` takes them by value, hands them out as `&[u8]` alone and has no method that writes
 //!   them. Clones and slices share them in an [`Arc`](std::sync::Arc) that is never handed out.
-//! - **A known count is true.** It comes from the library's own answers for these bytes; a caller can neither set it nor reach
-//!   the field. So no mask that is given to a combination has a false one.
+//! - **A known count is exact.** It comes from the library's own answers for these bytes; a caller cannot reach the field, and one
+//!   that is stated ([`Bitmap::try_from_counted_span`]) is refused unless it is exact. So the calls get masks without their counts:
+//!   no answer but that of `slice` depends on them, and nothing is counted again.
 //!
 //! Beside these, what each call needs from its caller:
 //!
@@ -73,7 +74,7 @@
 //! mask.as_slice().0[0] = 0xFF;
 //! ```
 //!
-//! A count cannot be stated:
+//! A count cannot be set:
 //!
 //! ```compile_fail,E0616
 //! let mut mask = poruwhina::Bitmap::try_new(vec![0x2D], 6).unwrap();

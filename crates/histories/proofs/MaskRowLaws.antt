@@ -25,7 +25,7 @@ use Rattle.masks.proofs.CheckLaws.{both-left, both-right, first-allowed, rest-a
 use Rattle.masks.proofs.CombineLaws.{pair-lengths, select-lengths}
 use Rattle.masks.proofs.LengthLaws.{length-not, length-zip2, length-zip3, output-allowed}
 use Rattle.masks.proofs.MaskLaws.{mask-allowed, mask-truthful, piece-allowed}
-use Rattle.masks.proofs.PairPlain.{each-length, flags-length}
+use Rattle.masks.proofs.PairPlain.{each-length, flags-length, pair-truthful}
 use Rattle.masks.proofs.SliceTruth.{none-true, result-true, slice-accepted, slice-flags, slice-true}
 use Rattle.masks.proofs.TrueLaws.{flags-by-operation, true-count}
 use Rattle.histories.specs.MaskRows.{Combination, pair, invert, select, selectConstant, MaskCall, slice, unsetBits, combine}
@@ -127,14 +127,7 @@ one-honest x size e =
 
 two-honest : (x y : Lent) (size : ℕ) → firstFailed (pairChecks (x .mask) (x .bytes) (y .mask) (y .bytes) size) ≡ 0
     → Every Honest 2 (two x y)
-unfolding pairChecks
-two-honest x y size e =
-    let first = maskChecks (x .mask) (x .bytes) in
-    let second = maskChecks (y .mask) (y .bytes) in
-    let rest : List Check = check 5 (eqb (x .mask .length) (y .mask .length)) ∷ outputChecks (x .mask .length) size in (
-      mask-truthful (x .mask) (x .bytes) (both-left first (second ++ rest) e),
-      (mask-truthful (y .mask) (y .bytes) (both-left second rest (both-right first (second ++ rest) e)), tt),
-    )
+two-honest x y size e = let t = pair-truthful (x .mask) (x .bytes) (y .mask) (y .bytes) size e in (t .0, (t .1, tt))
 
 three-honest : (x y z : Lent) (size : ℕ)
     → firstFailed (selectChecks (x .mask) (x .bytes) (y .mask) (y .bytes) (z .mask) (z .bytes) size) ≡ 0 → Every Honest 3 (three x y z)

@@ -1,5 +1,5 @@
--- A combination of two masks, flag by flag: what stands at a position of its flags, and that the mask it gives has these flags
--- in the bytes that it writes. Assumes nothing.
+-- A combination of two masks, flag by flag: what stands at a position of its flags, and that the mask that an accepted one gives has
+-- these flags in the bytes that it writes, whatever its masks' counts are. Assumes nothing.
 use mathlib.Core.Path.{_≡_, refl, sym, ap, ap₂, _∙_}
 use mathlib.Core.Bool.{Bool, true, false, not, _&&_}
 use mathlib.Core.List.{List, [], _∷_, _++_}
@@ -18,13 +18,16 @@ use Rattle.masks.specs.Checks.{Check, check, firstFailed, outputChecks}
 use Rattle.masks.specs.Combine.{pairBytes, pairChecks, pairEach, pairFlags, pairMask, pairShortcut, resultFlags, shortcut}
 use Rattle.masks.specs.Frozen.{frozen}
 use Rattle.masks.specs.Mask.{cutMask, maskChecks, maskFlags}
+use Rattle.masks.specs.TrueCounts.{Truthful}
 use Rattle.masks.specs.declared.bitmap.Bitmap.{Bitmap}
 use Rattle.masks.specs.declared.shortcuts.Shortcut.{Shortcut}
 use Rattle.masks.specs.declared.shortcuts.Shortcut.the-variants.{Each, All}
-use Rattle.masks.proofs.CheckLaws.{both-right, is-new, rest-allowed}
+use Rattle.masks.proofs.CheckLaws.{both-left, both-right, is-new, rest-allowed}
 use Rattle.masks.proofs.CombineLaws.{pair-lengths}
 use Rattle.masks.proofs.FreezeLaws.{frozen-front}
 use Rattle.masks.proofs.LengthLaws.{length-zip3, output-allowed}
+use Rattle.masks.proofs.MaskLaws.{mask-truthful}
+use Rattle.masks.proofs.TrueLaws.{flags-by-operation}
 
 module _ (a : Bitmap) (aBytes : List ℕ) (b : Bitmap) (bBytes : List ℕ) (same : a .length ≡ b .length) where
   -- flag j of the operation, taken flag by flag
@@ -77,3 +80,22 @@ written-flags op a aBytes b bBytes out e =
   where
     when-passed : (k : ℕ) (new old : List ℕ) → k ≡ 0 → kept k new old ≡ new
     when-passed k new old z = sym (is-new k k new old refl z)
+
+-- the masks of an accepted combination have no count or a true one
+pub pair-truthful : (a : Bitmap) (aBytes : List ℕ) (b : Bitmap) (bBytes : List ℕ) (size : ℕ)
+    → firstFailed (pairChecks a aBytes b bBytes size) ≡ 0 → Truthful a aBytes × Truthful b bBytes
+unfolding pairChecks
+pair-truthful a aBytes b bBytes size e =
+    let rest : List Check = check 5 (eqb (a .length) (b .length)) ∷ outputChecks (a .length) size in (
+      mask-truthful a aBytes (both-left (maskChecks a aBytes) (maskChecks b bBytes ++ rest) e),
+      mask-truthful b bBytes (both-left (maskChecks b bBytes) rest (both-right (maskChecks a aBytes) (maskChecks b bBytes ++ rest) e)),
+    )
+
+-- so it writes the operation flag by flag, shortcut or not
+pub written-each : (op : Op) (a : Bitmap) (aBytes : List ℕ) (b : Bitmap) (bBytes out : List ℕ)
+    → firstFailed (pairChecks a aBytes b bBytes (length out)) ≡ 0
+    → maskFlags (pairMask op a aBytes b bBytes) (pairBytes op a aBytes b bBytes out) ≡ pairEach op a aBytes b bBytes
+written-each op a aBytes b bBytes out e =
+    let t = pair-truthful a aBytes b bBytes (length out) e in
+    written-flags op a aBytes b bBytes out e
+    ∙ flags-by-operation op a aBytes b bBytes (pair-lengths a aBytes b bBytes (length out) e) (t .0) (t .1)
