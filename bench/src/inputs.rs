@@ -74,9 +74,9 @@ pub struct Input {
     pub start: usize,
     pub length: usize,
     pub zeros: usize,
-    /// The mask with its zeros counted, as the original has it after its first count, and the one with its zeros not counted.
+    /// The mask without its count, as the Rust crate hands it in, and the one with it.
     pub mask: Mask,
-    pub uncounted: Mask,
+    pub counted: Mask,
     pub bitmap: Bitmap,
     /// The mask as the Rust crate over the library has it.
     pub held: poruwhina::Bitmap,
@@ -101,9 +101,9 @@ impl Input {
         let zeros = bitmap.unset_bits();
         assert_eq!(zeros, flags.iter().filter(|flag| !**flag).count());
         let held = poruwhina::Bitmap::try_from_span(padded[..lent].to_vec(), start, length).unwrap();
-        let uncounted = Mask { start, length, zeros: 0, known: 0 };
-        let mask = Mask { zeros, known: 1, ..uncounted };
-        Input { padded, lent, start, length, zeros, mask, uncounted, bitmap, held, uncounted_bitmap }
+        let mask = Mask { start, length, zeros: 0, known: 0 };
+        let counted = Mask { zeros, known: 1, ..mask };
+        Input { padded, lent, start, length, zeros, mask, counted, bitmap, held, uncounted_bitmap }
     }
 
     /// The bytes lent: whole words, as a frozen mask has them.

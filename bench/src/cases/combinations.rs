@@ -50,14 +50,30 @@ fn pair(
     });
 }
 
+/// The same with counts that the library checks.
+fn known(
+    driver: &Driver,
+    call: &str,
+    ours: impl Fn(Mask, &[u8], Mask, &[u8], &mut [u8]) -> MaskAnswer + Copy + 'static,
+    original: impl Fn(&Bitmap, &Bitmap) -> Bitmap + Copy + 'static,
+) {
+    driver.each(call, Kind::Half, &[1, 2], |m| Sides {
+        ours: writing(m, move |m, out| ours(m[0].counted, m[0].bytes(), m[1].counted, m[1].bytes(), out).refusal),
+        original: Some(allocating(m, move |m| original(&m[0].bitmap, &m[1].bitmap))),
+        plain: None,
+    });
+}
+
 pub fn run(driver: &Driver) {
     pair(driver, "and", calls::and, bitmap::and, |x, y| x & y);
     driver.each("and, zeros not counted", Kind::Half, &[1, 2], |m| Sides {
-        ours: writing(m, |m, out| calls::and(m[0].uncounted, m[0].bytes(), m[1].uncounted, m[1].bytes(), out).refusal),
+        ours: writing(m, |m, out| calls::and(m[0].mask, m[0].bytes(), m[1].mask, m[1].bytes(), out).refusal),
         original: Some(allocating(m, |m| bitmap::and(&m[0].uncounted_bitmap.clone(), &m[1].uncounted_bitmap.clone()))),
         plain: None,
     });
+    known(driver, "and, counts checked", calls::and, bitmap::and);
     pair(driver, "and_not", calls::and_not, bitmap::and_not, |x, y| x & !y);
+    known(driver, "and_not, counts checked", calls::and_not, bitmap::and_not);
     pair(driver, "or_not", calls::or_not, bitmap::or_not, |x, y| x | !y);
     pair(driver, "xor", calls::xor, bitmap::xor, |x, y| x ^ y);
     driver.each("not", Kind::Half, &[1], |m| Sides {

@@ -47,7 +47,7 @@ pub fn run(driver: &Driver) {
         plain: None,
     });
     driver.each("slice, a tenth off each end", Kind::Half, &[1], |m| Sides {
-        ours: side(&m[0], |m| calls::slice(m.mask, m.bytes(), cut(m).0, cut(m).1).mask, |_, cut| vec![cut.length as u64, cut.zeros as u64]),
+        ours: side(&m[0], |m| calls::slice(m.counted, m.bytes(), cut(m).0, cut(m).1).mask, |_, cut| vec![cut.length as u64, cut.zeros as u64]),
         original: Some(side(
             &m[0],
             |m| m.bitmap.clone().sliced(cut(m).0, cut(m).1),
@@ -60,11 +60,23 @@ pub fn run(driver: &Driver) {
         original: None,
         plain: Some(side((&m[0], &m[1]), |(p, r)| flag(p, p.length / 2) && !flag(r, p.length / 2), |_, may| vec![may as u64])),
     });
+    for kind in [Kind::Half, Kind::Ones] {
+        driver.each("may_reassign, counts checked", kind, &[1, 2], |m| Sides {
+            ours: side((&m[0], &m[1]), |(p, r)| may_reassign_counted(p, r), |_, may| vec![may as u64]),
+            original: None,
+            plain: Some(side((&m[0], &m[1]), |(p, r)| flag(p, p.length / 2) && !flag(r, p.length / 2), |_, may| vec![may as u64])),
+        });
+    }
 }
 
 fn may_reassign(permission: &Input, revocation: &Input) -> bool {
     let truck = permission.length / 2;
     calls::may_reassign(true, permission.mask, permission.bytes(), true, revocation.mask, revocation.bytes(), truck).value
+}
+
+fn may_reassign_counted(permission: &Input, revocation: &Input) -> bool {
+    let truck = permission.length / 2;
+    calls::may_reassign(true, permission.counted, permission.bytes(), true, revocation.counted, revocation.bytes(), truck).value
 }
 
 /// A call that does next to nothing, beside the same two shifts in place.
