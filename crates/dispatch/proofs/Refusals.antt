@@ -20,5 +20,7 @@ refusals Absent pBytes (Present r) rBytes t = refuses-by (andNotAtChecks Absent 
 refusals Absent pBytes Absent rBytes t = refuses-by (andNotAtChecks Absent pBytes Absent rBytes t) _ _ _ refl
 
 pub witnessed : Witnessed
-unfolding mayReassign andNotAtChecks indexChecks lengthChecks maskChecks spanChecks firstFailed earlier rank placeIn decided zeros count window flagsOf bits
+unfolding
+    mayReassign andNotAtChecks indexChecks lengthChecks maskChecks spanChecks firstFailed earlier rank placeIn decided
+    zeros count window flagsOf bits
 witnessed = record { first = refl; second = refl; permission = refl; revocation = refl }

@@ -213,7 +213,8 @@ pair-lawful op out =
           let x = a .0 in
           let y = a .1 .0 in
           two-honest x y (length out)
-          (passed (pairChecks (x .mask) (x .bytes) (y .mask) (y .bytes) (length out)) (pairMask (pairOp op) (x .mask) (x .bytes) (y .mask) (y .bytes)) g e);
+          (passed (pairChecks (x .mask) (x .bytes) (y .mask) (y .bytes) (length out))
+          (pairMask (pairOp op) (x .mask) (x .bytes) (y .mask) (y .bytes)) g e);
       made = λ a g e.
           let x = a .0 in
           let y = a .1 .0 in
@@ -246,7 +247,8 @@ not-lawful out =
     record {
       honest = λ a g e.
           let x = a .0 in
-          one-honest x (length out) (passed (notChecks (x .mask) (x .bytes) (length out)) (uncountedMask (x .mask ∷ []) (x .mask .length)) g e);
+          one-honest x (length out)
+          (passed (notChecks (x .mask) (x .bytes) (length out)) (uncountedMask (x .mask ∷ []) (x .mask .length)) g e);
       made = λ a g e.
           let x = a .0 in
           written-stands (notChecks (x .mask) (x .bytes) (length out)) (x .mask ∷ []) (x .mask .length) (uncounted (x .mask .length))

@@ -58,8 +58,8 @@ unfolding subsliceChecks
 piece-truthful m its offset n b buf e =
     mask-truthful m its (both-left (maskChecks m its) (innerChecks offset n (m .length) ++ growChecks b n (length buf)) e)
 
-append-truthful : (a : Append) (b : BitmapBuilder) (buf : List ℕ) → afterAppend (appendBytes a b buf) (appendAnswer a b buf) .accepted ≡ true
-    → TruthfulAppend a
+append-truthful : (a : Append) (b : BitmapBuilder) (buf : List ℕ)
+    → afterAppend (appendBytes a b buf) (appendAnswer a b buf) .accepted ≡ true → TruthfulAppend a
 append-truthful (pushFlag x) b buf t = tt
 append-truthful (extendConstant n x) b buf t = tt
 append-truthful (pushWord w n) b buf t = tt

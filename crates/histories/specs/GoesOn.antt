@@ -132,8 +132,8 @@ pub record RefusedKinds : Type 0 where
   -- an imported mask with a stale count, or past its byte, is no start: then a span
   pub import-stale : Comes (record { start = fromMask (maskOf 0 6 (Known 3)) A; calls = tryNew A 2 4 ∷ [] }) (1 ∷ []) (maskOf 2 4 Unknown) A
       (1 ∷ 1 ∷ 0 ∷ 1 ∷ [])
-  pub import-past : Comes (record { start = fromMask (maskOf 2 7 Unknown) A; calls = make (masks unsetBits) ∷ tryNew A 2 4 ∷ [] }) (0 ∷ 1 ∷ [])
-      (maskOf 2 4 Unknown) A (1 ∷ 1 ∷ 0 ∷ 1 ∷ [])
+  pub import-past : Comes (record { start = fromMask (maskOf 2 7 Unknown) A; calls = make (masks unsetBits) ∷ tryNew A 2 4 ∷ [] })
+      (0 ∷ 1 ∷ []) (maskOf 2 4 Unknown) A (1 ∷ 1 ∷ 0 ∷ 1 ∷ [])
   -- a stale count of another mask
   pub piece-stale : RefusedAppend (extendBitmap (maskOf 0 6 (Known 3)) A 0 3)
   pub slices : RefusedOnA (slice 3 4)

@@ -25,7 +25,8 @@ pub record Stands (m : Bitmap) (bytes : List ℕ) (l : List Bool) : Type 0 where
 -- where the call is accepted: each of its masks has no count or a true one; and it gives a sound mask, with the row's flags of theirs
 pub record LawfulWrites (r : Writes) : Type 0 where
   pub honest : (a : Tuple Lent (r .masks)) (m : Bitmap) → r .answer a ≡ given m → Every Honest (r .masks) a
-  pub made : (a : Tuple Lent (r .masks)) (m : Bitmap) → r .answer a ≡ given m → Stands m (r .bytes a) (r .flags (each lentFlags (r .masks) a))
+  pub made : (a : Tuple Lent (r .masks)) (m : Bitmap) → r .answer a ≡ given m
+      → Stands m (r .bytes a) (r .flags (each lentFlags (r .masks) a))
 
 -- the same of a sound mask in its bytes; and a refusal hands back what came
 pub record LawfulKeeps (r : Keeps) : Type 0 where

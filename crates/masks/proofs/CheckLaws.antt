@@ -317,8 +317,8 @@ first-number cs n k t b p z = p ∙ sym (failed-append cs (check (suc k) t ∷ [
     keeps false = first-least (firstFailed cs) (suc k) (λ e. z (p ∙ e)) (λ e. omega arith) (failed-ranked cs (suc k) b (λ e. z (p ∙ e)))
 
 -- a refusal by the checks that are put first
-pub first-refused : {S A : Type 0} (cs : List Check) (n k : ℕ) (t : Bool) (s : S) (a : A) → before (suc k) cs ≡ true → n ≡ firstFailed cs → (n ≡ 0 → ⊥)
-    → refused n s ≡ decided (firstFailed (cs ++ (check (suc k) t ∷ []))) s a
+pub first-refused : {S A : Type 0} (cs : List Check) (n k : ℕ) (t : Bool) (s : S) (a : A) → before (suc k) cs ≡ true
+    → n ≡ firstFailed cs → (n ≡ 0 → ⊥) → refused n s ≡ decided (firstFailed (cs ++ (check (suc k) t ∷ []))) s a
 first-refused cs n k t s a b p z = is-refused n (firstFailed (cs ++ (check (suc k) t ∷ []))) s a (first-number cs n k t b p z) z
 
 -- the words of n flags, against those of an output

@@ -11,8 +11,8 @@ use Rattle.words.specs.Loops.{stretch}
 use Rattle.words.proofs.Loads.{whole-stretch}
 use Rattle.masks.specs.Answer.{Answer, given, refused, decided}
 use Rattle.masks.specs.Checks.{Check, check, rank, placeIn, firstFailed, limit, withinLimit, spanChecks}
-use Rattle.masks.specs.Mask.{cutMask, cutZeros, slicedMask, sliceOf, sliceChecks, countIs, countValid, maskChecks, maskFlags, pieceChecks}
-use Rattle.masks.specs.Mask.{recounts, keptCount, slicedCount, recountValid}
+use Rattle.masks.specs.Mask.{cutMask, cutZeros, slicedMask, sliceOf, sliceChecks, countIs, countValid, maskChecks, maskFlags}
+use Rattle.masks.specs.Mask.{pieceChecks, recounts, keptCount, slicedCount, recountValid}
 use Rattle.masks.specs.TrueCounts.{Sound, TrueCount, Truthful}
 use Rattle.masks.specs.Utils.{zeros}
 use Rattle.masks.specs.Workers.{PieceAllowed, recountedOf, cutOf}
@@ -44,7 +44,10 @@ count-told z n v r e p = p ∙ ap (eqb n) (sym e) ∙ go (eqb n z) refl
 -- a known count, compared with the zeros of the flags in the whole of the bytes
 pub known-valid : (u : Unset) (z : ℕ) (bytes : List ℕ) (start n : ℕ) (r : Bool) → u ≡ Known z
     → r ≡ eqb z (zeros (stretch (take (length bytes - 0) (drop 0 bytes)) start n)) → r ≡ countIs u (zeros (stretch bytes start n))
-known-valid u z bytes start n r k e = e ∙ ap (λ (l : List Bool). eqb z (zeros l)) (whole-stretch bytes start n) ∙ ap (λ (x : Unset). countIs x (zeros (stretch bytes start n))) (sym k)
+known-valid u z bytes start n r k e =
+    e
+    ∙ ap (λ (l : List Bool). eqb z (zeros l)) (whole-stretch bytes start n)
+    ∙ ap (λ (x : Unset). countIs x (zeros (stretch bytes start n))) (sym k)
 
 pub true-valid : (u : Unset) (l : List Bool) → TrueCount u l → countIs u (zeros l) ≡ true
 true-valid (Known z) l t = eq-eqb z (zeros l) t
@@ -53,8 +56,8 @@ true-valid Unknown l t = refl
 pub mask-truthful : (m : Bitmap) (bytes : List ℕ) → firstFailed (maskChecks m bytes) ≡ 0 → Truthful m bytes
 unfolding maskChecks
 mask-truthful m bytes e =
-    count-true (m .unset) (maskFlags m bytes)
-    (check-allowed 2 (countValid m bytes) (both-right (spanChecks (m .start) (m .length) (length bytes)) (check 3 (countValid m bytes) ∷ []) e))
+    let span = spanChecks (m .start) (m .length) (length bytes) in
+    count-true (m .unset) (maskFlags m bytes) (check-allowed 2 (countValid m bytes) (both-right span (check 3 (countValid m bytes) ∷ []) e))
 
 pub mask-sound : (m : Bitmap) (bytes : List ℕ) → firstFailed (maskChecks m bytes) ≡ 0 → Sound m bytes
 mask-sound m bytes e =

@@ -171,7 +171,8 @@ unfolding among
 not-seven k p e = ⊎-elim
     (λ (z : k ≡ 0). omega arith)
     (λ (h : among k (1 ∷ 1 ∷ 2 ∷ 3 ∷ 1 ∷ 1 ∷ 1 ∷ 6 ∷ []) ≡ true).
-    let z : _≡_ {A = ℕ} 0 1 = ap (λ (t : Bool). cond t 0 1) (sym h ∙ ap (λ (x : ℕ). among x (1 ∷ 1 ∷ 2 ∷ 3 ∷ 1 ∷ 1 ∷ 1 ∷ 6 ∷ [])) e) in omega arith)
+    let same = sym h ∙ ap (λ (x : ℕ). among x (1 ∷ 1 ∷ 2 ∷ 3 ∷ 1 ∷ 1 ∷ 1 ∷ 6 ∷ [])) e in
+    let z : _≡_ {A = ℕ} 0 1 = ap (λ (t : Bool). cond t 0 1) same in omega arith)
     p
 
 seven-never : (m : Bitmap) (bytes : List ℕ) (offset n : ℕ) → firstFailed (sliceChecks m bytes offset n) ≡ 7 → ⊥

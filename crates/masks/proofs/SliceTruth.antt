@@ -131,11 +131,13 @@ valid-slice m bytes offset n h t = never-wrong (flagsOf bytes) (m .start) (m .le
 piece-truthful : (m : Bitmap) (bytes : List ℕ) (offset n : ℕ) → firstFailed (pieceChecks m bytes offset n) ≡ 0 → Truthful m bytes
 unfolding pieceChecks
 piece-truthful m bytes offset n e =
-    mask-truthful m bytes
-    (both-left (maskChecks m bytes) (withinLimit offset ∷ withinLimit n ∷ withinLimit (m .start + offset) ∷ check 6 (leb (offset + n) (m .length)) ∷ []) e)
+    let six : List Check = check 6 (leb (offset + n) (m .length)) ∷ [] in
+    let rest : List Check = withinLimit offset ∷ withinLimit n ∷ withinLimit (m .start + offset) ∷ six in
+    mask-truthful m bytes (both-left (maskChecks m bytes) rest e)
 
 -- check 7 decides nothing: where the others pass the count is true, or not known
-pub slice-number : (m : Bitmap) (bytes : List ℕ) (offset n : ℕ) → firstFailed (pieceChecks m bytes offset n) ≡ firstFailed (sliceChecks m bytes offset n)
+pub slice-number : (m : Bitmap) (bytes : List ℕ) (offset n : ℕ)
+    → firstFailed (pieceChecks m bytes offset n) ≡ firstFailed (sliceChecks m bytes offset n)
 unfolding sliceChecks
 slice-number m bytes offset n = go (firstFailed (pieceChecks m bytes offset n)) refl
   where
@@ -144,7 +146,8 @@ slice-number m bytes offset n = go (firstFailed (pieceChecks m bytes offset n)) 
 
     go : (k : ℕ) → k ≡ firstFailed (pieceChecks m bytes offset n) → k ≡ firstFailed (pieceChecks m bytes offset n ++ (check 7 valid ∷ []))
     go zero e =
-        ap (λ (t : Bool). cond t 0 7) (sym (valid-slice m bytes offset n (piece-allowed m bytes offset n (sym e) .inside) (piece-truthful m bytes offset n (sym e))))
+        let inside = piece-allowed m bytes offset n (sym e) .inside in
+        ap (λ (t : Bool). cond t 0 7) (sym (valid-slice m bytes offset n inside (piece-truthful m bytes offset n (sym e))))
         ∙ last-made (pieceChecks m bytes offset n) 0 6 valid e refl
     go (suc k) e = first-number (pieceChecks m bytes offset n) (suc k) 6 valid (piece-before m bytes offset n) e (λ z. omega arith)
 
@@ -155,7 +158,8 @@ slice-accepted m bytes offset n = ap (λ (k : ℕ). decided k m (slicedMask m by
 
 -- ---- the whole
 
-whole-count : (old : ℕ) (u : Unset) (l : List Bool) → length l ≡ old → TrueCount u l → (slicedCount old old 0 u ≡ u) × (recountValid old old 0 u ≡ true)
+whole-count : (old : ℕ) (u : Unset) (l : List Bool) → length l ≡ old → TrueCount u l
+    → (slicedCount old old 0 u ≡ u) × (recountValid old old 0 u ≡ true)
 unfolding recounts keptCount
 whole-count old Unknown l e t = (refl, refl)
 whole-count old (Known z) l e t = go (eqb z 0) (eqb z old) refl refl
@@ -193,7 +197,8 @@ whole-allowed m bytes e =
 pub slice-whole : (m : Bitmap) (bytes : List ℕ) → firstFailed (maskChecks m bytes) ≡ 0 → sliceOf m bytes 0 (m .length) ≡ given m
 slice-whole m bytes e =
     let none = none-cut m bytes in
-    let known = whole-count (m .length) (m .unset) (maskFlags m bytes) (length-window (flagsOf bytes) (m .start) (m .length)) (mask-truthful m bytes e) in
+    let long = length-window (flagsOf bytes) (m .start) (m .length) in
+    let known = whole-count (m .length) (m .unset) (maskFlags m bytes) long (mask-truthful m bytes e) in
     let s : m .start + 0 ≡ m .start = omega arith in
     sym (slice-right m bytes 0 (m .length) 0 (whole-allowed m bytes e) (m .unset) refl
     (sym (ap (λ (x : ℕ). cutOf (m .length) (m .length) x (m .unset)) none ∙ ap₂ (λ (b : Bool) (u : Unset). cond b (Cut.Count u) Cut.Wrong) (known .1) (known .0))))

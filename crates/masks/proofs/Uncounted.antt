@@ -14,7 +14,8 @@ use Rattle.masks.specs.Appends.{growChecks, innerChecks, subsliceChecks}
 use Rattle.masks.specs.AtIndex.{andNotAtChecks, andNotAtOf, andNotFlag, flagOr, indexChecks, indexInside, lengthChecks}
 use Rattle.masks.specs.Builder.{appended, filling}
 use Rattle.masks.specs.Checks.{Check, check, firstFailed, outputChecks, spanChecks, withinLimit}
-use Rattle.masks.specs.Combine.{eachBytes, eachOf, notBytes, notChecks, notFlags, notOf, pairBytes, pairChecks, pairEach, pairFlags, pairMask, pairOf}
+use Rattle.masks.specs.Combine.{eachBytes, eachOf, notBytes, notChecks, notFlags, notOf, pairBytes, pairChecks}
+use Rattle.masks.specs.Combine.{pairEach, pairFlags, pairMask, pairOf}
 use Rattle.masks.specs.Combine.{resultCount, resultFlags, resultMask, selectBytes, selectChecks, selectConstantBytes}
 use Rattle.masks.specs.Combine.{selectConstantFlags, selectConstantOf, selectFlags, selectOf, shortcut}
 use Rattle.masks.specs.Compare.{commonChecks, commonOf, edges, edgesOf, eqOf}
@@ -57,18 +58,22 @@ module _ (m : Bitmap) (bytes : List ℕ) (e : firstFailed (maskChecks m bytes) �
       let known : ℕ → Recounted = λ (z : ℕ). record { mask = withCount m (Known z); zeros = z } in
       sym (is-given 0 (firstFailed (maskChecks m bytes)) m (known (zeroCount m bytes)) (sym e) refl)
       ∙ ap (λ (z : ℕ). given (known z)) same-count
-      ∙ is-given 0 (firstFailed (maskChecks (forgot m) bytes)) (forgot m) (known (zeroCount (forgot m) bytes)) (sym e ∙ ap firstFailed same-checks) refl
+      ∙ is-given 0 (firstFailed (maskChecks (forgot m) bytes)) (forgot m) (known (zeroCount (forgot m) bytes))
+      (sym e ∙ ap firstFailed same-checks) refl
 
   sliced : (offset n : ℕ) → butCount (sliceOf m bytes offset n) ≡ butCount (sliceOf (forgot m) bytes offset n)
   unfolding pieceChecks
   sliced offset n =
-      let rest : List Check = withinLimit offset ∷ withinLimit n ∷ withinLimit (m .start + offset) ∷ check 6 (leb (offset + n) (m .length)) ∷ [] in
+      let six : List Check = check 6 (leb (offset + n) (m .length)) ∷ [] in
+      let rest : List Check = withinLimit offset ∷ withinLimit n ∷ withinLimit (m .start + offset) ∷ six in
       ap butCount (slice-accepted m bytes offset n)
       ∙ ap (λ (cs : List Check). butCount (checked (cs ++ rest) m (slicedMask m bytes offset n))) same-checks
-      ∙ but-count (firstFailed (maskChecks (forgot m) bytes ++ rest)) m (slicedMask m bytes offset n) (slicedMask (forgot m) bytes offset n) refl
+      ∙ but-count (firstFailed (maskChecks (forgot m) bytes ++ rest)) m (slicedMask m bytes offset n)
+      (slicedMask (forgot m) bytes offset n) refl
       ∙ sym (ap butCount (slice-accepted (forgot m) bytes offset n))
 
-  grown : (b : BitmapBuilder) (buf : List ℕ) (start n : ℕ) → subsliceChecks b buf m bytes start n ≡ subsliceChecks b buf (forgot m) bytes start n
+  grown : (b : BitmapBuilder) (buf : List ℕ) (start n : ℕ)
+      → subsliceChecks b buf m bytes start n ≡ subsliceChecks b buf (forgot m) bytes start n
   unfolding subsliceChecks
   grown b buf start n = ap (λ (cs : List Check). cs ++ (innerChecks start n (m .length) ++ growChecks b n (length buf))) same-checks
 
@@ -83,7 +88,8 @@ module _ (m : Bitmap) (bytes : List ℕ) (e : firstFailed (maskChecks m bytes) �
   ones-new : (n : ℕ) → newTrue n (Present m) bytes ≡ newTrue n (Present (forgot m)) bytes
   unfolding newTrue newTrueChecks firstTrue
   ones-new n =
-      ap (λ (cs : List Check). checked ((withinLimit n ∷ []) ++ (cs ++ (check 5 (eqb n (m .length)) ∷ []))) tt (trueAt (m .start) n 0 true)) same-checks
+      ap (λ (cs : List Check). checked ((withinLimit n ∷ []) ++ (cs ++ (check 5 (eqb n (m .length)) ∷ []))) tt
+      (trueAt (m .start) n 0 true)) same-checks
 
   -- ---- the first of two, and the second
 
@@ -111,12 +117,14 @@ module _ (m : Bitmap) (bytes : List ℕ) (e : firstFailed (maskChecks m bytes) �
     pair-left : (size : ℕ) → pairChecks m bytes b bB size ≡ pairChecks (forgot m) bytes b bB size
     unfolding pairChecks
     pair-left size =
-        ap (λ (cs : List Check). cs ++ (maskChecks b bB ++ (check 5 (eqb (m .length) (b .length)) ∷ outputChecks (m .length) size))) same-checks
+        let five : List Check = check 5 (eqb (m .length) (b .length)) ∷ outputChecks (m .length) size in
+        ap (λ (cs : List Check). cs ++ (maskChecks b bB ++ five)) same-checks
 
     pair-right : (size : ℕ) → pairChecks b bB m bytes size ≡ pairChecks b bB (forgot m) bytes size
     unfolding pairChecks
     pair-right size =
-        ap (λ (cs : List Check). maskChecks b bB ++ (cs ++ (check 5 (eqb (b .length) (m .length)) ∷ outputChecks (b .length) size))) same-checks
+        let five : List Check = check 5 (eqb (b .length) (m .length)) ∷ outputChecks (b .length) size in
+        ap (λ (cs : List Check). maskChecks b bB ++ (cs ++ five)) same-checks
 
     module _ (op : Op) (out : List ℕ) where
       mask-left : pairOf op m bytes b bB out ≡ pairOf op (forgot m) bytes b bB out
@@ -165,19 +173,22 @@ module _ (m : Bitmap) (bytes : List ℕ) (e : firstFailed (maskChecks m bytes) �
     select-left : selectChecks m bytes b bB c cB size ≡ selectChecks (forgot m) bytes b bB c cB size
     unfolding selectChecks
     select-left =
-        let five : List Check = check 5 (eqb (m .length) (b .length)) ∷ check 5 (eqb (m .length) (c .length)) ∷ outputChecks (m .length) size in
+        let second : List Check = check 5 (eqb (m .length) (c .length)) ∷ outputChecks (m .length) size in
+        let five : List Check = check 5 (eqb (m .length) (b .length)) ∷ second in
         ap (λ (cs : List Check). cs ++ (maskChecks b bB ++ (maskChecks c cB ++ five))) same-checks
 
     select-middle : selectChecks b bB m bytes c cB size ≡ selectChecks b bB (forgot m) bytes c cB size
     unfolding selectChecks
     select-middle =
-        let five : List Check = check 5 (eqb (b .length) (m .length)) ∷ check 5 (eqb (b .length) (c .length)) ∷ outputChecks (b .length) size in
+        let second : List Check = check 5 (eqb (b .length) (c .length)) ∷ outputChecks (b .length) size in
+        let five : List Check = check 5 (eqb (b .length) (m .length)) ∷ second in
         ap (λ (cs : List Check). maskChecks b bB ++ (cs ++ (maskChecks c cB ++ five))) same-checks
 
     select-right : selectChecks b bB c cB m bytes size ≡ selectChecks b bB c cB (forgot m) bytes size
     unfolding selectChecks
     select-right =
-        let five : List Check = check 5 (eqb (b .length) (c .length)) ∷ check 5 (eqb (b .length) (m .length)) ∷ outputChecks (b .length) size in
+        let second : List Check = check 5 (eqb (b .length) (m .length)) ∷ outputChecks (b .length) size in
+        let five : List Check = check 5 (eqb (b .length) (c .length)) ∷ second in
         ap (λ (cs : List Check). maskChecks b bB ++ (maskChecks c cB ++ (cs ++ five))) same-checks
 
   -- ---- one index
@@ -199,11 +210,13 @@ module _ (m : Bitmap) (bytes : List ℕ) (e : firstFailed (maskChecks m bytes) �
       ap (λ (cs : List Check). indexChecks (Present a) aB i ++ (cs ++ lengthChecks (Present a) (Present m))) (index-alike i)
   at-checks-right Absent aB i = ap (λ (cs : List Check). indexChecks Absent aB i ++ (cs ++ lengthChecks Absent (Present m))) (index-alike i)
 
-  at-left : (second : Optional) (bB : List ℕ) (i : ℕ) → andNotAtOf (Present m) bytes second bB i ≡ andNotAtOf (Present (forgot m)) bytes second bB i
+  at-left : (second : Optional) (bB : List ℕ) (i : ℕ)
+      → andNotAtOf (Present m) bytes second bB i ≡ andNotAtOf (Present (forgot m)) bytes second bB i
   unfolding andNotAtOf andNotFlag flagOr
   at-left second bB i = ap (λ (cs : List Check). checked cs tt (andNotFlag (Present m) bytes second bB i)) (at-checks-left second bB i)
 
-  at-right : (first : Optional) (aB : List ℕ) (i : ℕ) → andNotAtOf first aB (Present m) bytes i ≡ andNotAtOf first aB (Present (forgot m)) bytes i
+  at-right : (first : Optional) (aB : List ℕ) (i : ℕ)
+      → andNotAtOf first aB (Present m) bytes i ≡ andNotAtOf first aB (Present (forgot m)) bytes i
   unfolding andNotAtOf andNotFlag flagOr
   at-right first aB i = ap (λ (cs : List Check). checked cs tt (andNotFlag first aB (Present m) bytes i)) (at-checks-right first aB i)
 
@@ -239,7 +252,8 @@ module _ (m : Bitmap) (bytes : List ℕ) (e : firstFailed (maskChecks m bytes) �
         }
 
   module _ (b : Bitmap) (bB : List ℕ) (flag : Bool) (out : List ℕ) where
-    constant-left : UnseenBoth m (λ (x : Bitmap). selectConstantOf x bytes b bB flag out) (λ (x : Bitmap). selectConstantBytes x bytes b bB flag out)
+    constant-left : UnseenBoth m (λ (x : Bitmap). selectConstantOf x bytes b bB flag out)
+        (λ (x : Bitmap). selectConstantBytes x bytes b bB flag out)
     unfolding eachOf
     constant-left =
         let same = pair-left m bytes e b bB (length out) in
@@ -248,7 +262,8 @@ module _ (m : Bitmap) (bytes : List ℕ) (e : firstFailed (maskChecks m bytes) �
           writes = ap (λ (cs : List Check). eachBytes cs (selectConstantFlags m bytes b bB flag) out) same;
         }
 
-    constant-right : UnseenBoth m (λ (x : Bitmap). selectConstantOf b bB x bytes flag out) (λ (x : Bitmap). selectConstantBytes b bB x bytes flag out)
+    constant-right : UnseenBoth m (λ (x : Bitmap). selectConstantOf b bB x bytes flag out)
+        (λ (x : Bitmap). selectConstantBytes b bB x bytes flag out)
     unfolding eachOf
     constant-right =
         let same = pair-right m bytes e b bB (length out) in
@@ -263,9 +278,11 @@ counts-unseen m bytes e =
       unset-bits = counted m bytes e;
       slice = sliced m bytes e;
       append = λ b buf start n.
-          ap (λ (cs : List Check). checked cs b (appended (filling b buf) (window (maskFlags m bytes) start n) .builder)) (grown m bytes e b buf start n);
+          ap (λ (cs : List Check). checked cs b (appended (filling b buf) (window (maskFlags m bytes) start n) .builder))
+          (grown m bytes e b buf start n);
       append-bytes = λ b buf start n.
-          ap (λ (cs : List Check). kept (firstFailed cs) (appended (filling b buf) (window (maskFlags m bytes) start n) .bytes) buf) (grown m bytes e b buf start n);
+          ap (λ (cs : List Check). kept (firstFailed cs) (appended (filling b buf) (window (maskFlags m bytes) start n) .bytes) buf)
+          (grown m bytes e b buf start n);
       pair-first = λ op b bB out. record { answers = mask-left m bytes e b bB op out; writes = bytes-left m bytes e b bB op out };
       pair-second = λ op a aB out. record { answers = mask-right m bytes e a aB op out; writes = bytes-right m bytes e a aB op out };
       invert = inverted m bytes e;

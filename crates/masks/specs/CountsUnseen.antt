@@ -42,7 +42,8 @@ pub record UnseenBoth (m : Bitmap) (answer : Bitmap → Answer (Unit {0}) Bitmap
 pub record CountUnseen (m : Bitmap) (bytes : List ℕ) : Type 0 where
   pub unset-bits : Unseen m (λ (x : Bitmap). unsetBitsOf x bytes)
   pub slice : (offset n : ℕ) → Unseen m (λ (x : Bitmap). butCount (sliceOf x bytes offset n))
-  pub append : (b : BitmapBuilder) (buf : List ℕ) (start n : ℕ) → Unseen m (λ (x : Bitmap). appendAnswer (extendBitmap x bytes start n) b buf)
+  pub append : (b : BitmapBuilder) (buf : List ℕ) (start n : ℕ)
+      → Unseen m (λ (x : Bitmap). appendAnswer (extendBitmap x bytes start n) b buf)
   pub append-bytes : (b : BitmapBuilder) (buf : List ℕ) (start n : ℕ)
       → Unseen m (λ (x : Bitmap). appendBytes (extendBitmap x bytes start n) b buf)
   -- `and`, `and_not`, `or`, `or_not`, `xor`

@@ -50,7 +50,7 @@ pub enum Counting {
     Refused(u8, Bitmap),
 }
 
-// The count of a slice, or that the known count cannot be true of it.
+// The count of a slice, or that the known count cannot be true of it, which the checks before it rule out.
 enum Cut {
     Count(Unset),
     Wrong,
