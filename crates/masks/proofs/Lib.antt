@@ -23,6 +23,7 @@ pub mod IteratorLaws
 pub mod LengthLaws
 pub mod Listing
 pub mod MaskLaws
+pub mod NextAndNotLaws
 pub mod OrderLaws
 pub mod OrderRows
 pub mod PairPlain

@@ -43,13 +43,13 @@ first-none [] h = refl
 first-none (true ∷ l) h = absurd (omega arith)
 first-none (false ∷ l) h = omega (arith, first-none l (omega arith))
 
-first-from : (l : List Bool) (at r : ℕ) → r ≡ leadingFrom false l at → at + r < length l → some (at + r) ≡ nthFrom l 0 at
+pub first-from : (l : List Bool) (at r : ℕ) → r ≡ leadingFrom false l at → at + r < length l → some (at + r) ≡ nthFrom l 0 at
 unfolding leadingFrom nthFrom
 first-from l at r e h =
     let k : leading false (drop at l) < length (drop at l) = omega (arith, length-drop at l) in
     rw (lt-ltb 0 (count (drop at l)) (first-there (drop at l) k)) (ap (λ (x : ℕ). some (at + x)) (e ∙ sym (first-place (drop at l) k)))
 
-none-from : (l : List Bool) (at r : ℕ) → r ≡ leadingFrom false l at → length l ≤ at + r → none ≡ nthFrom l 0 at
+pub none-from : (l : List Bool) (at r : ℕ) → r ≡ leadingFrom false l at → length l ≤ at + r → none ≡ nthFrom l 0 at
 unfolding leadingFrom nthFrom
 none-from l at r e h = rw (le-ltb 0 (count (drop at l)) (omega (arith, first-none (drop at l) (omega (arith, length-drop at l)))))
 

@@ -20,6 +20,7 @@ pub mod Frozen
 pub mod Iterator
 pub mod Listing
 pub mod Mask
+pub mod NextAndNot
 pub mod OrderRows
 pub mod Positions
 pub mod Refusals

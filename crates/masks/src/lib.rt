@@ -16,6 +16,7 @@ mod extend;
 mod frozen;
 mod gather;
 pub mod iterator;
+pub mod next_and_not;
 mod positions;
 mod repeat;
 mod shortcuts;
