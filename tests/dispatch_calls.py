@@ -17,7 +17,7 @@ COMBINATIONS = {
     "bitmap_ops": ("and", "and_not", "or", "or_not", "xor", "not", "select", "select_constant"),
     "at_index": ("and_not_at",),
 }
-SEARCHES = {"bitmask": ("nth_set_bit_idx", "nth_set_bit_idx_rev")}
+SEARCHES = {"bitmask": ("nth_set_bit_idx", "nth_set_bit_idx_rev"), "next_and_not": ("next_and_not",)}
 
 
 ITEM = re.compile(r"(?m)^impl (\w+)|^(\})|^pub(?:\(crate\))? (?:struct|enum) (\w+)|\bpub fn (\w+)(.*?)\bensures\b", re.S)

@@ -1,6 +1,7 @@
 -- The laws of the crate.
 pub mod AndNotFlag
 pub mod DispatchLaws
+pub mod OfferLaws
 pub mod Refusals
 pub mod Uncounted
 pub mod WrongAnswers

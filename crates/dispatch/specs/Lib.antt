@@ -1,5 +1,6 @@
 -- What the contracts of this crate mean.
 pub mod CountsUnseen
 pub mod Dispatch
+pub mod Offer
 pub mod Refusals
 pub mod WrongAnswers

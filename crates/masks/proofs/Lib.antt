@@ -24,6 +24,7 @@ pub mod LengthLaws
 pub mod Listing
 pub mod MaskLaws
 pub mod NextAndNotLaws
+pub mod NextPlain
 pub mod OrderLaws
 pub mod OrderRows
 pub mod PairPlain
