@@ -5,3 +5,4 @@ pub mod OfferLaws
 pub mod Refusals
 pub mod Uncounted
 pub mod WrongAnswers
+pub mod WrongOffers

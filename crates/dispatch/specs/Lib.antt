@@ -4,3 +4,4 @@ pub mod Dispatch
 pub mod Offer
 pub mod Refusals
 pub mod WrongAnswers
+pub mod WrongOffers

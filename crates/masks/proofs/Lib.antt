@@ -52,3 +52,4 @@ pub mod TrueLaws
 pub mod Uncounted
 pub mod Witnesses
 pub mod WrongAnswers
+pub mod WrongNext

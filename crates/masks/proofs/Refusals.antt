@@ -16,6 +16,7 @@ use Rattle.masks.specs.Answer.{Answer, given, refused, checked, kept, un
 use Rattle.masks.specs.Appends.{Append, pushFlag, extendConstant, pushWord, extendSlice, extendRepeated, extendBitmap, extendGather, extendOptGather}
 use Rattle.masks.specs.Appends.{appendChecks, wordChecks, constantChecks, spanGrowChecks, innerChecks, subsliceChecks, gatherChecks}
 use Rattle.masks.specs.AtIndex.{andNotAtChecks, andNotAtOf, indexChecks, lengthChecks}
+use Rattle.masks.specs.NextAndNot.{nextAndNotOf, nextChecks, otherChecks}
 use Rattle.masks.specs.Bitmask.{splitChecks, splitAt, windowAt}
 use Rattle.masks.specs.Builder.{builderChecks}
 use Rattle.masks.specs.Checks.{Check, rank, earlier, failure, firstFailed, spanChecks, addressChecks, outputChecks}
@@ -186,7 +187,7 @@ unfolding
     maskChecks zeroedChecks pieceChecks sliceChecks pairChecks notChecks selectChecks commonChecks newTrueChecks trueChecks
     alignedOf spanCount newChunks nextChunk chunksRemainder splitAt windowAt searchFrom searchBack
     newZeroedOf newZeroedBytes tryNewOf sliceOf unsetBitsOf pairOf pairBytes eachOf eachBytes eqOf edgesOf commonOf
-    andNotAtOf andNotAtChecks indexChecks lengthChecks
+    andNotAtOf andNotAtChecks indexChecks lengthChecks nextAndNotOf nextChecks otherChecks
     newSlices nextSlice newIter nthFlag takeLeading newTrue nextTrue nextPositions positionsOver
 refusals =
     record {
@@ -219,6 +220,8 @@ refusals =
       and-not-at-first = λ a aBytes bBytes i. refuses-by (andNotAtChecks (Present a) aBytes Absent bBytes i) _ _ _ refl;
       and-not-at-second = λ aBytes b bBytes i. refuses-by (andNotAtChecks Absent aBytes (Present b) bBytes i) _ _ _ refl;
       and-not-at-none = λ aBytes bBytes i. refuses-by (andNotAtChecks Absent aBytes Absent bBytes i) _ _ _ refl;
+      next-and-not = λ a aBytes b bBytes from. refuses-by (nextChecks a aBytes (Present b) bBytes from) _ _ _ refl;
+      next-and-not-alone = λ a aBytes bBytes from. refuses-by (nextChecks a aBytes Absent bBytes from) _ _ _ refl;
       slices-new = λ m bytes. refuses-by (maskChecks m bytes) _ _ _ refl;
       slices-next = λ c bytes. refuses-by (runChecks c bytes) _ _ _ refl;
       iter-new = λ bytes start n. refuses-nonempty n _ _ _ _ (refuses-by (spanChecks start n (length bytes)) _ _ _ refl);

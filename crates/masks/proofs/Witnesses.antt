@@ -6,6 +6,7 @@ use Rattle.masks.specs.Aligned.{alignedChecks, alignedOf}
 use Rattle.masks.specs.Answer.{decided, unlessEmpty}
 use Rattle.masks.specs.Appends.{allBelow, wordChecks, constantChecks, spanGrowChecks, innerChecks, subsliceChecks, gatherChecks}
 use Rattle.masks.specs.AtIndex.{andNotAtChecks, andNotAtOf, indexChecks, lengthChecks}
+use Rattle.masks.specs.NextAndNot.{nextAndNotOf, nextChecks, otherChecks}
 use Rattle.masks.specs.Bitmask.{splitChecks, splitAt, windowAt}
 use Rattle.masks.specs.Builder.{builderChecks, possible}
 use Rattle.masks.specs.Checks.{earlier, firstFailed, rank, placeIn, spanChecks, addressChecks, outputChecks}
@@ -32,7 +33,7 @@ unfolding
     spanGrowChecks innerChecks subsliceChecks gatherChecks
     maskChecks zeroedChecks pieceChecks sliceChecks pairChecks notChecks selectChecks commonChecks newTrueChecks trueChecks
     alignedOf spanCount newChunks nextChunk chunksRemainder splitAt windowAt searchFrom searchBack
-    newZeroedOf tryNewOf sliceOf unsetBitsOf pairOf eachOf eqOf edgesOf commonOf andNotAtOf andNotAtChecks indexChecks lengthChecks
+    newZeroedOf tryNewOf sliceOf unsetBitsOf pairOf eachOf eqOf edgesOf commonOf andNotAtOf andNotAtChecks indexChecks lengthChecks nextAndNotOf nextChecks otherChecks
     newSlices nextSlice newIter nthFlag takeLeading newTrue nextTrue nextPositions
 witnessed addressed = refl
 witnessed spans = refl

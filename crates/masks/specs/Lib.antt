@@ -35,4 +35,5 @@ pub mod Workers
 pub mod WrongBuilders
 pub mod WrongCursors
 pub mod WrongMasks
+pub mod WrongNext
 pub mod WrongSpans

@@ -14,6 +14,7 @@ use Rattle.masks.specs.Answer.{Answer, refused}
 use Rattle.masks.specs.Appends.{Append, pushFlag, extendConstant, pushWord, extendSlice, extendRepeated}
 use Rattle.masks.specs.Appends.{extendBitmap, extendGather, extendOptGather, appendAnswer, appendBytes}
 use Rattle.masks.specs.AtIndex.{andNotAtOf}
+use Rattle.masks.specs.NextAndNot.{nextAndNotOf}
 use Rattle.masks.specs.Bitmask.{splitAt, windowAt}
 use Rattle.masks.specs.Checks.{Check, firstFailed}
 use Rattle.masks.specs.Chunks.{newChunks, nextChunk, chunksRemainder}
@@ -120,7 +121,7 @@ mayGive combinations = 1 ∷ 2 ∷ 3 ∷ 5 ∷ 9 ∷ []
 mayGive inversions = 1 ∷ 2 ∷ 3 ∷ 9 ∷ []
 -- `num_intersections_with`
 mayGive intersections = 1 ∷ 2 ∷ 3 ∷ 5 ∷ []
--- `and_not_at` of two masks, and of one
+-- `and_not_at` and `next_and_not` of two masks, and of one
 mayGive indexed-pairs = 1 ∷ 2 ∷ 3 ∷ 5 ∷ 6 ∷ []
 mayGive indexed-masks = 1 ∷ 2 ∷ 3 ∷ 6 ∷ []
 -- `TrueIdxIter::new` of a mask, and of none
@@ -181,6 +182,10 @@ pub record Refusals : Type 0 where
       → Refuses (mayGive indexed-masks) tt (andNotAtOf Absent aBytes (Present b) bBytes i)
   -- of no mask nothing is asked
   pub and-not-at-none : (aBytes bBytes : List ℕ) (i : ℕ) → Refuses [] tt (andNotAtOf Absent aBytes Absent bBytes i)
+  pub next-and-not : (a : Bitmap) (aBytes : List ℕ) (b : Bitmap) (bBytes : List ℕ) (from : ℕ)
+      → Refuses (mayGive indexed-pairs) tt (nextAndNotOf a aBytes (Present b) bBytes from)
+  pub next-and-not-alone : (a : Bitmap) (aBytes bBytes : List ℕ) (from : ℕ)
+      → Refuses (mayGive indexed-masks) tt (nextAndNotOf a aBytes Absent bBytes from)
   -- cursors
   pub slices-new : (m : Bitmap) (bytes : List ℕ) → Refuses (mayGive masks) tt (newSlices m bytes)
   pub slices-next : (c : SlicesIterator) (bytes : List ℕ) → Refuses (mayGive cursors) c (nextSlice c bytes)

@@ -16,6 +16,7 @@ use Rattle.masks.specs.Aligned.{alignedOf}
 use Rattle.masks.specs.Answer.{Answer, given, refused}
 use Rattle.masks.specs.Appends.{Append, pushFlag, extendConstant, pushWord, extendSlice, extendRepeated, extendBitmap, extendGather, extendOptGather, appendAnswer}
 use Rattle.masks.specs.AtIndex.{andNotAtOf}
+use Rattle.masks.specs.NextAndNot.{nextAndNotOf}
 use Rattle.masks.specs.Bitmask.{splitAt, windowAt}
 use Rattle.masks.specs.Builder.{builderOf, newBuilder}
 use Rattle.masks.specs.Chunks.{chunksAt, newChunks, nextChunk, chunksRemainder}
@@ -120,6 +121,10 @@ selectConstantNumber m out = numberOf (selectConstantOf whole byte m byte false 
 -- the number of `and_not` at an index of masks over the byte
 abbrev pub atNumber : Optional → Optional → ℕ → ℕ
 atNumber first second i = numberOf (andNotAtOf first byte second byte i)
+
+-- the number of `next_and_not` from a place on
+abbrev pub nextNumber : Bitmap → Optional → ℕ → ℕ
+nextNumber first second from = numberOf (nextAndNotOf first byte second byte from)
 
 -- ---- the table: for each call a list, what its definition gives at one input for each number of its family
 
@@ -243,11 +248,16 @@ witnesses indexed-pairs =
     ++ (atNumber (Present shorter) (Present whole) 0 ∷ atNumber (Present whole) (Present whole) 8 ∷ []))
     ∷ (atMasks (λ m. atNumber (Present whole) (Present m) 0)
     ++ (atNumber (Present whole) (Present shorter) 0 ∷ atNumber (Present whole) (Present whole) 8 ∷ []))
+    -- `next_and_not` likewise
+    ∷ (atMasks (λ m. nextNumber m (Present whole) 0) ++ (nextNumber shorter (Present whole) 0 ∷ nextNumber whole (Present whole) 9 ∷ []))
+    ∷ (atMasks (λ m. nextNumber whole (Present m) 0) ++ (nextNumber whole (Present shorter) 0 ∷ nextNumber whole (Present whole) 9 ∷ []))
     ∷ []
 witnesses indexed-masks =
     -- `and_not_at` of the first mask alone, and of the second
     (atMasks (λ m. atNumber (Present m) Absent 0) ++ (atNumber (Present whole) Absent 8 ∷ []))
     ∷ (atMasks (λ m. atNumber Absent (Present m) 0) ++ (atNumber Absent (Present whole) 8 ∷ []))
+    -- `next_and_not` of the first mask alone
+    ∷ (atMasks (λ m. nextNumber m Absent 0) ++ (nextNumber whole Absent 9 ∷ []))
     ∷ []
 witnesses stated-masks =
     -- `TrueIdxIter::new`
