@@ -7,7 +7,7 @@ ROOT = pathlib.Path(__file__).resolve().parent.parent
 CAPI = ROOT / "crates/capi"
 
 # The order in which the modules are declared; a module that is not named here comes behind these.
-ORDER = ["word", "spans", "search", "chunks", "builder", "mask", "combine", "at_index", "cursors", "reassign", "window"]
+ORDER = ["word", "spans", "search", "chunks", "builder", "mask", "combine", "at_index", "next_and_not", "cursors", "reassign", "offer", "window"]
 
 # What a refused export gives back, by its name or by the encoding that its contract names; of every other all fields are 0.
 KEPT = {
@@ -17,6 +17,7 @@ KEPT = {
     "asSameMask": "the mask is then the one that came, every field as it came",
     "asZeros": "the mask is then the one that came, every field as it came, and `zeros` 0",
     "asBuilder": "the builder is then the one that came",
+    "asOffer": "`cursor` is then the one that came, every other field 0",
     **dict.fromkeys(("asWord", "asBit", "asRun", "asTaken", "asRemainder"), "`place` is then the one that came, every other field 0"),
 }
 

@@ -8,7 +8,7 @@ use mathlib.Core.List.{List, [], _∷_}
 use mathlib.Core.Option.{Option, none, some}
 use lib.Dec.{eqb}
 use borrow.Author.Tests.{ne-eqb}
-use Rattle.words.specs.Nth.{Found, atPlace, onlyOnes}
+use Rattle.words.specs.Nth.{Found as SetBit, atPlace, onlyOnes}
 use Rattle.masks.specs.Answer.{Answer, given, refused}
 use Rattle.masks.specs.Appends.{Append, appendAnswer, appendBytes, pushFlag, extendConstant, pushWord, extendSlice, extendRepeated}
 use Rattle.masks.specs.Appends.{extendBitmap, extendGather, extendOptGather}
@@ -17,6 +17,7 @@ use Rattle.masks.specs.Combine.{And, AndNot, Or, OrNot, Xor}
 use Rattle.masks.specs.Cursor.{Step, item, ended}
 use Rattle.masks.specs.Iterator.{iterAt}
 use Rattle.masks.specs.Mask.{Recounted}
+use Rattle.masks.specs.NextAndNot.{Found}
 use Rattle.masks.specs.Refusals.{among, allAmong, Refuses, RefusesUnwritten, appendFamily, mayGive}
 use Rattle.masks.specs.SliceIterator.{slicesAt}
 use Rattle.masks.specs.TrueIdx.{trueAt}
@@ -26,10 +27,12 @@ use Rattle.masks.specs.declared.bitmap.Optional.the-variants.{Present, Absent}
 use Rattle.masks.specs.declared.bitmask.Span.{Span}
 use Rattle.masks.specs.declared.builder.BitmapBuilder.{BitmapBuilder}
 use Rattle.masks.proofs.Refusals as masks
+use Rattle.dispatch.specs.Offer.{Offering}
 use Rattle.dispatch.proofs.Refusals as dispatch
 use Rattle.activity.specs.Checks.{widthFits, leftByMinutes}
 use Rattle.activity.proofs.Refusals as activity
-use Rattle.capi.specs.Answers.{asBit, asBuilder, asCursor, asFlag, asMask, asNth, asNumber, asPosition, asRemainder, asRun, asSameMask}
+use Rattle.capi.specs.Answers.{asBit, asBuilder, asCursor, asFlag, asMask, asNext, asNth, asNumber, asOffer, asPosition}
+use Rattle.capi.specs.Answers.{nextAt, offerAt, asRemainder, asRun, asSameMask}
 use Rattle.capi.specs.Answers.{asSpans, asSplit, asStep, asTaken, asValidity, asWord, asZeros}
 use Rattle.capi.specs.Records.{builderIn, builderOut, chunksOut, chunksPlace, iterOut, iterPlace, maskIn, optionalIn}
 use Rattle.capi.specs.Records.{slicesOut, slicesPlace, trueIn, trueOut, truePlace}
@@ -91,6 +94,15 @@ unfolding asFlag
 of-flag (given x) = refl
 of-flag (refused k s) = refl
 
+next-number : (o : Option ℕ) (n : ℕ) → nextAt o n .refusal ≡ 0
+next-number (some p) n = refl
+next-number none n = refl
+
+of-next : {S : Type 0} (a : Answer S Found) → asNext a .refusal ≡ numberIn a
+unfolding asNext
+of-next (given f) = next-number (f .position) (f .windows)
+of-next (refused k s) = refl
+
 of-position : {S : Type 0} (a : Answer S (Option ℕ)) → asPosition a .refusal ≡ numberIn a
 unfolding asPosition
 of-position (given (some p)) = refl
@@ -133,7 +145,7 @@ unfolding asSpans
 of-spans (given (a, b)) = refl
 of-spans (refused k s) = refl
 
-nth-gives : (w : Found) → Gives [] (asNth w .refusal)
+nth-gives : (w : SetBit) → Gives [] (asNth w .refusal)
 unfolding asNth allAmong
 nth-gives (atPlace p) = no-number [] refl
 nth-gives (onlyOnes k) = no-number [] refl
@@ -166,6 +178,15 @@ module _ (ns : List ℕ) (l : Listed ns) where
   step-back value count place s (given (ended c)) r = nothing-back ns (place s) _ l
   step-back value count place s (refused k t) r =
       record { gives = some-number ns k l (r .number k t refl); same = λ h. ap place (r .state k t refl) }
+
+  found-back : (came : ℕ) (o : Option ℕ) (cursor n : ℕ) → GivesBack ns (offerAt o cursor n .refusal) came (offerAt o cursor n .cursor)
+  found-back came (some t) cursor n = nothing-back ns came cursor l
+  found-back came none cursor n = nothing-back ns came cursor l
+
+  offer-back : (cursor : ℕ) (a : Answer ℕ Offering) → Refuses ns cursor a → GivesBack ns (asOffer a .refusal) cursor (asOffer a .cursor)
+  unfolding asOffer
+  offer-back cursor (given o) r = found-back cursor (o .truck) (o .cursor) (o .windows)
+  offer-back cursor (refused k t) r = record { gives = some-number ns k l (r .number k t refl); same = λ h. r .state k t refl }
 
   taken-back : {C : Type 0} (place : C → ℕ) (s : C) (a : Answer C (ℕ × C)) → Refuses ns s a
       → GivesBack ns (asTaken place a .refusal) (place s) (asTaken place a .place)
@@ -325,6 +346,10 @@ refusals =
       no-first = λ p pBytes q qBytes i.
           gives _ _ refl _ _ (of-flag _) (masks.refusals .and-not-at-second pBytes (maskIn q) qBytes i);
       no-first-no-second = λ p pBytes q qBytes i. gives _ _ refl _ _ (of-flag _) (masks.refusals .and-not-at-none pBytes qBytes i);
+      pw-next-and-not = λ p pBytes q qBytes from.
+          gives _ _ refl _ _ (of-next _) (masks.refusals .next-and-not (maskIn p) pBytes (maskIn q) qBytes from);
+      next-and-not-alone = λ p pBytes q qBytes from.
+          gives _ _ refl _ _ (of-next _) (masks.refusals .next-and-not-alone (maskIn p) pBytes qBytes from);
       pw-may-reassign = λ p pBytes q qBytes truck.
           gives _ _ refl _ _ (of-flag _) (dispatch.refusals (Present (maskIn p)) pBytes (Present (maskIn q)) qBytes truck);
       no-revocation = λ p pBytes q qBytes truck.
@@ -332,6 +357,14 @@ refusals =
       no-permission = λ p pBytes q qBytes truck.
           gives _ _ refl _ _ (of-flag _) (dispatch.refusals Absent pBytes (Present (maskIn q)) qBytes truck);
       neither = λ p pBytes q qBytes truck. gives _ _ refl _ _ (of-flag _) (dispatch.refusals Absent pBytes Absent qBytes truck);
+      pw-offer = λ p pBytes q qBytes cursor.
+          offer-back _ refl cursor _ (dispatch.offer-refusals (Present (maskIn p)) pBytes (Present (maskIn q)) qBytes cursor);
+      offer-no-revocation = λ p pBytes q qBytes cursor.
+          offer-back _ refl cursor _ (dispatch.offer-refusals (Present (maskIn p)) pBytes Absent qBytes cursor);
+      offer-no-permission = λ p pBytes q qBytes cursor.
+          offer-back _ refl cursor _ (dispatch.offer-refusals Absent pBytes (Present (maskIn q)) qBytes cursor);
+      offer-neither = λ p pBytes q qBytes cursor.
+          offer-back _ refl cursor _ (dispatch.offer-refusals Absent pBytes Absent qBytes cursor);
       pw-activity-new = λ width words counts.
           record {
             gives = array-back (widthFits width) _ (activity.refusals .new-number width) words _;

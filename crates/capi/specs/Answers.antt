@@ -6,22 +6,26 @@ use Prim.Native.Nat.{ℕ}
 use mathlib.Core.Bool.{Bool, true, false}
 use mathlib.Core.Option.{Option, none, some}
 use Rattle.words.specs.Flags.{digit}
-use Rattle.words.specs.Nth.{Found, atPlace, onlyOnes}
+use Rattle.words.specs.Nth.{Found as SetBit, atPlace, onlyOnes}
 use Rattle.masks.specs.Answer.{Answer, given, refused}
 use Rattle.masks.specs.Cursor.{Step, item, ended}
 use Rattle.masks.specs.Mask.{Recounted}
+use Rattle.masks.specs.NextAndNot.{Found}
 use Rattle.masks.specs.declared.aligned.AlignedBitmapSlice.{AlignedBitmapSlice}
 use Rattle.masks.specs.declared.bitmap.Bitmap.{Bitmap}
 use Rattle.masks.specs.declared.bitmask.Span.{Span}
 use Rattle.masks.specs.declared.builder.BitmapBuilder.{BitmapBuilder}
 use Rattle.masks.specs.declared.slice_iterator.Run.{Run}
+use Rattle.dispatch.specs.Offer.{Offering}
 use Rattle.capi.specs.Records.{maskOut, noMask, builderOut, noCursor}
 use Rattle.capi.specs.declared.answers.BuilderAnswer.{BuilderAnswer}
 use Rattle.capi.specs.declared.answers.CursorAnswer.{CursorAnswer}
 use Rattle.capi.specs.declared.answers.Flag.{Flag}
 use Rattle.capi.specs.declared.answers.MaskAnswer.{MaskAnswer}
+use Rattle.capi.specs.declared.answers.NextAnswer.{NextAnswer}
 use Rattle.capi.specs.declared.answers.NthAnswer.{NthAnswer}
 use Rattle.capi.specs.declared.answers.Number.{Number}
+use Rattle.capi.specs.declared.answers.OfferAnswer.{OfferAnswer}
 use Rattle.capi.specs.declared.answers.Position.{Position}
 use Rattle.capi.specs.declared.answers.SpansAnswer.{SpansAnswer}
 use Rattle.capi.specs.declared.answers.SplitAnswer.{SplitAnswer}
@@ -57,9 +61,35 @@ asPosition (given none) = positionOf 0 false 0
 asPosition (refused k s) = positionOf k false 0
 
 -- the set bit of a word, whose call refuses nothing
-unfoldable pub asNth : Found → NthAnswer
+unfoldable pub asNth : SetBit → NthAnswer
 asNth (atPlace p) = record { refusal = 0; found = true; value = p; ones = 0 }
 asNth (onlyOnes k) = record { refusal = 0; found = false; value = 0; ones = k }
+
+-- ---- a search by windows, an offer
+
+abbrev pub nextOf : ℕ → Bool → ℕ → ℕ → NextAnswer
+nextOf k found p n = record { refusal = k; found = found; position = p; windows = n }
+
+-- a position that may be missing
+abbrev pub nextAt : Option ℕ → ℕ → NextAnswer
+nextAt (some p) n = nextOf 0 true p n
+nextAt none n = nextOf 0 false 0 n
+
+unfoldable pub asNext : {S : Type 0} → Answer S Found → NextAnswer
+asNext (given f) = nextAt (f .position) (f .windows)
+asNext (refused k s) = nextOf k false 0 0
+
+abbrev pub offerRecord : ℕ → Bool → ℕ → ℕ → ℕ → OfferAnswer
+offerRecord k found t cursor n = record { refusal = k; found = found; truck = t; cursor = cursor; windows = n }
+
+-- a truck that may be missing
+abbrev pub offerAt : Option ℕ → ℕ → ℕ → OfferAnswer
+offerAt (some t) cursor n = offerRecord 0 true t cursor n
+offerAt none cursor n = offerRecord 0 false 0 cursor n
+
+unfoldable pub asOffer : Answer ℕ Offering → OfferAnswer
+asOffer (given o) = offerAt (o .truck) (o .cursor) (o .windows)
+asOffer (refused k cursor) = offerRecord k false 0 cursor 0
 
 -- ---- a mask
 

@@ -25,6 +25,7 @@ use Rattle.masks.specs.Compare.{eqOf, edgesOf, commonOf}
 use Rattle.masks.specs.Freeze.{freezeOf, intoOptValidityOf, freezeBytes}
 use Rattle.masks.specs.Iterator.{iterAt, newIter, nthFlag, takeLeading}
 use Rattle.masks.specs.Mask.{tryNewOf, newZeroedOf, newZeroedBytes, unsetBitsOf, sliceOf}
+use Rattle.masks.specs.NextAndNot.{nextAndNotOf}
 use Rattle.masks.specs.Positions.{nextPositions, positionsOver}
 use Rattle.masks.specs.Refusals.{among, allAmong}
 use Rattle.masks.specs.Search.{searchFrom, searchBack}
@@ -32,8 +33,10 @@ use Rattle.masks.specs.SliceIterator.{slicesAt, newSlices, nextSlice}
 use Rattle.masks.specs.TrueIdx.{newTrue, nextTrue}
 use Rattle.masks.specs.Utils.{spanCount, zeros}
 use Rattle.dispatch.specs.Dispatch.{mayReassign}
+use Rattle.dispatch.specs.Offer.{offerOf}
 use Rattle.activity.specs.Window.{newOf, pushOf, countsOf}
-use Rattle.capi.specs.Answers.{asBit, asBuilder, asCursor, asFlag, asMask, asNth, asNumber, asPosition, asRemainder, asRun, asSameMask}
+use Rattle.capi.specs.Answers.{asBit, asBuilder, asCursor, asFlag, asMask, asNext, asNth, asNumber, asOffer, asPosition}
+use Rattle.capi.specs.Answers.{asRemainder, asRun, asSameMask}
 use Rattle.capi.specs.Answers.{asSpans, asSplit, asTaken, asValidity, asWord, asZeros}
 use Rattle.capi.specs.Records.{builderIn, chunksOut, chunksPlace, iterOut, iterPlace, maskIn, optionalIn, slicesOut, slicesPlace}
 use Rattle.capi.specs.Records.{trueIn, trueOut, truePlace}
@@ -198,6 +201,11 @@ pub record Refusals : Type 0 where
       → Gives (1 ∷ 2 ∷ 3 ∷ 6 ∷ []) (asFlag (andNotAtOf (optionalIn false p) pBytes (optionalIn true q) qBytes i) .refusal)
   pub no-first-no-second : (p : Mask) (pBytes : List ℕ) (q : Mask) (qBytes : List ℕ) (i : ℕ)
       → Gives [] (asFlag (andNotAtOf (optionalIn false p) pBytes (optionalIn false q) qBytes i) .refusal)
+  -- the search by windows: with both masks, with the first alone
+  pub pw-next-and-not : (p : Mask) (pBytes : List ℕ) (q : Mask) (qBytes : List ℕ) (from : ℕ)
+      → Gives (1 ∷ 2 ∷ 3 ∷ 5 ∷ 6 ∷ []) (asNext (nextAndNotOf (maskIn p) pBytes (optionalIn true q) qBytes from) .refusal)
+  pub next-and-not-alone : (p : Mask) (pBytes : List ℕ) (q : Mask) (qBytes : List ℕ) (from : ℕ)
+      → Gives (1 ∷ 2 ∷ 3 ∷ 6 ∷ []) (asNext (nextAndNotOf (maskIn p) pBytes (optionalIn false q) qBytes from) .refusal)
   -- dispatch: with both masks, with one, with none
   pub pw-may-reassign : (p : Mask) (pBytes : List ℕ) (q : Mask) (qBytes : List ℕ) (truck : ℕ)
       → Gives (1 ∷ 2 ∷ 3 ∷ 5 ∷ 6 ∷ []) (asFlag (mayReassign (optionalIn true p) pBytes (optionalIn true q) qBytes truck) .refusal)
@@ -207,6 +215,19 @@ pub record Refusals : Type 0 where
       → Gives (1 ∷ 2 ∷ 3 ∷ 6 ∷ []) (asFlag (mayReassign (optionalIn false p) pBytes (optionalIn true q) qBytes truck) .refusal)
   pub neither : (p : Mask) (pBytes : List ℕ) (q : Mask) (qBytes : List ℕ) (truck : ℕ)
       → Gives [] (asFlag (mayReassign (optionalIn false p) pBytes (optionalIn false q) qBytes truck) .refusal)
+  -- an offer, whose cursor is given back: with both masks, with one, with none
+  pub pw-offer : (p : Mask) (pBytes : List ℕ) (q : Mask) (qBytes : List ℕ) (cursor : ℕ)
+      → let r = asOffer (offerOf (optionalIn true p) pBytes (optionalIn true q) qBytes cursor) in
+      GivesBack (1 ∷ 2 ∷ 3 ∷ 5 ∷ 6 ∷ []) (r .refusal) cursor (r .cursor)
+  pub offer-no-revocation : (p : Mask) (pBytes : List ℕ) (q : Mask) (qBytes : List ℕ) (cursor : ℕ)
+      → let r = asOffer (offerOf (optionalIn true p) pBytes (optionalIn false q) qBytes cursor) in
+      GivesBack (1 ∷ 2 ∷ 3 ∷ 6 ∷ []) (r .refusal) cursor (r .cursor)
+  pub offer-no-permission : (p : Mask) (pBytes : List ℕ) (q : Mask) (qBytes : List ℕ) (cursor : ℕ)
+      → let r = asOffer (offerOf (optionalIn false p) pBytes (optionalIn true q) qBytes cursor) in
+      GivesBack (1 ∷ 2 ∷ 3 ∷ []) (r .refusal) cursor (r .cursor)
+  pub offer-neither : (p : Mask) (pBytes : List ℕ) (q : Mask) (qBytes : List ℕ) (cursor : ℕ)
+      → let r = asOffer (offerOf (optionalIn false p) pBytes (optionalIn false q) qBytes cursor) in
+      GivesBack [] (r .refusal) cursor (r .cursor)
   -- a window of minutes: a new one, of which both arrays stay; one minute on, where the window stays; its counts, where the output stays
   pub pw-activity-new : (width : ℕ) (words counts : List ℕ) → let r = newOf width in
       GivesBoth (16 ∷ []) (asWindow r .refusal) words (unlessRefused (r .refusal) words (r .window .words))

@@ -1,7 +1,7 @@
 // The records in which answers cross to C and Rust. `refusal` is 0, or the number of the refusing check. On refusal a record is
 // the very one that the call got, where it got one of that kind and gives it back; every other field is 0.
 ghost use mathlib.Core.Path.{_≡_};
-ghost use Rattle.capi.specs.Answers.{cursorAnswer, flagOf, maskAnswer, numberOf, positionOf, stepOf};
+ghost use Rattle.capi.specs.Answers.{cursorAnswer, flagOf, maskAnswer, nextOf, numberOf, offerRecord, positionOf, stepOf};
 use crate::records::Builder;
 use crate::records::Cursor;
 use crate::records::Mask;
@@ -35,6 +35,25 @@ pub struct NthAnswer {
     pub found: bool,
     pub value: u32,
     pub ones: u32,
+}
+
+// A position, where `found`, and the number of windows of 32 flags read.
+#[repr(C)]
+pub struct NextAnswer {
+    pub refusal: u8,
+    pub found: bool,
+    pub position: usize,
+    pub windows: usize,
+}
+
+// A truck, where `found`; the cursor for the next call; and the number of windows of 32 flags read.
+#[repr(C)]
+pub struct OfferAnswer {
+    pub refusal: u8,
+    pub found: bool,
+    pub truck: usize,
+    pub cursor: usize,
+    pub windows: usize,
 }
 
 // A mask.
@@ -133,6 +152,35 @@ pub(crate) fn position_of(refusal: u8, found: bool, value: usize) -> Position
         refusal: refusal,
         found: found,
         value: value,
+    }
+}
+
+pub(crate) fn next_of(refusal: u8, found: bool, position: usize, windows: usize) -> NextAnswer
+    ensures { λ r. ⌜ r ≡ nextOf refusal found position windows ⌝ }
+{
+    NextAnswer {
+        refusal: refusal,
+        found: found,
+        position: position,
+        windows: windows,
+    }
+}
+
+pub(crate) fn offer_of(
+    refusal: u8,
+    found: bool,
+    truck: usize,
+    cursor: usize,
+    windows: usize,
+) -> OfferAnswer
+    ensures { λ r. ⌜ r ≡ offerRecord refusal found truck cursor windows ⌝ }
+{
+    OfferAnswer {
+        refusal: refusal,
+        found: found,
+        truck: truck,
+        cursor: cursor,
+        windows: windows,
     }
 }
 

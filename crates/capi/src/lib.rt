@@ -11,6 +11,8 @@ pub mod combine;
 pub mod cursors;
 pub mod interface;
 pub mod mask;
+pub mod next_and_not;
+pub mod offer;
 pub mod reassign;
 mod records;
 pub mod search;
