@@ -97,43 +97,42 @@ no-words l h = let z : _≡_ {A = ℕ} 0 1 = cc h in absurd (omega arith)
 
 -- ---- the loop over the words behind the kept ones
 
-pub zero-step : (l : List ℕ) (i : ℕ) (t : Bool) → i < length l → getD l i 0 ≡ 0 → allZero (drop i l) ≡ t → allZero (drop (i + 1) l) ≡ t
-unfolding allZero
-zero-step l i t h e inv =
-    ap (λ (n : ℕ). allZero (drop n l)) (add-one i) ∙ ap (λ (x : Bool). x && allZero (drop (suc i) l)) (sym (eq-eqb (getD l i 0) 0 e))
-    ∙ ap allZero (sym (drop-cons l i 0 h)) ∙ inv
+and-three : (x y z : Bool) → ((x && y) && z) ≡ (x && (y && z))
+and-three true y z = refl
+and-three false y z = refl
 
-pub zero-stop : (l : List ℕ) (i : ℕ) (t : Bool) → i < length l → (getD l i 0 ≡ 0 → ⊥) → allZero (drop i l) ≡ t → false ≡ t
-unfolding allZero
-zero-stop l i t h e inv =
-    ap (λ (x : Bool). x && allZero (drop (suc i) l)) (sym (ne-eqb (getD l i 0) 0 e)) ∙ ap allZero (sym (drop-cons l i 0 h)) ∙ inv
+and-yes : (x : Bool) → (x && true) ≡ x
+and-yes true = refl
+and-yes false = refl
 
-pub zero-end : (l : List ℕ) (i : ℕ) (t : Bool) → length l ≤ i → allZero (drop i l) ≡ t → true ≡ t
+pub zero-step : (l : List ℕ) (i : ℕ) (z t : Bool) → i < length l → (z && allZero (drop i l)) ≡ t
+    → ((z && eqb (getD l i 0) 0) && allZero (drop (i + 1) l)) ≡ t
 unfolding allZero
-zero-end l i t h inv = ap allZero (sym (drop-of-length-le l h)) ∙ inv
+zero-step l i z t h inv =
+    ap (λ (n : ℕ). (z && eqb (getD l i 0) 0) && allZero (drop n l)) (add-one i)
+    ∙ and-three z (eqb (getD l i 0) 0) (allZero (drop (suc i) l)) ∙ ap (λ (x : List ℕ). z && allZero x) (sym (drop-cons l i 0 h)) ∙ inv
+
+pub zero-end : (l : List ℕ) (i : ℕ) (z t : Bool) → length l ≤ i → (z && allZero (drop i l)) ≡ t → z ≡ t
+unfolding allZero
+zero-end l i z t h inv = sym (and-yes z) ∙ ap (λ (x : List ℕ). z && allZero x) (sym (drop-of-length-le l h)) ∙ inv
 
 -- ---- the loop over the counts
 
-module _ (a b : List ℕ) (i : ℕ) (t : Bool) (long : length a ≡ length b) where
-  pub same-step : i < length a → getD a i 0 ≡ getD b i 0 → sameNumbers (drop i a) (drop i b) ≡ t
-      → sameNumbers (drop (i + 1) a) (drop (i + 1) b) ≡ t
+module _ (a b : List ℕ) (i : ℕ) (s t : Bool) (long : length a ≡ length b) where
+  pub same-step : i < length a → (s && sameNumbers (drop i a) (drop i b)) ≡ t
+      → ((s && eqb (getD a i 0) (getD b i 0)) && sameNumbers (drop (i + 1) a) (drop (i + 1) b)) ≡ t
   unfolding sameNumbers
-  same-step h e inv =
-      ap (λ (n : ℕ). sameNumbers (drop n a) (drop n b)) (add-one i)
-      ∙ ap (λ (x : Bool). x && sameNumbers (drop (suc i) a) (drop (suc i) b)) (sym (eq-eqb (getD a i 0) (getD b i 0) e))
-      ∙ ap₂ sameNumbers (sym (drop-cons a i 0 h)) (sym (drop-cons b i 0 (omega arith))) ∙ inv
+  same-step h inv =
+      let e : Bool = eqb (getD a i 0) (getD b i 0) in
+      ap (λ (n : ℕ). (s && e) && sameNumbers (drop n a) (drop n b)) (add-one i)
+      ∙ and-three s e (sameNumbers (drop (suc i) a) (drop (suc i) b))
+      ∙ ap₂ (λ (x y : List ℕ). s && sameNumbers x y) (sym (drop-cons a i 0 h)) (sym (drop-cons b i 0 (omega arith))) ∙ inv
 
-  pub same-stop : i < length a → (getD a i 0 ≡ getD b i 0 → ⊥) → sameNumbers (drop i a) (drop i b) ≡ t → false ≡ t
-  unfolding sameNumbers
-  same-stop h e inv =
-      ap (λ (x : Bool). x && sameNumbers (drop (suc i) a) (drop (suc i) b)) (sym (ne-eqb (getD a i 0) (getD b i 0) e))
-      ∙ ap₂ sameNumbers (sym (drop-cons a i 0 h)) (sym (drop-cons b i 0 (omega arith))) ∙ inv
-
-  pub same-end : length a ≤ i → sameNumbers (drop i a) (drop i b) ≡ t → true ≡ t
+  pub same-end : length a ≤ i → (s && sameNumbers (drop i a) (drop i b)) ≡ t → s ≡ t
   unfolding sameNumbers
   same-end h inv =
       let k : length b ≤ i = omega arith in
-      ap₂ sameNumbers (sym (drop-of-length-le a h)) (sym (drop-of-length-le b k)) ∙ inv
+      sym (and-yes s) ∙ ap₂ (λ (x y : List ℕ). s && sameNumbers x y) (sym (drop-of-length-le a h)) (sym (drop-of-length-le b k)) ∙ inv
 
 -- ---- what the parts say
 

@@ -46,33 +46,31 @@ fn numbers_fit(place: usize, fill: usize, width: usize) -> bool
     }
 }
 
-// Are all words zero from the word `from` on.
+// Are all words zero from the word `from` on. The loop has no way out, so that several words are looked at a turn.
 fn zero_from(words: &[u64], from: usize) -> bool
     ensures { λ r. ⌜ r ≡ allZero (drop from (now (words .entry))) ⌝ }
 {
+    let mut none = true;
     let mut i = from;
     while i < words.len() {
-        if words[i] != 0 {
-            return false;
-        }
+        none = none & (words[i] == 0);
         i += 1;
     }
-    true
+    none
 }
 
-// Are two lists of as many numbers the same.
+// Are two lists of as many numbers the same. No way out of the loop here either.
 fn same_numbers(a: &[u32], b: &[u32]) -> bool
     requires { ⌜ length (now a) ≡ length (now b) ⌝ }
     ensures { λ r. ⌜ r ≡ sameNumbers (now (a .entry)) (now (b .entry)) ⌝ }
 {
+    let mut same = true;
     let mut i: usize = 0;
     while i < a.len() {
-        if a[i] != b[i] {
-            return false;
-        }
+        same = same & (a[i] == b[i]);
         i += 1;
     }
-    true
+    same
 }
 
 // Are the counts those of the first `fill` words.
