@@ -1,19 +1,21 @@
 -- Words added to bit planes, at any number of planes; the numbers of the columns. Assumes nothing.
 use mathlib.Core.Path.{_≡_, refl, sym, ap, ap₂, _∙_}
-use mathlib.Core.Bool.{Bool, true, false, xor, _&&_}
+use mathlib.Core.Bool.{Bool, true, false, cond, xor, _&&_}
 use mathlib.Core.List.{List, [], _∷_, _++_, append-nil, append-assoc}
 use Prim.Native.Nat.{ℕ, zero, suc, _+_, _-_, _*_, _/_, _%_, _^_, _≤_, _<_, min}
 use native.Mathlib.Nat.{pow-suc, mod-lt, zero-lt-suc}
 use native.Mathlib.Numerals.{add-one}
 use native.Mathlib.Omega.{arith}
-use lib.Bits.{bitAnd, bitXor}
+use lib.Bits.{bitAnd, bitXor, and-high}
+use lib.Dec.{eqb}
 use mathlib.Core.Logic.{⊎-elim}
-use lib.Pow.{pow-mono}
+use lib.Pow.{pow-mono, field, high-ones, mod-mod-pow, shl-exact, shr-shr}
 use lib.ListN.{length, length-drop, take, drop, getD, set, replicate, length-take, length-set}
 use lib.Seq.{drop-cons, take-suc-set, drop-set-lt, take-all, getD-set-same, getD-set-other}
+use borrow.Author.Tests.{eq-eqb, ne-eqb}
 use Rattle.words.specs.Flags.{digit, count}
 use Rattle.words.specs.Columns.{column, columnCounts, digitOf}
-use Rattle.words.specs.Planes.{planesAt, added, addedFrom, upTo, Totals, Wrote}
+use Rattle.words.specs.Planes.{planesAt, added, addedFrom, upTo, Masks, Totals, Wrote}
 use Rattle.words.proofs.Bits.{digit-isOne, digit-lt}
 use Rattle.words.proofs.ColumnLaws.{flag, flag-and, flag-xor}
 use Rattle.words.proofs.ColumnLaws.{zero-digit, length-column, at-column, column-take, columns-are}
@@ -217,3 +219,85 @@ wrote-more ps out k v h long inv e = (omega arith, length-set out k v ∙ long, 
 
 pub wrote-all : (ps out : List ℕ) (k : ℕ) → 64 ≤ k → (k ≤ 64) × (length out ≡ 64) × Wrote ps out k → (length out ≡ 64) × Wrote ps out 64
 wrote-all ps out k h inv = let e : k ≡ 64 = omega arith in (inv .1, rw e at (inv .2))
+
+-- ---- a column tested by a mask
+
+masks-more : (ms : List ℕ) (k v : ℕ) → k < length ms → Masks ms k → v ≡ 2 ^ k → Masks (set ms k v) (k + 1)
+unfolding Masks
+masks-more ms k v h inv e c p = ⊎-elim
+    (λ (l : c < k). getD-set-other ms k c v 0 (λ f. omega arith) ∙ inv c l)
+    (λ (l : k ≤ c).
+    let f : c ≡ k = omega arith in
+    ap (λ (x : ℕ). getD (set ms k v) x 0) f ∙ getD-set-same ms k v 0 h ∙ e ∙ ap (λ (x : ℕ). 2 ^ x) (sym f))
+    (lt-or-le c k)
+
+pub masks-none : (ms : List ℕ) → Masks ms 0
+unfolding Masks
+masks-none ms c p = absurd (omega arith)
+
+pub masks-step : (ms : List ℕ) (k v : ℕ) → k < 32 → length ms ≡ 32 → Masks ms k → v ≡ 2 ^ k
+    → (k + 1 ≤ 32) × (length (set ms k v) ≡ 32) × Masks (set ms k v) (k + 1)
+masks-step ms k v h long inv e = (omega arith, length-set ms k v ∙ long, masks-more ms k v (omega arith) inv e)
+
+pub masks-all : (ms : List ℕ) (k : ℕ) → 32 ≤ k → (k ≤ 32) × (length ms ≡ 32) × Masks ms k → (length ms ≡ 32) × Masks ms 32
+masks-all ms k h inv = let e : k ≡ 32 = omega arith in (inv .1, rw e at (inv .2))
+
+pub mask-of : (ms : List ℕ) (c : ℕ) → Masks ms 32 → c < 32 → getD ms c 0 ≡ 2 ^ c
+unfolding Masks
+mask-of ms c h p = h c p
+
+-- flag c of 32 flags from flag s on
+half-bit : (p s c : ℕ) → c < 32 → p / 2 ^ s % 2 ^ 32 / 2 ^ c % 2 ≡ p / 2 ^ (s + c) % 2
+half-bit p s c h =
+    let q : ℕ = p / 2 ^ s in
+    let a : 32 ≡ (32 - c) + c = omega arith in
+    let b : 32 - c ≡ (31 - c) + 1 = omega arith in
+    ap (λ (n : ℕ). q % 2 ^ n / 2 ^ c % 2) a ∙ ap (λ (x : ℕ). x % 2) (field q (32 - c) c)
+    ∙ ap (λ (n : ℕ). q / 2 ^ c % 2 ^ n % 2) b ∙ mod-mod-pow (q / 2 ^ c) (31 - c) 1 ∙ ap (λ (x : ℕ). x % 2) (shr-shr p s c)
+
+-- what a mask of one flag leaves
+masked : (h c : ℕ) → bitAnd h (2 ^ c) ≡ h / 2 ^ c % 2 * 2 ^ c
+masked h c =
+    let e : (2 ^ 1 - 1) * 2 ^ c ≡ 2 ^ c = omega arith in
+    ap (bitAnd h) (sym (high-ones 1 c ∙ e)) ∙ and-high h 1 c
+
+by-bit : (x m : ℕ) → x < 2 → 0 < m → cond (eqb (x * m) 0) 0 1 ≡ x
+by-bit zero m h p = let e : zero * m ≡ 0 = omega arith in ap (λ (t : Bool). cond t 0 1) (eq-eqb (zero * m) 0 e)
+by-bit (suc zero) m h p =
+    let e : suc zero * m ≡ m = omega arith in ap (λ (t : Bool). cond t 0 1) (ne-eqb (suc zero * m) 0 (λ (f : suc zero * m ≡ 0). omega arith))
+by-bit (suc (suc x)) m h p = absurd (omega arith)
+
+pub mask-digit : (p s c m h r : ℕ) → s ≤ 32 → c < 32 → m ≡ 2 ^ c → h ≡ p / 2 ^ s % 2 ^ 32 → r ≡ cond (eqb (bitAnd h m) 0) 0 1
+    → r ≡ digit (flag p (s + c))
+mask-digit p s c m h r a b e f g =
+    let low : 0 ≤ c = omega arith in
+    let some : 2 ^ 0 ≤ 2 ^ c = pow-mono low in
+    let bit : bitAnd h m ≡ h / 2 ^ c % 2 * 2 ^ c = ap (bitAnd h) e ∙ masked h c in
+    g ∙ ap (λ (x : ℕ). cond (eqb x 0) 0 1) bit ∙ by-bit (h / 2 ^ c % 2) (2 ^ c) (mod-lt (h / 2 ^ c) (zero-lt-suc 1)) (omega arith)
+    ∙ ap (λ (x : ℕ). x / 2 ^ c % 2) f ∙ half-bit p s c b ∙ digit-shift p (s + c) (omega arith)
+
+-- the number at s + c is the next one written
+pub half-more : (ps out : List ℕ) (s c v : ℕ) → s ≤ 32 → c < 32 → length out ≡ 64 → Wrote ps out (s + c) → v ≡ planesAt ps (s + c)
+    → (c + 1 ≤ 32) × (length (set out (s + c) v) ≡ 64) × Wrote ps (set out (s + c) v) (s + (c + 1))
+half-more ps out s c v a b long inv e =
+    let n : s + c + 1 ≡ s + (c + 1) = omega arith in
+    (omega arith, length-set out (s + c) v ∙ long, rw n at (wrote-step ps out (s + c) v (omega arith) inv e))
+
+pub half-none : (ps out : List ℕ) (s : ℕ) → length out ≡ 64 → Wrote ps out s → (0 ≤ 32) × (length out ≡ 64) × Wrote ps out (s + 0)
+half-none ps out s long inv = let n : s ≡ s + 0 = omega arith in (omega arith, long, rw n at inv)
+
+pub half-all : (ps out : List ℕ) (s c : ℕ) → 32 ≤ c → (c ≤ 32) × (length out ≡ 64) × Wrote ps out (s + c)
+    → (length out ≡ 64) × Wrote ps out (s + 32)
+half-all ps out s c h inv = let e : c ≡ 32 = omega arith in (inv .1, rw e at (inv .2))
+
+pub mask-value : (c : ℕ) → c < 32 → 1 * 2 ^ c % 2 ^ 32 ≡ 2 ^ c
+mask-value c h =
+    let low : 1 < 2 ^ 1 = omega arith in
+    let e : 1 * 2 ^ c ≡ 2 ^ c = omega arith in
+    shl-exact 1 c 32 low (omega arith) ∙ e
+
+pub none-masked : (x : ℕ) → x ≡ 0 → _≡_ {A = ℕ} 0 (cond (eqb x 0) 0 1)
+none-masked x e = ap (λ (t : Bool). cond t 0 1) (sym (eq-eqb x 0 e))
+
+pub some-masked : (x : ℕ) → (x ≡ 0 → ⊥) → _≡_ {A = ℕ} 1 (cond (eqb x 0) 0 1)
+some-masked x e = ap (λ (t : Bool). cond t 0 1) (sym (ne-eqb x 0 e))

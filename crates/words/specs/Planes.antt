@@ -1,5 +1,5 @@
 -- Numbers of 64 columns in bit planes: plane i has digit i of each. What the workers of `planes` promise each other. Assumes nothing.
-use Prim.Native.Nat.{ℕ, _+_, _*_, _<_}
+use Prim.Native.Nat.{ℕ, _+_, _*_, _^_, _<_}
 use mathlib.Core.Bool.{Bool, false}
 use mathlib.Core.List.{List, [], _∷_, _++_}
 use mathlib.Core.Path.{_≡_}
@@ -43,3 +43,7 @@ pub record Totals (rows : List ℕ) (planes : List ℕ) (n : ℕ) : Type 0 where
 -- the first k numbers are those of the planes
 unfoldable pub Wrote : List ℕ → List ℕ → ℕ → Type 0
 Wrote planes out k = (c : ℕ) → c < k → getD out c 0 ≡ planesAt planes c
+
+-- the first k numbers have each its own flag alone
+unfoldable pub Masks : List ℕ → ℕ → Type 0
+Masks ms k = (c : ℕ) → c < k → getD ms c 0 ≡ 2 ^ c

@@ -1,10 +1,13 @@
 // Bit planes: plane i has digit i of 64 numbers, so that a word is added to all 64 with a few operations. Everything is in range
 // by `requires`: nine planes hold numbers below 512.
 ghost use mathlib.Core.Path.{_≡_};
-ghost use Prim.Native.Nat.{ℕ, _+_, _<_, _≤_};
+ghost use mathlib.Core.Bool.{cond};
+ghost use Prim.Native.Nat.{ℕ, _+_, _/_, _%_, _^_, _<_, _≤_};
+ghost use lib.Bits.{bitAnd};
+ghost use lib.Dec.{eqb};
 ghost use lib.ListN.{length};
 ghost use Rattle.words.specs.Columns.{digitOf};
-ghost use Rattle.words.specs.Planes.{planesAt, addedFrom, Added, FourMore, Totals, Wrote};
+ghost use Rattle.words.specs.Planes.{planesAt, addedFrom, Added, FourMore, Masks, Totals, Wrote};
 
 // Adds a word to the planes from k on.
 fn add_from(planes: &mut [u64; 9], k: usize, w: u64)
@@ -114,18 +117,70 @@ pub(crate) fn digit_at(w: u64, c: usize) -> u32
     ((w >> c) % 2) as u32
 }
 
-// Returns the number of column c.
-fn column_at(planes: &[u64; 9], c: usize) -> u32
-    requires { ⌜ (length (now planes) ≡ 9) × (c < 64) ⌝ }
-    ensures { λ r. ⌜ r ≡ planesAt (now (planes .entry)) c ⌝ }
+// Returns the number that has flag c alone.
+fn mask_at(c: usize) -> u32
+    requires { ⌜ c < 32 ⌝ }
+    ensures { λ r. ⌜ r ≡ 2 ^ c ⌝ }
+{
+    let one: u32 = 1;
+    one << c
+}
+
+// Returns these numbers for half a word. Columns are tested by numbers from memory: where a shift says which column is meant, four
+// columns take three times as many instructions.
+fn masks() -> [u32; 32]
+    ensures { λ r. ⌜ (length r ≡ 32) × Masks r 32 ⌝ }
+{
+    let mut out: [u32; 32] = [0; 32];
+    let mut c: usize = 0;
+    while c < 32 {
+        out[c] = mask_at(c);
+        c += 1;
+    }
+    out
+}
+
+// Returns 32 flags of a word, from flag s on.
+fn half_of(w: u64, s: usize) -> u32
+    requires { ⌜ s ≤ 32 ⌝ }
+    ensures { λ r. ⌜ r ≡ w / 2 ^ s % 2 ^ 32 ⌝ }
+{
+    ((w >> s) % 4294967296) as u32
+}
+
+// Returns 1 where the flag of the mask is set, else 0.
+fn digit_by(half: u32, mask: u32) -> u32
+    ensures { λ r. ⌜ (r ≡ cond (eqb (bitAnd half mask) 0) 0 1) × (r < 2) ⌝ }
+{
+    if half & mask == 0 { 0 } else { 1 }
+}
+
+// Returns the number of column s + c, where the mask has flag c alone.
+fn column_by(planes: &[u64; 9], s: usize, c: usize, mask: u32) -> u32
+    requires { ⌜ (length (now planes) ≡ 9) × (s ≤ 32) × (c < 32) × (mask ≡ 2 ^ c) ⌝ }
+    ensures { λ r. ⌜ r ≡ planesAt (now (planes .entry)) (s + c) ⌝ }
 {
     let mut sum: u32 = 0;
     let mut i: usize = 9;
     while 0 < i {
         i = i - 1;
-        sum = 2 * sum + digit_at(planes[i], c);
+        let half = half_of(planes[i], s);
+        sum = 2 * sum + digit_by(half, mask);
     }
     sum
+}
+
+// Writes the numbers of 32 columns, from column s on.
+fn spread_half(planes: &[u64; 9], masks: &[u32; 32], s: usize, out: &mut [u32; 64])
+    requires { ⌜ (length (now planes) ≡ 9) × (length (now masks) ≡ 32) × Masks (now masks) 32 × (s ≤ 32) × (length (now out) ≡ 64)
+        × Wrote (now planes) (now out) s ⌝ }
+    ensures { λ _. ⌜ (length (now (out .exit)) ≡ 64) × Wrote (now (planes .entry)) (now (out .exit)) (s + 32) ⌝ }
+{
+    let mut c: usize = 0;
+    while c < 32 {
+        out[s + c] = column_by(planes, s, c, masks[c]);
+        c += 1;
+    }
 }
 
 // Returns the numbers of all columns.
@@ -134,10 +189,8 @@ pub(crate) fn spread(planes: &[u64; 9]) -> [u32; 64]
     ensures { λ r. ⌜ (length r ≡ 64) × Wrote (now (planes .entry)) r 64 ⌝ }
 {
     let mut out: [u32; 64] = [0; 64];
-    let mut c: usize = 0;
-    while c < 64 {
-        out[c] = column_at(planes, c);
-        c += 1;
-    }
+    let tests = masks();
+    spread_half(planes, &tests, 0, &mut out);
+    spread_half(planes, &tests, 32, &mut out);
     out
 }
