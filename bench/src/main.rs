@@ -26,6 +26,7 @@ fn main() {
     cases::searches::run(&driver);
     cases::cursors::run(&driver);
     cases::builders::run(&driver);
+    cases::minutes::run(&driver);
 }
 
 fn make_table(words: &[String]) {

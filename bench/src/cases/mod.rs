@@ -4,6 +4,7 @@ pub mod builders;
 pub mod combinations;
 pub mod counts;
 pub mod cursors;
+pub mod minutes;
 pub mod searches;
 
 use crate::inputs::Input;
