@@ -8,7 +8,7 @@
  * freed, and there is no state between calls: a record goes in and comes back by value, and any numbers in it are allowed. A builder and
  * a cursor go in as their numbers, which are quicker to hand from call to call than a record. Each call tests its arguments and answers
  * in `refusal` 0, or one of the numbers listed for it; it has then written nothing. Where several tests fail, the answer is the one that
- * stands first in 1, 2, 3, 4, 5, 6, 7, 8, 9; the calls on a window of minutes have 16 alone. On refusal a record in the answer is the
+ * stands first in 1, 2, 3, 14, 4, 5, 6, 7, 8, 9; the calls on a window of minutes have 16 alone. On refusal a record in the answer is the
  * very one that the call got, where it got one of that kind and gives it back; every other field is 0.
  *
  * Each call that takes a mask counts the zeros of one whose count is known again, and refuses a count that is not exact. A record that
@@ -54,6 +54,8 @@ extern "C" {
 #define PW_REFUSED_ADDRESS_REMAINDER 8
 /* The output, the builder's buffer included, is below 8 * ceil(new length / 64) bytes. */
 #define PW_REFUSED_OUTPUT_TOO_SMALL 9
+/* Two masks of equal serials have different flags, or flags of another number. */
+#define PW_REFUSED_SERIAL_CONFLICT 14
 /* A window's width is 0 or over 256, or no run of minutes at its width leaves the window. */
 #define PW_REFUSED_IMPOSSIBLE_WINDOW 16
 
@@ -61,15 +63,18 @@ extern "C" {
 
 /* ---- records */
 
-/* A mask: a span of its bytes and its zero count. The count is read where `known` is not 0; an unknown one is given as 0. */
+/* A mask: a span of its bytes, its zero count, and the serial of the revocation list that it was drawn up under. The count is read
+ * where `known` is not 0; an unknown one is given as 0. */
 typedef struct {
     size_t start;
     size_t length;
     size_t zeros;
     uint8_t known;
+    uint32_t serial;
 } pw_mask;
 
-/* A builder: its length, the word in progress and the ones in the finished words, which stand in its buffer. */
+/* A builder: its length, the word in progress and the ones in the finished words, which stand in its buffer. Its serial is not here,
+ * since no append changes it: the caller keeps it beside the builder and hands it to pw_freeze and pw_into_opt_validity. */
 typedef struct {
     size_t length;
     uint64_t word;
@@ -131,6 +136,16 @@ typedef struct {
     size_t zeros;
     pw_mask mask;
 } pw_zeros_answer;
+
+/* The winner of two masks: `second` where it is the second one, and its bytes are those from `from` to before `to` of the slice that
+ * it came with. `mask` is its record over these. On refusal they are none of the first slice. */
+typedef struct {
+    uint8_t refusal;
+    bool second;
+    size_t from;
+    size_t to;
+    pw_mask mask;
+} pw_part_answer;
 
 /* The builder to go on with. */
 typedef struct {
@@ -300,14 +315,15 @@ pw_builder_answer pw_opt_gather_extend_from_slice(size_t length, uint64_t word, 
     size_t buf_len, const uint8_t *bytes, size_t bytes_len, size_t start, size_t n, const uint32_t *idxs,
     size_t idxs_len);
 
-/* The mask of the builder's flags, its zeros counted, over their frozen bytes. The builder is not given back: the caller has it.
- * Refuses with 1, 4, 9; every other field is then 0. */
-pw_mask_answer pw_freeze(size_t length, uint64_t word, size_t ones, uint8_t *buf, size_t buf_len);
+/* The mask of the builder's flags, its zeros counted, over their frozen bytes, under the builder's serial, which the caller kept. The
+ * builder is not given back: the caller has it. Refuses with 1, 4, 9; every other field is then 0. */
+pw_mask_answer pw_freeze(size_t length, uint64_t word, size_t ones, uint8_t *buf, size_t buf_len, uint32_t serial);
 
 /* The bytes and the mask that pw_freeze gives; no mask where all flags are set, so for no flags too. As in Arrow, no mask means all
  * ones here; pw_may_reassign takes no permission mask for no truck: end the builder of a permission mask with pw_freeze. Refuses with
  * 1, 4, 9; every other field is then 0. */
-pw_validity_answer pw_into_opt_validity(size_t length, uint64_t word, size_t ones, uint8_t *buf, size_t buf_len);
+pw_validity_answer pw_into_opt_validity(size_t length, uint64_t word, size_t ones, uint8_t *buf, size_t buf_len,
+    uint32_t serial);
 
 /* ---- The calls that make a mask, cut it, count it and compare it. */
 
@@ -338,6 +354,14 @@ pw_number pw_num_edges(pw_mask mask, const uint8_t *bytes, size_t bytes_len);
 /* How many flags are set in both masks. Refuses with 1, 2, 3, 5; every other field is then 0. */
 pw_number pw_num_intersections_with(pw_mask lhs, const uint8_t *left, size_t left_len, pw_mask rhs,
     const uint8_t *right, size_t right_len);
+
+/* ---- Which of two masks supersedes the other. A reference does not cross: the part of the bytes is given by its slice, its first
+ * byte and the byte past its last. */
+
+/* The mask with the larger serial of two of one operator, over the part of its bytes that holds it. Equal serials with equal flags
+ * give the first, with other flags 14. Both masks are tested, the loser too. Refuses with 1, 2, 3, 14; every other field is then 0. */
+pw_part_answer pw_superseding(pw_mask first, const uint8_t *first_bytes, size_t first_bytes_len, pw_mask second,
+    const uint8_t *second_bytes, size_t second_bytes_len);
 
 /* ---- The combinations. Each writes frozen bytes over the front of `out` and gives the mask over them. */
 
@@ -454,18 +478,118 @@ pw_window_answer pw_activity_push_minute(uint64_t words[256], uint32_t counts[64
 uint8_t pw_activity_counts(const uint64_t words[256], const uint32_t counts[64], size_t place, size_t fill,
     size_t width, uint32_t out[64]);
 
+/* ---- A builder with its serial, by pointer: so that no serial is lost between a builder and its mask. */
+
+/* A builder and the serial that its mask will have. */
+typedef struct {
+    pw_builder builder;
+    uint32_t serial;
+} pw_serial_builder;
+
+/* The builder of no flags under a serial. */
+static inline pw_serial_builder pw_serial_builder_new(uint32_t serial) {
+    pw_serial_builder b = {pw_builder_new(), serial};
+    return b;
+}
+
+/* pw_push of the builder and its serial. Gives 0, or the number of a refusal, after which the builder is the one that came. */
+static inline uint8_t pw_serial_push(pw_serial_builder *b, uint8_t *buf, size_t buf_len, bool flag) {
+    pw_builder_answer a = pw_push(b->builder.length, b->builder.word, b->builder.ones, buf, buf_len, flag);
+    b->builder = a.builder;
+    return a.refusal;
+}
+
+/* pw_extend_constant of the builder and its serial. Gives 0, or the number of a refusal, after which the builder is the one that came. */
+static inline uint8_t pw_serial_extend_constant(pw_serial_builder *b, uint8_t *buf, size_t buf_len, size_t n,
+    bool flag) {
+    pw_builder_answer a = pw_extend_constant(b->builder.length, b->builder.word, b->builder.ones, buf, buf_len, n, flag);
+    b->builder = a.builder;
+    return a.refusal;
+}
+
+/* pw_push_word_with_len_unchecked of the builder and its serial. Gives 0, or the number of a refusal, after which the builder is the
+ * one that came. */
+static inline uint8_t pw_serial_push_word_with_len_unchecked(pw_serial_builder *b, uint8_t *buf, size_t buf_len,
+    uint64_t flags, size_t n) {
+    pw_builder_answer a = pw_push_word_with_len_unchecked(b->builder.length, b->builder.word, b->builder.ones, buf, buf_len,
+        flags, n);
+    b->builder = a.builder;
+    return a.refusal;
+}
+
+/* pw_extend_from_slice of the builder and its serial. Gives 0, or the number of a refusal, after which the builder is the one that
+ * came. */
+static inline uint8_t pw_serial_extend_from_slice(pw_serial_builder *b, uint8_t *buf, size_t buf_len,
+    const uint8_t *bytes, size_t bytes_len, size_t start, size_t n) {
+    pw_builder_answer a = pw_extend_from_slice(b->builder.length, b->builder.word, b->builder.ones, buf, buf_len, bytes,
+        bytes_len, start, n);
+    b->builder = a.builder;
+    return a.refusal;
+}
+
+/* pw_extend_each_repeated_from_slice_unchecked of the builder and its serial. Gives 0, or the number of a refusal, after which the
+ * builder is the one that came. */
+static inline uint8_t pw_serial_extend_each_repeated_from_slice_unchecked(pw_serial_builder *b, uint8_t *buf,
+    size_t buf_len, const uint8_t *bytes, size_t bytes_len, size_t start, size_t n, size_t repeats) {
+    pw_builder_answer a = pw_extend_each_repeated_from_slice_unchecked(b->builder.length, b->builder.word, b->builder.ones,
+        buf, buf_len, bytes, bytes_len, start, n, repeats);
+    b->builder = a.builder;
+    return a.refusal;
+}
+
+/* pw_subslice_extend_from_bitmap of the builder and its serial. Gives 0, or the number of a refusal, after which the builder is the
+ * one that came. */
+static inline uint8_t pw_serial_subslice_extend_from_bitmap(pw_serial_builder *b, uint8_t *buf, size_t buf_len,
+    pw_mask mask, const uint8_t *bytes, size_t bytes_len, size_t start, size_t n) {
+    pw_builder_answer a = pw_subslice_extend_from_bitmap(b->builder.length, b->builder.word, b->builder.ones, buf, buf_len,
+        mask, bytes, bytes_len, start, n);
+    b->builder = a.builder;
+    return a.refusal;
+}
+
+/* pw_gather_extend_from_slice of the builder and its serial. Gives 0, or the number of a refusal, after which the builder is the one
+ * that came. */
+static inline uint8_t pw_serial_gather_extend_from_slice(pw_serial_builder *b, uint8_t *buf, size_t buf_len,
+    const uint8_t *bytes, size_t bytes_len, size_t start, size_t n, const uint32_t *idxs, size_t idxs_len) {
+    pw_builder_answer a = pw_gather_extend_from_slice(b->builder.length, b->builder.word, b->builder.ones, buf, buf_len,
+        bytes, bytes_len, start, n, idxs, idxs_len);
+    b->builder = a.builder;
+    return a.refusal;
+}
+
+/* pw_opt_gather_extend_from_slice of the builder and its serial. Gives 0, or the number of a refusal, after which the builder is the
+ * one that came. */
+static inline uint8_t pw_serial_opt_gather_extend_from_slice(pw_serial_builder *b, uint8_t *buf, size_t buf_len,
+    const uint8_t *bytes, size_t bytes_len, size_t start, size_t n, const uint32_t *idxs, size_t idxs_len) {
+    pw_builder_answer a = pw_opt_gather_extend_from_slice(b->builder.length, b->builder.word, b->builder.ones, buf, buf_len,
+        bytes, bytes_len, start, n, idxs, idxs_len);
+    b->builder = a.builder;
+    return a.refusal;
+}
+
+/* pw_freeze of the builder and its serial. The builder stays as it is. */
+static inline pw_mask_answer pw_serial_freeze(const pw_serial_builder *b, uint8_t *buf, size_t buf_len) {
+    return pw_freeze(b->builder.length, b->builder.word, b->builder.ones, buf, buf_len, b->serial);
+}
+
+/* pw_into_opt_validity of the builder and its serial. The builder stays as it is. */
+static inline pw_validity_answer pw_serial_into_opt_validity(const pw_serial_builder *b, uint8_t *buf,
+    size_t buf_len) {
+    return pw_into_opt_validity(b->builder.length, b->builder.word, b->builder.ones, buf, buf_len, b->serial);
+}
+
 /* ---- version */
 
 /* The version of the interface. A program that includes this file refers to it, so that a library of another version does not link,
  * where the compiler is GCC or Clang. */
-uint32_t pw_interface_2(void);
+uint32_t pw_interface_3(void);
 #if defined(__GNUC__)
 #if defined(__has_attribute)
 #if __has_attribute(retain)
 __attribute__((retain))
 #endif
 #endif
-__attribute__((used)) static uint32_t (*const pw_interface)(void) = pw_interface_2;
+__attribute__((used)) static uint32_t (*const pw_interface)(void) = pw_interface_3;
 #endif
 
 #ifdef __cplusplus

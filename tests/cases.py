@@ -47,6 +47,14 @@ def counting(of):
     return "nnn", lambda l, *span: count(of, l.x, *span)
 
 
+def of_two(l, a, b):
+    return a, l.x, l.serials[0], b, l.y, l.serials[1]
+
+
+def part_shown(part):
+    return [len(part), taken(FIRST, output_symbols(part))]
+
+
 CALLS = {
     "load_padded_le_u64": ("", lambda l: [piece(l.x, 0, 64)]),
     "merge_reversed": ("nnn", lambda l, *a: [merged(*a)]),
@@ -138,6 +146,9 @@ CALLS = {
     "TrueIdxIter::new": ("nO", lambda l, n, mask: true_new(n, mask, l.x)),
     "TrueIdxIter::next": ("nnnn", lambda l, *a: next_true(l.x, *a)),
     "next_chunk": ("nnnn", lambda l, *a: next_chunk(l.x, *a, l.i)),
+    "superseding_part": ("MM", lambda l, a, b: superseding(*of_two(l, a, b))),
+    "superseding": ("MM", lambda l, a, b: superseding(*of_two(l, a, b))[3:]),
+    "superseding_bytes": ("MM", lambda l, a, b: part_shown(superseding_bytes(*of_two(l, a, b)))),
     "and_not_at": ("OOn", lambda l, a, b, index: and_not_at(a, l.x, b, l.y, index)),
     "may_reassign": ("OOn", lambda l, a, b, truck: may_reassign(a, l.x, b, l.y, truck)),
     "ActivityWindow::new": ("n", lambda l, width: activity_new(width)),
@@ -151,6 +162,21 @@ WRITERS |= {"combine", "fill", "fill_whole", "freeze", "into_opt_validity", "new
 WRITERS |= {"select", "select_constant", "ActivityWindow::new"}
 LISTERS = {"next_chunk", "counts"}  # these write numbers
 WRITERS |= LISTERS
+
+
+# The serial of the record that a call gives stands before its three numbers: 0 of a new one; that of the builder or of the mask; the
+# largest of the masks combined, each of which has one.
+
+NEW = {"BitmapBuilder::new", "Bitmap::new", "new_zeroed", "try_new"}
+OWN = {name for name, (spec, _) in CALLS.items() if spec[:1] == "B"} | {"slice", "unset_bits"}
+COMBINED = {"and", "and_not", "or", "or_not", "xor", "not", "select", "select_constant"}
+
+
+def with_serial(name, answer, serials):
+    if len(answer) < 4 or name not in NEW | OWN | COMBINED:
+        return answer
+    serial = 0 if name in NEW else serials[0] if name in OWN else max(serials[: CALLS[name][0].count("M")])
+    return [*answer[:-3], serial, *answer[-3:]]
 
 
 # Lines.
@@ -249,6 +275,7 @@ class Reader:
     def lents(self, name, sizes):
         l = Lents()
         l.x, l.y, l.z = [self.part(letter, sizes.get(letter)) for letter in "xyz"]
+        l.serials = [sizes.get(letter, 0) for letter in "stu"]
         l.i, l.o = self.numbers[: sizes.get("i")], self.bytes["o"][: sizes.get("o")]
         l.whole = self.numbers if name in LISTERS else self.bytes["o"]
         l.rest = l.whole[len(l.i if name in LISTERS else l.o) :]
@@ -268,6 +295,7 @@ class Reader:
             answer = [refusal.args[0], *refusal.args[1]]
             left = [out + l.rest for out in refusal.args[2:]]
             out = (left or [l.whole])[0] if name in WRITERS else None
+        answer = with_serial(name, answer, l.serials)
         self.last = answer
         if type(out) is bytes:
             self.left = out

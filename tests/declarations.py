@@ -33,6 +33,7 @@ NUMBERS = {
     "PW_REFUSED_COUNT_NOT_OF_SLICE": (CHECKS + "Mask.antt", r"check (\d+) \(recountValid "),
     "PW_REFUSED_ADDRESS_REMAINDER": (CHECKS + "Checks.antt", r"check (\d+) \(leb address 7\)"),
     "PW_REFUSED_OUTPUT_TOO_SMALL": (CHECKS + "Checks.antt", r"check (\d+) \(leb \(8 \* \(\(n \+ 63\) / 64\)\) size\)"),
+    "PW_REFUSED_SERIAL_CONFLICT": (CHECKS + "Superseding.antt", r"check (\d+) \(agree "),
     "PW_REFUSED_IMPOSSIBLE_WINDOW": ("crates/activity/specs/Refusals.antt", r"\nmayGive = (\d+) ∷ \[\]"),
 }
 

@@ -362,6 +362,27 @@ def may_reassign(permission, p, revocation, r, truck):
     return [0] if permission is None else flag
 
 
+# The later revocation wins: two masks and their serials.
+
+
+def superseding(first, a, s, second, b, t):
+    """Whether the second wins, the part of the winner's bytes from a byte to before another, its serial, and its record over that part."""
+    lists = [(mask[1], piece(lent, *mask[:2])) for mask, lent in ((first, a), (second, b)) if max(mask[:2]) <= LIMIT]
+    check(mask_checks(first, a) + mask_checks(second, b) + [(14, s != t or len(lists) == 2 and lists[0] == lists[1])])
+    serial, mask = (t, second) if t > s else (s, first)
+    start, n, known = mask
+    return [int(t > s), start // 8, -(-(start + n) // 8), serial, start % 8, n, known]
+
+
+def superseding_bytes(first, a, s, second, b, t):
+    """The winner's bytes; after a refusal none of the first slice."""
+    try:
+        later, start, end, *_ = superseding(first, a, s, second, b, t)
+    except Refused:
+        return a.data[0:0]
+    return (b if later else a).data[start:end]
+
+
 # Cursors: start, length, place; the one over positions has a mask or not.
 
 

@@ -42,6 +42,43 @@ def prototype(export):
     return comment(export.sentences()) + "\n    ".join(lines)[:-1] + ");\n"
 
 
+def with_serial():
+    """A builder that keeps its serial, and for each export that takes a builder's numbers a function that takes it by pointer."""
+    parts = [
+        comment("---- A builder with its serial, by pointer: so that no serial is lost between a builder and its mask."),
+        comment("A builder and the serial that its mask will have.")
+        + "typedef struct {\n    pw_builder builder;\n    uint32_t serial;\n} pw_serial_builder;\n",
+        comment("The builder of no flags under a serial.")
+        + "static inline pw_serial_builder pw_serial_builder_new(uint32_t serial) {\n"
+        + "    pw_serial_builder b = {pw_builder_new(), serial};\n    return b;\n}\n",
+    ]
+    fields = records()["Builder"][1]
+    for export in exports():
+        if export.arguments[: len(fields)] == fields:
+            parts.append(by_pointer(export, list(lowered(export.arguments[len(fields) :]))))
+    return parts
+
+
+def by_pointer(export, rest):
+    """An append changes the builder where it is not refused, and gives the number; what ends a builder gives the export's answer."""
+    appends = export.result == "BuilderAnswer"
+    taken = [declared(*argument) for argument in rest if argument[0] != "serial"]
+    given = [f"b->builder.{field}" for field in ("length", "word", "ones")]
+    given += ["b->serial" if name == "serial" else name for name, _ in rest]
+    name = export.name.replace("pw_", "pw_serial_", 1)
+    result = "uint8_t" if appends else c_name(export.result)
+    head = wrapped([f"static inline {result} {name}({'' if appends else 'const '}pw_serial_builder *b", *taken], 116)
+    call = wrapped([f"{export.name}({given[0]}", *given[1:]], 100)
+    lines = "\n    ".join(head)[:-1] + ") {\n"
+    called = "\n        ".join(call)[:-1] + ");\n"
+    if appends:
+        lines += f"    {c_name(export.result)} a = {called}    b->builder = a.builder;\n    return a.refusal;\n}}\n"
+    else:
+        lines += f"    return {called}}}\n"
+    told = "Gives 0, or the number of a refusal, after which the builder is the one that came." if appends else "The builder stays as it is."
+    return comment(f"{export.name} of the builder and its serial. {told}") + lines
+
+
 def version():
     """The reference that makes a library of another version fail to link."""
     symbol = f"pw_interface_{interface()}"
@@ -68,7 +105,7 @@ def below():
     found = exports()
     for module, heading in modules():
         if module == "interface":
-            parts += ["/* ---- version */\n", version()]
+            parts += [*with_serial(), "/* ---- version */\n", version()]
         else:
             parts += [comment("---- " + heading), *(prototype(export) for export in found if export.module == module)]
     end = "#ifdef __cplusplus\n}\n#endif\n\n#endif\n"

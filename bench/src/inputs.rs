@@ -101,7 +101,7 @@ impl Input {
         let zeros = bitmap.unset_bits();
         assert_eq!(zeros, flags.iter().filter(|flag| !**flag).count());
         let held = poruwhina::Bitmap::try_from_span(padded[..lent].to_vec(), start, length).unwrap();
-        let mask = Mask { start, length, zeros: 0, known: 0 };
+        let mask = Mask { start, length, zeros: 0, known: 0, serial: 0 };
         let counted = Mask { zeros, known: 1, ..mask };
         Input { padded, lent, start, length, zeros, mask, counted, bitmap, held, uncounted_bitmap }
     }

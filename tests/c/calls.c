@@ -20,7 +20,7 @@ static void check(bool holds, const char *what, int line) {
 
 /* A = 1,0,1,1,0,1 */
 static const uint8_t A[1] = {0x2D};
-static const pw_mask MASK_A = {0, 6, 0, 0};
+static const pw_mask MASK_A = {0, 6, 0, 0, 0};
 
 /* An output of 24 bytes that no call wrote holds 0xEE throughout. */
 enum { OUT = 24 };
@@ -73,10 +73,34 @@ static bool has_only(pw_nth_answer a, uint32_t ones) { return a.refusal == 0 && 
 /* Whether an append to a new builder freezes to these first flags. */
 static bool freezes_to(pw_builder_answer a, uint8_t first) {
     if (a.refusal != 0 || !untouched()) return false;
-    pw_mask_answer frozen = pw_freeze(BUILDER(a.builder), out, OUT);
+    pw_mask_answer frozen = pw_freeze(BUILDER(a.builder), out, OUT, 0);
     bool right = frozen.refusal == 0 && frozen.mask.known == 1 && holds_word(first);
     clean();
     return right;
+}
+
+/* A planner's edit, by pointer: the serial stays with the builder, and meets the mask before the edit as 14 or wins. */
+static void superseding(void) {
+    const uint8_t stored[3] = {0, 0xF0, 0x0F};
+    pw_mask first = pw_try_new(stored, 3, 12, 12).mask;
+    first.serial = 6;
+    pw_serial_builder b = pw_serial_builder_new(6);
+    CHECK(pw_serial_extend_constant(&b, out, OUT, 1, false) == 0 && pw_serial_extend_constant(&b, out, OUT, 7, true) == 0);
+    CHECK(pw_serial_push(&b, out, OUT, false) == 0 && pw_serial_extend_constant(&b, out, OUT, 3, false) == 0);
+    CHECK(pw_serial_push(&b, out, 0, false) == 9 && b.serial == 6 && b.builder.length == 12);
+    pw_mask second = pw_serial_freeze(&b, out, OUT).mask;
+    CHECK(second.serial == 6 && second.length == 12);
+    pw_part_answer part = pw_superseding(first, stored, 3, second, out, OUT);
+    CHECK(part.refusal == PW_REFUSED_SERIAL_CONFLICT && !part.second && part.from == 0 && part.to == 0 && part.mask.length == 0);
+    second.serial = 7;
+    part = pw_superseding(first, stored, 3, second, out, OUT);
+    CHECK(part.refusal == 0 && part.second && part.from == 0 && part.to == 2 && part.mask.serial == 7 && part.mask.length == 12);
+    first.serial = 8;
+    part = pw_superseding(first, stored, 3, second, out, OUT);
+    CHECK(part.refusal == 0 && !part.second && part.from == 1 && part.to == 3 && part.mask.start == 4 && part.mask.serial == 8);
+    pw_mask other = pw_try_new(stored, 3, 0, 12).mask;
+    CHECK(pw_or(other, stored, 3, first, stored, 3, out, OUT).mask.serial == 8 && pw_and(first, stored, 3, other, stored, 3, out, OUT).mask.serial == 8);
+    clean();
 }
 
 static void words(void) {
@@ -144,7 +168,7 @@ static void builders(void) {
     clean();
     for (int i = 0; i < 6; i++) a = pw_push(BUILDER(a.builder), out, OUT, flags[i]);
     CHECK(a.refusal == 0 && is_builder(a.builder, 6, 0x2D, 0) && untouched());
-    pw_mask_answer frozen = pw_freeze(BUILDER(a.builder), out, OUT); /* example 1 */
+    pw_mask_answer frozen = pw_freeze(BUILDER(a.builder), out, OUT, 0); /* example 1 */
     CHECK(frozen.refusal == 0 && is_mask(frozen.mask, 0, 6, 2, 1) && holds_word(0x2D));
 
     clean(); /* example 5 */
@@ -152,9 +176,9 @@ static void builders(void) {
     a = pw_extend_constant(0, 0, 0, out, OUT, 60, true);
     a = pw_extend_constant(BUILDER(a.builder), out, OUT, 5, true);
     CHECK(a.refusal == 0 && is_builder(a.builder, 65, 1, 64) && holds(full, 8, 8));
-    frozen = pw_freeze(BUILDER(a.builder), out, OUT);
+    frozen = pw_freeze(BUILDER(a.builder), out, OUT, 0);
     CHECK(frozen.refusal == 0 && is_mask(frozen.mask, 0, 65, 0, 1) && holds(full, 9, 16));
-    pw_validity_answer valid = pw_into_opt_validity(BUILDER(a.builder), out, OUT);
+    pw_validity_answer valid = pw_into_opt_validity(BUILDER(a.builder), out, OUT, 0);
     CHECK(valid.refusal == 0 && !valid.present && holds(full, 9, 16));
 
     clean();
@@ -169,11 +193,11 @@ static void builders(void) {
     CHECK(pw_gather_extend_from_slice(BUILDER(none), out, OUT, A, 1, 0, 6, past, 3).refusal == PW_REFUSED_OUTSIDE_MASK);
     CHECK(pw_gather_extend_from_slice(BUILDER(none), out, OUT, A, 1, 0, 6, NULL, 0).refusal == 0 && untouched());
 
-    frozen = pw_freeze(BUILDER(none), NULL, 0); /* example 6 */
+    frozen = pw_freeze(BUILDER(none), NULL, 0, 0); /* example 6 */
     CHECK(frozen.refusal == 0 && is_mask(frozen.mask, 0, 0, 0, 1));
-    valid = pw_into_opt_validity(BUILDER(none), NULL, 0);
+    valid = pw_into_opt_validity(BUILDER(none), NULL, 0, 0);
     CHECK(valid.refusal == 0 && !valid.present);
-    valid = pw_into_opt_validity(1, 0, 0, out, OUT);
+    valid = pw_into_opt_validity(1, 0, 0, out, OUT, 0);
     CHECK(valid.refusal == 0 && valid.present && is_mask(valid.mask, 0, 1, 1, 1) && holds_word(0));
 }
 
@@ -193,14 +217,14 @@ static void masks(void) {
 
     uint8_t half[25]; /* example 12, with every other flag set */
     memset(half, 0x55, sizeof half);
-    pw_mask of_100 = {0, 100, 50, 1}, of_200 = {0, 200, 100, 1};
+    pw_mask of_100 = {0, 100, 50, 1, 0}, of_200 = {0, 200, 100, 1, 0};
     CHECK(is_mask(pw_slice(of_100, half, 25, 0, 68).mask, 0, 68, 34, 1));
     CHECK(is_mask(pw_slice(of_100, half, 25, 0, 67).mask, 0, 67, 0, 0));
     CHECK(is_mask(pw_slice(of_200, half, 25, 0, 160).mask, 0, 160, 80, 1));
     CHECK(is_mask(pw_slice(of_200, half, 25, 0, 159).mask, 0, 159, 0, 0));
 
     const uint8_t shifted[1] = {0xB4}; /* A from bit 2 on */
-    pw_mask from_2 = {2, 6, 2, 1};
+    pw_mask from_2 = {2, 6, 2, 1, 0};
     CHECK(pw_eq(MASK_A, A, 1, from_2, shifted, 1).value);
     CHECK(pw_eq(MASK_A, A, 1, cut.mask, A, 1).refusal == 0 && !pw_eq(MASK_A, A, 1, cut.mask, A, 1).value);
     CHECK(pw_num_edges(MASK_A, A, 1).value == 4); /* example 9 */
@@ -212,7 +236,7 @@ static void combinations(void) {
     pw_mask_answer (*const calls[5])(pw_mask, const uint8_t *, size_t, pw_mask, const uint8_t *, size_t, uint8_t *, size_t) = {
         pw_and, pw_and_not, pw_or, pw_or_not, pw_xor};
     const uint8_t table[5] = {0x08, 0x04, 0x0E, 0x0D, 0x06};
-    const pw_mask four = {0, 4, 0, 0}, three = {0, 3, 0, 0};
+    const pw_mask four = {0, 4, 0, 0, 0}, three = {0, 3, 0, 0, 0};
     for (int i = 0; i < 5; i++) {
         clean();
         pw_mask_answer a = calls[i](four, lhs, 1, four, rhs, 1, out, OUT);
@@ -385,7 +409,7 @@ static void refusals(void) {
     CHECK(pw_try_new(A, 1, 2, 6).refusal == 0); /* edge */
     pw_mask_answer made = pw_try_new(A, 1, 2, 7);
     CHECK(made.refusal == PW_REFUSED_OUTSIDE_BYTES && is_mask(made.mask, 0, 0, 0, 0));
-    pw_mask counted = {0, 6, 7, 255};
+    pw_mask counted = {0, 6, 7, 255, 0};
     pw_zeros_answer zeros = pw_unset_bits(counted, A, 1);
     CHECK(zeros.refusal == PW_REFUSED_FALSE_COUNT && is_mask(zeros.mask, 0, 6, 7, 255)); /* as it came */
     counted.zeros = 3; /* a stale count: A has two zeros */
@@ -394,16 +418,16 @@ static void refusals(void) {
     CHECK(pw_unset_bits(counted, A, 1).refusal == 0 && pw_unset_bits(counted, A, 1).zeros == 2);
     pw_builder_answer b = pw_push(1, 2, 0, out, OUT, true);
     CHECK(b.refusal == PW_REFUSED_IMPOSSIBLE_BUILDER && is_builder(b.builder, 1, 2, 0));
-    pw_mask five = {0, 5, 0, 0};
+    pw_mask five = {0, 5, 0, 0, 0};
     CHECK(pw_and(MASK_A, A, 1, five, A, 1, out, OUT).refusal == PW_REFUSED_UNEQUAL_LENGTHS);
     made = pw_slice(MASK_A, A, 1, 3, 4);
     CHECK(made.refusal == PW_REFUSED_OUTSIDE_MASK && is_mask(made.mask, 0, 6, 0, 0));
-    const pw_mask odd = {3, 6, 77, 0}; /* the number beside an unknown count is not read, and comes back */
+    const pw_mask odd = {3, 6, 77, 0, 0}; /* the number beside an unknown count is not read, and comes back */
     made = pw_slice(odd, A, 1, 0, 1);
     CHECK(made.refusal == PW_REFUSED_OUTSIDE_BYTES && is_mask(made.mask, 3, 6, 77, 0));
     zeros = pw_unset_bits(odd, A, 1);
     CHECK(zeros.refusal == PW_REFUSED_OUTSIDE_BYTES && zeros.zeros == 0 && is_mask(zeros.mask, 3, 6, 77, 0));
-    pw_mask low = {0, 6, 1, 1}; /* one zero too few: both of A are cut off, and 3 comes before 7 */
+    pw_mask low = {0, 6, 1, 1, 0}; /* one zero too few: both of A are cut off, and 3 comes before 7 */
     CHECK(pw_slice(low, A, 1, 0, 1).refusal == PW_REFUSED_FALSE_COUNT);
     CHECK(pw_count_zeros(A, 1, 0, 6, 8).refusal == PW_REFUSED_ADDRESS_REMAINDER); /* edge */
     CHECK(pw_new_zeroed(65, out, 15).refusal == PW_REFUSED_OUTPUT_TOO_SMALL); /* edge */
@@ -417,6 +441,7 @@ static void refusals(void) {
 
 int main(void) {
     CHECK(pw_interface() != 0);
+    superseding();
     words();
     spans();
     chunks();

@@ -34,7 +34,7 @@ impl Source {
 }
 
 fn frozen(builder: Builder, buf: &mut [u8]) -> Answer {
-    let made = calls::freeze(builder, buf);
+    let made = calls::freeze(builder, buf, 0);
     assert_eq!(made.refusal, 0);
     words_of(buf, made.mask.start, made.mask.length)
 }
@@ -192,7 +192,7 @@ fn from_nothing(driver: &Driver) {
                 (source, vec![0u8; 1 << 20]),
                 |(s, buf)| {
                     let extended = calls::extend_from_slice(calls::builder_new(), buf, s.mask.bytes(), s.mask.start, s.mask.length);
-                    calls::freeze(extended.builder, buf)
+                    calls::freeze(extended.builder, buf, 0)
                 },
                 |(_, buf), made| {
                     assert_eq!(made.refusal, 0);

@@ -32,6 +32,7 @@ pub struct BitmapBuilder {
     ones: usize,
     buffer: Vec<u8>,
     word: u64,
+    serial: u32,
 }
 
 impl BitmapBuilder {
@@ -52,7 +53,7 @@ impl BitmapBuilder {
     pub fn with_capacity(flags: usize) -> BitmapBuilder {
         let bytes = frozen_len(flags.min(Bitmap::LIMIT));
         let calls::Builder { length, word, ones } = calls::builder_new();
-        BitmapBuilder { length, ones, buffer: Vec::with_capacity(bytes), word }
+        BitmapBuilder { length, ones, buffer: Vec::with_capacity(bytes), word, serial: 0 }
     }
 
     /// The number of flags.
@@ -77,6 +78,30 @@ impl BitmapBuilder {
     /// ```
     pub fn is_empty(&self) -> bool {
         self.length == 0
+    }
+
+    /// The serial that the frozen mask will have: 0, unless [`with_serial`](BitmapBuilder::with_serial) set it. No append changes it,
+    /// also not one that copies a mask under another serial.
+    ///
+    /// ```
+    /// use poruwhina::{Bitmap, BitmapBuilder};
+    ///
+    /// let mut builder = BitmapBuilder::new().with_serial(6);
+    /// builder.extend_from_bitmap(&Bitmap::from([true]).with_serial(9))?;
+    /// assert_eq!((builder.serial(), builder.freeze().serial()), (6, 6));
+    /// # Ok::<(), poruwhina::Refusal>(())
+    /// ```
+    pub fn serial(&self) -> u32 {
+        self.serial
+    }
+
+    /// The same builder under another serial.
+    ///
+    /// ```
+    /// assert_eq!(poruwhina::BitmapBuilder::new().with_serial(6).freeze().serial(), 6);
+    /// ```
+    pub fn with_serial(self, serial: u32) -> BitmapBuilder {
+        BitmapBuilder { serial, ..self }
     }
 
     /// Appends a flag.
@@ -231,7 +256,7 @@ impl BitmapBuilder {
     /// # Ok::<(), poruwhina::Refusal>(())
     /// ```
     pub fn freeze(mut self) -> Bitmap {
-        let answer = calls::freeze(self.record(), &mut self.buffer);
+        let answer = calls::freeze(self.record(), &mut self.buffer, self.serial);
         check_passed(answer.refusal);
         self.frozen(answer.mask)
     }
@@ -254,7 +279,7 @@ impl BitmapBuilder {
     /// # Ok::<(), poruwhina::Refusal>(())
     /// ```
     pub fn into_opt_validity(mut self) -> Option<Bitmap> {
-        let answer = calls::into_opt_validity(self.record(), &mut self.buffer);
+        let answer = calls::into_opt_validity(self.record(), &mut self.buffer, self.serial);
         check_passed(answer.refusal);
         answer.present.then(|| self.frozen(answer.mask))
     }
@@ -262,7 +287,7 @@ impl BitmapBuilder {
     /// The mask over the frozen bytes, which stand at the front of the buffer.
     fn frozen(mut self, mask: calls::Mask) -> Bitmap {
         self.buffer.truncate(frozen_len(mask.length));
-        Bitmap::from_record(Arc::new(self.buffer), mask)
+        Bitmap::from_record(Arc::new(self.buffer), 0, mask)
     }
 
     /// Makes room for `more` flags, unless they come above the limit, and lets `call` append them.

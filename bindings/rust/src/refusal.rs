@@ -3,12 +3,12 @@
 use std::error::Error;
 use std::fmt;
 
-/// Why a call was refused: the first of the library's questions that was answered no. They are put in the order of their
-/// numbers, the same for all calls. After a refusal nothing has changed.
+/// Why a call was refused: the first of the library's questions that was answered no. They are put in one order for all
+/// calls, that of their numbers, save that 14 comes after 3. After a refusal nothing has changed.
 ///
 /// From [`Bitmap`](crate::Bitmap), [`BitmapBuilder`](crate::BitmapBuilder) and what stands beside them come 1, 2, 5 and 6 alone, and 3
 /// from [`try_from_counted_span`](crate::Bitmap::try_from_counted_span): the types keep their records true and give each call the
-/// room that it needs. From [`ActivityWindow`](crate::ActivityWindow) comes 16 alone. [`calls`](crate::calls) can give every number
+/// room that it needs. 14 comes from [`superseding`](crate::Bitmap::superseding) alone. From [`ActivityWindow`](crate::ActivityWindow) comes 16 alone. [`calls`](crate::calls) can give every number
 /// but 7.
 ///
 /// ```
@@ -45,11 +45,13 @@ pub enum Refusal {
     AddressRemainder = 8,
     /// 9: Does the output, the builder's buffer included, hold 8 × ceil(new length / 64) bytes?
     OutputTooSmall = 9,
+    /// 14: Of two masks with equal serials, are the flags equal too? It comes after 3.
+    SerialConflict = 14,
     /// 16: Is the width of the window of minutes 1 to 256, and the window one that a run of minutes at its width leaves?
     ImpossibleWindow = 16,
 }
 
-const ALL: [Refusal; 10] = [
+const ALL: [Refusal; 11] = [
     Refusal::AboveLimit,
     Refusal::OutsideBytes,
     Refusal::FalseCount,
@@ -59,11 +61,12 @@ const ALL: [Refusal; 10] = [
     Refusal::CountNotOfSlice,
     Refusal::AddressRemainder,
     Refusal::OutputTooSmall,
+    Refusal::SerialConflict,
     Refusal::ImpossibleWindow,
 ];
 
 impl Refusal {
-    /// The number, 1 to 9 or 16.
+    /// The number, 1 to 9, 14 or 16.
     ///
     /// ```
     /// assert_eq!(poruwhina::Refusal::OutputTooSmall.number(), 9);
@@ -96,6 +99,7 @@ impl Refusal {
             Refusal::CountNotOfSlice => "the known count is below the zeros cut off, or the rest above the new length",
             Refusal::AddressRemainder => "the address remainder is above 7",
             Refusal::OutputTooSmall => "the output does not hold 8 × ceil(new length / 64) bytes",
+            Refusal::SerialConflict => "the masks have equal serials and different flags",
             Refusal::ImpossibleWindow => "the width is not 1 to 256, or no run of minutes leaves the window",
         }
     }

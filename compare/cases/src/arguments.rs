@@ -4,13 +4,20 @@ use crate::token::Token;
 use model::loops::{Stretch, WordOp};
 use model::{Builder, Cursor, Mask, Span};
 
-/// The arguments that are not yet taken.
-pub struct Args<'a>(pub &'a [Token]);
+/// The arguments that are not yet taken, and the serials of the records that are not.
+pub struct Args<'a>(pub &'a [Token], pub &'a [u32]);
 
 impl Args<'_> {
     pub fn token(&mut self) -> Token {
         let (&first, rest) = self.0.split_first().expect("an argument is missing");
         self.0 = rest;
+        first
+    }
+
+    /// The serial of the next record.
+    fn serial(&mut self) -> u32 {
+        let (&first, rest) = self.1.split_first().expect("a serial is missing");
+        self.1 = rest;
         first
     }
 
@@ -39,7 +46,7 @@ impl Args<'_> {
             Token::Number(zeros) => Some(zeros as usize),
             _ => None,
         };
-        Mask { start, length, zeros }
+        Mask { start, length, zeros, serial: self.serial() }
     }
 
     pub fn optional(&mut self) -> Option<Mask> {
@@ -48,7 +55,7 @@ impl Args<'_> {
     }
 
     pub fn builder(&mut self) -> Builder {
-        Builder { length: self.number(), word: self.word(), ones: self.number() }
+        Builder { length: self.number(), word: self.word(), ones: self.number(), serial: self.serial() }
     }
 
     pub fn cursor(&mut self) -> Cursor {

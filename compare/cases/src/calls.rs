@@ -2,11 +2,11 @@
 
 use crate::arguments::Args;
 use crate::minutes;
-use crate::token::Token;
+use crate::token::{Checksum, Token};
 use model::combine::{self, Op};
 use model::loops::{self, Stretch, WordOp};
 use model::spans::{self, Count};
-use model::{Answer, Builder, Cursor, Lent, Mask, Span, State, builder, cursors, dispatch, mask, words};
+use model::{Answer, Builder, Cursor, Lent, Mask, Span, State, builder, cursors, dispatch, mask, superseding, words};
 
 /// What is lent to one call.
 pub struct Lents<'a> {
@@ -30,7 +30,7 @@ pub struct Reply {
     pub output: Output,
 }
 
-/// An answer of fixed shape: the refusal or 0, then the values, then the record.
+/// An answer of fixed shape: the refusal or 0, then the values, then the record, its serial first.
 fn gave(answer: Answer) -> Reply {
     reply(answer, false, false)
 }
@@ -49,9 +49,13 @@ fn reply(answer: Answer, may_miss: bool, marks: bool) -> Reply {
     let number = |value: usize| Token::Number(value as u64);
     match answer.state {
         State::None => {}
-        State::Mask(Mask { start, length, zeros }) => tokens.extend([number(start), number(length), zeros.map_or(Token::Unknown, number)]),
         State::Ones(ones) => tokens.push(number(ones)),
-        State::Builder(Builder { length, word, ones }) => tokens.extend([number(length), Token::Number(word), number(ones)]),
+        State::Mask(Mask { start, length, zeros, serial }) => {
+            tokens.extend([Token::Number(serial.into()), number(start), number(length), zeros.map_or(Token::Unknown, number)]);
+        }
+        State::Builder(Builder { length, word, ones, serial }) => {
+            tokens.extend([Token::Number(serial.into()), number(length), Token::Number(word), number(ones)]);
+        }
         State::Cursor(Cursor { start, length, place, masked }) => {
             tokens.extend([number(start), number(length), number(place)]);
             tokens.extend(marks.then_some(number(masked.into())));
@@ -187,6 +191,14 @@ fn of_masks(name: &str, a: &mut Args, l: &Lents) -> Option<Reply> {
         "eq" => mask::eq(first(a.mask()), second(a.mask())),
         "num_edges" => mask::num_edges(first(a.mask())),
         "num_intersections_with" => mask::num_intersections_with(first(a.mask()), second(a.mask())),
+        "superseding_part" => superseding::superseding_part(first(a.mask()), second(a.mask())),
+        "superseding" => superseding::superseding(first(a.mask()), second(a.mask())),
+        "superseding_bytes" => {
+            let part = superseding::superseding_bytes(first(a.mask()), second(a.mask()));
+            let mut sum = Checksum::new();
+            sum.take_bytes(part);
+            return Some(gave(Answer { refusal: 0, values: vec![part.len() as u64, sum.0], state: State::None }));
+        }
         "and_not_at" => combine::and_not_at(a.optional().map(first), a.optional().map(second), a.number()),
         "may_reassign" => dispatch::may_reassign(a.optional().map(first), a.optional().map(second), a.number()),
         _ => return None,

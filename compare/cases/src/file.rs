@@ -35,12 +35,15 @@ struct Choice<'a> {
     arguments: Vec<Token>,
     /// How many are lent of x, y, z, o and i.
     sizes: [usize; 5],
+    /// The serials s, t and u of the records, in their order.
+    serials: [u32; 3],
 }
 
-/// An argument or a size, with its values.
+/// An argument, a size or a serial, with its values.
 enum Part {
     Argument(Vec<Token>),
     Size(usize, Vec<Token>),
+    Serial(usize, Vec<Token>),
 }
 
 impl File {
@@ -114,6 +117,7 @@ impl File {
             return self.last[self.last.len() - many..].iter().map(|&token| Part::Argument(vec![token])).collect();
         }
         match word.split_once(':') {
+            Some((letter, serials)) if "stu".contains(letter) => vec![Part::Serial("stu".find(letter).unwrap(), values(serials))],
             Some((letter, sizes)) => vec![Part::Size("xyzoi".find(letter).expect("a letter"), values(sizes))],
             None => vec![Part::Argument(values(word))],
         }
@@ -159,7 +163,7 @@ impl File {
             o: &mut bytes[..cut(o, self.bytes[3].len())],
             i: &mut numbers[..cut(i, self.numbers.len())],
         };
-        let reply = answer(choice.name, Args(&choice.arguments), lents);
+        let reply = answer(choice.name, Args(&choice.arguments, &choice.serials), lents);
         let tally = self.tallies.entry(choice.name.to_string()).or_default();
         tally.calls += 1;
         tally.refusals += usize::from(reply.tokens[0] != Token::Number(0));
@@ -174,7 +178,7 @@ impl File {
 impl Part {
     fn values(&self) -> &[Token] {
         match self {
-            Part::Argument(values) | Part::Size(_, values) => values,
+            Part::Argument(values) | Part::Size(_, values) | Part::Serial(_, values) => values,
         }
     }
 }
@@ -188,12 +192,13 @@ fn choice<'a>(name: &'a str, parts: &[Part], number: usize) -> Choice<'a> {
         rest /= part.values().len();
     }
     picked.reverse();
-    let mut choice = Choice { name, arguments: Vec::new(), sizes: [usize::MAX; 5] };
+    let mut choice = Choice { name, arguments: Vec::new(), sizes: [usize::MAX; 5], serials: [0; 3] };
     for (part, token) in parts.iter().zip(picked) {
         match (part, token) {
             (Part::Argument(_), token) => choice.arguments.push(token),
             (Part::Size(place, _), Token::Number(size)) => choice.sizes[*place] = size as usize,
-            _ => panic!("no size"),
+            (Part::Serial(place, _), Token::Number(serial)) => choice.serials[*place] = serial.try_into().expect("a serial"),
+            _ => panic!("no size and no serial"),
         }
     }
     choice

@@ -61,7 +61,7 @@ pub fn output(needed: usize, style: &mut impl Style) -> Bytes {
 pub fn piece(kind: Kind, length: usize, style: &mut impl Style) -> Piece {
     let start = style.start();
     let bytes = Bytes::new(&style.bytes(start, length), style.address());
-    let mut piece = Piece { mask: Mask { start, length, zeros: None }, bytes };
+    let mut piece = Piece { mask: Mask { start, length, zeros: None, serial: 0 }, bytes };
     if kind == Kind::Mask {
         let zeros = if piece.inside() { zeros(&piece.lent().flags()) } else { 0 };
         piece.mask.zeros = style.zeros(zeros, length);
@@ -128,5 +128,5 @@ fn builder(r: &mut Request, appended: u128, style: &mut impl Style) {
     let word = style.word() & ((1 << (length % 64)) - 1);
     r.out = output(bytes_for(length as u128 + appended), style);
     let ones: u32 = r.out.iter().take(8 * (length / 64)).map(|byte| byte.count_ones()).sum();
-    r.builder = Builder { length, word, ones: ones as usize };
+    r.builder = Builder { length, word, ones: ones as usize, serial: 0 };
 }

@@ -219,7 +219,7 @@ fn appended(call: &Call, request: &Request) -> Vec<bool> {
 fn combined(call: &Call, request: &Request, own: &Piece, list: &[bool]) -> Vec<bool> {
     let mut plain = request.clone();
     for piece in plain.pieces.iter_mut().filter(|piece| *piece == own) {
-        *piece = Piece { mask: Mask { start: 0, length: list.len(), zeros: None }, bytes: Bytes::new(&frozen(list), 0) };
+        *piece = Piece { mask: Mask { start: 0, length: list.len(), zeros: None, serial: 0 }, bytes: Bytes::new(&frozen(list), 0) };
     }
     let mut out = request.out.clone();
     let Answer { state: State::Mask(mask), .. } = (call.model)(&plain, &mut out) else { panic!("no mask") };

@@ -12,7 +12,7 @@ pub fn mask(mask: Mask) -> calls::Mask {
         Some(zeros) => (zeros, if zeros % 2 == 0 { 1 } else { 255 }),
         None => (usize::MAX, 0),
     };
-    calls::Mask { start: mask.start, length: mask.length, zeros, known }
+    calls::Mask { start: mask.start, length: mask.length, zeros, known, serial: mask.serial }
 }
 
 pub fn builder(b: Builder) -> calls::Builder {
@@ -25,7 +25,7 @@ pub fn cursor(cursor: Cursor) -> calls::Cursor {
 
 fn mask_state(mask: calls::Mask) -> State {
     assert!(mask.known == 1 || (mask.known == 0 && mask.zeros == 0), "no count: {mask:?}");
-    State::Mask(Mask { start: mask.start, length: mask.length, zeros: (mask.known == 1).then_some(mask.zeros) })
+    State::Mask(Mask { start: mask.start, length: mask.length, zeros: (mask.known == 1).then_some(mask.zeros), serial: mask.serial })
 }
 
 fn cursor_state(cursor: calls::Cursor) -> State {
@@ -85,7 +85,7 @@ pub fn built(a: calls::BuilderAnswer) -> Answer {
 }
 
 pub fn builder_state(b: calls::Builder) -> State {
-    State::Builder(Builder { length: b.length, word: b.word, ones: b.ones })
+    State::Builder(Builder { length: b.length, word: b.word, ones: b.ones, serial: 0 })
 }
 
 /// A mask that a call makes: none where it is refused.

@@ -67,7 +67,7 @@ pub fn bit_mask<'a>(lent: &Lent<'a>) -> BitMask<'a> {
 }
 
 pub fn mask(bitmap: &Bitmap) -> Mask {
-    Mask { start: original::offset(bitmap), length: bitmap.len(), zeros: bitmap.lazy_unset_bits() }
+    Mask { start: original::offset(bitmap), length: bitmap.len(), zeros: bitmap.lazy_unset_bits(), serial: 0 }
 }
 
 /// A result: its record, and its bytes as frozen ones, with what they have of other bits and of another size noted.
@@ -114,7 +114,7 @@ pub fn built(theirs: BitmapBuilder) -> Outcome {
     let rest = bytes.split_off(8 * (length / 64));
     word[..rest.len()].copy_from_slice(&rest);
     let word = u64::from_le_bytes(word);
-    let state = State::Builder(Builder { length, word, ones: ones - word.count_ones() as usize });
+    let state = State::Builder(Builder { length, word, ones: ones - word.count_ones() as usize, serial: 0 });
     Outcome { record: Some(state), written: Some(bytes), ..Outcome::default() }
 }
 

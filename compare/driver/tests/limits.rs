@@ -16,7 +16,7 @@ fn long(call: &Call, length: usize, random: &mut Random) -> Request {
     let mut style = Wide { random, longest: LIMIT };
     let mut request = generate(shape, &mut style);
     for piece in &mut request.pieces[..shape.pieces] {
-        piece.mask = Mask { start: 0, length, zeros: None };
+        piece.mask = Mask { start: 0, length, zeros: None, serial: 0 };
         piece.bytes = Bytes::new(&style.fill(length / 8 + 1), style.address());
     }
     request.present = [true; 2];

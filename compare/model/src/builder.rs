@@ -22,7 +22,7 @@ fn append(checks: Checks, b: Builder, buf: &mut [u8], many: u128, flags: impl Fn
             buf[at..at + 8].copy_from_slice(&flags_word(flags).to_le_bytes());
             ones += flags.iter().filter(|&&flag| flag).count();
         }
-        Answer::record(State::Builder(Builder { length: length as usize, word, ones }))
+        Answer::record(State::Builder(Builder { length: length as usize, word, ones, serial: b.serial }))
     })
 }
 
@@ -82,7 +82,7 @@ fn finish(b: Builder, buf: &mut [u8], given: impl FnOnce(Mask, bool) -> State) -
             buf[at..at + 8].copy_from_slice(&b.word.to_le_bytes());
         }
         let ones = b.ones + word_flags(b.word).iter().filter(|&&flag| flag).count();
-        let mask = Mask { start: 0, length: b.length, zeros: Some(b.length - ones) };
+        let mask = Mask { start: 0, length: b.length, zeros: Some(b.length - ones), serial: b.serial };
         Answer::record(given(mask, ones == b.length))
     })
 }

@@ -2,7 +2,7 @@
 
 use crate::{Answer, Builder, Cursor, LIMIT, Lent, Span, State, frozen_size};
 
-/// The order in which failed checks decide, the first one first. Of these only 1 to 9 are made today.
+/// The order in which failed checks decide, the first one first. Of these only 1 to 9 and 14 are made today.
 const RANKS: [u8; 16] = [16, 10, 1, 11, 2, 13, 3, 14, 15, 4, 5, 12, 6, 7, 8, 9];
 
 /// The place of a number in that order.

@@ -59,7 +59,8 @@ fn combined(masks: &[Lent], out: &mut [u8], flags: impl FnOnce() -> (Vec<bool>, 
         let (flags, all_zero) = flags();
         write_frozen(&flags, out);
         let zeros = if all_zero || length == 0 { Some(length) } else { None };
-        Answer::record(State::Mask(Mask { start: 0, length, zeros }))
+        let serial = masks.iter().map(|lent| lent.mask.serial).max().unwrap_or(0);
+        Answer::record(State::Mask(Mask { start: 0, length, zeros, serial }))
     })
 }
 

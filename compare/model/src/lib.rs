@@ -12,6 +12,7 @@ pub mod dispatch;
 pub mod loops;
 pub mod mask;
 pub mod spans;
+pub mod superseding;
 pub mod words;
 
 use checks::Checks;
@@ -19,20 +20,22 @@ use checks::Checks;
 /// The most flags that a start or a length may name.
 pub const LIMIT: usize = 4_194_304;
 
-/// A mask: a span and its zero count, if that is known.
+/// A mask: a span, its zero count, if that is known, and the serial of the revocation list that it was drawn up under.
 #[derive(Clone, Copy, Debug, PartialEq, Eq, Default)]
 pub struct Mask {
     pub start: usize,
     pub length: usize,
     pub zeros: Option<usize>,
+    pub serial: u32,
 }
 
-/// A builder: its length, the word in progress and the ones counted in finished words.
+/// A builder: its length, the word in progress, the ones counted in finished words, and its serial.
 #[derive(Clone, Copy, Debug, PartialEq, Eq, Default)]
 pub struct Builder {
     pub length: usize,
     pub word: u64,
     pub ones: usize,
+    pub serial: u32,
 }
 
 /// A cursor: a span and the next place. Only the cursor over positions may be without a mask.

@@ -10,13 +10,13 @@ pub fn new_zeroed(length: usize, out: &mut [u8]) -> Answer {
     let many = length as u128;
     Checks::default().limited(&[many]).holds(out, many).answer(State::None, || {
         write_frozen(&vec![false; length], out);
-        Answer::record(State::Mask(Mask { start: 0, length, zeros: Some(length) }))
+        Answer::record(State::Mask(Mask { start: 0, length, zeros: Some(length), serial: 0 }))
     })
 }
 
 pub fn try_new(span: Span) -> Answer {
     let zeros = if span.length == 0 { Some(0) } else { None };
-    let mask = Mask { start: span.start, length: span.length, zeros };
+    let mask = Mask { start: span.start, length: span.length, zeros, serial: 0 };
     Checks::default().span(span).answer(State::None, || Answer::record(State::Mask(mask)))
 }
 
@@ -47,7 +47,7 @@ pub fn slice(lent: Lent, offset: usize, length: usize) -> Answer {
     }
     checks.answer(State::Mask(mask), || {
         let whole = offset == 0 && length == mask.length;
-        let cut = Mask { start: mask.start + offset, length, zeros: zeros_kept };
+        let cut = Mask { start: mask.start + offset, length, zeros: zeros_kept, serial: mask.serial };
         Answer::record(State::Mask(if whole { mask } else { cut }))
     })
 }

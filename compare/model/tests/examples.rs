@@ -8,7 +8,7 @@ use model::{Answer, Builder, Cursor, LIMIT, Lent, Mask, Span, State, builder, cu
 const A: Span = Span { bytes: &[0x2D], start: 0, length: 6 };
 
 fn lent(bytes: &[u8], length: usize) -> Lent<'_> {
-    Lent { mask: Mask { start: 0, length, zeros: None }, bytes }
+    Lent { mask: Mask { start: 0, length, zeros: None, serial: 0 }, bytes }
 }
 
 /// The builder after an append to a new one.

@@ -6,6 +6,9 @@ use std::fmt::Write;
 /// A number of a record, or a zero count that is not known.
 pub type Token = Option<u64>;
 
+/// The serial of a mask and of a builder, which stands before their numbers in an answer: the Rust has none.
+const SERIAL: Token = Some(0);
+
 /// The output has so many bytes, all ones but for a builder's finished words.
 pub const OUTPUT: usize = 1024;
 
@@ -192,7 +195,7 @@ impl Lent {
             "new_zeroed" => self.combined(lines, "new_zeroed", request, answer),
             "try_new" => self.cut(lines, "try_new", &[Some(0), request[0]], 0, answer),
             "slice" => self.cut(lines, "slice", request, first + number(request[3]), answer),
-            "unset_bits" => lines.plain("unset_bits", request, &[answer[0], request[0], request[1], answer[0]]),
+            "unset_bits" => lines.plain("unset_bits", request, &[answer[0], SERIAL, request[0], request[1], answer[0]]),
             "num_intersections_with" => lines.plain("num_intersections_with", &whole(request), answer),
             _ => panic!("no form of {call}"),
         }
@@ -227,7 +230,7 @@ impl Lent {
     /// A mask over x: its flags lie from `start` on.
     fn cut(&self, lines: &mut Lines, call: &'static str, request: &[Token], start: usize, answer: &[Token]) {
         self.hold(start, number(answer[0]), &answer[2..]);
-        lines.plain(call, request, &[Some(start as u64), answer[0], answer[1]]);
+        lines.plain(call, request, &[SERIAL, Some(start as u64), answer[0], answer[1]]);
     }
 
     /// The output before the records that follow, where it is another.
@@ -249,7 +252,7 @@ impl Lent {
             "select_constant" => [whole(&request[..5]), request[5..].to_vec()].concat(),
             _ => whole(request),
         };
-        lines.written(call, &request, &[Some(0), answer[0], answer[1]], &bytes, &self.output);
+        lines.written(call, &request, &[SERIAL, Some(0), answer[0], answer[1]], &bytes, &self.output);
     }
 
     /// The builder of the first flags of z, whose finished words stand in the output.
@@ -267,7 +270,7 @@ impl Lent {
             lines.written(call, &builder, &[], &frozen(&flags), &self.output);
         } else {
             let bytes = frozen(&self::flags(&answer[2..], number(answer[0])));
-            lines.written(call, &builder, &[Some(0), answer[0], answer[1]], &bytes, &self.output);
+            lines.written(call, &builder, &[SERIAL, Some(0), answer[0], answer[1]], &bytes, &self.output);
         }
     }
 
@@ -280,7 +283,7 @@ impl Lent {
             writeln!(lines.text, "i{}", indices.concat()).unwrap();
         }
         let (end, finished) = builder(&flags(&answer[2..], number(answer[0])));
-        lines.written(call, &arguments, &end, &finished, &self.output);
+        lines.written(call, &arguments, &[&[SERIAL], &end[..]].concat(), &finished, &self.output);
     }
 }
 

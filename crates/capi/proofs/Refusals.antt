@@ -26,6 +26,7 @@ use Rattle.masks.specs.declared.bitmap.Bitmap.{Bitmap}
 use Rattle.masks.specs.declared.bitmap.Optional.the-variants.{Present, Absent}
 use Rattle.masks.specs.declared.bitmask.Span.{Span}
 use Rattle.masks.specs.declared.builder.BitmapBuilder.{BitmapBuilder}
+use Rattle.masks.specs.declared.superseding.Part.{Part}
 use Rattle.masks.proofs.Refusals as masks
 use Rattle.dispatch.specs.Offer.{Offering}
 use Rattle.dispatch.proofs.Refusals as dispatch
@@ -33,9 +34,9 @@ use Rattle.activity.specs.Checks.{widthFits, leftByMinutes}
 use Rattle.activity.proofs.Refusals as activity
 use Rattle.capi.specs.Answers.{asBit, asBuilder, asCursor, asFlag, asMask, asNext, asNth, asNumber, asOffer, asPosition}
 use Rattle.capi.specs.Answers.{nextAt, offerAt, asRemainder, asRun, asSameMask}
-use Rattle.capi.specs.Answers.{asSpans, asSplit, asStep, asTaken, asValidity, asWord, asZeros}
+use Rattle.capi.specs.Answers.{asPart, asSpans, asSplit, asStep, asTaken, asValidity, asWord, asZeros}
 use Rattle.capi.specs.Records.{builderIn, builderOut, chunksOut, chunksPlace, iterOut, iterPlace, maskIn, optionalIn}
-use Rattle.capi.specs.Records.{slicesOut, slicesPlace, trueIn, trueOut, truePlace}
+use Rattle.capi.specs.Records.{serialBuilderIn, slicesOut, slicesPlace, trueIn, trueOut, truePlace}
 use Rattle.capi.specs.Refusals.{Appends, Gives, GivesBack, GivesBoth, Refusals, builderOf, numbers}
 use Rattle.capi.specs.Window.{asWindow, unlessRefused, windowIn}
 use Rattle.capi.specs.declared.records.Cursor.{Cursor}
@@ -113,6 +114,11 @@ of-mask : {S : Type 0} (a : Answer S Bitmap) → asMask a .refusal ≡ numberIn 
 unfolding asMask
 of-mask (given m) = refl
 of-mask (refused k s) = refl
+
+of-part : {S : Type 0} (a : Answer S Part) → asPart a .refusal ≡ numberIn a
+unfolding asPart
+of-part (given p) = refl
+of-part (refused k s) = refl
 
 of-validity : {S : Type 0} (a : Answer S (Option Bitmap)) → asValidity a .refusal ≡ numberIn a
 unfolding asValidity
@@ -290,10 +296,10 @@ refusals =
       pw-opt-gather-extend-from-slice = λ n word ones buf bytes start m idxs.
           appends _ refl (extendOptGather bytes start m idxs) n word ones buf
           (masks.refusals .append (extendOptGather bytes start m idxs) _ buf);
-      pw-freeze = λ n word ones buf.
-          gives-unwritten _ _ refl _ _ (of-mask _) buf _ (masks.refusals .freeze (builderIn n word ones) buf);
-      pw-into-opt-validity = λ n word ones buf.
-          gives-unwritten _ _ refl _ _ (of-validity _) buf _ (masks.refusals .validity (builderIn n word ones) buf);
+      pw-freeze = λ n word ones buf serial.
+          gives-unwritten _ _ refl _ _ (of-mask _) buf _ (masks.refusals .freeze (serialBuilderIn n word ones serial) buf);
+      pw-into-opt-validity = λ n word ones buf serial.
+          gives-unwritten _ _ refl _ _ (of-validity _) buf _ (masks.refusals .validity (serialBuilderIn n word ones serial) buf);
       pw-new-zeroed = λ n out. gives-unwritten _ _ refl _ _ (of-mask _) out _ (masks.refusals .zeroed n out);
       pw-try-new = λ bytes start n. gives _ _ refl _ _ (of-mask _) (masks.refusals .try-new bytes start n);
       pw-slice = λ m bytes offset n. mask-back _ refl m _ _ (masks.refusals .slice (maskIn m) bytes offset n);
@@ -302,6 +308,8 @@ refusals =
       pw-num-edges = λ m bytes. gives _ _ refl _ _ (of-number _) (masks.refusals .edges (maskIn m) bytes);
       pw-num-intersections-with = λ a aBytes b bBytes.
           gives _ _ refl _ _ (of-number _) (masks.refusals .common (maskIn a) aBytes (maskIn b) bBytes);
+      pw-superseding = λ a aBytes b bBytes.
+          gives _ _ refl _ _ (of-part _) (masks.refusals .superseding-part (maskIn a) aBytes (maskIn b) bBytes);
       pw-and = λ a aBytes b bBytes out.
           gives-unwritten _ _ refl _ _ (of-mask _) out _ (masks.refusals .pair And (maskIn a) aBytes (maskIn b) bBytes out);
       pw-and-not = λ a aBytes b bBytes out.

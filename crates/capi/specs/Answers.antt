@@ -17,6 +17,7 @@ use Rattle.masks.specs.declared.bitmask.Span.{Span}
 use Rattle.masks.specs.declared.builder.BitmapBuilder.{BitmapBuilder}
 use Rattle.masks.specs.declared.slice_iterator.Run.{Run}
 use Rattle.dispatch.specs.Offer.{Offering}
+use Rattle.masks.specs.declared.superseding.Part.{Part}
 use Rattle.capi.specs.Records.{maskOut, noMask, builderOut, noCursor}
 use Rattle.capi.specs.declared.answers.BuilderAnswer.{BuilderAnswer}
 use Rattle.capi.specs.declared.answers.CursorAnswer.{CursorAnswer}
@@ -26,6 +27,7 @@ use Rattle.capi.specs.declared.answers.NextAnswer.{NextAnswer}
 use Rattle.capi.specs.declared.answers.NthAnswer.{NthAnswer}
 use Rattle.capi.specs.declared.answers.Number.{Number}
 use Rattle.capi.specs.declared.answers.OfferAnswer.{OfferAnswer}
+use Rattle.capi.specs.declared.answers.PartAnswer.{PartAnswer}
 use Rattle.capi.specs.declared.answers.Position.{Position}
 use Rattle.capi.specs.declared.answers.SpansAnswer.{SpansAnswer}
 use Rattle.capi.specs.declared.answers.SplitAnswer.{SplitAnswer}
@@ -120,6 +122,14 @@ zerosOf k zeros m = record { refusal = k; zeros = zeros; mask = m }
 unfoldable pub asZeros : {S : Type 0} → Mask → Answer S Recounted → ZerosAnswer
 asZeros came (given r) = zerosOf 0 (r .zeros) (maskOut (r .mask))
 asZeros came (refused k s) = zerosOf k 0 came
+
+-- which of two slices holds the winner of two masks, the part of it that does, and the winner's record over that part
+abbrev pub partAnswer : ℕ → Bool → ℕ → ℕ → Mask → PartAnswer
+partAnswer k second from to m = record { refusal = k; second = second; from = from; to = to; mask = m }
+
+unfoldable pub asPart : {S : Type 0} → Answer S Part → PartAnswer
+asPart (given p) = partAnswer 0 (p .second) (p .from) (p .to) (maskOut (p .mask))
+asPart (refused k s) = partAnswer k false 0 0 noMask
 
 -- ---- a builder
 

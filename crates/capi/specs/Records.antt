@@ -3,9 +3,10 @@ use Prim.Native.Nat.{ℕ}
 use mathlib.Core.Bool.{Bool, not, cond}
 use lib.Dec.{eqb}
 use Rattle.words.specs.Flags.{digit}
+use Rattle.masks.specs.Builder.{builderUnder}
 use Rattle.masks.specs.Chunks.{chunksAt}
 use Rattle.masks.specs.Iterator.{iterAt}
-use Rattle.masks.specs.Mask.{maskOf}
+use Rattle.masks.specs.Mask.{maskUnder}
 use Rattle.masks.specs.SliceIterator.{slicesAt}
 use Rattle.masks.specs.TrueIdx.{trueAt}
 use Rattle.masks.specs.declared.bitmap.Bitmap.{Bitmap}
@@ -29,19 +30,19 @@ unfoldable pub countIn : ℕ → ℕ → Unset
 countIn zeros known = cond (eqb known 0) Unknown (Known zeros)
 
 unfoldable pub maskIn : Mask → Bitmap
-maskIn m = maskOf (m .start) (m .length) (countIn (m .zeros) (m .known))
+maskIn m = maskUnder (m .serial) (m .start) (m .length) (countIn (m .zeros) (m .known))
 
 -- an unknown count is given as 0
-abbrev pub maskWith : ℕ → ℕ → Unset → Mask
-maskWith start n (Known z) = record { start = start; length = n; zeros = z; known = 1 }
-maskWith start n Unknown = record { start = start; length = n; zeros = 0; known = 0 }
+abbrev pub maskWith : ℕ → ℕ → ℕ → Unset → Mask
+maskWith serial start n (Known z) = record { start = start; length = n; zeros = z; known = 1; serial = serial }
+maskWith serial start n Unknown = record { start = start; length = n; zeros = 0; known = 0; serial = serial }
 
 unfoldable pub maskOut : Bitmap → Mask
-maskOut m = maskWith (m .start) (m .length) (m .unset)
+maskOut m = maskWith (m .serial) (m .start) (m .length) (m .unset)
 
 -- in place of a mask where there is none
 abbrev pub noMask : Mask
-noMask = maskWith 0 0 Unknown
+noMask = maskWith 0 0 0 Unknown
 
 -- a mask that may be absent: its record is not read where it is
 unfoldable pub optionalIn : Bool → Mask → Optional
@@ -49,8 +50,13 @@ optionalIn present m = cond present (Present (maskIn m)) Absent
 
 -- ---- the builder
 
+-- with the serial that its caller kept
+unfoldable pub serialBuilderIn : ℕ → ℕ → ℕ → ℕ → BitmapBuilder
+serialBuilderIn n word ones serial = builderUnder serial n word ones
+
+-- to append to: its serial does not cross, and 0 stands for it
 unfoldable pub builderIn : ℕ → ℕ → ℕ → BitmapBuilder
-builderIn n word ones = record { length = n; word = word; ones = ones }
+builderIn n word ones = builderUnder 0 n word ones
 
 unfoldable pub builderOut : BitmapBuilder → Builder
 builderOut b = record { length = b .length; word = b .word; ones = b .ones }

@@ -2,7 +2,7 @@
 --
 -- A field for each export that can refuse, through the definition that its contract cites; the numbers listed are those that the header
 -- has for it. Exports that are not here give no number: `pw_load_padded_le_u64`, `pw_merge_reversed`, `pw_builder_new`,
--- `pw_bitmap_new` and `pw_interface_2`.
+-- `pw_bitmap_new` and `pw_interface_3`.
 use Prim.Native.Nat.{ℕ}
 use mathlib.Core.Path.{_≡_}
 use mathlib.Core.Bool.{Bool, true, false}
@@ -30,6 +30,7 @@ use Rattle.masks.specs.Positions.{nextPositions, positionsOver}
 use Rattle.masks.specs.Refusals.{among, allAmong}
 use Rattle.masks.specs.Search.{searchFrom, searchBack}
 use Rattle.masks.specs.SliceIterator.{slicesAt, newSlices, nextSlice}
+use Rattle.masks.specs.Superseding.{supersedingOf}
 use Rattle.masks.specs.TrueIdx.{newTrue, nextTrue}
 use Rattle.masks.specs.Utils.{spanCount, zeros}
 use Rattle.dispatch.specs.Dispatch.{mayReassign}
@@ -37,9 +38,9 @@ use Rattle.dispatch.specs.Offer.{offerOf}
 use Rattle.activity.specs.Window.{newOf, pushOf, countsOf}
 use Rattle.capi.specs.Answers.{asBit, asBuilder, asCursor, asFlag, asMask, asNext, asNth, asNumber, asOffer, asPosition}
 use Rattle.capi.specs.Answers.{asRemainder, asRun, asSameMask}
-use Rattle.capi.specs.Answers.{asSpans, asSplit, asTaken, asValidity, asWord, asZeros}
+use Rattle.capi.specs.Answers.{asPart, asSpans, asSplit, asTaken, asValidity, asWord, asZeros}
 use Rattle.capi.specs.Records.{builderIn, chunksOut, chunksPlace, iterOut, iterPlace, maskIn, optionalIn, slicesOut, slicesPlace}
-use Rattle.capi.specs.Records.{trueIn, trueOut, truePlace}
+use Rattle.capi.specs.Records.{serialBuilderIn, trueIn, trueOut, truePlace}
 use Rattle.capi.specs.Window.{asWindow, unlessRefused, windowIn}
 use Rattle.capi.specs.declared.records.Builder.{Builder}
 use Rattle.capi.specs.declared.records.Mask.{Mask}
@@ -48,7 +49,7 @@ use Rattle.capi.specs.declared.records.Mask.{Mask}
 
 -- the numbers by which a call may refuse
 abbrev pub numbers : List ℕ
-numbers = 1 ∷ 2 ∷ 3 ∷ 4 ∷ 5 ∷ 6 ∷ 7 ∷ 8 ∷ 9 ∷ 16 ∷ []
+numbers = 1 ∷ 2 ∷ 3 ∷ 4 ∷ 5 ∷ 6 ∷ 7 ∷ 8 ∷ 9 ∷ 14 ∷ 16 ∷ []
 
 -- the number k that comes out is 0 or one of these
 pub record Gives (ns : List ℕ) (k : ℕ) : Type 0 where
@@ -129,9 +130,9 @@ pub record Refusals : Type 0 where
       → Appends (1 ∷ 2 ∷ 4 ∷ 6 ∷ 9 ∷ []) (extendGather bytes start m idxs) n word ones buf
   pub pw-opt-gather-extend-from-slice : (n word ones : ℕ) (buf : List ℕ) (bytes : List ℕ) (start m : ℕ) (idxs : List ℕ)
       → Appends (1 ∷ 2 ∷ 4 ∷ 9 ∷ []) (extendOptGather bytes start m idxs) n word ones buf
-  pub pw-freeze : (n word ones : ℕ) (buf : List ℕ) → let b = builderIn n word ones in
+  pub pw-freeze : (n word ones : ℕ) (buf : List ℕ) (serial : ℕ) → let b = serialBuilderIn n word ones serial in
       GivesBack (1 ∷ 4 ∷ 9 ∷ []) (asMask (freezeOf b buf) .refusal) buf (freezeBytes b buf)
-  pub pw-into-opt-validity : (n word ones : ℕ) (buf : List ℕ) → let b = builderIn n word ones in
+  pub pw-into-opt-validity : (n word ones : ℕ) (buf : List ℕ) (serial : ℕ) → let b = serialBuilderIn n word ones serial in
       GivesBack (1 ∷ 4 ∷ 9 ∷ []) (asValidity (intoOptValidityOf b buf) .refusal) buf (freezeBytes b buf)
   -- the mask
   pub pw-new-zeroed : (n : ℕ) (out : List ℕ) → GivesBack (1 ∷ 9 ∷ []) (asMask (newZeroedOf n out) .refusal) out (newZeroedBytes n out)
@@ -145,6 +146,8 @@ pub record Refusals : Type 0 where
   pub pw-num-edges : (m : Mask) (bytes : List ℕ) → Gives (1 ∷ 2 ∷ 3 ∷ []) (asNumber (edgesOf (maskIn m) bytes) .refusal)
   pub pw-num-intersections-with : (a : Mask) (aBytes : List ℕ) (b : Mask) (bBytes : List ℕ)
       → Gives (1 ∷ 2 ∷ 3 ∷ 5 ∷ []) (asNumber (commonOf (maskIn a) aBytes (maskIn b) bBytes) .refusal)
+  pub pw-superseding : (a : Mask) (aBytes : List ℕ) (b : Mask) (bBytes : List ℕ)
+      → Gives (1 ∷ 2 ∷ 3 ∷ 14 ∷ []) (asPart (supersedingOf (maskIn a) aBytes (maskIn b) bBytes) .refusal)
   -- combinations
   pub pw-and : (a : Mask) (aBytes : List ℕ) (b : Mask) (bBytes out : List ℕ) → Combines (1 ∷ 2 ∷ 3 ∷ 5 ∷ 9 ∷ []) And a aBytes b bBytes out
   pub pw-and-not : (a : Mask) (aBytes : List ℕ) (b : Mask) (bBytes out : List ℕ)

@@ -79,6 +79,17 @@ pub struct ZerosAnswer {
     pub mask: Mask,
 }
 
+// The winner of two masks: `second` where it is the second one, and its bytes are those from `from` to before `to` of the slice that it
+// came with. `mask` is its record over these. On refusal they are none of the first slice.
+#[repr(C)]
+pub struct PartAnswer {
+    pub refusal: u8,
+    pub second: bool,
+    pub from: usize,
+    pub to: usize,
+    pub mask: Mask,
+}
+
 // The builder to go on with.
 #[repr(C)]
 pub struct BuilderAnswer {

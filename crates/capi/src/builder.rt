@@ -6,7 +6,7 @@ ghost use Rattle.masks.specs.Appends.{extendRepeated, extendSlice, pushedAnswer
 ghost use Rattle.masks.specs.Builder.{newBuilder};
 ghost use Rattle.masks.specs.Freeze.{freezeBytes, freezeOf, intoOptValidityOf, freezeAnswer, validityAnswer};
 ghost use Rattle.capi.specs.Answers.{asBuilder, asMask, asValidity};
-ghost use Rattle.capi.specs.Records.{builderIn, builderOut, maskIn};
+ghost use Rattle.capi.specs.Records.{builderIn, builderOut, maskIn, serialBuilderIn};
 use crate::answers::BuilderAnswer;
 use crate::answers::MaskAnswer;
 use crate::answers::ValidityAnswer;
@@ -18,6 +18,7 @@ use crate::records::builder_out;
 use crate::records::mask_in;
 use crate::records::mask_out;
 use crate::records::no_mask;
+use crate::records::serial_builder_in;
 use masks::builder::BitmapBuilder;
 use masks::builder::Made;
 use masks::builder::Pushed;
@@ -244,13 +245,20 @@ pub extern "C" fn pw_opt_gather_extend_from_slice(
     ))
 }
 
-// The mask of the builder's flags, its zeros counted, over their frozen bytes. The builder is not given back: the caller has it.
+// The mask of the builder's flags, its zeros counted, over their frozen bytes, under the builder's serial, which the caller kept. The
+// builder is not given back: the caller has it.
 #[no_mangle]
-pub extern "C" fn pw_freeze(length: usize, word: u64, ones: usize, buf: &mut [u8]) -> MaskAnswer
-    ensures answer { λ r. ⌜ r ≡ asMask (freezeOf (builderIn length word ones) (now (buf .entry))) ⌝ }
-    ensures bytes { λ _. ⌜ now (buf .exit) ≡ freezeBytes (builderIn length word ones) (now (buf .entry)) ⌝ }
+pub extern "C" fn pw_freeze(
+    length: usize,
+    word: u64,
+    ones: usize,
+    buf: &mut [u8],
+    serial: u32,
+) -> MaskAnswer
+    ensures answer { λ r. ⌜ r ≡ asMask (freezeOf (serialBuilderIn length word ones serial) (now (buf .entry))) ⌝ }
+    ensures bytes { λ _. ⌜ now (buf .exit) ≡ freezeBytes (serialBuilderIn length word ones serial) (now (buf .entry)) ⌝ }
 {
-    frozen_out(builder_in(length, word, ones).freeze(buf))
+    frozen_out(serial_builder_in(length, word, ones, serial).freeze(buf))
 }
 
 // The bytes and the mask that pw_freeze gives; no mask where all flags are set, so for no flags too. As in Arrow, no mask means all
@@ -261,9 +269,10 @@ pub extern "C" fn pw_into_opt_validity(
     word: u64,
     ones: usize,
     buf: &mut [u8],
+    serial: u32,
 ) -> ValidityAnswer
-    ensures answer { λ r. ⌜ r ≡ asValidity (intoOptValidityOf (builderIn length word ones) (now (buf .entry))) ⌝ }
-    ensures bytes { λ _. ⌜ now (buf .exit) ≡ freezeBytes (builderIn length word ones) (now (buf .entry)) ⌝ }
+    ensures answer { λ r. ⌜ r ≡ asValidity (intoOptValidityOf (serialBuilderIn length word ones serial) (now (buf .entry))) ⌝ }
+    ensures bytes { λ _. ⌜ now (buf .exit) ≡ freezeBytes (serialBuilderIn length word ones serial) (now (buf .entry)) ⌝ }
 {
-    validity_out(builder_in(length, word, ones).into_opt_validity(buf))
+    validity_out(serial_builder_in(length, word, ones, serial).into_opt_validity(buf))
 }

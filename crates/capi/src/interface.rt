@@ -4,10 +4,10 @@
 // a record, a signature or the meaning of a number changes, not when a call is added; tests/declarations.py holds it to that.
 ghost use mathlib.Core.Path.{_≡_};
 
-// The version of the interface, 2.
+// The version of the interface, 3.
 #[no_mangle]
-pub extern "C" fn pw_interface_2() -> u32
-    ensures { λ r. ⌜ r ≡ 2 ⌝ }
+pub extern "C" fn pw_interface_3() -> u32
+    ensures { λ r. ⌜ r ≡ 3 ⌝ }
 {
-    2
+    3
 }

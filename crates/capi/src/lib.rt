@@ -17,5 +17,6 @@ pub mod reassign;
 mod records;
 pub mod search;
 pub mod spans;
+pub mod superseding;
 pub mod window;
 pub mod word;

@@ -4,22 +4,25 @@
 // from call to call through memory costs several times the call.
 ghost use mathlib.Core.Path.{_≡_};
 ghost use Rattle.words.specs.Flags.{digit};
-ghost use Rattle.capi.specs.Records.{builderIn, builderOut, countIn, cursorOf, maskIn, maskOut, noCursor, noMask, optionalIn};
+ghost use Rattle.capi.specs.Records.{builderIn, builderOut, countIn, cursorOf, maskIn, maskOut, noCursor, noMask, optionalIn, serialBuilderIn};
 use masks::bitmap::Bitmap;
 use masks::bitmap::Optional;
 use masks::bitmap::Unset;
 use masks::builder::BitmapBuilder;
 
-// A mask: a span of its bytes and its zero count. The count is read where `known` is not 0; an unknown one is given as 0.
+// A mask: a span of its bytes, its zero count, and the serial of the revocation list that it was drawn up under. The count is read
+// where `known` is not 0; an unknown one is given as 0.
 #[repr(C)]
 pub struct Mask {
     pub start: usize,
     pub length: usize,
     pub zeros: usize,
     pub known: u8,
+    pub serial: u32,
 }
 
-// A builder: its length, the word in progress and the ones in the finished words, which stand in its buffer.
+// A builder: its length, the word in progress and the ones in the finished words, which stand in its buffer. Its serial is not here,
+// since no append changes it: the caller keeps it beside the builder and hands it to pw_freeze and pw_into_opt_validity.
 #[repr(C)]
 pub struct Builder {
     pub length: usize,
@@ -55,6 +58,7 @@ pub(crate) fn mask_in(m: Mask) -> Bitmap
         start: m.start,
         length: m.length,
         unset: unset,
+        serial: m.serial,
     }
 }
 
@@ -68,12 +72,14 @@ pub(crate) fn mask_out(m: Bitmap) -> Mask
             length: m.length,
             zeros: z,
             known: 1,
+            serial: m.serial,
         },
         Unset::Unknown => Mask {
             start: m.start,
             length: m.length,
             zeros: 0,
             known: 0,
+            serial: m.serial,
         },
     }
 }
@@ -86,6 +92,7 @@ pub(crate) fn no_mask() -> Mask
         length: 0,
         zeros: 0,
         known: 0,
+        serial: 0,
     }
 }
 
@@ -100,13 +107,22 @@ pub(crate) fn optional_in(present: bool, m: Mask) -> Optional
     }
 }
 
+// A builder to append to: its serial does not cross, and 0 stands for it.
 pub(crate) fn builder_in(length: usize, word: u64, ones: usize) -> BitmapBuilder
     ensures { λ r. ⌜ r ≡ builderIn length word ones ⌝ }
+{
+    serial_builder_in(length, word, ones, 0)
+}
+
+// A builder to freeze, with the serial that the caller kept.
+pub(crate) fn serial_builder_in(length: usize, word: u64, ones: usize, serial: u32) -> BitmapBuilder
+    ensures { λ r. ⌜ r ≡ serialBuilderIn length word ones serial ⌝ }
 {
     BitmapBuilder {
         length: length,
         word: word,
         ones: ones,
+        serial: serial,
     }
 }
 

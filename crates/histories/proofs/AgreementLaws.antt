@@ -23,7 +23,7 @@ use Rattle.masks.specs.Frozen.{frozen, frozenSize}
 use Rattle.histories.specs.Owed.{Stands}
 use Rattle.masks.specs.Iterator.{flagStep, iterAt, iterFlags, movedTo, newIter, nthFlag}
 use Rattle.masks.specs.Listing.{runsLeft}
-use Rattle.masks.specs.Mask.{maskChecks, maskFlags, maskOf, unsetBitsOf, zeroCount}
+use Rattle.masks.specs.Mask.{maskChecks, maskFlags, unsetBitsOf, withCount, zeroCount}
 use Rattle.masks.specs.Search.{nthBack, nthFrom, searchBack, searchFrom}
 use Rattle.masks.specs.SliceIterator.{newSlices, runsFrom, slicesAt}
 use Rattle.masks.specs.TrueCounts.{TrueCount}
@@ -128,7 +128,7 @@ module _ (m : Bitmap) (bytes : List ℕ) (l : List Bool) (s : Stands m bytes l) 
   unfolding unsetBitsOf
   counted =
       ap countShown (sym (is-given 0 (firstFailed (maskChecks m bytes)) m
-      (record { mask = maskOf (m .start) (m .length) (Known (zeroCount m bytes)); zeros = zeroCount m bytes }) whole refl))
+      (record { mask = withCount m (Known (zeroCount m bytes)); zeros = zeroCount m bytes }) whole refl))
       ∙ ap some truth
 
   forward : (n from : ℕ) → searchFrom bytes (m .start) (m .length) n from ≡ given (nthFrom l n from)

@@ -14,7 +14,7 @@ use Rattle.masks.specs.Appends.{allBelow, constantChecks, gatherChecks, gathere
 use Rattle.masks.specs.Appends.{repeated, spanGrowChecks, subsliceChecks, wordChecks}
 use Rattle.masks.specs.Builder.{Filling, appended, builderChecks, builderFlags, inProgress, possible}
 use Rattle.masks.specs.Checks.{earlier, firstFailed, rank, placeIn, outputChecks, spanChecks}
-use Rattle.masks.specs.Combine.{eachBytes, eachOf, notChecks, pairBytes, pairChecks, pairFlags, pairMask, pairOf, selectChecks, shortcut}
+use Rattle.masks.specs.Combine.{eachBytes, eachOf, largestSerial, notChecks, pairBytes, pairChecks, pairFlags, pairMask, pairOf, selectChecks, shortcut}
 use Rattle.masks.specs.Freeze.{freezeBytes, freezeChecks, frozenMask, frozenOver, validityOf}
 use Rattle.masks.specs.Frozen.{frozen, overFrom, packed}
 use Rattle.masks.specs.Mask.{cutZeros, keptCount, maskChecks, pieceChecks, recounts}
@@ -48,7 +48,7 @@ unfolding
     maskChecks tryNewOf unsetBitsOf zeroCount zeros sliceOf sliceChecks pieceChecks cutZeros recounts keptCount
     packed frozen overFrom inProgress appended builderFlags possible builderChecks
     constantChecks wordChecks spanGrowChecks innerChecks subsliceChecks gatherChecks allBelow gathered repeated frozenOver
-    pairOf pairBytes pairChecks pairFlags pairMask shortcut eachOf eachBytes notChecks selectChecks
+    pairOf pairBytes pairChecks pairFlags pairMask shortcut eachOf eachBytes largestSerial notChecks selectChecks
 accepted-kinds =
     record {
       push = comes refl refl refl;
@@ -85,7 +85,7 @@ unfolding
     maskChecks tryNewOf unsetBitsOf zeroCount zeros sliceOf sliceChecks pieceChecks cutZeros recounts keptCount
     packed frozen overFrom inProgress appended builderFlags possible builderChecks
     constantChecks wordChecks spanGrowChecks innerChecks subsliceChecks gatherChecks allBelow gathered repeated frozenOver
-    pairOf pairBytes pairChecks pairFlags pairMask shortcut eachOf eachBytes notChecks selectChecks
+    pairOf pairBytes pairChecks pairFlags pairMask shortcut eachOf eachBytes largestSerial notChecks selectChecks
 refused-kinds =
     record {
       push = comes refl refl refl;

@@ -11,4 +11,5 @@ pub mod RowLaws
 pub mod RunListLaws
 pub mod RunListRows
 pub mod RunLists
+pub mod Serials
 pub mod TruthfulLaws

@@ -16,7 +16,7 @@ use Rattle.masks.specs.Checks.{Check, check, firstFailed, limit, outputChecks, 
 use Rattle.masks.specs.Combine.{eachBytes, eachOf, notChecks, notFlags, pairBytes, pairChecks}
 use Rattle.masks.specs.Combine.{pairEach, pairFlags, pairMask, pairOf, pairShortcut}
 use Rattle.masks.specs.Combine.{resultCount, resultMask, selectChecks, selectConstantFlags, selectFlags}
-use Rattle.masks.specs.Mask.{Recounted, maskChecks, maskFlags, maskOf, pieceChecks, sliceOf, slicedMask, uncounted, unsetBitsOf, zeroCount}
+use Rattle.masks.specs.Mask.{Recounted, maskChecks, maskFlags, pieceChecks, sliceOf, slicedMask, uncounted, unsetBitsOf, withCount, zeroCount}
 use Rattle.masks.specs.TrueCounts.{Sound, TrueCount}
 use Rattle.masks.specs.declared.bitmap.Bitmap.{Bitmap}
 use Rattle.masks.specs.declared.bitmap.Unset.the-variants.{Known}
@@ -79,7 +79,7 @@ pub slice-lawful : (offset n : ℕ) → LawfulKeeps (sliceRow offset n)
 slice-lawful offset n = record { made = slice-made offset n; left = slice-left offset n }
 
 count-stands : (m : Bitmap) (bytes : List ℕ) → Sound m bytes
-    → Stands (maskOf (m .start) (m .length) (Known (zeroCount m bytes))) bytes (maskFlags m bytes)
+    → Stands (withCount m (Known (zeroCount m bytes))) bytes (maskFlags m bytes)
 count-stands m bytes s =
     record {
       sound = record { starts = s .starts; short = s .short; inside = s .inside; counts = true-count m bytes (s .counts) };
@@ -93,20 +93,20 @@ recounted-is (suc k) m r = refl
 
 count-answer : (m : Bitmap) (bytes : List ℕ)
     → recounted (unsetBitsOf m bytes) ≡ decided (firstFailed (maskChecks m bytes)) m
-    (maskOf (m .start) (m .length) (Known (zeroCount m bytes)))
+    (withCount m (Known (zeroCount m bytes)))
 unfolding unsetBitsOf
 count-answer m bytes = recounted-is (firstFailed (maskChecks m bytes)) m _
 
 count-made : (m : Bitmap) (bytes : List ℕ) → Sound m bytes → (g : Bitmap) → recounted (unsetBitsOf m bytes) ≡ given g
     → Stands g bytes (maskFlags m bytes)
 count-made m bytes s g e =
-    let r = maskOf (m .start) (m .length) (Known (zeroCount m bytes)) in
+    let r = withCount m (Known (zeroCount m bytes)) in
     let same : g ≡ r = given-value (firstFailed (maskChecks m bytes)) m g r (sym e ∙ count-answer m bytes) in
     subst (λ (x : Bitmap). Stands x bytes (maskFlags m bytes)) (sym same) (count-stands m bytes s)
 
 count-left : (m : Bitmap) (bytes : List ℕ) (k : ℕ) (g : Bitmap) → recounted (unsetBitsOf m bytes) ≡ refused k g → g ≡ m
 count-left m bytes k g e =
-    let r = maskOf (m .start) (m .length) (Known (zeroCount m bytes)) in
+    let r = withCount m (Known (zeroCount m bytes)) in
     refused-state k (firstFailed (maskChecks m bytes)) g m r (sym e ∙ count-answer m bytes)
 
 pub count-lawful : LawfulKeeps countRow

@@ -11,3 +11,4 @@ pub mod ReferenceList
 pub mod Rows
 pub mod RunListRows
 pub mod RunLists
+pub mod Serials

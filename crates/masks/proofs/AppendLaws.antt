@@ -16,7 +16,7 @@ use Rattle.words.proofs.Plain.{window-part}
 use Rattle.words.proofs.Windows.{window-all, window-cut, bits-window}
 use Rattle.masks.specs.Answer.{Answer, given, refused, decided, kept}
 use Rattle.masks.specs.Appends.{appendAnswer, appendBytes, changeAnswer, pushFlag}
-use Rattle.masks.specs.Builder.{Filling, filling, builderOf, rebuilt, inProgress, appended, noneFrom, possible, builderChecks}
+use Rattle.masks.specs.Builder.{Filling, filling, builderUnder, rebuilt, inProgress, appended, noneFrom, possible, builderChecks}
 use Rattle.masks.specs.Frozen.{packed, overFrom}
 use Rattle.masks.specs.declared.builder.BitmapBuilder.{BitmapBuilder}
 use Rattle.masks.proofs.CheckLaws.{given-way}
@@ -41,9 +41,9 @@ pub length-progress : (b : BitmapBuilder) → length (inProgress b) ≡ b .lengt
 unfolding inProgress
 length-progress b = length-take-le (b .length % 64) (bits 64 (b .word)) (omega (arith, length-bits 64 (b .word)))
 
-pub progress-of : (n : ℕ) (r : List Bool) (ones : ℕ) → length r ≡ n % 64 → inProgress (builderOf n (wordOf r) ones) ≡ r
+pub progress-of : (b : BitmapBuilder) (n : ℕ) (r : List Bool) (ones : ℕ) → length r ≡ n % 64 → inProgress (rebuilt b n (wordOf r) ones) ≡ r
 unfolding inProgress
-progress-of n r ones e = word-back r (n % 64) e (omega arith)
+progress-of b n r ones e = word-back r (n % 64) e (omega arith)
 
 -- ---- one way to say what appending gives
 
@@ -56,20 +56,20 @@ pub record Parts (f : Filling) (l : List Bool) (q : ℕ) (front rest : List Bool
 -- n flags more, of which `front` is written
 abbrev pub grown : Filling → ℕ → ℕ → List Bool → List Bool → Filling
 grown f n q front rest =
-    filling (builderOf (f .builder .length + n) (wordOf rest) (f .builder .ones + count front)) (overFrom (f .bytes) (8 * (f .builder .length / 64)) (packed (8 * q) front))
+    filling (rebuilt (f .builder) (f .builder .length + n) (wordOf rest) (f .builder .ones + count front)) (overFrom (f .bytes) (8 * (f .builder .length / 64)) (packed (8 * q) front))
 
 abbrev made : Filling → ℕ → ℕ → List Bool → Filling
 made f n q all =
-    filling (builderOf (f .builder .length + n) (wordOf (drop (64 * q) all)) (f .builder .ones + count (take (64 * q) all)))
+    filling (rebuilt (f .builder) (f .builder .length + n) (wordOf (drop (64 * q) all)) (f .builder .ones + count (take (64 * q) all)))
     (overFrom (f .bytes) (8 * (f .builder .length / 64)) (packed (8 * q) all))
 
 made-grown : (f : Filling) (n q : ℕ) (front rest : List Bool) → length front ≡ 64 * q → made f n q (front ++ rest) ≡ grown f n q front rest
 made-grown f n q front rest e =
     let e8 : length front ≡ 8 * (8 * q) = omega arith in
-    ap₂ (λ (r t : List Bool). filling (builderOf (f .builder .length + n) (wordOf r) (f .builder .ones + count t))
+    ap₂ (λ (r t : List Bool). filling (rebuilt (f .builder) (f .builder .length + n) (wordOf r) (f .builder .ones + count t))
     (overFrom (f .bytes) (8 * (f .builder .length / 64)) (packed (8 * q) (front ++ rest))))
     (drop-at front rest (64 * q) e) (take-at front rest (64 * q) e)
-    ∙ ap (λ (m : List ℕ). filling (builderOf (f .builder .length + n) (wordOf rest) (f .builder .ones + count front)) (overFrom (f .bytes) (8 * (f .builder .length / 64)) m))
+    ∙ ap (λ (m : List ℕ). filling (rebuilt (f .builder) (f .builder .length + n) (wordOf rest) (f .builder .ones + count front)) (overFrom (f .bytes) (8 * (f .builder .length / 64)) m))
     (packed-front (8 * q) front rest e8)
 
 pub appended-grown : (f : Filling) (l : List Bool) (q : ℕ) (front rest : List Bool) → Parts f l q front rest → appended f l ≡ grown f (length l) q front rest
@@ -109,7 +109,7 @@ module _ (f : Filling) (a b : List Bool) (q : ℕ) (front rest : List Bool) (p :
   next-parts =
       let less : length rest < 64 = p .less in
       let e : length rest ≡ (f .builder .length + length a) % 64 = omega (arith, parts-long f a q front rest p) in
-      record { row = ap (λ (t : List Bool). t ++ b) (progress-of (f .builder .length + length a) rest (f .builder .ones + count front) e) ∙ row; whole = full2; less = less2 }
+      record { row = ap (λ (t : List Bool). t ++ b) (progress-of (f .builder) (f .builder .length + length a) rest (f .builder .ones + count front) e) ∙ row; whole = full2; less = less2 }
 
   both-parts : Parts f (a ++ b) (q + r) (front ++ front2) rest2
   both-parts =
@@ -141,9 +141,9 @@ module _ (f : Filling) (a b : List Bool) (q : ℕ) (front rest : List Bool) (p :
       ap (λ (x : ℕ). overFrom (overFrom (f .bytes) (8 * (f .builder .length / 64)) (packed (8 * q) front)) x (packed (8 * r) front2)) at
       ∙ overFrom-more (f .bytes) (8 * (f .builder .length / 64)) (packed (8 * q) front) (packed (8 * r) front2)
       ∙ ap (overFrom (f .bytes) (8 * (f .builder .length / 64))) two in
-      ap₂ (λ (x y : ℕ). filling (builderOf x (wordOf rest2) y)
+      ap₂ (λ (x y : ℕ). filling (rebuilt (f .builder) x (wordOf rest2) y)
       (overFrom (overFrom (f .bytes) (8 * (f .builder .length / 64)) (packed (8 * q) front)) (8 * ((f .builder .length + length a) / 64)) (packed (8 * r) front2))) n o
-      ∙ ap (filling (builderOf (f .builder .length + length (a ++ b)) (wordOf rest2) (f .builder .ones + count (front ++ front2)))) m
+      ∙ ap (filling (rebuilt (f .builder) (f .builder .length + length (a ++ b)) (wordOf rest2) (f .builder .ones + count (front ++ front2)))) m
 
   append-parts : appended (appended f a) b ≡ appended f (a ++ b)
   append-parts =
@@ -210,8 +210,8 @@ append-none f h e =
     let n : f .builder .length + 0 ≡ f .builder .length = omega arith in
     let o : f .builder .ones + count [] ≡ f .builder .ones = omega (arith, no-count) in
     appended-grown f [] 0 [] (inProgress (f .builder)) p
-    ∙ ap₂ (λ (x y : ℕ). filling (builderOf x (wordOf (inProgress (f .builder))) y) (overFrom (f .bytes) (8 * (f .builder .length / 64)) (packed 0 []))) n o
-    ∙ ap₂ (λ (x : ℕ) (y : List ℕ). filling (builderOf (f .builder .length) x (f .builder .ones)) y)
+    ∙ ap₂ (λ (x y : ℕ). filling (rebuilt (f .builder) x (wordOf (inProgress (f .builder))) y) (overFrom (f .bytes) (8 * (f .builder .length / 64)) (packed 0 []))) n o
+    ∙ ap₂ (λ (x : ℕ) (y : List ℕ). filling (rebuilt (f .builder) (f .builder .length) x (f .builder .ones)) y)
     (progress-word (f .builder) h e)
     (ap (overFrom (f .bytes) (8 * (f .builder .length / 64))) (no-bytes []) ∙ overFrom-none (f .bytes) (8 * (f .builder .length / 64)))
 
@@ -255,22 +255,24 @@ unfolding decided
 renewal-decided b zero s a = refl
 renewal-decided b (suc m) s a = refl
 
-module _ (b own : BitmapBuilder) (x : Bool) (bytes : List ℕ) where
-  renewed-push : renewal b (appendAnswer (pushFlag x) own bytes) ≡ appendAnswer (pushFlag x) (renewed b own) bytes
+module _ (b own : BitmapBuilder) (x : Bool) (bytes : List ℕ) (serial n word ones : ℕ) (made : own ≡ builderUnder serial n word ones) where
+  renewed-push : renewal b (appendAnswer (pushFlag x) own bytes) ≡ appendAnswer (pushFlag x) (rebuilt b n word ones) bytes
   unfolding appended inProgress builderChecks possible
-  renewed-push = renewal-decided b _ own (appended (filling own bytes) (x ∷ []) .builder)
+  renewed-push =
+      renewal-decided b _ own (appended (filling own bytes) (x ∷ []) .builder)
+      ∙ ap (λ (c : BitmapBuilder). appendAnswer (pushFlag x) (renewed b c) bytes) made
 
   pub renewed-done : (c : BitmapBuilder) → given c ≡ appendAnswer (pushFlag x) own bytes
-      → changeAnswer 0 (renewed b c) ≡ appendAnswer (pushFlag x) (renewed b own) bytes
+      → changeAnswer 0 (renewed b c) ≡ appendAnswer (pushFlag x) (rebuilt b n word ones) bytes
   renewed-done c e = change-done (renewed b c) _ (ap (renewal b) e ∙ renewed-push)
 
-  pub renewed-refused : (n : ℕ) (c : BitmapBuilder) → refused n c ≡ appendAnswer (pushFlag x) own bytes
-      → changeAnswer n (renewed b c) ≡ appendAnswer (pushFlag x) (renewed b own) bytes
-  renewed-refused n c e = change-refused n _ (renewed b c) _ _ (ap (renewal b) e ∙ renewed-push)
+  pub renewed-refused : (k : ℕ) (c : BitmapBuilder) → refused k c ≡ appendAnswer (pushFlag x) own bytes
+      → changeAnswer k (renewed b c) ≡ appendAnswer (pushFlag x) (rebuilt b n word ones) bytes
+  renewed-refused k c e = change-refused k _ (renewed b c) _ _ (ap (renewal b) e ∙ renewed-push)
 
-  pub renewed-bytes : (out : List ℕ) → out ≡ appendBytes (pushFlag x) own bytes → out ≡ appendBytes (pushFlag x) (renewed b own) bytes
+  pub renewed-bytes : (out : List ℕ) → out ≡ appendBytes (pushFlag x) own bytes → out ≡ appendBytes (pushFlag x) (rebuilt b n word ones) bytes
   unfolding appended inProgress builderChecks possible
-  renewed-bytes out e = e
+  renewed-bytes out e = e ∙ ap (λ (c : BitmapBuilder). appendBytes (pushFlag x) (renewed b c) bytes) made
 
 pub take-copies : (k n : ℕ) (x : Bool) → k ≤ n → take k (copies n x) ≡ copies k x
 unfolding copies

@@ -2,7 +2,7 @@
 use mathlib.Core.Path.{_≡_, refl, sym, ap, ap₂, _∙_, subst}
 use mathlib.Core.Bool.{Bool, true, false, not, cond, _&&_, _||_, xor}
 use mathlib.Core.List.{List, [], _∷_, _++_, map, zipWith}
-use Prim.Native.Nat.{ℕ, zero, suc, _+_, _*_, _/_, _≤_, _<_}
+use Prim.Native.Nat.{ℕ, zero, suc, _+_, _*_, _/_, _≤_, _<_, max}
 use native.Mathlib.Omega.{arith}
 use lib.Dec.{eqb, leb}
 use lib.ListN.{length}
@@ -17,10 +17,10 @@ use Rattle.words.specs.declared.ops.Op.the-variants.{And, AndNot, Or, OrNot, Xo
 use Rattle.words.proofs.Bytes.{flags-inj, flags-over}
 use Rattle.masks.specs.Answer.{Answer, given, refused, decided, kept}
 use Rattle.masks.specs.Checks.{Check, check, firstFailed, outputChecks}
-use Rattle.masks.specs.Combine.{shortcut, resultFlags, resultMask, resultCount, pairChecks, pairShortcut, pairEach}
+use Rattle.masks.specs.Combine.{shortcut, resultFlags, largestSerial, resultMask, resultCount, pairChecks, pairShortcut, pairEach}
 use Rattle.masks.specs.Combine.{pairFlags, pairMask, pairOf, pairBytes, eachOf, eachBytes, selectChecks}
 use Rattle.masks.specs.Frozen.{packed, frozen, frozenSize, overFrom}
-use Rattle.masks.specs.Mask.{maskOf, maskFlags, maskChecks, uncounted, zeroCount}
+use Rattle.masks.specs.Mask.{maskUnder, maskFlags, maskChecks, uncounted, zeroCount}
 use Rattle.masks.specs.Workers.{hasShortcut, isOr, isXor, eitherAll, xorAll}
 use Rattle.masks.specs.declared.bitmap.Bitmap.{Bitmap}
 use Rattle.masks.specs.declared.bitmap.Unset.{Unset}
@@ -167,11 +167,12 @@ module _ (op : Op) (a : Bitmap) (aBytes : List ℕ) (b : Bitmap) (bBytes out : L
       let number = firstFailed (pairChecks a aBytes b bBytes (length out)) in
       (is-refused k number tt (pairMask op a aBytes b bBytes) e h, is-kept k number (over out (frozen (pairFlags op a aBytes b bBytes))) out e h)
 
-  pub pair-given : (by : Shortcut) (u : Unset) (m : Bitmap) → k ≡ 0 → by ≡ pairShortcut op a aBytes b bBytes → u ≡ resultCount by (a .length)
-      → m ≡ resultMask (a ∷ b ∷ []) (a .length) u → given m ≡ pairOf op a aBytes b bBytes out
+  pub pair-given : (by : Shortcut) (u : Unset) (s : ℕ) (m : Bitmap) → k ≡ 0 → by ≡ pairShortcut op a aBytes b bBytes → u ≡ resultCount by (a .length)
+      → s ≡ largestSerial (a ∷ b ∷ []) → m ≡ maskUnder s 0 (a .length) u → given m ≡ pairOf op a aBytes b bBytes out
   unfolding pairOf pairMask
-  pair-given by u m z p q made =
+  pair-given by u s m z p q largest made =
       ap given made
+      ∙ ap (λ (t : ℕ). given (maskUnder t 0 (a .length) u)) largest
       ∙ ap (λ (v : Unset). given (resultMask (a ∷ b ∷ []) (a .length) v)) (q ∙ ap (λ (s : Shortcut). resultCount s (a .length)) p)
       ∙ is-given k (firstFailed (pairChecks a aBytes b bBytes (length out))) tt (pairMask op a aBytes b bBytes) e z
 
@@ -187,18 +188,35 @@ module _ (op : Op) (a : Bitmap) (aBytes : List ℕ) (b : Bitmap) (bBytes out : L
       over out (frozen (resultFlags s (a .length) (zip3 (opOf op) (stretch aBytes (a .start) (a .length)) (stretch bBytes (b .start) n) (stretch bBytes (b .start) n))))) p same
       ∙ is-new k number (over out (frozen (resultFlags (pairShortcut op a aBytes b bBytes) (a .length) (pairEach op a aBytes b bBytes)))) out e z
 
+-- ---- the largest serial
+
+max-none : (x : ℕ) → max x 0 ≡ x
+max-none x = omega arith
+
+pub one-serial : (a : Bitmap) → a .serial ≡ largestSerial (a ∷ [])
+unfolding largestSerial
+one-serial a = sym (max-none (a .serial))
+
+pub two-serials : (a b : Bitmap) (s : ℕ) → s ≡ max (a .serial) (b .serial) → s ≡ largestSerial (a ∷ b ∷ [])
+unfolding largestSerial
+two-serials a b s e = e ∙ ap (max (a .serial)) (sym (max-none (b .serial)))
+
+pub three-serials : (a b c : Bitmap) (s t : ℕ) → t ≡ max (b .serial) (c .serial) → s ≡ max (a .serial) t → s ≡ largestSerial (a ∷ b ∷ c ∷ [])
+unfolding largestSerial
+three-serials a b c s t e f = f ∙ ap (max (a .serial)) (two-serials b c t e)
+
 -- ---- the answer of a combination with no shortcut
 
 module _ (cs : List Check) (masks : List Bitmap) (n : ℕ) (flags : List Bool) (out : List ℕ) (k : ℕ) (e : k ≡ firstFailed cs) where
   pub each-refused : (k ≡ 0 → ⊥) → (refused k tt ≡ eachOf cs masks n) × (out ≡ eachBytes cs flags out)
   unfolding eachOf eachBytes
-  each-refused h = (is-refused k (firstFailed cs) tt (maskOf 0 n (uncounted n)) e h, is-kept k (firstFailed cs) (over out (frozen flags)) out e h)
+  each-refused h = (is-refused k (firstFailed cs) tt (resultMask masks n (uncounted n)) e h, is-kept k (firstFailed cs) (over out (frozen flags)) out e h)
 
-  pub each-given : (u : Unset) (m : Bitmap) (out′ : List ℕ) (written : List Bool) → k ≡ 0 → u ≡ uncounted n → m ≡ resultMask masks n u
-      → out′ ≡ over out (frozen written) → written ≡ flags → (given m ≡ eachOf cs masks n) × (out′ ≡ eachBytes cs flags out)
+  pub each-given : (u : Unset) (s : ℕ) (m : Bitmap) (out′ : List ℕ) (written : List Bool) → k ≡ 0 → u ≡ uncounted n
+      → s ≡ largestSerial masks → m ≡ maskUnder s 0 n u → out′ ≡ over out (frozen written) → written ≡ flags → (given m ≡ eachOf cs masks n) × (out′ ≡ eachBytes cs flags out)
   unfolding eachOf eachBytes
-  each-given u m out′ written z p made q r = (
-    ap given made ∙ ap (λ (v : Unset). given (resultMask masks n v)) p ∙ is-given k (firstFailed cs) tt (maskOf 0 n (uncounted n)) e z,
+  each-given u s m out′ written z p largest made q r = (
+    ap given made ∙ ap₂ (λ (t : ℕ) (v : Unset). given (maskUnder t 0 n v)) largest p ∙ is-given k (firstFailed cs) tt (resultMask masks n (uncounted n)) e z,
     q ∙ ap (λ (l : List Bool). over out (frozen l)) r ∙ is-new k (firstFailed cs) (over out (frozen flags)) out e z,
   )
 

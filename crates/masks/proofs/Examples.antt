@@ -10,7 +10,7 @@ use Rattle.masks.specs.Answer.{decided, kept}
 use Rattle.masks.specs.Appends.{allBelow, constantChecks, gatherChecks, gathered, repeated, spanGrowChecks}
 use Rattle.masks.specs.Builder.{appended, builderChecks, builderFlags, inProgress, possible}
 use Rattle.masks.specs.Checks.{earlier, firstFailed, rank, placeIn, outputChecks, spanChecks}
-use Rattle.masks.specs.Combine.{eachBytes, eachOf, pairBytes, pairChecks, pairFlags, pairOf, selectChecks, shortcut}
+use Rattle.masks.specs.Combine.{eachBytes, eachOf, largestSerial, pairBytes, pairChecks, pairFlags, pairOf, selectChecks, shortcut}
 use Rattle.masks.specs.Compare.{edges, edgesOf}
 use Rattle.masks.specs.Cursor.{cursorChecks}
 use Rattle.masks.specs.Examples.{examples, ExamplesHold}
@@ -31,7 +31,7 @@ unfolding
     maskChecks tryNewOf unsetBitsOf zeroCount zeros sliceOf sliceChecks pieceChecks cutZeros recounts keptCount
     packed frozen overFrom inProgress appended builderFlags possible builderChecks
     constantChecks spanGrowChecks gatherChecks allBelow gathered repeated frozenOver
-    pairOf pairBytes pairChecks pairFlags shortcut eachOf eachBytes selectChecks
+    pairOf pairBytes pairChecks pairFlags shortcut eachOf eachBytes largestSerial selectChecks
     edgesOf edges searchFrom searchBack nthFrom nthBack
     newSlices nextSlice cursorChecks sliceStep runStart leadingFrom listing
 all-hold = refl

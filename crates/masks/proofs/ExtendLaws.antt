@@ -13,7 +13,7 @@ use Rattle.words.specs.Loops.{wholeWords}
 use Rattle.words.proofs.Bits.{length-bits}
 use Rattle.words.proofs.Merging.{front-flags}
 use Rattle.words.proofs.Windows.{length-copies, window-add, window-all, window-cut}
-use Rattle.masks.specs.Builder.{Filling, filling, builderOf, inProgress, appended}
+use Rattle.masks.specs.Builder.{Filling, filling, rebuilt, inProgress, appended}
 use Rattle.masks.specs.Frozen.{packed, overFrom}
 use Rattle.masks.specs.declared.builder.BitmapBuilder.{BitmapBuilder}
 use Rattle.masks.proofs.AppendLaws.{Parts, appended-grown, append-then, length-progress}
@@ -41,13 +41,13 @@ whole-written bytes out at q l e small small′ put =
 
 -- whole words appended to a builder with no word in progress
 pub append-whole : (b : BitmapBuilder) (bytes out : List ℕ) (q c : ℕ) (l : List Bool) → b .length % 64 ≡ 0 → length l ≡ 64 * q → c ≡ count l → Small bytes → Small out
-    → flagsOf out ≡ overAt (flagsOf bytes) (8 * (8 * (b .length / 64))) (wholeWords l) → filling (builderOf (b .length + 64 * q) 0 (b .ones + c)) out ≡ appended (filling b bytes) l
+    → flagsOf out ≡ overAt (flagsOf bytes) (8 * (8 * (b .length / 64))) (wholeWords l) → filling (rebuilt b (b .length + 64 * q) 0 (b .ones + c)) out ≡ appended (filling b bytes) l
 append-whole b bytes out q c l h e ones small small′ put =
     let none : inProgress b ≡ [] = no-flags (inProgress b) (length-progress b ∙ h) in
     let p : Parts (filling b bytes) l q l [] = record { row = ap (λ (t : List Bool). t ++ l) none ∙ sym (append-nil l); whole = e; less = zero-lt-suc 63 } in
     sym (appended-grown (filling b bytes) l q l [] p
-    ∙ ap₂ (λ (x y : ℕ). filling (builderOf (b .length + x) y (b .ones + count l)) (overFrom bytes (8 * (b .length / 64)) (packed (8 * q) l))) e no-word
-    ∙ ap₂ (λ (x : ℕ) (y : List ℕ). filling (builderOf (b .length + 64 * q) 0 (b .ones + x)) y) (sym ones)
+    ∙ ap₂ (λ (x y : ℕ). filling (rebuilt b (b .length + x) y (b .ones + count l)) (overFrom bytes (8 * (b .length / 64)) (packed (8 * q) l))) e no-word
+    ∙ ap₂ (λ (x : ℕ) (y : List ℕ). filling (rebuilt b (b .length + 64 * q) 0 (b .ones + x)) y) (sym ones)
     (sym (whole-written bytes out (8 * (b .length / 64)) q l e small small′ put)))
 
 -- words of a flag, for all of which there is room
@@ -63,7 +63,7 @@ words-filled F out q m x h put =
 pub push-closed : (b : BitmapBuilder) (bytes out : List ℕ) (word low c : ℕ)
     → bits 64 low ≡ window (take (b .length % 64) (bits 64 (b .word)) ++ bits 64 word) 0 64 → c ≡ count (bits 64 low) → Small bytes → Small out
     → flagsOf out ≡ overAt (flagsOf bytes) (8 * (8 * (b .length / 64))) (bits 64 low)
-    → filling (builderOf (b .length + (64 - b .length % 64)) 0 (b .ones + c)) out ≡ appended (filling b bytes) (take (64 - b .length % 64) (bits 64 word))
+    → filling (rebuilt b (b .length + (64 - b .length % 64)) 0 (b .ones + c)) out ≡ appended (filling b bytes) (take (64 - b .length % 64) (bits 64 word))
 unfolding inProgress
 push-closed b bytes out word low c merged ones small small′ put =
     let l = take (64 - b .length % 64) (bits 64 word) in
@@ -76,8 +76,8 @@ push-closed b bytes out word low c merged ones small small′ put =
     let o : b .ones + count row ≡ b .ones + c = ap (λ (x : ℕ). b .ones + x) (sym (ones ∙ ap count front)) in
     let all : window row 0 (8 * 8) ≡ row = ap (window row 0) (sym whole) ∙ window-all row in
     sym (appended-grown (filling b bytes) l 1 row [] p
-    ∙ ap₂ (λ (x y : ℕ). filling (builderOf x (wordOf []) y) (overFrom bytes (8 * (b .length / 64)) (packed 8 row))) n o
-    ∙ ap₂ (λ (x : ℕ) (y : List ℕ). filling (builderOf (b .length + (64 - b .length % 64)) x (b .ones + c)) y) no-word
+    ∙ ap₂ (λ (x y : ℕ). filling (rebuilt b x (wordOf []) y) (overFrom bytes (8 * (b .length / 64)) (packed 8 row))) n o
+    ∙ ap₂ (λ (x : ℕ) (y : List ℕ). filling (rebuilt b (b .length + (64 - b .length % 64)) x (b .ones + c)) y) no-word
     (sym (written-bytes bytes out (8 * (b .length / 64)) 8 row small small′ (put ∙ ap (overAt (flagsOf bytes) (8 * (8 * (b .length / 64)))) (front ∙ sym all)))))
 
 -- ---- three parts

@@ -43,9 +43,12 @@ pub mod RunsWhole
 pub mod SearchCursor
 pub mod SearchLaws
 pub mod SearchPlain
+pub mod SerialPlain
 pub mod SliceTruth
 pub mod SpanLaws
 pub mod SplitLaws
+pub mod SupersedingLaws
+pub mod SupersedingPlain
 pub mod TrueIdxLaws
 pub mod TrueIdxPlain
 pub mod TrueLaws

@@ -10,10 +10,11 @@ use Rattle.masks.specs.Checks.{Check, rank, placeIn, earlier, failure, f
 use Rattle.masks.proofs.CheckLaws.{earlier-none, first-least, earlier-assoc, and-left, and-right}
 
 -- a number that is not in the order comes behind all that are
-pub rank-other : (n : ℕ) → (n ≡ 1 → ⊥) → (n ≡ 2 → ⊥) → (n ≡ 3 → ⊥) → (n ≡ 4 → ⊥) → (n ≡ 5 → ⊥) → (n ≡ 6 → ⊥) → (n ≡ 7 → ⊥) → (n ≡ 8 → ⊥) → (n ≡ 9 → ⊥)
-    → rank n ≡ 9
+pub rank-other : (n : ℕ) → (n ≡ 1 → ⊥) → (n ≡ 2 → ⊥) → (n ≡ 3 → ⊥) → (n ≡ 14 → ⊥) → (n ≡ 4 → ⊥) → (n ≡ 5 → ⊥) → (n ≡ 6 → ⊥) → (n ≡ 7 → ⊥) → (n ≡ 8 → ⊥)
+    → (n ≡ 9 → ⊥) → rank n ≡ 10
 unfolding rank placeIn
-rank-other n a b c d e f g h i = rw (ne-eqb n 1 a, ne-eqb n 2 b, ne-eqb n 3 c, ne-eqb n 4 d, ne-eqb n 5 e, ne-eqb n 6 f, ne-eqb n 7 g, ne-eqb n 8 h, ne-eqb n 9 i)
+rank-other n a b c m d e f g h i =
+    rw (ne-eqb n 1 a, ne-eqb n 2 b, ne-eqb n 3 c, ne-eqb n 14 m, ne-eqb n 4 d, ne-eqb n 5 e, ne-eqb n 6 f, ne-eqb n 7 g, ne-eqb n 8 h, ne-eqb n 9 i)
 
 -- ---- a number before others
 

@@ -1,6 +1,7 @@
 -- The rows of `specs/OrderRows.antt`, all at once and by computation. Assumes nothing.
 use mathlib.Core.Path.{refl}
-use Rattle.words.specs.Counts.{anySet}
+use mathlib.Core.Bool.{xor}
+use Rattle.words.specs.Counts.{anySet, sameFlags}
 use Rattle.words.specs.Flags.{bits, count, flagsOf, window}
 use Rattle.masks.specs.Aligned.{alignedChecks, alignedOf}
 use Rattle.masks.specs.Answer.{decided, unlessEmpty}
@@ -13,6 +14,7 @@ use Rattle.masks.specs.Combine.{pairChecks, pairOf, eachOf, notChecks, s
 use Rattle.masks.specs.Compare.{edgesOf, commonChecks, commonOf}
 use Rattle.masks.specs.Mask.{cutZeros, recounts, maskChecks, zeroedChecks, pieceChecks, sliceChecks, newZeroedOf, unsetBitsOf, sliceOf}
 use Rattle.masks.specs.OrderRows.{orderRows, OrderHolds}
+use Rattle.masks.specs.Superseding.{supersedingChecks, supersedingOf}
 use Rattle.masks.specs.TrueIdx.{newTrueChecks, trueChecks, newTrue, nextTrue}
 use Rattle.masks.specs.Utils.{spanCount, zeros}
 
@@ -24,5 +26,6 @@ unfolding
     maskChecks zeroedChecks pieceChecks sliceChecks pairChecks notChecks selectChecks commonChecks newTrueChecks trueChecks
     alignedOf spanCount splitAt windowAt
     newZeroedOf sliceOf unsetBitsOf pairOf eachOf edgesOf commonOf andNotAtOf andNotAtChecks indexChecks lengthChecks
+    supersedingOf supersedingChecks sameFlags xor
     newTrue nextTrue
 all-hold = refl

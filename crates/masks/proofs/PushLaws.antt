@@ -13,7 +13,7 @@ use Rattle.words.proofs.Loads.{from-end}
 use Rattle.words.proofs.Merging.{or-behind}
 use Rattle.words.proofs.Plain.{window-part}
 use Rattle.words.proofs.Windows.{lt-or-le, window-all, window-drop, window-ext, at-in, word-value}
-use Rattle.masks.specs.Builder.{Filling, filling, builderOf, inProgress, appended, noneFrom}
+use Rattle.masks.specs.Builder.{Filling, filling, rebuilt, inProgress, appended, noneFrom}
 use Rattle.masks.specs.Frozen.{packed, overFrom}
 use Rattle.masks.specs.Workers.{Inside}
 use Rattle.masks.specs.declared.builder.BitmapBuilder.{BitmapBuilder}
@@ -59,21 +59,21 @@ module _ (b : BitmapBuilder) (bytes : List ℕ) (word v low k : ℕ) (few : k �
   row-long = length-append (inProgress b) (take k (bits 64 word)) ∙ ap₂ (λ (x y : ℕ). x + y) (length-progress b) (length-low k word few)
 
   -- the word in progress has room for all
-  pub push-short : low < 2 ^ 64 → b .length % 64 + k < 64 → filling (builderOf (b .length + k) low (b .ones)) bytes ≡ appended (filling b bytes) (take k (bits 64 word))
+  pub push-short : low < 2 ^ 64 → b .length % 64 + k < 64 → filling (rebuilt b (b .length + k) low (b .ones)) bytes ≡ appended (filling b bytes) (take k (bits 64 word))
   push-short fits less =
       let p : Parts (filling b bytes) (take k (bits 64 word)) 0 [] (inProgress b ++ take k (bits 64 word)) = record { row = refl; whole = refl; less = omega (arith, row-long) } in
       let n : b .length + length (take k (bits 64 word)) ≡ b .length + k = omega (arith, length-low k word few) in
       let o : b .ones + count [] ≡ b .ones = omega (arith, no-count) in
       sym (appended-grown (filling b bytes) (take k (bits 64 word)) 0 [] (inProgress b ++ take k (bits 64 word)) p
-      ∙ ap₂ (λ (x y : ℕ). filling (builderOf x (wordOf (inProgress b ++ take k (bits 64 word))) y) (overFrom bytes (8 * (b .length / 64)) (packed 0 []))) n o
-      ∙ ap₂ (λ (x : ℕ) (y : List ℕ). filling (builderOf (b .length + k) x (b .ones)) y)
+      ∙ ap₂ (λ (x y : ℕ). filling (rebuilt b x (wordOf (inProgress b ++ take k (bits 64 word))) y) (overFrom bytes (8 * (b .length / 64)) (packed 0 []))) n o
+      ∙ ap₂ (λ (x : ℕ) (y : List ℕ). filling (rebuilt b (b .length + k) x (b .ones)) y)
       (sym (word-value 64 (inProgress b ++ take k (bits 64 word)) low fits (omega (arith, row-long)) row-flags))
       (ap (overFrom bytes (8 * (b .length / 64))) (no-bytes []) ∙ overFrom-none bytes (8 * (b .length / 64))))
 
   -- the word is full, and the rest is the next one
   pub push-full : (rest c : ℕ) (out : List ℕ) → 64 ≤ b .length % 64 + k → rest < 2 ^ 64 → bits 64 rest ≡ window (bits 64 v) (64 - b .length % 64) 64 → c ≡ count (bits 64 low)
       → Small bytes → Small out → flagsOf out ≡ overAt (flagsOf bytes) (8 * (8 * (b .length / 64))) (bits 64 low)
-      → filling (builderOf (b .length + k) rest (b .ones + c)) out ≡ appended (filling b bytes) (take k (bits 64 word))
+      → filling (rebuilt b (b .length + k) rest (b .ones + c)) out ≡ appended (filling b bytes) (take k (bits 64 word))
   push-full rest c out full fits down ones small small′ put =
       let row = inProgress b ++ take k (bits 64 word) in
       let long : length row ≡ b .length % 64 + k = row-long in
@@ -90,8 +90,8 @@ module _ (b : BitmapBuilder) (bytes : List ℕ) (word v low k : ℕ) (few : k �
       ∙ sym (window-drop row 64 0 64 ∙ ap (λ (x : ℕ). window row x 64) (z ∙ at) ∙ window-behind (inProgress b) (take k (bits 64 word)) (64 - b .length % 64) 64) in
       let all : window (take 64 row) 0 (8 * 8) ≡ take 64 row = ap (window (take 64 row) 0) (sym whole) ∙ window-all (take 64 row) in
       sym (appended-grown (filling b bytes) (take k (bits 64 word)) 1 (take 64 row) (drop 64 row) p
-      ∙ ap₂ (λ (x y : ℕ). filling (builderOf x (wordOf (drop 64 row)) y) (overFrom bytes (8 * (b .length / 64)) (packed 8 (take 64 row)))) n o
-      ∙ ap₂ (λ (x : ℕ) (y : List ℕ). filling (builderOf (b .length + k) x (b .ones + c)) y)
+      ∙ ap₂ (λ (x y : ℕ). filling (rebuilt b x (wordOf (drop 64 row)) y) (overFrom bytes (8 * (b .length / 64)) (packed 8 (take 64 row)))) n o
+      ∙ ap₂ (λ (x : ℕ) (y : List ℕ). filling (rebuilt b (b .length + k) x (b .ones + c)) y)
       (sym (word-value 64 (drop 64 row) rest fits (omega arith) high))
       (sym (written-bytes bytes out (8 * (b .length / 64)) 8 (take 64 row) small small′ (put ∙ ap (overAt (flagsOf bytes) (8 * (8 * (b .length / 64)))) (front ∙ sym all)))))
 
@@ -104,7 +104,7 @@ or-merged b flags u low e moved joined = or-behind 64 (b .length % 64) (b .word)
 
 pub push-within : (b : BitmapBuilder) (bytes : List ℕ) (flags u low k : ℕ) → Inside b flags k
     → bits 64 u ≡ window (copies (b .length % 64) false ++ bits 64 flags) 0 64 → bits 64 low ≡ zipWith _||_ (bits 64 (b .word)) (bits 64 u) → low < 2 ^ 64
-    → filling (builderOf (b .length + k) low (b .ones)) bytes ≡ appended (filling b bytes) (take k (bits 64 flags))
+    → filling (rebuilt b (b .length + k) low (b .ones)) bytes ≡ appended (filling b bytes) (take k (bits 64 flags))
 push-within b bytes flags u low k i moved joined fits =
     let room : b .length % 64 + k < 64 = i .room in
     push-short b bytes flags flags low k (omega arith) (low-window k flags (i .few)) (or-merged b flags u low (i .low) moved joined) fits room

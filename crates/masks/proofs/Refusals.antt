@@ -19,7 +19,7 @@ use Rattle.masks.specs.AtIndex.{andNotAtChecks, andNotAtOf, indexChecks,
 use Rattle.masks.specs.NextAndNot.{nextAndNotOf, nextChecks, otherChecks}
 use Rattle.masks.specs.Bitmask.{splitChecks, splitAt, windowAt}
 use Rattle.masks.specs.Builder.{builderChecks}
-use Rattle.masks.specs.Checks.{Check, rank, earlier, failure, firstFailed, spanChecks, addressChecks, outputChecks}
+use Rattle.masks.specs.Checks.{Check, rank, earlier, failure, firstFailed, order, spanChecks, addressChecks, outputChecks}
 use Rattle.masks.specs.Chunks.{chunkChecks, newChunks, nextChunk, chunksRemainder}
 use Rattle.masks.specs.Combine.{pairChecks, pairOf, pairBytes, eachOf, eachBytes, notChecks, selectChecks}
 use Rattle.masks.specs.Compare.{eqOf, edgesOf, commonChecks, commonOf}
@@ -30,15 +30,17 @@ use Rattle.masks.specs.Mask.{maskChecks, zeroedChecks, pieceChecks, slic
 use Rattle.masks.specs.Refusals.{numbers, among, allAmong, Refuses, RefusesUnwritten, Refusals, mayGive, appendFamily}
 use Rattle.masks.specs.Refusals.{Family, addressed, spans, cursors, unmasked-cursors, splits, builders, pushed-words, span-appends, gathers}
 use Rattle.masks.specs.Refusals.{piece-appends, zeroed-masks, masks, slices, combinations, inversions, intersections}
-use Rattle.masks.specs.Refusals.{indexed-pairs, indexed-masks, stated-masks, stated-lengths}
+use Rattle.masks.specs.Refusals.{indexed-pairs, indexed-masks, stated-masks, stated-lengths, supersessions}
 use Rattle.masks.specs.Positions.{nextPositions, positionsOver}
 use Rattle.masks.specs.Search.{searchFrom, searchBack}
 use Rattle.masks.specs.SliceIterator.{runChecks, newSlices, nextSlice}
+use Rattle.masks.specs.Superseding.{recordOf, supersedingChecks, supersedingOf}
 use Rattle.masks.specs.TrueIdx.{trueAt, newTrueChecks, trueChecks, newTrue, nextTrue}
 use Rattle.masks.specs.Utils.{spanCount}
 use Rattle.masks.specs.declared.bitmap.Bitmap.{Bitmap}
 use Rattle.masks.specs.declared.bitmap.Optional.the-variants.{Present, Absent}
 use Rattle.masks.specs.declared.builder.BitmapBuilder.{BitmapBuilder}
+use Rattle.masks.specs.declared.superseding.Part.{Part}
 
 -- ---- the number of a list of checks is 0 or one of theirs
 
@@ -130,30 +132,44 @@ refuses-nonempty zero ns s a answer r =
     }
 refuses-nonempty (suc n) ns s a answer r = r
 
+-- the record alone refuses as the part does
+refuses-record : (ns : List ℕ) (r : Answer (Unit {0}) Part) → Refuses ns tt r → Refuses ns tt (recordOf r)
+refuses-record ns (given p) e =
+    record {
+      number = λ k t h. absurd (let z : _≡_ {A = ℕ} 0 1 = cc h in omega arith);
+      state = λ k t h. absurd (let z : _≡_ {A = ℕ} 0 1 = cc h in omega arith);
+    }
+refuses-record ns (refused n s) e =
+    record {
+      number = λ k t h. subst (λ (x : ℕ). among x ns ≡ true) (let same : n ≡ k = cc h in same) (e .number n s refl);
+      state = λ k t h. refl;
+    }
+
 -- ---- the statement
 
-in-nine : (f : Family) → allAmong (mayGive f) (1 ∷ 2 ∷ 3 ∷ 4 ∷ 5 ∷ 6 ∷ 7 ∷ 8 ∷ 9 ∷ []) ≡ true
+all-in-order : (f : Family) → allAmong (mayGive f) order ≡ true
 unfolding allAmong among
-in-nine addressed = refl
-in-nine spans = refl
-in-nine cursors = refl
-in-nine unmasked-cursors = refl
-in-nine splits = refl
-in-nine builders = refl
-in-nine pushed-words = refl
-in-nine span-appends = refl
-in-nine gathers = refl
-in-nine piece-appends = refl
-in-nine zeroed-masks = refl
-in-nine masks = refl
-in-nine slices = refl
-in-nine combinations = refl
-in-nine inversions = refl
-in-nine intersections = refl
-in-nine indexed-pairs = refl
-in-nine indexed-masks = refl
-in-nine stated-masks = refl
-in-nine stated-lengths = refl
+all-in-order addressed = refl
+all-in-order spans = refl
+all-in-order cursors = refl
+all-in-order unmasked-cursors = refl
+all-in-order splits = refl
+all-in-order builders = refl
+all-in-order pushed-words = refl
+all-in-order span-appends = refl
+all-in-order gathers = refl
+all-in-order piece-appends = refl
+all-in-order zeroed-masks = refl
+all-in-order masks = refl
+all-in-order slices = refl
+all-in-order combinations = refl
+all-in-order inversions = refl
+all-in-order intersections = refl
+all-in-order indexed-pairs = refl
+all-in-order indexed-masks = refl
+all-in-order stated-masks = refl
+all-in-order stated-lengths = refl
+all-in-order supersessions = refl
 
 append-listed : (a : Append) (b : BitmapBuilder) (buf : List ℕ) → allAmong (numbers (appendChecks a b buf)) (mayGive (appendFamily a)) ≡ true
 unfolding numbers allAmong among spanChecks outputChecks maskChecks builderChecks wordChecks constantChecks spanGrowChecks innerChecks subsliceChecks gatherChecks
@@ -187,11 +203,11 @@ unfolding
     maskChecks zeroedChecks pieceChecks sliceChecks pairChecks notChecks selectChecks commonChecks newTrueChecks trueChecks
     alignedOf spanCount newChunks nextChunk chunksRemainder splitAt windowAt searchFrom searchBack
     newZeroedOf newZeroedBytes tryNewOf sliceOf unsetBitsOf pairOf pairBytes eachOf eachBytes eqOf edgesOf commonOf
-    andNotAtOf andNotAtChecks indexChecks lengthChecks nextAndNotOf nextChecks otherChecks
+    andNotAtOf andNotAtChecks indexChecks lengthChecks nextAndNotOf nextChecks otherChecks supersedingOf supersedingChecks
     newSlices nextSlice newIter nthFlag takeLeading newTrue nextTrue nextPositions positionsOver
 refusals =
     record {
-      one-to-nine = in-nine;
+      in-order = all-in-order;
       split-aligned = λ bytes start n address. refuses-nonempty n _ _ _ _ (refuses-by (alignedChecks start n (length bytes) address) _ _ _ refl);
       count-of = λ bytes start n address value. refuses-nonempty n _ _ _ _ (refuses-by (alignedChecks start n (length bytes) address) _ _ _ refl);
       chunks-new = λ bytes start n. refuses-by (spanChecks start n (length bytes)) _ _ _ refl;
@@ -222,6 +238,8 @@ refusals =
       and-not-at-none = λ aBytes bBytes i. refuses-by (andNotAtChecks Absent aBytes Absent bBytes i) _ _ _ refl;
       next-and-not = λ a aBytes b bBytes from. refuses-by (nextChecks a aBytes (Present b) bBytes from) _ _ _ refl;
       next-and-not-alone = λ a aBytes bBytes from. refuses-by (nextChecks a aBytes Absent bBytes from) _ _ _ refl;
+      superseding-part = λ a aBytes b bBytes. refuses-by (supersedingChecks a aBytes b bBytes) _ _ _ refl;
+      superseding = λ a aBytes b bBytes. refuses-record _ (supersedingOf a aBytes b bBytes) (refuses-by (supersedingChecks a aBytes b bBytes) _ _ _ refl);
       slices-new = λ m bytes. refuses-by (maskChecks m bytes) _ _ _ refl;
       slices-next = λ c bytes. refuses-by (runChecks c bytes) _ _ _ refl;
       iter-new = λ bytes start n. refuses-nonempty n _ _ _ _ (refuses-by (spanChecks start n (length bytes)) _ _ _ refl);

@@ -229,7 +229,7 @@ unfolding builderFlags
 grown-flags f l q front rest p h =
     let less : length rest < 64 = p .less in
     let e : length rest ≡ (f .builder .length + length l) % 64 = omega (arith, parts-long f l q front rest p) in
-    ap₂ (λ (x y : List Bool). x ++ y) (grown-finished f l q front rest p h) (progress-of (f .builder .length + length l) rest (f .builder .ones + count front) e)
+    ap₂ (λ (x y : List Bool). x ++ y) (grown-finished f l q front rest p h) (progress-of (f .builder) (f .builder .length + length l) rest (f .builder .ones + count front) e)
     ∙ append-assoc (finished f) front rest ∙ ap (λ (t : List Bool). finished f ++ t) (sym (p .row)) ∙ sym (append-assoc (finished f) (inProgress (f .builder)) l)
 
 -- the builder's flags, then the new ones

@@ -8,7 +8,7 @@ use Rattle.masks.specs.Answer.{decided, kept}
 use Rattle.masks.specs.Appends.{allBelow, constantChecks, gatherChecks, gathered, spanGrowChecks, wordChecks}
 use Rattle.masks.specs.Builder.{appended, builderChecks, builderFlags, inProgress, possible}
 use Rattle.masks.specs.Checks.{earlier, firstFailed, rank, placeIn, outputChecks, spanChecks}
-use Rattle.masks.specs.Combine.{eachBytes, eachOf, notChecks, pairBytes, pairChecks, pairFlags, pairMask, pairOf, shortcut}
+use Rattle.masks.specs.Combine.{eachBytes, eachOf, largestSerial, notChecks, pairBytes, pairChecks, pairFlags, pairMask, pairOf, shortcut}
 use Rattle.masks.specs.Freeze.{frozenOver}
 use Rattle.masks.specs.Frozen.{frozen, overFrom, packed}
 use Rattle.masks.specs.Mask.{cutZeros, keptCount, maskChecks, pieceChecks, recounts, sliceChecks, sliceOf, tryNewOf, unsetBitsOf, zeroCount}
@@ -23,5 +23,5 @@ unfolding
     maskChecks tryNewOf unsetBitsOf zeroCount zeros sliceOf sliceChecks pieceChecks cutZeros recounts keptCount
     packed frozen overFrom inProgress appended builderFlags possible builderChecks
     constantChecks wordChecks spanGrowChecks gatherChecks allBelow gathered frozenOver
-    pairOf pairBytes pairChecks pairFlags pairMask shortcut eachOf eachBytes notChecks
+    pairOf pairBytes pairChecks pairFlags pairMask shortcut eachOf eachBytes largestSerial notChecks
 all-hold = refl

@@ -15,7 +15,7 @@ use Rattle.words.proofs.Windows.{in-window, length-copies, length-window}
 use Rattle.masks.specs.Answer.{Answer, given, refused, decided, checked}
 use Rattle.masks.specs.Checks.{Check, check, earlier, firstFailed, limit, withinLimit}
 use Rattle.masks.specs.Combine.{resultCount, resultFlags}
-use Rattle.masks.specs.Mask.{cutZeros, keptCount, maskChecks, maskFlags, maskOf, pieceChecks}
+use Rattle.masks.specs.Mask.{cutZeros, keptCount, maskChecks, maskFlags, maskUnder, pieceChecks}
 use Rattle.masks.specs.Mask.{recounts, recountValid, sliceChecks, slicedCount, slicedMask, sliceOf, uncounted}
 use Rattle.masks.specs.TrueCounts.{TrueCount, Truthful}
 use Rattle.masks.specs.Utils.{zeros}
@@ -202,7 +202,7 @@ slice-whole m bytes e =
     let s : m .start + 0 ≡ m .start = omega arith in
     sym (slice-right m bytes 0 (m .length) 0 (whole-allowed m bytes e) (m .unset) refl
     (sym (ap (λ (x : ℕ). cutOf (m .length) (m .length) x (m .unset)) none ∙ ap₂ (λ (b : Bool) (u : Unset). cond b (Cut.Count u) Cut.Wrong) (known .1) (known .0))))
-    ∙ ap (λ (x : ℕ). given (maskOf x (m .length) (m .unset))) s
+    ∙ ap (λ (x : ℕ). given (maskUnder (m .serial) x (m .length) (m .unset))) s
 
 -- ---- a combination's count
 

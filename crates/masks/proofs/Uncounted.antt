@@ -2,9 +2,9 @@
 -- number of zeros that it brings; a call sees nothing else of a count. Assumes nothing.
 use Prim.Native.Nat.{ℕ, zero, suc, _+_}
 use mathlib.Core.Path.{_≡_, refl, sym, ap, ap₂, _∙_}
-use mathlib.Core.Bool.{Bool, true, _&&_}
+use mathlib.Core.Bool.{Bool, true, false, cond, _&&_}
 use mathlib.Core.List.{List, [], _∷_, _++_, zipWith}
-use lib.Dec.{eqb, leb}
+use lib.Dec.{eqb, leb, ltb}
 use lib.ListN.{length}
 use Rattle.words.specs.Counts.{sameFlags}
 use Rattle.words.specs.Flags.{count, over, window}
@@ -16,19 +16,21 @@ use Rattle.masks.specs.Builder.{appended, filling}
 use Rattle.masks.specs.Checks.{Check, check, firstFailed, outputChecks, spanChecks, withinLimit}
 use Rattle.masks.specs.Combine.{eachBytes, eachOf, notBytes, notChecks, notFlags, notOf, pairBytes, pairChecks}
 use Rattle.masks.specs.Combine.{pairEach, pairFlags, pairMask, pairOf}
-use Rattle.masks.specs.Combine.{resultCount, resultFlags, resultMask, selectBytes, selectChecks, selectConstantBytes}
+use Rattle.masks.specs.Combine.{largestSerial, resultCount, resultFlags, resultMask, selectBytes, selectChecks, selectConstantBytes}
 use Rattle.masks.specs.Combine.{selectConstantFlags, selectConstantOf, selectFlags, selectOf, shortcut}
 use Rattle.masks.specs.Compare.{commonChecks, commonOf, edges, edgesOf, eqOf}
-use Rattle.masks.specs.CountsUnseen.{CountsUnseen, UnseenBoth, butCount, forgot}
+use Rattle.masks.specs.CountsUnseen.{CountsUnseen, UnseenBoth, butCount, forgot, forgotPart, partButCount}
 use Rattle.masks.specs.Frozen.{frozen}
 use Rattle.masks.specs.Mask.{Recounted, maskChecks, maskFlags, pieceChecks, slicedMask, sliceOf, unsetBitsOf, withCount, zeroCount}
 use Rattle.masks.specs.SliceIterator.{newSlices, slicesAt}
+use Rattle.masks.specs.Superseding.{agree, partOf, supersedingChecks, supersedingOf, winning}
 use Rattle.masks.specs.TrueIdx.{firstTrue, newTrue, newTrueChecks, trueAt}
 use Rattle.masks.specs.declared.bitmap.Bitmap.{Bitmap}
 use Rattle.masks.specs.declared.bitmap.Optional.{Optional}
 use Rattle.masks.specs.declared.bitmap.Optional.the-variants.{Present, Absent}
 use Rattle.masks.specs.declared.bitmap.Unset.the-variants.{Known}
 use Rattle.masks.specs.declared.builder.BitmapBuilder.{BitmapBuilder}
+use Rattle.masks.specs.declared.superseding.Part.{Part}
 use Rattle.masks.proofs.CheckLaws.{is-given}
 use Rattle.masks.proofs.MaskLaws.{mask-truthful, true-valid}
 use Rattle.masks.proofs.SliceTruth.{slice-accepted}
@@ -39,6 +41,20 @@ but-count : (k : ℕ) (m s t : Bitmap) → forgot s ≡ forgot t → butCount (d
 unfolding decided
 but-count zero m s t e = ap given e
 but-count (suc k) m s t e = refl
+
+-- a part given or refused, but for its count
+part-but-count : (k : ℕ) (p q : Part) → forgotPart p ≡ forgotPart q → partButCount (decided k tt p) ≡ partButCount (decided k tt q)
+unfolding decided
+part-but-count zero p q e = ap given e
+part-but-count (suc k) p q e = refl
+
+won-left : (m b : Bitmap) (t : Bool) → forgotPart (cond t (partOf true b) (partOf false m)) ≡ forgotPart (cond t (partOf true b) (partOf false (forgot m)))
+won-left m b true = refl
+won-left m b false = refl
+
+won-right : (b m : Bitmap) (t : Bool) → forgotPart (cond t (partOf true m) (partOf false b)) ≡ forgotPart (cond t (partOf true (forgot m)) (partOf false b))
+won-right b m true = refl
+won-right b m false = refl
 
 module _ (m : Bitmap) (bytes : List ℕ) (e : firstFailed (maskChecks m bytes) ≡ 0) where
   pub same-checks : maskChecks m bytes ≡ maskChecks (forgot m) bytes
@@ -102,6 +118,22 @@ module _ (m : Bitmap) (bytes : List ℕ) (e : firstFailed (maskChecks m bytes) �
     unfolding eqOf
     eq-right = ap (λ (cs : List Check). checked (maskChecks b bB ++ cs) tt (sameFlags (maskFlags b bB) (maskFlags m bytes))) same-checks
 
+    superseding-left : partButCount (supersedingOf m bytes b bB) ≡ partButCount (supersedingOf (forgot m) bytes b bB)
+    unfolding supersedingOf supersedingChecks
+    superseding-left =
+        let last : List Check = check 14 (agree m bytes b bB) ∷ [] in
+        ap (λ (cs : List Check). partButCount (checked ((cs ++ maskChecks b bB) ++ last) tt (winning m b))) same-checks
+        ∙ part-but-count (firstFailed ((maskChecks (forgot m) bytes ++ maskChecks b bB) ++ last)) (winning m b) (winning (forgot m) b)
+        (won-left m b (ltb (m .serial) (b .serial)))
+
+    superseding-right : partButCount (supersedingOf b bB m bytes) ≡ partButCount (supersedingOf b bB (forgot m) bytes)
+    unfolding supersedingOf supersedingChecks
+    superseding-right =
+        let last : List Check = check 14 (agree b bB m bytes) ∷ [] in
+        ap (λ (cs : List Check). partButCount (checked ((maskChecks b bB ++ cs) ++ last) tt (winning b m))) same-checks
+        ∙ part-but-count (firstFailed ((maskChecks b bB ++ maskChecks (forgot m) bytes) ++ last)) (winning b m) (winning b (forgot m))
+        (won-right b m (ltb (b .serial) (m .serial)))
+
     common-left : commonOf m bytes b bB ≡ commonOf (forgot m) bytes b bB
     unfolding commonOf commonChecks
     common-left =
@@ -128,14 +160,14 @@ module _ (m : Bitmap) (bytes : List ℕ) (e : firstFailed (maskChecks m bytes) �
 
     module _ (op : Op) (out : List ℕ) where
       mask-left : pairOf op m bytes b bB out ≡ pairOf op (forgot m) bytes b bB out
-      unfolding pairOf pairMask
+      unfolding pairOf pairMask largestSerial
       mask-left =
           ap₂ (λ (cs : List Check) (z : ℕ). checked cs tt
           (resultMask (m ∷ b ∷ []) (m .length) (resultCount (shortcut op (m .length) z (zeroCount b bB)) (m .length))))
           (pair-left (length out)) same-count
 
       mask-right : pairOf op b bB m bytes out ≡ pairOf op b bB (forgot m) bytes out
-      unfolding pairOf pairMask
+      unfolding pairOf pairMask largestSerial
       mask-right =
           ap₂ (λ (cs : List Check) (z : ℕ). checked cs tt
           (resultMask (b ∷ m ∷ []) (b .length) (resultCount (shortcut op (b .length) (zeroCount b bB) z) (b .length))))
@@ -162,7 +194,7 @@ module _ (m : Bitmap) (bytes : List ℕ) (e : firstFailed (maskChecks m bytes) �
   not-alike size = ap (λ (cs : List Check). cs ++ outputChecks (m .length) size) same-checks
 
   inverted : (out : List ℕ) → UnseenBoth m (λ (x : Bitmap). notOf x bytes out) (λ (x : Bitmap). notBytes x bytes out)
-  unfolding eachOf
+  unfolding eachOf largestSerial
   inverted out =
       record {
         answers = ap (λ (cs : List Check). eachOf cs (m ∷ []) (m .length)) (not-alike (length out));
@@ -225,7 +257,7 @@ module _ (m : Bitmap) (bytes : List ℕ) (e : firstFailed (maskChecks m bytes) �
 module _ (m : Bitmap) (bytes : List ℕ) (e : firstFailed (maskChecks m bytes) ≡ 0) where
   module _ (b : Bitmap) (bB : List ℕ) (c : Bitmap) (cB out : List ℕ) where
     selected-first : UnseenBoth m (λ (x : Bitmap). selectOf x bytes b bB c cB out) (λ (x : Bitmap). selectBytes x bytes b bB c cB out)
-    unfolding eachOf
+    unfolding eachOf largestSerial
     selected-first =
         let same = select-left m bytes e b bB c cB (length out) in
         record {
@@ -234,7 +266,7 @@ module _ (m : Bitmap) (bytes : List ℕ) (e : firstFailed (maskChecks m bytes) �
         }
 
     selected-second : UnseenBoth m (λ (x : Bitmap). selectOf b bB x bytes c cB out) (λ (x : Bitmap). selectBytes b bB x bytes c cB out)
-    unfolding eachOf
+    unfolding eachOf largestSerial
     selected-second =
         let same = select-middle m bytes e b bB c cB (length out) in
         record {
@@ -243,7 +275,7 @@ module _ (m : Bitmap) (bytes : List ℕ) (e : firstFailed (maskChecks m bytes) �
         }
 
     selected-third : UnseenBoth m (λ (x : Bitmap). selectOf b bB c cB x bytes out) (λ (x : Bitmap). selectBytes b bB c cB x bytes out)
-    unfolding eachOf
+    unfolding eachOf largestSerial
     selected-third =
         let same = select-right m bytes e b bB c cB (length out) in
         record {
@@ -254,7 +286,7 @@ module _ (m : Bitmap) (bytes : List ℕ) (e : firstFailed (maskChecks m bytes) �
   module _ (b : Bitmap) (bB : List ℕ) (flag : Bool) (out : List ℕ) where
     constant-left : UnseenBoth m (λ (x : Bitmap). selectConstantOf x bytes b bB flag out)
         (λ (x : Bitmap). selectConstantBytes x bytes b bB flag out)
-    unfolding eachOf
+    unfolding eachOf largestSerial
     constant-left =
         let same = pair-left m bytes e b bB (length out) in
         record {
@@ -264,7 +296,7 @@ module _ (m : Bitmap) (bytes : List ℕ) (e : firstFailed (maskChecks m bytes) �
 
     constant-right : UnseenBoth m (λ (x : Bitmap). selectConstantOf b bB x bytes flag out)
         (λ (x : Bitmap). selectConstantBytes b bB x bytes flag out)
-    unfolding eachOf
+    unfolding eachOf largestSerial
     constant-right =
         let same = pair-right m bytes e b bB (length out) in
         record {
@@ -298,6 +330,8 @@ counts-unseen m bytes e =
       edges = edged m bytes e;
       common-first = common-left m bytes e;
       common-second = common-right m bytes e;
+      superseding-first = superseding-left m bytes e;
+      superseding-second = superseding-right m bytes e;
       slices-new = runs-new m bytes e;
       true-new = ones-new m bytes e;
     }

@@ -1,6 +1,7 @@
 -- Each number by which a call may refuse has an input, by computation. Assumes nothing.
 use mathlib.Core.Path.{refl}
-use Rattle.words.specs.Counts.{anySet}
+use mathlib.Core.Bool.{xor}
+use Rattle.words.specs.Counts.{anySet, sameFlags}
 use Rattle.words.specs.Flags.{bits, count, flagsOf, window}
 use Rattle.masks.specs.Aligned.{alignedChecks, alignedOf}
 use Rattle.masks.specs.Answer.{decided, unlessEmpty}
@@ -19,9 +20,10 @@ use Rattle.masks.specs.Mask.{cutZeros, recounts, maskChecks, zeroedCheck
 use Rattle.masks.specs.Positions.{nextPositions}
 use Rattle.masks.specs.Refusals.{addressed, spans, cursors, unmasked-cursors, splits, builders, pushed-words, span-appends, gathers, piece-appends}
 use Rattle.masks.specs.Refusals.{zeroed-masks, masks, slices, combinations, inversions, intersections}
-use Rattle.masks.specs.Refusals.{indexed-pairs, indexed-masks, stated-masks, stated-lengths}
+use Rattle.masks.specs.Refusals.{indexed-pairs, indexed-masks, stated-masks, stated-lengths, supersessions}
 use Rattle.masks.specs.Search.{searchFrom, searchBack}
 use Rattle.masks.specs.SliceIterator.{newSlices, nextSlice}
+use Rattle.masks.specs.Superseding.{supersedingChecks, supersedingOf}
 use Rattle.masks.specs.TrueIdx.{newTrueChecks, trueChecks, newTrue, nextTrue}
 use Rattle.masks.specs.Utils.{spanCount, zeros}
 use Rattle.masks.specs.Witnesses.{witnesses, Witnessed}
@@ -33,7 +35,8 @@ unfolding
     spanGrowChecks innerChecks subsliceChecks gatherChecks
     maskChecks zeroedChecks pieceChecks sliceChecks pairChecks notChecks selectChecks commonChecks newTrueChecks trueChecks
     alignedOf spanCount newChunks nextChunk chunksRemainder splitAt windowAt searchFrom searchBack
-    newZeroedOf tryNewOf sliceOf unsetBitsOf pairOf eachOf eqOf edgesOf commonOf andNotAtOf andNotAtChecks indexChecks lengthChecks nextAndNotOf nextChecks otherChecks
+    newZeroedOf tryNewOf sliceOf unsetBitsOf pairOf eachOf eqOf edgesOf commonOf andNotAtOf andNotAtChecks indexChecks lengthChecks
+    nextAndNotOf nextChecks otherChecks supersedingOf supersedingChecks sameFlags xor
     newSlices nextSlice newIter nthFlag takeLeading newTrue nextTrue nextPositions
 witnessed addressed = refl
 witnessed spans = refl
@@ -55,3 +58,4 @@ witnessed indexed-pairs = refl
 witnessed indexed-masks = refl
 witnessed stated-masks = refl
 witnessed stated-lengths = refl
+witnessed supersessions = refl

@@ -1,4 +1,4 @@
--- The wrong answers of the four `specs/Wrong..` tables are ruled out, by computation. Assumes nothing.
+-- The wrong answers of the five `specs/Wrong..` tables are ruled out, by computation. Assumes nothing.
 --
 -- What a crate above needs for a table of its own is passed on: it may not use words.
 use Prim.Native.Nat.{ℕ}
@@ -22,7 +22,7 @@ use Rattle.masks.specs.Bitmask.{splitAt, splitChecks, windowAt, windowWo
 use Rattle.masks.specs.Builder.{appended, builderChecks, builderFlags, inProgress, possible}
 use Rattle.masks.specs.Checks.{addressChecks, earlier, firstFailed, rank, placeIn, outputChecks, spanChecks}
 use Rattle.masks.specs.Chunks.{chunkStep, chunkWord, chunksRemainder, newChunks, nextChunk, remainderWord}
-use Rattle.masks.specs.Combine.{eachBytes, eachOf, notChecks, pairBytes, pairChecks, pairFlags, pairMask, pairOf, selectChecks, shortcut}
+use Rattle.masks.specs.Combine.{eachBytes, eachOf, largestSerial, notChecks, pairBytes, pairChecks, pairFlags, pairMask, pairOf, selectChecks, shortcut}
 use Rattle.masks.specs.Compare.{commonChecks, commonOf, edges, edgesOf, eqOf}
 use Rattle.masks.specs.Cursor.{Step, item, ended, cursorChecks}
 use Rattle.masks.specs.Freeze.{frozenOver}
@@ -32,11 +32,13 @@ use Rattle.masks.specs.Mask.{Recounted, cutZeros, keptCount, maskChecks,
 use Rattle.masks.specs.Search.{nthBack, nthFrom, searchBack, searchFrom}
 use Rattle.masks.specs.SliceIterator.{newSlices, nextSlice, runStart, sliceStep}
 use Rattle.masks.specs.Positions.{nextPositions, positionsOver, placeBehind}
+use Rattle.masks.specs.Superseding.{supersedingChecks, supersedingOf}
 use Rattle.masks.specs.TrueIdx.{firstTrue, newTrue, newTrueChecks, nextTrue, onesFrom, onesLeft, trueChecks, trueFlags, trueStep}
 use Rattle.masks.specs.Utils.{spanCount, zeros}
 use Rattle.masks.specs.WrongBuilders.{WrongBuilders}
 use Rattle.masks.specs.WrongCursors.{WrongCursors}
 use Rattle.masks.specs.WrongMasks.{WrongMasks}
+use Rattle.masks.specs.WrongSerials.{WrongSerials}
 use Rattle.masks.specs.WrongSpans.{WrongSpans}
 use Rattle.masks.specs.declared.aligned.AlignedBitmapSlice.{AlignedBitmapSlice}
 use Rattle.masks.specs.declared.bitmap.Bitmap.{Bitmap}
@@ -48,6 +50,7 @@ use Rattle.masks.specs.declared.chunks.BitChunks.{BitChunks}
 use Rattle.masks.specs.declared.iterator.BitmapIter.{BitmapIter}
 use Rattle.masks.specs.declared.slice_iterator.Run.{Run}
 use Rattle.masks.specs.declared.slice_iterator.SlicesIterator.{SlicesIterator}
+use Rattle.masks.specs.declared.superseding.Part.{Part}
 use Rattle.masks.specs.declared.true_idx.TrueIdxIter.{TrueIdxIter}
 
 -- ---- codes: an answer as a list of numbers
@@ -97,13 +100,16 @@ unsetCode (Known z) = 1 ∷ z ∷ []
 unsetCode Unknown = 0 ∷ []
 
 abbrev maskCode : Code Bitmap
-maskCode m = m .start ∷ m .length ∷ unsetCode (m .unset)
+maskCode m = m .start ∷ m .length ∷ m .serial ∷ unsetCode (m .unset)
 
 abbrev recountedCode : Code Recounted
 recountedCode r = r .zeros ∷ maskCode (r .mask)
 
 abbrev builderCode : Code BitmapBuilder
-builderCode b = b .length ∷ b .word ∷ b .ones ∷ []
+builderCode b = b .length ∷ b .word ∷ b .ones ∷ b .serial ∷ []
+
+abbrev partCode : Code Part
+partCode p = digit (p .second) ∷ p .from ∷ p .to ∷ maskCode (p .mask)
 
 abbrev splitCode : Code AlignedBitmapSlice
 splitCode s = s .prefix ∷ s .«prefix_len» ∷ s .«bulk_start» ∷ s .«bulk_len» ∷ s .suffix ∷ s .«suffix_len» ∷ []
@@ -189,7 +195,7 @@ unfolding
     sameCode bits wordOf flagsOf count copies window over zip3 zipWith sameFlags xor
     firstFailed earlier rank placeIn spanChecks outputChecks maskChecks zeroedChecks pieceChecks sliceChecks pairChecks notChecks selectChecks commonChecks
     decided kept zeroCount zeros cutZeros recounts keptCount packed frozen
-    tryNewOf newZeroedOf newZeroedBytes sliceOf unsetBitsOf pairOf pairBytes pairMask pairFlags shortcut eachOf eachBytes
+    tryNewOf newZeroedOf newZeroedBytes sliceOf unsetBitsOf pairOf pairBytes pairMask pairFlags shortcut eachOf eachBytes largestSerial
     eqOf edgesOf edges commonOf andNotAtOf andNotAtChecks indexChecks lengthChecks andNotFlag flagOr
 masks-ruled-out =
     record {
@@ -246,4 +252,26 @@ cursors-ruled-out =
       true-next-refused = tried (stepping trueCode number) refl refl refl;
       true-chunk = tried chunkCode refl refl refl;
       true-chunk-rest = tried chunkCode refl refl refl;
+    }
+
+pub serials-ruled-out : WrongSerials
+unfolding
+    sameCode bits wordOf flagsOf count copies window over zip3 sameFlags xor anySet zeroCount zeros
+    firstFailed earlier rank placeIn spanChecks outputChecks maskChecks pieceChecks sliceChecks pairChecks selectChecks builderChecks possible
+    decided kept cutZeros recounts keptCount packed frozen overFrom inProgress appended builderFlags frozenOver
+    sliceOf pairOf pairBytes pairMask pairFlags shortcut eachOf eachBytes largestSerial supersedingOf supersedingChecks
+serials-ruled-out =
+    record {
+      superseding-part = tried (plain partCode) refl refl refl;
+      superseding-part-equal = tried (plain partCode) refl refl refl;
+      superseding-part-refused = tried (plain partCode) refl refl refl;
+      superseding = tried (plain maskCode) refl refl refl;
+      superseding-bytes = tried (λ bytes. bytes) refl refl refl;
+      superseding-bytes-of-none = tried (λ bytes. bytes) refl refl refl;
+      superseding-bytes-refused = tried (λ bytes. bytes) refl refl refl;
+      or = tried combineCode refl refl refl;
+      select = tried combineCode refl refl refl;
+      slice = tried (answer maskCode maskCode) refl refl refl;
+      push = tried appendCode refl refl refl;
+      freeze = tried (writing (answer builderCode maskCode)) refl refl refl;
     }

@@ -18,16 +18,20 @@ pub record Filling : Type 0 where
 abbrev pub filling : BitmapBuilder → List ℕ → Filling
 filling b bytes = record { builder = b; bytes = bytes }
 
--- the one place where a builder's record is made
+-- the one place where a builder's record is made, under its serial
+abbrev pub builderUnder : ℕ → ℕ → ℕ → ℕ → BitmapBuilder
+builderUnder serial n word ones = record { length = n; word = word; ones = ones; serial = serial }
+
+-- under serial 0, as a new one is
 abbrev pub builderOf : ℕ → ℕ → ℕ → BitmapBuilder
-builderOf n word ones = record { length = n; word = word; ones = ones }
+builderOf n word ones = builderUnder 0 n word ones
 
 abbrev pub newBuilder : BitmapBuilder
 newBuilder = builderOf 0 0 0
 
--- the same builder with another length, word and ones: what else a builder has it keeps
+-- the same builder with another length, word and ones, under its serial
 abbrev pub rebuilt : BitmapBuilder → ℕ → ℕ → ℕ → BitmapBuilder
-rebuilt b n word ones = builderOf n word ones
+rebuilt b n word ones = builderUnder (b .serial) n word ones
 
 -- the flags in its word in progress
 unfoldable pub inProgress : BitmapBuilder → List Bool

@@ -1,5 +1,5 @@
 -- The combinations of masks: flag by flag, or by the counts alone where these say that the result is constant. Assumes nothing.
-use Prim.Native.Nat.{ℕ}
+use Prim.Native.Nat.{ℕ, max}
 use mathlib.Core.Bool.{Bool, true, false, not, cond, _&&_, _||_}
 use mathlib.Core.List.{List, [], _∷_, _++_, map, zipWith}
 use lib.Dec.{eqb}
@@ -11,7 +11,7 @@ pub use Rattle.words.specs.declared.ops.Op.the-variants.{And, AndNot, Or, OrNot
 use Rattle.masks.specs.Answer.{Answer, given, refused, checked, kept}
 use Rattle.masks.specs.Checks.{Check, check, firstFailed, outputChecks}
 use Rattle.masks.specs.Frozen.{frozen}
-use Rattle.masks.specs.Mask.{maskOf, maskFlags, maskChecks, zeroCount, uncounted}
+use Rattle.masks.specs.Mask.{maskUnder, maskFlags, maskChecks, zeroCount, uncounted}
 use Rattle.masks.specs.declared.bitmap.Bitmap.{Bitmap}
 use Rattle.masks.specs.declared.bitmap.Unset.{Unset}
 use Rattle.masks.specs.declared.bitmap.Unset.the-variants.{Known}
@@ -56,9 +56,14 @@ resultCount (All false) n = Known n
 resultCount (All true) n = uncounted n
 resultCount Each n = uncounted n
 
--- the record of a result of n flags, made here alone; of the masks combined it takes nothing yet
+-- the largest serial of some masks, read or not
+unfoldable pub largestSerial : List Bitmap → ℕ
+largestSerial [] = 0
+largestSerial (m ∷ ms) = max (m .serial) (largestSerial ms)
+
+-- the record of a result of n flags, made here alone: of the masks combined it takes the largest serial
 abbrev pub resultMask : List Bitmap → ℕ → Unset → Bitmap
-resultMask masks n u = maskOf 0 n u
+resultMask masks n u = maskUnder (largestSerial masks) 0 n u
 
 -- ---- two masks
 

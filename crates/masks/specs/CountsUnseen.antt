@@ -1,5 +1,5 @@
 -- The theorem on counts: a call that takes a mask whose checks pass answers, and writes, as it does for the same mask with its count
--- unknown, save the counts in the records that `slice` gives. Assumes nothing.
+-- unknown, save the counts in the records that `slice` and `superseding_part` give. Assumes nothing.
 use Prim.Native.Nat.{ℕ}
 use mathlib.Core.Path.{_≡_}
 use mathlib.Core.Bool.{Bool}
@@ -13,12 +13,14 @@ use Rattle.masks.specs.Combine.{notBytes, notOf, pairBytes, pairOf, sele
 use Rattle.masks.specs.Compare.{commonOf, edgesOf, eqOf}
 use Rattle.masks.specs.Mask.{maskChecks, sliceOf, unsetBitsOf, withCount}
 use Rattle.masks.specs.SliceIterator.{newSlices}
+use Rattle.masks.specs.Superseding.{supersedingOf}
 use Rattle.masks.specs.TrueIdx.{newTrue}
 use Rattle.masks.specs.declared.bitmap.Bitmap.{Bitmap}
 use Rattle.masks.specs.declared.bitmap.Optional.{Optional}
 use Rattle.masks.specs.declared.bitmap.Optional.the-variants.{Present}
 use Rattle.masks.specs.declared.bitmap.Unset.the-variants.{Unknown}
 use Rattle.masks.specs.declared.builder.BitmapBuilder.{BitmapBuilder}
+use Rattle.masks.specs.declared.superseding.Part.{Part}
 
 -- the same mask, its count unknown
 abbrev pub forgot : Bitmap → Bitmap
@@ -32,6 +34,13 @@ Unseen m f = f m ≡ f (forgot m)
 abbrev pub butCount : Answer Bitmap Bitmap → Answer Bitmap Bitmap
 butCount (given m) = given (forgot m)
 butCount (refused k m) = refused k (forgot m)
+
+abbrev pub forgotPart : Part → Part
+forgotPart p = record { second = p .second; from = p .from; to = p .to; mask = forgot (p .mask) }
+
+abbrev pub partButCount : Answer (Unit {0}) Part → Answer (Unit {0}) Part
+partButCount (given p) = given (forgotPart p)
+partButCount (refused k s) = refused k s
 
 -- a combination: its answer and its bytes
 pub record UnseenBoth (m : Bitmap) (answer : Bitmap → Answer (Unit {0}) Bitmap) (bytes : Bitmap → List ℕ) : Type 0 where
@@ -72,6 +81,8 @@ pub record CountUnseen (m : Bitmap) (bytes : List ℕ) : Type 0 where
   pub edges : Unseen m (λ (x : Bitmap). edgesOf x bytes)
   pub common-first : (b : Bitmap) (bBytes : List ℕ) → Unseen m (λ (x : Bitmap). commonOf x bytes b bBytes)
   pub common-second : (a : Bitmap) (aBytes : List ℕ) → Unseen m (λ (x : Bitmap). commonOf a aBytes x bytes)
+  pub superseding-first : (b : Bitmap) (bBytes : List ℕ) → Unseen m (λ (x : Bitmap). partButCount (supersedingOf x bytes b bBytes))
+  pub superseding-second : (a : Bitmap) (aBytes : List ℕ) → Unseen m (λ (x : Bitmap). partButCount (supersedingOf a aBytes x bytes))
   pub slices-new : Unseen m (λ (x : Bitmap). newSlices x bytes)
   pub true-new : (n : ℕ) → Unseen m (λ (x : Bitmap). newTrue n (Present x) bytes)
 

@@ -10,7 +10,7 @@ use Rattle.masks.specs.Answer.{Answer, given, refused, checked, kept}
 use Rattle.masks.specs.Builder.{filling, builderFlags, builderChecks}
 use Rattle.masks.specs.Checks.{Check, firstFailed}
 use Rattle.masks.specs.Frozen.{frozen}
-use Rattle.masks.specs.Mask.{maskOf}
+use Rattle.masks.specs.Mask.{maskUnder}
 use Rattle.masks.specs.declared.bitmap.Bitmap.{Bitmap}
 use Rattle.masks.specs.declared.bitmap.Unset.the-variants.{Known}
 use Rattle.masks.specs.declared.builder.BitmapBuilder.{BitmapBuilder}
@@ -24,7 +24,7 @@ abbrev pub allOnes : BitmapBuilder → ℕ
 allOnes b = b .ones + count (wordFlags (b .word))
 
 abbrev pub frozenMask : BitmapBuilder → Bitmap
-frozenMask b = maskOf 0 (b .length) (Known (b .length - allOnes b))
+frozenMask b = maskUnder (b .serial) 0 (b .length) (Known (b .length - allOnes b))
 
 -- no mask exactly when the ones equal the length
 abbrev pub validityOf : BitmapBuilder → Option Bitmap

@@ -26,7 +26,10 @@ pub mod Positions
 pub mod Refusals
 pub mod RuleRows
 pub mod Search
+pub mod SerialPlain
 pub mod SliceIterator
+pub mod Superseding
+pub mod SupersedingPlain
 pub mod TrueCounts
 pub mod TrueIdx
 pub mod Utils
@@ -36,4 +39,5 @@ pub mod WrongBuilders
 pub mod WrongCursors
 pub mod WrongMasks
 pub mod WrongNext
+pub mod WrongSerials
 pub mod WrongSpans

@@ -17,13 +17,17 @@ use Rattle.masks.specs.declared.bitmap.Sliced.{Sliced}
 use Rattle.masks.specs.declared.bitmap.Unset.{Unset}
 use Rattle.masks.specs.declared.bitmap.Unset.the-variants.{Known, Unknown}
 
--- the one place where a mask's record is made
-abbrev pub maskOf : ℕ → ℕ → Unset → Bitmap
-maskOf start n unset = record { start = start; length = n; unset = unset }
+-- the one place where a mask's record is made, under its serial
+abbrev pub maskUnder : ℕ → ℕ → ℕ → Unset → Bitmap
+maskUnder serial start n unset = record { start = start; length = n; unset = unset; serial = serial }
 
--- the same mask cut to the n flags of its bytes from `start` on, with their count: what else a mask has it keeps
+-- a mask that is made of no other one: its serial is 0
+abbrev pub maskOf : ℕ → ℕ → Unset → Bitmap
+maskOf start n unset = maskUnder 0 start n unset
+
+-- the same mask cut to the n flags of its bytes from `start` on, with their count, under its serial
 abbrev pub cutMask : Bitmap → ℕ → ℕ → Unset → Bitmap
-cutMask m start n unset = maskOf start n unset
+cutMask m start n unset = maskUnder (m .serial) start n unset
 
 -- the same mask with another count
 abbrev pub withCount : Bitmap → Unset → Bitmap

@@ -16,6 +16,7 @@ use Rattle.masks.specs.Combine.{And}
 use Rattle.masks.specs.Compare.{edgesOf, commonOf}
 use Rattle.masks.specs.Freeze.{freezeOf}
 use Rattle.masks.specs.Mask.{maskOf, newZeroedOf, unsetBitsOf, sliceOf}
+use Rattle.masks.specs.Superseding.{supersedingOf}
 use Rattle.masks.specs.TrueIdx.{trueAt, newTrue, nextTrue}
 use Rattle.masks.specs.Utils.{spanCount}
 use Rattle.masks.specs.Witnesses.{numberOf, byte, whole, shorter, buffer, tooLong, toImpossible, toNoBytes}
@@ -53,6 +54,7 @@ orderRows =
     ∷ both 1 7 (numberOf (sliceOf (maskOf 4194304 8 (Known 3)) byte 4 4))
     ∷ both 1 8 (numberOf (alignedOf byte tooLong 1 8))
     ∷ both 1 9 (numberOf (newZeroedOf tooLong buffer))
+    ∷ both 1 14 (numberOf (supersedingOf whole byte (maskOf tooLong 7 Unknown) byte))
     ∷ both 2 3 (numberOf (edgesOf (maskOf 2 7 (Known 8)) byte))
     ∷ both 2 4 (toImpossible (extendSlice byte 2 7))
     ∷ both 2 5 (pairNumber And past buffer)
@@ -60,11 +62,13 @@ orderRows =
     ∷ both 2 7 (numberOf (sliceOf (maskOf 2 7 (Known 6)) byte 4 3))
     ∷ both 2 8 (numberOf (spanCount byte 2 7 8 0))
     ∷ both 2 9 (notNumber past [])
+    ∷ both 2 14 (numberOf (supersedingOf whole byte past byte))
     ∷ both 3 4 (toImpossible (extendBitmap miscounted byte 0 1))
     ∷ both 3 5 (numberOf (commonOf whole byte (maskOf 0 7 (Known 7)) byte))
     ∷ both 3 6 (atNumber Absent (Present miscounted) 8)
     ∷ both 3 7 (numberOf (sliceOf miscounted byte 4 4))
     ∷ both 3 9 (selectConstantNumber miscounted [])
+    ∷ both 3 14 (numberOf (supersedingOf miscounted byte shorter byte))
     ∷ both 4 6 (toImpossible (extendGather byte 0 8 (8 ∷ [])))
     ∷ both 4 9 (numberOf (freezeOf (builderOf 1 2 0) []))
     ∷ both 5 6 (atNumber (Present whole) (Present shorter) 8)

@@ -16,7 +16,7 @@ use Rattle.masks.specs.Appends.{extendBitmap, extendGather, extendOptGat
 use Rattle.masks.specs.AtIndex.{andNotAtOf}
 use Rattle.masks.specs.NextAndNot.{nextAndNotOf}
 use Rattle.masks.specs.Bitmask.{splitAt, windowAt}
-use Rattle.masks.specs.Checks.{Check, firstFailed}
+use Rattle.masks.specs.Checks.{Check, firstFailed, order}
 use Rattle.masks.specs.Chunks.{newChunks, nextChunk, chunksRemainder}
 use Rattle.masks.specs.Combine.{pairOf, pairBytes, notOf, notBytes, selectOf, selectBytes, selectConstantOf, selectConstantBytes}
 use Rattle.masks.specs.Compare.{eqOf, edgesOf, commonOf}
@@ -26,6 +26,7 @@ use Rattle.masks.specs.Mask.{tryNewOf, newZeroedOf, newZeroedBytes, unse
 use Rattle.masks.specs.Positions.{nextPositions, positionsOver}
 use Rattle.masks.specs.Search.{searchFrom, searchBack}
 use Rattle.masks.specs.SliceIterator.{newSlices, nextSlice}
+use Rattle.masks.specs.Superseding.{recordOf, supersedingOf}
 use Rattle.masks.specs.TrueIdx.{trueAt, newTrue, nextTrue}
 use Rattle.masks.specs.Utils.{spanCount}
 use Rattle.masks.specs.declared.bitmap.Bitmap.{Bitmap}
@@ -84,6 +85,7 @@ pub data Family : Type 0 where
   indexed-masks : Family
   stated-masks : Family
   stated-lengths : Family
+  supersessions : Family
 
 abbrev pub mayGive : Family → List ℕ
 -- `AlignedBitmapSlice::new`, `count_zeros`, `leading_zeros`, `leading_ones`, `trailing_zeros`, `trailing_ones`
@@ -127,6 +129,8 @@ mayGive indexed-masks = 1 ∷ 2 ∷ 3 ∷ 6 ∷ []
 -- `TrueIdxIter::new` of a mask, and of none
 mayGive stated-masks = 1 ∷ 2 ∷ 3 ∷ 5 ∷ []
 mayGive stated-lengths = 1 ∷ []
+-- `superseding_part`, `superseding`
+mayGive supersessions = 1 ∷ 2 ∷ 3 ∷ 14 ∷ []
 
 abbrev pub appendFamily : Append → Family
 appendFamily (pushFlag x) = builders
@@ -141,7 +145,7 @@ appendFamily (extendOptGather bytes start n idxs) = span-appends
 -- ---- the statement, a field for each definition that contracts cite
 
 pub record Refusals : Type 0 where
-  pub one-to-nine : (f : Family) → allAmong (mayGive f) (1 ∷ 2 ∷ 3 ∷ 4 ∷ 5 ∷ 6 ∷ 7 ∷ 8 ∷ 9 ∷ []) ≡ true
+  pub in-order : (f : Family) → allAmong (mayGive f) order ≡ true
   -- bare spans
   pub split-aligned : (bytes : List ℕ) (start n address : ℕ) → Refuses (mayGive addressed) tt (alignedOf bytes start n address)
   pub count-of : (bytes : List ℕ) (start n address value : ℕ) → Refuses (mayGive addressed) tt (spanCount bytes start n address value)
@@ -186,6 +190,10 @@ pub record Refusals : Type 0 where
       → Refuses (mayGive indexed-pairs) tt (nextAndNotOf a aBytes (Present b) bBytes from)
   pub next-and-not-alone : (a : Bitmap) (aBytes bBytes : List ℕ) (from : ℕ)
       → Refuses (mayGive indexed-masks) tt (nextAndNotOf a aBytes Absent bBytes from)
+  pub superseding-part : (a : Bitmap) (aBytes : List ℕ) (b : Bitmap) (bBytes : List ℕ)
+      → Refuses (mayGive supersessions) tt (supersedingOf a aBytes b bBytes)
+  pub superseding : (a : Bitmap) (aBytes : List ℕ) (b : Bitmap) (bBytes : List ℕ)
+      → Refuses (mayGive supersessions) tt (recordOf (supersedingOf a aBytes b bBytes))
   -- cursors
   pub slices-new : (m : Bitmap) (bytes : List ℕ) → Refuses (mayGive masks) tt (newSlices m bytes)
   pub slices-next : (c : SlicesIterator) (bytes : List ℕ) → Refuses (mayGive cursors) c (nextSlice c bytes)

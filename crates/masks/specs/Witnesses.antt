@@ -28,10 +28,11 @@ use Rattle.masks.specs.Mask.{maskOf, tryNewOf, newZeroedOf, unsetBitsOf,
 use Rattle.masks.specs.Refusals.{mayGive}
 use Rattle.masks.specs.Refusals.{Family, addressed, spans, cursors, unmasked-cursors, splits, builders, pushed-words, span-appends, gathers}
 use Rattle.masks.specs.Refusals.{piece-appends, zeroed-masks, masks, slices, combinations, inversions, intersections}
-use Rattle.masks.specs.Refusals.{indexed-pairs, indexed-masks, stated-masks, stated-lengths}
+use Rattle.masks.specs.Refusals.{indexed-pairs, indexed-masks, stated-masks, stated-lengths, supersessions}
 use Rattle.masks.specs.Search.{searchFrom, searchBack}
 use Rattle.masks.specs.SliceIterator.{slicesAt, newSlices, nextSlice}
 use Rattle.masks.specs.Positions.{nextPositions}
+use Rattle.masks.specs.Superseding.{recordOf, supersedingOf}
 use Rattle.masks.specs.TrueIdx.{trueAt, newTrue, nextTrue}
 use Rattle.masks.specs.Utils.{spanCount, zeros}
 use Rattle.masks.specs.declared.bitmap.Bitmap.{Bitmap}
@@ -78,6 +79,10 @@ atCursors f = f tooLong 1 0 ∷ f 2 7 0 ∷ f 0 8 9 ∷ []
 -- at masks that checks 1 to 3 refuse: the byte has four zeros
 abbrev pub atMasks : (Bitmap → ℕ) → List ℕ
 atMasks f = f (maskOf 0 tooLong Unknown) ∷ f (maskOf 2 7 Unknown) ∷ f (maskOf 0 8 (Known 3)) ∷ []
+
+-- the same, of masks that are short, so that their flags can be listed
+abbrev pub atShortMasks : (Bitmap → ℕ) → List ℕ
+atShortMasks f = f (maskOf tooLong 1 Unknown) ∷ f (maskOf 2 7 Unknown) ∷ f (maskOf 0 8 (Known 9)) ∷ []
 
 -- at spans and address remainders that checks 1, 2 and 8 refuse
 abbrev pub atAddresses : (ℕ → ℕ → ℕ → ℕ) → List ℕ
@@ -266,6 +271,13 @@ witnesses stated-masks =
 witnesses stated-lengths =
     -- `TrueIdxIter::new`
     (numberOf (newTrue tooLong Absent []) ∷ [])
+    ∷ []
+witnesses supersessions =
+    -- `superseding_part`, where the first is refused and where the second is
+    (atShortMasks (λ m. numberOf (supersedingOf m byte whole byte)) ++ (numberOf (supersedingOf whole byte shorter byte) ∷ []))
+    ∷ (atShortMasks (λ m. numberOf (supersedingOf whole byte m byte)) ++ (numberOf (supersedingOf shorter byte whole byte) ∷ []))
+    -- `superseding`
+    ∷ (atShortMasks (λ m. numberOf (recordOf (supersedingOf m byte whole byte))) ++ (numberOf (recordOf (supersedingOf whole byte shorter byte)) ∷ []))
     ∷ []
 
 -- the numbers but 7

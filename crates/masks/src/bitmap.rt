@@ -9,7 +9,7 @@ ghost use Rattle.masks.specs.Checks.{firstFailed, limit};
 ghost use Rattle.masks.specs.Utils.{zeros};
 ghost use Rattle.masks.specs.Mask.{cutZeros, countingAnswer, emptyMask, keptCount, madeAnswer, pieceChecks, recounts as Mask·recounts};
 ghost use Rattle.masks.specs.Mask.{newZeroedBytes, newZeroedOf, slicedAnswer, sliceOf, tryNewOf, uncounted, unsetBitsOf, zeroCount};
-ghost use Rattle.masks.specs.Mask.{cutMask, maskOf, withCount};
+ghost use Rattle.masks.specs.Mask.{cutMask, maskOf, maskUnder, withCount};
 ghost use Rattle.masks.specs.Workers.{cutOf, recountedOf, PieceAllowed};
 use crate::checks::earlier;
 use crate::checks::failed;
@@ -27,11 +27,13 @@ pub enum Unset {
     Unknown,
 }
 
-// A mask: a span of its bytes and its zero count. The Rust's `Bitmap`.
+// A mask: a span of its bytes, its zero count, and the serial of the revocation list that it was drawn up under. The Rust's `Bitmap`
+// with a serial.
 pub struct Bitmap {
     pub start: usize,
     pub length: usize,
     pub unset: Unset,
+    pub serial: u32,
 }
 
 pub enum Made {
@@ -128,26 +130,30 @@ impl Bitmap {
     }
 }
 
-// A mask that is made of no other one.
-pub(crate) fn mask_of(start: usize, length: usize, unset: Unset) -> Bitmap
-    ensures { λ r. ⌜ r ≡ maskOf start length unset ⌝ }
+// The one place where a mask's record is made, under its serial.
+pub(crate) fn mask_under(serial: u32, start: usize, length: usize, unset: Unset) -> Bitmap
+    ensures { λ r. ⌜ r ≡ maskUnder serial start length unset ⌝ }
 {
     Bitmap {
         start: start,
         length: length,
         unset: unset,
+        serial: serial,
     }
 }
 
-// The same mask cut to the flags of its bytes from `start` on, with their count: a further field of the record is taken along here.
-fn cut_mask(mask: Bitmap, start: usize, length: usize, unset: Unset) -> Bitmap
+// A mask that is made of no other one: its serial is 0.
+fn mask_of(start: usize, length: usize, unset: Unset) -> Bitmap
+    ensures { λ r. ⌜ r ≡ maskOf start length unset ⌝ }
+{
+    mask_under(0, start, length, unset)
+}
+
+// The same mask cut to the flags of its bytes from `start` on, with their count, under its serial.
+pub(crate) fn cut_mask(mask: Bitmap, start: usize, length: usize, unset: Unset) -> Bitmap
     ensures { λ r. ⌜ r ≡ cutMask mask start length unset ⌝ }
 {
-    Bitmap {
-        start: start,
-        length: length,
-        unset: unset,
-    }
+    mask_under(mask.serial, start, length, unset)
 }
 
 // The same mask with another count.

@@ -1,13 +1,15 @@
 // The combinations: flag by flag into a lent output, as frozen bytes. Spans start at any bit.
 ghost use mathlib.Core.Path.{_≡_};
+ghost use mathlib.Core.List.{[], _∷_};
+ghost use Prim.Native.Nat.{max};
 ghost use Rattle.words.specs.declared.ops.Op.the-variants.{And, AndNot, Or, OrNot, Xor};
 ghost use Rattle.masks.specs.Checks.{firstFailed};
 ghost use Rattle.masks.specs.Combine.{combinedAnswer, pairBytes, pairChecks, pairOf, notBytes, notChecks, notOf, selectBytes, selectChecks, selectConstantBytes};
-ghost use Rattle.masks.specs.Combine.{selectConstantOf, selectOf};
-ghost use Rattle.masks.specs.Mask.{maskOf};
+ghost use Rattle.masks.specs.Combine.{largestSerial, selectConstantOf, selectOf};
+ghost use Rattle.masks.specs.Mask.{maskUnder};
 use crate::bitmap::Bitmap;
 use crate::bitmap::Unset;
-use crate::bitmap::mask_of;
+use crate::bitmap::mask_under;
 use crate::bitmap::not_counted;
 use crate::checks::earlier;
 use crate::checks::failed;
@@ -26,11 +28,31 @@ pub enum Combined {
     Refused(u8),
 }
 
-// The record of a result of n flags, made here alone, as `resultMask` has it: of the masks combined it takes nothing yet.
-fn result_mask(n: usize, unset: Unset) -> Bitmap
-    ensures { λ r. ⌜ r ≡ maskOf 0 n unset ⌝ }
+// The record of a result of n flags, made here alone: `resultMask` at the largest serial of the masks combined.
+fn result_mask(serial: u32, n: usize, unset: Unset) -> Bitmap
+    ensures { λ r. ⌜ r ≡ maskUnder serial 0 n unset ⌝ }
 {
-    mask_of(0, n, unset)
+    mask_under(serial, 0, n, unset)
+}
+
+fn later(a: u32, b: u32) -> u32
+    ensures { λ r. ⌜ r ≡ max a b ⌝ }
+{
+    if a < b { b } else { a }
+}
+
+// The largest serial of two masks, whichever a shortcut reads.
+fn pair_serial(lhs: Bitmap, rhs: Bitmap) -> u32
+    ensures { λ r. ⌜ r ≡ largestSerial (lhs ∷ rhs ∷ []) ⌝ }
+{
+    later(lhs.serial, rhs.serial)
+}
+
+// The largest serial of three masks.
+fn select_serial(selector: Bitmap, truthy: Bitmap, falsy: Bitmap) -> u32
+    ensures { λ r. ⌜ r ≡ largestSerial (selector ∷ truthy ∷ falsy ∷ []) ⌝ }
+{
+    later(selector.serial, later(truthy.serial, falsy.serial))
 }
 
 fn pair_failure(lhs: Bitmap, left: &[u8], rhs: Bitmap, right: &[u8], size: usize) -> u8
@@ -63,7 +85,8 @@ fn combine_two(
     let n = lhs.length;
     write_result(by, op, left, lhs.start, right, rhs.start, n, out);
     let unset = result_count(by, n);
-    Combined::Mask(result_mask(n, unset))
+    let serial = pair_serial(lhs, rhs);
+    Combined::Mask(result_mask(serial, n, unset))
 }
 
 // Flags set in both masks.
@@ -126,7 +149,7 @@ pub fn not(mask: Bitmap, bytes: &[u8], out: &mut [u8]) -> Combined
     let start = mask.start;
     combine_frozen(Op::Not, bytes, start, bytes, start, bytes, start, n, out);
     let unset = not_counted(n);
-    Combined::Mask(result_mask(n, unset))
+    Combined::Mask(result_mask(mask.serial, n, unset))
 }
 
 fn select_failure(
@@ -181,7 +204,8 @@ pub fn select(
         out,
     );
     let unset = not_counted(n);
-    Combined::Mask(result_mask(n, unset))
+    let serial = select_serial(selector, truthy, falsy);
+    Combined::Mask(result_mask(serial, n, unset))
 }
 
 // The second mask's flag where the first's is set, else the constant.
@@ -203,5 +227,6 @@ pub fn select_constant(
     let n = selector.length;
     select_frozen(by, selector.start, yes, truthy.start, flag, n, out);
     let unset = not_counted(n);
-    Combined::Mask(result_mask(n, unset))
+    let serial = pair_serial(selector, truthy);
+    Combined::Mask(result_mask(serial, n, unset))
 }

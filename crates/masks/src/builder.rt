@@ -5,13 +5,13 @@ ghost use Prim.Native.Nat.{ℕ, _≤_, _-_};
 ghost use lib.ListN.{length, take};
 ghost use Rattle.words.specs.Flags.{wordFlags};
 ghost use Rattle.masks.specs.Appends.{pushedAnswer, appendAnswer, appendBytes, changeAnswer, pushFlag, pushWord};
-ghost use Rattle.masks.specs.Builder.{newBuilder, rebuilt, filling, appended};
+ghost use Rattle.masks.specs.Builder.{builderUnder, newBuilder, rebuilt, filling, appended};
 ghost use Rattle.masks.specs.declared.builder.BitmapBuilder.{BitmapBuilder};
 ghost use Rattle.masks.specs.Freeze.{allOnes, frozenMask, freezeBytes, freezeOf, frozenOver, intoOptValidityOf, freezeAnswer, validityAnswer};
 ghost use Rattle.masks.specs.Workers.{Inside, Room};
 use crate::bitmap::Bitmap;
 use crate::bitmap::Unset;
-use crate::bitmap::mask_of;
+use crate::bitmap::mask_under;
 use crate::checks::builder_failure;
 use crate::checks::earlier;
 use crate::checks::word_failure;
@@ -23,11 +23,13 @@ use words::word::ones_in_word;
 use words::word::store_whole;
 use words::word::up;
 
-// The length, the word in progress and the ones in the finished words. The Rust's `BitmapBuilder`, its buffer lent beside it.
+// The length, the word in progress, the ones in the finished words, and the serial that its mask will have. The Rust's
+// `BitmapBuilder` with a serial, its buffer lent beside it.
 pub struct BitmapBuilder {
     pub length: usize,
     pub word: u64,
     pub ones: usize,
+    pub serial: u32,
 }
 
 // What a call that appends gives: the builder, or a check's number and the builder as it came.
@@ -53,11 +55,7 @@ impl BitmapBuilder {
     pub fn new() -> Self
         ensures { λ r. ⌜ r ≡ newBuilder ⌝ }
     {
-        BitmapBuilder {
-            length: 0,
-            word: 0,
-            ones: 0,
-        }
+        builder_under(0, 0, 0, 0)
     }
 
     pub fn push(self, buf: &mut [u8], flag: bool) -> Pushed
@@ -72,7 +70,7 @@ impl BitmapBuilder {
     }
 
     // The same over the caller's own record: returns 0, or the number of the check that refused. Takes length, word and ones apart,
-    // calls the by-value push with them and stores them back; a further field of the record stays as it is.
+    // calls the by-value push with them and stores them back; the caller's serial stays as it is.
     pub fn push_mut(&mut self, buf: &mut [u8], flag: bool) -> u8
         ensures answer { λ r. ⌜ changeAnswer r (now (self .exit)) ≡ appendAnswer (pushFlag flag) (now (self .entry)) (now (buf .entry)) ⌝ }
         ensures bytes { λ _. ⌜ now (buf .exit) ≡ appendBytes (pushFlag flag) (now (self .entry)) (now (buf .entry)) ⌝ }
@@ -138,16 +136,24 @@ struct Change {
     number: u8,
 }
 
+// The one place where a builder's record is made, under its serial.
+fn builder_under(serial: u32, length: usize, word: u64, ones: usize) -> BitmapBuilder
+    ensures { λ r. ⌜ r ≡ builderUnder serial length word ones ⌝ }
+{
+    BitmapBuilder {
+        length: length,
+        word: word,
+        ones: ones,
+        serial: serial,
+    }
+}
+
 // Copies the record field by field. A record that goes to a function outside the call's body is copied in the arm that calls it, so
 // that the usual arm keeps its own in registers.
 pub(crate) fn copied(b: BitmapBuilder) -> BitmapBuilder
     ensures { λ r. ⌜ r ≡ b ⌝ }
 {
-    BitmapBuilder {
-        length: b.length,
-        word: b.word,
-        ones: b.ones,
-    }
+    grown(b, b.length, b.word, b.ones)
 }
 
 // Calls the by-value push for `push_mut`, with a record of this length, word and ones counted. Promises the answer for every record
@@ -157,11 +163,7 @@ fn push_change(length: usize, word: u64, counted: usize, buf: &mut [u8], flag: b
         ≡ appendAnswer (pushFlag flag) (rebuilt b length word counted) (now (buf .entry))) ⌝ }
     ensures bytes { λ _. ⌜ ((b : BitmapBuilder) → now (buf .exit) ≡ appendBytes (pushFlag flag) (rebuilt b length word counted) (now (buf .entry))) ⌝ }
 {
-    let own = BitmapBuilder {
-        length: length,
-        word: word,
-        ones: counted,
-    };
+    let own = builder_under(0, length, word, counted);
     match own.push(buf, flag) {
         Pushed::Done(next) => Change {
             length: next.length,
@@ -178,15 +180,11 @@ fn push_change(length: usize, word: u64, counted: usize, buf: &mut [u8], flag: b
     }
 }
 
-// The same builder with another length, word and ones: a further field of the record is taken along here.
+// The same builder with another length, word and ones, under its serial.
 pub(crate) fn grown(b: BitmapBuilder, length: usize, word: u64, ones: usize) -> BitmapBuilder
     ensures { λ r. ⌜ r ≡ rebuilt b length word ones ⌝ }
 {
-    BitmapBuilder {
-        length: length,
-        word: word,
-        ones: ones,
-    }
+    builder_under(b.serial, length, word, ones)
 }
 
 // Appends the k flags of a word, for which the word in progress has room: no byte is written, and no flag has to be cut off.
@@ -240,5 +238,5 @@ fn frozen_mask(b: BitmapBuilder) -> Bitmap
     ensures { λ r. ⌜ r ≡ frozenMask b ⌝ }
 {
     let zeros = b.length - all_ones(b);
-    mask_of(0, b.length, Unset::Known(zeros))
+    mask_under(b.serial, 0, b.length, Unset::Known(zeros))
 }

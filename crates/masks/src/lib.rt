@@ -22,5 +22,6 @@ mod repeat;
 mod shortcuts;
 pub mod slice_iterator;
 mod span;
+pub mod superseding;
 pub mod true_idx;
 pub mod utils;

@@ -7,6 +7,7 @@ use crate::list::ANY;
 use crate::list::KEPT;
 use crate::list::MOST;
 use crate::list::NUMBER;
+use crate::list::SERIAL;
 use crate::list::SIZE;
 use crate::list::UNKNOWN;
 use crate::numbers;
@@ -87,9 +88,9 @@ fn place(kind: u64, k: usize) -> usize {
     }
 }
 
-// A size is at most the whole.
+// A size is at most the whole; a serial is any number.
 fn limited(kind: u64, value: u64, whole: u64) -> u64 {
-    if SIZE <= kind {
+    if (SIZE <= kind) & (kind < SERIAL) {
         if whole < value {
             return whole;
         }

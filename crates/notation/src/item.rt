@@ -2,6 +2,7 @@
 use crate::list::ANY;
 use crate::list::CALLS;
 use crate::list::NONE;
+use crate::list::SERIAL;
 use crate::list::SIZE;
 use crate::list::TIMES;
 use crate::list::UNKNOWN;
@@ -45,7 +46,7 @@ fn single(kind: u64, n: Number) -> Item {
     made(kind, n.value, 1, n.good)
 }
 
-// A size stands after its letter and a colon.
+// A size or a serial comes after its letter and a colon.
 fn sized(part: &[u8], kind: u64) -> Item {
     let size = size_of(text::at(part, 0));
     if size != 0 {
@@ -56,7 +57,7 @@ fn sized(part: &[u8], kind: u64) -> Item {
     numbers(part, kind)
 }
 
-// The kind of a letter's size, 0 where the letter has none.
+// Returns the kind of a letter's size or serial, 0 if the letter has none.
 fn size_of(letter: u8) -> u64 {
     match letter {
         b'x' => SIZE,
@@ -64,6 +65,9 @@ fn size_of(letter: u8) -> u64 {
         b'z' => SIZE + 2,
         b'o' => SIZE + 3,
         b'i' => SIZE + 4,
+        b's' => SERIAL,
+        b't' => SERIAL + 1,
+        b'u' => SERIAL + 2,
         _ => 0,
     }
 }

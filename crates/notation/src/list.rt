@@ -3,7 +3,8 @@
 // An item has four places: its kind, its first number, how many values it has; the fourth is free. A token of the arguments has two places,
 // after the items: its first item, and how many values it has.
 
-// The kinds: a number and those that follow it, `?`, `-`, a number several times, `#`, `_`, and from SIZE on the sizes of x, y, z, o, i.
+// The kinds: a number and those that follow it, `?`, `-`, a number several times, `#`, `_`, from SIZE on the sizes of x, y, z, o, i,
+// and from SERIAL on the serials s, t, u.
 pub const NUMBER: u64 = 0;
 
 pub const UNKNOWN: u64 = 1;
@@ -17,6 +18,8 @@ pub const CALLS: u64 = 6;
 pub const ANY: u64 = 7;
 
 pub const SIZE: u64 = 8;
+
+pub const SERIAL: u64 = 13;
 
 // At most this many items and this many tokens are kept.
 pub const MOST: usize = 1024;

@@ -44,7 +44,9 @@ fn reading_row(r: usize) -> [u8; 144] {
         8 => padded(
             b"0-BitmapBuilder::new 0-Bitmap::new 2-try_new 5-slice 3-unset_bits 3-num_edges ",
         ),
-        9 => padded(b"6-eq 6-num_intersections_with 9-and_not_at 9-may_reassign "),
+        9 => padded(
+            b"6-eq 6-num_intersections_with 9-and_not_at 9-may_reassign 6-superseding_part 6-superseding 6-superseding_bytes ",
+        ),
         10 => padded(
             b"3-SlicesIterator::new 3-SlicesIterator::next 5-TrueIdxIter::new 4-TrueIdxIter::next ",
         ),

@@ -39,6 +39,7 @@ pub fn report(bytes: &[u8]) -> Reported
         start: 0,
         length: flags,
         unset: Unset::Unknown,
+        serial: 0,
     };
     let zeros = zeros_of(mask, bytes);
     let edges = edges_of(mask, bytes);

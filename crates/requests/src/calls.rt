@@ -51,7 +51,7 @@ fn reading(call: usize, v: [u64; 24], inputs: &[u8]) -> [u64; 12] {
     let k = call % 8;
     match call / 8 {
         4 => words_calls::comparing(k, v, x(inputs, v), y(inputs, v), z(inputs, v)),
-        9 => mask_calls::comparing(k, v, x(inputs, v), y(inputs, v)),
+        9 => mask_calls::of_two(k, v, x(inputs, v), y(inputs, v)),
         _ => reading_x(call, v, x(inputs, v)),
     }
 }

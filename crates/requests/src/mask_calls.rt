@@ -1,5 +1,6 @@
 // The calls of the mask: makers, slices, combinations, comparisons.
 use crate::span_calls;
+use crate::sums;
 use crate::values;
 use dispatch::dispatch::Reassign;
 use dispatch::dispatch::may_reassign;
@@ -14,6 +15,8 @@ use masks::bitmap_ops::Combined;
 use masks::builder::BitmapBuilder;
 use masks::compare;
 use masks::compare::Compared;
+use masks::superseding;
+use masks::superseding::Winner;
 
 pub(crate) fn answer(call: usize, v: [u64; 24], x: &[u8]) -> [u64; 12] {
     let m = values::mask(v, 0);
@@ -31,7 +34,40 @@ pub(crate) fn zeroed(v: [u64; 24], out: &mut [u8]) -> [u64; 12] {
     made(Bitmap::new_zeroed(values::size(v, 0), out))
 }
 
-pub(crate) fn comparing(call: usize, v: [u64; 24], x: &[u8], y: &[u8]) -> [u64; 12] {
+pub(crate) fn of_two<'a>(call: usize, v: [u64; 24], x: &'a [u8], y: &'a [u8]) -> [u64; 12] {
+    if call < 4 {
+        comparing(call, v, x, y)
+    } else {
+        choosing(call, v, x, y)
+    }
+}
+
+// The bytes are answered by their number and their checksum.
+fn choosing<'a>(call: usize, v: [u64; 24], x: &'a [u8], y: &'a [u8]) -> [u64; 12] {
+    let first = values::mask(v, 0);
+    let second = values::mask(v, 3);
+    match call {
+        4 => placed(superseding::superseding_part(first, x, second, y)),
+        5 => made(superseding::superseding(first, x, second, y)),
+        _ => lent_part(superseding::superseding_bytes(first, x, second, y)),
+    }
+}
+
+fn lent_part(part: &[u8]) -> [u64; 12] {
+    values::two(values::big(part.len()), sums::bytes(sums::FIRST, part))
+}
+
+fn placed(r: Winner) -> [u64; 12] {
+    match r {
+        Winner::Found(part) => {
+            let mask = part.mask;
+            values::placed(part.second, part.from, part.to, mask)
+        }
+        Winner::Refused(number) => values::refused(number),
+    }
+}
+
+fn comparing(call: usize, v: [u64; 24], x: &[u8], y: &[u8]) -> [u64; 12] {
     match call {
         0 => compared(compare::eq(values::mask(v, 0), x, values::mask(v, 3), y)),
         1 => span_calls::counted(compare::num_intersections_with(

@@ -5,6 +5,7 @@ use masks::bitmap::Bitmap;
 use masks::bitmap::Optional;
 use masks::bitmap::Unset;
 use masks::builder::BitmapBuilder;
+use notation::numbers::SERIALS;
 use notation::numbers::UNKNOWN;
 
 // Argument i.
@@ -24,7 +25,7 @@ pub(crate) fn low(v: [u64; 24], i: usize) -> u32 {
     (v[i % 24] % 4294967296) as u32
 }
 
-// The mask of the arguments i, i + 1 and i + 2.
+// The mask of the arguments i, i + 1 and i + 2: its serial is the first, the second or the third by where it stands.
 pub(crate) fn mask(v: [u64; 24], i: usize) -> Bitmap {
     let at = i % 8;
     let unset = count(v[at + 2], (v[UNKNOWN] >> (at + 2)) % 2 == 1);
@@ -32,6 +33,7 @@ pub(crate) fn mask(v: [u64; 24], i: usize) -> Bitmap {
         start: v[at] as usize,
         length: v[at + 1] as usize,
         unset: unset,
+        serial: low(v, SERIALS + at / 3),
     }
 }
 
@@ -59,6 +61,7 @@ pub(crate) fn builder(v: [u64; 24]) -> BitmapBuilder {
         length: v[0] as usize,
         word: v[1],
         ones: v[2] as usize,
+        serial: low(v, SERIALS),
     }
 }
 
@@ -110,25 +113,33 @@ pub(crate) fn refused(number: u8) -> [u64; 12] {
     tokens(1, byte(number), 0, 0, 0, 0, 0)
 }
 
-// A builder, behind 0 or the refusing number.
+// A builder, its serial first, behind 0 or the refusing number.
 pub(crate) fn built(number: u8, b: BitmapBuilder) -> [u64; 12] {
-    tokens(4, byte(number), big(b.length), b.word, big(b.ones), 0, 0)
+    tokens(
+        5,
+        byte(number),
+        wide(b.serial),
+        big(b.length),
+        b.word,
+        big(b.ones),
+        0,
+    )
 }
 
-// A mask, behind 0 or the refusing number.
+// A mask, its serial first, behind 0 or the refusing number.
 pub(crate) fn masked(number: u8, m: Bitmap) -> [u64; 12] {
     let unset = m.unset;
     [
         byte(number),
+        wide(m.serial),
         big(m.start),
         big(m.length),
         known(unset),
         0,
         0,
         0,
-        0,
-        4,
-        8 * unknown(unset),
+        5,
+        16 * unknown(unset),
         0,
         0,
     ]
@@ -140,14 +151,33 @@ pub(crate) fn counted(zeros: usize, m: Bitmap) -> [u64; 12] {
     [
         0,
         big(zeros),
+        wide(m.serial),
         big(m.start),
         big(m.length),
         known(unset),
         0,
         0,
+        6,
+        32 * unknown(unset),
         0,
-        5,
-        16 * unknown(unset),
+        0,
+    ]
+}
+
+// Which of two slices, a part of it, and a mask.
+pub(crate) fn placed(second: bool, from: usize, to: usize, m: Bitmap) -> [u64; 12] {
+    let unset = m.unset;
+    [
+        0,
+        digit(second),
+        big(from),
+        big(to),
+        wide(m.serial),
+        big(m.start),
+        big(m.length),
+        known(unset),
+        8,
+        128 * unknown(unset),
         0,
         0,
     ]

@@ -103,7 +103,7 @@ impl Bitmap {
     /// assert_eq!(Bitmap::from([true, false]).not(), Bitmap::from([false, true]));
     /// ```
     pub fn not(&self) -> Bitmap {
-        Bitmap::written(self.length, |out| calls::not(self.record(), &self.bytes, out)).expect("a mask has its own length")
+        Bitmap::written(self.length, |out| calls::not(self.record(), self.bytes(), out)).expect("a mask has its own length")
     }
 
     /// The flag of `truthy` where this one is set, else that of `falsy`. Refused with 5.
@@ -119,7 +119,7 @@ impl Bitmap {
     /// ```
     pub fn select(&self, truthy: &Bitmap, falsy: &Bitmap) -> Result<Bitmap, Refusal> {
         Bitmap::written(self.length, |out| {
-            calls::select(self.record(), &self.bytes, truthy.record(), &truthy.bytes, falsy.record(), &falsy.bytes, out)
+            calls::select(self.record(), self.bytes(), truthy.record(), truthy.bytes(), falsy.record(), falsy.bytes(), out)
         })
     }
 
@@ -134,7 +134,7 @@ impl Bitmap {
     /// # Ok::<(), poruwhina::Refusal>(())
     /// ```
     pub fn select_constant(&self, truthy: &Bitmap, falsy: bool) -> Result<Bitmap, Refusal> {
-        Bitmap::written(self.length, |out| calls::select_constant(self.record(), &self.bytes, truthy.record(), &truthy.bytes, falsy, out))
+        Bitmap::written(self.length, |out| calls::select_constant(self.record(), self.bytes(), truthy.record(), truthy.bytes(), falsy, out))
     }
 
     /// How many flags are set in both. Refused with 5.
@@ -145,13 +145,13 @@ impl Bitmap {
     /// assert_eq!(Bitmap::from([true, true, false]).num_intersections_with(&Bitmap::from([false, true, true])), Ok(1));
     /// ```
     pub fn num_intersections_with(&self, other: &Bitmap) -> Result<usize, Refusal> {
-        let answer = calls::num_intersections_with(self.record(), &self.bytes, other.record(), &other.bytes);
+        let answer = calls::num_intersections_with(self.record(), self.bytes(), other.record(), other.bytes());
         check(answer.refusal)?;
         Ok(answer.value)
     }
 
     fn combined(&self, call: Combine, rhs: &Bitmap) -> Result<Bitmap, Refusal> {
-        Bitmap::written(self.length, |out| call(self.record(), &self.bytes, rhs.record(), &rhs.bytes, out))
+        Bitmap::written(self.length, |out| call(self.record(), self.bytes(), rhs.record(), rhs.bytes(), out))
     }
 }
 

@@ -13,7 +13,7 @@ impl Bitmap {
     /// ```
     pub fn unset_bits(&self) -> usize {
         *self.zeros.get_or_init(|| {
-            let answer = calls::unset_bits(self.record(), &self.bytes);
+            let answer = calls::unset_bits(self.record(), self.bytes());
             check_passed(answer.refusal);
             answer.zeros
         })
@@ -84,7 +84,7 @@ impl Bitmap {
     /// assert_eq!(poruwhina::Bitmap::from([true, false, true, true, false, true]).num_edges(), 4);
     /// ```
     pub fn num_edges(&self) -> usize {
-        let answer = calls::num_edges(self.record(), &self.bytes);
+        let answer = calls::num_edges(self.record(), self.bytes());
         check_passed(answer.refusal);
         answer.value
     }
@@ -96,7 +96,7 @@ impl Bitmap {
     /// assert_eq!((mask.nth_set_bit_idx(2, 0), mask.nth_set_bit_idx(4, 0)), (Some(3), None));
     /// ```
     pub fn nth_set_bit_idx(&self, n: usize, from: usize) -> Option<usize> {
-        found(calls::nth_set_bit_idx(&self.bytes, self.start, self.length, n, from))
+        found(calls::nth_set_bit_idx(self.bytes(), self.start, self.length, n, from))
     }
 
     /// The position of the n-th one counted down from below `end`, which may exceed the length.
@@ -106,12 +106,12 @@ impl Bitmap {
     /// assert_eq!((mask.nth_set_bit_idx_rev(1, 5), mask.nth_set_bit_idx_rev(3, 900)), (Some(2), Some(0)));
     /// ```
     pub fn nth_set_bit_idx_rev(&self, n: usize, end: usize) -> Option<usize> {
-        found(calls::nth_set_bit_idx_rev(&self.bytes, self.start, self.length, n, end))
+        found(calls::nth_set_bit_idx_rev(self.bytes(), self.start, self.length, n, end))
     }
 
     fn count(&self, call: impl FnOnce(&[u8], usize, usize, usize) -> calls::Number) -> usize {
         // The last argument is the address remainder, on which no count depends.
-        let answer = call(&self.bytes, self.start, self.length, 0);
+        let answer = call(self.bytes(), self.start, self.length, 0);
         check_passed(answer.refusal);
         answer.value
     }

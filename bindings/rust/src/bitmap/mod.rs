@@ -10,13 +10,17 @@ use crate::builder::BitmapBuilder;
 use crate::calls;
 use crate::refusal::{Refusal, check, check_passed};
 
-/// A list of flags in shared bytes that nobody alters, with a zero count that is known or not.
+/// A list of flags in shared bytes that nobody alters, with a zero count that is known or not, and the serial of the revocation list
+/// that it was drawn up under.
 ///
 /// Cloning and slicing share the bytes. The zero count is kept once it is known: [`unset_bits`](Bitmap::unset_bits) takes
 /// `&self` and keeps it in a [`OnceLock`], so that a mask can be counted where it is only borrowed, by several threads too.
 /// The count of given bytes is one number, so it does not matter which thread kept it.
 ///
-/// Two masks are equal where their lengths and flags are, whatever their bytes and start bits.
+/// Two masks are equal where their lengths and flags are, whatever their bytes, start bits and serials.
+///
+/// A mask keeps the byte at which its flags begin beside the shared bytes, and a start bit of 0 to 7 in it: so a mask of bytes far
+/// behind in a large file answers as its copy at bit 0 does.
 ///
 /// ```
 /// use poruwhina::Bitmap;
@@ -31,9 +35,12 @@ use crate::refusal::{Refusal, check, check_passed};
 #[derive(Clone)]
 pub struct Bitmap {
     bytes: Arc<Vec<u8>>,
+    // The byte at which the first flag stands, and the bit of it, 0 to 7.
+    offset: usize,
     start: usize,
     length: usize,
     zeros: OnceLock<usize>,
+    serial: u32,
 }
 
 /// The bytes that the frozen form of so many flags takes.
@@ -42,7 +49,7 @@ pub(crate) const fn frozen_len(length: usize) -> usize {
 }
 
 impl Bitmap {
-    /// The most flags that a mask can have, and the last bit at which it can start.
+    /// The most flags that a mask can have.
     ///
     /// ```
     /// use poruwhina::{Bitmap, Refusal};
@@ -58,7 +65,7 @@ impl Bitmap {
     /// assert!(poruwhina::Bitmap::new().is_empty());
     /// ```
     pub fn new() -> Bitmap {
-        Bitmap::from_record(Arc::default(), calls::bitmap_new())
+        Bitmap::from_record(Arc::default(), 0, calls::bitmap_new())
     }
 
     /// A mask of so many zeros. Refused with 1 above [`LIMIT`](Bitmap::LIMIT).
@@ -87,20 +94,23 @@ impl Bitmap {
         Bitmap::try_from_span(bytes, 0, length)
     }
 
-    /// `length` flags of the bytes from bit `start` on. Refused with 1 and 2.
+    /// `length` flags of the bytes from bit `start` on. Refused with 1 and 2. The start may be any bit of the bytes, above
+    /// [`LIMIT`](Bitmap::LIMIT) too.
     ///
     /// ```
     /// use poruwhina::{Bitmap, Refusal};
     ///
     /// assert_eq!(Bitmap::try_from_span([0x2D], 2, 4)?, Bitmap::try_new([0x0B], 4)?);
     /// assert_eq!(Bitmap::try_from_span([0x2D], 2, 7), Err(Refusal::OutsideBytes));
+    /// let file = vec![0x2D; 1_000_000];
+    /// assert_eq!(Bitmap::try_from_span(file, 7_999_992, 6)?, Bitmap::try_new([0x2D], 6)?);
     /// # Ok::<(), Refusal>(())
     /// ```
     pub fn try_from_span(bytes: impl Into<Vec<u8>>, start: usize, length: usize) -> Result<Bitmap, Refusal> {
         let bytes = bytes.into();
-        let answer = calls::try_new(&bytes, start, length);
+        let answer = calls::try_new(bytes_from(&bytes, start / 8, length)?, start % 8, length);
         check(answer.refusal)?;
-        Ok(Bitmap::from_record(Arc::new(bytes), answer.mask))
+        Ok(Bitmap::from_record(Arc::new(bytes), start / 8, answer.mask))
     }
 
     /// `length` flags of the bytes from bit `start` on, of which `zeros` are said to be zeros: a mask from elsewhere, with the count
@@ -118,9 +128,10 @@ impl Bitmap {
     /// ```
     pub fn try_from_counted_span(bytes: impl Into<Vec<u8>>, start: usize, length: usize, zeros: usize) -> Result<Bitmap, Refusal> {
         let bytes = bytes.into();
-        let answer = calls::unset_bits(calls::Mask { start, length, zeros, known: 1 }, &bytes);
+        let mask = calls::Mask { start: start % 8, length, zeros, known: 1, serial: 0 };
+        let answer = calls::unset_bits(mask, bytes_from(&bytes, start / 8, length)?);
         check(answer.refusal)?;
-        Ok(Bitmap::from_record(Arc::new(bytes), answer.mask))
+        Ok(Bitmap::from_record(Arc::new(bytes), start / 8, answer.mask))
     }
 
     /// The number of flags.
@@ -159,20 +170,65 @@ impl Bitmap {
     /// # Ok::<(), poruwhina::Refusal>(())
     /// ```
     pub fn get_u32(&self, index: usize) -> u32 {
-        let answer = calls::get_u32(&self.bytes, self.start, self.length, index);
+        let answer = calls::get_u32(self.bytes(), self.start, self.length, index);
         check_passed(answer.refusal);
         answer.value as u32
     }
 
-    /// The bytes, the bit at which the first flag stands, and the length.
+    /// The bytes from the one with the first flag on, the bit of it at which that flag stands, 0 to 7, and the length.
     ///
     /// ```
-    /// let mask = poruwhina::Bitmap::try_new([0x2D, 0xFF], 16)?.sliced(2, 4)?;
-    /// assert_eq!(mask.as_slice(), (&[0x2D, 0xFF][..], 2, 4));
+    /// let mask = poruwhina::Bitmap::try_new([0x2D, 0xFF, 0], 24)?.sliced(10, 4)?;
+    /// assert_eq!(mask.as_slice(), (&[0xFF, 0][..], 2, 4));
     /// # Ok::<(), poruwhina::Refusal>(())
     /// ```
     pub fn as_slice(&self) -> (&[u8], usize, usize) {
-        (&self.bytes, self.start, self.length)
+        (self.bytes(), self.start, self.length)
+    }
+
+    /// The serial of the revocation list that the mask was drawn up under: 0 of a new mask, the builder's of a frozen one, its mask's of
+    /// a slice, the largest of its masks of a combination.
+    ///
+    /// ```
+    /// use poruwhina::Bitmap;
+    ///
+    /// let (older, newer) = (Bitmap::from([true]).with_serial(5), Bitmap::from([true]).with_serial(7));
+    /// assert_eq!((older.sliced(0, 1)?.serial(), (&older | &newer).serial(), Bitmap::new().serial()), (5, 7, 0));
+    /// # Ok::<(), poruwhina::Refusal>(())
+    /// ```
+    pub fn serial(&self) -> u32 {
+        self.serial
+    }
+
+    /// The same mask under another serial. A mask that is rebuilt from runs or copied has its builder's serial, which is 0 where
+    /// nobody set it: whoever saves it sets the serial.
+    ///
+    /// ```
+    /// assert_eq!(poruwhina::Bitmap::new().with_serial(7).serial(), 7);
+    /// ```
+    pub fn with_serial(self, serial: u32) -> Bitmap {
+        Bitmap { serial, ..self }
+    }
+
+    /// Of two masks of one operator the one with the larger serial, over its own bytes, which are not copied. Equal serials with equal
+    /// flags give the first. Refused with 14 where the serials are equal and the flags are not: neither is then known to be the later
+    /// one, and a person decides. That both masks are one operator's is the caller's to see.
+    ///
+    /// ```
+    /// use poruwhina::{Bitmap, Refusal};
+    ///
+    /// let stored = Bitmap::from([true, true, false]).with_serial(6);
+    /// let edited = Bitmap::from([true, false, false]);
+    /// assert_eq!(Bitmap::superseding(&stored, &edited.clone().with_serial(6)), Err(Refusal::SerialConflict));
+    /// assert_eq!(Bitmap::superseding(&stored, &edited.clone().with_serial(7))?, edited);
+    /// # Ok::<(), Refusal>(())
+    /// ```
+    pub fn superseding(first: &Bitmap, second: &Bitmap) -> Result<Bitmap, Refusal> {
+        let answer = calls::superseding(first.record(), first.bytes(), second.record(), second.bytes());
+        check(answer.refusal)?;
+        let winner = if answer.second { second } else { first };
+        let made = Bitmap::from_record(Arc::clone(&winner.bytes), winner.offset + answer.from, answer.mask);
+        Ok(Bitmap { zeros: winner.zeros.clone(), ..made })
     }
 
     /// The flags from bit 0 on in 8 × ceil(length / 64) bytes, zero past the end: equal for equal masks, and with the length
@@ -203,9 +259,13 @@ impl Bitmap {
     /// # Ok::<(), Refusal>(())
     /// ```
     pub fn sliced(&self, offset: usize, length: usize) -> Result<Bitmap, Refusal> {
-        let answer = calls::slice(self.counted_record(), &self.bytes, offset, length);
+        // The library's start is at most the limit: a cut that would come above it, by the bit in the first byte, is made in two.
+        if (Bitmap::LIMIT - 7..=self.length).contains(&offset) && self.start + offset > Bitmap::LIMIT {
+            return self.sliced(8, self.length - 8)?.sliced(offset - 8, length);
+        }
+        let answer = calls::slice(self.counted_record(), self.bytes(), offset, length);
         check(answer.refusal)?;
-        Ok(Bitmap::from_record(Arc::clone(&self.bytes), answer.mask))
+        Ok(Bitmap::from_record(Arc::clone(&self.bytes), self.offset, answer.mask))
     }
 
     /// Keeps the `length` flags from `offset` on. Refused as [`sliced`](Bitmap::sliced) is, and then unchanged.
@@ -243,19 +303,19 @@ impl Bitmap {
         let mut bytes = vec![0; frozen_len(length.min(Bitmap::LIMIT))];
         let answer = call(&mut bytes);
         check(answer.refusal)?;
-        Ok(Bitmap::from_record(Arc::new(bytes), answer.mask))
+        Ok(Bitmap::from_record(Arc::new(bytes), 0, answer.mask))
     }
 
-    /// The mask of a record that the library gave for these bytes.
-    pub(crate) fn from_record(bytes: Arc<Vec<u8>>, mask: calls::Mask) -> Bitmap {
+    /// The mask of a record that the library gave for these bytes from the byte `offset` on.
+    pub(crate) fn from_record(bytes: Arc<Vec<u8>>, offset: usize, mask: calls::Mask) -> Bitmap {
         let zeros = if mask.known == 0 { OnceLock::new() } else { OnceLock::from(mask.zeros) };
-        Bitmap { bytes, start: mask.start, length: mask.length, zeros }
+        Bitmap { bytes, offset: offset + mask.start / 8, start: mask.start % 8, length: mask.length, zeros, serial: mask.serial }
     }
 
     /// The record for the library, to be used with `bytes` alone, without its count: a known one is exact, and no answer but that of
     /// `slice` depends on it (the repository's theorem on counts), so that nothing is counted again.
     pub(crate) fn record(&self) -> calls::Mask {
-        calls::Mask { start: self.start, length: self.length, zeros: 0, known: 0 }
+        calls::Mask { start: self.start, length: self.length, zeros: 0, known: 0, serial: self.serial }
     }
 
     /// The same with its count, where that is known.
@@ -264,7 +324,14 @@ impl Bitmap {
         calls::Mask { zeros: zeros.unwrap_or(0), known: u8::from(zeros.is_some()), ..self.record() }
     }
 
+    /// The bytes from the one with the first flag on. What lies behind the last flag is lent too: whole words are read faster.
     pub(crate) fn bytes(&self) -> &[u8] {
-        &self.bytes
+        &self.bytes[self.offset..]
     }
+}
+
+/// The bytes from a byte on, for a span of so many flags; where there are none, the number that the library has for such a span.
+fn bytes_from(bytes: &[u8], from: usize, length: usize) -> Result<&[u8], Refusal> {
+    let refusal = if length > Bitmap::LIMIT { Refusal::AboveLimit } else { Refusal::OutsideBytes };
+    bytes.get(from..).ok_or(refusal)
 }

@@ -73,7 +73,7 @@ impl FromIterator<bool> for Bitmap {
 /// ```
 impl PartialEq for Bitmap {
     fn eq(&self, other: &Bitmap) -> bool {
-        let answer = calls::eq(self.record(), &self.bytes, other.record(), &other.bytes);
+        let answer = calls::eq(self.record(), self.bytes(), other.record(), other.bytes());
         check_passed(answer.refusal);
         answer.value
     }

@@ -191,20 +191,20 @@ pub fn opt_gather_extend_from_slice(builder: Builder, buf: &mut [u8], bytes: &[u
     }
 }
 
-/// The mask of the builder's flags, its zeros counted, over their frozen bytes. The builder is not given back: the caller has it.
-/// Refuses with 1, 4, 9; every other field is then 0.
+/// The mask of the builder's flags, its zeros counted, over their frozen bytes, under the builder's serial, which the caller
+/// kept. The builder is not given back: the caller has it. Refuses with 1, 4, 9; every other field is then 0.
 ///
 /// ```
 /// use poruwhina::calls::{builder_new, freeze, push_word_with_len_unchecked};
 ///
 /// let mut buf = [0xFF; 8];
-/// let mask = freeze(push_word_with_len_unchecked(builder_new(), &mut buf, 0x2D, 6).builder, &mut buf).mask;
+/// let mask = freeze(push_word_with_len_unchecked(builder_new(), &mut buf, 0x2D, 6).builder, &mut buf, 0).mask;
 /// assert_eq!((mask.length, mask.zeros, mask.known), (6, 2, 1));
 /// assert_eq!(buf, [0x2D, 0, 0, 0, 0, 0, 0, 0]);
 /// ```
 #[inline]
-pub fn freeze(builder: Builder, buf: &mut [u8]) -> MaskAnswer {
-    unsafe { exports::pw_freeze(builder.length, builder.word, builder.ones, buf.as_mut_ptr(), buf.len()) }
+pub fn freeze(builder: Builder, buf: &mut [u8], serial: u32) -> MaskAnswer {
+    unsafe { exports::pw_freeze(builder.length, builder.word, builder.ones, buf.as_mut_ptr(), buf.len(), serial) }
 }
 
 /// The bytes and the mask that [`freeze`] gives; no mask where all flags are set, so for no flags too. As in Arrow, no mask means
@@ -216,11 +216,11 @@ pub fn freeze(builder: Builder, buf: &mut [u8]) -> MaskAnswer {
 ///
 /// let mut buf = [0; 8];
 /// let ones = extend_constant(builder_new(), &mut buf, 6, true).builder;
-/// assert!(!into_opt_validity(ones, &mut buf).present);
+/// assert!(!into_opt_validity(ones, &mut buf, 0).present);
 /// let mixed = extend_constant(ones, &mut buf, 1, false).builder;
-/// assert!(into_opt_validity(mixed, &mut buf).present);
+/// assert!(into_opt_validity(mixed, &mut buf, 0).present);
 /// ```
 #[inline]
-pub fn into_opt_validity(builder: Builder, buf: &mut [u8]) -> ValidityAnswer {
-    unsafe { exports::pw_into_opt_validity(builder.length, builder.word, builder.ones, buf.as_mut_ptr(), buf.len()) }
+pub fn into_opt_validity(builder: Builder, buf: &mut [u8], serial: u32) -> ValidityAnswer {
+    unsafe { exports::pw_into_opt_validity(builder.length, builder.word, builder.ones, buf.as_mut_ptr(), buf.len(), serial) }
 }

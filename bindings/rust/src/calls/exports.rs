@@ -46,8 +46,8 @@ unsafe extern "C" {
         length: usize, word: u64, ones: usize, buf: *mut u8, buf_len: usize, bytes: *const u8, bytes_len: usize, start: usize, n: usize,
         idxs: *const u32, idxs_len: usize,
     ) -> BuilderAnswer;
-    pub fn pw_freeze(length: usize, word: u64, ones: usize, buf: *mut u8, buf_len: usize) -> MaskAnswer;
-    pub fn pw_into_opt_validity(length: usize, word: u64, ones: usize, buf: *mut u8, buf_len: usize) -> ValidityAnswer;
+    pub fn pw_freeze(length: usize, word: u64, ones: usize, buf: *mut u8, buf_len: usize, serial: u32) -> MaskAnswer;
+    pub fn pw_into_opt_validity(length: usize, word: u64, ones: usize, buf: *mut u8, buf_len: usize, serial: u32) -> ValidityAnswer;
     pub fn pw_bitmap_new() -> Mask;
     pub fn pw_new_zeroed(length: usize, out: *mut u8, out_len: usize) -> MaskAnswer;
     pub fn pw_try_new(bytes: *const u8, bytes_len: usize, start: usize, length: usize) -> MaskAnswer;
@@ -56,6 +56,9 @@ unsafe extern "C" {
     pub fn pw_eq(lhs: Mask, left: *const u8, left_len: usize, rhs: Mask, right: *const u8, right_len: usize) -> Flag;
     pub fn pw_num_edges(mask: Mask, bytes: *const u8, bytes_len: usize) -> Number;
     pub fn pw_num_intersections_with(lhs: Mask, left: *const u8, left_len: usize, rhs: Mask, right: *const u8, right_len: usize) -> Number;
+    pub fn pw_superseding(
+        first: Mask, first_bytes: *const u8, first_bytes_len: usize, second: Mask, second_bytes: *const u8, second_bytes_len: usize,
+    ) -> PartAnswer;
     pub fn pw_and(
         lhs: Mask, left: *const u8, left_len: usize, rhs: Mask, right: *const u8, right_len: usize, out: *mut u8, out_len: usize,
     ) -> MaskAnswer;
@@ -107,9 +110,9 @@ unsafe extern "C" {
     pub fn pw_activity_counts(
         words: *const [u64; 256], counts: *const [u32; 64], place: usize, fill: usize, width: usize, out: *mut [u32; 64],
     ) -> u8;
-    pub fn pw_interface_2() -> u32;
+    pub fn pw_interface_3() -> u32;
 }
 
 /// A library of another version has no such symbol, and does not link.
 #[used]
-static INTERFACE: unsafe extern "C" fn() -> u32 = pw_interface_2;
+static INTERFACE: unsafe extern "C" fn() -> u32 = pw_interface_3;

@@ -38,6 +38,7 @@ mod reassign;
 mod records;
 mod search;
 mod spans;
+mod superseding;
 mod window;
 mod word;
 
@@ -51,5 +52,6 @@ pub use reassign::*;
 pub use records::*;
 pub use search::*;
 pub use spans::*;
+pub use superseding::*;
 pub use window::*;
 pub use word::*;

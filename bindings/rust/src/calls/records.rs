@@ -6,7 +6,7 @@
 /// ```
 /// use poruwhina::calls::{try_new, Mask};
 ///
-/// assert_eq!(try_new(&[0x2D], 2, 4).mask, Mask { start: 2, length: 4, zeros: 0, known: 0 });
+/// assert_eq!(try_new(&[0x2D], 2, 4).mask, Mask { start: 2, length: 4, zeros: 0, known: 0, serial: 0 });
 /// ```
 #[repr(C)]
 #[derive(Clone, Copy, Debug, PartialEq, Eq, Default)]
@@ -19,6 +19,8 @@ pub struct Mask {
     pub zeros: usize,
     /// Not 0 where the zeros are known.
     pub known: u8,
+    /// The serial of the revocation list that it was drawn up under.
+    pub serial: u32,
 }
 
 /// A builder: its length, the word in progress and the ones in the finished words.
@@ -196,7 +198,7 @@ pub struct MaskAnswer {
 /// ```
 /// use poruwhina::calls::{builder_new, into_opt_validity, ValidityAnswer};
 ///
-/// assert_eq!(into_opt_validity(builder_new(), &mut []), ValidityAnswer::default());
+/// assert_eq!(into_opt_validity(builder_new(), &mut [], 0), ValidityAnswer::default());
 /// ```
 #[repr(C)]
 #[derive(Clone, Copy, Debug, PartialEq, Eq, Default)]
@@ -214,7 +216,7 @@ pub struct ValidityAnswer {
 /// ```
 /// use poruwhina::calls::{try_new, unset_bits, Mask, ZerosAnswer};
 ///
-/// let mask = Mask { start: 0, length: 6, zeros: 2, known: 1 };
+/// let mask = Mask { start: 0, length: 6, zeros: 2, known: 1, serial: 0 };
 /// assert_eq!(unset_bits(try_new(&[0x2D], 0, 6).mask, &[0x2D]), ZerosAnswer { refusal: 0, zeros: 2, mask });
 /// ```
 #[repr(C)]
@@ -226,6 +228,46 @@ pub struct ZerosAnswer {
     pub zeros: usize,
     /// The mask with its count known.
     pub mask: Mask,
+}
+
+/// The winner of two masks, or a refusal.
+///
+/// ```
+/// use poruwhina::calls::{Mask, superseding, try_new};
+///
+/// let (stored, edited) = ([0x2D, 0xF0], [0x0F]);
+/// let first = Mask { serial: 5, ..try_new(&stored, 9, 4).mask };
+/// let second = Mask { serial: 4, ..try_new(&edited, 0, 4).mask };
+/// let answer = superseding(first, &stored, second, &edited);
+/// assert_eq!((answer.second, answer.from, answer.to, answer.mask), (false, 1, 2, Mask { start: 1, ..first }));
+/// assert_eq!(answer.bytes(&stored, &edited), [0xF0]);
+/// ```
+#[repr(C)]
+#[derive(Clone, Copy, Debug, PartialEq, Eq, Default)]
+pub struct PartAnswer {
+    /// The number of the first check that failed, or 0.
+    pub refusal: u8,
+    /// Whether the second mask is the winner.
+    pub second: bool,
+    /// The first byte of the winner's part of the slice that it came with.
+    pub from: usize,
+    /// The byte past its last.
+    pub to: usize,
+    /// The winner's record over that part.
+    pub mask: Mask,
+}
+
+impl PartAnswer {
+    /// The winner's bytes, of the two slices that the call was given: after a refusal none of the first.
+    ///
+    /// ```
+    /// use poruwhina::calls::{bitmap_new, superseding};
+    ///
+    /// assert_eq!(superseding(bitmap_new(), &[], bitmap_new(), &[]).bytes(&[], &[]), []);
+    /// ```
+    pub fn bytes<'a>(&self, first: &'a [u8], second: &'a [u8]) -> &'a [u8] {
+        &(if self.second { second } else { first })[self.from..self.to]
+    }
 }
 
 /// The builder after a call, or a refusal and the builder as it came.

@@ -8,6 +8,7 @@ mod positions;
 mod reading;
 mod rebuilding;
 mod refusing;
+mod superseding;
 
 use lists::{packed, patterns};
 use poruwhina::Bitmap;

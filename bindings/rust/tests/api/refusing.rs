@@ -12,14 +12,16 @@ fn from_the_types() {
 
     assert_eq!(Bitmap::new_zeroed(above), Err(Refusal::AboveLimit));
     assert_eq!(Bitmap::new_zeroed(usize::MAX), Err(Refusal::AboveLimit));
-    assert_eq!(Bitmap::try_from_span([0], above, 0), Err(Refusal::AboveLimit));
+    assert_eq!(Bitmap::try_from_span([0], 0, above), Err(Refusal::AboveLimit));
+    assert_eq!(Bitmap::try_from_span([0], above, 0), Err(Refusal::OutsideBytes));
+    assert_eq!(Bitmap::try_from_span([0], usize::MAX, above), Err(Refusal::AboveLimit));
     assert_eq!(mask.sliced(usize::MAX, 2), Err(Refusal::AboveLimit));
     assert_eq!(TrueIdxIter::new(above, None).err(), Some(Refusal::AboveLimit));
 
     assert_eq!(Bitmap::try_new([], 1), Err(Refusal::OutsideBytes));
     assert_eq!(Bitmap::try_from_span([0], 2, 7), Err(Refusal::OutsideBytes));
 
-    assert_eq!(Bitmap::try_from_counted_span([0], above, 0, 0), Err(Refusal::AboveLimit));
+    assert_eq!(Bitmap::try_from_counted_span([0], 0, above, 0), Err(Refusal::AboveLimit));
     assert_eq!(Bitmap::try_from_counted_span([0], 2, 7, 7), Err(Refusal::OutsideBytes));
     assert_eq!(Bitmap::try_from_counted_span([0], 0, 0, 1), Err(Refusal::FalseCount));
 
@@ -72,10 +74,10 @@ fn a_refused_call_changes_nothing() {
 /// The types cannot be brought to these; the plain calls can, by records that a caller made up.
 #[test]
 fn from_the_plain_calls() {
-    let mask = calls::Mask { start: 0, length: 100, zeros: 101, known: 1 };
+    let mask = calls::Mask { start: 0, length: 100, zeros: 101, known: 1, serial: 0 };
     let bytes = [0xFF; 13];
     let builder = calls::Builder { length: 1, word: 2, ones: 0 };
-    let small = calls::Mask { start: 0, length: 1, zeros: 0, known: 0 };
+    let small = calls::Mask { start: 0, length: 1, zeros: 0, known: 0, serial: 0 };
     let numbers = [
         (calls::unset_bits(mask, &bytes).refusal, Refusal::FalseCount),
         (calls::push(builder, &mut [0; 8], true).refusal, Refusal::ImpossibleBuilder),
@@ -91,7 +93,7 @@ fn from_the_plain_calls() {
 /// A refused call gives back the very record that it got, what it does not read of it included.
 #[test]
 fn the_record_as_it_came() {
-    let odd = calls::Mask { start: 0, length: 9, zeros: 77, known: 0 };
+    let odd = calls::Mask { start: 0, length: 9, zeros: 77, known: 0, serial: 0 };
     for came in [odd, calls::Mask { zeros: 3, known: 200, ..odd }, calls::Mask { zeros: 10, known: 255, ..odd }] {
         let cut = calls::slice(came, &[0xFF], 0, 1);
         assert_eq!((cut.refusal, cut.mask), (2, came));
@@ -109,7 +111,7 @@ fn the_record_as_it_came() {
 #[test]
 fn numbers_and_words() {
     let known: Vec<u8> = (0..=255).filter(|&number| Refusal::from_number(number).is_some()).collect();
-    assert_eq!(known, [1, 2, 3, 4, 5, 6, 7, 8, 9, 16]);
+    assert_eq!(known, [1, 2, 3, 4, 5, 6, 7, 8, 9, 14, 16]);
     for number in known {
         let refusal = Refusal::from_number(number).unwrap();
         assert_eq!(refusal.number(), number);
@@ -126,7 +128,7 @@ fn the_limit() -> Result<(), Refusal> {
     let widest = Bitmap::try_from_span(bytes.clone(), limit, limit)?;
     assert_eq!(Bitmap::try_new(bytes, limit + 1), Err(Refusal::AboveLimit));
     assert_eq!((widest.unset_bits(), widest.not().unset_bits()), (0, limit));
-    assert_eq!(widest.sliced(1, 1), Err(Refusal::AboveLimit), "it would start past the limit");
+    assert_eq!(widest.sliced(1, 1), Ok(Bitmap::from([true])), "it starts past the limit of its bytes");
 
     let mut builder = BitmapBuilder::with_capacity(usize::MAX);
     builder.extend_constant(limit - 1, true)?;
@@ -171,7 +173,7 @@ fn a_false_count_is_refused() -> Result<(), Refusal> {
 #[test]
 fn a_stale_count_at_each_call() {
     let (bytes, length) = ([0x2D], 6);
-    let good = calls::Mask { start: 0, length, zeros: 2, known: 1 };
+    let good = calls::Mask { start: 0, length, zeros: 2, known: 1, serial: 0 };
     for zeros in [0, 1, 3, 6, 7, usize::MAX] {
         let stale = calls::Mask { zeros, ..good };
         let mut out = [0xAA; 8];

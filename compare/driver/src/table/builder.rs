@@ -110,14 +110,14 @@ fn ends() -> [Call; 3] {
         Call {
             name: "freeze",
             shape: Shape::BUILDER,
-            ours: |r, buf| ours::made(calls::freeze(ours::builder(r.builder), buf)),
+            ours: |r, buf| ours::made(calls::freeze(ours::builder(r.builder), buf, r.builder.serial)),
             model: |r, buf| builder::freeze(r.builder, buf),
             theirs: Theirs::Finish(|b| Some(b.freeze())),
         },
         Call {
             name: "into_opt_validity",
             shape: Shape::BUILDER,
-            ours: |r, buf| ours::validity(calls::into_opt_validity(ours::builder(r.builder), buf)),
+            ours: |r, buf| ours::validity(calls::into_opt_validity(ours::builder(r.builder), buf, r.builder.serial)),
             model: |r, buf| builder::into_opt_validity(r.builder, buf),
             theirs: Theirs::Finish(BitmapBuilder::into_opt_validity),
         },

@@ -143,7 +143,7 @@ fn their_iter(r: &Request, answer: impl FnOnce(&mut BitmapIter) -> Option<usize>
 /// The original's mask of the flags from the place on.
 fn rest(r: &Request) -> Bitmap {
     let cursor = r.cursor();
-    let mask = Mask { start: cursor.start + cursor.place, length: cursor.length - cursor.place, zeros: None };
+    let mask = Mask { start: cursor.start + cursor.place, length: cursor.length - cursor.place, zeros: None, serial: 0 };
     bitmap(Lent { mask, bytes: r.bytes() })
 }
 

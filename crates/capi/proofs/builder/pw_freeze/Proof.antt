@@ -3,8 +3,8 @@ use borrow.Author.Needs.{needs}
 use Rattle.capi.proofs.builder.pw_freeze.Statement.{statement}
 use Rattle.capi.proofs.builder.pw_freeze.Tie as tie
 
-builder-in-requires : tie.Need-builder-in-requires
-builder-in-requires c κs = search needs
+serial-builder-in-requires : tie.Need-serial-builder-in-requires
+serial-builder-in-requires c κs = search needs
 
 freeze-requires : tie.Need-freeze-requires
 freeze-requires c κs = search needs
@@ -18,10 +18,11 @@ same-length c = search needs
 returns : tie.Need-returns
 returns c =
     let did = c .before .before .before in (
-      rw (did .freeze .ensures .0, did .before .before .builder-in .ensures) at (c .frozen-out .ensures),
-      rw (did .before .before .builder-in .ensures) at (did .freeze .ensures .1),
+      rw (did .freeze .ensures .0, did .before .before .serial-builder-in .ensures) at (c .frozen-out .ensures),
+      rw (did .before .before .serial-builder-in .ensures) at (did .freeze .ensures .1),
     )
 
 pub pw-freeze-spec : {M : Type 1} → statement M
 pw-freeze-spec =
-    tie.close (tie.spec builder-in-requires freeze-requires frozen-out-requires same-length returns)
+    tie.close
+    (tie.spec serial-builder-in-requires freeze-requires frozen-out-requires same-length returns)

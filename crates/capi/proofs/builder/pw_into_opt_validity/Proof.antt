@@ -3,8 +3,8 @@ use borrow.Author.Needs.{needs}
 use Rattle.capi.proofs.builder.pw_into_opt_validity.Statement.{statement}
 use Rattle.capi.proofs.builder.pw_into_opt_validity.Tie as tie
 
-builder-in-requires : tie.Need-builder-in-requires
-builder-in-requires c κs = search needs
+serial-builder-in-requires : tie.Need-serial-builder-in-requires
+serial-builder-in-requires c κs = search needs
 
 into-opt-validity-requires : tie.Need-into-opt-validity-requires
 into-opt-validity-requires c κs = search needs
@@ -18,15 +18,15 @@ same-length c = search needs
 returns : tie.Need-returns
 returns c =
     let did = c .before .before .before in (
-      rw (did .into-opt-validity .ensures .0, did .before .before .builder-in .ensures) at (c .validity-out .ensures),
-      rw (did .before .before .builder-in .ensures) at (did .into-opt-validity .ensures .1),
+      rw (did .into-opt-validity .ensures .0, did .before .before .serial-builder-in .ensures) at (c .validity-out .ensures),
+      rw (did .before .before .serial-builder-in .ensures) at (did .into-opt-validity .ensures .1),
     )
 
 pub pw-into-opt-validity-spec : {M : Type 1} → statement M
 pw-into-opt-validity-spec =
     tie.close
     (tie.spec
-    builder-in-requires
+    serial-builder-in-requires
     into-opt-validity-requires
     validity-out-requires
     same-length

@@ -1,5 +1,5 @@
 -- The definition unfolded, field by field.
-use Rattle.masks.specs.Mask.{maskOf}
+use Rattle.masks.specs.Mask.{maskUnder}
 use Rattle.capi.specs.Records.{maskIn}
 use mathlib.Core.Path.{ap}
 use borrow.Author.Needs.{needs}
@@ -11,7 +11,7 @@ count-in-requires c κs = search needs
 
 returns : tie.Need-returns
 unfolding maskIn
-returns c = ap (maskOf _ _) (c .count-in .ensures)
+returns c = ap (maskUnder _ _ _) (c .count-in .ensures)
 
 pub mask-in-spec : {M : Type 1} → statement M
 mask-in-spec = tie.close (tie.spec count-in-requires returns)

@@ -13,11 +13,11 @@ enum-told c = search needs
 
 returns : tie.Need-returns
 unfolding maskOut
-returns c = sym (ap (maskWith _ _) (c .before .unset .given .1))
+returns c = sym (ap (maskWith _ _ _) (c .before .unset .given .1))
 
 returns-2 : tie.Need-returns-2
 unfolding maskOut
-returns-2 c = sym (ap (maskWith _ _) (c .enum-told .given .1))
+returns-2 c = sym (ap (maskWith _ _ _) (c .enum-told .given .1))
 
 pub mask-out-spec : {M : Type 1} → statement M
 mask-out-spec = tie.close (tie.spec enum-known-unset enum-told returns returns-2)

@@ -23,16 +23,19 @@ result-count-requires c κs = search needs
 same-length : tie.Need-same-length
 same-length c = search needs
 
+pair-serial-requires : tie.Need-pair-serial-requires
+pair-serial-requires c κs = search needs
+
 result-mask-requires : tie.Need-result-mask-requires
 result-mask-requires c κs = search needs
 
 returns-2 : tie.Need-returns-2
 returns-2 c =
-    let d = c .before in
+    let d = c .before .before in
     let write = d .before .before .before in
     let by = write .before .before in (
-      pair-given _ _ _ _ _ _ _ (by .before .before .pair-failure .ensures) _ _ _ (by .before .if1 .left) (by .pair-shortcut .ensures)
-          (d .result-count .ensures) (c .result-mask .ensures),
+      pair-given _ _ _ _ _ _ _ (by .before .before .pair-failure .ensures) _ _ _ _ (by .before .if1 .left) (by .pair-shortcut .ensures)
+          (d .result-count .ensures) (c .before .pair-serial .ensures) (c .result-mask .ensures),
       pair-written _ _ _ _ _ _ _ (by .before .before .pair-failure .ensures) _ _ (by .before .if1 .left) (by .pair-shortcut .ensures) (write .write-result .ensures),
     )
 
@@ -45,6 +48,7 @@ combine-two-spec =
     pair-shortcut-requires
     write-result-requires
     result-count-requires
+    pair-serial-requires
     result-mask-requires
     same-length
     returns-2)

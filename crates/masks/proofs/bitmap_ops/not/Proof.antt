@@ -1,5 +1,5 @@
 -- The number of the checks decides; the operation `Not` reads the first of three lists alone (`not-each`).
-use Rattle.masks.proofs.CombineLaws.{each-refused, each-given, not-each}
+use Rattle.masks.proofs.CombineLaws.{each-refused, each-given, not-each, one-serial}
 use borrow.Author.Needs.{needs}
 use Rattle.masks.proofs.bitmap_ops.not.Statement.{statement}
 use Rattle.masks.proofs.bitmap_ops.not.Tie as tie
@@ -27,8 +27,8 @@ returns-2 c =
     let d = c .before in
     let write = d .before .before .before in
     let known = write .before .before in
-    each-given _ _ _ _ _ _ (known .before .not-failure .ensures) _ _ _ _ (known .if1 .left)
-    (d .not-counted .ensures) (c .result-mask .ensures) (write .combine-frozen .ensures) (not-each _ _ _)
+    each-given _ _ _ _ _ _ (known .before .not-failure .ensures) _ _ _ _ _ (known .if1 .left)
+    (d .not-counted .ensures) (one-serial _) (c .result-mask .ensures) (write .combine-frozen .ensures) (not-each _ _ _)
 
 pub not-spec : {M : Type 1} → statement M
 not-spec =

@@ -20,17 +20,20 @@ not-counted-requires c κs = search needs
 same-length : tie.Need-same-length
 same-length c = search needs
 
+select-serial-requires : tie.Need-select-serial-requires
+select-serial-requires c κs = search needs
+
 result-mask-requires : tie.Need-result-mask-requires
 result-mask-requires c κs = search needs
 
 returns-2 : tie.Need-returns-2
 returns-2 c =
-    let d = c .before in
+    let d = c .before .before in
     let write = d .before .before .before in
     let known = write .before .before in
     let same = select-lengths _ _ _ _ _ _ _ (sym (known .before .select-failure .ensures) ∙ known .if1 .left) in
-    each-given _ _ _ _ _ _ (known .before .select-failure .ensures) _ _ _ _ (known .if1 .left)
-    (d .not-counted .ensures) (c .result-mask .ensures) (write .combine-frozen .ensures) (select-each _ _ _ _ _ _ _ _ _ (same .0) (same .1))
+    each-given _ _ _ _ _ _ (known .before .select-failure .ensures) _ _ _ _ _ (known .if1 .left)
+    (d .not-counted .ensures) (c .before .select-serial .ensures) (c .result-mask .ensures) (write .combine-frozen .ensures) (select-each _ _ _ _ _ _ _ _ _ (same .0) (same .1))
 
 pub select-spec : {M : Type 1} → statement M
 select-spec =
@@ -40,6 +43,7 @@ select-spec =
     returns
     combine-frozen-requires
     not-counted-requires
+    select-serial-requires
     result-mask-requires
     same-length
     returns-2)

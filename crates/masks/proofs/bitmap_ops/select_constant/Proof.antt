@@ -20,16 +20,19 @@ not-counted-requires c κs = search needs
 same-length : tie.Need-same-length
 same-length c = search needs
 
+pair-serial-requires : tie.Need-pair-serial-requires
+pair-serial-requires c κs = search needs
+
 result-mask-requires : tie.Need-result-mask-requires
 result-mask-requires c κs = search needs
 
 returns-2 : tie.Need-returns-2
 returns-2 c =
-    let d = c .before in
+    let d = c .before .before in
     let write = d .before .before .before in
     let known = write .before .before in
-    each-given _ _ _ _ _ _ (known .before .pair-failure .ensures) _ _ _ _ (known .if1 .left)
-    (d .not-counted .ensures) (c .result-mask .ensures) (write .select-frozen .ensures)
+    each-given _ _ _ _ _ _ (known .before .pair-failure .ensures) _ _ _ _ _ (known .if1 .left)
+    (d .not-counted .ensures) (c .before .pair-serial .ensures) (c .result-mask .ensures) (write .select-frozen .ensures)
     (constant-length _ _ _ _ _ _ _ (pair-lengths _ _ _ _ _ (sym (known .before .pair-failure .ensures) ∙ known .if1 .left)))
 
 pub select-constant-spec : {M : Type 1} → statement M
@@ -40,6 +43,7 @@ select-constant-spec =
     returns
     select-frozen-requires
     not-counted-requires
+    pair-serial-requires
     result-mask-requires
     same-length
     returns-2)

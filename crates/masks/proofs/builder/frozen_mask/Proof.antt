@@ -10,11 +10,11 @@ all-ones-requires c κs = search needs
 sub-zeros : tie.Need-sub-zeros
 sub-zeros c = search needs
 
-mask-of-requires : tie.Need-mask-of-requires
-mask-of-requires c κs = search needs
+mask-under-requires : tie.Need-mask-under-requires
+mask-under-requires c κs = search needs
 
 returns : tie.Need-returns
-returns c = c .mask-of .ensures ∙ rw (c .before .before .all-ones .ensures)
+returns c = c .mask-under .ensures ∙ rw (c .before .before .all-ones .ensures)
 
 pub frozen-mask-spec : {M : Type 1} → statement M
-frozen-mask-spec = tie.close (tie.spec all-ones-requires sub-zeros mask-of-requires returns)
+frozen-mask-spec = tie.close (tie.spec all-ones-requires sub-zeros mask-under-requires returns)

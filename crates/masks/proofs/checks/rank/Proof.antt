@@ -42,8 +42,15 @@ unfolding rank placeIn
 returns-9 c = sym (ap rank (c .match .keys9))
 
 returns-10 : tie.Need-returns-10
-returns-10 c = let r = c .match .rest in sym (rank-other _ (r .0 .0 .0 .0 .0 .0 .0 .0 .1) (r .0 .0 .0 .0 .0 .0 .0 .1) (r .0 .0 .0 .0 .0 .0 .1) (r .0 .0 .0 .0 .0 .1) (r .0 .0 .0 .0 .1) (r .0 .0 .0 .1) (r .0 .0 .1) (r .0 .1) (r .1))
+unfolding rank placeIn
+returns-10 c = sym (ap rank (c .match .keys10))
+
+returns-11 : tie.Need-returns-11
+returns-11 c =
+    let r = c .match .rest in
+    sym (rank-other _ (r .0 .0 .0 .0 .0 .0 .0 .0 .0 .1) (r .0 .0 .0 .0 .0 .0 .0 .0 .1) (r .0 .0 .0 .0 .0 .0 .0 .1) (r .0 .0 .0 .0 .0 .0 .1)
+    (r .0 .0 .0 .0 .0 .1) (r .0 .0 .0 .0 .1) (r .0 .0 .0 .1) (r .0 .0 .1) (r .0 .1) (r .1))
 
 pub rank-spec : {M : Type 1} → statement M
 rank-spec =
-    tie.close (tie.spec returns returns-2 returns-3 returns-4 returns-5 returns-6 returns-7 returns-8 returns-9 returns-10)
+    tie.close (tie.spec returns returns-2 returns-3 returns-4 returns-5 returns-6 returns-7 returns-8 returns-9 returns-10 returns-11)

@@ -30,7 +30,7 @@ returns-2 : tie.Need-returns-2
 returns-2 c =
     let did = c .before .before .before .before .before in
     let no = did .before .before in
-    given-way _ _ _ _ (same-checks _ _ _ (no .before .builder-failure .ensures)) _ _ _ _ (no .if1 .left) (all-set _ _ (c .before .before .all-ones .ensures) (c .if2 .taken))
+    given-way _ _ _ _ (same-checks _ _ _ (no .before .builder-failure .ensures)) _ _ _ _ (no .if1 .left) (all-set (no .before .before .before .args .self) _ (c .before .before .all-ones .ensures) (c .if2 .taken))
     (did .finish .ensures)
 
 frozen-mask-requires : tie.Need-frozen-mask-requires
@@ -47,7 +47,7 @@ returns-3 c =
     let did = other .before .before .before .before .before in
     let no = did .before .before in
     given-way _ _ _ _ (same-checks _ _ _ (no .before .builder-failure .ensures)) _ _ _ _ (no .if1 .left)
-    (not-all-set _ _ _ (other .before .before .all-ones .ensures) (other .if2 .left) (c .frozen-mask .ensures)) (did .finish .ensures)
+    (not-all-set (no .before .before .before .args .self) _ _ (other .before .before .all-ones .ensures) (other .if2 .left) (c .frozen-mask .ensures)) (did .finish .ensures)
 
 pub into-opt-validity-spec : {M : Type 1} → statement M
 into-opt-validity-spec =
