@@ -189,7 +189,7 @@ fn long_leading(flag: bool, bytes: &[u8], start: usize, length: usize, address: 
     leading_of(flag, bytes, s)
 }
 
-// In the form of `count_zeros`: the short span is read in this body, and the longer ones get a slice of their own.
+// The checks, then the short span or any other, as in `count_zeros`.
 fn leading_flags(flag: bool, bytes: &[u8], start: usize, length: usize, address: usize) -> Counted
     ensures { λ r. ⌜ countedAnswer r ≡ spanCount (now (bytes .entry)) start length address (leading flag (stretch (now (bytes .entry)) start length)) ⌝ }
 {
@@ -203,7 +203,7 @@ fn leading_flags(flag: bool, bytes: &[u8], start: usize, length: usize, address:
     if start % 8 + length <= 64 {
         return Counted::Count(short_leading(flag, bytes, start, length));
     }
-    Counted::Count(long_leading(flag, &bytes[0..], start, length, address))
+    Counted::Count(long_leading(flag, bytes, start, length, address))
 }
 
 // How many flags at the end of a span that fits a word equal `flag`: it is read as one.
@@ -223,7 +223,7 @@ fn long_trailing(flag: bool, bytes: &[u8], start: usize, length: usize, address:
     trailing_of(flag, bytes, s)
 }
 
-// In the form of `count_zeros`: the short span is read in this body, and the longer ones get a slice of their own.
+// The checks, then the short span or any other, as in `count_zeros`.
 fn trailing_flags(flag: bool, bytes: &[u8], start: usize, length: usize, address: usize) -> Counted
     ensures { λ r. ⌜ countedAnswer r ≡ spanCount (now (bytes .entry)) start length address (trailing flag (stretch (now (bytes .entry)) start length)) ⌝ }
 {
@@ -237,7 +237,7 @@ fn trailing_flags(flag: bool, bytes: &[u8], start: usize, length: usize, address
     if start % 8 + length <= 64 {
         return Counted::Count(short_trailing(flag, bytes, start, length));
     }
-    Counted::Count(long_trailing(flag, &bytes[0..], start, length, address))
+    Counted::Count(long_trailing(flag, bytes, start, length, address))
 }
 
 // How many zeros stand at the front of a span.

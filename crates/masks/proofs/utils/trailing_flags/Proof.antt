@@ -1,11 +1,9 @@
 -- As `count_zeros`: of no flags 0 (`is-empty`); else the number of the checks decides (`not-empty`), and either call ensures the count.
 use mathlib.Core.Path.{sym, ap, _∙_}
 use native.Mathlib.Omega.{arith}
-use Rattle.words.specs.Ends.{trailing}
 use Rattle.masks.specs.Answer.{given}
 use Rattle.masks.specs.Utils.{spanCount}
 use Rattle.masks.proofs.CheckLaws.{is-refused, is-given, is-empty, not-empty}
-use Rattle.masks.proofs.SpanLaws.{whole-stretch}
 use Rattle.masks.proofs.SplitLaws.{aligned-allowed}
 use borrow.Author.Needs.{needs}
 use Rattle.masks.proofs.utils.trailing_flags.Statement.{statement}
@@ -34,28 +32,19 @@ returns-3 c =
     let e = c .before .before .before in
     not-empty _ _ _ _ (e .before .if1 .left) (ap given (c .short-trailing .ensures) ∙ is-given _ _ _ _ (e .aligned-failure .ensures) (c .before .before .if2 .left))
 
-sub-long-trailing : tie.Need-sub-long-trailing
-sub-long-trailing c = search needs
-
-part-long-trailing-start : tie.Need-part-long-trailing-start
-part-long-trailing-start c = search needs
-
-part-long-trailing-end : tie.Need-part-long-trailing-end
-part-long-trailing-end c = search needs
-
 long-trailing-requires : tie.Need-long-trailing-requires
 long-trailing-requires c κs =
-    let no = c .before .before in
+    let no = c .before in
     let a = aligned-allowed _ _ _ _ (sym (no .before .aligned-failure .ensures) ∙ no .if2 .left) in
     (omega (arith, a .0), a .1)
 
 returns-4 : tie.Need-returns-4
 unfolding spanCount
 returns-4 c =
-    let no = c .before .before .before in
+    let no = c .before .before in
     let e = no .before in
     not-empty _ _ _ _ (e .before .if1 .left)
-    (ap given (c .long-trailing .ensures ∙ ap (trailing _) (whole-stretch _ _ _)) ∙ is-given _ _ _ _ (e .aligned-failure .ensures) (no .if2 .left))
+    (ap given (c .long-trailing .ensures) ∙ is-given _ _ _ _ (e .aligned-failure .ensures) (no .if2 .left))
 
 pub trailing-flags-spec : {M : Type 1} → statement M
 trailing-flags-spec =
@@ -67,8 +56,5 @@ trailing-flags-spec =
     add-if3
     short-trailing-requires
     returns-3
-    sub-long-trailing
-    part-long-trailing-start
-    part-long-trailing-end
     long-trailing-requires
     returns-4)
