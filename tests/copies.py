@@ -4,12 +4,12 @@
     python3 tests/copies.py [--write] [NAME..]
 
 Of each NAME in tests/copies there are three files: NAME.edit, the damage, in the form that tests/test_copy.py takes; NAME.stdin, requests
-with their right answers (docs/REQUESTS.md); NAME.stdout, what the program `cases` prints of them over the damaged copy: the lines that
+with their right answers (docs/REQUESTS.md), which tests/cases.py works out again; NAME.stdout, what the program `cases` prints of them over the damaged copy: the lines that
 differ, with the wrong answers, and the totals. Over the sources as they are no request of NAME.stdin may differ. --write writes NAME.stdout
 anew. The exit status is 1 if a program printed something else, 2 if an edit does not fit or a copy does not compile.
 """
-import pathlib
 import re
+import subprocess
 import sys
 
 sys.dont_write_bytecode = True
@@ -35,8 +35,9 @@ def damaged(edit, write):
 
 
 def undamaged(edits):
-    """Whether the sources as they are answer every request as its line says."""
-    right = True
+    """Whether the sources as they are answer every request as its line says, and tests/cases.py too."""
+    model = [sys.executable, ROOT / "tests" / "cases.py"]
+    right = all([subprocess.run([*model, edit.with_suffix(".stdin")], check=False).returncode == 0 for edit in edits])
     with compiled([], PROGRAM) as program:
         for edit in edits:
             got = printed(program, edit.with_suffix(".stdin")).decode()

@@ -1,5 +1,5 @@
-// Counts over bare spans. Each hands the address on to the aligned split and works from its three parts; the answer does not depend
-// on the address.
+// Counts over bare spans. A span that fits one word from its first byte on is read as one. Of others each hands the address on to the
+// aligned split and works from its three parts; the answer does not depend on the address.
 ghost use mathlib.Core.Path.{_≡_};
 ghost use mathlib.Core.Bool.{true, false};
 ghost use Prim.Native.Nat.{_+_, _-_, _*_, _/_, _%_, _≤_, _<_};
