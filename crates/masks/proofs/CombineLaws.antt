@@ -10,6 +10,7 @@ use borrow.Author.Tests.{eq-eqb, ne-eqb, eqb-true, eqb-false}
 use Rattle.words.specs.Flags.{copies, count, flagsOf, over, window}
 use Rattle.words.specs.Loops.{wholeWords, combined, stretch}
 use Rattle.words.specs.Ops.{opOf, orNot, zip3}
+use Rattle.words.proofs.AnyFlag.{unsaid}
 use Rattle.words.proofs.Combining.{zip-first, zip-two, zip-same, zip-flip, else-set, else-clear}
 use Rattle.words.proofs.Windows.{length-window}
 use Rattle.words.specs.declared.ops.Op.{Op}
@@ -65,38 +66,35 @@ unfolding eitherAll
 either-none x l r e f = rw (e, f)
 
 -- the tests say which operation it is
-not-both : {A : Type 0} → true ≡ false → A
-not-both e = absurd (let z : _≡_ {A = ℕ} 0 1 = cc e in omega arith)
-
 pub no-shortcut : (op : Op) (n l r : ℕ) → hasShortcut op ≡ false → Each ≡ shortcut op n l r
 unfolding shortcut
-no-shortcut And n l r e = not-both e
-no-shortcut Or n l r e = not-both e
-no-shortcut Xor n l r e = not-both e
+no-shortcut And n l r e = unsaid (sym e)
+no-shortcut Or n l r e = unsaid (sym e)
+no-shortcut Xor n l r e = unsaid (sym e)
 no-shortcut AndNot n l r e = refl
 no-shortcut OrNot n l r e = refl
 no-shortcut Not n l r e = refl
 no-shortcut Select n l r e = refl
 
 pub is-xor : (op : Op) (n l r : ℕ) (s : Shortcut) → isXor op ≡ true → s ≡ shortcut Xor n l r → s ≡ shortcut op n l r
-is-xor And n l r s e p = not-both (sym e)
-is-xor Or n l r s e p = not-both (sym e)
+is-xor And n l r s e p = unsaid e
+is-xor Or n l r s e p = unsaid e
 is-xor Xor n l r s e p = p
-is-xor AndNot n l r s e p = not-both (sym e)
-is-xor OrNot n l r s e p = not-both (sym e)
-is-xor Not n l r s e p = not-both (sym e)
-is-xor Select n l r s e p = not-both (sym e)
+is-xor AndNot n l r s e p = unsaid e
+is-xor OrNot n l r s e p = unsaid e
+is-xor Not n l r s e p = unsaid e
+is-xor Select n l r s e p = unsaid e
 
 pub and-or : (op : Op) (n m l r : ℕ) (s : Shortcut) → hasShortcut op ≡ true → isXor op ≡ false → n ≡ m
     → s ≡ eitherAll (isOr op) (eqb l (zerosOfAll (isOr op) n)) (eqb r (zerosOfAll (isOr op) m)) → s ≡ shortcut op n l r
 unfolding shortcut eitherAll
 and-or And n m l r s e f h p = p ∙ ap (λ (k : ℕ). eitherAll false (eqb l n) (eqb r k)) (sym h)
 and-or Or n m l r s e f h p = p
-and-or Xor n m l r s e f h p = not-both f
-and-or AndNot n m l r s e f h p = not-both (sym e)
-and-or OrNot n m l r s e f h p = not-both (sym e)
-and-or Not n m l r s e f h p = not-both (sym e)
-and-or Select n m l r s e f h p = not-both (sym e)
+and-or Xor n m l r s e f h p = unsaid (sym f)
+and-or AndNot n m l r s e f h p = unsaid e
+and-or OrNot n m l r s e f h p = unsaid e
+and-or Not n m l r s e f h p = unsaid e
+and-or Select n m l r s e f h p = unsaid e
 
 pub xor-same : (a b : Bool) → a ≡ true → All false ≡ xorAll a b
 unfolding xorAll
