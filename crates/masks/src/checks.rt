@@ -101,8 +101,8 @@ fn count_is(z: usize, bytes: &[u8], start: usize, length: usize) -> bool
     z == zeros_at(bytes, start, length, 0)
 }
 
-// Check 3: is a known zero count that of the mask's flags. `count_is` is outside this body and gets a slice of its own, so that a mask
-// whose count is unknown costs nothing.
+// Check 3: is a known zero count that of the mask's flags. What reads them is outside the callers' bodies and gets a slice of its own, so
+// that the slice given here, of a mask whose count is unknown, stays in registers.
 fn count_valid(mask: Bitmap, bytes: &[u8]) -> bool
     requires { ⌜ (mask .start ≤ limit) × (mask .length ≤ limit) ⌝ }
     ensures { λ r. ⌜ r ≡ countValid mask (now (bytes .entry)) ⌝ }
