@@ -16,7 +16,7 @@ fn is_run_list(length: usize, runs: &[Run]) -> bool {
         && runs.windows(2).all(|two| two[0].0 + two[0].1 < two[1].0)
 }
 
-/// The mask of so many trucks that has these runs, which are a run list.
+/// The mask of `length` trucks that has these runs, which are a run list.
 fn save(length: usize, runs: &[Run]) -> Result<Bitmap, Refusal> {
     let mut builder = BitmapBuilder::with_capacity(length);
     for &(start, trucks) in runs {

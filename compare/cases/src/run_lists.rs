@@ -71,7 +71,7 @@ fn edit(f: &mut File, n: u64, mask: &str, runs: &[Run], moved: &[Run], odd: bool
     lend(f, n, runs, odd);
 }
 
-/// Lends a mask with these runs, ones before and behind it: from the third bit on and counted, or from the first and not counted.
+/// Lends a mask with these runs, with ones before and after it: from bit 3 on and counted, or from bit 0 on and not counted.
 fn lend(f: &mut File, n: u64, runs: &[Run], counted: bool) -> String {
     let first = if counted { 3 } else { 0 };
     let mut bytes = vec![0xFF; (first + n).div_ceil(8) as usize];
@@ -123,7 +123,7 @@ fn save(f: &mut File, n: u64, runs: &[Run], leave_out: bool) {
     f.ask(&format!("{go_on}freeze {builder}"));
 }
 
-/// The record behind the number of the last answer.
+/// The record that follows the number in the last answer.
 fn last(f: &File) -> String {
     format!("@{}", f.last.len() - 1)
 }

@@ -91,15 +91,15 @@ joins : (k : ℕ) (r : Run) (rs : List Run) → r .start ≡ suc k → withOne k
 unfolding withOne
 joins k r rs h = rw (eq-eqb (r .start) (suc k) h)
 
-stands-off : (k : ℕ) (r : Run) (rs : List Run) → (r .start ≡ suc k → ⊥) → withOne k (r ∷ rs) ≡ runOf k 1 ∷ (r ∷ rs)
+apart-from : (k : ℕ) (r : Run) (rs : List Run) → (r .start ≡ suc k → ⊥) → withOne k (r ∷ rs) ≡ runOf k 1 ∷ (r ∷ rs)
 unfolding withOne
-stands-off k r rs h = rw (ne-eqb (r .start) (suc k) h)
+apart-from k r rs h = rw (ne-eqb (r .start) (suc k) h)
 
 -- with a flag between it is a run of its own
 single : {n : ℕ} (k p : ℕ) {rs : List Run} → suc k < p → RunsIn n p rs → withOne k rs ≡ runOf k 1 ∷ rs
 unfolding withOne
 single k p h no-more = refl
-single k p h (then-run {r = r} {more = more} a b d e) = stands-off k r more (λ (z : r .start ≡ suc k). omega arith)
+single k p h (then-run {r = r} {more = more} a b d e) = apart-from k r more (λ (z : r .start ≡ suc k). omega arith)
 
 off : (s k : ℕ) → suc k ≤ s → (s ≡ suc k → ⊥) → suc (k + 1) ≤ s
 off s k a h = omega arith
@@ -113,7 +113,7 @@ one-joined {n} k r more true q a b d e =
     (subst (λ (x : ℕ). RunsIn n x more) g e))
 one-joined {n} k r more false q a b d e =
     let apart = eqb-false (r .start) (suc k) q in
-    rw (stands-off k r more apart)
+    rw (apart-from k r more apart)
     (then-run {p = k} {r = runOf k 1} (omega arith) (omega arith) (omega arith)
     (then-run {p = suc (k + 1)} {r = r} (off (r .start) k a apart) b d e))
 
@@ -177,7 +177,7 @@ one-laid : (n k : ℕ) (r : Run) (more : List Run) (t : Bool) → eqb (r .start)
     → laidOut k n (withOne k (r ∷ more)) ≡ true ∷ laidOut (suc k) n (r ∷ more)
 one-laid n k r more true q =
     let s : r .start ≡ suc k = eqb-true (r .start) (suc k) q in ap (laidOut k n) (joins k r more s) ∙ longer-first n k r more s
-one-laid n k r more false q = ap (laidOut k n) (stands-off k r more (eqb-false (r .start) (suc k) q)) ∙ one-first n k (r ∷ more)
+one-laid n k r more false q = ap (laidOut k n) (apart-from k r more (eqb-false (r .start) (suc k) q)) ∙ one-first n k (r ∷ more)
 
 with-one : (n k : ℕ) (rs : List Run) → laidOut k n (withOne k rs) ≡ true ∷ laidOut (suc k) n rs
 unfolding withOne

@@ -78,7 +78,7 @@ run-list-rows =
       overlapping = broken refl refl refl refl;
       touching = broken refl refl refl refl;
       past = broken refl refl refl refl;
-      behind = broken refl refl refl refl;
+      at-end = broken refl refl refl refl;
       no-flags = broken refl refl refl refl;
       one = record { long = refl; runs = refl };
       rising = record { long = refl; runs = refl };

@@ -89,7 +89,7 @@ then-ends f g c cs l e rest =
       holds = rest .holds;
     }
 
--- what the calls behind it need of a builder: it has the flags l, and room for m flags more
+-- what later calls need of a builder: it has the flags l, and room for m flags more
 record Ready (f : Filling) (l : List Bool) (m : ℕ) : Type 0 where
   pub holds : Builds f l
   pub room : Room (f .builder) m (length (f .bytes))
@@ -104,7 +104,7 @@ ready-after f l j m x h r =
       room = room-after f (appended f (copies j x)) (copies j x) m (m - j) refl (omega (arith, size)) (r .room);
     }
 
--- one `extend_constant` and the calls behind it
+-- one `extend_constant` and the calls after it
 constant-ends : (f : Filling) (l : List Bool) (j m : ℕ) (x : Bool) (cs : List (Call LibraryCall)) (all : List Bool) → j ≤ m → Ready f l m
     → ((g : Filling) → Ready g (l ++ copies j x) (m - j) → Ends g cs all) → Ends f (constant j x ∷ cs) all
 constant-ends f l j m x cs all h r more =

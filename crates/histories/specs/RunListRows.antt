@@ -18,12 +18,12 @@ pub record NoRunList (n : ℕ) (rs : List Run) (x y z : Bool) : Type 0 where
   pub inside : everyRun (isInside n) rs ≡ z
   pub none : (l : List Bool) → HasRuns n rs l → ⊥
 
--- the list of flags that has these runs, 1 for set
-abbrev pub Stand : List Run → ℕ → List ℕ → Type 0
-Stand rs n flags = HasRuns n rs (map isOne flags)
+-- the n flags, 1 for set, have these runs
+abbrev pub Has : List Run → ℕ → List ℕ → Type 0
+Has rs n flags = HasRuns n rs (map isOne flags)
 
 pub record RunListRows : Type 0 where
-  -- an empty run: alone, before and behind another one
+  -- an empty run: alone, before another one and after it
   pub empty : NoRunList 4 (runOf 1 0 ∷ []) false true true
   pub empty-first : NoRunList 4 (runOf 0 0 ∷ runOf 1 1 ∷ []) false true true
   pub empty-last : NoRunList 4 (runOf 0 1 ∷ runOf 4 0 ∷ []) false true true
@@ -34,15 +34,15 @@ pub record RunListRows : Type 0 where
   pub touching : NoRunList 4 (runOf 0 1 ∷ runOf 1 2 ∷ []) true false true
   -- a run that ends one flag past the length, one that begins there, and one in no flags
   pub past : NoRunList 4 (runOf 0 1 ∷ runOf 2 3 ∷ []) true true false
-  pub behind : NoRunList 4 (runOf 4 1 ∷ []) true true false
+  pub at-end : NoRunList 4 (runOf 4 1 ∷ []) true true false
   pub no-flags : NoRunList 0 (runOf 0 1 ∷ []) true true false
   -- the same mended
-  pub one : Stand (runOf 1 1 ∷ []) 4 (0 ∷ 1 ∷ 0 ∷ 0 ∷ [])
-  pub rising : Stand (runOf 0 1 ∷ runOf 2 1 ∷ []) 4 (1 ∷ 0 ∷ 1 ∷ 0 ∷ [])
-  pub to-the-end : Stand (runOf 0 1 ∷ runOf 2 2 ∷ []) 4 (1 ∷ 0 ∷ 1 ∷ 1 ∷ [])
-  pub over-all : Stand (runOf 0 4 ∷ []) 4 (1 ∷ 1 ∷ 1 ∷ 1 ∷ [])
-  pub none : Stand [] 4 (0 ∷ 0 ∷ 0 ∷ 0 ∷ [])
-  -- 1, 0, 1, 1 saved, the empty gaps before the first run and behind the last made and left out
+  pub one : Has (runOf 1 1 ∷ []) 4 (0 ∷ 1 ∷ 0 ∷ 0 ∷ [])
+  pub rising : Has (runOf 0 1 ∷ runOf 2 1 ∷ []) 4 (1 ∷ 0 ∷ 1 ∷ 0 ∷ [])
+  pub to-the-end : Has (runOf 0 1 ∷ runOf 2 2 ∷ []) 4 (1 ∷ 0 ∷ 1 ∷ 1 ∷ [])
+  pub over-all : Has (runOf 0 4 ∷ []) 4 (1 ∷ 1 ∷ 1 ∷ 1 ∷ [])
+  pub none : Has [] 4 (0 ∷ 0 ∷ 0 ∷ 0 ∷ [])
+  -- 1, 0, 1, 1 saved: with calls for the empty gaps before the first run and after the last, and without
   pub saved : savingFrom (λ (k : ℕ). false) 4 0 (runOf 0 1 ∷ runOf 2 2 ∷ []) ≡ map append
       (extendConstant 0 false ∷ extendConstant 1 true ∷ extendConstant 1 false ∷ extendConstant 2 true ∷ extendConstant 0 false ∷ [])
   pub saved-without : savingFrom (λ (k : ℕ). true) 4 0 (runOf 0 1 ∷ runOf 2 2 ∷ []) ≡ map append

@@ -45,7 +45,7 @@ fn shown(n: Numbers) -> [u64; 12] {
     values::cursor(n.refusal, n.place, n.fill, n.width)
 }
 
-// A run of minutes: each word is a step more than the one before it. Behind a refusal no minute is pushed.
+// A run of minutes: each word is a step more than the one before it. After a refusal no minute is pushed.
 fn minutes(v: [u64; 24], out: &mut [u8]) -> Numbers {
     let many = values::word(v, 5) % 65536;
     let step = values::word(v, 4);

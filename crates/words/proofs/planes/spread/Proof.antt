@@ -1,4 +1,4 @@
--- Two halves: behind the first 32 numbers are written, behind the second all.
+-- Two halves: after the first 32 numbers are written, after the second all.
 use mathlib.Core.Path.{refl}
 use native.Mathlib.Omega.{arith}
 use borrow.Author.Needs.{needs}
