@@ -117,6 +117,23 @@ typedef struct {
     uint32_t ones;
 } pw_nth_answer;
 
+/* A position, where `found`, and the number of windows of 32 flags read. */
+typedef struct {
+    uint8_t refusal;
+    bool found;
+    size_t position;
+    size_t windows;
+} pw_next_answer;
+
+/* A truck, where `found`; the cursor for the next call; and the number of windows of 32 flags read. */
+typedef struct {
+    uint8_t refusal;
+    bool found;
+    size_t truck;
+    size_t cursor;
+    size_t windows;
+} pw_offer_answer;
+
 /* A mask. */
 typedef struct {
     uint8_t refusal;
@@ -404,6 +421,16 @@ pw_mask_answer pw_select_constant(pw_mask selector, const uint8_t *by, size_t by
 pw_flag pw_and_not_at(bool first_present, pw_mask first, const uint8_t *first_bytes, size_t first_bytes_len,
     bool second_present, pw_mask second, const uint8_t *second_bytes, size_t second_bytes_len, size_t index);
 
+/* ---- The search for a flag that is set in one mask and not in another. */
+
+/* The first position at or after `from` that is set in the first mask and not in the second, and if there is none the first from 0 on.
+ * Where not `second_present` there is no second mask, which takes nothing away: record and bytes are then not read, and 5 does not
+ * come. `windows` counts windows of 32 flags that begin at `from` and every 32 flags on below the length, then at 0 and every 32 flags
+ * on below `from`, up to the one that holds the position, or all of them. A `from` at the length is allowed, above it 6. Refuses with
+ * 1, 2, 3, 5, 6; every other field is then 0. */
+pw_next_answer pw_next_and_not(pw_mask first, const uint8_t *first_bytes, size_t first_bytes_len,
+    bool second_present, pw_mask second, const uint8_t *second_bytes, size_t second_bytes_len, size_t from);
+
 /* ---- The cursors over runs, flags and positions. A step that finds nothing gives the length as the place. */
 
 /* A cursor before the first run of ones of a mask. Refuses with 1, 2, 3; every other field is then 0. */
@@ -462,6 +489,18 @@ pw_step_answer pw_true_idx_next_chunk(size_t start, size_t length, size_t place,
 pw_flag pw_may_reassign(bool permitted, pw_mask permission, const uint8_t *permission_bytes,
     size_t permission_bytes_len, bool revoked, pw_mask revocation, const uint8_t *revocation_bytes,
     size_t revocation_bytes_len, size_t truck);
+
+/* ---- The next truck that dispatch offers. */
+
+/* The first truck at or after the cursor that is permitted and not revoked, going round to truck 0 once, and the cursor one past it
+ * for the next call. Where none is found no such truck exists, and the cursor is the one that came. `windows` counts windows of 32
+ * flags as pw_next_and_not does, at most ceil(length / 32) + 1. Where not `permitted` there is no permission mask: none is found at
+ * each cursor, with 0 windows; where not `revoked` no revocation mask, which takes nothing away: record and bytes are then not read. 5
+ * comes only with both masks, and 6 only with a permission mask: the cursor is above its length. Refuses with 1, 2, 3, 5, 6; `cursor`
+ * is then the one that came, every other field 0. */
+pw_offer_answer pw_offer(bool permitted, pw_mask permission, const uint8_t *permission_bytes,
+    size_t permission_bytes_len, bool revoked, pw_mask revocation, const uint8_t *revocation_bytes,
+    size_t revocation_bytes_len, size_t cursor);
 
 /* ---- Who was busy lately. */
 

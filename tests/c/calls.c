@@ -368,6 +368,26 @@ static void dispatch(void) {
     CHECK(pw_may_reassign(true, MASK_A, A, 1, true, MASK_A, revoked, 1, 6).refusal == PW_REFUSED_OUTSIDE_MASK);
 }
 
+/* Trucks 0, 2, 3, 5 are permitted and truck 2 is revoked: from each cursor on, round to truck 0. */
+static void offering(void) {
+    const uint8_t revoked[1] = {0x04};
+    pw_offer_answer got = pw_offer(true, MASK_A, A, 1, true, MASK_A, revoked, 1, 1);
+    CHECK(got.refusal == 0 && got.found && got.truck == 3 && got.cursor == 4 && got.windows == 1);
+    got = pw_offer(true, MASK_A, A, 1, true, MASK_A, revoked, 1, 6);
+    CHECK(got.found && got.truck == 0 && got.cursor == 1 && got.windows == 1);
+    got = pw_offer(true, MASK_A, A, 1, true, MASK_A, A, 1, 3);
+    CHECK(got.refusal == 0 && !got.found && got.truck == 0 && got.cursor == 3 && got.windows == 2);
+    got = pw_offer(false, MASK_A, NULL, 0, true, MASK_A, revoked, 1, SIZE_MAX);
+    CHECK(got.refusal == 0 && !got.found && got.cursor == SIZE_MAX && got.windows == 0);
+    got = pw_offer(true, MASK_A, A, 1, false, MASK_A, NULL, 0, 7);
+    CHECK(got.refusal == PW_REFUSED_OUTSIDE_MASK && !got.found && got.cursor == 7 && got.windows == 0);
+    pw_next_answer next = pw_next_and_not(MASK_A, A, 1, true, MASK_A, revoked, 1, 4);
+    CHECK(next.refusal == 0 && next.found && next.position == 5 && next.windows == 1);
+    next = pw_next_and_not(MASK_A, A, 1, false, MASK_A, NULL, 0, 6);
+    CHECK(next.found && next.position == 0 && next.windows == 1);
+    CHECK(pw_next_and_not(MASK_A, A, 1, false, MASK_A, NULL, 0, 7).refusal == PW_REFUSED_OUTSIDE_MASK);
+}
+
 /* Each number, beside the nearest arguments that pass; a refusal gives the record back and writes nothing. */
 /* A window of width 2, three minutes and three trucks. */
 static void activity(void) {
@@ -452,6 +472,7 @@ int main(void) {
     position_chunks();
     at_one_index();
     dispatch();
+    offering();
     activity();
     refusals();
     printf("%d checks, %d wrong\n", checks, wrong);

@@ -40,7 +40,7 @@ pub enum Permission<'a> {
 
 impl<'a> Permission<'a> {
     /// The mask, for the exports, which take whether there is one beside its record.
-    fn mask(self) -> Option<&'a Bitmap> {
+    pub(crate) fn mask(self) -> Option<&'a Bitmap> {
         match self {
             Permission::Mask(mask) => Some(mask),
             Permission::NoMask => None,

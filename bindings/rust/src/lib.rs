@@ -2,7 +2,7 @@
 //! proved against its contract.
 //!
 //! A [`Bitmap`] is made from bytes, from flags or by a [`BitmapBuilder`], cut, combined with others, counted, searched and
-//! walked; [`may_reassign`] answers for one truck. An [`ActivityWindow`] counts who was busy in the last minutes. The names are those of polars-arrow's bitmap module, of which the library is
+//! walked; [`may_reassign`] answers for one truck, [`offer`] gives the next one. An [`ActivityWindow`] counts who was busy in the last minutes. The names are those of polars-arrow's bitmap module, of which the library is
 //! a port. What a call cannot do it refuses, by a [`Refusal`] with its number and words, and nothing has changed then.
 //!
 //! ```
@@ -133,6 +133,7 @@ mod builder;
 pub mod calls;
 mod dispatch;
 mod iterator;
+mod offer;
 mod refusal;
 
 pub use activity::ActivityWindow;
@@ -140,6 +141,7 @@ pub use bitmap::Bitmap;
 pub use builder::BitmapBuilder;
 pub use dispatch::{Permission, may_reassign};
 pub use iterator::{BitChunks, BitmapIter, SlicesIterator, TrueIdxIter};
+pub use offer::{Offer, Offers, offer, offers};
 pub use refusal::Refusal;
 
 /// The example of the README, run with those of the documentation.

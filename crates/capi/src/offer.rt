@@ -23,8 +23,8 @@ fn offer_out(r: Offered) -> OfferAnswer
 // The first truck at or after the cursor that is permitted and not revoked, going round to truck 0 once, and the cursor one past it for
 // the next call. Where none is found no such truck exists, and the cursor is the one that came. `windows` counts windows of 32 flags as
 // pw_next_and_not does, at most ceil(length / 32) + 1. Where not `permitted` there is no permission mask: none is found at each cursor,
-// with 0 windows; where not `revoked` no revocation mask, which takes nothing away: record and bytes are then not read. 5 comes with both
-// masks alone, and 6 with a permission mask alone, for a cursor above its length.
+// with 0 windows; where not `revoked` no revocation mask, which takes nothing away: record and bytes are then not read. 5 comes only with
+// both masks, and 6 only with a permission mask: the cursor is above its length.
 #[no_mangle]
 pub extern "C" fn pw_offer(
     permitted: bool,

@@ -4,6 +4,7 @@ use std::ops::{BitAnd, BitOr, BitXor, Not};
 
 use super::Bitmap;
 use crate::calls;
+use crate::iterator::record_or_absent;
 use crate::refusal::{Refusal, check};
 
 /// A call that combines two masks.
@@ -54,6 +55,28 @@ impl Bitmap {
         let answer = calls::and_not_at(true, self.record(), self.bytes(), true, rhs.record(), rhs.bytes(), index);
         check(answer.refusal)?;
         Ok(answer.value)
+    }
+
+    /// The first position at or after `from` that is set here and not there, and if there is none the first from 0 on; and how many
+    /// windows of 32 flags were read for it. Without a second mask nothing is taken away. Refused with 5 where the masks differ in
+    /// length, with 6 for a place above it.
+    ///
+    /// ```
+    /// use poruwhina::{Bitmap, Refusal};
+    ///
+    /// let permitted = Bitmap::from([true, true, false, true]);
+    /// let revoked = Bitmap::from([false, false, false, true]);
+    /// assert_eq!(permitted.next_and_not(Some(&revoked), 1), Ok((Some(1), 1)));
+    /// assert_eq!(permitted.next_and_not(Some(&revoked), 2), Ok((Some(0), 2)));
+    /// assert_eq!(permitted.next_and_not(None, 2), Ok((Some(3), 1)));
+    /// assert_eq!(permitted.next_and_not(Some(&permitted), 2), Ok((None, 2)));
+    /// assert_eq!(permitted.next_and_not(None, 5), Err(Refusal::OutsideMask));
+    /// ```
+    pub fn next_and_not(&self, rhs: Option<&Bitmap>, from: usize) -> Result<(Option<usize>, usize), Refusal> {
+        let (other, bytes) = record_or_absent(rhs);
+        let answer = calls::next_and_not(self.record(), self.bytes(), rhs.is_some(), other, bytes, from);
+        check(answer.refusal)?;
+        Ok((answer.found.then_some(answer.position), answer.windows))
     }
 
     /// The flags set in one or in both. Refused with 5.

@@ -87,6 +87,10 @@ unsafe extern "C" {
         first_present: bool, first: Mask, first_bytes: *const u8, first_bytes_len: usize, second_present: bool, second: Mask,
         second_bytes: *const u8, second_bytes_len: usize, index: usize,
     ) -> Flag;
+    pub fn pw_next_and_not(
+        first: Mask, first_bytes: *const u8, first_bytes_len: usize, second_present: bool, second: Mask, second_bytes: *const u8,
+        second_bytes_len: usize, from: usize,
+    ) -> NextAnswer;
     pub fn pw_slices_new(mask: Mask, bytes: *const u8, bytes_len: usize) -> CursorAnswer;
     pub fn pw_slices_next(start: usize, length: usize, place: usize, bytes: *const u8, bytes_len: usize) -> StepAnswer;
     pub fn pw_iter_new(bytes: *const u8, bytes_len: usize, start: usize, length: usize) -> CursorAnswer;
@@ -103,6 +107,10 @@ unsafe extern "C" {
         permitted: bool, permission: Mask, permission_bytes: *const u8, permission_bytes_len: usize, revoked: bool, revocation: Mask,
         revocation_bytes: *const u8, revocation_bytes_len: usize, truck: usize,
     ) -> Flag;
+    pub fn pw_offer(
+        permitted: bool, permission: Mask, permission_bytes: *const u8, permission_bytes_len: usize, revoked: bool, revocation: Mask,
+        revocation_bytes: *const u8, revocation_bytes_len: usize, cursor: usize,
+    ) -> OfferAnswer;
     pub fn pw_activity_new(words: *mut [u64; 256], counts: *mut [u32; 64], width: usize) -> WindowAnswer;
     pub fn pw_activity_push_minute(
         words: *mut [u64; 256], counts: *mut [u32; 64], place: usize, fill: usize, width: usize, word: u64,

@@ -177,6 +177,51 @@ impl std::fmt::Display for Missing {
 
 impl std::error::Error for Missing {}
 
+/// A position, if there is one, with the windows of 32 flags read, or a refusal.
+///
+/// ```
+/// use poruwhina::calls::{next_and_not, try_new, NextAnswer};
+///
+/// let mask = try_new(&[0x20], 0, 8).mask;
+/// assert_eq!(next_and_not(mask, &[0x20], false, mask, &[], 6), NextAnswer { refusal: 0, found: true, position: 5, windows: 2 });
+/// ```
+#[repr(C)]
+#[derive(Clone, Copy, Debug, PartialEq, Eq, Default)]
+pub struct NextAnswer {
+    /// The number of the first check that failed, or 0.
+    pub refusal: u8,
+    /// Is there such a position.
+    pub found: bool,
+    /// The position.
+    pub position: usize,
+    /// How many windows were read.
+    pub windows: usize,
+}
+
+/// A truck, if there is one, the cursor for the next call and the windows of 32 flags read, or a refusal with the cursor.
+///
+/// ```
+/// use poruwhina::calls::{offer, try_new, OfferAnswer};
+///
+/// let mask = try_new(&[0x20], 0, 8).mask;
+/// let answer = OfferAnswer { refusal: 0, found: true, truck: 5, cursor: 6, windows: 1 };
+/// assert_eq!(offer(true, mask, &[0x20], false, mask, &[], 0), answer);
+/// ```
+#[repr(C)]
+#[derive(Clone, Copy, Debug, PartialEq, Eq, Default)]
+pub struct OfferAnswer {
+    /// The number of the first check that failed, or 0.
+    pub refusal: u8,
+    /// Is there such a truck.
+    pub found: bool,
+    /// The truck.
+    pub truck: usize,
+    /// The cursor for the next call: one past the truck, or as it came.
+    pub cursor: usize,
+    /// How many windows were read.
+    pub windows: usize,
+}
+
 /// A mask or a refusal.
 ///
 /// ```

@@ -4,6 +4,7 @@ mod appending;
 mod combining;
 mod lists;
 mod minutes;
+mod offering;
 mod positions;
 mod reading;
 mod rebuilding;
