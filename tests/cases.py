@@ -155,6 +155,8 @@ CALLS = {
     "push_minute": ("Wn", lambda l, record, word: push_minutes(l.o, record, [word])),
     "push_minutes": ("Wnnn", lambda l, record, *a: push_minutes(l.o, record, run_of_minutes(*a))),
     "counts": ("W", lambda l, record: activity_counts(l.x.data, record)),
+    "next_and_not": ("MOn", lambda l, a, b, place: next_and_not(a, l.x, b, l.y, place)),
+    "offer": ("OOn", lambda l, a, b, cursor: offer(a, l.x, b, l.y, cursor)),
 }
 
 WRITERS = {name for name in CALLS if name.split("_")[0] in ("store", "copy", "push", "extend", "subslice", "gather", "opt")}

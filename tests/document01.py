@@ -383,6 +383,41 @@ def superseding_bytes(first, a, s, second, b, t):
     return (b if later else a).data[start:end]
 
 
+def next_and_not(first, a, second, b, place):
+    """Paper 02 (m): the first position at or after the place, else the first from 0 on; and the windows up to the one that holds it."""
+    n = first[1]
+    checks = mask_checks(first, a) + [(6, place <= n)]
+    if second is not None:
+        checks += mask_checks(second, b) + [(5, second[1] == n)]
+    check(checks)
+    free = piece(a, *first[:2])
+    if second is not None:
+        free &= ~piece(b, *second[:2])
+    ahead, windows = free >> place, len(range(place, n, 32))
+    if ahead:
+        position = place + lowest(ahead)
+        return [position, len(range(place, position + 1, 32))]
+    if free:
+        return [lowest(free), windows + len(range(0, lowest(free) + 1, 32))]
+    return [MISSING, windows + len(range(0, place, 32))]
+
+
+def lowest(x):
+    return (x & -x).bit_length() - 1
+
+
+def offer(permission, p, revocation, r, cursor):
+    """An absent mask is None; with no permission mask there is no truck, and a revocation mask is only checked."""
+    try:
+        if permission is None:
+            check([] if revocation is None else mask_checks(revocation, r))
+            return [MISSING, cursor, 0]
+        truck, windows = next_and_not(permission, p, revocation, r, cursor)
+    except Refused as refusal:
+        raise Refused(refusal.args[0], [cursor]) from None
+    return [truck, cursor if truck == MISSING else truck + 1, windows]
+
+
 # Cursors: start, length, place; the one over positions has a mask or not.
 
 

@@ -6,7 +6,7 @@ use crate::token::{Checksum, Token};
 use model::combine::{self, Op};
 use model::loops::{self, Stretch, WordOp};
 use model::spans::{self, Count};
-use model::{Answer, Builder, Cursor, Lent, Mask, Span, State, builder, cursors, dispatch, mask, superseding, words};
+use model::{Answer, Builder, Cursor, Lent, Mask, Span, State, builder, cursors, dispatch, mask, next, superseding, words};
 
 /// What is lent to one call.
 pub struct Lents<'a> {
@@ -160,6 +160,16 @@ fn of_spans(name: &str, a: &mut Args, x: &[u8]) -> Option<Reply> {
     }))
 }
 
+/// A search's answer: the values, the first of which is missing where nothing is found; refused, what came.
+fn searched(answer: Answer, values: usize) -> Reply {
+    let missing = answer.refusal == 0 && answer.values.len() < values;
+    let mut reply = gave(answer);
+    if missing {
+        reply.tokens.insert(1, Token::Missing);
+    }
+    reply
+}
+
 fn of_cursors(name: &str, a: &mut Args, l: &Lents) -> Option<Reply> {
     Some(match name {
         "SlicesIterator::new" => gave(cursors::slices_new(Lent { mask: a.mask(), bytes: l.x })),
@@ -201,6 +211,8 @@ fn of_masks(name: &str, a: &mut Args, l: &Lents) -> Option<Reply> {
         }
         "and_not_at" => combine::and_not_at(a.optional().map(first), a.optional().map(second), a.number()),
         "may_reassign" => dispatch::may_reassign(a.optional().map(first), a.optional().map(second), a.number()),
+        "next_and_not" => return Some(searched(next::next_and_not(first(a.mask()), a.optional().map(second), a.number()), 2)),
+        "offer" => return Some(searched(next::offer(a.optional().map(first), a.optional().map(second), a.number()), 3)),
         _ => return None,
     }))
 }

@@ -107,6 +107,12 @@ pub fn write(f: &mut File) {
         f.ask(request);
         assert_eq!(f.last[0], Token::Number(number), "{request}");
     }
+    let place = OPTIONAL.replace("{64|70|6}", "{70|71|6}");
+    choices(f, &format!("next_and_not {} {TWO_SIZES}", place.strip_prefix("1 ").expect("a first mask")));
+    choices(f, &format!("offer {place} {TWO_SIZES}"));
+    choices(f, "next_and_not {3|4194305|1} 70 {?|71|3} 0 0 0 ? {70|71|6} x:{524352|9|2}");
+    choices(f, "offer 1 {3|4194305|1} 70 {?|71|3} 0 0 0 ? {70|71|6} x:{524352|9|2}");
+    choices(f, "offer 0 0 0 ? 1 {3|4194305|1} 70 {?|71|3} xffffffffffffffff y:{524352|9|2}");
     f.note("several checks at once: the builder, and outputs of new masks");
     f.lend_numbers(&[0]);
     f.lend_pattern('o', &paint(7, 251), 524_352);

@@ -11,6 +11,7 @@ pub mod cursors;
 pub mod dispatch;
 pub mod loops;
 pub mod mask;
+pub mod next;
 pub mod spans;
 pub mod superseding;
 pub mod words;

@@ -3,10 +3,10 @@
 // A name stands behind two letters: how many arguments the call has, and its output: `o` the bytes, `i` the numbers, `-` none. A new
 // call is a name at the end of a row, or in a new row.
 
-pub const ROWS: usize = 21;
+pub const ROWS: usize = 22;
 
 // The numbers of calls are below it.
-pub const CALLS: usize = 168;
+pub const CALLS: usize = 176;
 
 fn row(r: usize) -> [u8; 144] {
     match r {
@@ -72,7 +72,8 @@ fn writing_row(r: usize) -> [u8; 144] {
         17 => padded(b"3onot 9oselect 7oselect_constant "),
         18 => padded(b"5ogather_extend_from_slice 5oopt_gather_extend_from_slice "),
         19 => padded(b"4inext_chunk 3icounts "),
-        _ => padded(b"1oActivityWindow::new 4opush_minute 6opush_minutes "),
+        20 => padded(b"1oActivityWindow::new 4opush_minute 6opush_minutes "),
+        _ => padded(b"8-next_and_not 9-offer "),
     }
 }
 

@@ -34,7 +34,8 @@ pub(crate) fn answer(
         12..=17 => writing(call, v, inputs, out),
         18 => gathering(call, v, inputs, given, out),
         19 => listing(call % 8, v, inputs, numbers),
-        _ => writing(call, v, inputs, out),
+        20 => writing(call, v, inputs, out),
+        _ => mask_calls::searching(call % 8, v, x(inputs, v), y(inputs, v)),
     }
 }
 

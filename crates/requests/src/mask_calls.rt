@@ -4,6 +4,8 @@ use crate::sums;
 use crate::values;
 use dispatch::dispatch::Reassign;
 use dispatch::dispatch::may_reassign;
+use dispatch::offer::Offered;
+use dispatch::offer::offer;
 use masks::at_index::FlagAt;
 use masks::at_index::and_not_at;
 use masks::bitmap::Bitmap;
@@ -15,6 +17,8 @@ use masks::bitmap_ops::Combined;
 use masks::builder::BitmapBuilder;
 use masks::compare;
 use masks::compare::Compared;
+use masks::next_and_not::Searched;
+use masks::next_and_not::next_and_not;
 use masks::superseding;
 use masks::superseding::Winner;
 
@@ -84,6 +88,25 @@ fn comparing(call: usize, v: [u64; 24], x: &[u8], y: &[u8]) -> [u64; 12] {
             values::size(v, 8),
         )),
         _ => may(may_reassign(
+            values::optional(v, 0),
+            x,
+            values::optional(v, 4),
+            y,
+            values::size(v, 8),
+        )),
+    }
+}
+
+pub(crate) fn searching(call: usize, v: [u64; 24], x: &[u8], y: &[u8]) -> [u64; 12] {
+    match call {
+        0 => next(next_and_not(
+            values::mask(v, 0),
+            x,
+            values::optional(v, 3),
+            y,
+            values::size(v, 7),
+        )),
+        _ => offered(offer(
             values::optional(v, 0),
             x,
             values::optional(v, 4),
@@ -167,6 +190,29 @@ fn flag_at(r: FlagAt) -> [u64; 12] {
     match r {
         FlagAt::Flag(flag) => values::one(values::digit(flag)),
         FlagAt::Refused(number) => values::refused(number),
+    }
+}
+
+fn next(r: Searched) -> [u64; 12] {
+    match r {
+        Searched::At(position, windows) => values::two(values::big(position), values::big(windows)),
+        Searched::Missing(windows) => values::missing_then(values::big(windows)),
+        Searched::Refused(number) => values::refused(number),
+    }
+}
+
+fn offered(r: Offered) -> [u64; 12] {
+    match r {
+        Offered::Truck(truck, next, windows) => values::three(
+            values::big(truck),
+            values::big(next),
+            values::big(windows),
+        ),
+        Offered::NoTruck(same, windows) => values::missing_two(
+            values::big(same),
+            values::big(windows),
+        ),
+        Offered::Refused(number, same) => values::refused_with(number, values::big(same)),
     }
 }
 

@@ -104,9 +104,23 @@ pub(crate) fn none() -> [u64; 12] {
     [0, 0, 0, 0, 0, 0, 0, 0, 2, 0, 2, 0]
 }
 
-// None, and how many there are.
-pub(crate) fn none_of(many: u64) -> [u64; 12] {
-    [0, 0, many, 0, 0, 0, 0, 0, 3, 0, 2, 0]
+pub(crate) fn three(a: u64, b: u64, c: u64) -> [u64; 12] {
+    tokens(4, 0, a, b, c, 0, 0)
+}
+
+// None, where one number would be, and one number.
+pub(crate) fn missing_then(a: u64) -> [u64; 12] {
+    [0, 0, a, 0, 0, 0, 0, 0, 3, 0, 2, 0]
+}
+
+// None, and two numbers.
+pub(crate) fn missing_two(a: u64, b: u64) -> [u64; 12] {
+    [0, 0, a, b, 0, 0, 0, 0, 4, 0, 2, 0]
+}
+
+// The refusing number, and what came.
+pub(crate) fn refused_with(number: u8, a: u64) -> [u64; 12] {
+    tokens(2, byte(number), a, 0, 0, 0, 0)
 }
 
 pub(crate) fn refused(number: u8) -> [u64; 12] {

@@ -47,7 +47,7 @@ pub(crate) fn counting(call: usize, v: [u64; 24]) -> [u64; 12] {
 fn set_bit(r: Nth) -> [u64; 12] {
     match r {
         Nth::At(place) => values::one(values::wide(place)),
-        Nth::Missing(ones) => values::none_of(values::wide(ones)),
+        Nth::Missing(ones) => values::missing_then(values::wide(ones)),
     }
 }
 

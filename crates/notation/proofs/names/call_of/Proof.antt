@@ -5,10 +5,10 @@ use Rattle.notation.proofs.names.call_of.Statement.{statement}
 use Rattle.notation.proofs.names.call_of.Tie as tie
 
 abbrev Inv-loop : tie.InvT-loop
-Inv-loop text r₀ r = r ≤ 21
+Inv-loop text r₀ r = r ≤ 22
 
 abbrev μ-loop : tie.MeasureT-loop
-μ-loop text r₀ r = 21 - r
+μ-loop text r₀ r = 22 - r
 
 loop-holds : tie.Need-loop-holds Inv-loop μ-loop
 loop-holds c = search needs

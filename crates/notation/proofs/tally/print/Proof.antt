@@ -5,10 +5,10 @@ use Rattle.notation.proofs.tally.print.Statement.{statement}
 use Rattle.notation.proofs.tally.print.Tie as tie
 
 abbrev Inv-loop : tie.InvT-loop
-Inv-loop list call₀ call = call ≤ 168
+Inv-loop list call₀ call = call ≤ 176
 
 abbrev μ-loop : tie.MeasureT-loop
-μ-loop list call₀ call = 168 - call
+μ-loop list call₀ call = 176 - call
 
 loop-holds : tie.Need-loop-holds Inv-loop μ-loop
 loop-holds c = search needs
