@@ -46,6 +46,16 @@ pub fn run(driver: &Driver) {
         original: Some(of_two(m, |a, b| (a.bitmap == b.bitmap) as usize)),
         plain: Some(of_two(m, |a, b| plain::eq(span(a), span(b)) as usize)),
     });
+    driver.each("superseding, equal serials", Kind::Half, &[1, 1], |m| Sides {
+        ours: of_two(m, |a, b| part(calls::superseding(a.mask, a.bytes(), b.mask, b.bytes()))),
+        original: None,
+        plain: Some(of_two(m, |a, b| if plain::eq(span(a), span(b)) { plain_part(a) } else { 0 })),
+    });
+    driver.each("superseding, other serials", Kind::Half, &[1, 2], |m| Sides {
+        ours: of_two(m, |a, b| part(calls::superseding(a.mask, a.bytes(), calls::Mask { serial: 1, ..b.mask }, b.bytes()))),
+        original: None,
+        plain: Some(of_two(m, |_, b| plain_part(b))),
+    });
     driver.each("num_edges", Kind::Half, &[1], |m| Sides {
         ours: number(&m[0], |m| calls::num_edges(m.mask, m.bytes()).value),
         original: Some(number(&m[0], |m| m.bitmap.num_edges())),
@@ -63,4 +73,13 @@ fn plain_edges(m: &Input) -> usize {
     let here = plain::Span::new(m.padded(), m.start, shorter);
     let next = plain::Span::new(m.padded(), m.start + 1, shorter);
     plain::count(here, next, |x, y| x ^ y)
+}
+
+/// How many bytes the winner's part has.
+fn part(answer: calls::PartAnswer) -> usize {
+    answer.to - answer.from
+}
+
+fn plain_part(m: &Input) -> usize {
+    (m.start + m.length).div_ceil(8) - m.start / 8
 }
