@@ -3,6 +3,7 @@
 use crate::combinations::{combinations, masks};
 use crate::file::File;
 use crate::patterns::{MAX, MOST, paint, zeros};
+use crate::token::show;
 
 const CALLS: [&str; 3] = ["superseding_part", "superseding", "superseding_bytes"];
 
@@ -88,9 +89,10 @@ fn refusals(f: &mut File) {
     f.lend('x', &bytes);
     f.lend('y', &paint(8, 24));
     let most = MOST + 1;
+    let max = show(MAX);
     for name in CALLS {
-        for first in [format!("3 70 {known}"), "3 70 71".into(), format!("3 {most} ?"), "3 190 ?".into(), format!("{MAX} {MAX} {MAX}")] {
-            for second in ["5 70 ?".to_string(), "5 70 71".into(), format!("{most} 70 ?"), "5 188 ?".into(), format!("{MAX} {MAX} ?")] {
+        for first in [format!("3 70 {known}"), "3 70 71".into(), format!("3 {most} ?"), "3 190 ?".into(), format!("{max} {max} {max}")] {
+            for second in ["5 70 ?".to_string(), "5 70 71".into(), format!("{most} 70 ?"), "5 188 ?".into(), format!("{max} {max} ?")] {
                 f.ask(&format!("{name} {first} {second} s:0,1 t:1,4294967295"));
             }
         }
