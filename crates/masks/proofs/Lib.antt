@@ -2,6 +2,7 @@
 pub mod Accepted
 pub mod AndNotFlag
 pub mod AnswerLaws
+pub mod AnswerPlain
 pub mod AppendLaws
 pub mod AppendPlain
 pub mod AtIndexLaws

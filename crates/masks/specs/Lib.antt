@@ -1,6 +1,7 @@
 -- What the contracts of this crate mean. `Checks`, `Answer` and `Mask` are read first.
 pub mod Aligned
 pub mod Answer
+pub mod AnswerPlain
 pub mod AppendPlain
 pub mod Appends
 pub mod AtIndex

@@ -18,4 +18,5 @@ mod RowLaws
 pub mod UniformLaws
 pub mod Windows
 pub mod Writing
+pub mod WordRows
 pub mod WrongAnswers
