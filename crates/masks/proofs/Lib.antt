@@ -14,6 +14,7 @@ pub mod CompareLaws
 pub mod CountPlain
 pub mod CursorLaws
 pub mod CursorPlain
+pub mod EdgeRows
 pub mod Examples
 pub mod ExtendLaws
 pub mod FreezeLaws

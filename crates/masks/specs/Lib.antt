@@ -15,6 +15,7 @@ pub mod CountPlain
 pub mod CountsUnseen
 pub mod Cursor
 pub mod CursorPlain
+pub mod EdgeRows
 pub mod Examples
 pub mod Freeze
 pub mod Frozen
