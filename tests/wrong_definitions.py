@@ -1,7 +1,8 @@
 #!/usr/bin/env python3
 """Tries wrong definitions: each must be refused by a table or by a theorem, not only by laws that serve the functions' proofs.
 
-    tests/wrong_definitions.py [--gate] [--find] [--jobs N] [--logs DIR] [--root DIR] [CRATE | DEFINITION ..]
+    tests/wrong_definitions.py [--gate] [--find [--tables]] [--jobs N] [--logs DIR] [CRATE | DEFINITION ..]
+    tests/wrong_definitions.py --page [--write]
 
 A contract says that a call equals a definition, so a wrong definition makes a wrong library provable: code and laws would be
 changed along with it. What shuts it out are computed tables and theorems that say what the definition is for. The wrong definitions
@@ -25,11 +26,13 @@ said of it:
     NOT REFUSED           nothing of what was checked refuses it
     BAD                   the text is not in the file just once, or a definition is not accepted: it shows nothing
 
-    --gate        for each definition that an `ensures` of a public function names, and for each statement, the first entry only
+    --gate        all that a table must refuse, and the first entry of each other definition
+    --page        compare the table of docs/CONTRACTS.md with the entries, or with --write write it anew; nothing is tried
     --find        look through all tables and theorems of all crates, and print what refuses; entries need no place then
     --tables      with --find: through the tables alone, which takes a second or two an entry
     --jobs N      how many are tried at a time; otherwise RT_JOBS, or the processors, at most 4
     --logs DIR    keeps what the checker said
+    --root DIR    another copy of the repository
 
 The status is 1 where one was not refused as it must be, and 2 where the unedited copy is not accepted."""
 import argparse
@@ -46,7 +49,11 @@ import time
 
 ROOT = pathlib.Path(__file__).resolve().parent.parent
 TABLES = ("Examples", "Witnesses", "WrongAnswers", "*Rows", "GoesOn")
-THEOREMS = ("Histories", "Plain", "*Plain", "RunsWhole", "SearchCursor", "SliceTruth", "TrueLaws", "Accepted", "AndNotFlag", "Refusals", "Minutes", "CombinedLaws")
+THEOREMS = ("Histories", "Plain", "*Plain", "RunsWhole", "SearchCursor", "SliceTruth", "TrueLaws", "Accepted", "AndNotFlag", "Refusals")
+THEOREMS += ("Minutes", "CombinedLaws")
+KIND = re.compile(
+    r"(?:#\[[^\]]*\]\s*)*(?:pub(?:\([a-z]+\))?\s+)?(ghost\s+use|const\s+fn|use|mod|struct|enum|type|const|impl|fn|extern)\b"
+)
 
 
 def fail(text):
@@ -89,7 +96,8 @@ def items(code, at, end):
 
 
 def kind(code):
-    found = re.match(r"(?:#\[[^\]]*\]\s*)*(?:pub(?:\([a-z]+\))?\s+)?(ghost\s+use|const\s+fn|use|mod|struct|enum|type|const|impl|fn|extern)\b", code)
+    """What an item declares."""
+    found = KIND.match(code)
     return re.sub(r"\s+", " ", found[1]) if found else ""
 
 
@@ -343,18 +351,45 @@ def sort_out(found):
     return f"{head}: {', '.join(tables)} | {', '.join(theorems[:4])} | laws {', '.join(laws[:3])} ({len(laws)}) | blocked {len(blocked)}"
 
 
-def named_directly():
-    """The definitions that an `ensures` of a public function names."""
-    sys.path.insert(0, str(ROOT / "tests"))
-    import calls_page
+def page_lines(found):
+    """The rows of the table of docs/CONTRACTS.md: for each file the definitions, with how many wrong ones are tried, and what refuses."""
+    files = {}
+    for entry in found:
+        file = f"{entry.crate}/{entry.pairs[0][0]}" if len({pair[0] for pair in entry.pairs}) == 1 else "several files"
+        names, places = files.setdefault(file, ({}, {}))
+        names[entry.definition] = names.get(entry.definition, 0) + 1
+        place = entry.place.split(" ")[0]
+        places[place] = places.get(place, 0) + 1
+    for file, (names, places) in files.items():
+        tried = ", ".join(f"`{name}` {n}" if n > 1 else f"`{name}`" for name, n in names.items())
+        refused = ", ".join(f"`{place}` {n}" for place, n in sorted(places.items(), key=lambda pair: -pair[1]))
+        yield f"| `{file}` | {tried} | {refused} |"
 
-    return {word.split("·")[-1] for _, words in calls_page.clauses() for word in words}
+
+def page(found, write):
+    """Compares the table of the page with the entries, or writes it. Returns the status."""
+    path = ROOT / "docs" / "CONTRACTS.md"
+    text = path.read_text(encoding="utf-8")
+    head = "| file | definitions, and how many wrong ones of each | refused by |\n|---|---|---|\n"
+    before, after = text.split(head)
+    rest = after[after.index("\n\n") :] if "\n\n" in after else "\n"
+    new = before + head + "\n".join(page_lines(found)) + rest
+    if write:
+        path.write_text(new, encoding="utf-8")
+    elif new != text:
+        print("wrong_definitions: the table of docs/CONTRACTS.md differs from tests/wrong: see --page --write")
+        return 1
+    tables = sum(not entry.theorem for entry in found)
+    print(f"wrong_definitions: {len(found)} entries, {tables} with a table, {len(found) - tables} with a theorem; as in docs/CONTRACTS.md")
+    return 0
 
 
 def main():
-    ask = argparse.ArgumentParser(prog="tests/wrong_definitions.py", description=__doc__.split("\n")[0], epilog="The head of the file says how.")
+    ask = argparse.ArgumentParser(prog="tests/wrong_definitions.py", description=__doc__.split("\n")[0])
     ask.add_argument("names", nargs="*", metavar="CRATE | DEFINITION")
     ask.add_argument("--gate", action="store_true")
+    ask.add_argument("--page", action="store_true")
+    ask.add_argument("--write", action="store_true")
     ask.add_argument("--find", action="store_true")
     ask.add_argument("--tables", action="store_true")
     ask.add_argument("--jobs", type=int, default=int(os.environ.get("RT_JOBS") or min(4, os.cpu_count() or 1)))
@@ -363,13 +398,16 @@ def main():
     options = ask.parse_args()
     began = time.time()
     crates = read_crates(options.root)
-    chosen = [e for e in entries(options.root, crates) if not options.names or e.crate in options.names or e.definition in options.names]
+    chosen = entries(options.root, crates)
+    if options.page:
+        return page(chosen, options.write)
+    if options.names:
+        chosen = [entry for entry in chosen if entry.crate in options.names or entry.definition in options.names]
     if options.gate:
         first = {}
         for entry in chosen:
             first.setdefault((entry.crate, entry.definition), entry)
-        named = named_directly()
-        chosen = [e for e in first.values() if e.definition in named or e.crate == "histories" or e.file.endswith("Refusals.antt")]
+        chosen = [entry for entry in chosen if not entry.theorem or first[entry.crate, entry.definition] is entry]
     if not chosen:
         fail("there is no such entry")
     everywhere = [(path.parent.parent.name, path.stem) for path in sorted(options.root.glob("crates/*/proofs/*.antt"))

@@ -1,5 +1,6 @@
 -- The laws of the crate.
 pub mod AndNotFlag
+pub mod AnswerPlain
 pub mod DispatchLaws
 pub mod OfferLaws
 pub mod Refusals

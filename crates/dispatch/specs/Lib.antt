@@ -1,4 +1,5 @@
 -- What the contracts of this crate mean.
+pub mod AnswerPlain
 pub mod CountsUnseen
 pub mod Dispatch
 pub mod Offer

@@ -16,18 +16,19 @@ use Rattle.masks.specs.AtIndex.{andNotAtOf}
 use Rattle.masks.specs.Bitmask.{splitAt, windowAt}
 use Rattle.masks.specs.Builder.{builderOf, newBuilder}
 use Rattle.masks.specs.Chunks.{chunksAt, nextChunk, chunksRemainder}
-use Rattle.masks.specs.Combine.{And, pairBytes, notBytes, selectBytes, selectConstantBytes}
-use Rattle.masks.specs.Compare.{eqOf}
+use Rattle.masks.specs.Combine.{And, pairOf, pairBytes, notOf, notBytes, selectOf, selectBytes, selectConstantOf, selectConstantBytes}
+use Rattle.masks.specs.Compare.{eqOf, commonOf}
 use Rattle.masks.specs.Examples.{Value, mask, count, bytes, accepted, refusal, slicedValue, frozenIn}
 use Rattle.masks.specs.Freeze.{freezeOf, freezeBytes, intoOptValidityOf}
 use Rattle.masks.specs.Iterator.{iterAt, nthFlag, takeLeading}
 use Rattle.masks.specs.Mask.{maskOf, tryNewOf, newZeroedOf, newZeroedBytes, sliceOf}
 use Rattle.masks.specs.Positions.{positionsOver}
 use Rattle.masks.specs.RuleRows.{Row, row}
-use Rattle.masks.specs.SliceIterator.{slicesAt, nextSlice}
+use Rattle.masks.specs.SliceIterator.{slicesAt, newSlices, nextSlice}
 use Rattle.masks.specs.TrueIdx.{trueAt, newTrue, nextTrue}
 use Rattle.masks.specs.Utils.{spanCount}
 use Rattle.masks.specs.Witnesses.{byte, whole, shorter, buffer}
+use Rattle.masks.specs.declared.aligned.AlignedBitmapSlice.{AlignedBitmapSlice}
 use Rattle.masks.specs.declared.bitmap.Bitmap.{Bitmap}
 use Rattle.masks.specs.declared.bitmap.Optional.the-variants.{Present, Absent}
 use Rattle.masks.specs.declared.bitmap.Unset.the-variants.{Known, Unknown}
@@ -144,6 +145,43 @@ edgeRows =
     ∷ row (appendSaid newBuilder 8 (extendRepeated byte 0 8 9)) (refusal 9)
     ∷ []
 
+-- ---- each mask that a call takes is tested
+
+-- a mask that does not lie in its byte, and one of the byte, which has four zeros, with a count of 3
+abbrev pub past : Bitmap
+past = maskOf 2 7 Unknown
+
+abbrev pub false-count : Bitmap
+false-count = maskOf 0 8 (Known 3)
+
+unfoldable pub maskRows : List Row
+maskRows =
+    row (said (eqOf past byte whole byte)) (refusal 2)
+    ∷ row (said (eqOf whole byte past byte)) (refusal 2)
+    ∷ row (said (eqOf whole byte false-count byte)) (refusal 3)
+    ∷ row (said (commonOf whole byte past byte)) (refusal 2)
+    ∷ row (said (commonOf whole byte false-count byte)) (refusal 3)
+    ∷ row (said (commonOf whole byte shorter byte)) (refusal 5)
+    ∷ row (said (pairOf And whole byte past byte buffer)) (refusal 2)
+    ∷ row (said (pairOf And false-count byte whole byte buffer)) (refusal 3)
+    ∷ row (said (pairOf And whole byte false-count byte buffer)) (refusal 3)
+    ∷ row (said (pairOf And whole byte shorter byte buffer)) (refusal 5)
+    ∷ row (said (pairOf And whole byte whole byte (replicate 7 0xAA))) (refusal 9)
+    ∷ row (said (notOf whole byte (replicate 7 0xAA))) (refusal 9)
+    ∷ row (said (selectOf whole byte past byte whole byte buffer)) (refusal 2)
+    ∷ row (said (selectOf whole byte whole byte past byte buffer)) (refusal 2)
+    ∷ row (said (selectOf whole byte shorter byte whole byte buffer)) (refusal 5)
+    ∷ row (said (selectOf whole byte whole byte shorter byte buffer)) (refusal 5)
+    ∷ row (said (selectConstantOf whole byte past byte true buffer)) (refusal 2)
+    ∷ row (said (selectConstantOf whole byte shorter byte true buffer)) (refusal 5)
+    ∷ row (said (andNotAtOf (Present whole) byte (Present past) byte 0)) (refusal 2)
+    ∷ row (said (andNotAtOf (Present whole) byte (Present shorter) byte 0)) (refusal 5)
+    ∷ row (said (newTrue 7 (Present whole) byte)) (refusal 5)
+    ∷ row (said (newSlices false-count byte)) (refusal 3)
+    ∷ row (appendSaid newBuilder 8 (extendBitmap past byte 0 1)) (refusal 2)
+    ∷ row (appendSaid newBuilder 8 (extendBitmap false-count byte 0 1)) (refusal 3)
+    ∷ []
+
 -- ---- a refused call writes nothing
 
 unfoldable pub unwrittenRows : List Row
@@ -157,6 +195,33 @@ unwrittenRows =
     ∷ row (bytes (appendBytes (extendConstant 65 true) newBuilder buffer)) (bytes buffer)
     ∷ row (bytes (freezeBytes (builderOf 1 2 0) buffer)) (bytes buffer)
     ∷ row (bytes (positionsOver (trueAt 2 7 0 true) byte (9 ∷ 9 ∷ []))) (bytes (9 ∷ 9 ∷ []))
+    ∷ []
+
+-- ---- the aligned split
+
+-- its numbers: the prefix, its length, the byte where the words begin, how many there are, the suffix, its length
+abbrev pub splitNumbers : Answer (Unit {0}) AlignedBitmapSlice → List ℕ
+splitNumbers (given s) = s .prefix ∷ s .«prefix_len» ∷ s .«bulk_start» ∷ s .«bulk_len» ∷ s .suffix ∷ s .«suffix_len» ∷ []
+splitNumbers (refused k s) = []
+
+pub record SplitRow : Type 0 where
+  pub computed : List ℕ
+  pub stated : List ℕ
+
+-- a span of 17 bytes 0x2D, of n flags from `start` on, whose first byte has this address remainder
+abbrev pub splitRow : ℕ → ℕ → ℕ → List ℕ → SplitRow
+splitRow start n address stated = record { computed = splitNumbers (alignedOf (replicate 17 0x2D) start n address); stated = stated }
+
+unfoldable pub splitRows : List SplitRow
+splitRows =
+    -- A span that fits a word from its first byte on is all prefix: 64 flags from 0 on do, 65 do not, nor 64 from 1 on.
+    splitRow 0 64 0 (0x2D2D2D2D2D2D2D2D ∷ 64 ∷ 0 ∷ 0 ∷ 0 ∷ 0 ∷ [])
+    ∷ splitRow 0 65 0 (0 ∷ 0 ∷ 0 ∷ 1 ∷ 1 ∷ 1 ∷ [])
+    ∷ splitRow 1 64 0 (0x1696969696969696 ∷ 63 ∷ 8 ∷ 0 ∷ 1 ∷ 1 ∷ [])
+    -- The words begin at the first byte that is aligned and wholly in the span: a word further where the span begins inside it.
+    ∷ splitRow 3 130 0 (0x05A5A5A5A5A5A5A5 ∷ 61 ∷ 8 ∷ 1 ∷ 0x0D ∷ 5 ∷ [])
+    ∷ splitRow 8 100 7 (0 ∷ 0 ∷ 1 ∷ 1 ∷ 0xD2D2D2D2D ∷ 36 ∷ [])
+    ∷ splitRow 4 100 3 (0x2D2D2D2D2 ∷ 36 ∷ 5 ∷ 1 ∷ 0 ∷ 0 ∷ [])
     ∷ []
 
 -- ---- starts other than 0, second words, unknown counts
@@ -178,5 +243,7 @@ Hold rows = map (λ (r : Row). r .computed) rows ≡ map (λ (r : Row). r .state
 pub record EdgesHold : Type 0 where
   pub limits : Hold limitRows
   pub edges : Hold edgeRows
+  pub masks : Hold maskRows
   pub unwritten : Hold unwrittenRows
+  pub splits : map (λ (r : SplitRow). r .computed) splitRows ≡ map (λ (r : SplitRow). r .stated) splitRows
   pub starts : Hold startRows

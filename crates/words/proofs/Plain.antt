@@ -17,9 +17,10 @@ use Rattle.words.specs.Flags.{isOne, digit, bitAt, flagAt, bits, wordOf,
 use Rattle.words.specs.Counts.{anySet, sameFlags}
 use Rattle.words.specs.Loops.{stretch, combined, wholeWords}
 use Rattle.words.specs.Merge.{merged}
-use Rattle.words.specs.Nth.{atPlace, nthOne, nthPlace, onlyOnes}
+use Rattle.words.specs.Nth.{atPlace, nthFound, nthOne, nthPlace, onlyOnes}
 use Rattle.words.specs.Ops.{opOf, zip3}
 use Rattle.words.specs.Uniform.{allAre}
+use Rattle.words.specs.declared.nth.Nth.{Nth}
 use Rattle.words.specs.declared.ops.Op.{Op}
 use Rattle.words.proofs.AnyFlag.{any-some}
 use Rattle.words.proofs.Bits.{length-bits, halves, eqb-isOne}
@@ -288,6 +289,14 @@ equal-same a b e = ap (sameFlags a) (sym e) ∙ itself a
     itself [] = refl
     itself (true ∷ a) = itself a
     itself (false ∷ a) = itself a
+
+-- ---- what the answer of an n-th set flag stands for
+
+pub found-at : (k : ℕ) → nthFound (Nth.At k) ≡ atPlace k
+found-at k = refl
+
+pub found-only : (k : ℕ) → nthFound (Nth.Missing k) ≡ onlyOnes k
+found-only k = refl
 
 -- ---- are all flags one flag
 

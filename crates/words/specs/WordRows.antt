@@ -12,6 +12,7 @@ use Rattle.words.specs.Counts.{anySet, sameFlags}
 use Rattle.words.specs.Flags.{copies, digit, overAt}
 use Rattle.words.specs.Loops.{combined, wholeWords}
 use Rattle.words.specs.Merge.{merged}
+use Rattle.words.specs.Uniform.{allAre}
 use Rattle.words.specs.declared.ops.Op.the-variants.{AndNot, Not, Select}
 
 pub record Row : Type 0 where
@@ -49,6 +50,9 @@ rows =
     ∷ row (sameFlags [] (true ∷ []) ∷ sameFlags (true ∷ []) [] ∷ sameFlags (true ∷ []) (true ∷ []) ∷ []) (0 ∷ 0 ∷ 1 ∷ [])
     -- Is a flag set: none of no flags, one of two.
     ∷ row (anySet [] ∷ anySet (false ∷ true ∷ []) ∷ anySet (false ∷ false ∷ []) ∷ []) (0 ∷ 1 ∷ 0 ∷ [])
+    -- Are all flags one flag: of ones, of zeros, of both, of none.
+    ∷ row (allAre true (true ∷ true ∷ []) ∷ allAre false (false ∷ false ∷ []) ∷ allAre true (true ∷ false ∷ []) ∷ allAre false (true ∷ false ∷ []) ∷ [])
+    (1 ∷ 1 ∷ 0 ∷ 0 ∷ [])
     -- The flags 0, 1 and 2 of the word 5 as numbers.
     ∷ record { computed = digitOf 5 0 ∷ digitOf 5 1 ∷ digitOf 5 2 ∷ []; stated = 1 ∷ 0 ∷ 1 ∷ [] }
     ∷ []
