@@ -46,7 +46,7 @@ fn rebuild(f: &mut File, n: u64, runs: &[Run], odd: bool) {
     assert_eq!(listed(f, &mask), runs);
     save(f, n, runs, odd);
     f.lend_left('y');
-    let saved = last(f);
+    let saved = "@3";
     f.ask(&format!("eq {mask} {saved}"));
     assert_eq!(f.last[1], Token::Number(1));
     for (k, by) in (0..runs.len()).flat_map(|k| [(k, -1), (k, 1)]) {
@@ -62,7 +62,7 @@ fn rebuild(f: &mut File, n: u64, runs: &[Run], odd: bool) {
 /// Edited runs saved, compared with the mask that they came from, and taken apart again.
 fn edit(f: &mut File, n: u64, mask: &str, runs: &[Run], moved: &[Run], odd: bool) {
     save(f, n, moved, !odd);
-    let saved = tokens(&f.last[1..]);
+    let saved = tokens(&f.last[f.last.len() - 3..]);
     f.lend_left('y');
     f.ask(&format!("eq {mask} {saved}"));
     assert_eq!(f.last[1], Token::Number(0));
@@ -81,11 +81,10 @@ fn lend(f: &mut File, n: u64, runs: &[Run], counted: bool) -> String {
     f.lend('x', &bytes);
     f.ask(&format!("try_new {first} {n}"));
     if !counted {
-        return tokens(&f.last[1..]);
+        return tokens(&f.last[f.last.len() - 3..]);
     }
-    let record = last(f);
-    f.ask(&format!("unset_bits {record}"));
-    tokens(&f.last[2..])
+    f.ask("unset_bits @3");
+    tokens(&f.last[f.last.len() - 3..])
 }
 
 /// The runs that a new cursor gives until none.
@@ -111,23 +110,17 @@ fn save(f: &mut File, n: u64, runs: &[Run], leave_out: bool) {
         for (flags, flag) in [(start - place, 0), (length, 1)] {
             let made = if flag == 1 { start < n } else { flags > 0 || !leave_out };
             if made {
-                let builder = last(f);
-                f.ask(&format!("{go_on}extend_constant {builder} {flags} {flag}"));
+                f.ask(&format!("{go_on}extend_constant @3 {flags} {flag}"));
                 assert_eq!(f.last[0], Token::Number(0));
                 go_on = "+ ";
             }
         }
         place = start + length;
     }
-    let builder = last(f);
-    f.ask(&format!("{go_on}freeze {builder}"));
+    f.ask(&format!("{go_on}freeze @3"));
 }
 
-/// The record that follows the number in the last answer.
-fn last(f: &File) -> String {
-    format!("@{}", f.last.len() - 1)
-}
-
+/// The last three numbers of an answer, which are its record.
 fn tokens(record: &[Token]) -> String {
     record.iter().map(Token::to_string).collect::<Vec<String>>().join(" ")
 }

@@ -35,5 +35,7 @@ offer-refusals Absent pBytes (Present r) rBytes c = refuses-by (offerChecks Abse
 offer-refusals Absent pBytes Absent rBytes c = refuses-by (offerChecks Absent pBytes Absent rBytes c) _ _ _ refl
 
 pub offer-witnessed : OfferWitnessed
-unfolding offerOf offerChecks nextChecks otherChecks maskChecks spanChecks firstFailed earlier rank placeIn decided
+unfolding
+    offerOf offerChecks nextChecks otherChecks maskChecks spanChecks firstFailed earlier rank placeIn decided
+    zeros count window flagsOf bits
 offer-witnessed = record { first = refl; second = refl; permission = refl; revocation = refl }

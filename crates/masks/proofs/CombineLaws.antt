@@ -22,10 +22,9 @@ use Rattle.masks.specs.Combine.{shortcut, resultFlags, largestSerial, re
 use Rattle.masks.specs.Combine.{pairFlags, pairMask, pairOf, pairBytes, eachOf, eachBytes, selectChecks}
 use Rattle.masks.specs.Frozen.{packed, frozen, frozenSize, overFrom}
 use Rattle.masks.specs.Mask.{maskUnder, maskFlags, maskChecks, uncounted, zeroCount}
-use Rattle.masks.specs.Workers.{hasShortcut, isOr, isXor, eitherAll, xorAll}
+use Rattle.masks.specs.Workers.{hasShortcut, isOr, isXor, eitherAll, xorAll, zerosOfAll}
 use Rattle.masks.specs.declared.bitmap.Bitmap.{Bitmap}
 use Rattle.masks.specs.declared.bitmap.Unset.{Unset}
-use Rattle.masks.specs.Utils.{zerosOfAll}
 use Rattle.masks.specs.declared.shortcuts.Shortcut.{Shortcut}
 use Rattle.masks.specs.declared.shortcuts.Shortcut.the-variants.{Each, All}
 use Rattle.masks.proofs.CheckLaws.{both-left, both-right, first-allowed, rest-allowed, is-given, is-refused, is-kept, is-new}

@@ -16,7 +16,8 @@ use Rattle.words.proofs.EndLaws.{leading-le, leading-some, leading-all, trailin
 pub use Rattle.words.proofs.Loads.{moved-flags, near-flags}
 use Rattle.words.proofs.UniformLaws.{eqb-both}
 use Rattle.words.proofs.Windows.{in-window, length-copies, length-window, window-add}
-use Rattle.masks.specs.Utils.{zeros, zerosOfAll}
+use Rattle.masks.specs.Utils.{zeros}
+use Rattle.masks.specs.Workers.{zerosOfAll}
 
 -- ---- the parts that are words
 

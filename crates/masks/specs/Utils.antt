@@ -1,6 +1,6 @@
 -- Counts over bare spans: zeros, and flags that are alike at either end. Assumes nothing.
 use Prim.Native.Nat.{ℕ}
-use mathlib.Core.Bool.{Bool, true, false, not}
+use mathlib.Core.Bool.{Bool, not}
 use mathlib.Core.List.{List, map}
 use lib.ListN.{length}
 use Rattle.words.specs.Flags.{count}
@@ -12,11 +12,6 @@ use Rattle.masks.specs.declared.utils.Counted.the-variants.{Count, Refus
 -- how many flags are zero
 unfoldable pub zeros : List Bool → ℕ
 zeros l = count (map not l)
-
--- the zeros of n flags that are all x
-abbrev pub zerosOfAll : Bool → ℕ → ℕ
-zerosOfAll true n = 0
-zerosOfAll false n = n
 
 abbrev pub countedAnswer : Counted → Answer (Unit {0}) ℕ
 countedAnswer (Count n) = given n

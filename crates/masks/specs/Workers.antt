@@ -19,7 +19,6 @@ use Rattle.masks.specs.Iterator.{leadingFrom}
 use Rattle.masks.specs.Mask.{recountValid, slicedCount, zeroCount}
 use Rattle.masks.specs.Search.{nthFrom, nthBack}
 use Rattle.masks.specs.SliceIterator.{runOf, runStart}
-use Rattle.masks.specs.Utils.{zerosOfAll}
 use Rattle.masks.specs.declared.aligned.AlignedBitmapSlice.{AlignedBitmapSlice}
 use Rattle.masks.specs.declared.bitmap.Bitmap.{Bitmap}
 use Rattle.masks.specs.declared.bitmap.Cut.{Cut}
@@ -101,6 +100,11 @@ isOr AndNot = false
 isOr OrNot = false
 isOr Not = false
 isOr Select = false
+
+-- the zeros of n flags that are all x
+abbrev pub zerosOfAll : Bool → ℕ → ℕ
+zerosOfAll true n = 0
+zerosOfAll false n = n
 
 -- a mask is all x, by its count
 abbrev pub isAll : Bool → Bitmap → List ℕ → Bool

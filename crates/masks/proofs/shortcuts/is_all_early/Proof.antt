@@ -4,7 +4,8 @@ use mathlib.Core.Bool.{Bool}
 use mathlib.Core.List.{List}
 use lib.Dec.{eqb}
 use Rattle.masks.specs.Mask.{zeroCount}
-use Rattle.masks.specs.Utils.{zeros, zerosOfAll}
+use Rattle.masks.specs.Utils.{zeros}
+use Rattle.masks.specs.Workers.{zerosOfAll}
 use Rattle.masks.proofs.SpanLaws.{whole-stretch}
 use borrow.Author.Needs.{needs}
 use Rattle.masks.proofs.shortcuts.is_all_early.Statement.{statement}
