@@ -2,7 +2,7 @@
 //!
 //! A record whose count is false is refused with 3 and goes back to where it came from; its flags are not used.
 
-use poruwhina::{Bitmap, Refusal, may_reassign};
+use poruwhina::{Bitmap, Permission, Refusal, may_reassign};
 
 /// What a file of an importer has for an operator.
 struct Record {
@@ -28,7 +28,7 @@ fn main() {
 }
 
 fn asked(permission: &Bitmap, truck: usize) -> &'static str {
-    match may_reassign(Some(permission), None, truck) {
+    match may_reassign(Permission::Mask(permission), None, truck) {
         Ok(true) => "may be reassigned",
         Ok(false) => "may not be reassigned",
         Err(Refusal::OutsideMask) => "is not on the list",

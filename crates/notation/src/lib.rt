@@ -12,6 +12,6 @@ pub mod numbers;
 pub mod outcome;
 mod pieces;
 pub mod reading;
-mod sums;
+pub mod sums;
 mod tally;
 mod text;

@@ -30,7 +30,7 @@ fn token(sum: u64, a: [u64; 12], i: u64) -> u64 {
 }
 
 // Bytes, eight at a time, zeros behind the last.
-pub(crate) fn bytes(sum: u64, b: &[u8]) -> u64 {
+pub fn bytes(sum: u64, b: &[u8]) -> u64 {
     let words = words_of(b.len());
     let mut all = sum;
     let mut i = 0;

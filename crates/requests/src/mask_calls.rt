@@ -1,6 +1,5 @@
 // The calls of the mask: makers, slices, combinations, comparisons.
 use crate::span_calls;
-use crate::sums;
 use crate::values;
 use dispatch::dispatch::Reassign;
 use dispatch::dispatch::may_reassign;
@@ -21,6 +20,7 @@ use masks::next_and_not::Searched;
 use masks::next_and_not::next_and_not;
 use masks::superseding;
 use masks::superseding::Winner;
+use notation::sums;
 
 pub(crate) fn answer(call: usize, v: [u64; 24], x: &[u8]) -> [u64; 12] {
     let m = values::mask(v, 0);
