@@ -16,7 +16,7 @@ use crate::text;
 // At most this many calls are made for one range.
 pub const RANGE: u64 = 4194304;
 
-// Where what is left of a choice stands: 0 while there is one.
+// The place of what is left of a choice: 0 while there is one.
 pub const LEFT: usize = 12;
 
 // Choice `t` of the arguments, the last token the fastest, over the sizes of `whole`.

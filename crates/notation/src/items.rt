@@ -93,7 +93,7 @@ fn token(r: Items, part: &[u8], list: &mut [u64]) -> Items {
     }
 }
 
-// The `=` stands alone, and once.
+// The `=` is a token of its own, and there is one.
 fn equals(mut r: Items, alone: bool) -> Items {
     r.good = r.good & !r.answered & alone;
     r.answered = true;
@@ -180,7 +180,7 @@ fn closed(mut r: Items, w: Row, list: &mut [u64]) -> Items {
     counted(r, 1 < w.count, SIZE <= w.kind)
 }
 
-// Sizes stand after the plain arguments.
+// Sizes come after the plain arguments.
 fn counted(mut r: Items, ranged: bool, size: bool) -> Items {
     let tokens = r.tokens;
     let plain = r.plain;
@@ -193,7 +193,7 @@ fn counted(mut r: Items, ranged: bool, size: bool) -> Items {
     r
 }
 
-// The last so many tokens of the answer that is kept, each a token of its own.
+// Adds the last n tokens of the answer that is kept, each a token of its own.
 fn from_last(mut r: Items, n: Number, list: &mut [u64]) -> Items {
     let size = choices::kept_size(list);
     let many = n.value;

@@ -1,6 +1,6 @@
 // A line: bytes or numbers that are lent to the requests below it, a request, or a comment. docs/REQUESTS.md says what it means.
 //
-// What is kept from one line to the next stands in the list: how much of x, y, z, o and i is lent, and the totals.
+// What is kept from one line to the next is in the list: how much of x, y, z, o and i is lent, and the totals.
 use crate::items;
 use crate::lent::ROOM;
 use crate::list;
@@ -138,7 +138,7 @@ fn lent_numbers(rest: &[u8], given: &mut [u32], list: &mut [u64]) -> usize {
     malformed(list)
 }
 
-// The output goes on as the last call left it. The request stands after the sign.
+// The output goes on as the last call left it. The request comes after the sign.
 fn continued(inputs: &mut [u8], out: &[u8], list: &mut [u64]) -> usize {
     lent_at(3, b"@", inputs, out, list);
     2

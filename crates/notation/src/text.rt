@@ -33,7 +33,7 @@ pub(crate) fn at(text: &[u8], i: usize) -> u8 {
     if i < text.len() { text[i] } else { 0 }
 }
 
-// Where the byte first stands, or the text ends.
+// Returns the place of the first such byte, or of the end of the text.
 pub(crate) fn find(text: &[u8], b: u8) -> usize
     ensures { λ r. ⌜ r ≤ length (now (text .entry)) ⌝ }
 {
@@ -47,7 +47,7 @@ pub(crate) fn find(text: &[u8], b: u8) -> usize
     i
 }
 
-// The text behind its first k bytes.
+// The text after its first k bytes.
 pub(crate) fn behind(text: &[u8], k: usize) -> &[u8] {
     if k <= text.len() {
         &text[k..]

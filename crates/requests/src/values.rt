@@ -1,5 +1,5 @@
-// The numbers of a request and of an answer, as arrays by value: what makes a call then lends nothing but the call's own bytes. `numbers` of
-// notation says which place has what.
+// The numbers of a request and of an answer, as arrays by value: what makes a call then lends nothing but the call's own bytes.
+// `numbers` of notation says which place has what.
 ghost use Prim.Native.Nat.{_≤_};
 use masks::bitmap::Bitmap;
 use masks::bitmap::Optional;

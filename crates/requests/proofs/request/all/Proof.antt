@@ -7,7 +7,9 @@ use Rattle.requests.proofs.request.all.Statement.{statement}
 use Rattle.requests.proofs.request.all.Tie as tie
 
 abbrev Inv-loop : tie.InvT-loop
-Inv-loop r whole inputs given out₀ numbers₀ list₀ now₀ t₀ out numbers list now t = (t ≤ 4194304) × ((length out ≡ length out₀) × ((length numbers ≡ length numbers₀) × (length list ≡ length list₀)))
+Inv-loop r whole inputs given out₀ numbers₀ list₀ now₀ t₀ out numbers list now t =
+    (t ≤ 4194304) ×
+    ((length out ≡ length out₀) × ((length numbers ≡ length numbers₀) × (length list ≡ length list₀)))
 
 abbrev μ-loop : tie.MeasureT-loop
 μ-loop r whole inputs given out₀ numbers₀ list₀ now₀ t₀ out numbers list now t = 4194304 - t

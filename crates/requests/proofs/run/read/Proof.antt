@@ -7,7 +7,10 @@ use Rattle.requests.proofs.run.read.Statement.{statement}
 use Rattle.requests.proofs.run.read.Tie as tie
 
 abbrev Inv-loop : tie.InvT-loop
-Inv-loop window₀ line₀ inputs₀ given₀ out₀ numbers₀ list₀ now₀ steps₀ window line inputs given out numbers list now steps = (steps ≤ 4194304) × ((length window ≡ length window₀) × ((length line ≡ length line₀) × ((length inputs ≡ length inputs₀) × ((length given ≡ length given₀) × ((length out ≡ length out₀) × ((length numbers ≡ length numbers₀) × (length list ≡ length list₀)))))))
+Inv-loop window₀ line₀ inputs₀ given₀ out₀ numbers₀ list₀ now₀ steps₀ window line inputs given out numbers list now steps =
+    (steps ≤ 4194304) × ((length window ≡ length window₀) × ((length line ≡ length line₀) × ((length inputs ≡ length inputs₀) ×
+    ((length given ≡ length given₀) ×
+    ((length out ≡ length out₀) × ((length numbers ≡ length numbers₀) × (length list ≡ length list₀)))))))
 
 abbrev μ-loop : tie.MeasureT-loop
 μ-loop window₀ line₀ inputs₀ given₀ out₀ numbers₀ list₀ now₀ steps₀ window line inputs given out numbers list now steps = 4194304 - steps
