@@ -1,4 +1,4 @@
-//! The nine checks, document 01's questions.
+//! The checks: document 01's nine questions, and 14 of paper 02.
 
 use crate::{Answer, Builder, Cursor, LIMIT, Lent, Span, State, frozen_size};
 
