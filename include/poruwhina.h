@@ -336,9 +336,9 @@ pw_builder_answer pw_opt_gather_extend_from_slice(size_t length, uint64_t word, 
  * builder is not given back: the caller has it. Refuses with 1, 4, 9; every other field is then 0. */
 pw_mask_answer pw_freeze(size_t length, uint64_t word, size_t ones, uint8_t *buf, size_t buf_len, uint32_t serial);
 
-/* The bytes and the mask that pw_freeze gives; no mask where all flags are set, so for no flags too. As in Arrow, no mask means all
- * ones here; pw_may_reassign takes no permission mask for no truck: end the builder of a permission mask with pw_freeze. Refuses with
- * 1, 4, 9; every other field is then 0. */
+/* The bytes and the mask that pw_freeze gives, under the serial that the caller kept; no mask where all flags are set, so for no flags
+ * too. As in Arrow, no mask means all ones here; pw_may_reassign takes no permission mask for no truck: end the builder of a
+ * permission mask with pw_freeze. Refuses with 1, 4, 9; every other field is then 0. */
 pw_validity_answer pw_into_opt_validity(size_t length, uint64_t word, size_t ones, uint8_t *buf, size_t buf_len,
     uint32_t serial);
 

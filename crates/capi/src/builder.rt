@@ -261,8 +261,9 @@ pub extern "C" fn pw_freeze(
     frozen_out(serial_builder_in(length, word, ones, serial).freeze(buf))
 }
 
-// The bytes and the mask that pw_freeze gives; no mask where all flags are set, so for no flags too. As in Arrow, no mask means all
-// ones here; pw_may_reassign takes no permission mask for no truck: end the builder of a permission mask with pw_freeze.
+// The bytes and the mask that pw_freeze gives, under the serial that the caller kept; no mask where all flags are set, so for no flags
+// too. As in Arrow, no mask means all ones here; pw_may_reassign takes no permission mask for no truck: end the builder of a permission
+// mask with pw_freeze.
 #[no_mangle]
 pub extern "C" fn pw_into_opt_validity(
     length: usize,

@@ -207,9 +207,9 @@ pub fn freeze(builder: Builder, buf: &mut [u8], serial: u32) -> MaskAnswer {
     unsafe { exports::pw_freeze(builder.length, builder.word, builder.ones, buf.as_mut_ptr(), buf.len(), serial) }
 }
 
-/// The bytes and the mask that [`freeze`] gives; no mask where all flags are set, so for no flags too. As in Arrow, no mask means
-/// all ones here; [`may_reassign`] takes no permission mask for no truck: end the builder of a permission mask with [`freeze`].
-/// Refuses with 1, 4, 9; every other field is then 0.
+/// The bytes and the mask that [`freeze`] gives, under the serial that the caller kept; no mask where all flags are set, so for
+/// no flags too. As in Arrow, no mask means all ones here; [`may_reassign`] takes no permission mask for no truck: end the
+/// builder of a permission mask with [`freeze`]. Refuses with 1, 4, 9; every other field is then 0.
 ///
 /// ```
 /// use poruwhina::calls::{builder_new, extend_constant, into_opt_validity};
