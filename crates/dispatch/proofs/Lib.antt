@@ -5,5 +5,7 @@ pub mod DispatchLaws
 pub mod OfferLaws
 pub mod Refusals
 pub mod Uncounted
+pub mod RoundLaws
+pub mod Rounds
 pub mod WrongAnswers
 pub mod WrongOffers

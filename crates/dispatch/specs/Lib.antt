@@ -4,5 +4,6 @@ pub mod CountsUnseen
 pub mod Dispatch
 pub mod Offer
 pub mod Refusals
+pub mod Rounds
 pub mod WrongAnswers
 pub mod WrongOffers

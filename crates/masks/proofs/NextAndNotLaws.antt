@@ -10,7 +10,7 @@ use native.Mathlib.Omega.{arith}
 use lib.Dec.{eqb, leb, ltb}
 use lib.ListN.{length, take, drop, getD, length-take, take-append-drop}
 use lib.Seq.{take-all, length-take-le}
-use borrow.Author.Tests.{eqb-true, leb-true, lt-ltb}
+use borrow.Author.Tests.{eqb-true, le-leb, leb-true, lt-ltb}
 use Rattle.words.specs.Counts.{anySet}
 use Rattle.words.specs.Ends.{leading}
 use Rattle.words.specs.Flags.{bits, flagsOf, window}
@@ -31,7 +31,7 @@ use Rattle.masks.specs.Search.{nthFrom}
 use Rattle.masks.specs.declared.bitmap.Bitmap.{Bitmap}
 use Rattle.masks.specs.declared.bitmap.Optional.{Optional}
 use Rattle.masks.specs.declared.bitmap.Optional.the-variants.{Present, Absent}
-use Rattle.masks.proofs.CheckLaws.{both-left, both-right, check-allowed, one-check, two-pieces}
+use Rattle.masks.proofs.CheckLaws.{both-left, both-right, check-allowed, one-check, passed-before, two-pieces}
 use Rattle.masks.proofs.IteratorLaws.{at-end, every-alike, some-alike}
 use Rattle.masks.proofs.MaskLaws.{mask-allowed}
 use Rattle.masks.proofs.PairPlain.{flags-length}
@@ -86,6 +86,20 @@ next-allowed a aBytes S bBytes from e =
       ordered = leb-true from (a .length) (check-allowed 5 (leb from (a .length)) (both-right (otherChecks (a .length) S bBytes) six rest));
       inside = omega arith;
     }
+
+-- they pass at each place up to the length, if at one
+pub elsewhere-accepted : (a : Bitmap) (aBytes : List ℕ) (S : Optional) (bBytes : List ℕ) (from at : ℕ)
+    → firstFailed (nextChecks a aBytes S bBytes from) ≡ 0 → at ≤ a .length → firstFailed (nextChecks a aBytes S bBytes at) ≡ 0
+unfolding nextChecks
+elsewhere-accepted a aBytes S bBytes from at e h =
+    let old = check 6 (leb from (a .length)) ∷ [] in
+    let new = check 6 (leb at (a .length)) ∷ [] in
+    let own = both-left (maskChecks a aBytes) (otherChecks (a .length) S bBytes ++ old) e in
+    let rest = both-right (maskChecks a aBytes) (otherChecks (a .length) S bBytes ++ old) e in
+    let beside = both-left (otherChecks (a .length) S bBytes) old rest in
+    sym (passed-before (maskChecks a aBytes) (otherChecks (a .length) S bBytes ++ new) 0 0 (sym own) refl
+    (passed-before (otherChecks (a .length) S bBytes) new 0 0 (sym beside) refl
+    (one-check 0 6 true (leb at (a .length)) refl (sym (le-leb at (a .length) h)))))
 
 -- and those before it
 pub before-allowed : (a : Bitmap) (S : Optional) (from : ℕ) → Searchable a S from (a .length) → Searchable a S 0 from
