@@ -128,3 +128,31 @@ pub fn nth_set_bit(a: Span, mut n: usize) -> Option<usize> {
     }
     None
 }
+
+/// The next flag that is set in `a` and not in `b`, from a place on and round from 0, word by word; and the windows of 32 flags up to
+/// the one that holds it, or all.
+pub fn next_and_not(bytes: [&[u8]; 2], starts: [usize; 2], length: usize, from: usize) -> (Option<usize>, usize) {
+    if let Some(zeros) = zeros_before(bytes, starts.map(|start| start + from), length - from) {
+        return (Some(from + zeros), zeros / 32 + 1);
+    }
+    let passed = (length - from).div_ceil(32);
+    match zeros_before(bytes, starts, from) {
+        Some(zeros) => (Some(zeros), passed + zeros / 32 + 1),
+        None => (None, passed + from.div_ceil(32)),
+    }
+}
+
+/// How many flags stand before the first one, if there is one among `length`.
+fn zeros_before(bytes: [&[u8]; 2], starts: [usize; 2], length: usize) -> Option<usize> {
+    let [a, b] = [0, 1].map(|i| Span::new(bytes[i], starts[i], length));
+    for i in 0..a.words() {
+        let mut word = a.word::<false>(i) & !b.word::<false>(i);
+        if i + 1 == a.words() {
+            word &= a.cut(i);
+        }
+        if word != 0 {
+            return Some(64 * i + word.trailing_zeros() as usize);
+        }
+    }
+    None
+}

@@ -67,6 +67,23 @@ pub fn run(driver: &Driver) {
             plain: Some(side((&m[0], &m[1]), |(p, r)| flag(p, p.length / 2) && !flag(r, p.length / 2), |_, may| vec![may as u64])),
         });
     }
+    driver.each("offer, every truck revoked", Kind::Half, &[1], |m| Sides {
+        ours: side(&m[0], |m| offer(m, m), |_, got| got.to_vec()),
+        original: None,
+        plain: Some(side(&m[0], |m| plain_offer(m, m), |_, got| got.to_vec())),
+    });
+}
+
+/// Every permitted truck revoked: all windows are read, from the middle on and round.
+fn offer(permission: &Input, revocation: &Input) -> [u64; 2] {
+    let answer = calls::offer(true, permission.mask, permission.bytes(), true, revocation.mask, revocation.bytes(), permission.length / 2);
+    [answer.found.into(), answer.windows as u64]
+}
+
+fn plain_offer(permission: &Input, revocation: &Input) -> [u64; 2] {
+    let (starts, length) = ([permission.start, revocation.start], permission.length);
+    let (truck, windows) = plain::next_and_not([permission.padded(), revocation.padded()], starts, length, length / 2);
+    [truck.is_some().into(), windows as u64]
 }
 
 fn may_reassign(permission: &Input, revocation: &Input) -> bool {
