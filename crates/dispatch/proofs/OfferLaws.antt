@@ -13,7 +13,8 @@ use borrow.Author.Tests.{lt-ltb, le-ltb, le-leb, lt-leb}
 use Rattle.masks.specs.Answer.{given, refused, decided}
 use Rattle.masks.specs.Checks.{check, earlier, firstFailed, limit}
 use Rattle.masks.specs.Mask.{maskChecks}
-use Rattle.masks.specs.NextAndNot.{Found, freeFlags, goingRound, nextAndNotOf, nextChecks, nextSet, otherChecks, Searchable, windowsOf}
+use Rattle.masks.specs.NextAndNot.{Found, freeFlags, goingRound, nextAndNotOf, nextChecks, nextSet, otherChecks, windowsOf}
+use Rattle.masks.specs.Workers.{Searchable}
 use Rattle.masks.specs.Search.{nthFrom}
 use Rattle.masks.specs.declared.bitmap.Bitmap.{Bitmap}
 use Rattle.masks.specs.declared.bitmap.Optional.{Optional}

@@ -9,7 +9,8 @@ use lib.ListN.{length, take, getD, length-append}
 use lib.Seq.{take-all}
 use Rattle.masks.specs.Answer.{Answer, given}
 use Rattle.masks.specs.Checks.{firstFailed}
-use Rattle.masks.specs.NextAndNot.{freeFlags, nextChecks, Searchable}
+use Rattle.masks.specs.NextAndNot.{freeFlags, nextChecks}
+use Rattle.masks.specs.Workers.{Searchable}
 use Rattle.masks.specs.declared.bitmap.Bitmap.{Bitmap}
 use Rattle.masks.specs.declared.bitmap.Optional.{Optional}
 use Rattle.masks.specs.declared.bitmap.Optional.the-variants.{Present}

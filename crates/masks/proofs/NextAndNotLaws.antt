@@ -26,7 +26,8 @@ use Rattle.masks.specs.Checks.{check, earlier, firstFailed, limit}
 use Rattle.masks.specs.Combine.{And, AndNot, pairFlags, shortcut}
 use Rattle.masks.specs.Iterator.{leadingFrom}
 use Rattle.masks.specs.Mask.{maskChecks, maskFlags}
-use Rattle.masks.specs.NextAndNot.{Beside, Found, freeFlags, goingRound, nextChecks, nextSet, otherChecks, PassedTo, Searchable, windowsOf}
+use Rattle.masks.specs.NextAndNot.{Found, freeFlags, goingRound, nextChecks, nextSet, otherChecks, windowsOf}
+use Rattle.masks.specs.Workers.{Beside, PassedTo, Searchable}
 use Rattle.masks.specs.Search.{nthFrom}
 use Rattle.masks.specs.declared.bitmap.Bitmap.{Bitmap}
 use Rattle.masks.specs.declared.bitmap.Optional.{Optional}

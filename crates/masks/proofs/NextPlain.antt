@@ -18,7 +18,8 @@ pub use Rattle.words.proofs.Windows.{lt-or-le}
 use Rattle.masks.specs.Search.{nthFrom}
 use Rattle.masks.specs.AtIndex.{andNotFlag, flagOr}
 use Rattle.masks.specs.Mask.{maskFlags}
-use Rattle.masks.specs.NextAndNot.{Beside, freeFlags}
+use Rattle.masks.specs.NextAndNot.{freeFlags}
+use Rattle.masks.specs.Workers.{Beside}
 use Rattle.masks.specs.TrueIdx.{onesFrom, onesLeft}
 use Rattle.masks.specs.declared.bitmap.Bitmap.{Bitmap}
 use Rattle.masks.specs.declared.bitmap.Optional.{Optional}

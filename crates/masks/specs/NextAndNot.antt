@@ -1,15 +1,13 @@
 -- The next flag that is set in one mask and not in another, from a place on and going round once, and how many windows of 32 flags
 -- are read. Assumes nothing.
-use Prim.Native.Nat.{ℕ, _+_, _-_, _/_, _≤_}
-use mathlib.Core.Path.{_≡_}
-use mathlib.Core.Bool.{Bool, false}
+use Prim.Native.Nat.{ℕ, _+_, _-_, _/_}
+use mathlib.Core.Bool.{Bool}
 use mathlib.Core.List.{List, [], _∷_, _++_}
 use mathlib.Core.Option.{Option, none, some}
 use lib.Dec.{eqb, leb}
 use Rattle.masks.specs.Answer.{Answer, given, refused, checked}
-use Rattle.masks.specs.Checks.{Check, check, limit}
+use Rattle.masks.specs.Checks.{Check, check}
 use Rattle.masks.specs.Combine.{AndNot, pairFlags}
-use Rattle.masks.specs.Iterator.{leadingFrom}
 use Rattle.masks.specs.Mask.{maskChecks, maskFlags}
 use Rattle.masks.specs.Search.{nthFrom}
 use Rattle.masks.specs.declared.bitmap.Bitmap.{Bitmap}
@@ -66,24 +64,3 @@ searchedAnswer (Refused k) = refused k tt
 unfoldable pub nextAndNotOf : Bitmap → List ℕ → Optional → List ℕ → ℕ → Answer (Unit {0}) Found
 nextAndNotOf a aBytes second bBytes from =
     checked (nextChecks a aBytes second bBytes from) tt (nextSet (a .length) (freeFlags a aBytes second bBytes) from)
-
--- ---- what the workers ask
-
--- a second mask has the first one's length and lies within the limit
-abbrev pub Beside : ℕ → Optional → Type 0
-Beside n (Present b) = (b .start ≤ limit) × (n ≡ b .length)
-Beside n Absent = Unit {0}
-
--- `end` flags of l, of which those from `from` up to `at` are zeros
-pub record PassedTo (l : List Bool) (end from at : ℕ) : Type 0 where
-  pub low : from ≤ at
-  pub inside : at ≤ end
-  pub same : at + leadingFrom false l at ≡ from + leadingFrom false l from
-
--- masks that have passed their checks, and a part of their flags
-pub record Searchable (a : Bitmap) (second : Optional) (from end : ℕ) : Type 0 where
-  pub starts : a .start ≤ limit
-  pub short : a .length ≤ limit
-  pub beside : Beside (a .length) second
-  pub ordered : from ≤ end
-  pub inside : end ≤ a .length

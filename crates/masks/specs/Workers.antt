@@ -170,3 +170,24 @@ pub record PassedBack (bytes : List ℕ) (start size n end left below : ℕ) : T
 -- the first run at or after a place. With none it is empty, at the length.
 unfoldable pub firstRun : List Bool → ℕ → Run
 firstRun l place = runOf (runStart l place) (leadingFrom true l (runStart l place))
+
+-- ---- `next_and_not`
+
+-- a second mask has the first one's length and lies within the limit
+abbrev pub Beside : ℕ → Optional → Type 0
+Beside n (Present b) = (b .start ≤ limit) × (n ≡ b .length)
+Beside n Absent = Unit {0}
+
+-- `end` flags of l, of which those from `from` up to `at` are zeros
+pub record PassedTo (l : List Bool) (end from at : ℕ) : Type 0 where
+  pub low : from ≤ at
+  pub inside : at ≤ end
+  pub same : at + leadingFrom false l at ≡ from + leadingFrom false l from
+
+-- masks that have passed their checks, and a part of their flags
+pub record Searchable (a : Bitmap) (second : Optional) (from end : ℕ) : Type 0 where
+  pub starts : a .start ≤ limit
+  pub short : a .length ≤ limit
+  pub beside : Beside (a .length) second
+  pub ordered : from ≤ end
+  pub inside : end ≤ a .length

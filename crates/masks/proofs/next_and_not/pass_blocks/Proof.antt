@@ -2,7 +2,8 @@
 use Prim.Native.Nat.{_-_}
 use native.Mathlib.Omega.{arith}
 use lib.ListN.{take}
-use Rattle.masks.specs.NextAndNot.{freeFlags, PassedTo}
+use Rattle.masks.specs.NextAndNot.{freeFlags}
+use Rattle.masks.specs.Workers.{PassedTo}
 use Rattle.masks.proofs.NextAndNotLaws.{free-length, passed-block, passed-none}
 use Rattle.masks.proofs.next_and_not.pass_blocks.Statement.{statement}
 use Rattle.masks.proofs.next_and_not.pass_blocks.Tie as tie

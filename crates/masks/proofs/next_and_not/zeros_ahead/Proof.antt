@@ -5,7 +5,8 @@ use Prim.Native.Nat.{_-_}
 use native.Mathlib.Omega.{arith}
 use lib.ListN.{take}
 use Rattle.words.specs.Ends.{leading}
-use Rattle.masks.specs.NextAndNot.{freeFlags, PassedTo}
+use Rattle.masks.specs.NextAndNot.{freeFlags}
+use Rattle.masks.specs.Workers.{PassedTo}
 use Rattle.masks.proofs.NextAndNotLaws.{free-length, passed-end, passed-more, passed-stop, word-most}
 use borrow.Author.Needs.{needs}
 use Rattle.masks.proofs.next_and_not.zeros_ahead.Statement.{statement}
