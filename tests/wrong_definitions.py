@@ -25,10 +25,12 @@ said of it:
     ELSEWHERE             it is refused, but not there
     NOT REFUSED           nothing of what was checked refuses it
     BAD                   the text is not in the file just once, or a definition is not accepted: it shows nothing
+    OPEN                  the entry has no place yet: the gate passes it over
 
     --gate        all that a table must refuse, and the first entry of each other definition
     --page        compare the table of docs/CONTRACTS.md with the entries, or with --write write it anew; nothing is tried
-    --find        look through all tables and theorems of all crates, and print what refuses; entries need no place then
+    --find        look through all tables and theorems of all crates, and print what refuses; with --write an entry that has no place
+                  gets the first table that refuses it, or the first theorem
     --tables      with --find: through the tables alone, which takes a second or two an entry
     --jobs N      how many are tried at a time; otherwise RT_JOBS, or the processors, at most 4
     --logs DIR    keeps what the checker said
@@ -150,7 +152,7 @@ class Entry:
     """A wrong definition: where it is, what it says, its pairs of texts, and the place that must refuse it."""
 
     def __init__(self, crate, lines, file, number):
-        self.crate, self.number, self.pairs, self.file = crate, number, [], file
+        self.crate, self.number, self.pairs, self.file, self.lines = crate, number, [], file, lines
         self.definition = self.says = self.place = ""
         self.theorem = False
         old = None
@@ -351,6 +353,21 @@ def sort_out(found):
     return f"{head}: {', '.join(tables)} | {', '.join(theorems[:4])} | laws {', '.join(laws[:3])} ({len(laws)}) | blocked {len(blocked)}"
 
 
+def give_place(root, entry, found):
+    """Writes into the list of an entry's crate what refuses it: a table, or else a theorem."""
+    refused = [r for r in found if not r.blocked] if not isinstance(found, str) else []
+    tables, theorems = [r for r in refused if r.among(TABLES[:-1])], [r for r in refused if r.among(THEOREMS)]
+    path, block = root / "tests" / "wrong" / f"{entry.crate}.txt", "\n".join(entry.lines)
+    if tables:
+        line = f"table: {tables[0].crate}/{tables[0].file}"
+    elif theorems:
+        line = f"theorem: {theorems[0].crate}/{theorems[0].file} {theorems[0].declaration}"
+    else:
+        return
+    text = path.read_text(encoding="utf-8")
+    path.write_text(text.replace(block, f"{block}\n{line}", 1), encoding="utf-8")
+
+
 def page_lines(found):
     """The rows of the table of docs/CONTRACTS.md: for each file the definitions, with how many wrong ones are tried, and what refuses."""
     files = {}
@@ -358,7 +375,7 @@ def page_lines(found):
         file = f"{entry.crate}/{entry.pairs[0][0]}" if len({pair[0] for pair in entry.pairs}) == 1 else "several files"
         names, places = files.setdefault(file, ({}, {}))
         names[entry.definition] = names.get(entry.definition, 0) + 1
-        place = entry.place.split(" ")[0]
+        place = entry.place.split(" ")[0] or "open"
         places[place] = places.get(place, 0) + 1
     for file, (names, places) in files.items():
         tried = ", ".join(f"`{name}` {n}" if n > 1 else f"`{name}`" for name, n in names.items())
@@ -379,8 +396,9 @@ def page(found, write):
     elif new != text:
         print("wrong_definitions: the table of docs/CONTRACTS.md differs from tests/wrong: see --page --write")
         return 1
-    tables = sum(not entry.theorem for entry in found)
-    print(f"wrong_definitions: {len(found)} entries, {tables} with a table, {len(found) - tables} with a theorem; as in docs/CONTRACTS.md")
+    tables, theorems = sum(bool(e.place) and not e.theorem for e in found), sum(e.theorem for e in found)
+    said = f"{tables} with a table, {theorems} with a theorem, {len(found) - tables - theorems} open"
+    print(f"wrong_definitions: {len(found)} entries, {said}; as in docs/CONTRACTS.md")
     return 0
 
 
@@ -407,16 +425,19 @@ def main():
         first = {}
         for entry in chosen:
             first.setdefault((entry.crate, entry.definition), entry)
-        chosen = [entry for entry in chosen if not entry.theorem or first[entry.crate, entry.definition] is entry]
+        chosen = [e for e in chosen if e.place and (not e.theorem or first[e.crate, e.definition] is e)]
     if not chosen:
         fail("there is no such entry")
     everywhere = [(path.parent.parent.name, path.stem) for path in sorted(options.root.glob("crates/*/proofs/*.antt"))
                   if path.stem != "Lib" and path.parent.parent.name not in ("capi", "requests")
                   and any(fnmatch.fnmatchcase(path.stem, p) for p in (TABLES[:-1] if options.tables else TABLES + THEOREMS))]
-    of = {e.number: everywhere if options.find else [tuple(e.place.split(" ")[0].split("/"))] for e in chosen}
-    if not options.find and any(not e.place for e in chosen):
-        fail("no place: " + "; ".join(e.name for e in chosen if not e.place))
+    of = {e.number: everywhere if options.find else [tuple(e.place.split(" ")[0].split("/"))] for e in chosen if e.place or options.find}
     failed = 0
+    if not options.find:
+        for entry in (e for e in chosen if not e.place):
+            failed += 1
+            print(f"{entry.name}: OPEN")
+        chosen = [e for e in chosen if e.place] or fail("there is no entry with a place")
     with tempfile.TemporaryDirectory(prefix="wrong.") as scratch:
         os.environ["TMPDIR"] = scratch = os.path.realpath(scratch)
         trial = Trial(options.root, crates, scratch, options.logs and options.logs.resolve())
@@ -425,7 +446,9 @@ def main():
         with concurrent.futures.ThreadPoolExecutor(max(1, options.jobs)) as pool:
             for entry, found in zip(chosen, pool.map(lambda e: trial.attempt(e, of[e.number]), chosen)):
                 if options.find:
-                    print(f"{entry.number} {entry.name}: {sort_out(found)}", flush=True)
+                    print(f"{entry.name}: {sort_out(found)}", flush=True)
+                    if options.write and not entry.place:
+                        give_place(options.root, entry, found)
                 else:
                     good, line = judge(entry, found)
                     failed += not good

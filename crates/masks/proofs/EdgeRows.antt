@@ -22,7 +22,7 @@ use Rattle.masks.specs.EdgeRows.{EdgesHold, limitRows, edgeRows, maskRow
 use Rattle.masks.specs.Freeze.{frozenOver}
 use Rattle.masks.specs.Frozen.{frozen, overFrom, packed}
 use Rattle.masks.specs.Iterator.{flagStep, leadingFrom, nthFlag, takeLeading}
-use Rattle.masks.specs.Mask.{cutZeros, keptCount, maskChecks, newZeroedBytes, newZeroedOf, pieceChecks, recounts, sliceChecks, sliceOf, tryNewOf, zeroCount, zeroedChecks}
+use Rattle.masks.specs.Mask.{cutZeros, keptCount, maskChecks, newZeroedBytes, newZeroedOf, pieceChecks, recounts, sliceChecks, sliceOf, tryNewOf, unsetBitsOf, zeroCount, zeroedChecks}
 use Rattle.masks.specs.Positions.{positionsOver}
 use Rattle.masks.specs.SliceIterator.{newSlices, nextSlice}
 use Rattle.masks.specs.TrueIdx.{firstTrue, newTrue, newTrueChecks, nextTrue, onesFrom, onesLeft, trueChecks, trueFlags, trueStep}
@@ -34,7 +34,7 @@ unfolding
     bits wordOf flagsOf count copies window over anySet zip3 xor
     firstFailed earlier rank placeIn spanChecks addressChecks outputChecks decided kept unlessEmpty
     alignedOf alignedChecks prefixLength bulkStart bulkOffset spanCount splitAt splitChecks windowAt nextChunk chunksRemainder cursorChecks
-    maskChecks tryNewOf newZeroedOf newZeroedBytes zeroedChecks zeros zeroCount sliceOf sliceChecks pieceChecks cutZeros recounts keptCount
+    maskChecks tryNewOf unsetBitsOf newZeroedOf newZeroedBytes zeroedChecks zeros zeroCount sliceOf sliceChecks pieceChecks cutZeros recounts keptCount
     packed frozen overFrom inProgress appended builderFlags possible builderChecks frozenOver
     constantChecks wordChecks spanGrowChecks innerChecks subsliceChecks gatherChecks allBelow gathered repeated
     pairOf pairBytes pairChecks pairFlags shortcut eachOf eachBytes notChecks selectChecks eqOf commonOf commonChecks

@@ -49,6 +49,7 @@ pub mod SerialPlain
 pub mod SliceTruth
 pub mod SpanLaws
 pub mod SplitLaws
+pub mod StartRows
 pub mod SupersedingLaws
 pub mod SupersedingPlain
 pub mod TrueIdxLaws

@@ -18,7 +18,7 @@ use Rattle.masks.specs.Builder.{builderOf, newBuilder}
 use Rattle.masks.specs.Chunks.{chunksAt, nextChunk, chunksRemainder}
 use Rattle.masks.specs.Combine.{And, pairOf, pairBytes, notOf, notBytes, selectOf, selectBytes, selectConstantOf, selectConstantBytes}
 use Rattle.masks.specs.Compare.{eqOf, commonOf}
-use Rattle.masks.specs.Examples.{Value, mask, count, bytes, accepted, refusal, slicedValue, frozenIn}
+use Rattle.masks.specs.Examples.{Value, mask, count, bytes, accepted, refusal, slicedValue, slicedTo, mixed, frozenIn}
 use Rattle.masks.specs.Freeze.{freezeOf, freezeBytes, intoOptValidityOf}
 use Rattle.masks.specs.Iterator.{iterAt, nthFlag, takeLeading}
 use Rattle.masks.specs.Mask.{maskOf, tryNewOf, newZeroedOf, newZeroedBytes, sliceOf}
@@ -222,6 +222,8 @@ splitRows =
     ∷ splitRow 3 130 0 (0x05A5A5A5A5A5A5A5 ∷ 61 ∷ 8 ∷ 1 ∷ 0x0D ∷ 5 ∷ [])
     ∷ splitRow 8 100 7 (0 ∷ 0 ∷ 1 ∷ 1 ∷ 0xD2D2D2D2D ∷ 36 ∷ [])
     ∷ splitRow 4 100 3 (0x2D2D2D2D2 ∷ 36 ∷ 5 ∷ 1 ∷ 0 ∷ 0 ∷ [])
+    -- Of no flags all is 0, whatever the start and the address.
+    ∷ splitRow 9 0 8 (0 ∷ 0 ∷ 0 ∷ 0 ∷ 0 ∷ 0 ∷ [])
     ∷ []
 
 -- ---- starts other than 0, second words, unknown counts
@@ -234,6 +236,9 @@ startRows =
     ∷ row (slicedValue (sliceOf twelve twoBytes 2 8)) (count (Known 4))
     -- A slice of a mask of unknown count has none.
     ∷ row (slicedValue (sliceOf whole byte 0 4)) (count Unknown)
+    -- `slice` recounts where at most 32 flags are cut off, of masks of up to 164 flags. Of 100 flags, 68 and 67.
+    ∷ row (slicedTo 68 (mixed 100)) (count (Known 33))
+    ∷ row (slicedTo 67 (mixed 100)) (count Unknown)
     ∷ []
 
 -- the statements

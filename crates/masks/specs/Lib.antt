@@ -30,6 +30,7 @@ pub mod RuleRows
 pub mod Search
 pub mod SerialPlain
 pub mod SliceIterator
+pub mod StartRows
 pub mod Superseding
 pub mod SupersedingPlain
 pub mod TrueCounts
