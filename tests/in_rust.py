@@ -72,9 +72,14 @@ def call(name, given, before, after):
     return f"    {before}unsafe {{\n        exports::{name}(\n{lines}        )\n    }}{after}\n"
 
 
-def function(export, example):
+def linked(text, own):
+    """A text whose exports are links; one of another module by its path."""
+    return re.sub(r"\bpw_(\w+)", lambda found: f"[`{found[1]}`]" + ("" if found[0] in own else f"(super::{found[1]})"), text)
+
+
+def function(export, example, own):
     name = export.name.removeprefix("pw_")
-    doc = re.sub(r"\bpw_(\w+)", r"[`\1`]", export.sentences()).replace("`place` is then the one", "the cursor is then the one")
+    doc = linked(export.sentences(), own).replace("`place` is then the one", "the cursor is then the one")
     text = "".join(f"/// {line}\n" for line in textwrap.wrap(doc, 126, break_on_hyphens=False))
     text += f"///\n{example}" if example else ""
     arguments, given = taken(export)
@@ -105,10 +110,11 @@ def files():
         lines = "".join(f"//! {line}\n" for line in textwrap.wrap(heading, 126, break_on_hyphens=False))
         parts = [f"{lines}//!\n//! Written by tests/declarations.py from crates/capi, save for the examples, which it keeps.\n"]
         parts += ["use super::exports;\nuse super::records::*;\n"]
+        own = {export.name for export in found if export.module == module}
         for export in found:
             if export.module == module:
                 name = export.name.removeprefix("pw_")
                 lacking += [] if name in shown else [name]
-                parts.append(function(export, shown.get(name, "")))
+                parts.append(function(export, shown.get(name, ""), own))
         written[f"{module}.rs"] = "\n".join(parts)
     return {CALLS / name: text for name, text in written.items()}, lacking

@@ -208,8 +208,8 @@ pub fn freeze(builder: Builder, buf: &mut [u8], serial: u32) -> MaskAnswer {
 }
 
 /// The bytes and the mask that [`freeze`] gives, under the serial that the caller kept; no mask where all flags are set, so for
-/// no flags too. As in Arrow, no mask means all ones here; [`may_reassign`] takes no permission mask for no truck: end the
-/// builder of a permission mask with [`freeze`]. Refuses with 1, 4, 9; every other field is then 0.
+/// no flags too. As in Arrow, no mask means all ones here; [`may_reassign`](super::may_reassign) takes no permission mask for no
+/// truck: end the builder of a permission mask with [`freeze`]. Refuses with 1, 4, 9; every other field is then 0.
 ///
 /// ```
 /// use poruwhina::calls::{builder_new, extend_constant, into_opt_validity};

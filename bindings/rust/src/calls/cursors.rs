@@ -113,8 +113,8 @@ pub fn take_leading_zeros(cursor: Cursor, bytes: &[u8]) -> Step {
 }
 
 /// A cursor before the first position of a one in a mask of `length` flags. Where not `present` there is no mask: record and
-/// bytes are not read, every position is given, as in Arrow, and 1 is the only refusal. For [`may_reassign`] no permission mask
-/// means no truck. Refuses with 1, 2, 3, 5; every other field is then 0.
+/// bytes are not read, every position is given, as in Arrow, and 1 is the only refusal. For [`may_reassign`](super::may_reassign)
+/// no permission mask means no truck. Refuses with 1, 2, 3, 5; every other field is then 0.
 ///
 /// ```
 /// use poruwhina::calls::{bitmap_new, true_idx_new};

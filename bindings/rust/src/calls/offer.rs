@@ -7,10 +7,10 @@ use super::records::*;
 
 /// The first truck at or after the cursor that is permitted and not revoked, going round to truck 0 once, and the cursor one past
 /// it for the next call. Where none is found no such truck exists, and the cursor is the one that came. `windows` counts windows
-/// of 32 flags as [`next_and_not`] does, at most ceil(length / 32) + 1. Where not `permitted` there is no permission mask: none
-/// is found at each cursor, with 0 windows; where not `revoked` no revocation mask, which takes nothing away: record and bytes
-/// are then not read. 5 comes only with both masks, and 6 only with a permission mask: the cursor is above its length. Refuses
-/// with 1, 2, 3, 5, 6; `cursor` is then the one that came, every other field 0.
+/// of 32 flags as [`next_and_not`](super::next_and_not) does, at most ceil(length / 32) + 1. Where not `permitted` there is no
+/// permission mask: none is found at each cursor, with 0 windows; where not `revoked` no revocation mask, which takes nothing
+/// away: record and bytes are then not read. 5 comes only with both masks, and 6 only with a permission mask: the cursor is above
+/// its length. Refuses with 1, 2, 3, 5, 6; `cursor` is then the one that came, every other field 0.
 ///
 /// ```
 /// use poruwhina::calls::{offer, try_new};
