@@ -28,7 +28,7 @@ good a h =
 
 pub witnessed : Witnessed
 unfolding
-    noMinute newOf widthFits placeFits insideFits numbersFit allZero sameNumbers wordsFit leftByMinutes
+    noMinute newOf pushOf countsOf widthFits placeFits insideFits numbersFit allZero sameNumbers wordsFit leftByMinutes
     zeros bits count column columnsFrom columnCounts
 witnessed =
     record {
@@ -37,6 +37,12 @@ witnessed =
       new-256 = refl;
       new-257 = refl;
       new-largest = refl;
+      new-window = refl;
+      new-number = refl;
+      push-number = refl;
+      counts-number = refl;
+      no-number = refl;
+      counted-number = refl;
       width-0 = bad _ refl;
       width-257 = bad _ refl;
       width-largest = bad _ refl;

@@ -37,6 +37,13 @@ pub record Witnessed : Type 0 where
   pub new-256 : newOf 256 ≡ accepted (noMinute 256)
   pub new-257 : newOf 257 ≡ refused (noMinute 0)
   pub new-largest : newOf 0xFFFFFFFFFFFFFFFF ≡ refused (noMinute 0)
+  -- a new window has kept no word; a refusal has the number 16, and an answer the number 0
+  pub new-window : newOf 3 .window ≡ windowOf [] [] 0 0 3
+  pub new-number : newOf 0 .refusal ≡ 16
+  pub push-number : pushOf (noMinute 0) 1 .refusal ≡ 16
+  pub counts-number : countsOf (noMinute 0) .refusal ≡ 16
+  pub no-number : newOf 3 .refusal ≡ 0
+  pub counted-number : countsOf threeMinutes .refusal ≡ 0
   pub width-0 : Refused (noMinute 0)
   pub width-257 : Refused (noMinute 257)
   pub width-largest : Refused (noMinute 0xFFFFFFFFFFFFFFFF)

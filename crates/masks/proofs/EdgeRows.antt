@@ -15,10 +15,10 @@ use Rattle.masks.specs.Bitmask.{splitAt, splitChecks, windowAt}
 use Rattle.masks.specs.Builder.{appended, builderChecks, builderFlags, inProgress, possible}
 use Rattle.masks.specs.Checks.{addressChecks, earlier, firstFailed, rank, placeIn, outputChecks, spanChecks}
 use Rattle.masks.specs.Chunks.{chunkStep, chunksRemainder, nextChunk}
-use Rattle.masks.specs.Combine.{eachBytes, eachOf, notChecks, pairBytes, pairOf, pairChecks, pairFlags, selectChecks, shortcut}
+use Rattle.masks.specs.Combine.{eachBytes, eachOf, notChecks, pairBytes, pairOf, pairChecks, pairFlags, pairMask, selectChecks, shortcut}
 use Rattle.masks.specs.Compare.{commonChecks, commonOf, eqOf}
 use Rattle.masks.specs.Cursor.{cursorChecks}
-use Rattle.masks.specs.EdgeRows.{EdgesHold, limitRows, edgeRows, maskRows, unwrittenRows, splitRows, startRows}
+use Rattle.masks.specs.EdgeRows.{EdgesHold, limitRows, edgeRows, maskRows, unwrittenRows, splitRows, startRows, countRows}
 use Rattle.masks.specs.Freeze.{frozenOver}
 use Rattle.masks.specs.Frozen.{frozen, overFrom, packed}
 use Rattle.masks.specs.Iterator.{flagStep, leadingFrom, nthFlag, takeLeading}
@@ -30,14 +30,14 @@ use Rattle.masks.specs.Utils.{spanCount, zeros}
 
 pub all-hold : EdgesHold
 unfolding
-    limitRows edgeRows maskRows unwrittenRows splitRows startRows
+    limitRows edgeRows maskRows unwrittenRows splitRows startRows countRows
     bits wordOf flagsOf count copies window over anySet zip3 xor
     firstFailed earlier rank placeIn spanChecks addressChecks outputChecks decided kept unlessEmpty
     alignedOf alignedChecks prefixLength bulkStart bulkOffset spanCount splitAt splitChecks windowAt nextChunk chunksRemainder cursorChecks
     maskChecks tryNewOf unsetBitsOf newZeroedOf newZeroedBytes zeroedChecks zeros zeroCount sliceOf sliceChecks pieceChecks cutZeros recounts keptCount
     packed frozen overFrom inProgress appended builderFlags possible builderChecks frozenOver
     constantChecks wordChecks spanGrowChecks innerChecks subsliceChecks gatherChecks allBelow gathered repeated
-    pairOf pairBytes pairChecks pairFlags shortcut eachOf eachBytes notChecks selectChecks eqOf commonOf commonChecks
+    pairOf pairBytes pairChecks pairFlags pairMask shortcut eachOf eachBytes notChecks selectChecks eqOf commonOf commonChecks
     andNotAtOf andNotAtChecks indexChecks lengthChecks nthFlag takeLeading newSlices nextSlice
     newTrue newTrueChecks nextTrue trueChecks trueFlags positionsOver onesLeft onesFrom
-all-hold = record { limits = refl; edges = refl; masks = refl; unwritten = refl; splits = refl; starts = refl }
+all-hold = record { limits = refl; edges = refl; masks = refl; unwritten = refl; splits = refl; starts = refl; counts = refl }

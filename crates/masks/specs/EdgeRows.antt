@@ -16,14 +16,14 @@ use Rattle.masks.specs.AtIndex.{andNotAtOf}
 use Rattle.masks.specs.Bitmask.{splitAt, windowAt}
 use Rattle.masks.specs.Builder.{builderOf, newBuilder}
 use Rattle.masks.specs.Chunks.{chunksAt, nextChunk, chunksRemainder}
-use Rattle.masks.specs.Combine.{And, pairOf, pairBytes, notOf, notBytes, selectOf, selectBytes, selectConstantOf, selectConstantBytes}
+use Rattle.masks.specs.Combine.{And, AndNot, OrNot, pairOf, pairBytes, notOf, notBytes, selectOf, selectBytes, selectConstantOf, selectConstantBytes}
 use Rattle.masks.specs.Compare.{eqOf, commonOf}
-use Rattle.masks.specs.Examples.{Value, mask, count, bytes, accepted, refusal, slicedValue, slicedTo, mixed, frozenIn}
+use Rattle.masks.specs.Examples.{Value, mask, count, bytes, accepted, refusal, slicedValue, slicedTo, mixed, frozenIn, first}
 use Rattle.masks.specs.Freeze.{freezeOf, freezeBytes, intoOptValidityOf}
 use Rattle.masks.specs.Iterator.{iterAt, nthFlag, takeLeading}
 use Rattle.masks.specs.Mask.{maskOf, tryNewOf, newZeroedOf, newZeroedBytes, sliceOf}
 use Rattle.masks.specs.Positions.{positionsOver}
-use Rattle.masks.specs.RuleRows.{Row, row}
+use Rattle.masks.specs.RuleRows.{Row, row, pairOfTold}
 use Rattle.masks.specs.SliceIterator.{slicesAt, newSlices, nextSlice}
 use Rattle.masks.specs.TrueIdx.{trueAt, newTrue, nextTrue}
 use Rattle.masks.specs.Utils.{spanCount}
@@ -241,6 +241,15 @@ startRows =
     ∷ row (slicedTo 67 (mixed 100)) (count Unknown)
     ∷ []
 
+-- ---- no shortcut: `and_not`, `or_not` and `not` of all zeros or all ones leave the count unknown
+
+unfoldable pub countRows : List Row
+countRows =
+    row (pairOfTold AndNot 4 (Known 4) 0xF0 Unknown 0xFF) (mask (first 0) Unknown)
+    ∷ row (pairOfTold AndNot 4 Unknown 0xFF (Known 0) 0xFF) (mask (first 0) Unknown)
+    ∷ row (pairOfTold OrNot 4 (Known 4) 0xF0 (Known 0) 0xFF) (mask (first 0) Unknown)
+    ∷ []
+
 -- the statements
 abbrev pub Hold : List Row → Type 0
 Hold rows = map (λ (r : Row). r .computed) rows ≡ map (λ (r : Row). r .stated) rows
@@ -252,3 +261,4 @@ pub record EdgesHold : Type 0 where
   pub unwritten : Hold unwrittenRows
   pub splits : map (λ (r : SplitRow). r .computed) splitRows ≡ map (λ (r : SplitRow). r .stated) splitRows
   pub starts : Hold startRows
+  pub counts : Hold countRows

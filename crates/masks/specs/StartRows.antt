@@ -16,10 +16,12 @@ use Rattle.masks.specs.Chunks.{chunksAt, nextChunk, chunksRemainder}
 use Rattle.masks.specs.Cursor.{Step, item, ended}
 use Rattle.masks.specs.EdgeRows.{SplitRow, twoBytes, twelve}
 use Rattle.masks.specs.Iterator.{iterAt, nthFlag, takeLeading}
+use Rattle.masks.specs.Mask.{sliceOf}
 use Rattle.masks.specs.Positions.{nextPositions, positionsOver}
 use Rattle.masks.specs.Search.{searchFrom, searchBack}
 use Rattle.masks.specs.SliceIterator.{newSlices, nextSlice, slicesAt}
 use Rattle.masks.specs.TrueIdx.{newTrue, nextTrue, trueAt}
+use Rattle.masks.specs.declared.bitmap.Bitmap.{Bitmap}
 use Rattle.masks.specs.declared.bitmap.Optional.the-variants.{Present, Absent}
 use Rattle.masks.specs.declared.bitmask.Span.{Span}
 use Rattle.masks.specs.declared.chunks.BitChunks.{BitChunks}
@@ -68,6 +70,10 @@ placed (given (some p)) = p ∷ []
 placed (given none) = []
 placed (refused k s) = k ∷ k ∷ []
 
+abbrev pub cut : Answer Bitmap Bitmap → List ℕ
+cut (given m) = m .start ∷ m .length ∷ []
+cut (refused k m) = []
+
 abbrev pub partNumbers : Answer (Unit {0}) (Span × Span) → List ℕ
 partNumbers (given p) = p .0 .start ∷ p .0 .length ∷ p .1 .start ∷ p .1 .length ∷ []
 partNumbers (refused k s) = []
@@ -107,6 +113,8 @@ startRows =
     ∷ numbers (stepped chunksNumbers (λ (w : ℕ). w) (nextChunk (chunksAt 4 130 1) many)) (0xD2D2D2D2D2D2D2D2 ∷ 4 ∷ 130 ∷ 2 ∷ [])
     ∷ numbers (stepped chunksNumbers (λ (w : ℕ). w) (nextChunk (chunksAt 4 130 2) many)) (4 ∷ 130 ∷ 2 ∷ [])
     ∷ numbers (remaining (chunksRemainder (chunksAt 4 130 0) many)) (2 ∷ 2 ∷ [])
+    -- a slice begins in its bytes where the mask does, and the offset on
+    ∷ numbers (cut (sliceOf twelve twoBytes 2 8)) (6 ∷ 8 ∷ [])
     -- windows, splits and searches
     ∷ numbers (single (windowAt twoBytes 4 12 2)) (0xB4 ∷ [])
     ∷ numbers (partNumbers (splitAt twoBytes 4 12 5)) (4 ∷ 5 ∷ 9 ∷ 7 ∷ [])
