@@ -217,10 +217,11 @@ typedef struct {
 
 /* ---- The calls of words. Nothing is refused. */
 
-/* The first eight bytes as a word, absent ones zero. */
+/* Loads the first eight bytes as a little-endian word, padding a shorter slice with zeros. */
 uint64_t pw_load_padded_le_u64(const uint8_t *part, size_t part_len);
 
-/* The flags of `current` from `offset` on, then the low flags of `next`; `current` at offset 0 and from 64 on. */
+/* Returns 64 flags: those of `current` starting at `offset`, then the low flags of `next`. An offset of 0, or of 64 or more, returns
+ * `current`. */
 uint64_t pw_merge_reversed(uint64_t current, uint64_t next, size_t offset);
 
 /* The position of set bit n of a word, counted from 0; where at most n are set, how many are. Refuses nothing. */
@@ -264,7 +265,7 @@ pw_number pw_get_u32(const uint8_t *bytes, size_t bytes_len, size_t start, size_
 
 /* ---- The searches for the n-th set flag of a span. */
 
-/* The position, at or after `from`, of the n-th set flag, counted from 0. Refuses with 1, 2; every other field is then 0. */
+/* Returns the position of the n-th set flag at or after `from`, counting from 0. Refuses with 1, 2; every other field is then 0. */
 pw_position pw_nth_set_bit_idx(const uint8_t *bytes, size_t bytes_len, size_t start, size_t length, size_t n,
     size_t from);
 
@@ -275,7 +276,7 @@ pw_position pw_nth_set_bit_idx_rev(const uint8_t *bytes, size_t bytes_len, size_
 
 /* ---- The words of a span, and the flags behind the last whole one. */
 
-/* A cursor at the first word of a span. Refuses with 1, 2; every other field is then 0. */
+/* Returns a cursor at the first word of a span. Refuses with 1, 2; every other field is then 0. */
 pw_cursor_answer pw_chunks_new(const uint8_t *bytes, size_t bytes_len, size_t start, size_t length);
 
 /* A cursor at the first word of the first `length` flags of the bytes. Refuses with 1, 2; every other field is then 0. */
@@ -293,7 +294,7 @@ pw_step_answer pw_chunks_remainder(size_t start, size_t length, size_t place, co
 /* ---- The builder. Each call appends to `buf` and gives the builder to go on with. Finished words are written to the buffer, and
  * nothing else of it; pw_freeze and pw_into_opt_validity write the frozen bytes over its front. */
 
-/* The builder of no flags. */
+/* Returns a builder with no flags. */
 pw_builder pw_builder_new(void);
 
 /* Appends a flag. Refuses with 1, 4, 9; the builder is then the one that came. */
@@ -344,7 +345,7 @@ pw_validity_answer pw_into_opt_validity(size_t length, uint64_t word, size_t one
 
 /* ---- The calls that make a mask, cut it, count it and compare it. */
 
-/* The empty mask. */
+/* Returns the empty mask. */
 pw_mask pw_bitmap_new(void);
 
 /* A mask of `length` zeros, whose frozen bytes are written over the front of `out`. Refuses with 1, 9; every other field is then 0. */
@@ -357,8 +358,8 @@ pw_mask_answer pw_try_new(const uint8_t *bytes, size_t bytes_len, size_t start, 
  * came. */
 pw_mask_answer pw_slice(pw_mask mask, const uint8_t *bytes, size_t bytes_len, size_t offset, size_t length);
 
-/* The zeros of a mask, and the mask with its count known. Refuses with 1, 2, 3; the mask is then the one that came, every field as it
- * came, and `zeros` 0. */
+/* Returns the number of zeros, and the mask with that count stored. Refuses with 1, 2, 3; the mask is then the one that came, every
+ * field as it came, and `zeros` 0. */
 pw_zeros_answer pw_unset_bits(pw_mask mask, const uint8_t *bytes, size_t bytes_len);
 
 /* Whether lengths and flags are equal. Refuses with 1, 2, 3; every other field is then 0. */

@@ -70,7 +70,7 @@ fn validity_out(r: Validity) -> ValidityAnswer
     }
 }
 
-// The builder of no flags.
+// Returns a builder with no flags.
 #[no_mangle]
 pub extern "C" fn pw_builder_new() -> Builder
     ensures { λ r. ⌜ r ≡ builderOut newBuilder ⌝ }

@@ -61,7 +61,7 @@ fn remainder_out(place: usize, r: Remainder) -> StepAnswer
     }
 }
 
-// A cursor at the first word of a span.
+// Returns a cursor at the first word of a span.
 #[no_mangle]
 pub extern "C" fn pw_chunks_new(bytes: &[u8], start: usize, length: usize) -> CursorAnswer
     ensures { λ r. ⌜ r ≡ asCursor chunksOut (newChunks (now (bytes .entry)) start length) ⌝ }

@@ -71,7 +71,7 @@ fn compared_out(r: Compared) -> Flag
     }
 }
 
-// The empty mask.
+// Returns the empty mask.
 #[no_mangle]
 pub extern "C" fn pw_bitmap_new() -> Mask
     ensures { λ r. ⌜ r ≡ maskOut emptyMask ⌝ }
@@ -104,7 +104,7 @@ pub extern "C" fn pw_slice(mask: Mask, bytes: &[u8], offset: usize, length: usiz
     sliced_out(mask, mask_in(mask).slice(bytes, offset, length))
 }
 
-// The zeros of a mask, and the mask with its count known.
+// Returns the number of zeros, and the mask with that count stored.
 #[no_mangle]
 pub extern "C" fn pw_unset_bits(mask: Mask, bytes: &[u8]) -> ZerosAnswer
     ensures { λ r. ⌜ r ≡ asZeros mask (unsetBitsOf (maskIn mask) (now (bytes .entry))) ⌝ }

@@ -96,7 +96,7 @@ pub(crate) fn no_mask() -> Mask
     }
 }
 
-// The record of an absent mask is not read.
+// Returns the mask if `present`. The record of an absent mask is not read.
 pub(crate) fn optional_in(present: bool, m: Mask) -> Optional
     ensures { λ r. ⌜ r ≡ optionalIn present m ⌝ }
 {

@@ -18,7 +18,7 @@ fn position_out(r: Found) -> Position
     }
 }
 
-// The position, at or after `from`, of the n-th set flag, counted from 0.
+// Returns the position of the n-th set flag at or after `from`, counting from 0.
 #[no_mangle]
 pub extern "C" fn pw_nth_set_bit_idx(
     bytes: &[u8],

@@ -30,7 +30,7 @@ fn nth_out(r: Nth) -> NthAnswer
     }
 }
 
-// The first eight bytes as a word, absent ones zero.
+// Loads the first eight bytes as a little-endian word, padding a shorter slice with zeros.
 #[no_mangle]
 pub extern "C" fn pw_load_padded_le_u64(part: &[u8]) -> u64
     ensures { λ r. ⌜ wordFlags r ≡ window (flagsOf (now (part .entry))) 0 64 ⌝ }
@@ -38,7 +38,8 @@ pub extern "C" fn pw_load_padded_le_u64(part: &[u8]) -> u64
     load_padded_le_u64(part)
 }
 
-// The flags of `current` from `offset` on, then the low flags of `next`; `current` at offset 0 and from 64 on.
+// Returns 64 flags: those of `current` starting at `offset`, then the low flags of `next`. An offset of 0, or of 64 or more, returns
+// `current`.
 #[no_mangle]
 pub extern "C" fn pw_merge_reversed(current: u64, next: u64, offset: usize) -> u64
     ensures { λ r. ⌜ wordFlags r ≡ merged (wordFlags current) (wordFlags next) offset ⌝ }

@@ -26,7 +26,7 @@ pub enum Aligned {
 }
 
 impl AlignedBitmapSlice {
-    // The split of a span, where the first lent byte stands at an address whose remainder by 8 is `address`.
+    // Splits a span. `address` is the address of the first byte modulo 8.
     pub fn new(bytes: &[u8], start: usize, length: usize, address: usize) -> Aligned
         ensures { λ r. ⌜ alignedAnswer r ≡ alignedOf (now (bytes .entry)) start length address ⌝ }
     {
@@ -54,7 +54,7 @@ pub(crate) fn aligned_failure(start: usize, length: usize, size: usize, address:
     earlier(span_failure(start, length, size), address_failure(address))
 }
 
-// The place of the first whole word, in bytes from the span's first byte on.
+// Returns the offset in bytes from the span's first byte to its first whole word.
 fn bulk_offset(start: usize, address: usize) -> usize
     requires { ⌜ (start ≤ 2 * limit) × (address ≤ 7) ⌝ }
     ensures { λ r. ⌜ r ≡ bulkOffset start address ⌝ }

@@ -68,14 +68,14 @@ impl Bitmap {
     // The flag limit: the largest start and length that the calls take.
     pub const LIMIT: usize = 4194304;
 
-    // The empty mask.
+    // Returns the empty mask.
     pub fn new() -> Self
         ensures { λ r. ⌜ r ≡ emptyMask ⌝ }
     {
         mask_of(0, 0, Unset::Known(0))
     }
 
-    // A mask of so many zeros, frozen over the front of out.
+    // Returns a mask of `length` zeros and writes its frozen bytes to the start of `out`.
     pub fn new_zeroed(length: usize, out: &mut [u8]) -> Made
         ensures answer { λ r. ⌜ madeAnswer r ≡ newZeroedOf length (now (out .entry)) ⌝ }
         ensures bytes { λ _. ⌜ now (out .exit) ≡ newZeroedBytes length (now (out .entry)) ⌝ }
@@ -89,7 +89,7 @@ impl Bitmap {
         Made::Mask(mask_of(0, length, Unset::Known(length)))
     }
 
-    // A mask over lent bytes, its zeros not counted yet.
+    // Returns a mask over `bytes` whose zeros have not been counted.
     pub fn try_new(bytes: &[u8], start: usize, length: usize) -> Made
         ensures { λ r. ⌜ madeAnswer r ≡ tryNewOf (now (bytes .entry)) start length ⌝ }
     {
@@ -101,7 +101,7 @@ impl Bitmap {
         Made::Mask(mask_of(start, length, unset))
     }
 
-    // The zeros of the mask, and the mask with its count known.
+    // Returns the number of zeros, and the mask with that count stored.
     pub fn unset_bits(self, bytes: &[u8]) -> Counting
         ensures { λ r. ⌜ countingAnswer r ≡ unsetBitsOf self (now (bytes .entry)) ⌝ }
     {
@@ -113,7 +113,7 @@ impl Bitmap {
         Counting::Zeros(zeros, with_count(self, Unset::Known(zeros)))
     }
 
-    // The piece of `length` flags from `offset` on.
+    // Returns the `length` flags starting at `offset`.
     pub fn slice(self, bytes: &[u8], offset: usize, length: usize) -> Sliced
         ensures { λ r. ⌜ slicedAnswer r ≡ sliceOf self (now (bytes .entry)) offset length ⌝ }
     {
@@ -163,7 +163,7 @@ fn with_count(mask: Bitmap, unset: Unset) -> Bitmap
     cut_mask(mask, mask.start, mask.length, unset)
 }
 
-// Known as 0 where there are no flags, else unknown.
+// Returns the zero count of a result that was not counted: 0 if it has no flags, else unknown.
 pub(crate) fn not_counted(length: usize) -> Unset
     ensures { λ r. ⌜ r ≡ uncounted length ⌝ }
 {
@@ -174,7 +174,7 @@ pub(crate) fn not_counted(length: usize) -> Unset
     }
 }
 
-// The known count, or the zeros counted.
+// Returns the known zero count, or counts the zeros.
 pub(crate) fn zero_count(mask: Bitmap, bytes: &[u8]) -> usize
     requires { ⌜ (mask .start ≤ limit) × (mask .length ≤ limit) ⌝ }
     ensures { λ r. ⌜ r ≡ zeroCount mask (now (bytes .entry)) ⌝ }
@@ -197,7 +197,7 @@ fn piece_failure(mask: Bitmap, bytes: &[u8], offset: usize, length: usize) -> u8
     earlier(mask_failure(mask, bytes), piece)
 }
 
-// Is a known count recounted for a slice of n flags of `old`.
+// Returns whether slicing `old` flags to n recounts the known zeros.
 fn recounts(old: usize, n: usize, zeros: usize) -> bool
     requires { ⌜ (old ≤ limit) × (n ≤ limit) ⌝ }
     ensures { λ r. ⌜ r ≡ Mask·recounts old n zeros ⌝ }
@@ -217,7 +217,7 @@ fn most(x: usize, y: usize) -> usize
     if x < y { y } else { x }
 }
 
-// The zeros before a piece and behind it.
+// Counts the zeros before and after a slice.
 fn cut_zeros(mask: Bitmap, bytes: &[u8], offset: usize, length: usize) -> usize
     requires { ⌜ PieceAllowed mask offset length ⌝ }
     ensures { λ r. ⌜ r ≡ cutZeros mask (now (bytes .entry)) offset length ⌝ }
@@ -228,7 +228,7 @@ fn cut_zeros(mask: Bitmap, bytes: &[u8], offset: usize, length: usize) -> usize
     before + behind
 }
 
-// The count of a piece.
+// Returns the zero count of a slice.
 fn cut_count(mask: Bitmap, bytes: &[u8], offset: usize, length: usize) -> Cut
     requires { ⌜ PieceAllowed mask offset length ⌝ }
     ensures { λ r. ⌜ r ≡ cutOf (mask .length) length (cutZeros mask (now (bytes .entry)) offset length) (mask .unset) ⌝ }
@@ -246,7 +246,7 @@ fn cut_count(mask: Bitmap, bytes: &[u8], offset: usize, length: usize) -> Cut
     }
 }
 
-// A known count less the zeros cut off.
+// Subtracts the zeros that were cut off from the known count, or reports that the known count cannot be right.
 fn recount(zeros: usize, cut: usize, length: usize) -> Cut
     ensures { λ r. ⌜ r ≡ recountedOf zeros cut length ⌝ }
 {
@@ -260,7 +260,7 @@ fn recount(zeros: usize, cut: usize, length: usize) -> Cut
     Cut::Count(Unset::Known(rest))
 }
 
-// A known count that is not recounted: of none or of all flags it stays so.
+// Returns the count of a slice that is not recounted: still known if the mask was all ones or all zeros, else unknown.
 fn kept_count(zeros: usize, old: usize, length: usize) -> Cut
     ensures { λ r. ⌜ r ≡ Cut.Count (keptCount zeros old length) ⌝ }
 {

@@ -65,7 +65,7 @@ fn pair_failure(lhs: Bitmap, left: &[u8], rhs: Bitmap, right: &[u8], size: usize
     earlier(first, earlier(second, earlier(equal, room)))
 }
 
-// Two masks under an operation on two flags.
+// Combines two masks by a two-flag operation: checks, then shortcut by the counts, then the loop.
 fn combine_two(
     op: Op,
     lhs: Bitmap,
@@ -89,7 +89,7 @@ fn combine_two(
     Combined::Mask(result_mask(serial, n, unset))
 }
 
-// Flags set in both masks.
+// Writes the flags that are set in both masks.
 pub fn and(lhs: Bitmap, left: &[u8], rhs: Bitmap, right: &[u8], out: &mut [u8]) -> Combined
     ensures answer { λ r. ⌜ combinedAnswer r ≡ pairOf And lhs (now (left .entry)) rhs (now (right .entry)) (now (out .entry)) ⌝ }
     ensures bytes { λ _. ⌜ now (out .exit) ≡ pairBytes And lhs (now (left .entry)) rhs (now (right .entry)) (now (out .entry)) ⌝ }
@@ -97,7 +97,7 @@ pub fn and(lhs: Bitmap, left: &[u8], rhs: Bitmap, right: &[u8], out: &mut [u8]) 
     combine_two(Op::And, lhs, left, rhs, right, out)
 }
 
-// Flags set in the first mask and not in the second.
+// Writes the flags that are set in the first mask and not in the second.
 pub fn and_not(lhs: Bitmap, left: &[u8], rhs: Bitmap, right: &[u8], out: &mut [u8]) -> Combined
     ensures answer { λ r. ⌜ combinedAnswer r ≡ pairOf AndNot lhs (now (left .entry)) rhs (now (right .entry)) (now (out .entry)) ⌝ }
     ensures bytes { λ _. ⌜ now (out .exit) ≡ pairBytes AndNot lhs (now (left .entry)) rhs (now (right .entry)) (now (out .entry)) ⌝ }
@@ -105,7 +105,7 @@ pub fn and_not(lhs: Bitmap, left: &[u8], rhs: Bitmap, right: &[u8], out: &mut [u
     combine_two(Op::AndNot, lhs, left, rhs, right, out)
 }
 
-// Flags set in either mask.
+// Writes the flags that are set in either mask.
 pub fn or(lhs: Bitmap, left: &[u8], rhs: Bitmap, right: &[u8], out: &mut [u8]) -> Combined
     ensures answer { λ r. ⌜ combinedAnswer r ≡ pairOf Or lhs (now (left .entry)) rhs (now (right .entry)) (now (out .entry)) ⌝ }
     ensures bytes { λ _. ⌜ now (out .exit) ≡ pairBytes Or lhs (now (left .entry)) rhs (now (right .entry)) (now (out .entry)) ⌝ }
@@ -113,7 +113,7 @@ pub fn or(lhs: Bitmap, left: &[u8], rhs: Bitmap, right: &[u8], out: &mut [u8]) -
     combine_two(Op::Or, lhs, left, rhs, right, out)
 }
 
-// Flags set in the first mask or not set in the second.
+// Writes the flags that are set in the first mask or not set in the second.
 pub fn or_not(lhs: Bitmap, left: &[u8], rhs: Bitmap, right: &[u8], out: &mut [u8]) -> Combined
     ensures answer { λ r. ⌜ combinedAnswer r ≡ pairOf OrNot lhs (now (left .entry)) rhs (now (right .entry)) (now (out .entry)) ⌝ }
     ensures bytes { λ _. ⌜ now (out .exit) ≡ pairBytes OrNot lhs (now (left .entry)) rhs (now (right .entry)) (now (out .entry)) ⌝ }
@@ -121,7 +121,7 @@ pub fn or_not(lhs: Bitmap, left: &[u8], rhs: Bitmap, right: &[u8], out: &mut [u8
     combine_two(Op::OrNot, lhs, left, rhs, right, out)
 }
 
-// Flags set in just one of the masks.
+// Writes the flags that are set in exactly one of the masks.
 pub fn xor(lhs: Bitmap, left: &[u8], rhs: Bitmap, right: &[u8], out: &mut [u8]) -> Combined
     ensures answer { λ r. ⌜ combinedAnswer r ≡ pairOf Xor lhs (now (left .entry)) rhs (now (right .entry)) (now (out .entry)) ⌝ }
     ensures bytes { λ _. ⌜ now (out .exit) ≡ pairBytes Xor lhs (now (left .entry)) rhs (now (right .entry)) (now (out .entry)) ⌝ }
@@ -136,7 +136,7 @@ fn not_failure(mask: Bitmap, bytes: &[u8], size: usize) -> u8
     earlier(mask_failure(mask, bytes), room)
 }
 
-// The flags of the mask, each inverted.
+// Writes the inverted flags of a mask.
 pub fn not(mask: Bitmap, bytes: &[u8], out: &mut [u8]) -> Combined
     ensures answer { λ r. ⌜ combinedAnswer r ≡ notOf mask (now (bytes .entry)) (now (out .entry)) ⌝ }
     ensures bytes { λ _. ⌜ now (out .exit) ≡ notBytes mask (now (bytes .entry)) (now (out .entry)) ⌝ }
@@ -174,7 +174,7 @@ fn select_failure(
     )
 }
 
-// The second mask's flag where the first's is set, else the third's.
+// Writes the second mask's flag where the first mask's flag is set, and the third's elsewhere.
 pub fn select(
     selector: Bitmap,
     by: &[u8],
@@ -208,7 +208,7 @@ pub fn select(
     Combined::Mask(result_mask(serial, n, unset))
 }
 
-// The second mask's flag where the first's is set, else the constant.
+// Writes the second mask's flag where the first mask's flag is set, and the constant elsewhere.
 pub fn select_constant(
     selector: Bitmap,
     by: &[u8],

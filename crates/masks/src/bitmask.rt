@@ -51,7 +51,7 @@ fn split_failure(start: usize, length: usize, at: usize, size: usize) -> u8
     )
 }
 
-// The spans before and from the flag `at` on.
+// Splits a span in two: the flags below `at` and the rest.
 pub fn split_at_unchecked(bytes: &[u8], start: usize, length: usize, at: usize) -> Parts
     ensures { λ r. ⌜ partsAnswer r ≡ splitAt (now (bytes .entry)) start length at ⌝ }
 {
@@ -73,7 +73,7 @@ pub fn split_at_unchecked(bytes: &[u8], start: usize, length: usize, at: usize) 
     )
 }
 
-// 32 flags of a span from `index` on, zeros past its end.
+// Returns the 32 flags starting at `index`, with zeros past the end of the span.
 pub fn get_u32(bytes: &[u8], start: usize, length: usize, index: usize) -> Window
     ensures { λ r. ⌜ windowAnswer r ≡ windowAt (now (bytes .entry)) start length index ⌝ }
 {
@@ -84,7 +84,7 @@ pub fn get_u32(bytes: &[u8], start: usize, length: usize, index: usize) -> Windo
     Window::Flags(span_window(bytes, start, length, index))
 }
 
-// The same of a span whose checks have passed, by one load.
+// Like `get_u32`, for a span that has passed its checks. One load.
 pub(crate) fn span_window(bytes: &[u8], start: usize, length: usize, index: usize) -> u32
     requires { ⌜ (start ≤ limit) × ((length ≤ limit) × (start + length ≤ 8 * ListN·length (now bytes))) ⌝ }
     ensures { λ r. ⌜ r ≡ windowWord (now (bytes .entry)) start length index ⌝ }
@@ -103,7 +103,7 @@ pub enum Position {
     Refused(u8),
 }
 
-// The position, at or after `from`, of the n-th set flag there, counted from 0.
+// Returns the position of the n-th set flag at or after `from`, counting from 0.
 pub fn nth_set_bit_idx(bytes: &[u8], start: usize, length: usize, n: usize, from: usize) -> Position
     ensures { λ r. ⌜ positionAnswer r ≡ searchFrom (now (bytes .entry)) start length n from ⌝ }
 {
@@ -114,7 +114,7 @@ pub fn nth_set_bit_idx(bytes: &[u8], start: usize, length: usize, n: usize, from
     search_from(bytes, start, length, n, from)
 }
 
-// The position of the n-th set flag counted down from below `end`, which may exceed the length.
+// Returns the position of the n-th set flag below `end`, counting down from 0. `end` may exceed the length.
 pub fn nth_set_bit_idx_rev(
     bytes: &[u8],
     start: usize,
@@ -131,7 +131,7 @@ pub fn nth_set_bit_idx_rev(
     search_back(bytes, start, length, n, least(end, length))
 }
 
-// 32 flags from the flag 8 * at + k on, eight bytes in range: one load, which asks nothing, and no flag is cut off.
+// Loads the 32 flags starting at flag 8 * at + k. The eight bytes are in range, so there is one load and no test.
 fn word_window(bytes: &[u8], at: usize, k: usize) -> u32
     requires { ⌜ (at + 8 ≤ ListN·length (now bytes)) × (k ≤ 32) ⌝ }
     ensures { λ r. ⌜ r ≡ wordOf (stretch (now (bytes .entry)) (8 * at + k) 32) ⌝ }
@@ -167,7 +167,8 @@ fn pass_windows(bytes: &[u8], start: usize, length: usize, n: usize, from: usize
     Passed { at: at, left: left }
 }
 
-// The window where `pass_windows` stops has the flag, or at most one window is behind it: two windows in a row, and no loop.
+// Searches forward. Where `pass_windows` stops, the flag is in that window or in the one after it, so two windows are read and no loop
+// is needed.
 fn search_from(bytes: &[u8], start: usize, length: usize, n: usize, from: usize) -> Position
     requires { ⌜ (start ≤ limit) × ((length ≤ limit) × (start + length ≤ 8 * ListN·length (now bytes))) ⌝ }
     ensures { λ r. ⌜ positionAnswer r ≡ given (nthFrom (stretch (now (bytes .entry)) start length) n from) ⌝ }
@@ -192,7 +193,7 @@ fn search_from(bytes: &[u8], start: usize, length: usize, n: usize, from: usize)
     }
 }
 
-// One window, behind which the span ends.
+// Searches the last window of the span.
 fn search_last(bytes: &[u8], start: usize, length: usize, n: usize, from: usize) -> Position
     requires { ⌜ (start ≤ limit) × ((length ≤ limit) × ((start + length ≤ 8 * ListN·length (now bytes)) × ((from ≤ length + 32) × (length ≤ from + 32)))) ⌝ }
     ensures { λ r. ⌜ positionAnswer r ≡ given (nthFrom (stretch (now (bytes .entry)) start length) n from) ⌝ }
@@ -233,7 +234,7 @@ fn pass_back(bytes: &[u8], start: usize, length: usize, n: usize, end: usize) ->
     }
 }
 
-// As `search_from`, from the end on: the window before `below` has zeros from there on.
+// Searches backward, as `search_from` does forward. The window below `below` has zeros above its end.
 fn search_back(bytes: &[u8], start: usize, length: usize, n: usize, end: usize) -> Position
     requires { ⌜ (start ≤ limit) × ((length ≤ limit) × ((start + length ≤ 8 * ListN·length (now bytes)) × (end ≤ length))) ⌝ }
     ensures { λ r. ⌜ positionAnswer r ≡ given (nthBack (stretch (now (bytes .entry)) start length) n end) ⌝ }
@@ -253,7 +254,7 @@ fn search_back(bytes: &[u8], start: usize, length: usize, n: usize, end: usize) 
     search_first(bytes, start, length, rest, at)
 }
 
-// One window, before which the span begins.
+// Searches the first window of the span.
 fn search_first(bytes: &[u8], start: usize, length: usize, n: usize, end: usize) -> Position
     requires { ⌜ (start ≤ limit) × ((length ≤ limit) × ((start + length ≤ 8 * ListN·length (now bytes)) × ((end ≤ length) × (end ≤ 32)))) ⌝ }
     ensures { λ r. ⌜ positionAnswer r ≡ given (nthBack (stretch (now (bytes .entry)) start length) n end) ⌝ }

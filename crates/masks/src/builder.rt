@@ -225,7 +225,7 @@ fn finish(b: BitmapBuilder, buf: &mut [u8])
     }
 }
 
-// The ones held and those in the word.
+// Adds the ones of the finished words and of the word in progress.
 fn all_ones(b: BitmapBuilder) -> usize
     requires { ⌜ allOnes b ≤ b .length ⌝ }
     ensures { λ r. ⌜ r ≡ allOnes b ⌝ }

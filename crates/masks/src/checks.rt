@@ -19,7 +19,7 @@ use crate::utils::all_flags;
 use crate::utils::zeros_at;
 use words::counts::none_from;
 
-// Of two numbers the one that is put first.
+// Returns the refusal code of two that takes precedence; 0 means no failure.
 pub fn earlier(a: u8, b: u8) -> u8
     ensures { λ r. ⌜ r ≡ Checks·earlier a b ⌝ }
 {
@@ -63,7 +63,7 @@ pub(crate) fn within_limit(n: usize) -> bool
     n <= Bitmap::LIMIT
 }
 
-// Is start + length at most the flags of so many bytes.
+// Returns whether start + length is at most 8 * size.
 fn in_bytes(start: usize, length: usize, size: usize) -> bool
     requires { ⌜ (start ≤ limit) × (length ≤ limit) ⌝ }
     ensures { λ r. ⌜ r ≡ leb (start + length) (8 * size) ⌝ }
@@ -125,7 +125,7 @@ pub fn mask_failure(mask: Bitmap, bytes: &[u8]) -> u8
     failed(3, count_valid(mask, bytes))
 }
 
-// Is a + b, taken exactly, at most c.
+// Returns whether a + b <= c, without overflow.
 pub(crate) fn sum_at_most(a: usize, b: usize, c: usize) -> bool
     ensures { λ r. ⌜ r ≡ leb (a + b) c ⌝ }
 {
@@ -145,7 +145,7 @@ fn both(a: bool, b: bool) -> bool
     if a { b } else { false }
 }
 
-// Is the builder one that the calls can have made, over a buffer of so many bytes.
+// Returns whether calls can have produced this builder over a buffer of `size` bytes (check 4).
 fn is_possible(b: BitmapBuilder, size: usize) -> bool
     ensures { λ r. ⌜ r ≡ possible b size ⌝ }
 {
@@ -171,14 +171,14 @@ fn room_failure(b: BitmapBuilder, n: usize, size: usize) -> u8
     failed(4, none_from(b.word, b.length % 64))
 }
 
-// The same where the buffer does not hold n flags.
+// Makes checks 4 and 9 once the buffer is known not to hold n flags.
 fn small_failure(b: BitmapBuilder, size: usize) -> u8
     ensures { λ r. ⌜ r ≡ cond (possible b size) 9 4 ⌝ }
 {
     if is_possible(b, size) { 9 } else { 4 }
 }
 
-// Of a call that appends so many flags to it.
+// Makes checks 1, 4 and 9 for appending `more` flags to a builder.
 pub(crate) fn builder_failure(b: BitmapBuilder, more: usize, size: usize) -> u8
     ensures { λ r. ⌜ r ≡ firstFailed (builderChecks b (b .length + more) size) ⌝ }
 {
@@ -191,7 +191,7 @@ pub(crate) fn builder_failure(b: BitmapBuilder, more: usize, size: usize) -> u8
     room_failure(b, b.length + more, size)
 }
 
-// Of a call that appends a span of n flags to it. A span that is allowed leaves the builder's number: none is made for it.
+// Makes the checks for appending a span of n flags to a builder. If the span passes, the code is the builder's.
 pub(crate) fn span_grow_failure(
     start: usize,
     n: usize,
@@ -208,7 +208,7 @@ pub(crate) fn span_grow_failure(
     earlier(span, builder_failure(b, n, size))
 }
 
-// Of a pushed word: its stated length, and that it has at most 64 flags and none beyond.
+// Makes the checks on a pushed word: its stated length is within the limit and at most 64, and no higher bit is set.
 pub(crate) fn word_failure(word: u64, k: usize) -> u8
     ensures { λ r. ⌜ r ≡ firstFailed (withinLimit k ∷ check 6 (leb k 64 && noneFrom word k) ∷ []) ⌝ }
 {
@@ -218,14 +218,14 @@ pub(crate) fn word_failure(word: u64, k: usize) -> u8
     )
 }
 
-// Of a stated length.
+// Makes check 1 on a stated length.
 pub(crate) fn limit_failure(n: usize) -> u8
     ensures { λ r. ⌜ r ≡ firstFailed (withinLimit n ∷ []) ⌝ }
 {
     failed(1, within_limit(n))
 }
 
-// Of a piece of n flags from `start` on, in a mask of so many flags.
+// Makes checks 1 and 6 on n flags starting at `start` of a mask of `whole` flags.
 pub(crate) fn inner_failure(start: usize, n: usize, whole: usize) -> u8
     ensures { λ r. ⌜ r ≡ firstFailed (innerChecks start n whole) ⌝ }
 {

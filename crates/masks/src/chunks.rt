@@ -41,7 +41,7 @@ pub enum Remainder {
 }
 
 impl BitChunks {
-    // A cursor at the first word of a span.
+    // Returns a cursor at the first word of a span.
     pub fn new(bytes: &[u8], start: usize, length: usize) -> Chunks
         ensures { λ r. ⌜ chunksAnswer r ≡ newChunks (now (bytes .entry)) start length ⌝ }
     {
@@ -56,7 +56,7 @@ impl BitChunks {
         })
     }
 
-    // The word at the cursor's place.
+    // Returns the word at the cursor.
     pub fn next(self, bytes: &[u8]) -> Chunk
         ensures { λ r. ⌜ chunkAnswer r ≡ nextChunk self (now (bytes .entry)) ⌝ }
     {
@@ -78,7 +78,7 @@ impl BitChunks {
         )
     }
 
-    // The flags behind the last whole word of the span, wherever the cursor stands.
+    // Returns the flags after the last whole word, wherever the cursor is.
     pub fn remainder(self, bytes: &[u8]) -> Remainder
         ensures { λ r. ⌜ remainderAnswer r ≡ chunksRemainder self (now (bytes .entry)) ⌝ }
     {
@@ -101,7 +101,7 @@ impl BitChunksExact {
     }
 }
 
-// The 64 flags from the flag start + 64 * k on, all in range: two words merged where the start is inside a byte.
+// Reads the 64 flags starting at flag start + 64 * k, all in range. Merges two words if the start is inside a byte.
 fn chunk_word(bytes: &[u8], start: usize, k: usize) -> u64
     requires { ⌜ (start ≤ limit) × (start + 64 * k + 64 ≤ 8 * length (now bytes)) ⌝ }
     ensures { λ r. ⌜ wordFlags r ≡ stretch (now (bytes .entry)) (start + 64 * k) 64 ⌝ }

@@ -19,7 +19,7 @@ pub enum Compared {
     Refused(u8),
 }
 
-// Are the lengths and the flags of two masks equal.
+// Returns whether two masks have the same length and flags.
 pub fn eq(lhs: Bitmap, left: &[u8], rhs: Bitmap, right: &[u8]) -> Compared
     ensures { λ r. ⌜ comparedAnswer r ≡ eqOf lhs (now (left .entry)) rhs (now (right .entry)) ⌝ }
 {
@@ -34,7 +34,7 @@ pub fn eq(lhs: Bitmap, left: &[u8], rhs: Bitmap, right: &[u8]) -> Compared
     Compared::Equal(equal(left, lhs.start, right, rhs.start, n))
 }
 
-// A stretch against itself one flag on.
+// Counts the edges of n flags: the ones of the flags xor the flags shifted by one.
 fn edges_at(bytes: &[u8], start: usize, n: usize) -> usize
     requires { ⌜ start ≤ limit ⌝ }
     ensures { λ r. ⌜ r ≡ edges (stretch (now (bytes .entry)) start n) ⌝ }
@@ -46,7 +46,7 @@ fn edges_at(bytes: &[u8], start: usize, n: usize) -> usize
     count_ones_of(Op::Xor, bytes, start, bytes, next, bytes, next, n - 1)
 }
 
-// How many flags of the mask differ from the next one.
+// Counts the flags that differ from the flag after them.
 pub fn num_edges(mask: Bitmap, bytes: &[u8]) -> Counted
     ensures { λ r. ⌜ countedAnswer r ≡ edgesOf mask (now (bytes .entry)) ⌝ }
 {
@@ -57,7 +57,7 @@ pub fn num_edges(mask: Bitmap, bytes: &[u8]) -> Counted
     Counted::Count(edges_at(bytes, mask.start, mask.length))
 }
 
-// How many flags are set in both masks.
+// Counts the flags that are set in both masks.
 pub fn num_intersections_with(lhs: Bitmap, left: &[u8], rhs: Bitmap, right: &[u8]) -> Counted
     ensures { λ r. ⌜ countedAnswer r ≡ commonOf lhs (now (left .entry)) rhs (now (right .entry)) ⌝ }
 {

@@ -115,7 +115,7 @@ fn fits_inside(b: BitmapBuilder, n: usize, size: usize) -> bool
     b.length / 64 < least(size / 8, LIMIT_WORDS)
 }
 
-// Are n flags read by one load, and has the word in progress room for them.
+// Returns whether n flags can be read by one load and fit in the word in progress.
 fn stays_inside(b: BitmapBuilder, n: usize) -> bool
     ensures { λ r. ⌜ r ≡ (leb n 57 && ltb (b .length % 64 + n) 64) ⌝ }
 {
@@ -126,7 +126,7 @@ fn stays_inside(b: BitmapBuilder, n: usize) -> bool
     }
 }
 
-// How many flags are missing from a full word.
+// Returns how many flags complete the word in progress.
 fn to_whole(b: BitmapBuilder) -> usize
     ensures { λ r. ⌜ (r ≤ 63) × ((b .length + r) % 64 ≡ 0) ⌝ }
 {
@@ -168,7 +168,7 @@ fn ones_of(flag: bool, n: usize) -> usize
     if flag { n } else { 0 }
 }
 
-// Whole words of one flag, to a builder with no word in progress: the helper gets the buffer from the first unfilled word on.
+// Appends whole words of one flag to a builder that has no word in progress.
 fn fill_words(b: BitmapBuilder, buf: &mut [u8], whole: usize, flag: bool) -> BitmapBuilder
     requires { ⌜ (b .length % 64 ≡ 0) × Room b (64 * whole) (length (now buf)) ⌝ }
     ensures { λ r. ⌜ filling r (now (buf .exit)) ≡ appended (filling b (now (buf .entry))) (copies (64 * whole) flag) ⌝ }
@@ -181,7 +181,8 @@ fn fill_words(b: BitmapBuilder, buf: &mut [u8], whole: usize, flag: bool) -> Bit
     grown(b, longer, 0, ones)
 }
 
-// The last word, of at least a flag, is read by itself: so there is a byte behind each word of the loop over whole ones.
+// Appends flags of a span: up to a full word, whole words, and a last word, which is read on its own so that each word of the loop has
+// a byte after it.
 pub(crate) fn append_stretch(
     b: BitmapBuilder,
     buf: &mut [u8],
@@ -206,7 +207,7 @@ pub(crate) fn append_stretch(
     push_flags(copied, buf, last, rest)
 }
 
-// Whole words of a stretch, likewise.
+// Appends whole words of a span to a builder that has no word in progress.
 fn copy_words(
     b: BitmapBuilder,
     buf: &mut [u8],

@@ -9,7 +9,7 @@ ghost use Rattle.masks.specs.Combine.{resultFlags};
 use crate::shortcuts::Shortcut;
 use words::ops::Op;
 
-// Three stretches combined, frozen over the front of out.
+// Combines three stretches and writes the result as frozen bytes to the start of `out`.
 pub(crate) fn combine_frozen(
     op: Op,
     a: &[u8],
@@ -33,7 +33,7 @@ pub(crate) fn fill_frozen(flag: bool, n: usize, out: &mut [u8])
     words::loops::fill(flag, n, out);
 }
 
-// The result's flags, frozen over the front of out.
+// Writes the result of a combination, by its shortcut or by the loop.
 pub(crate) fn write_result(
     by: Shortcut,
     op: Op,
@@ -52,7 +52,7 @@ pub(crate) fn write_result(
     }
 }
 
-// Two stretches under `select_constant`, frozen over the front of out.
+// Combines two stretches as `select_constant` does.
 pub(crate) fn select_frozen(
     a: &[u8],
     sa: usize,

@@ -46,7 +46,7 @@ impl BitmapBuilder {
         Pushed::Done(append_gathered(self, buf, bytes, start, n, idxs))
     }
 
-    // The same, with 0 for an index at or past the span's length.
+    // Appends the flag at each index, or 0 if the index is not below the span's length.
     pub fn opt_gather_extend_from_slice(
         self,
         buf: &mut [u8],
@@ -75,7 +75,7 @@ fn index(x: u32) -> usize
     x as usize
 }
 
-// Are all indices below n.
+// Returns whether all indices are below n.
 fn all_below(idxs: &[u32], n: usize) -> bool
     ensures { λ r. ⌜ r ≡ allBelow n (now (idxs .entry)) ⌝ }
 {
@@ -89,7 +89,7 @@ fn all_below(idxs: &[u32], n: usize) -> bool
     true
 }
 
-// The flag at an index of a span, 0 from its length on.
+// Returns the flag at an index of a span, or 0 if the index is not below its length.
 fn span_flag(bytes: &[u8], start: usize, n: usize, at: usize) -> bool
     requires { ⌜ start + n ≤ 2 * limit ⌝ }
     ensures { λ r. ⌜ r ≡ getD (stretch (now (bytes .entry)) start n) at false ⌝ }
@@ -101,7 +101,7 @@ fn span_flag(bytes: &[u8], start: usize, n: usize, at: usize) -> bool
     }
 }
 
-// The flags at no more than 64 indices as the first flags of a word.
+// Gathers the flags at up to 64 indices into a word.
 fn gather_word(bytes: &[u8], start: usize, n: usize, idxs: &[u32]) -> u64
     requires { ⌜ (start + n ≤ 2 * limit) × (length (now idxs) ≤ 64) ⌝ }
     ensures { λ r. ⌜ take (length (now (idxs .entry))) (wordFlags r) ≡ gathered (stretch (now (bytes .entry)) start n) (now (idxs .entry)) ⌝ }
@@ -116,7 +116,7 @@ fn gather_word(bytes: &[u8], start: usize, n: usize, idxs: &[u32]) -> u64
     w
 }
 
-// Where a part of no more than 64 that begins at i ends.
+// Returns the end of the chunk of up to 64 indices that starts at i.
 fn part_end(i: usize, n: usize) -> usize
     requires { ⌜ i < n ⌝ }
     ensures { λ r. ⌜ (i < r) × ((r ≤ n) × (r ≤ i + 64)) ⌝ }

@@ -33,7 +33,7 @@ pub enum Taken {
 }
 
 impl BitmapIter {
-    // A cursor at the first flag of a span. Of no flags it is all 0, whatever else is given.
+    // Returns a cursor at the first flag of a span. For length 0 the cursor is all zeros and nothing is checked.
     pub fn new(bytes: &[u8], start: usize, length: usize) -> Iter
         ensures { λ r. ⌜ iterAnswer r ≡ newIter (now (bytes .entry)) start length ⌝ }
     {
@@ -55,14 +55,14 @@ impl BitmapIter {
         })
     }
 
-    // The flag at the cursor's place.
+    // Returns the flag at the cursor.
     pub fn next(self, bytes: &[u8]) -> Flag
         ensures { λ r. ⌜ flagAnswer r ≡ nthFlag self (now (bytes .entry)) 0 ⌝ }
     {
         self.nth(bytes, 0)
     }
 
-    // The flag n places on.
+    // Skips n flags and returns the one after them.
     pub fn nth(self, bytes: &[u8], n: usize) -> Flag
         ensures { λ r. ⌜ flagAnswer r ≡ nthFlag self (now (bytes .entry)) n ⌝ }
     {
@@ -90,14 +90,14 @@ impl BitmapIter {
         )
     }
 
-    // How many ones stand from the cursor's place on.
+    // Counts the ones that start at the cursor, and moves past them.
     pub fn take_leading_ones(self, bytes: &[u8]) -> Taken
         ensures { λ r. ⌜ takenAnswer r ≡ takeLeading true self (now (bytes .entry)) ⌝ }
     {
         self.take_leading(bytes, true)
     }
 
-    // How many zeros stand from the cursor's place on.
+    // Counts the zeros that start at the cursor, and moves past them.
     pub fn take_leading_zeros(self, bytes: &[u8]) -> Taken
         ensures { λ r. ⌜ takenAnswer r ≡ takeLeading false self (now (bytes .entry)) ⌝ }
     {

@@ -19,7 +19,7 @@ use crate::true_idx::next_failure;
 use words::ends::leading_in_word;
 use words::word::down;
 
-// A position as an index of the gathers.
+// Converts a position to the u32 that the gathers take as an index.
 fn index(position: usize) -> u32
     requires { ⌜ position ≤ 2 * limit ⌝ }
     ensures { λ r. ⌜ r ≡ position ⌝ }
@@ -33,7 +33,7 @@ fn position(index: u32) -> usize
     index as usize
 }
 
-// Positions in a row from `first` on.
+// Writes consecutive positions, starting with `first`.
 fn write_row(part: &mut [u32], first: usize)
     requires { ⌜ first + ListN·length (now part) ≤ 2 * limit ⌝ }
     ensures { λ _. ⌜ now (part .exit) ≡ onesFrom first (copies (ListN·length (now (part .entry))) true) ⌝ }
@@ -45,7 +45,7 @@ fn write_row(part: &mut [u32], first: usize)
     }
 }
 
-// n of them, written from `at` on.
+// Writes n consecutive positions at `at`.
 fn write_run(out: &mut [u32], at: usize, first: usize, n: usize)
     requires { ⌜ (at + n ≤ ListN·length (now out)) × (first + n ≤ 2 * limit) ⌝ }
     ensures { λ _. ⌜ now (out .exit) ≡ overFrom (now (out .entry)) at (onesFrom first (copies n true)) ⌝ }
@@ -82,7 +82,7 @@ fn write_word(out: &mut [u32], done: usize, word: u64, first: usize) -> usize
     }
 }
 
-// Those of a span from a place on, word by word.
+// Writes the positions of the ones of a span, word by word, starting at a place.
 fn write_words(out: &mut [u32], bytes: &[u8], start: usize, length: usize, place: usize) -> usize
     requires { ⌜ (start ≤ limit) × ((length ≤ limit) × (place ≤ length)) ⌝ }
     ensures count { λ r. ⌜ r ≡ min (ListN·length (now (out .entry))) (ListN·length (onesLeft (stretch (now (bytes .entry)) start length) place)) ⌝ }
@@ -101,7 +101,7 @@ fn write_words(out: &mut [u32], bytes: &[u8], start: usize, length: usize, place
     count
 }
 
-// Those of a cursor. Without a mask they are a row.
+// Writes the positions that a cursor has left. Without a mask these are consecutive.
 fn write_positions(cursor: TrueIdxIter, bytes: &[u8], out: &mut [u32]) -> usize
     requires { ⌜ (cursor .start ≤ limit) × ((cursor .length ≤ limit) × (cursor .place ≤ cursor .length)) ⌝ }
     ensures count { λ r. ⌜ r ≡ min (ListN·length (now (out .entry))) (ListN·length (leftOf cursor (now (bytes .entry)))) ⌝ }
@@ -115,7 +115,7 @@ fn write_positions(cursor: TrueIdxIter, bytes: &[u8], out: &mut [u32]) -> usize
     n
 }
 
-// Where the cursor goes that has written so many positions to the front of `out`.
+// Returns the place of a cursor that has written `count` positions to `out`.
 fn place_behind(cursor: TrueIdxIter, out: &[u32], count: usize) -> usize
     requires { ⌜ count ≤ ListN·length (now out) ⌝ }
     ensures { λ r. ⌜ ((old left : List ℕ) → now (out .entry) ≡ over old left → count ≡ min (ListN·length old) (ListN·length left)
@@ -132,7 +132,7 @@ fn place_behind(cursor: TrueIdxIter, out: &[u32], count: usize) -> usize
 }
 
 impl TrueIdxIter {
-    // The next positions of ones, written to the front of `out`: what as many calls of `next` as it has room for would give.
+    // Writes the positions of the next ones to the start of `out`, as many as fit: the results of repeated calls of `next`.
     pub fn next_chunk(self, bytes: &[u8], out: &mut [u32]) -> TrueChunk
         ensures answer { λ r. ⌜ positionsAnswer r ≡ nextPositions self (now (bytes .entry)) (ListN·length (now (out .entry))) ⌝ }
         ensures positions { λ _. ⌜ now (out .exit) ≡ positionsOver self (now (bytes .entry)) (now (out .entry)) ⌝ }

@@ -45,7 +45,7 @@ impl BitmapBuilder {
     }
 }
 
-// n * repeats; where that is over the flag limit, a number over it.
+// Returns n * repeats, or some number above the flag limit if the product is above it.
 fn product(n: usize, repeats: usize) -> usize
     ensures { λ r. ⌜ SameOrOver r (n * repeats) ⌝ }
 {
@@ -64,7 +64,7 @@ fn product(n: usize, repeats: usize) -> usize
     n * repeats
 }
 
-// Of a call that appends n * repeats flags, the product taken exactly.
+// Makes the checks for appending n * repeats flags, without overflow.
 fn product_failure(b: BitmapBuilder, n: usize, repeats: usize, size: usize) -> u8
     ensures { λ r. ⌜ r ≡ firstFailed (growChecks b (n * repeats) size) ⌝ }
 {
@@ -102,7 +102,7 @@ fn append_run(b: BitmapBuilder, buf: &mut [u8], n: usize, flag: bool) -> BitmapB
     append_copies(copied(b), buf, n, flag)
 }
 
-// Run by run: each flag is extended at once.
+// Appends each flag `repeats` times, a run at a time.
 fn append_runs(
     b: BitmapBuilder,
     buf: &mut [u8],

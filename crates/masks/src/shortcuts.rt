@@ -150,7 +150,7 @@ pub(crate) fn pair_shortcut(op: Op, lhs: Bitmap, left: &[u8], rhs: Bitmap, right
     either_all(is_or(op), lhs, left, rhs, right)
 }
 
-// The count of a result of n flags.
+// Returns the zero count of a result of n flags.
 pub(crate) fn result_count(by: Shortcut, n: usize) -> Unset
     ensures { λ u. ⌜ u ≡ resultCount by n ⌝ }
 {

@@ -39,7 +39,7 @@ pub enum Slice {
     Refused(u8, SlicesIterator),
 }
 
-// Is a byte, read from its first bit on, all ones, with no end of the flags in it.
+// Returns whether a whole byte, entered at its first bit and ending inside the span, is all ones.
 fn all_ones(byte: u8, bit: usize, left: usize) -> bool
     ensures { λ r. ⌜ r ≡ (eqb bit 0 && (eqb byte 255 && leb 8 left)) ⌝ }
 {
@@ -95,7 +95,7 @@ fn run_from(bytes: &[u8], start: usize, length: usize, place: usize) -> Run
 }
 
 impl SlicesIterator {
-    // A cursor at the first flag of a mask.
+    // Returns a cursor at the first flag of a mask.
     pub fn new(mask: Bitmap, bytes: &[u8]) -> Slices
         ensures { λ r. ⌜ slicesAnswer r ≡ newSlices mask (now (bytes .entry)) ⌝ }
     {

@@ -13,7 +13,7 @@ use words::word::down;
 use words::word::low_flags;
 use words::word::word_from;
 
-// k flags from `bit` on as a word, at most 64.
+// Reads k flags, at most 64, starting at `bit`, as a word.
 pub(crate) fn flags_word(bytes: &[u8], bit: usize, k: usize) -> u64
     requires { ⌜ k ≤ 64 ⌝ }
     ensures { λ r. ⌜ r ≡ wordOf (stretch (now (bytes .entry)) bit k) ⌝ }
@@ -21,7 +21,7 @@ pub(crate) fn flags_word(bytes: &[u8], bit: usize, k: usize) -> u64
     low_flags(word_from(bytes, bit), k)
 }
 
-// How many flags of a span that equal `flag` stand from `place` on. Another one is most often near: the first word is read here.
+// Counts the flags equal to `flag` that start at `place`. Reads the first word here, since the run is usually short.
 pub(crate) fn leading_from(
     flag: bool,
     bytes: &[u8],
@@ -58,14 +58,14 @@ pub(crate) fn zeros_from(bytes: &[u8], start: usize, length: usize, place: usize
     leading_from(false, bytes, start, length, place)
 }
 
-// The flags from `bit` on by one load: at least 57 of them, then zeros.
+// Reads the flags starting at `bit` with one load: at least 57 of them, then zeros.
 pub(crate) fn near_word(bytes: &[u8], bit: usize) -> u64
     ensures { λ r. ⌜ ((k : ℕ) → k ≤ 57 → take k (wordFlags r) ≡ stretch (now (bytes .entry)) bit k) ⌝ }
 {
     down(byte_word(bytes, bit / 8), bit % 8)
 }
 
-// `leading_from` word by word, up to one that has another flag.
+// Does the work of `leading_from` word by word, up to the first word with a different flag.
 fn leading_by_words(flag: bool, bytes: &[u8], start: usize, length: usize, place: usize) -> usize
     requires { ⌜ (start ≤ limit) × ((length ≤ limit) × (place ≤ length)) ⌝ }
     ensures { λ r. ⌜ r ≡ leadingFrom flag (stretch (now (bytes .entry)) start length) place ⌝ }

@@ -94,7 +94,7 @@ pub(crate) fn next_failure(cursor: TrueIdxIter, size: usize) -> u8
     )
 }
 
-// How many flags before the next one are zero.
+// Counts the zeros before the next one.
 fn zeros_next(cursor: TrueIdxIter, bytes: &[u8]) -> usize
     requires { ⌜ (cursor .start ≤ limit) × ((cursor .length ≤ limit) × (cursor .place ≤ cursor .length)) ⌝ }
     ensures { λ r. ⌜ r ≡ leadingFrom false (trueFlags cursor (now (bytes .entry))) (cursor .place) ⌝ }
@@ -118,7 +118,7 @@ impl TrueIdxIter {
         TrueIter::Cursor(first_true(length, mask))
     }
 
-    // The next position of a one.
+    // Returns the position of the next one.
     pub fn next(self, bytes: &[u8]) -> TrueIdx
         ensures { λ r. ⌜ trueIdxAnswer r ≡ nextTrue self (now (bytes .entry)) ⌝ }
     {

@@ -30,7 +30,7 @@ pub enum Counted {
     Refused(u8),
 }
 
-// The ones of a split's three parts.
+// Counts the ones in the three parts of a split.
 fn ones_of(bytes: &[u8], s: AlignedBitmapSlice) -> usize
     requires { ⌜ Bounded s ⌝ }
     ensures { λ r. ⌜ r ≡ count (splitFlags (now (bytes .entry)) s) ⌝ }
@@ -41,7 +41,7 @@ fn ones_of(bytes: &[u8], s: AlignedBitmapSlice) -> usize
     first + middle + last
 }
 
-// How many flags at the front of n words from the byte `at` on equal `flag`.
+// Counts the flags equal to `flag` at the start of n words, which begin at byte `at`.
 fn leading_words(flag: bool, bytes: &[u8], at: usize, n: usize) -> usize
     requires { ⌜ (at ≤ limit) × (n ≤ limit / 64) ⌝ }
     ensures { λ r. ⌜ r ≡ leading flag (stretch (now (bytes .entry)) (8 * at) (64 * n)) ⌝ }
@@ -57,7 +57,7 @@ fn leading_words(flag: bool, bytes: &[u8], at: usize, n: usize) -> usize
     64 * n
 }
 
-// The same at the end.
+// Counts the flags equal to `flag` at the end of n words, which begin at byte `at`.
 fn trailing_words(flag: bool, bytes: &[u8], at: usize, n: usize) -> usize
     requires { ⌜ (at ≤ limit) × (n ≤ limit / 64) ⌝ }
     ensures { λ r. ⌜ r ≡ trailing flag (stretch (now (bytes .entry)) (8 * at) (64 * n)) ⌝ }
@@ -74,7 +74,7 @@ fn trailing_words(flag: bool, bytes: &[u8], at: usize, n: usize) -> usize
     64 * n
 }
 
-// How many flags at the front of a split equal `flag`.
+// Counts the flags equal to `flag` at the start of a split.
 fn leading_of(flag: bool, bytes: &[u8], s: AlignedBitmapSlice) -> usize
     requires { ⌜ Bounded s ⌝ }
     ensures { λ r. ⌜ r ≡ leading flag (splitFlags (now (bytes .entry)) s) ⌝ }
@@ -91,7 +91,7 @@ fn leading_of(flag: bool, bytes: &[u8], s: AlignedBitmapSlice) -> usize
     s.prefix_len + bulk + leading_in_word(flag, s.suffix, s.suffix_len)
 }
 
-// How many at its end.
+// Counts the flags equal to `flag` at the end of a split.
 fn trailing_of(flag: bool, bytes: &[u8], s: AlignedBitmapSlice) -> usize
     requires { ⌜ Bounded s ⌝ }
     ensures { λ r. ⌜ r ≡ trailing flag (splitFlags (now (bytes .entry)) s) ⌝ }
@@ -108,7 +108,7 @@ fn trailing_of(flag: bool, bytes: &[u8], s: AlignedBitmapSlice) -> usize
     s.suffix_len + bulk + trailing_in_word(flag, s.prefix, s.prefix_len)
 }
 
-// The zeros of a span that fits a word: it is read as one. Apart from the longer ones, so that a call has it in its own body.
+// Counts the zeros of a span that one word load covers. Separate, so that callers can inline it.
 fn short_zeros(bytes: &[u8], start: usize, length: usize) -> usize
     requires { ⌜ start % 8 + length ≤ 64 ⌝ }
     ensures { λ r. ⌜ r ≡ zeros (stretch (now (bytes .entry)) start length) ⌝ }
@@ -240,28 +240,28 @@ fn trailing_flags(flag: bool, bytes: &[u8], start: usize, length: usize, address
     Counted::Count(long_trailing(flag, bytes, start, length, address))
 }
 
-// How many zeros stand at the front of a span.
+// Counts the zeros at the start of a span.
 pub fn leading_zeros(bytes: &[u8], start: usize, length: usize, address: usize) -> Counted
     ensures { λ r. ⌜ countedAnswer r ≡ spanCount (now (bytes .entry)) start length address (leading false (stretch (now (bytes .entry)) start length)) ⌝ }
 {
     leading_flags(false, bytes, start, length, address)
 }
 
-// How many ones stand at the front of a span.
+// Counts the ones at the start of a span.
 pub fn leading_ones(bytes: &[u8], start: usize, length: usize, address: usize) -> Counted
     ensures { λ r. ⌜ countedAnswer r ≡ spanCount (now (bytes .entry)) start length address (leading true (stretch (now (bytes .entry)) start length)) ⌝ }
 {
     leading_flags(true, bytes, start, length, address)
 }
 
-// How many zeros stand at the end of a span.
+// Counts the zeros at the end of a span.
 pub fn trailing_zeros(bytes: &[u8], start: usize, length: usize, address: usize) -> Counted
     ensures { λ r. ⌜ countedAnswer r ≡ spanCount (now (bytes .entry)) start length address (trailing false (stretch (now (bytes .entry)) start length)) ⌝ }
 {
     trailing_flags(false, bytes, start, length, address)
 }
 
-// How many ones stand at the end of a span.
+// Counts the ones at the end of a span.
 pub fn trailing_ones(bytes: &[u8], start: usize, length: usize, address: usize) -> Counted
     ensures { λ r. ⌜ countedAnswer r ≡ spanCount (now (bytes .entry)) start length address (trailing true (stretch (now (bytes .entry)) start length)) ⌝ }
 {

@@ -27,7 +27,7 @@ pub enum Reported {
     TooLong,
 }
 
-// How many flags there are, how many are zero, how many differ from the next one, and how many runs of ones they have.
+// Returns the number of flags, zeros, edges and runs of ones.
 pub fn report(bytes: &[u8]) -> Reported
     ensures { λ r. ⌜ reportedAnswer r ≡ reportOf (now (bytes .entry)) ⌝ }
 {
@@ -74,7 +74,7 @@ fn edges_of(mask: Bitmap, bytes: &[u8]) -> usize
     }
 }
 
-// One run after the other, each from the place that the one before left.
+// Counts the runs by calling the cursor until it has none left.
 fn runs_of(mask: Bitmap, bytes: &[u8]) -> usize
     requires { ⌜ firstFailed (maskChecks mask (now bytes)) ≡ 0 ⌝ }
     ensures { λ r. ⌜ r ≡ length (runsFrom 0 (maskFlags mask (now (bytes .entry)))) ⌝ }

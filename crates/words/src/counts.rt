@@ -73,7 +73,7 @@ fn count_mixed(bytes: &[u8], start: usize, len: usize) -> usize
     first + mid + last
 }
 
-// A stretch over the front of out as `copy` writes it, and how many of its flags are set.
+// Copies a stretch as `copy` does, and counts its ones.
 pub fn copy_count(bytes: &[u8], start: usize, len: usize, out: &mut [u8]) -> usize
     ensures ones { λ r. ⌜ r ≡ count (stretch (now (bytes .entry)) start len) ⌝ }
     ensures flags { λ _. ⌜ flagsOf (now (out .exit)) ≡ over (flagsOf (now (out .entry))) (wholeWords (stretch (now (bytes .entry)) start len)) ⌝ }
@@ -90,7 +90,7 @@ pub fn copy_count(bytes: &[u8], start: usize, len: usize, out: &mut [u8]) -> usi
     copy_words(bytes, start / 8, start % 8, len / 64, out)
 }
 
-// The same in two passes, where not all words are whole and in range.
+// Does the work of `copy_count` in two passes, if some word is partial or out of range.
 fn copy_then_count(bytes: &[u8], start: usize, len: usize, out: &mut [u8]) -> usize
     ensures ones { λ r. ⌜ r ≡ count (stretch (now (bytes .entry)) start len) ⌝ }
     ensures flags { λ _. ⌜ flagsOf (now (out .exit)) ≡ over (flagsOf (now (out .entry))) (wholeWords (stretch (now (bytes .entry)) start len)) ⌝ }
@@ -99,7 +99,7 @@ fn copy_then_count(bytes: &[u8], start: usize, len: usize, out: &mut [u8]) -> us
     count_mixed(bytes, start, len)
 }
 
-// A number of words that no stretch over so many bytes exceeds.
+// Returns a number of words that covers three slices of x, y and z bytes.
 fn reach(x: usize, y: usize, z: usize) -> usize
     ensures { λ r. ⌜ (x ≤ 8 * r) × ((y ≤ 8 * r) × (z ≤ 8 * r)) ⌝ }
 {
@@ -112,7 +112,7 @@ fn most(x: usize, y: usize) -> usize
     if x < y { y } else { x }
 }
 
-// What the operation gives past the end of all stretches.
+// Returns the flag that the operation yields past the end of all stretches.
 fn past_end(op: Op) -> bool
     ensures { λ r. ⌜ r ≡ opOf op false false false ⌝ }
 {
@@ -127,7 +127,7 @@ fn past_end(op: Op) -> bool
     }
 }
 
-// How many of `len` flags stand behind n words, where each is set or none.
+// Counts the ones among the `len` flags after the first n words, all of which equal `flag`.
 fn ones_behind(flag: bool, len: usize, n: usize) -> usize
     ensures { λ r. ⌜ r ≡ (len - 64 * n) * digit flag ⌝ }
 {
@@ -138,7 +138,7 @@ fn ones_behind(flag: bool, len: usize, n: usize) -> usize
     }
 }
 
-// Is one of `len` flags that stand behind n words set, where each is or none.
+// Returns whether a flag after the first n words is set, all of which equal `flag`.
 fn any_behind(flag: bool, len: usize, n: usize) -> bool
     ensures { λ r. ⌜ r ≡ (ltb (64 * n) len && flag) ⌝ }
 {
@@ -149,21 +149,21 @@ fn any_behind(flag: bool, len: usize, n: usize) -> bool
     }
 }
 
-// Is a flag of a word set.
+// Returns whether any flag of a word is set.
 pub(crate) fn is_set(w: u64) -> bool
     ensures { λ r. ⌜ r ≡ anySet (wordFlags w) ⌝ }
 {
     w != 0
 }
 
-// Is no flag of a word set from the flag k on.
+// Returns whether all flags of a word from flag k upwards are zero.
 pub fn none_from(w: u64, k: usize) -> bool
     ensures { λ r. ⌜ r ≡ not (anySet (drop k (wordFlags w))) ⌝ }
 {
     !is_set(down(w, k))
 }
 
-// How many flags of three stretches combined are set.
+// Counts the ones of a combination of three stretches.
 pub fn count_ones_of(
     op: Op,
     a: &[u8],
@@ -192,7 +192,7 @@ pub fn count_ones_of(
     ones + ones_behind(past_end(op), len, n)
 }
 
-// The same for words in range, 64 at a time, with an end at the first that have a flag set.
+// Returns whether any flag of n words of a combination is set. Tests 64 words at a time and stops at the first block with one.
 fn any_whole(
     op: Op,
     a: &[u8],
@@ -222,7 +222,7 @@ fn any_whole(
     false
 }
 
-// Is a flag of three stretches combined set.
+// Returns whether any flag of a combination of three stretches is set.
 pub fn any_set(
     op: Op,
     a: &[u8],
@@ -255,7 +255,7 @@ pub fn any_set(
     any_behind(past_end(op), len, n)
 }
 
-// Are two stretches the same.
+// Returns whether two stretches have the same flags.
 pub fn equal(a: &[u8], sa: usize, b: &[u8], sb: usize, len: usize) -> bool
     ensures { λ r. ⌜ r ≡ sameFlags (stretch (now (a .entry)) sa len) (stretch (now (b .entry)) sb len) ⌝ }
 {

@@ -13,21 +13,21 @@ fn wide(x: u32) -> usize
     x as usize
 }
 
-// The zeros at the front of a word: its lowest bits.
+// Counts the trailing zero bits of a word, which are its first flags.
 fn front_zeros(w: u64) -> usize
     ensures { λ r. ⌜ r ≡ leading false (wordFlags w) ⌝ }
 {
     wide(u64::trailing_zeros(w))
 }
 
-// The zeros at the end of a word: its highest bits.
+// Counts the leading zero bits of a word, which are its last flags.
 fn end_zeros(w: u64) -> usize
     ensures { λ r. ⌜ r ≡ trailing false (wordFlags w) ⌝ }
 {
     wide(u64::leading_zeros(w))
 }
 
-// How many of the first k flags of w equal `flag` before one does not.
+// Counts how many of the first k flags of w equal `flag` before the first that differs.
 pub fn leading_in_word(flag: bool, w: u64, k: usize) -> usize
     ensures { λ r. ⌜ r ≡ leading flag (take k (wordFlags w)) ⌝ }
 {
@@ -38,7 +38,7 @@ pub fn leading_in_word(flag: bool, w: u64, k: usize) -> usize
     }
 }
 
-// How many of the first k flags of w equal `flag` behind the last that does not.
+// Counts how many of the first k flags of w equal `flag` after the last that differs.
 pub fn trailing_in_word(flag: bool, w: u64, k: usize) -> usize
     ensures { λ r. ⌜ r ≡ trailing flag (take k (wordFlags w)) ⌝ }
 {

@@ -20,7 +20,7 @@ use crate::word::ones_in_word;
 use crate::word::put_word;
 use crate::word::shifted_word;
 
-// n words of stretches that begin at bytes, over the front of out.
+// Combines n words of stretches that start at byte boundaries and writes them to the start of `out`.
 fn combine_bytes(
     op: Op,
     a: &[u8],
@@ -71,7 +71,7 @@ pub(crate) fn each_bytes(
     }
 }
 
-// The same of stretches that begin s, t and u flags later, with one byte more in range.
+// Like `combine_bytes`, for stretches that start s, t and u flags later. Each needs one more byte in range.
 fn combine_shifted(
     op: Op,
     a: &[u8],
@@ -128,7 +128,7 @@ pub(crate) fn each_shifted(
     }
 }
 
-// The ones of n words.
+// Counts the ones of n combined words.
 fn count_shifted(
     op: Op,
     a: &[u8],
@@ -185,7 +185,7 @@ pub(crate) fn each_count(
     }
 }
 
-// n words joined by `or`: zero just where no flag is set.
+// Ors n combined words together. The result is 0 if and only if no flag is set.
 fn join_shifted(
     op: Op,
     a: &[u8],
@@ -242,7 +242,7 @@ pub(crate) fn each_join(
     }
 }
 
-// n words from the byte p on, over the front of out, and their ones: in one pass.
+// Copies n words that start at byte p to the start of `out` and counts their ones in the same pass.
 pub(crate) fn copy_bytes(bytes: &[u8], p: usize, n: usize, out: &mut [u8]) -> usize
     requires { ⌜ (8 * n ≤ length (now bytes) - p) × ((8 * n ≤ length (now out)) × (64 * n < 2 ^ 64)) ⌝ }
     ensures ones { λ r. ⌜ r ≡ count (window (flagsOf (now (bytes .entry))) (8 * p) (64 * n)) ⌝ }
@@ -260,7 +260,7 @@ pub(crate) fn copy_bytes(bytes: &[u8], p: usize, n: usize, out: &mut [u8]) -> us
     ones
 }
 
-// The same of a stretch that begins s flags behind the byte p, with one byte more in range.
+// Like `copy_bytes`, for a stretch that starts s flags after byte p. Needs one more byte in range.
 pub(crate) fn copy_words(bytes: &[u8], p: usize, s: usize, n: usize, out: &mut [u8]) -> usize
     requires { ⌜ ((8 * n ≤ length (now bytes) - (p + 1)) × (s ≤ 8)) × ((8 * n ≤ length (now out)) × (64 * n < 2 ^ 64)) ⌝ }
     ensures ones { λ r. ⌜ r ≡ count (window (flagsOf (now (bytes .entry))) (8 * p + s) (64 * n)) ⌝ }
@@ -278,7 +278,7 @@ pub(crate) fn copy_words(bytes: &[u8], p: usize, s: usize, n: usize, out: &mut [
     ones
 }
 
-// n words of one flag over the front of out.
+// Writes n words of one flag to the start of `out`.
 pub(crate) fn fill_words(flag: bool, n: usize, out: &mut [u8])
     requires { ⌜ 8 * n ≤ length (now out) ⌝ }
     ensures { λ _. ⌜ flagsOf (now (out .exit)) ≡ over (flagsOf (now (out .entry))) (copies (64 * n) flag) ⌝ }

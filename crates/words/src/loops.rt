@@ -23,21 +23,21 @@ pub(crate) fn least(x: usize, y: usize) -> usize
     if x < y { x } else { y }
 }
 
-// How many whole words `size` bytes have from the byte `at` on.
+// Returns how many whole words fit between byte `at` and byte `size`.
 pub(crate) fn room(size: usize, at: usize) -> usize
     ensures { λ r. ⌜ r ≡ (size - at) / 8 ⌝ }
 {
     if at < size { (size - at) / 8 } else { 0 }
 }
 
-// How many words hold `len` flags.
+// Returns how many words hold `len` flags.
 pub(crate) fn words_for(len: usize) -> usize
     ensures { λ r. ⌜ r ≡ (len + 63) / 64 ⌝ }
 {
     len / 64 + (len % 64 + 63) / 64
 }
 
-// How many words three stretches have in range, at most `most`.
+// Returns how many whole words all three stretches have in range, at most `most`.
 pub(crate) fn common_room(
     most: usize,
     size_a: usize,
@@ -54,7 +54,7 @@ pub(crate) fn common_room(
     least(x, y)
 }
 
-// Word i of three stretches combined: zeros past their end.
+// Returns word i of a combination of three stretches, with zeros past their end.
 pub(crate) fn triple_word(
     op: Op,
     a: &[u8],
@@ -76,7 +76,7 @@ pub(crate) fn triple_word(
     low_flags(combine_word(op, x, y, z), len - 64 * i)
 }
 
-// Three stretches combined over the front of out, as whole words with zeros behind the last flag.
+// Combines three stretches and writes the result to the start of `out`, padded with zeros to whole words.
 pub fn combine(
     op: Op,
     a: &[u8],
@@ -97,7 +97,7 @@ pub fn combine(
     }
 }
 
-// At most a word, with no loop.
+// Does the work of `combine` for at most one word, without a loop.
 fn combine_short(
     op: Op,
     a: &[u8],
@@ -117,7 +117,7 @@ fn combine_short(
     }
 }
 
-// The words that are in range, then what is left: at most two words where the stretches and the output are large enough.
+// Does the work of `combine` for more than one word: whole words in range by a kernel, then the rest word by word.
 fn combine_long(
     op: Op,
     a: &[u8],
@@ -139,7 +139,7 @@ fn combine_long(
     }
 }
 
-// The whole words that are in range: how many there are.
+// Combines the whole words that are in range, and returns how many there were.
 fn combine_whole(
     op: Op,
     a: &[u8],
@@ -167,14 +167,14 @@ fn combine_whole(
     n
 }
 
-// A stretch over the front of out, as whole words with zeros behind the last flag: a stretch joined with itself.
+// Copies a stretch to the start of `out`, padded with zeros to whole words. Uses the combination `or` of the stretch with itself.
 pub fn copy(bytes: &[u8], start: usize, len: usize, out: &mut [u8])
     ensures { λ _. ⌜ flagsOf (now (out .exit)) ≡ over (flagsOf (now (out .entry))) (wholeWords (stretch (now (bytes .entry)) start len)) ⌝ }
 {
     combine(Op::Or, bytes, start, bytes, start, bytes, start, len, out);
 }
 
-// `len` copies of the flag over the front of out, as whole words with zeros behind the last flag.
+// Writes `len` copies of a flag to the start of `out`, padded with zeros to whole words.
 pub fn fill(flag: bool, len: usize, out: &mut [u8])
     ensures { λ _. ⌜ flagsOf (now (out .exit)) ≡ over (flagsOf (now (out .entry))) (wholeWords (copies len flag)) ⌝ }
 {
@@ -186,7 +186,7 @@ pub fn fill(flag: bool, len: usize, out: &mut [u8])
     }
 }
 
-// Whole words of the flag over the front of out, as many as there is room for: no cut word comes behind them.
+// Writes up to `words` whole words of a flag to the start of `out`, as many as fit.
 pub fn fill_whole(flag: bool, words: usize, out: &mut [u8])
     ensures { λ _. ⌜ flagsOf (now (out .exit)) ≡ over (flagsOf (now (out .entry))) (copies (64 * min words (length (now (out .entry)) / 8)) flag) ⌝ }
 {

@@ -3,7 +3,8 @@ ghost use mathlib.Core.Path.{_≡_};
 ghost use Rattle.words.specs.Flags.{wordFlags};
 ghost use Rattle.words.specs.Merge.{merged};
 
-// The 64 flags from the flag `offset` of `current` on, continued in `next`; from 64 on, as at 0, `current` itself.
+// Returns the 64 flags that start at flag `offset` of `current` and continue in `next`. An offset of 0, or of 64 or more, returns
+// `current`.
 pub fn merge_reversed(current: u64, next: u64, offset: usize) -> u64
     ensures { λ r. ⌜ wordFlags r ≡ merged (wordFlags current) (wordFlags next) offset ⌝ }
 {

@@ -12,14 +12,14 @@ pub enum Nth {
     Missing(u32),
 }
 
-// x if the set flag n is not among the first `ones`, else 0. A choice between two numbers is compiled without a jump.
+// Returns x if set flag n is not among the first `ones`, else 0. A separate function, so that it compiles without a branch.
 fn if_behind(n: u32, ones: u32, x: u32) -> u32
     ensures { λ r. ⌜ r ≡ cond (ltb n ones) 0 x ⌝ }
 {
     if n < ones { 0 } else { x }
 }
 
-// The place of the set flag n among the low `width` flags of w: the ones of the low half say which half it is in.
+// Finds set flag n among the low `width` flags of w: counts the ones of the lower half to choose a half, and recurses.
 fn descend(w: u64, n: u32, width: u32) -> u32
     requires { ⌜ (width ≤ 64) × (n < count (bits width w)) ⌝ }
     ensures { λ r. ⌜ r ≡ nthPlace (bits width w) n ⌝ }

@@ -52,14 +52,14 @@ pub fn not_word(x: u64) -> u64
     !x
 }
 
-// The second's flag where the first's is set, else the third's.
+// Takes the second word's flag where the first word's flag is set, and the third's elsewhere.
 pub fn select_word(x: u64, y: u64, z: u64) -> u64
     ensures { λ r. ⌜ wordFlags r ≡ zip3 cond (wordFlags x) (wordFlags y) (wordFlags z) ⌝ }
 {
     (x & y) | (!x & z)
 }
 
-// The operation by its name.
+// Applies an operation to words.
 pub fn combine_word(op: Op, x: u64, y: u64, z: u64) -> u64
     ensures { λ r. ⌜ wordFlags r ≡ zip3 (opOf op) (wordFlags x) (wordFlags y) (wordFlags z) ⌝ }
 {

@@ -19,7 +19,7 @@ fn low_byte(w: u64) -> u8
     (w % 256) as u8
 }
 
-// At most eight bytes as a word. Where the length is known to be eight, this is compiled to one load.
+// Joins up to eight bytes into a word. Compiles to one load if the length is known to be eight.
 fn join(part: &[u8]) -> u64
     requires { ⌜ length (now part) ≤ 8 ⌝ }
     ensures { λ r. ⌜ wordFlags r ≡ window (flagsOf (now (part .entry))) 0 64 ⌝ }
@@ -33,7 +33,7 @@ fn join(part: &[u8]) -> u64
     w
 }
 
-// The low bytes of w, as many as `out` has. Where that is known to be eight, this is compiled to one store.
+// Writes the low bytes of w to `out`, up to eight. Compiles to one store if the length is known to be eight.
 fn split(out: &mut [u8], w: u64)
     requires { ⌜ length (now out) ≤ 8 ⌝ }
     ensures { λ _. ⌜ flagsOf (now (out .exit)) ≡ over (flagsOf (now (out .entry))) (wordFlags w) ⌝ }
@@ -45,7 +45,7 @@ fn split(out: &mut [u8], w: u64)
     }
 }
 
-// The first eight bytes as a word, absent ones as zero.
+// Loads the first eight bytes as a word, padding a shorter slice with zeros.
 pub fn load_padded_le_u64(part: &[u8]) -> u64
     ensures { λ r. ⌜ wordFlags r ≡ window (flagsOf (now (part .entry))) 0 64 ⌝ }
 {
@@ -56,7 +56,7 @@ pub fn load_padded_le_u64(part: &[u8]) -> u64
     }
 }
 
-// The eight bytes of w over the front of `out`, as far as there is room.
+// Writes the eight bytes of w to the start of `out`, as far as they fit.
 pub fn store_le_u64(out: &mut [u8], w: u64)
     ensures { λ _. ⌜ flagsOf (now (out .exit)) ≡ over (flagsOf (now (out .entry))) (wordFlags w) ⌝ }
 {
@@ -67,7 +67,7 @@ pub fn store_le_u64(out: &mut [u8], w: u64)
     }
 }
 
-// The eight bytes of w from the byte `at` on, as far as there is room.
+// Writes the eight bytes of w at byte `at`, as far as they fit.
 pub fn store_at(out: &mut [u8], at: usize, w: u64)
     ensures { λ _. ⌜ flagsOf (now (out .exit)) ≡ overAt (flagsOf (now (out .entry))) (8 * at) (wordFlags w) ⌝ }
 {
@@ -91,7 +91,7 @@ pub fn store_whole(out: &mut [u8], at: usize, w: u64)
     put_word(out, at, w);
 }
 
-// The eight bytes from `at` on, all in range.
+// Loads the eight bytes at `at`, which are in range.
 fn eight_bytes(bytes: &[u8], at: usize) -> u64
     requires { ⌜ at + 8 ≤ length (now bytes) ⌝ }
     ensures { λ r. ⌜ wordFlags r ≡ window (flagsOf (now (bytes .entry))) (8 * at) 64 ⌝ }
@@ -109,7 +109,7 @@ pub(crate) fn full_word(bytes: &[u8], at: usize) -> u64
     eight_bytes(bytes, at)
 }
 
-// The eight bytes of w from `at` on, all in range: one store.
+// Stores the eight bytes of w at `at`, which are in range, as one store.
 pub(crate) fn put_word(out: &mut [u8], at: usize, w: u64)
     requires { ⌜ at + 8 ≤ length (now out) ⌝ }
     ensures { λ _. ⌜ flagsOf (now (out .exit)) ≡ overAt (flagsOf (now (out .entry))) (8 * at) (wordFlags w) ⌝ }
@@ -127,14 +127,14 @@ pub(crate) fn shifted_word(bytes: &[u8], at: usize, s: usize) -> u64
     (full_word(bytes, at) >> s) | (full_word(bytes, at + 1) << (8 - s))
 }
 
-// The word moved down by k flags, nothing from 64 on.
+// Shifts a word right by k, or returns 0 if k is 64 or more.
 pub fn down(w: u64, k: usize) -> u64
     ensures { λ r. ⌜ wordFlags r ≡ window (wordFlags w) k 64 ⌝ }
 {
     if k < 64 { w >> k } else { 0 }
 }
 
-// The word moved up by k flags, nothing from 64 on.
+// Shifts a word left by k, or returns 0 if k is 64 or more.
 pub fn up(w: u64, k: usize) -> u64
     ensures { λ r. ⌜ wordFlags r ≡ window (copies k false ++ wordFlags w) 0 64 ⌝ }
 {
@@ -160,7 +160,7 @@ pub(crate) fn word_at(bytes: &[u8], at: usize, s: usize) -> u64
     down(full_word(bytes, n - 8), 8 * (at + 8 - n) + s)
 }
 
-// The eight bytes from `at` on, zeros past the end; near the end likewise.
+// Reads the eight bytes at `at`, with zeros past the end. Near the end it loads the last eight bytes and shifts.
 pub fn byte_word(bytes: &[u8], at: usize) -> u64
     ensures { λ r. ⌜ wordFlags r ≡ window (flagsOf (now (bytes .entry))) (8 * at) 64 ⌝ }
 {
@@ -177,14 +177,14 @@ pub fn byte_word(bytes: &[u8], at: usize) -> u64
     down(full_word(bytes, n - 8), 8 * (at + 8 - n))
 }
 
-// The 64 flags from the flag `bit` on, zeros past the end.
+// Reads the 64 flags starting at flag `bit`, with zeros past the end.
 pub fn word_from(bytes: &[u8], bit: usize) -> u64
     ensures { λ r. ⌜ wordFlags r ≡ window (flagsOf (now (bytes .entry))) bit 64 ⌝ }
 {
     word_at(bytes, bit / 8, bit % 8)
 }
 
-// The flag number `bit`, false past the end.
+// Reads flag number `bit`, false past the end.
 pub fn flag_at(bytes: &[u8], bit: usize) -> bool
     ensures { λ r. ⌜ r ≡ getD (flagsOf (now (bytes .entry))) bit false ⌝ }
 {
@@ -196,28 +196,28 @@ pub fn flag_at(bytes: &[u8], bit: usize) -> bool
     }
 }
 
-// The k low flags of w, zeros above.
+// Keeps the k low flags of w and clears the others.
 pub fn low_flags(w: u64, k: usize) -> u64
     ensures { λ r. ⌜ wordFlags r ≡ window (take k (wordFlags w)) 0 64 ⌝ }
 {
     if k >= 64 { w } else { w % (1 << k) }
 }
 
-// The k low flags of a, then those of b: the first 64 of them.
+// Puts the flags of b after the k low flags of a.
 pub fn behind(a: u64, k: usize, b: u64) -> u64
     ensures { λ r. ⌜ wordFlags r ≡ window (take k (wordFlags a) ++ wordFlags b) 0 64 ⌝ }
 {
     if k >= 64 { a } else { a % (1 << k) | b << k }
 }
 
-// A word of one flag.
+// Returns a word whose flags all equal `flag`.
 pub fn constant_word(flag: bool) -> u64
     ensures { λ r. ⌜ wordFlags r ≡ copies 64 flag ⌝ }
 {
     if flag { !0 } else { 0 }
 }
 
-// n copies of a flag as a word, at most 64: 2 to the n less one, made of the flag without a jump.
+// Returns a word whose n low flags equal `flag`, at most 64, and whose other flags are zero. No branch on the flag.
 pub fn constant_flags(flag: bool, n: usize) -> u64
     ensures { λ r. ⌜ wordFlags r ≡ window (copies n flag) 0 64 ⌝ }
 {
@@ -228,14 +228,14 @@ pub fn constant_flags(flag: bool, n: usize) -> u64
     (one << n) - one
 }
 
-// How many flags of w are set.
+// Counts the set flags of a word.
 pub fn ones_in_word(w: u64) -> usize
     ensures { λ r. ⌜ r ≡ count (wordFlags w) ⌝ }
 {
     wide32(u64::count_ones(w))
 }
 
-// How many of the k low flags of w are set: the others are moved out of the word.
+// Counts the set flags among the k low flags of w.
 pub fn ones_below(w: u64, k: usize) -> usize
     ensures { λ r. ⌜ r ≡ count (take k (wordFlags w)) ⌝ }
 {

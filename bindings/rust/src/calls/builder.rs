@@ -6,7 +6,7 @@
 use super::exports;
 use super::records::*;
 
-/// The builder of no flags.
+/// Returns a builder with no flags.
 ///
 /// ```
 /// assert_eq!(poruwhina::calls::builder_new().length, 0);

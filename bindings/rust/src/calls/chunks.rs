@@ -5,7 +5,7 @@
 use super::exports;
 use super::records::*;
 
-/// A cursor at the first word of a span. Refuses with 1, 2; every other field is then 0.
+/// Returns a cursor at the first word of a span. Refuses with 1, 2; every other field is then 0.
 ///
 /// ```
 /// let cursor = poruwhina::calls::chunks_new(&[0xFF; 9], 3, 69).cursor;

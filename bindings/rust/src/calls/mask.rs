@@ -5,7 +5,7 @@
 use super::exports;
 use super::records::*;
 
-/// The empty mask.
+/// Returns the empty mask.
 ///
 /// ```
 /// assert_eq!(poruwhina::calls::bitmap_new().known, 1);
@@ -57,8 +57,8 @@ pub fn slice(mask: Mask, bytes: &[u8], offset: usize, length: usize) -> MaskAnsw
     unsafe { exports::pw_slice(mask, bytes.as_ptr(), bytes.len(), offset, length) }
 }
 
-/// The zeros of a mask, and the mask with its count known. Refuses with 1, 2, 3; the mask is then the one that came, every field
-/// as it came, and `zeros` 0.
+/// Returns the number of zeros, and the mask with that count stored. Refuses with 1, 2, 3; the mask is then the one that came,
+/// every field as it came, and `zeros` 0.
 ///
 /// ```
 /// use poruwhina::calls::{try_new, unset_bits};

@@ -5,7 +5,7 @@
 use super::exports;
 use super::records::*;
 
-/// The position, at or after `from`, of the n-th set flag, counted from 0. Refuses with 1, 2; every other field is then 0.
+/// Returns the position of the n-th set flag at or after `from`, counting from 0. Refuses with 1, 2; every other field is then 0.
 ///
 /// ```
 /// use poruwhina::calls::nth_set_bit_idx;

@@ -5,7 +5,7 @@
 use super::exports;
 use super::records::*;
 
-/// The first eight bytes as a word, absent ones zero.
+/// Loads the first eight bytes as a little-endian word, padding a shorter slice with zeros.
 ///
 /// ```
 /// assert_eq!(poruwhina::calls::load_padded_le_u64(&[0x2D, 0x01]), 0x012D);
@@ -15,7 +15,8 @@ pub fn load_padded_le_u64(part: &[u8]) -> u64 {
     unsafe { exports::pw_load_padded_le_u64(part.as_ptr(), part.len()) }
 }
 
-/// The flags of `current` from `offset` on, then the low flags of `next`; `current` at offset 0 and from 64 on.
+/// Returns 64 flags: those of `current` starting at `offset`, then the low flags of `next`. An offset of 0, or of 64 or more,
+/// returns `current`.
 ///
 /// ```
 /// use poruwhina::calls::merge_reversed;
