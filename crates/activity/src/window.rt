@@ -8,7 +8,7 @@ use words::columns::flag_digit;
 
 // Minute k, counted from 0, stands at k mod width. Unused words are zero. `place` is where the next word goes, and `fill` the
 // number of words kept.
-#[derive(Drop)]
+#[derive(Clone, Copy)]
 pub struct ActivityWindow {
     pub words: [u64; 256],
     pub counts: [u32; 64],
@@ -18,14 +18,14 @@ pub struct ActivityWindow {
 }
 
 // A window, and 0 or the number by which the call refused.
-#[derive(Drop)]
+#[derive(Clone, Copy)]
 pub struct Activity {
     pub window: ActivityWindow,
     pub refusal: u8,
 }
 
 // The counts of a window, and 0 or the number by which the call refused.
-#[derive(Drop)]
+#[derive(Clone, Copy)]
 pub struct ActivityCounts {
     pub counts: [u32; 64],
     pub refusal: u8,

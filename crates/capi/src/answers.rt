@@ -7,7 +7,7 @@ use crate::records::{Builder, Cursor, Mask};
 
 // A number.
 #[repr(C)]
-#[derive(Drop)]
+#[derive(Clone, Copy)]
 pub struct Number {
     pub refusal: u8,
     pub value: usize,
@@ -15,7 +15,7 @@ pub struct Number {
 
 // A flag, or yes and no.
 #[repr(C)]
-#[derive(Drop)]
+#[derive(Clone, Copy)]
 pub struct Flag {
     pub refusal: u8,
     pub value: bool,
@@ -23,7 +23,7 @@ pub struct Flag {
 
 // A position, where `found`.
 #[repr(C)]
-#[derive(Drop)]
+#[derive(Clone, Copy)]
 pub struct Position {
     pub refusal: u8,
     pub found: bool,
@@ -32,7 +32,7 @@ pub struct Position {
 
 // The position of a set bit of a word, where `found`; else, in `ones`, how many bits of the word are set.
 #[repr(C)]
-#[derive(Drop)]
+#[derive(Clone, Copy)]
 pub struct NthAnswer {
     pub refusal: u8,
     pub found: bool,
@@ -42,7 +42,7 @@ pub struct NthAnswer {
 
 // A position, where `found`, and the number of windows of 32 flags read.
 #[repr(C)]
-#[derive(Drop)]
+#[derive(Clone, Copy)]
 pub struct NextAnswer {
     pub refusal: u8,
     pub found: bool,
@@ -52,7 +52,7 @@ pub struct NextAnswer {
 
 // A truck, where `found`; the cursor for the next call; and the number of windows of 32 flags read.
 #[repr(C)]
-#[derive(Drop)]
+#[derive(Clone, Copy)]
 pub struct OfferAnswer {
     pub refusal: u8,
     pub found: bool,
@@ -63,7 +63,7 @@ pub struct OfferAnswer {
 
 // A mask.
 #[repr(C)]
-#[derive(Drop)]
+#[derive(Clone, Copy)]
 pub struct MaskAnswer {
     pub refusal: u8,
     pub mask: Mask,
@@ -71,7 +71,7 @@ pub struct MaskAnswer {
 
 // A mask, where `present`; without one all flags are set.
 #[repr(C)]
-#[derive(Drop)]
+#[derive(Clone, Copy)]
 pub struct ValidityAnswer {
     pub refusal: u8,
     pub present: bool,
@@ -80,7 +80,7 @@ pub struct ValidityAnswer {
 
 // The zeros of a mask, and the mask.
 #[repr(C)]
-#[derive(Drop)]
+#[derive(Clone, Copy)]
 pub struct ZerosAnswer {
     pub refusal: u8,
     pub zeros: usize,
@@ -90,7 +90,7 @@ pub struct ZerosAnswer {
 // The winner of two masks: `second` where it is the second one, and its bytes are those from `from` to before `to` of the slice that it
 // came with. `mask` is its record over these. On refusal they are none of the first slice.
 #[repr(C)]
-#[derive(Drop)]
+#[derive(Clone, Copy)]
 pub struct PartAnswer {
     pub refusal: u8,
     pub second: bool,
@@ -101,7 +101,7 @@ pub struct PartAnswer {
 
 // The builder to go on with.
 #[repr(C)]
-#[derive(Drop)]
+#[derive(Clone, Copy)]
 pub struct BuilderAnswer {
     pub refusal: u8,
     pub builder: Builder,
@@ -109,7 +109,7 @@ pub struct BuilderAnswer {
 
 // A new cursor.
 #[repr(C)]
-#[derive(Drop)]
+#[derive(Clone, Copy)]
 pub struct CursorAnswer {
     pub refusal: u8,
     pub cursor: Cursor,
@@ -119,7 +119,7 @@ pub struct CursorAnswer {
 // start, a flag as 0 or 1, or a position; `count` is a run's length, the flags of a remainder, the flags taken or the positions
 // written.
 #[repr(C)]
-#[derive(Drop)]
+#[derive(Clone, Copy)]
 pub struct StepAnswer {
     pub refusal: u8,
     pub found: bool,
@@ -130,7 +130,7 @@ pub struct StepAnswer {
 
 // A span cut in three: lengths in flags, `bulk_start` as a byte of the buffer, `bulk_len` as a number of words.
 #[repr(C)]
-#[derive(Drop)]
+#[derive(Clone, Copy)]
 pub struct SplitAnswer {
     pub refusal: u8,
     pub prefix: u64,
@@ -143,7 +143,7 @@ pub struct SplitAnswer {
 
 // Two spans.
 #[repr(C)]
-#[derive(Drop)]
+#[derive(Clone, Copy)]
 pub struct SpansAnswer {
     pub refusal: u8,
     pub first_start: usize,
@@ -247,7 +247,7 @@ pub(crate) fn step_of(
 
 // A window of minutes without its arrays: the place where its next word goes, how many words it keeps now, and its width.
 #[repr(C)]
-#[derive(Drop)]
+#[derive(Clone, Copy)]
 pub struct WindowAnswer {
     pub refusal: u8,
     pub place: usize,

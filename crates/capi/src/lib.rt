@@ -3,6 +3,8 @@
 //
 // Nothing is decided here: each export turns its numbers into the call's records, makes the call, and turns the answer into
 // numbers.
+#![tactic(auto)]
+
 mod answers;
 pub mod at_index;
 pub mod builder;

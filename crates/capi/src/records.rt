@@ -12,7 +12,7 @@ use masks::builder::BitmapBuilder;
 // A mask: a span of its bytes, its zero count, and the serial of the revocation list that it was drawn up under. The count is read
 // where `known` is not 0; an unknown one is given as 0.
 #[repr(C)]
-#[derive(Drop)]
+#[derive(Clone, Copy)]
 pub struct Mask {
     pub start: usize,
     pub length: usize,
@@ -24,7 +24,7 @@ pub struct Mask {
 // A builder: its length, the word in progress and the ones in the finished words, which stand in its buffer. Its serial is not here,
 // since no append changes it: the caller keeps it beside the builder and hands it to pw_freeze and pw_into_opt_validity.
 #[repr(C)]
-#[derive(Drop)]
+#[derive(Clone, Copy)]
 pub struct Builder {
     pub length: usize,
     pub word: u64,
@@ -34,7 +34,7 @@ pub struct Builder {
 // A cursor: a span and the next place in it, counted in flags, for pw_chunks_ in words. `masked` is read by pw_true_idx_next and
 // pw_true_idx_next_chunk alone, for which 0 says that there is no mask; every other call gives it as 1.
 #[repr(C)]
-#[derive(Drop)]
+#[derive(Clone, Copy)]
 pub struct Cursor {
     pub start: usize,
     pub length: usize,

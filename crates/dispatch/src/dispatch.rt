@@ -8,7 +8,7 @@ ghost use Rattle.dispatch.specs.Dispatch.{may_reassign, reassign_answer};
 use masks::at_index::{FlagAt, and_not_at};
 use masks::bitmap::Optional;
 
-#[derive(Drop)]
+#[derive(Clone, Copy)]
 pub enum Reassign {
     May(bool),
     Refused(u8),

@@ -8,7 +8,7 @@ use masks::next_and_not::{Searched, next_and_not};
 
 // A truck, the cursor one past it and the number of windows read; no truck, the cursor as it came and that number; or the number of a
 // check and the cursor as it came.
-#[derive(Drop)]
+#[derive(Clone, Copy)]
 pub enum Offered {
     Truck(usize, usize, usize),
     NoTruck(usize, usize),

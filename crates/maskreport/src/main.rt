@@ -2,6 +2,8 @@
 //     printf '\055' | target/bin/maskreport
 // The program is `run` of the crate report. maskreport_empty, maskreport_full and maskreport_over are the same program, run on no
 // bytes, on as many as it takes and on one more; tests/maskreport.py wrote what they are run on and what they must print.
+#![tactic(auto)]
+
 fn main() {
     report::program::run();
 }

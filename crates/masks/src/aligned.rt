@@ -8,7 +8,7 @@ use crate::span::flags_word;
 
 // A span's flags in three parts: a word of prefix flags, whole words that begin at a byte, and a word of suffix flags. The
 // Rust's `AlignedBitmapSlice`, with the whole words by their first byte and their number.
-#[derive(Drop)]
+#[derive(Clone, Copy)]
 pub struct AlignedBitmapSlice {
     pub prefix: u64,
     pub prefix_len: usize,
@@ -18,7 +18,7 @@ pub struct AlignedBitmapSlice {
     pub suffix_len: usize,
 }
 
-#[derive(Drop)]
+#[derive(Clone, Copy)]
 pub enum Aligned {
     Split(AlignedBitmapSlice),
     Refused(u8),

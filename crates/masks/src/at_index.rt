@@ -10,7 +10,7 @@ use crate::bitmap::{Bitmap, Optional};
 use crate::checks::{earlier, failed, mask_failure};
 use words::word::flag_at;
 
-#[derive(Drop)]
+#[derive(Clone, Copy)]
 pub enum FlagAt {
     Flag(bool),
     Refused(u8),

@@ -15,7 +15,7 @@ use crate::frozen::fill_frozen;
 use crate::utils::zeros_at;
 
 // A zero count: known, or not counted yet.
-#[derive(Drop)]
+#[derive(Clone, Copy)]
 pub enum Unset {
     Known(usize),
     Unknown,
@@ -23,7 +23,7 @@ pub enum Unset {
 
 // A mask: a span of its bytes, its zero count, and the serial of the revocation list that it was drawn up under. The Rust's `Bitmap`
 // with a serial.
-#[derive(Drop)]
+#[derive(Clone, Copy)]
 pub struct Bitmap {
     pub start: usize,
     pub length: usize,
@@ -31,34 +31,34 @@ pub struct Bitmap {
     pub serial: u32,
 }
 
-#[derive(Drop)]
+#[derive(Clone, Copy)]
 pub enum Made {
     Mask(Bitmap),
     Refused(u8),
 }
 
-#[derive(Drop)]
+#[derive(Clone, Copy)]
 pub enum Sliced {
     Mask(Bitmap),
     Refused(u8, Bitmap),
 }
 
 // The zeros of a mask, and the mask with its count known.
-#[derive(Drop)]
+#[derive(Clone, Copy)]
 pub enum Counting {
     Zeros(usize, Bitmap),
     Refused(u8, Bitmap),
 }
 
 // The count of a slice, or that the known count cannot be true of it, which the checks before it rule out.
-#[derive(Drop)]
+#[derive(Clone, Copy)]
 enum Cut {
     Count(Unset),
     Wrong,
 }
 
 // A mask, or none.
-#[derive(Drop)]
+#[derive(Clone, Copy)]
 pub enum Optional {
     Present(Bitmap),
     Absent,

@@ -13,7 +13,7 @@ use crate::shortcuts::{pair_shortcut, result_count};
 use words::ops::Op;
 
 // The mask over the output. The arguments' records stay with the caller.
-#[derive(Drop)]
+#[derive(Clone, Copy)]
 pub enum Combined {
     Mask(Bitmap),
     Refused(u8),

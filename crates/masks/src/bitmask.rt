@@ -16,19 +16,19 @@ use words::nth::{Nth, nth_set_bit_u32};
 use words::word::{down, load_padded_le_u64, low_flags};
 
 // A start bit and a length in bits. The Rust's `BitMask`, its bytes lent beside it.
-#[derive(Drop)]
+#[derive(Clone, Copy)]
 pub struct Span {
     pub start: usize,
     pub length: usize,
 }
 
-#[derive(Drop)]
+#[derive(Clone, Copy)]
 pub enum Parts {
     Two(Span, Span),
     Refused(u8),
 }
 
-#[derive(Drop)]
+#[derive(Clone, Copy)]
 pub enum Window {
     Flags(u32),
     Refused(u8),
@@ -92,7 +92,7 @@ pub(crate) fn span_window(bytes: &[u8], start: usize, length: usize, index: usiz
 }
 
 // Where the n-th set flag is, if there are so many.
-#[derive(Drop)]
+#[derive(Clone, Copy)]
 pub enum Position {
     At(usize),
     Missing,
@@ -137,7 +137,7 @@ fn word_window(bytes: &[u8], at: usize, k: usize) -> u32
 }
 
 // Where a search has come to, and how many set flags it has yet to pass over.
-#[derive(Drop)]
+#[derive(Clone, Copy)]
 struct Passed {
     at: usize,
     left: usize,
@@ -267,7 +267,7 @@ fn search_first(bytes: &[u8], start: usize, length: usize, n: usize, end: usize)
 }
 
 // What a window says of its set flag n: where it is, or how many are set.
-#[derive(Drop)]
+#[derive(Clone, Copy)]
 enum Seen {
     There(usize),
     Only(usize),

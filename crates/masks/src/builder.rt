@@ -14,7 +14,7 @@ use words::word::{constant_word, down, low_flags, ones_in_word, store_whole, up}
 
 // The length, the word in progress, the ones in the finished words, and the serial that its mask will have. The Rust's
 // `BitmapBuilder` with a serial, its buffer lent beside it.
-#[derive(Drop)]
+#[derive(Clone, Copy)]
 pub struct BitmapBuilder {
     pub length: usize,
     pub word: u64,
@@ -23,21 +23,21 @@ pub struct BitmapBuilder {
 }
 
 // What a call that appends gives: the builder, or a check's number and the builder as it came.
-#[derive(Drop)]
+#[derive(Clone, Copy)]
 pub enum Pushed {
     Done(BitmapBuilder),
     Refused(u8, BitmapBuilder),
 }
 
 // What `freeze` gives.
-#[derive(Drop)]
+#[derive(Clone, Copy)]
 pub enum Made {
     Mask(Bitmap),
     Refused(u8, BitmapBuilder),
 }
 
 // What `into_opt_validity` gives: no mask where all flags are set.
-#[derive(Drop)]
+#[derive(Clone, Copy)]
 pub enum Validity {
     Mask(Bitmap),
     AllSet,
@@ -122,7 +122,7 @@ impl BitmapBuilder {
 }
 
 // What `push_mut` stores in the caller's record, and the number that it returns.
-#[derive(Drop)]
+#[derive(Clone, Copy)]
 struct Change {
     length: usize,
     word: u64,

@@ -12,7 +12,7 @@ use words::merge::merge_reversed;
 use words::word::byte_word;
 
 // A cursor over a span whose place counts words. The Rust's `BitChunks`, its bytes lent beside it.
-#[derive(Drop)]
+#[derive(Clone, Copy)]
 pub struct BitChunks {
     pub start: usize,
     pub length: usize,
@@ -20,17 +20,17 @@ pub struct BitChunks {
 }
 
 // The Rust's `BitChunksExact`, whose span starts at 0: the name of its constructor, with no record of its own.
-#[derive(Drop)]
+#[derive(Clone, Copy)]
 pub struct BitChunksExact {}
 
-#[derive(Drop)]
+#[derive(Clone, Copy)]
 pub enum Chunks {
     Cursor(BitChunks),
     Refused(u8),
 }
 
 // A word and the cursor behind it; no word and the cursor as it was.
-#[derive(Drop)]
+#[derive(Clone, Copy)]
 pub enum Chunk {
     Word(u64, BitChunks),
     Done(BitChunks),
@@ -38,7 +38,7 @@ pub enum Chunk {
 }
 
 // A word and how many flags of it count.
-#[derive(Drop)]
+#[derive(Clone, Copy)]
 pub enum Remainder {
     Rest(u64, usize),
     Refused(u8, BitChunks),

@@ -11,7 +11,7 @@ use crate::utils::Counted;
 use words::counts::{count_ones_of, equal};
 use words::ops::Op;
 
-#[derive(Drop)]
+#[derive(Clone, Copy)]
 pub enum Compared {
     Equal(bool),
     Refused(u8),

@@ -8,21 +8,21 @@ use crate::span::leading_from;
 use words::word::flag_at;
 
 // A cursor over a span whose place counts flags. The Rust's `BitmapIter`, its bytes lent beside it.
-#[derive(Drop)]
+#[derive(Clone, Copy)]
 pub struct BitmapIter {
     pub start: usize,
     pub length: usize,
     pub place: usize,
 }
 
-#[derive(Drop)]
+#[derive(Clone, Copy)]
 pub enum Iter {
     Cursor(BitmapIter),
     Refused(u8),
 }
 
 // A flag and the cursor behind it; no flag and the cursor at the length.
-#[derive(Drop)]
+#[derive(Clone, Copy)]
 pub enum Flag {
     Next(bool, BitmapIter),
     Done(BitmapIter),
@@ -30,7 +30,7 @@ pub enum Flag {
 }
 
 // How many flags were taken, and the cursor behind them.
-#[derive(Drop)]
+#[derive(Clone, Copy)]
 pub enum Taken {
     Took(usize, BitmapIter),
     Refused(u8, BitmapIter),

@@ -2,6 +2,8 @@
 //
 // Every call answers on every input: it makes document 01's checks (checks.rt) in their order and gives back the number of the
 // first that fails, with the state it got. Nothing is written before the last check has passed.
+#![tactic(auto)]
+
 pub mod aligned;
 pub mod at_index;
 pub mod bitmap;

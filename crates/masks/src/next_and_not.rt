@@ -20,7 +20,7 @@ use words::ops::{Op, and_not_word};
 use words::word::word_from;
 
 // A position, or none, and the number of windows read.
-#[derive(Drop)]
+#[derive(Clone, Copy)]
 pub enum Searched {
     At(usize, usize),
     Missing(usize),

@@ -10,7 +10,7 @@ use crate::utils::{all_flags, other_early};
 use words::ops::Op;
 
 // What the counts say of a result: nothing, or that all its flags are the same.
-#[derive(Drop)]
+#[derive(Clone, Copy)]
 pub(crate) enum Shortcut {
     Each,
     All(bool),

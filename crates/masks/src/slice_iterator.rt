@@ -11,7 +11,7 @@ use crate::cursor::cursor_failure;
 use crate::span::{least, zeros_from};
 
 // A cursor over the flags of a mask. The Rust's `SlicesIterator`, its bytes lent beside it.
-#[derive(Drop)]
+#[derive(Clone, Copy)]
 pub struct SlicesIterator {
     pub start: usize,
     pub length: usize,
@@ -19,20 +19,20 @@ pub struct SlicesIterator {
 }
 
 // Ones that stand side by side: where in the mask the first one is, and how many they are.
-#[derive(Drop)]
+#[derive(Clone, Copy)]
 pub struct Run {
     pub start: usize,
     pub length: usize,
 }
 
-#[derive(Drop)]
+#[derive(Clone, Copy)]
 pub enum Slices {
     Cursor(SlicesIterator),
     Refused(u8),
 }
 
 // A run and the cursor behind it; no run and the cursor at the length.
-#[derive(Drop)]
+#[derive(Clone, Copy)]
 pub enum Slice {
     Next(Run, SlicesIterator),
     Done(SlicesIterator),

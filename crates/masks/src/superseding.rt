@@ -11,7 +11,7 @@ use crate::compare::{Compared, eq};
 
 // The winner: whether it is the second mask, the part of its slice that holds it, from byte `from` to before byte `to`, and its record
 // over that part.
-#[derive(Drop)]
+#[derive(Clone, Copy)]
 pub struct Part {
     pub second: bool,
     pub from: usize,
@@ -19,7 +19,7 @@ pub struct Part {
     pub mask: Bitmap,
 }
 
-#[derive(Drop)]
+#[derive(Clone, Copy)]
 pub enum Winner {
     Found(Part),
     Refused(u8),

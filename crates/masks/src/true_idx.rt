@@ -11,7 +11,7 @@ use crate::cursor::cursor_failure;
 use crate::span::zeros_from;
 
 // A cursor over the flags of a mask or, where there is none, over positions alone. The Rust's `TrueIdxIter`.
-#[derive(Drop)]
+#[derive(Clone, Copy)]
 pub struct TrueIdxIter {
     pub start: usize,
     pub length: usize,
@@ -19,14 +19,14 @@ pub struct TrueIdxIter {
     pub masked: bool,
 }
 
-#[derive(Drop)]
+#[derive(Clone, Copy)]
 pub enum TrueIter {
     Cursor(TrueIdxIter),
     Refused(u8),
 }
 
 // A position and the cursor behind it; no position and the cursor at the length.
-#[derive(Drop)]
+#[derive(Clone, Copy)]
 pub enum TrueIdx {
     Index(usize, TrueIdxIter),
     Done(TrueIdxIter),
@@ -34,7 +34,7 @@ pub enum TrueIdx {
 }
 
 // How many positions were written, and the cursor behind the last of them; where there was room for more, the cursor at the length.
-#[derive(Drop)]
+#[derive(Clone, Copy)]
 pub enum TrueChunk {
     Wrote(usize, TrueIdxIter),
     Refused(u8, TrueIdxIter),

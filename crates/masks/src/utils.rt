@@ -14,7 +14,7 @@ use words::ends::{leading_in_word, trailing_in_word};
 use words::uniform::{all_are, differs_early};
 use words::word::{byte_word, down, low_flags, ones_below, ones_in_word, word_from};
 
-#[derive(Drop)]
+#[derive(Clone, Copy)]
 pub enum Counted {
     Count(usize),
     Refused(u8),

@@ -39,7 +39,7 @@ fn values_of(list: &[u64], k: usize) -> u64
 }
 
 // One value of a token: its kind, and its place among the numbers of a request.
-#[derive(Drop)]
+#[derive(Clone, Copy)]
 struct Pick {
     kind: u64,
     value: u64,

@@ -4,7 +4,7 @@ use libc::STDIN_FILENO;
 
 // Of the window the bytes from `at` to `size` are to be taken. Of the line in progress its bytes so far, whether it is too long, and
 // whether it is whole; whether the input is at its end.
-#[derive(Drop)]
+#[derive(Clone, Copy)]
 pub struct Input {
     at: usize,
     size: usize,

@@ -3,14 +3,14 @@ use crate::list::{ANY, CALLS, NONE, SERIAL, SIZE, TIMES, UNKNOWN};
 use crate::text;
 
 // A number, and whether the text is one.
-#[derive(Drop)]
+#[derive(Clone, Copy)]
 pub struct Number {
     pub value: u64,
     pub good: bool,
 }
 
 // An item as the list has it, and whether the text is one.
-#[derive(Drop)]
+#[derive(Clone, Copy)]
 pub struct Item {
     pub kind: u64,
     pub first: u64,

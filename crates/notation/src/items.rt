@@ -5,7 +5,7 @@ use crate::{choices, item, list, text};
 
 // `many` items are read, `arguments` of them before the `=`, in `tokens` tokens, of which the first `plain` are no sizes; `ranged`: one has
 // more than one value. The token in progress begins at byte `from`.
-#[derive(Drop)]
+#[derive(Clone, Copy)]
 pub struct Items {
     pub many: usize,
     pub arguments: usize,
@@ -19,7 +19,7 @@ pub struct Items {
 
 // The items of the token in progress: `many` items are read in all, those of the token have `count` values, and the last of them has the
 // kind; `any`: one of them is `_`. The next one begins at byte `from`.
-#[derive(Drop)]
+#[derive(Clone, Copy)]
 struct Row {
     from: usize,
     many: usize,

@@ -90,7 +90,7 @@ fn padded(names: &[u8]) -> [u8; 144] {
 }
 
 // A call, if it was found: its number, how many arguments it has, its output.
-#[derive(Drop)]
+#[derive(Clone, Copy)]
 pub struct Call {
     pub found: bool,
     pub number: usize,

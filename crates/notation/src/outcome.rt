@@ -12,7 +12,7 @@ pub(crate) const MALFORMED: u8 = 2;
 pub(crate) const MADE: u8 = 3;
 
 // The call, its output, and how many calls were made.
-#[derive(Drop)]
+#[derive(Clone, Copy)]
 pub struct Outcome {
     pub(crate) verdict: u8,
     pub(crate) call: usize,
@@ -30,7 +30,7 @@ pub fn malformed() -> Outcome {
 }
 
 // How many calls were made, and the checksum of their answers and outputs.
-#[derive(Drop)]
+#[derive(Clone, Copy)]
 pub struct Ran {
     pub calls: u64,
     pub sum: u64,

@@ -3,7 +3,7 @@ use crate::{list, text};
 
 // `size` bytes are read, those of the piece in progress from `begin` on; `high` is its first digit where the second is not read, else
 // 16; `times` is how often it stands, behind a `*`. `same`: all are those of the buffer, where they are compared.
-#[derive(Drop)]
+#[derive(Clone, Copy)]
 pub struct Pieces {
     pub size: usize,
     pub good: bool,
@@ -161,7 +161,7 @@ fn again(buffer: &mut [u8], from: usize, end: usize, own: usize, compare: bool) 
 }
 
 // How many numbers were read, and whether they have a place; `same` as above.
-#[derive(Drop)]
+#[derive(Clone, Copy)]
 pub struct Numbers {
     pub size: usize,
     pub good: bool,

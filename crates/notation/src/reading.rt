@@ -5,7 +5,7 @@ use crate::{items, names, text};
 
 // Whether the line is a request; its call's number, and its output: `o`, `i` or `-`; how many tokens its arguments are. The items from
 // `arguments` to `many` are its answer, if it is `answered`; `ranged`: it has several calls. What the output must hold begins at `after`.
-#[derive(Drop)]
+#[derive(Clone, Copy)]
 pub struct Reading {
     pub good: bool,
     pub call: usize,

@@ -6,6 +6,8 @@
 //
 // `rt check` runs the compiled program. The interpreter of `rt try` stops after ten million steps; the three compiled runs of
 // `rt try` go to the end.
+#![tactic(auto)]
+
 fn main() {
     requests::run::run();
 }

@@ -11,7 +11,7 @@ use masks::compare::num_edges;
 use masks::slice_iterator::{Slice, SlicesIterator};
 use masks::utils::Counted;
 
-#[derive(Drop)]
+#[derive(Clone, Copy)]
 pub struct Numbers {
     pub flags: usize,
     pub zeros: usize,
@@ -20,7 +20,7 @@ pub struct Numbers {
 }
 
 // The numbers, or that there are more bytes than a report takes: its own limit, which has no number.
-#[derive(Drop)]
+#[derive(Clone, Copy)]
 pub enum Reported {
     Of(Numbers),
     TooLong,

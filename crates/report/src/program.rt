@@ -7,7 +7,7 @@ use crate::numbers::{Numbers, Reported, report};
 use libc::{STDERR_FILENO, STDIN_FILENO, STDOUT_FILENO};
 
 // How many bytes were read, and whether a read failed before the end of the input.
-#[derive(Drop)]
+#[derive(Clone, Copy)]
 struct Input {
     size: usize,
     failed: bool,

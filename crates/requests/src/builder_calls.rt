@@ -82,7 +82,7 @@ fn validity(r: Validity) -> [u64; 12] {
 }
 
 // The record that push_mut left, and its answer.
-#[derive(Drop)]
+#[derive(Clone, Copy)]
 struct Lent {
     builder: BitmapBuilder,
     number: u8,

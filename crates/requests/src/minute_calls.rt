@@ -24,7 +24,7 @@ pub(crate) fn counts(v: [u64; 24], x: &[u8], numbers: &mut [u32]) -> [u64; 12] {
 }
 
 // A window without its arrays, and the number by which its call refused.
-#[derive(Drop)]
+#[derive(Clone, Copy)]
 struct Numbers {
     refusal: u8,
     place: usize,

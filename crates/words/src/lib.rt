@@ -3,6 +3,8 @@
 // Every public function is total: it has an answer for every argument and asks nothing of its caller. Flags past the end of
 // lent bytes are zero, and what does not fit an output is left out. Above this crate nothing speaks of bits, shifts or powers
 // of two: the contracts turn numbers into lists of flags (specs/Flags.antt).
+#![tactic(auto)]
+
 pub mod columns;
 pub mod counts;
 pub mod ends;

@@ -4,7 +4,7 @@ ghost use Rattle.words.specs.Flags.{bits, count};
 ghost use Rattle.words.specs.Nth.{nth_found, nth_place, nth_one};
 
 // Where the set flag number n is, counted from 0; or, where at most n flags are set, how many are.
-#[derive(Drop)]
+#[derive(Clone, Copy)]
 pub enum Nth {
     At(u32),
     Missing(u32),

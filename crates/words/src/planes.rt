@@ -30,7 +30,7 @@ fn add_one(planes: &mut [u64; 9], words: &[u64], at: usize)
 }
 
 // The two digits of a sum of three flags, in each column.
-#[derive(Drop)]
+#[derive(Clone, Copy)]
 pub(crate) struct Sum {
     pub(crate) low: u64,
     pub(crate) high: u64,
@@ -46,7 +46,7 @@ pub(crate) fn full_add(x: u64, y: u64, z: u64) -> Sum
     }
 }
 
-#[derive(Drop)]
+#[derive(Clone, Copy)]
 struct Four {
     ones: u64,
     twos: u64,
