@@ -14,7 +14,7 @@ use Rattle.words.specs.Ops.{zip3}
 use Rattle.words.specs.Counts.{any_set, same_flags}
 use Rattle.words.proofs.Bits.{length-bits, bits-zero, word_of_bits}
 use Rattle.words.proofs.Counting.{count_add, count-inside, count-padded, count-behind}
-use Rattle.words.proofs.Windows.{lt-or-le, window-add, window-drop, window-all, window-past}
+use Rattle.words.proofs.Windows.{lt-or-le, window-add, window-drop, window-all}
 
 -- where a test says no, nothing is owed
 pub unsaid : {A : Type 0} → false ≡ true → A

@@ -2,14 +2,14 @@
 use mathlib.Core.Path.{◌≡◌, refl, sym, ap, ap₂, ◌∙◌}
 use mathlib.Core.Bool.{Bool}
 use mathlib.Core.List.{List, [], ◌∷◌, ◌++◌, append_assoc, append-nil}
-use Prim.Native.Nat.{ℕ, zero, suc, ◌+◌, ◌-◌, ◌*◌, ◌≤◌, ◌<◌, ◌^◌}
+use Prim.Native.Nat.{ℕ, zero, suc, ◌+◌, ◌-◌, ◌*◌, ◌≤◌, ◌<◌}
 use native.Mathlib.Nat.{le_of_eq}
 use native.Mathlib.Omega.{arith}
 use lib.ListN.{length, take, drop, get_or, length-append, length-drop, take-append-drop, drop_of_length-le}
 use lib.Seq.{take-append-add, drop-append-add, take-nil, drop-nil, length-take-le, take-suc, take_all, take-append_seam, drop-append_seam}
 use Rattle.words.specs.Flags.{bits, flags_of, over, over_at}
 use Rattle.words.proofs.Bits.{length-bits, bits-inj}
-use Rattle.words.proofs.Windows.{over_none, over-append, over-left, length_over}
+use Rattle.words.proofs.Windows.{over_none, over-append, over-left}
 
 pub flags-append : (a b : List ℕ) → flags_of (a ++ b) ≡ flags_of a ++ flags_of b
 unfolding flags_of

@@ -1,20 +1,19 @@
 -- Words as rows of flags: a flag of an operation on words, columns of parts and of changed rows, counts of all columns. Assumes nothing.
-use mathlib.Core.Path.{◌≡◌, refl, sym, ap, ap₂, ◌∙◌}
-use mathlib.Core.Bool.{Bool, true, false, xor, ◌&&◌, ◌||◌}
+use mathlib.Core.Path.{◌≡◌, refl, sym, ap, ◌∙◌}
+use mathlib.Core.Bool.{Bool, false, xor, ◌&&◌, ◌||◌}
 use mathlib.Core.List.{List, [], ◌∷◌, ◌++◌, zip_with}
 use mathlib.Core.Logic.{⊎_elim}
-use Prim.Native.Nat.{ℕ, zero, suc, ◌+◌, ◌-◌, ◌≤◌, ◌<◌}
+use Prim.Native.Nat.{ℕ, zero, suc, ◌+◌, ◌≤◌, ◌<◌}
 use native.Mathlib.Nat.{zero-add}
 use native.Mathlib.Omega.{arith}
 use lib.Bits.{bit_and, bit_or, bit_xor}
-use lib.ListN.{length, take, drop, get_or, set, replicate, get_or-eq_default}
+use lib.ListN.{length, take, get_or, set, replicate, get_or-eq_default}
 use lib.Seq.{ext_get_or}
 use Rattle.words.specs.Flags.{digit, bits, word_flags, count}
 use Rattle.words.specs.Columns.{digit_of, column, columns_from, column_counts}
 use Rattle.words.proofs.Bits.{length-bits, bits-and, bits-or, bits-xor, bits-zero, digit_lt}
 use Rattle.words.proofs.Counting.{count-append, count-le}
-use Rattle.words.proofs.Plain.{count-empty}
-use Rattle.words.proofs.Windows.{lt-or-le, at_copies, length-copies}
+use Rattle.words.proofs.Windows.{lt-or-le, at_copies}
 
 -- ---- a flag of a word
 

@@ -1,9 +1,8 @@
 -- Three lists combined flag by flag: by the flag, in parts, and word by word. One law for every operation. Assumes nothing.
 use mathlib.Core.Path.{◌≡◌, refl, sym, ap, ap₂, ◌∙◌}
-use mathlib.Core.Bool.{Bool, true, false, not, cond, xor, ◌&&◌, ◌||◌}
-use mathlib.Core.List.{List, [], ◌∷◌, ◌++◌, map, zip_with}
-use mathlib.Core.Logic.{⊎_elim}
-use Prim.Native.Nat.{ℕ, zero, suc, ◌+◌, ◌-◌, ◌*◌, ◌/◌, ◌≤◌, ◌<◌, zero-le}
+use mathlib.Core.Bool.{Bool, true, false, not, cond, ◌&&◌, ◌||◌}
+use mathlib.Core.List.{List, [], ◌∷◌, map, zip_with}
+use Prim.Native.Nat.{ℕ, zero, suc, ◌+◌, ◌-◌, ◌*◌, ◌≤◌, ◌<◌, zero-le}
 use native.Mathlib.Nat.{add-zero}
 use native.Mathlib.Omega.{arith}
 use lib.ListN.{length, take, get_or, get_or-eq_default}
@@ -11,8 +10,7 @@ use lib.Dec.{ltb, leb-suc-suc}
 use borrow.Author.Tests.{lt-ltb, le-ltb}
 use Rattle.words.specs.Flags.{bits, copies, window}
 use Rattle.words.specs.Ops.{zip3}
-use Rattle.words.specs.Counts.{any_set, same_flags}
-use Rattle.words.proofs.Windows.{lt-or-le, ltb-sub, length-window, at_in, at_take, window-ext, as-window, window-all, window-past}
+use Rattle.words.proofs.Windows.{ltb-sub, at_take, window-ext, as-window}
 
 -- ---- an operation that reads fewer lists
 

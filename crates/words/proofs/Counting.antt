@@ -9,7 +9,7 @@ use native.Mathlib.Omega.{arith}
 use lib.Arith.{lt-one}
 use lib.Count.{ones, ones_step}
 use lib.ListN.{length, take, length-take}
-use Rattle.words.specs.Flags.{bits, copies, count, digit, window, word_of}
+use Rattle.words.specs.Flags.{bits, copies, count, digit, window}
 use Rattle.words.proofs.Bits.{length-bits, digit-is_one, half_lt}
 use Rattle.words.proofs.Windows.{length-window, window-add, window-all, window-past, in_window, lt-or-le}
 

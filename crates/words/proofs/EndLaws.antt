@@ -12,7 +12,7 @@ use lib.Seq.{take_all}
 use Rattle.words.specs.Flags.{is_one, bits, copies}
 use Rattle.words.specs.Ends.{leading, trailing}
 use Rattle.words.proofs.Bits.{length-bits, bits-zero, bits-inj, bits-mod, bits-shl, bits-take, half_lt}
-use Rattle.words.proofs.Windows.{lt-or-le, length-copies}
+use Rattle.words.proofs.Windows.{lt-or-le}
 
 -- ---- at the front
 

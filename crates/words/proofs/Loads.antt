@@ -1,24 +1,23 @@
 -- Loads and stores of words: byte by byte, whole in range, from any bit, and two loads that overlap. Assumes nothing.
 use mathlib.Core.Path.{◌≡◌, refl, sym, ap, ap₂, ◌∙◌, subst}
-use mathlib.Core.Bool.{Bool, true, false, cond, ◌&&◌, ◌||◌}
-use mathlib.Core.List.{List, [], ◌∷◌, ◌++◌, zip_with, append_assoc}
+use mathlib.Core.Bool.{Bool, false, cond, ◌&&◌}
+use mathlib.Core.List.{List, [], ◌∷◌, ◌++◌}
 use mathlib.Core.Logic.{⊎_elim}
 use Prim.Native.Nat.{ℕ, zero, suc, ◌+◌, ◌-◌, ◌*◌, ◌/◌, ◌%◌, ◌^◌, ◌≤◌, ◌<◌}
-use native.Mathlib.Nat.{add_comm, le_of_lt, sub-add_cancel, mod-lt, one-mul, zero-lt-suc}
+use native.Mathlib.Nat.{le_of_lt, mod-lt, one-mul}
 use native.Mathlib.Numerals.{add-one}
 use native.Mathlib.Omega.{arith}
 use lib.ListN.{length, take, drop, get_or, set, length-append, length-drop, get_or-eq_default}
 use lib.Dec.{lit<, leb, ltb}
-use lib.Seq.{take_at, drop_at, take_all, length-take-le, take-append_seam, get_or-take}
-use lib.Pow.{shl_exact, pow_pos, shr_lt}
+use lib.Seq.{drop_at, take_all, length-take-le, get_or-take}
+use lib.Pow.{shl_exact, pow_pos}
 use lib.Bits.{bit_or}
 use borrow.Author.Tests.{lt-ltb, le-ltb, le-leb, lt-leb}
 use Rattle.words.specs.Flags.{bits, word_of, flags_of, window, over, over_at}
-use Rattle.words.specs.Merge.{merged}
-use Rattle.words.proofs.Bits.{length-bits, bits-add, bits-take, bits-zero, bits-mod, bits-shl, bits-or, word_of_bits, or-append, bits-join}
+use Rattle.words.proofs.Bits.{length-bits, bits-add, bits-take, bits-zero, bits-mod, word_of_bits, or-append}
 use Rattle.words.proofs.Bytes.{flags-append, flags-take, flags-drop, flags-one, flags-more, flags-over, length-flags, over-part}
-use Rattle.words.proofs.Windows.{lt-or-le, length-window, window-add, window-cut, window-drop, window-past, window-ext}
-use Rattle.words.proofs.Windows.{at-window, in_window, window-take, bits-window, over_none, over_enough, set-over}
+use Rattle.words.proofs.Windows.{lt-or-le, window-cut, window-drop, window-past, window-ext}
+use Rattle.words.proofs.Windows.{at-window, in_window, bits-window, over_none, over_enough, set-over}
 
 -- ---- byte by byte
 

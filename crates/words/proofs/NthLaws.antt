@@ -11,7 +11,7 @@ use lib.Pow.{pow_pos}
 use lib.Count.{ones}
 use lib.ListN.{length, take}
 use lib.Seq.{take_all}
-use Rattle.words.specs.Flags.{bits, copies, count, digit}
+use Rattle.words.specs.Flags.{bits, copies, count}
 use borrow.Author.Tests.{lt-ltb, le-ltb}
 use Rattle.words.specs.Nth.{at_place, nth_one, nth_place, only_ones}
 use Rattle.words.proofs.Bits.{bits-add, bits-mod, bits-shl, bits-take, length-bits}

@@ -15,7 +15,7 @@ use Rattle.words.specs.Planes.{Added}
 use Rattle.words.proofs.Bits.{length-bits}
 use Rattle.words.proofs.Counting.{count_add, count-le, count_none, count_past, count-within, count_word}
 use Rattle.words.proofs.Loads.{moved-flags, whole_part}
-use Rattle.words.proofs.Windows.{in_window, length-window, lt-or-le, window-cut}
+use Rattle.words.proofs.Windows.{in_window, lt-or-le, window-cut}
 
 -- ---- words added flag by flag
 

@@ -1,5 +1,5 @@
 -- Numbers of 64 columns in bit planes: plane i has digit i of each. What the workers of `planes` promise each other. Assumes nothing.
-use Rattle.std.specs.Prelude.{ℕ, ◌+◌, ◌*◌, ◌^◌, ◌<◌, Bool, false, List, [], ◌∷◌, ◌++◌, ◌≡◌, length, take, drop, get_or}
+use Rattle.std.specs.Prelude.{ℕ, ◌+◌, ◌*◌, ◌^◌, ◌<◌, false, List, [], ◌∷◌, ◌++◌, ◌≡◌, length, take, drop, get_or}
 use Rattle.std.specs.Int.Bits.{bit_and, bit_xor}
 use Rattle.words.specs.Flags.{word_flags, count, digit}
 use Rattle.words.specs.Columns.{column, digit_of}

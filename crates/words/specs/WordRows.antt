@@ -2,7 +2,7 @@
 --
 -- A row has what a definition gives at one input, its flags as the numbers 0 and 1, and what its plain reading gives there, worked out by
 -- hand. `proofs/WordRows.antt` proves that the two columns are equal.
-use Rattle.std.specs.Prelude.{ℕ, ◌≡◌, Bool, true, false, List, [], ◌∷◌, map, ◌++◌, replicate}
+use Rattle.std.specs.Prelude.{ℕ, ◌≡◌, Bool, true, false, List, [], ◌∷◌, map, replicate}
 use Rattle.words.specs.Columns.{digit_of}
 use Rattle.words.specs.Counts.{any_set, same_flags}
 use Rattle.words.specs.Flags.{copies, digit, over_at}

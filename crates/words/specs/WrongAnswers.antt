@@ -3,7 +3,7 @@
 -- A contract says that an answer equals a definition at the call's arguments. So it rules out every answer that the definition
 -- does not give there. A row has a call's definition at one input, what it gives, and two answers that a faulty function
 -- would give, the fault named above each. `proofs/WrongAnswers.antt` proves the rows by computing them.
-use Rattle.std.specs.Prelude.{ℕ, ◌≡◌, List, [], ◌∷◌}
+use Rattle.std.specs.Prelude.{◌≡◌, [], ◌∷◌}
 use Rattle.words.specs.Flags.{bits, flags_of, window, word_flags}
 use Rattle.words.specs.Merge.{merged}
 use Rattle.words.specs.Nth.{nth_found, nth_one}

@@ -1,0 +1,45 @@
+-- Whole words first, then word by word to the end of the bytes or of the length, then what is left behind them.
+use Rattle.words.proofs.Counting.{count-step, count_fits, count_most, count-short}
+use Rattle.words.proofs.Behind.{count-finish}
+use mathlib.Core.Path.{ap, ◌∙◌}
+use mathlib.Core.Path.{ap, ◌∙◌}
+use native.Mathlib.Omega.{arith}
+use Rattle.words.specs.Flags.{count}
+use Rattle.words.proofs.Combining.{zip-later, length-zip}
+use Rattle.words.proofs.Counting.{count-step, count_fits}
+use Rattle.words.proofs.Ranges.{in-range}
+use Rattle.words.proofs.counts.count_ones_of.Goals as goal
+
+pub returns-then-len-le64 : goal.returns-then-len-le64
+returns-then-len-le64 c = count-short _ _ _ _ (length-zip _ _ _ _ _ _ _ _) c.if-len-le64.true c.triple_word.ensures c.ones_in_word.ensures
+
+pub each_count-ones-requires : goal.each_count-ones-requires
+each_count-ones-requires c = (in-range _ _ _ _ _ _ _ c.common_room-i.ensures.0, omega arith)
+
+pub loop-i-init : goal.loop-i-init
+loop-i-init c =
+    (omega arith, c.each_count-ones.ensures ∙ ap count (zip-later _ _ _ _ _ _ _ _ _ _ _ 0 _ (omega arith) (omega arith) (omega arith) (omega arith)))
+
+pub overflow_add-ones : goal.overflow_add-ones
+overflow_add-ones c =
+    omega (
+      arith,
+      count_fits _ _ _ _ _ (count-step _ _ _ _ _ c.loop-i.invariant.1
+          c.triple_word-in-loop-i.ensures c.ones_in_word-ones.ensures) (length-zip _ _ _ _ _ _ _ _),
+    )
+
+pub loop-i-preserved : goal.loop-i-preserved
+loop-i-preserved c = (omega arith, count-step _ _ _ _ _ c.loop-i.invariant.1 c.triple_word-in-loop-i.ensures c.ones_in_word-ones.ensures)
+
+-- what is returned
+total : goal.returns
+total c =
+    count-finish _ _ _ _ _ _ _ _ c.least-n.result
+    (λ h. record { in_a = omega arith; in_b = omega arith; in_c = omega arith })
+    c.loop-i.i _ _ c.loop-i.invariant.1 c.loop-i.invariant.0 c.loop-i-test.false (c.ones_behind.ensures ∙ rw c.past_end.ensures)
+
+pub overflow_add-result : goal.overflow_add-result
+overflow_add-result c = omega (arith, count_most _ _ _ (total c) (length-zip _ _ _ _ _ _ _ _))
+
+pub returns : goal.returns
+returns c = total c

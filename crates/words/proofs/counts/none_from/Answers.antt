@@ -1,0 +1,11 @@
+-- `any-drop`: a window that reaches the word's end has a flag set just where the rest from k on has.
+use mathlib.Core.Path.{ap, ◌∙◌}
+use mathlib.Core.Bool.{not}
+use native.Mathlib.Omega.{arith}
+use Rattle.words.specs.Counts.{any_set}
+use Rattle.words.proofs.AnyFlag.{any-drop}
+use Rattle.words.proofs.Bits.{length-bits}
+use Rattle.words.proofs.counts.none_from.Goals as goal
+
+pub returns : goal.returns
+returns c = ap not (c.is_set.ensures ∙ ap any_set c.down.ensures ∙ any-drop _ _ _ (omega (arith, length-bits 64 c.args.w)))

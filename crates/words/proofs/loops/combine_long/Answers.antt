@@ -1,0 +1,23 @@
+-- The invariant: where the loop began with the whole words over flags F, i words are over F. One more is `write_step`, the end `write-end`.
+use mathlib.Core.Path.{refl, ap, ◌∙◌}
+use native.Mathlib.Omega.{arith}
+use Rattle.words.specs.Flags.{over}
+use Rattle.words.proofs.Bytes.{length-flags}
+use Rattle.words.proofs.Combining.{zip-later, length-zip}
+use Rattle.words.proofs.Writing.{write_step, write-end}
+use borrow.Author.Rules.{rules}
+use Rattle.words.proofs.loops.combine_long.Goals as goal
+
+pub loop-i-init : goal.loop-i-init
+loop-i-init c = (omega arith, (refl, λ F p. p))
+
+pub loop-i-preserved : goal.loop-i-preserved
+loop-i-preserved c =
+    let inv = c.loop-i.invariant in
+    (omega arith, (search rules, λ F p. write_step F _ _ _ _ _ (inv.1.1 F p) c.triple_word.ensures c.store_at.ensures))
+
+pub returns : goal.returns
+returns c =
+    write-end _ _ _ _ _ _
+    (c.loop-i.invariant.1.1 _ (c.combine_whole-i.ensures.1.1 ∙ ap (over _) (zip-later _ _ _ _ _ _ _ _ _ _ _ 0 _ (omega arith) (omega arith) (omega arith) (omega arith))))
+    (length-flags _) (length-zip _ _ _ _ _ _ _ _) (λ l. omega arith) (omega arith)

@@ -1,0 +1,7 @@
+-- `bits-and` and `bits-not` at width 64; `zip-map` makes the two one operation.
+use Rattle.words.proofs.Bits.{bits-and, bits-not}
+use Rattle.words.proofs.Combining.{zip-map}
+use Rattle.words.proofs.ops.and_not_word.Goals as goal
+
+pub returns : goal.returns
+returns c = simp (bits-and, bits-not 64 _ c.ranges.y.fits, zip-map)

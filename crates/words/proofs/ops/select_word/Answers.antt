@@ -1,0 +1,9 @@
+-- `bits-or`, `bits-and` and `bits-not` give the flags of the parts, and `select-flags` says that they are the choice, flag by flag.
+use mathlib.Core.Path.{sym, ◌∙◌}
+use Rattle.words.proofs.Bits.{bits-and, bits-or, bits-not, length-bits}
+use Rattle.words.proofs.Combining.{select-flags}
+use Rattle.words.proofs.ops.select_word.Goals as goal
+
+pub returns : goal.returns
+returns c =
+    simp (bits-or, bits-and, bits-not 64 _ c.ranges.x.fits) (select-flags _ _ _ (length-bits 64 _ ∙ sym (length-bits 64 _)) (length-bits 64 _ ∙ sym (length-bits 64 _)))

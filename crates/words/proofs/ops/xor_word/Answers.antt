@@ -1,0 +1,6 @@
+-- `bits-xor` at width 64.
+use Rattle.words.proofs.Bits.{bits-xor}
+use Rattle.words.proofs.ops.xor_word.Goals as goal
+
+pub returns : goal.returns
+returns c = bits-xor 64 _ _

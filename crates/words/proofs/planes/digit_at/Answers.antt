@@ -1,0 +1,7 @@
+-- `digit_shift`: bit c of w.
+use native.Mathlib.Omega.{arith}
+use Rattle.words.proofs.PlaneLaws.{digit_shift}
+use Rattle.words.proofs.planes.digit_at.Goals as goal
+
+pub returns : goal.returns
+returns c = (digit_shift _ _ c.requires, omega arith)

@@ -1,0 +1,22 @@
+-- The invariant: a flag of `others` is set just where one of the first i words is unlike `flag`. One more word is the law `any_step`.
+use mathlib.Core.Path.{ap, ◌∙◌}
+use mathlib.Core.Bool.{not}
+use native.Mathlib.Omega.{arith}
+use Rattle.words.proofs.AnyFlag.{any_none, any_step, any-all}
+use Rattle.words.proofs.UniformLaws.{all_any, length_unlike, map-word}
+use Rattle.words.proofs.uniform.block_is.Goals as goal
+
+pub loop-i-init : goal.loop-i-init
+loop-i-init c = (omega arith, any_none _)
+
+pub loop-i-preserved : goal.loop-i-preserved
+loop-i-preserved c = (
+  omega arith,
+  any_step _ _ _ _ _ c.loop-i.invariant.1
+      (map-word _ _ _ _ _ _ _ _ (omega arith) (omega arith) c.full_word.ensures c.unlike.ensures) c.or_word-others.ensures,
+)
+
+pub returns : goal.returns
+returns c =
+    ap not (c.is_set.ensures ∙ any-all _ _ _ _ c.loop-i.invariant.1 (length_unlike _ _ _ _) c.loop-i.invariant.0 c.loop-i-test.false)
+    ∙ all_any _ _

@@ -1,0 +1,13 @@
+-- Too few bytes: no (`too_few`). Else the flags of the first load decide (`differs`).
+use native.Mathlib.Omega.{arith}
+use Rattle.words.proofs.UniformLaws.{differs, enough, too_few}
+use Rattle.words.proofs.uniform.differs_early.Goals as goal
+
+pub returns-then-bytes-end : goal.returns-then-bytes-end
+returns-then-bytes-end c = too_few _ _ _ _ (omega arith)
+
+pub returns : goal.returns
+returns c =
+    let a = c.args in
+    enough _ _ _ _ _ (omega arith)
+    (differs _ _ _ a.len _ _ _ _ _ c.full_word.ensures c.unlike.ensures c.down-others.ensures c.low_flags.ensures c.is_set.ensures)

@@ -1,0 +1,6 @@
+-- `all-low`: no flag unlike it is among the k low ones.
+use Rattle.words.proofs.UniformLaws.{all-low}
+use Rattle.words.proofs.uniform.low_are.Goals as goal
+
+pub returns : goal.returns
+returns c = all-low _ c.args.k _ _ _ _ c.unlike.ensures c.low_flags.ensures c.is_set.ensures

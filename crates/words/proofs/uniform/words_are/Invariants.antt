@@ -1,0 +1,14 @@
+-- The invariant: all flags of the first i words are `flag`. A block with another ends the loop (`all-exit`), one without is passed over
+-- (`all_more`).
+use mathlib.Core.Path.{◌≡◌}
+use mathlib.Core.Bool.{true}
+use Prim.Native.Nat.{◌≤◌, ◌*◌, ◌-◌}
+use Rattle.words.specs.Flags.{flags_of, window}
+use Rattle.words.specs.Uniform.{all_are}
+use Rattle.words.proofs.uniform.words_are.Given as goal
+
+abbrev pub invariant-loop-i : goal.invariant-loop-i
+invariant-loop-i l = (l.i ≤ l.n) × (true ≡ all_are l.flag (window (flags_of l.bytes) (8 * l.p) (64 * l.i)))
+
+abbrev pub decreases-loop-i : goal.decreases-loop-i
+decreases-loop-i l = l.n - l.i
