@@ -9,7 +9,7 @@ use native.Mathlib.Omega.{arith}
 use lib.Dec.{eqb, leb, ltb}
 use lib.ListN.{length, take, drop, get_or, replicate, drop_of_length-le, length-take}
 use lib.Seq.{drop-cons, take_all}
-use borrow.Author.Tests.{ltb-true, leb-true, eqb-true, lt-ltb, le-ltb, le-leb, lt-leb, eq-eqb, ne_eqb}
+use borrow.Author.Tests.{ltb-true, leb-true, eqb-true, lt-ltb, le-ltb, le-leb, lt-leb, eq-eqb}
 use Rattle.words.specs.Columns.{column_counts}
 use Rattle.words.proofs.Windows.{lt-or-le}
 use Rattle.activity.specs.Checks.{width_fits, place_fits, inside_fits, numbers_fit, all_zero, same_numbers, words_fit, left_by_minutes}
@@ -188,9 +188,9 @@ pub place_of : (place fill width : ℕ) → place_fits place fill width ≡ true
 unfolding place_fits
 place_of place fill width h p = eqb-true place fill (ap (λ (x : Bool). x || eqb place fill) (sym (lt-leb width fill p)) ∙ h)
 
-pub place_fits : (place fill width : ℕ) → (fill < width → place ≡ fill) → place_fits place fill width ≡ true
+pub place_fits_lem : (place fill width : ℕ) → (fill < width → place ≡ fill) → place_fits place fill width ≡ true
 unfolding place_fits
-place_fits place fill width f = ⊎_elim
+place_fits_lem place fill width f = ⊎_elim
     (λ (p : fill < width). ap₂ ◌||◌ (lt-leb width fill p) (eq-eqb place fill (f p)))
     (λ (p : width ≤ fill). ap (λ (x : Bool). x || eqb place fill) (le-leb width fill p))
     (lt-or-le fill width)
@@ -247,7 +247,7 @@ good-passes a g =
     ap₂ ◌&&◌
     (ap₂ ◌&&◌ (width_fits_lem a.width g.some g.most)
     (ap₂ ◌&&◌ (lt-ltb a.place a.width g.inside)
-    (ap₂ ◌&&◌ (le-leb a.fill a.width g.within) (place_fits a.place a.fill a.width g.behind))))
+    (ap₂ ◌&&◌ (le-leb a.fill a.width g.within) (place_fits_lem a.place a.fill a.width g.behind))))
     (ap₂ ◌&&◌ g.unused
     (ap (λ (l : List ℕ). same_numbers l (column_counts (take a.fill a.words))) g.counted
     ∙ same-itself (column_counts (take a.fill a.words))))

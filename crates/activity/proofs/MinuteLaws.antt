@@ -1,10 +1,10 @@
 -- A run of minutes, one minute after the other: the record stays good, and the kept words in the order of their minutes are the
 -- last of the run. Assumes nothing.
-use mathlib.Core.Path.{◌≡◌, refl, sym, ap, ap₂, ◌∙◌, subst}
-use mathlib.Core.Bool.{Bool, true, cond}
+use mathlib.Core.Path.{◌≡◌, refl, sym, ap, ◌∙◌, subst}
+use mathlib.Core.Bool.{Bool, cond}
 use mathlib.Core.List.{List, [], ◌∷◌, ◌++◌, append-nil, append_assoc}
 use mathlib.Core.Logic.{⊎_elim}
-use Prim.Native.Nat.{ℕ, zero, suc, ◌+◌, ◌-◌, ◌%◌, ◌≤◌, ◌<◌, min}
+use Prim.Native.Nat.{ℕ, suc, ◌+◌, ◌-◌, ◌%◌, ◌≤◌, ◌<◌, min}
 use native.Mathlib.Nat.{zero-mod, mod-lt, mod-eq_of_lt, mod_self, mod-add-mod, zero-add}
 use native.Mathlib.Numerals.{add-one}
 use native.Mathlib.Omega.{arith}
@@ -16,7 +16,6 @@ use Rattle.words.specs.Columns.{column, columns_from, column_counts}
 use Rattle.words.proofs.ColumnLaws.{column-append, columns-alike}
 use Rattle.words.proofs.Counting.{count-append}
 use Rattle.words.proofs.Windows.{lt-or-le}
-use Rattle.activity.specs.Checks.{all_zero, left_by_minutes}
 use Rattle.activity.specs.Minutes.{placed, left_by, last_of, pushes}
 use Rattle.activity.specs.Window.{zeros, holding, no_minute, minute_on, accepted, refused, push_of}
 use Rattle.activity.specs.Workers.{Good}

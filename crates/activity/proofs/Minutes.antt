@@ -1,7 +1,7 @@
 -- The theorems on runs of minutes (`Statements` of specs/Minutes.antt). Assumes nothing.
 use mathlib.Core.Path.{◌≡◌, refl, sym, ap, ap₂, ◌∙◌}
 use mathlib.Core.Bool.{Bool, true, cond}
-use mathlib.Core.List.{List, [], ◌∷◌, ◌++◌, append-nil}
+use mathlib.Core.List.{List, [], ◌∷◌, ◌++◌}
 use mathlib.Core.Logic.{⊎_elim}
 use Prim.Native.Nat.{ℕ, zero, suc, ◌+◌, ◌-◌, ◌%◌, ◌≤◌, ◌<◌, min}
 use native.Mathlib.Nat.{mod-eq_of_lt, add-mod_left, zero-add}
@@ -12,12 +12,12 @@ use Rattle.words.specs.Columns.{column_counts}
 use Rattle.words.proofs.Windows.{lt-or-le}
 use Rattle.activity.specs.Checks.{width_fits, left_by_minutes}
 use Rattle.activity.specs.Minutes.{placed, left_by, last_of, pushes, Words, Run, Statements}
-use Rattle.activity.specs.Window.{zeros, holding, no_minute, accepted, refused, counted, uncounted, new_of, counts_of}
+use Rattle.activity.specs.Window.{zeros, no_minute, accepted, refused, counted, uncounted, new_of, counts_of}
 use Rattle.activity.specs.Workers.{Good}
 use Rattle.activity.specs.declared.window.ActivityWindow.{ActivityWindow}
 use Rattle.activity.specs.declared.window.Activity.{Activity}
 use Rattle.activity.proofs.CheckLaws.{width_of, good_of, good-passes, zero-words}
-use Rattle.activity.proofs.WindowLaws.{made, same_parts}
+use Rattle.activity.proofs.WindowLaws.{made}
 use Rattle.activity.proofs.MinuteLaws.{After, after_run, left-none, pushes-from, placed-append, order-counts, same-holding}
 
 -- ---- from a new record on

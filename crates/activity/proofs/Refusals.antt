@@ -1,10 +1,10 @@
 -- The number of each call is decided by its one test. Assumes nothing.
 use Prim.Native.Nat.{ℕ}
-use mathlib.Core.Path.{◌≡◌, refl, ap, ◌∙◌}
+use mathlib.Core.Path.{◌≡◌, refl}
 use mathlib.Core.Bool.{Bool, true, false, cond}
 use mathlib.Core.List.{List}
 use native.Mathlib.Omega.{arith}
-use Rattle.activity.specs.Checks.{width_fits, place_fits, inside_fits, numbers_fit, all_zero, same_numbers, words_fit, left_by_minutes}
+use Rattle.activity.specs.Checks.{width_fits, inside_fits, numbers_fit, left_by_minutes}
 use Rattle.activity.specs.Refusals.{Refusals}
 use Rattle.activity.specs.Window.{zeros, no_minute, minute_on, accepted, refused, counted, uncounted, new_of, push_of, counts_of}
 use Rattle.activity.specs.declared.window.ActivityWindow.{ActivityWindow}

@@ -1,13 +1,12 @@
 -- One minute more: the words behind the kept ones stay zero, and the counts that are exchanged are those of the new words.
 -- Assumes nothing.
-use mathlib.Core.Path.{◌≡◌, refl, sym, ap, ap₂, ◌∙◌}
+use mathlib.Core.Path.{◌≡◌, sym, ap, ap₂, ◌∙◌}
 use mathlib.Core.Bool.{Bool, true, false, cond}
-use mathlib.Core.List.{List, [], ◌∷◌, ◌++◌}
+use mathlib.Core.List.{List, ◌++◌}
 use mathlib.Core.Logic.{⊎_elim}
-use Prim.Native.Nat.{ℕ, zero, suc, ◌+◌, ◌-◌, ◌%◌, ◌≤◌, ◌<◌, min}
-use native.Mathlib.Nat.{mod-lt, mod-eq_of_lt, mod_self}
+use Prim.Native.Nat.{ℕ, ◌+◌, ◌%◌, ◌≤◌, ◌<◌, min}
 use native.Mathlib.Omega.{arith}
-use lib.ListN.{length, take, drop, get_or, set, replicate, length-set, take-append-drop}
+use lib.ListN.{length, take, drop, get_or, set, length-set, take-append-drop}
 use lib.Seq.{drop-set-lt, get_or-set_same, get_or-set_other}
 use Rattle.words.specs.Flags.{count}
 use Rattle.words.specs.Columns.{column, column_counts, digit_of}
@@ -17,7 +16,6 @@ use Rattle.activity.specs.Checks.{all_zero, width_fits, left_by_minutes}
 use Rattle.activity.specs.Window.{zeros, no_minute, minute_on, accepted, refused, counted, uncounted, new_of, push_of, counts_of}
 use Rattle.activity.specs.Workers.{Good, Holds, Exchanged}
 use Rattle.activity.specs.declared.window.ActivityWindow.{ActivityWindow}
-use Rattle.activity.specs.declared.window.Activity.{Activity}
 use Rattle.activity.specs.declared.window.ActivityCounts.{ActivityCounts}
 use Rattle.activity.proofs.CheckLaws.{zero-words, zero-later, good_of}
 

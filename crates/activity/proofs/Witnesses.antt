@@ -1,5 +1,4 @@
 -- The rows of `specs/Witnesses.antt`, by computation. Assumes nothing.
-use Prim.Native.Nat.{ℕ}
 use mathlib.Core.Path.{◌≡◌, refl, ap}
 use mathlib.Core.Bool.{Bool, true, false, cond}
 use Rattle.words.specs.Flags.{bits, count}

@@ -1,7 +1,7 @@
 -- The wrong answers of `specs/WrongAnswers.antt` are ruled out, by computation. Assumes nothing.
 use Prim.Native.Nat.{ℕ}
 use mathlib.Core.Path.{refl}
-use mathlib.Core.List.{List, [], ◌∷◌, ◌++◌}
+use mathlib.Core.List.{List, ◌∷◌, ◌++◌}
 use lib.ListN.{take}
 use Rattle.words.proofs.WrongAnswers.{same_code, tried}
 use Rattle.words.specs.Flags.{bits, count}

@@ -1,5 +1,5 @@
 -- By which number the calls may refuse, and what a refusal gives. Assumes nothing.
-use Rattle.std.specs.Prelude.{ℕ, ◌≡◌, true, false, cond, List, [], ◌∷◌}
+use Rattle.std.specs.Prelude.{ℕ, ◌≡◌, false, cond, List, [], ◌∷◌}
 use Rattle.activity.specs.Checks.{width_fits, left_by_minutes}
 use Rattle.activity.specs.Window.{zeros, no_minute, new_of, push_of, counts_of}
 use Rattle.activity.specs.declared.window.ActivityWindow.{ActivityWindow}

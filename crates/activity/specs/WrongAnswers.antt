@@ -1,7 +1,7 @@
 -- Wrong answers that the contracts rule out. Assumes nothing.
 --
 -- Rows as in `WrongAnswers` of words: the definition at one input, what it gives, and two answers of a faulty call.
-use Rattle.std.specs.Prelude.{List, [], ◌∷◌, ◌++◌}
+use Rattle.std.specs.Prelude.{[], ◌∷◌, ◌++◌}
 use Rattle.words.specs.WrongAnswers.{Tried}
 use Rattle.activity.specs.Window.{no_minute, accepted, refused, counted, uncounted, new_of, push_of, counts_of}
 use Rattle.activity.specs.Witnesses.{padded, window_of, three_minutes}

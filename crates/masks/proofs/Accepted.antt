@@ -1,11 +1,11 @@
 -- What is accepted: a span in its bytes and within the limit, with no count or a true one, passes the checks of a mask; so do the
 -- masks that calls give. And the whole words of a split begin at an address divisible by 8. Assumes nothing.
-use mathlib.Core.Path.{◌≡◌, refl, sym, ap, ◌∙◌}
+use mathlib.Core.Path.{◌≡◌, refl}
 use mathlib.Core.Bool.{Bool, true, false, cond}
 use mathlib.Core.List.{List, [], ◌∷◌, ◌++◌}
-use Prim.Native.Nat.{ℕ, ◌+◌, ◌-◌, ◌*◌, ◌/◌, ◌%◌, ◌≤◌, ◌<◌}
+use Prim.Native.Nat.{ℕ, ◌+◌, ◌*◌, ◌/◌, ◌%◌, ◌≤◌, ◌<◌}
 use native.Mathlib.Omega.{arith}
-use lib.Dec.{leb, eqb}
+use lib.Dec.{leb}
 use lib.ListN.{length}
 use borrow.Author.Tests.{le-leb, lt-leb}
 use Rattle.words.specs.Flags.{flags_of}
@@ -13,13 +13,13 @@ use Rattle.words.proofs.Windows.{length-window}
 use Rattle.masks.specs.Aligned.{bulk_offset, bulk_start_of, bytes_to_aligned, short}
 use Rattle.masks.specs.Appends.{grow_checks, inner_checks, subslice_checks}
 use Rattle.masks.specs.Builder.{builder_checks, possible}
-use Rattle.masks.specs.Checks.{check, earlier, first_failed, limit, output_checks, span_checks, within_limit}
-use Rattle.masks.specs.Mask.{count_valid, mask_checks, mask_flags, mask_of, piece_checks, sliced_mask, try_new_of, uncounted}
+use Rattle.masks.specs.Checks.{check, earlier, first_failed, limit, output_checks, span_checks}
+use Rattle.masks.specs.Mask.{count_valid, mask_checks, mask_flags, mask_of, uncounted}
 use Rattle.masks.specs.TrueCounts.{Truthful}
 use Rattle.masks.specs.Workers.{Room}
 use Rattle.masks.specs.declared.bitmap.Bitmap.{Bitmap}
 use Rattle.masks.specs.declared.builder.BitmapBuilder.{BitmapBuilder}
-use Rattle.masks.proofs.CheckLaws.{SpanAllowed, passed-before, span-allowed}
+use Rattle.masks.proofs.CheckLaws.{passed-before, span-allowed}
 use Rattle.masks.proofs.MaskLaws.{true-valid}
 use Rattle.masks.proofs.SliceTruth.{none_true}
 

@@ -10,21 +10,20 @@ use native.Mathlib.Omega.{arith}
 use lib.Dec.{leb, ltb}
 use lib.ListN.{length, get_or, take, get_or-append}
 use lib.Seq.{get_or-append-add}
-use borrow.Author.Tests.{leb-true, ltb-true, lt-ltb, le-ltb}
+use borrow.Author.Tests.{ltb-true, lt-ltb, le-ltb}
 use Rattle.words.specs.Flags.{bit_at, bits, copies, flag_at, flags_of, window}
 use Rattle.words.specs.Loops.{stretch}
 use Rattle.words.proofs.Plain.{at_bits, at-flags, at-stretch}
 use Rattle.words.proofs.Windows.{lt-or-le, length-window, length-copies, at_copies, at_in, at_take, at-window}
-use Rattle.masks.specs.Answer.{given, kept}
+use Rattle.masks.specs.Answer.{given}
 use Rattle.masks.specs.AppendPlain.{new_count, new_flag, builder_flag, AppendsPlainly, AppendPlain}
 use Rattle.masks.specs.Appends.{Append, push_flag, extend_constant, push_word, extend_slice, extend_repeated, extend_bitmap, extend_gather, extend_opt_gather}
 use Rattle.masks.specs.Appends.{append_checks, append_flags, append_answer, append_bytes, grow_checks, word_checks, constant_checks, span_grow_checks, subslice_checks}
 use Rattle.masks.specs.Appends.{inner_checks, gather_checks, all_below, gathered, repeated}
-use Rattle.masks.specs.Builder.{Filling, filling, appended, builder_flags, in_progress, none_from}
+use Rattle.masks.specs.Builder.{filling, appended, builder_flags, in_progress, none_from}
 use Rattle.masks.specs.Checks.{check, first_failed, within_limit, span_checks}
 use Rattle.masks.specs.Mask.{mask_checks, mask_flags}
 use Rattle.masks.specs.Workers.{Room}
-use Rattle.masks.specs.declared.bitmap.Bitmap.{Bitmap}
 use Rattle.masks.specs.declared.builder.BitmapBuilder.{BitmapBuilder}
 use Rattle.masks.proofs.AnswerLaws.{given-number, given-value}
 use Rattle.masks.proofs.CheckLaws.{and_left, and_right, both_left, both_right, check-allowed, is-new}

@@ -5,9 +5,9 @@ use mathlib.Core.List.{List, [], ◌∷◌, ◌++◌}
 use Prim.Native.Nat.{ℕ, zero, suc, ◌+◌, ◌-◌, ◌*◌, ◌/◌, ◌%◌, ◌≤◌, ◌<◌}
 use native.Mathlib.Omega.{arith}
 use lib.Dec.{leb, eqb}
-use borrow.Author.Tests.{le-leb, lt-leb, leb-true, leb-false, eq-eqb, ne_eqb}
+use borrow.Author.Tests.{le-leb, lt-leb, leb-true, eq-eqb, ne_eqb}
 use Rattle.words.proofs.Windows.{lt-or-le}
-use Rattle.masks.specs.Answer.{Answer, given, refused, decided, kept, unless_empty}
+use Rattle.masks.specs.Answer.{given, refused, decided, kept, unless_empty}
 use Rattle.masks.specs.Checks.{Check, check, rank, place_in, earlier, failure, first_failed, limit, within_limit, span_checks, address_checks}
 use mathlib.Core.Logic.{◌⊎◌, inl, inr, ⊎_elim}
 

@@ -1,13 +1,13 @@
 -- The combinations: what is written, by flags and by bytes, and what the counts say. Assumes nothing.
-use mathlib.Core.Path.{◌≡◌, refl, sym, ap, ap₂, ◌∙◌, subst}
-use mathlib.Core.Bool.{Bool, true, false, not, cond, ◌&&◌, ◌||◌, xor}
+use mathlib.Core.Path.{◌≡◌, refl, sym, ap, ap₂, ◌∙◌}
+use mathlib.Core.Bool.{Bool, true, false, not, cond, ◌&&◌, ◌||◌}
 use mathlib.Core.List.{List, [], ◌∷◌, ◌++◌, map, zip_with}
-use Prim.Native.Nat.{ℕ, zero, suc, ◌+◌, ◌*◌, ◌/◌, ◌≤◌, ◌<◌, max}
+use Prim.Native.Nat.{ℕ, ◌+◌, ◌*◌, ◌/◌, max}
 use native.Mathlib.Omega.{arith}
-use lib.Dec.{eqb, leb}
+use lib.Dec.{eqb}
 use lib.ListN.{length}
-use borrow.Author.Tests.{eq-eqb, ne_eqb, eqb-true, eqb-false}
-use Rattle.words.specs.Flags.{copies, count, flags_of, over, window}
+use borrow.Author.Tests.{eqb-true, eqb-false}
+use Rattle.words.specs.Flags.{flags_of, over, window}
 use Rattle.words.specs.Loops.{whole_words, combined, stretch}
 use Rattle.words.specs.Ops.{op_of, or_not, zip3}
 use Rattle.words.proofs.AnyFlag.{unsaid}
@@ -16,20 +16,19 @@ use Rattle.words.proofs.Windows.{length-window}
 use Rattle.words.specs.declared.ops.Op.{Op}
 use Rattle.words.specs.declared.ops.Op.TheVariants.{And, AndNot, Or, OrNot, Xor, Not, Select}
 use Rattle.words.proofs.Bytes.{flags-inj, flags-over}
-use Rattle.masks.specs.Answer.{Answer, given, refused, decided, kept}
+use Rattle.masks.specs.Answer.{given, refused}
 use Rattle.masks.specs.Checks.{Check, check, first_failed, output_checks}
 use Rattle.masks.specs.Combine.{shortcut, result_flags, largest_serial, result_mask, result_count, pair_checks, pair_shortcut, pair_each}
 use Rattle.masks.specs.Combine.{pair_flags, pair_mask, pair_of, pair_bytes, each_of, each_bytes, select_checks}
 use Rattle.masks.specs.Frozen.{packed, frozen, frozen_size, over_from}
-use Rattle.masks.specs.Mask.{mask_under, mask_flags, mask_checks, uncounted, zero_count}
+use Rattle.masks.specs.Mask.{mask_under, mask_checks, uncounted}
 use Rattle.masks.specs.Workers.{has_shortcut, is_or, is_xor, either_all, xor_all, zeros_of_all}
 use Rattle.masks.specs.declared.bitmap.Bitmap.{Bitmap}
 use Rattle.masks.specs.declared.bitmap.Unset.{Unset}
 use Rattle.masks.specs.declared.shortcuts.Shortcut.{Shortcut}
 use Rattle.masks.specs.declared.shortcuts.Shortcut.TheVariants.{Each, All}
-use Rattle.masks.proofs.CheckLaws.{both_left, both_right, first-allowed, rest-allowed, is-given, is-refused, is-kept, is-new}
+use Rattle.masks.proofs.CheckLaws.{both_right, first-allowed, rest-allowed, is-given, is-refused, is-kept, is-new}
 use Rattle.masks.proofs.FrozenLaws.{Small, flags-packed, packed-small, over_from-small}
-use Rattle.masks.proofs.MaskLaws.{mask-allowed}
 
 -- ---- from flags to bytes
 
@@ -75,14 +74,14 @@ no-shortcut OrNot n l r e = refl
 no-shortcut Not n l r e = refl
 no-shortcut Select n l r e = refl
 
-pub is_xor : (op : Op) (n l r : ℕ) (s : Shortcut) → is_xor op ≡ true → s ≡ shortcut Xor n l r → s ≡ shortcut op n l r
-is_xor And n l r s e p = unsaid e
-is_xor Or n l r s e p = unsaid e
-is_xor Xor n l r s e p = p
-is_xor AndNot n l r s e p = unsaid e
-is_xor OrNot n l r s e p = unsaid e
-is_xor Not n l r s e p = unsaid e
-is_xor Select n l r s e p = unsaid e
+pub is_xor_lem : (op : Op) (n l r : ℕ) (s : Shortcut) → is_xor op ≡ true → s ≡ shortcut Xor n l r → s ≡ shortcut op n l r
+is_xor_lem And n l r s e p = unsaid e
+is_xor_lem Or n l r s e p = unsaid e
+is_xor_lem Xor n l r s e p = p
+is_xor_lem AndNot n l r s e p = unsaid e
+is_xor_lem OrNot n l r s e p = unsaid e
+is_xor_lem Not n l r s e p = unsaid e
+is_xor_lem Select n l r s e p = unsaid e
 
 pub and-or : (op : Op) (n m l r : ℕ) (s : Shortcut) → has_shortcut op ≡ true → is_xor op ≡ false → n ≡ m
     → s ≡ either_all (is_or op) (eqb l (zeros_of_all (is_or op) n)) (eqb r (zeros_of_all (is_or op) m)) → s ≡ shortcut op n l r

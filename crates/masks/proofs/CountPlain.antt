@@ -1,15 +1,15 @@
 -- Where a zero count is known: the statement of `specs/CountPlain.antt`. Assumes nothing.
 use mathlib.Core.Path.{◌≡◌, refl, sym, ap, ap₂, ◌∙◌}
-use mathlib.Core.Bool.{Bool, true, false, cond, not, ◌&&◌, ◌||◌}
+use mathlib.Core.Bool.{Bool, true, false, cond, ◌&&◌, ◌||◌}
 use mathlib.Core.List.{List, [], ◌∷◌, ◌++◌}
-use mathlib.Core.Logic.{◌⊎◌, inl, inr, ⊎_elim}
-use Prim.Native.Nat.{ℕ, zero, suc, ◌+◌, ◌-◌, ◌/◌, ◌≤◌, ◌<◌, max}
+use mathlib.Core.Logic.{◌⊎◌, inl, inr}
+use Prim.Native.Nat.{ℕ, zero, suc, ◌+◌, ◌-◌, ◌/◌, ◌≤◌, max}
 use native.Mathlib.Omega.{arith}
 use lib.Dec.{eqb, leb}
 use lib.ListN.{length}
 use borrow.Author.Tests.{eq-eqb, ne_eqb, le-leb, lt-leb, eqb-true}
 use Rattle.words.specs.declared.ops.Op.{Op}
-use Rattle.masks.specs.Answer.{Answer, given, checked}
+use Rattle.masks.specs.Answer.{given, checked}
 use Rattle.masks.specs.Checks.{Check, check, first_failed, span_checks}
 use Rattle.masks.specs.Combine.{And, AndNot, Or, OrNot, Xor, pair_of, pair_mask, pair_checks, shortcut, result_count, result_mask, each_of}
 use Rattle.masks.specs.Combine.{not_checks, select_checks}
@@ -21,7 +21,6 @@ use Rattle.masks.specs.Utils.{zeros}
 use Rattle.masks.specs.declared.bitmap.Bitmap.{Bitmap}
 use Rattle.masks.specs.declared.bitmap.Unset.{Unset}
 use Rattle.masks.specs.declared.bitmap.Unset.TheVariants.{Known, Unknown}
-use Rattle.masks.specs.declared.builder.BitmapBuilder.{BitmapBuilder}
 use Rattle.masks.specs.declared.shortcuts.Shortcut.{Shortcut}
 use Rattle.masks.specs.declared.shortcuts.Shortcut.TheVariants.{Each, All}
 use Rattle.masks.proofs.AnswerLaws.{given-number, given-value}

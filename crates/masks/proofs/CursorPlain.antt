@@ -18,7 +18,7 @@ use Rattle.words.proofs.Windows.{length-window}
 use Rattle.masks.specs.Answer.{given, unless_empty}
 use Rattle.masks.specs.Checks.{Check, check, first_failed, span_checks}
 use Rattle.masks.specs.Chunks.{chunks_at, new_chunks, next_chunk, chunk_step, chunk_checks, chunk_word}
-use Rattle.masks.specs.Cursor.{Step, item, ended, cursor_checks}
+use Rattle.masks.specs.Cursor.{item, ended, cursor_checks}
 use Rattle.masks.specs.CursorPlain.{NewPlaces, ChunkPlaces, FlagPlaces, RunPlaces, OnePlaces, CursorsPlainly}
 use Rattle.masks.specs.Iterator.{iter_at, iter_flags, moved_to, new_iter, iter_checks, flag_step, nth_flag, leading_from, take_leading}
 use Rattle.masks.specs.Mask.{mask_checks}

@@ -1,11 +1,8 @@
 -- The rows of `specs/EdgeRows.antt`, by computation. Assumes nothing.
 use mathlib.Core.Path.{refl}
 use mathlib.Core.Bool.{xor}
-use mathlib.Core.List.{zip_with}
-use Rattle.words.specs.Counts.{any_set, same_flags}
-use Rattle.words.specs.Ends.{leading}
+use Rattle.words.specs.Counts.{any_set}
 use Rattle.words.specs.Flags.{bits, copies, count, flags_of, over, window, word_of}
-use Rattle.words.specs.Nth.{nth_place}
 use Rattle.words.specs.Ops.{zip3}
 use Rattle.masks.specs.Aligned.{aligned_checks, aligned_of, bulk_offset, bulk_start_of, prefix_length}
 use Rattle.masks.specs.Answer.{decided, kept, unless_empty}
@@ -14,18 +11,18 @@ use Rattle.masks.specs.AtIndex.{and_not_at_checks, and_not_at_of, index_checks, 
 use Rattle.masks.specs.Bitmask.{split_at, split_checks, window_at}
 use Rattle.masks.specs.Builder.{appended, builder_checks, builder_flags, in_progress, possible}
 use Rattle.masks.specs.Checks.{address_checks, earlier, first_failed, rank, place_in, output_checks, span_checks}
-use Rattle.masks.specs.Chunks.{chunk_step, chunks_remainder, next_chunk}
+use Rattle.masks.specs.Chunks.{chunks_remainder, next_chunk}
 use Rattle.masks.specs.Combine.{each_bytes, each_of, not_checks, pair_bytes, pair_of, pair_checks, pair_flags, pair_mask, select_checks, shortcut}
 use Rattle.masks.specs.Compare.{common_checks, common_of, eq_of}
 use Rattle.masks.specs.Cursor.{cursor_checks}
 use Rattle.masks.specs.EdgeRows.{EdgesHold, limit_rows, edge_rows, mask_rows, unwritten_rows, split_rows, start_rows, count_rows}
 use Rattle.masks.specs.Freeze.{frozen_over}
 use Rattle.masks.specs.Frozen.{frozen, over_from, packed}
-use Rattle.masks.specs.Iterator.{flag_step, leading_from, nth_flag, take_leading}
+use Rattle.masks.specs.Iterator.{nth_flag, take_leading}
 use Rattle.masks.specs.Mask.{cut_zeros, kept_count, mask_checks, new_zeroed_bytes, new_zeroed_of, piece_checks, recounts, slice_checks, slice_of, try_new_of, unset_bits_of, zero_count, zeroed_checks}
 use Rattle.masks.specs.Positions.{positions_over}
 use Rattle.masks.specs.SliceIterator.{new_slices, next_slice}
-use Rattle.masks.specs.TrueIdx.{first_true, new_true, new_true_checks, next_true, ones_from, ones_left, true_checks, true_flags, true_step}
+use Rattle.masks.specs.TrueIdx.{new_true, new_true_checks, next_true, ones_from, ones_left, true_checks, true_flags}
 use Rattle.masks.specs.Utils.{span_count, zeros}
 
 pub all_hold : EdgesHold

@@ -1,16 +1,16 @@
 -- The mask's checks, its count, and the count of a slice. Assumes nothing.
-use mathlib.Core.Path.{◌≡◌, refl, sym, ap, ap₂, ◌∙◌}
-use mathlib.Core.Bool.{Bool, true, false, not, cond, ◌&&◌}
-use mathlib.Core.List.{List, [], ◌∷◌, ◌++◌}
-use Prim.Native.Nat.{ℕ, zero, suc, ◌+◌, ◌-◌, ◌/◌, ◌≤◌, ◌<◌, max}
+use mathlib.Core.Path.{◌≡◌, refl, sym, ap, ◌∙◌}
+use mathlib.Core.Bool.{Bool, true, false, cond, ◌&&◌}
+use mathlib.Core.List.{List, [], ◌∷◌}
+use Prim.Native.Nat.{ℕ, ◌+◌, ◌-◌, ◌/◌, ◌≤◌, ◌<◌, max}
 use native.Mathlib.Omega.{arith}
 use lib.Dec.{eqb, leb}
 use lib.ListN.{length, drop, take}
-use borrow.Author.Tests.{le-leb, lt-leb, leb-true, leb-false, eq-eqb, eqb-true, eqb-false, ne_eqb}
+use borrow.Author.Tests.{le-leb, lt-leb, leb-true, eq-eqb, eqb-true, eqb-false, ne_eqb}
 use Rattle.words.specs.Loops.{stretch}
 use Rattle.words.proofs.Loads.{whole-stretch}
-use Rattle.masks.specs.Answer.{Answer, given, refused, decided}
-use Rattle.masks.specs.Checks.{Check, check, rank, place_in, first_failed, limit, within_limit, span_checks}
+use Rattle.masks.specs.Answer.{given, refused}
+use Rattle.masks.specs.Checks.{Check, check, rank, place_in, first_failed, within_limit, span_checks}
 use Rattle.masks.specs.Mask.{cut_mask, cut_zeros, sliced_mask, slice_of, slice_checks, count_is, count_valid, mask_checks, mask_flags}
 use Rattle.masks.specs.Mask.{piece_checks, recounts, kept_count, sliced_count, recount_valid}
 use Rattle.masks.specs.TrueCounts.{Sound, TrueCount, Truthful}
@@ -21,7 +21,7 @@ use Rattle.masks.specs.declared.bitmap.Cut.{Cut}
 use Rattle.masks.specs.declared.bitmap.Unset.{Unset}
 use Rattle.masks.specs.declared.bitmap.Unset.TheVariants.{Known, Unknown}
 use Rattle.masks.proofs.CheckLaws.{before, first-refused, last-refused, last-given, both_left, both_right}
-use Rattle.masks.proofs.CheckLaws.{span-allowed, SpanAllowed, first-allowed, rest-allowed, check-allowed}
+use Rattle.masks.proofs.CheckLaws.{span-allowed, SpanAllowed, rest-allowed, check-allowed}
 
 -- what is known of a mask whose checks have passed
 pub mask-allowed : (m : Bitmap) (bytes : List ℕ) → first_failed (mask_checks m bytes) ≡ 0 → SpanAllowed m.start m.length (length bytes)

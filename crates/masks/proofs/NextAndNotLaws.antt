@@ -7,7 +7,7 @@ use mathlib.Core.Option.{Option, none, some}
 use Prim.Native.Nat.{ℕ, ◌+◌, ◌-◌, ◌/◌, ◌≤◌, ◌<◌, min}
 use native.Mathlib.Nat.{add-zero}
 use native.Mathlib.Omega.{arith}
-use lib.Dec.{eqb, leb, ltb}
+use lib.Dec.{eqb, leb}
 use lib.ListN.{length, take, drop, get_or, length-take, take-append-drop}
 use lib.Seq.{take_all, length-take-le}
 use borrow.Author.Tests.{eqb-true, le-leb, leb-true, lt-ltb}
@@ -16,17 +16,15 @@ use Rattle.words.specs.Ends.{leading}
 use Rattle.words.specs.Flags.{bits, flags_of, window}
 use Rattle.words.specs.Loops.{combined}
 use Rattle.words.specs.Ops.{and_not, op_of, zip3}
-use Rattle.words.proofs.AnyFlag.{any-zero}
-use Rattle.words.proofs.Bits.{length-bits}
-use Rattle.words.proofs.Combining.{length-zip, zip-later, zip-part, zip-self, zip-starts, zip_two}
+use Rattle.words.proofs.Combining.{length-zip, zip-part, zip-self, zip-starts, zip_two}
 use Rattle.words.proofs.EndLaws.{leading-all, leading_le, leading-take}
 use Rattle.words.proofs.Plain.{window-part}
 use Rattle.words.proofs.Windows.{at_take, in_window, length-window, window-cut, window-ext}
 use Rattle.masks.specs.Checks.{check, earlier, first_failed, limit}
 use Rattle.masks.specs.Combine.{And, AndNot, pair_flags, shortcut}
 use Rattle.masks.specs.Iterator.{leading_from}
-use Rattle.masks.specs.Mask.{mask_checks, mask_flags}
-use Rattle.masks.specs.NextAndNot.{Found, free_flags, going_round, next_checks, next_set, other_checks, windows_of}
+use Rattle.masks.specs.Mask.{mask_checks}
+use Rattle.masks.specs.NextAndNot.{free_flags, going_round, next_checks, next_set, other_checks, windows_of}
 use Rattle.masks.specs.Workers.{Beside, PassedTo, Searchable}
 use Rattle.masks.specs.Search.{nth_from}
 use Rattle.masks.specs.declared.bitmap.Bitmap.{Bitmap}

@@ -1,13 +1,13 @@
 -- A combination of two masks, flag by flag: what stands at a position of its flags, and that the mask that an accepted one gives has
 -- these flags in the bytes that it writes, whatever its masks' counts are. Assumes nothing.
 use mathlib.Core.Path.{◌≡◌, refl, sym, ap, ap₂, ◌∙◌}
-use mathlib.Core.Bool.{Bool, true, false, not, ◌&&◌}
-use mathlib.Core.List.{List, [], ◌∷◌, ◌++◌}
-use Prim.Native.Nat.{ℕ, ◌+◌, ◌*◌, ◌/◌, ◌≤◌, ◌<◌}
+use mathlib.Core.Bool.{Bool, false, not, ◌&&◌}
+use mathlib.Core.List.{List, ◌∷◌, ◌++◌}
+use Prim.Native.Nat.{ℕ, ◌+◌, ◌<◌}
 use native.Mathlib.Omega.{arith}
 use lib.Dec.{eqb}
 use lib.ListN.{length, get_or}
-use Rattle.words.specs.Flags.{copies, flags_of, over, window}
+use Rattle.words.specs.Flags.{flags_of, over, window}
 use Rattle.words.specs.Ops.{op_of}
 use Rattle.words.specs.declared.ops.Op.{Op}
 use Rattle.words.specs.declared.ops.Op.TheVariants.{AndNot}

@@ -1,21 +1,21 @@
 -- Counts over the three parts of a split, and over whole words from either end. Assumes nothing.
 use mathlib.Core.Path.{◌≡◌, refl, sym, ap, ap₂, ◌∙◌}
 use mathlib.Core.Bool.{Bool, true, false, not}
-use mathlib.Core.List.{List, [], ◌∷◌, ◌++◌, map, append_assoc}
-use Prim.Native.Nat.{ℕ, zero, suc, ◌+◌, ◌-◌, ◌*◌, ◌/◌, ◌%◌, ◌≤◌, ◌<◌}
+use mathlib.Core.List.{List, ◌++◌, map, append_assoc}
+use Prim.Native.Nat.{ℕ, ◌+◌, ◌-◌, ◌*◌, ◌/◌, ◌%◌, ◌≤◌, ◌<◌}
 use native.Mathlib.Omega.{arith}
-use lib.ListN.{length, take, length-take, length-append}
+use lib.ListN.{length, take, length-take}
 use lib.Dec.{eqb}
 use lib.Seq.{take_all}
 use Rattle.words.specs.Ends.{leading, trailing}
-use Rattle.words.specs.Flags.{bits, copies, count, flags_of, window, word_of}
+use Rattle.words.specs.Flags.{bits, copies, count, flags_of, window}
 use Rattle.words.specs.Uniform.{all_are}
 use Rattle.words.proofs.Bits.{length-bits}
-use Rattle.words.proofs.Counting.{count-append, count-copies, count-padded, count-not, count-le, count-short}
+use Rattle.words.proofs.Counting.{count-append, count-copies, count-padded, count-not, count-le}
 use Rattle.words.proofs.EndLaws.{leading_le, leading-some, leading-all, trailing_le, trailing-some, trailing-all}
 pub use Rattle.words.proofs.Loads.{moved-flags, near-flags}
 use Rattle.words.proofs.UniformLaws.{eqb-both}
-use Rattle.words.proofs.Windows.{in_window, length-copies, length-window, window-add}
+use Rattle.words.proofs.Windows.{length-copies, length-window, window-add}
 use Rattle.masks.specs.Utils.{zeros}
 use Rattle.masks.specs.Workers.{zeros_of_all}
 
@@ -191,7 +191,7 @@ all-zeros true l n t e p = p ∙ eqb-both (count l) (length l * 1) (count (map n
 all-zeros false l n t e p = p ∙ eqb-both (count l) (length l * 0) (count (map not l)) n (λ h. omega (arith, count-not l)) (λ h. omega (arith, count-not l))
 
 -- `zeros_of_all` is what it is called
-pub zeros_of_all : (x : Bool) (n : ℕ) → zeros (copies n x) ≡ zeros_of_all x n
+pub zeros_of_all_lem : (x : Bool) (n : ℕ) → zeros (copies n x) ≡ zeros_of_all x n
 unfolding zeros
-zeros_of_all true n = omega (arith, count-not (copies n true), count-copies n true, length-copies n true)
-zeros_of_all false n = omega (arith, count-not (copies n false), count-copies n false, length-copies n false)
+zeros_of_all_lem true n = omega (arith, count-not (copies n true), count-copies n true, length-copies n true)
+zeros_of_all_lem false n = omega (arith, count-not (copies n false), count-copies n false, length-copies n false)

@@ -4,18 +4,15 @@ use mathlib.Core.List.{List, [], ◌∷◌}
 use mathlib.Core.Logic.{⊎_elim}
 use Prim.Native.Nat.{ℕ, zero, suc, ◌+◌, ◌≤◌, ◌<◌}
 use native.Mathlib.Omega.{arith}
-use lib.ListN.{length, take, get_or}
+use lib.ListN.{length, take}
 use Rattle.words.proofs.Windows.{lt-or-le}
-use Rattle.masks.specs.Answer.{given}
-use Rattle.masks.specs.Cursor.{ended}
 use Rattle.masks.specs.Listing.{listing, after_calls}
 use Rattle.masks.specs.Positions.{left_of, place_behind}
-use Rattle.masks.specs.TrueIdx.{next_true, true_moved, true_flags}
+use Rattle.masks.specs.TrueIdx.{true_moved}
 use Rattle.masks.specs.declared.true_idx.TrueIdxIter.{TrueIdxIter}
 use Rattle.masks.proofs.Listing.{an_item, the_end, behind-item, behind-end}
 use Rattle.masks.proofs.PositionLaws.{behind-many, behind-few, behind-none}
-use Rattle.masks.proofs.TrueIdxLaws.{flags-length}
-use Rattle.masks.proofs.TrueIdxPlain.{NextOne, one-next, none-next, next_one, accepted, accepted-at, answer-of, past_ones}
+use Rattle.masks.proofs.TrueIdxPlain.{NextOne, one-next, none-next, next_one, accepted, accepted-at, answer-of}
 
 none-taken : (k : ℕ) → take {A = ℕ} k [] ≡ []
 none-taken zero = refl

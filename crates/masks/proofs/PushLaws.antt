@@ -8,7 +8,6 @@ use native.Mathlib.Omega.{arith}
 use lib.ListN.{length, take, drop, get_or, length-append, length-drop, take-append-drop, get_or-append}
 use lib.Seq.{length-take-le, get_or-append-add}
 use Rattle.words.specs.Flags.{bits, copies, count, flags_of, over_at, window, word_of}
-use Rattle.words.proofs.Bits.{length-bits}
 use Rattle.words.proofs.Loads.{from_end}
 use Rattle.words.proofs.Merging.{or-behind}
 use Rattle.words.proofs.Plain.{window-part}

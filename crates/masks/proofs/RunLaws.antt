@@ -16,7 +16,7 @@ use Rattle.words.proofs.Bits.{length-bits}
 use Rattle.words.proofs.EndLaws.{leading_le}
 use Rattle.words.proofs.Plain.{at_bits, at-flags}
 use Rattle.words.proofs.Windows.{lt-or-le, length-window, in_window, as-window}
-use Rattle.masks.specs.Cursor.{Step, item, ended}
+use Rattle.masks.specs.Cursor.{item, ended}
 use Rattle.masks.specs.Iterator.{leading_from}
 use Rattle.masks.specs.SliceIterator.{slices_moved, run_of, run_start, slice_step}
 use Rattle.masks.specs.Workers.{first_run}

@@ -13,7 +13,6 @@ use borrow.Author.Tests.{eq-eqb, ne_eqb, lt-ltb, le-ltb}
 use Rattle.words.specs.Ends.{leading}
 use Rattle.words.proofs.EndLaws.{leading_le}
 use Rattle.words.proofs.Windows.{lt-or-le}
-use Rattle.masks.specs.Cursor.{item, ended}
 use Rattle.masks.specs.Iterator.{leading_from}
 use Rattle.masks.specs.Listing.{runs_left, listed}
 use Rattle.masks.specs.SliceIterator.{run_of, run_start, slice_step, with_one, runs_from}

@@ -2,7 +2,7 @@
 -- one lies in one of them. Assumes nothing.
 use mathlib.Core.Path.{◌≡◌, refl, sym, ap, ◌∙◌, subst}
 use mathlib.Core.Bool.{Bool, true, false}
-use mathlib.Core.List.{List, [], ◌∷◌, Memᴰ}
+use mathlib.Core.List.{List, ◌∷◌, Memᴰ}
 use mathlib.Core.Logic.{⊎_elim}
 use Prim.Native.Nat.{ℕ, zero, suc, ◌+◌, ◌-◌, ◌≤◌, ◌<◌}
 use native.Mathlib.Omega.{arith}
@@ -13,16 +13,16 @@ use Rattle.words.specs.Flags.{flags_of}
 use Rattle.words.specs.Loops.{stretch}
 use Rattle.words.proofs.Windows.{lt-or-le, length-window}
 use Rattle.masks.specs.Answer.{Answer, given}
-use Rattle.masks.specs.Checks.{check, first_failed, span_checks}
+use Rattle.masks.specs.Checks.{first_failed, span_checks}
 use Rattle.masks.specs.Cursor.{Step, item, ended, cursor_checks}
 use Rattle.masks.specs.Iterator.{leading_from}
 use Rattle.masks.specs.Listing.{listing, runs_left, listed, Maximal, AllRuns, no_run, run_at}
-use Rattle.masks.specs.Mask.{count_valid, mask_checks, mask_flags}
+use Rattle.masks.specs.Mask.{mask_checks, mask_flags}
 use Rattle.masks.specs.SliceIterator.{slices_at, slices_moved, run_of, run_checks, run_start, slice_step, next_slice, runs_from}
 use Rattle.masks.specs.declared.bitmap.Bitmap.{Bitmap}
 use Rattle.masks.specs.declared.slice_iterator.Run.{Run}
 use Rattle.masks.specs.declared.slice_iterator.SlicesIterator.{SlicesIterator}
-use Rattle.masks.proofs.CheckLaws.{both_left, is-given}
+use Rattle.masks.proofs.CheckLaws.{is-given}
 use Rattle.masks.proofs.CursorLaws.{over-mask}
 use Rattle.masks.proofs.Listing.{Moves, gives, ends, lists, place-again}
 use Rattle.masks.proofs.SpanLaws.{not-both}

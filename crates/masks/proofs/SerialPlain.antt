@@ -2,19 +2,19 @@
 use mathlib.Core.Path.{◌≡◌, refl, sym, ap, ◌∙◌, subst}
 use mathlib.Core.Bool.{Bool, true, false, cond}
 use mathlib.Core.List.{List, [], ◌∷◌}
-use mathlib.Core.Logic.{◌⊎◌, inl, inr, ⊎_elim}
-use mathlib.Core.Option.{Option, none, some}
-use Prim.Native.Nat.{ℕ, zero, suc, ◌≤◌, ◌<◌, max}
+use mathlib.Core.Logic.{inl, inr, ⊎_elim}
+use mathlib.Core.Option.{none, some}
+use Prim.Native.Nat.{ℕ, ◌≤◌, ◌<◌, max}
 use native.Mathlib.Omega.{arith}
 use lib.Dec.{eqb}
 use lib.ListN.{length}
 use Rattle.words.proofs.Windows.{lt-or-le}
-use Rattle.masks.specs.Answer.{Answer, given, checked}
+use Rattle.masks.specs.Answer.{given, checked}
 use Rattle.masks.specs.Appends.{Append, append_answer, append_checks, append_flags}
 use Rattle.masks.specs.Builder.{appended, filling}
 use Rattle.masks.specs.Checks.{Check, first_failed, span_checks}
 use Rattle.masks.specs.Combine.{each_of, largest_serial, not_checks, pair_checks, pair_mask, pair_of, result_mask, select_checks}
-use Rattle.masks.specs.Freeze.{all_ones, freeze_checks, frozen_mask, into_opt_validity_of, validity_of}
+use Rattle.masks.specs.Freeze.{all_ones, freeze_checks, frozen_mask, validity_of}
 use Rattle.masks.specs.Mask.{Recounted, mask_checks, mask_of, new_zeroed_of, slice_checks, slice_of, sliced_mask, try_new_of, uncounted, unset_bits_of, with_count}
 use Rattle.masks.specs.Mask.{zero_count, zeroed_checks}
 use Rattle.masks.specs.SerialPlain.{Largest, SerialsPlainly}

@@ -1,18 +1,18 @@
 -- A slice of a mask with a true count has a true count, and check 7 never fails, whatever the input; a slice of the whole changes
 -- nothing; the count of a combination is true of the flags it writes. Assumes nothing.
-use mathlib.Core.Path.{◌≡◌, refl, sym, ap, ap₂, ◌∙◌, subst}
+use mathlib.Core.Path.{◌≡◌, refl, sym, ap, ap₂, ◌∙◌}
 use mathlib.Core.Bool.{Bool, true, false, not, cond, ◌&&◌}
 use mathlib.Core.List.{List, [], ◌∷◌, ◌++◌}
-use Prim.Native.Nat.{ℕ, zero, suc, ◌+◌, ◌-◌, ◌*◌, ◌/◌, ◌≤◌, ◌<◌, max}
+use Prim.Native.Nat.{ℕ, zero, suc, ◌+◌, ◌-◌, ◌/◌, ◌≤◌, max}
 use native.Mathlib.Nat.{mul-zero}
 use native.Mathlib.Omega.{arith}
 use lib.Dec.{eqb, leb}
 use lib.ListN.{length}
 use borrow.Author.Tests.{le-leb, eqb-true}
-use Rattle.words.specs.Flags.{copies, count, digit, flags_of, window}
+use Rattle.words.specs.Flags.{copies, count, flags_of, window}
 use Rattle.words.proofs.Counting.{count_add, count-copies, count-not}
 use Rattle.words.proofs.Windows.{in_window, length-copies, length-window}
-use Rattle.masks.specs.Answer.{Answer, given, refused, decided, checked}
+use Rattle.masks.specs.Answer.{given, decided, checked}
 use Rattle.masks.specs.Checks.{Check, check, earlier, first_failed, limit, within_limit}
 use Rattle.masks.specs.Combine.{result_count, result_flags}
 use Rattle.masks.specs.Mask.{cut_zeros, kept_count, mask_checks, mask_flags, mask_under, piece_checks}

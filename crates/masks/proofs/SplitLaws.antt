@@ -1,23 +1,22 @@
 -- The aligned split: its parts are in bounds, and in a row they are the span's flags. Assumes nothing.
 use mathlib.Core.Path.{◌≡◌, refl, sym, ap, ap₂, ◌∙◌}
 use mathlib.Core.Bool.{Bool, true, false, cond}
-use mathlib.Core.List.{List, [], ◌∷◌, ◌++◌}
-use Prim.Native.Nat.{ℕ, zero, suc, ◌+◌, ◌-◌, ◌*◌, ◌/◌, ◌%◌, ◌^◌, ◌≤◌, ◌<◌}
+use mathlib.Core.List.{List, [], ◌++◌}
+use Prim.Native.Nat.{ℕ, ◌+◌, ◌-◌, ◌*◌, ◌/◌, ◌%◌, ◌≤◌, ◌<◌}
 use native.Mathlib.Omega.{arith}
 use lib.Dec.{leb}
-use lib.ListN.{length, take, drop}
-use lib.Seq.{take_all}
+use lib.ListN.{take}
 use Rattle.words.specs.Flags.{bits, count, flags_of, window, word_of}
 use Rattle.words.specs.Loops.{stretch}
-use mathlib.Core.Logic.{◌⊎◌, inl, inr, ⊎_elim}
+use mathlib.Core.Logic.{◌⊎◌, inl, inr}
 use borrow.Author.Tests.{leb-true, leb-false}
-use Rattle.words.proofs.Windows.{length-window, window-add, window-cut, window-all, bits-window, in_window}
-use Rattle.masks.specs.Aligned.{bytes_to_aligned, bulk_offset, short, prefix_length, bulk_start_of, bulk_length, suffix_length}
+use Rattle.words.proofs.Windows.{length-window, window-add, window-cut, window-all, bits-window}
+use Rattle.masks.specs.Aligned.{bytes_to_aligned, bulk_offset, prefix_length, bulk_start_of, bulk_length, suffix_length}
 use Rattle.masks.specs.Aligned.{aligned_split, aligned_checks}
 use Rattle.masks.specs.declared.aligned.AlignedBitmapSlice.{AlignedBitmapSlice}
 use Rattle.masks.specs.Checks.{first_failed, limit, span_checks, address_checks}
 use Rattle.masks.specs.Workers.{split_flags, Bounded}
-use Rattle.masks.proofs.CheckLaws.{by-test, when-le, when-gt, both_left, both_right, span-allowed, SpanAllowed, address_allowed}
+use Rattle.masks.proofs.CheckLaws.{by-test, both_left, both_right, span-allowed, address_allowed}
 
 -- the first whole word is not before the span's first flag, and at most a word further
 pub record Offset (start offset : ℕ) : Type 0 where

@@ -2,17 +2,17 @@
 use mathlib.Core.Path.{◌≡◌, refl, sym, ap, ◌∙◌, subst}
 use mathlib.Core.Bool.{Bool, true, false, cond, not, ◌||◌}
 use mathlib.Core.List.{List, [], ◌∷◌, ◌++◌}
-use Prim.Native.Nat.{ℕ, ◌+◌, ◌-◌, ◌*◌, ◌/◌, ◌%◌, ◌≤◌, ◌<◌}
+use Prim.Native.Nat.{ℕ, ◌+◌, ◌*◌, ◌≤◌, ◌<◌}
 use native.Mathlib.Omega.{arith}
-use lib.Dec.{eqb, ltb}
-use lib.ListN.{length, take, drop}
+use lib.Dec.{ltb}
+use lib.ListN.{length}
 use borrow.Author.Tests.{eq-eqb, ne_eqb, le-ltb, lt-ltb}
 use Rattle.words.specs.Counts.{same_flags}
-use Rattle.masks.specs.Answer.{given, refused, checked}
-use Rattle.masks.specs.Checks.{Check, check, earlier, first_failed, limit, rank, place_in, span_checks}
+use Rattle.masks.specs.Answer.{given, refused}
+use Rattle.masks.specs.Checks.{Check, check, earlier, first_failed, rank, place_in, span_checks}
 use Rattle.masks.specs.Compare.{eq_of}
 use Rattle.masks.specs.Mask.{mask_checks, mask_flags}
-use Rattle.masks.specs.Superseding.{agree, bytes_of, part_bytes, part_of, superseding_checks, superseding_of, winning, within}
+use Rattle.masks.specs.Superseding.{agree, bytes_of, part_of, superseding_checks, superseding_of, winning, within}
 use Rattle.masks.specs.declared.bitmap.Bitmap.{Bitmap}
 use Rattle.masks.specs.declared.superseding.Part.{Part}
 use Rattle.masks.proofs.AnswerLaws.{given-number, given-value, refused-failed, refused-number}

@@ -2,7 +2,7 @@
 use mathlib.Core.Path.{◌≡◌, refl, sym, ap, ◌∙◌, subst}
 use mathlib.Core.Bool.{Bool, true, false, cond, not, ◌&&◌, ◌||◌}
 use mathlib.Core.List.{List, [], ◌∷◌, ◌++◌}
-use Prim.Native.Nat.{ℕ, zero, suc, ◌+◌, ◌-◌, ◌*◌, ◌/◌, ◌%◌, ◌≤◌, ◌<◌}
+use Prim.Native.Nat.{ℕ, zero, suc, ◌+◌, ◌-◌, ◌*◌, ◌/◌, ◌%◌, ◌≤◌}
 use native.Mathlib.Omega.{arith}
 use lib.Dec.{eqb, ltb}
 use lib.ListN.{length, length-drop, get_or, take, drop}
@@ -10,16 +10,15 @@ use lib.Seq.{length-take-le}
 use borrow.Author.Tests.{eq-eqb, eqb-true, lt-ltb, ltb-false, ltb-true}
 use Rattle.words.specs.Counts.{same_flags}
 use Rattle.words.specs.Flags.{flags_of, window}
-use Rattle.words.specs.Loops.{stretch}
 use Rattle.words.proofs.Bytes.{flags-drop, flags-take}
 use Rattle.words.proofs.Plain.{equal-same, same-equal}
 use Rattle.words.proofs.Windows.{at_take, window-drop, window-ext}
-use Rattle.masks.specs.Answer.{Answer, given, refused, decided}
+use Rattle.masks.specs.Answer.{given, refused}
 use Rattle.masks.specs.Checks.{Check, check, first_failed, limit, place_in, rank, span_checks}
 use Rattle.masks.specs.Compare.{eq_of}
 use Rattle.masks.specs.Mask.{count_is, count_valid, mask_checks, mask_flags}
 use Rattle.masks.specs.Superseding.{agree, fitted, part_of, superseding_checks, superseding_of, winning, within}
-use Rattle.masks.specs.SupersedingPlain.{Accepted, Fits, Supersedes, SupersedingPlainly, Winning, under}
+use Rattle.masks.specs.SupersedingPlain.{Accepted, Fits, Supersedes, SupersedingPlainly, Winning}
 use Rattle.masks.specs.Utils.{zeros}
 use Rattle.masks.specs.declared.bitmap.Bitmap.{Bitmap}
 use Rattle.masks.specs.declared.superseding.Part.{Part}

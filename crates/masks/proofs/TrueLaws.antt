@@ -1,26 +1,24 @@
 -- Where the counts are true a shortcut is never seen: the flags written are the operation on the arguments' flags. Assumes nothing.
-use mathlib.Core.Path.{◌≡◌, refl, sym, ap, ap₂, ◌∙◌, subst}
-use mathlib.Core.Bool.{Bool, true, false, not, cond, ◌&&◌, ◌||◌, xor}
-use mathlib.Core.List.{List, [], ◌∷◌, ◌++◌, map}
-use Prim.Native.Nat.{ℕ, zero, suc, ◌+◌, ◌≤◌, ◌<◌}
+use mathlib.Core.Path.{◌≡◌, refl, sym, ap, ap₂, ◌∙◌}
+use mathlib.Core.Bool.{Bool, true, false, cond, ◌&&◌, ◌||◌, xor}
+use mathlib.Core.List.{List, [], ◌∷◌}
+use Prim.Native.Nat.{ℕ, zero, suc, ◌≤◌}
 use native.Mathlib.Omega.{arith}
 use lib.Dec.{eqb}
 use lib.ListN.{length}
-use borrow.Author.Tests.{eqb-true, eqb-false}
-use Rattle.words.specs.Flags.{copies, count, window}
+use borrow.Author.Tests.{eqb-true}
+use Rattle.words.specs.Flags.{copies, count}
 use Rattle.words.specs.Ops.{op_of, zip3}
 use Rattle.words.specs.declared.ops.Op.{Op}
 use Rattle.words.specs.declared.ops.Op.TheVariants.{And, AndNot, Or, OrNot, Xor, Not, Select}
-use Rattle.words.proofs.Counting.{count-le}
 use Rattle.words.proofs.Windows.{length-window}
-use Rattle.masks.specs.Combine.{shortcut, result_flags, pair_each, pair_flags, pair_shortcut}
+use Rattle.masks.specs.Combine.{shortcut, result_flags, pair_each, pair_flags}
 use Rattle.masks.specs.Mask.{count_or, mask_flags, zero_count}
 use Rattle.masks.specs.TrueCounts.{TrueCount, Truthful}
 use Rattle.masks.specs.Utils.{zeros}
 use Rattle.masks.specs.declared.bitmap.Bitmap.{Bitmap}
 use Rattle.masks.specs.declared.bitmap.Unset.{Unset}
 use Rattle.masks.specs.declared.bitmap.Unset.TheVariants.{Known, Unknown}
-use Rattle.masks.specs.declared.shortcuts.Shortcut.{Shortcut}
 use Rattle.masks.specs.declared.shortcuts.Shortcut.TheVariants.{Each, All}
 
 -- ---- lists that are constant by their count

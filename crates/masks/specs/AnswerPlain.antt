@@ -3,8 +3,8 @@
 --
 -- A contract compares an answer through a definition such as `made_answer`. With its cases exchanged or a number altered there, code
 -- that errs alike would be proved, and no table, which speaks of what is given and refused, would tell.
-use Rattle.std.specs.Prelude.{ℕ, ◌≡◌, Bool}
-use Rattle.std.proofs.Math.Option.{Option, none, some}
+use Rattle.std.specs.Prelude.{ℕ, ◌≡◌}
+use Rattle.std.proofs.Math.Option.{none, some}
 use Rattle.masks.specs.Aligned.{aligned_answer}
 use Rattle.masks.specs.Answer.{Answer, given, refused}
 use Rattle.masks.specs.Appends.{change_answer, pushed_answer}
@@ -16,7 +16,7 @@ use Rattle.masks.specs.Compare.{compared_answer}
 use Rattle.masks.specs.Cursor.{Step, item, ended}
 use Rattle.masks.specs.Freeze.{freeze_answer, validity_answer}
 use Rattle.masks.specs.Iterator.{flag_answer, iter_answer, taken_answer}
-use Rattle.masks.specs.Mask.{Recounted, counting_answer, made_answer, sliced_answer}
+use Rattle.masks.specs.Mask.{counting_answer, made_answer, sliced_answer}
 use Rattle.masks.specs.Positions.{positions_answer}
 use Rattle.masks.specs.Search.{position_answer}
 use Rattle.masks.specs.SliceIterator.{slice_answer, slices_answer}

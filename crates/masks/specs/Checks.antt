@@ -2,7 +2,7 @@
 --
 -- A call's checks are a list made of the pieces below. The number of the call is that of the first check answered no, where
 -- `rank` says which comes first: so a list may name its checks in any order.
-use Rattle.std.specs.Prelude.{ℕ, zero, suc, ◌+◌, ◌*◌, ◌/◌, Bool, true, false, cond, List, [], ◌∷◌, ◌++◌, leb, eqb}
+use Rattle.std.specs.Prelude.{ℕ, zero, suc, ◌+◌, ◌*◌, ◌/◌, Bool, cond, List, [], ◌∷◌, leb, eqb}
 
 pub record Check : Type 0 where
   pub number : ℕ

@@ -3,7 +3,7 @@
 -- Each line speaks of a call that was accepted: a new cursor stands at place 0; an answer moves the place just past what it gives; an
 -- answer none moves it to the length, for chunks not at all. Start, length and mark stay. `Refusals` says that a refused call gives
 -- back the cursor that it got.
-use Rattle.std.specs.Prelude.{ℕ, zero, suc, ◌+◌, ◌/◌, ◌≤◌, ◌<◌, ◌≡◌, Bool, true, false, not, List, [], length, get_or}
+use Rattle.std.specs.Prelude.{ℕ, suc, ◌+◌, ◌/◌, ◌≤◌, ◌<◌, ◌≡◌, Bool, true, false, not, List, length, get_or}
 use Rattle.words.specs.Flags.{flag_at}
 use Rattle.masks.specs.Answer.{given}
 use Rattle.masks.specs.Chunks.{chunks_at, new_chunks, next_chunk}

@@ -3,7 +3,7 @@
 --
 -- A row has the numbers that a call gives, through the definition that its contract cites, and those that the papers' words give there,
 -- worked out by hand. `proofs/StartRows.antt` proves that the columns are equal.
-use Rattle.std.specs.Prelude.{ℕ, ◌≡◌, Bool, true, false, List, [], ◌∷◌, map, replicate}
+use Rattle.std.specs.Prelude.{ℕ, ◌≡◌, true, false, List, [], ◌∷◌, map, replicate}
 use Rattle.std.proofs.Math.Option.{Option, none, some}
 use Rattle.words.specs.Flags.{digit}
 use Rattle.masks.specs.Answer.{Answer, given, refused}

@@ -1,8 +1,8 @@
 -- Wrong answers that the contracts of the builder's calls rule out, two for each call. Assumes nothing.
 --
 -- Rows as in `WrongAnswers` of words. An answer stands with what the lent buffer then holds.
-use Rattle.std.specs.Prelude.{ℕ, true, false, List, [], ◌∷◌, ◌++◌, replicate}
-use Rattle.std.proofs.Math.Option.{Option, none, some}
+use Rattle.std.specs.Prelude.{ℕ, true, List, [], ◌∷◌, ◌++◌, replicate}
+use Rattle.std.proofs.Math.Option.{none, some}
 use Rattle.words.specs.WrongAnswers.{Tried}
 use Rattle.masks.specs.Answer.{Answer, given, refused}
 use Rattle.masks.specs.Appends.{Append, push_flag, extend_constant, push_word, extend_slice, extend_repeated, extend_bitmap, extend_gather, extend_opt_gather, append_answer, append_bytes, change_answer}
@@ -11,7 +11,6 @@ use Rattle.masks.specs.Examples.{first, lent}
 use Rattle.masks.specs.Freeze.{freeze_of, into_opt_validity_of, freeze_bytes}
 use Rattle.masks.specs.Mask.{mask_of}
 use Rattle.masks.specs.WrongSpans.{two}
-use Rattle.masks.specs.declared.bitmap.Bitmap.{Bitmap}
 use Rattle.masks.specs.declared.bitmap.Unset.TheVariants.{Known, Unknown}
 use Rattle.masks.specs.declared.builder.BitmapBuilder.{BitmapBuilder}
 

@@ -11,8 +11,8 @@ use Rattle.masks.specs.Positions.{next_positions, positions_over}
 use Rattle.masks.specs.SliceIterator.{slices_at, run_of, new_slices, next_slice}
 use Rattle.masks.specs.TrueIdx.{true_at, new_true, next_true}
 use Rattle.masks.specs.WrongSpans.{two}
-use Rattle.masks.specs.declared.bitmap.Optional.TheVariants.{Present, Absent}
-use Rattle.masks.specs.declared.bitmap.Unset.TheVariants.{Known, Unknown}
+use Rattle.masks.specs.declared.bitmap.Optional.TheVariants.{Absent}
+use Rattle.masks.specs.declared.bitmap.Unset.TheVariants.{Unknown}
 use Rattle.masks.specs.declared.true_idx.TrueIdxIter.{TrueIdxIter}
 
 -- four zeros, eight ones, four zeros

@@ -1,9 +1,9 @@
 -- Wrong answers that the contracts rule out where serials decide or are handed on. Assumes nothing.
 --
 -- Rows as in `WrongAnswers` of words. An answer of a call that writes stands with what the lent output then holds.
-use Rattle.std.specs.Prelude.{ℕ, Bool, true, false, List, [], ◌∷◌, ◌++◌}
+use Rattle.std.specs.Prelude.{ℕ, Bool, true, false, List, [], ◌∷◌}
 pub use Rattle.words.specs.WrongAnswers.{Tried}
-use Rattle.masks.specs.Answer.{Answer, given, refused}
+use Rattle.masks.specs.Answer.{given, refused}
 use Rattle.masks.specs.Appends.{push_flag}
 use Rattle.masks.specs.Builder.{builder_of, builder_under}
 use Rattle.masks.specs.Combine.{Or, select_bytes, select_of}

@@ -1,0 +1,6 @@
+-- The larger of the two, as the largest of a list of two: `two-serials`.
+use Rattle.masks.proofs.CombineLaws.{two-serials}
+use Rattle.masks.proofs.bitmap_ops.pair_serial.Goals as goal
+
+pub returns : goal.returns
+returns c = two-serials _ _ _ c.later.ensures

@@ -1,0 +1,6 @@
+-- The largest of three, by two tests: `three-serials`.
+use Rattle.masks.proofs.CombineLaws.{three-serials}
+use Rattle.masks.proofs.bitmap_ops.select_serial.Goals as goal
+
+pub returns : goal.returns
+returns c = three-serials _ _ _ _ _ c.later.ensures c.later-2.ensures

@@ -1,0 +1,41 @@
+-- The window where `pass_windows` stops has the flag (`turn-there`) or too few (`turn-only`), and then one window is left.
+use mathlib.Core.Path.{sym, ap, ◌∙◌, subst}
+use Prim.Native.Nat.{ℕ, ◌≤◌}
+use native.Mathlib.Omega.{arith}
+use Rattle.words.specs.Flags.{bits, count}
+use Rattle.words.proofs.Bits.{length-bits}
+use Rattle.masks.specs.Answer.{given}
+use Rattle.masks.proofs.BitmaskLaws.{window-flags}
+use Rattle.masks.specs.Workers.{seen_found}
+use Rattle.masks.proofs.SearchLaws.{seen-there, seen-only, turn-there, turn-only, turn_end}
+use Rattle.masks.proofs.bitmask.search_from.Goals as goal
+
+pub returns-then-from-length : goal.returns-then-from-length
+returns-then-from-length c = ap given (turn_end _ _ _ _ _ (omega arith))
+
+pub overflow_add-position : goal.overflow_add-position
+overflow_add-position c =
+    omega (arith, (seen-there _ _ _ (sym c.nth_in_window-seen.ensures ∙ ap seen_found c.in-There.is)).inside, length-bits 32 c.span_window.result)
+
+pub overflow_sub-rest : goal.overflow_sub-rest
+overflow_sub-rest c =
+    let only = seen-only _ _ _ (sym c.nth_in_window-seen.ensures ∙ ap seen_found c.in-Only.is) in
+    omega (arith, only.few, only.number)
+
+pub search_last-requires : goal.search_last-requires
+search_last-requires c =
+    let few = (seen-only _ _ _ (sym c.nth_in_window-seen.ensures ∙ ap seen_found c.in-Only.is)).few in
+    let passed = c.pass_windows-passed in
+    omega (arith, passed.ensures.stops (subst (λ (x : ℕ). count (bits 32 x) ≤ passed.result.left) c.span_window.ensures few))
+
+pub returns-in-There : goal.returns-in-There
+returns-in-There c =
+    ap given (turn-there _ _ _ _ _ (window-flags _ _ _ _ _ c.span_window.ensures) (seen-there _ _ _ (sym c.nth_in_window-seen.ensures ∙ ap seen_found c.in-There.is))
+    ∙ c.pass_windows-passed.ensures.same)
+
+pub returns-in-Only : goal.returns-in-Only
+returns-in-Only c =
+    c.search_last.ensures
+    ∙ ap given (turn-only _ _ _ _ _ (window-flags _ _ _ _ _ c.span_window.ensures)
+    (seen-only _ _ _ (sym c.nth_in_window-seen.ensures ∙ ap seen_found c.in-Only.is))
+    ∙ c.pass_windows-passed.ensures.same)

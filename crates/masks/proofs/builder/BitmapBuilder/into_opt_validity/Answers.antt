@@ -1,0 +1,32 @@
+-- The number of the checks decides: `refused-way` or `given-way`; then the ones against the length: `all_set` or `not-all-set`.
+use mathlib.Core.Path.{sym, ◌∙◌}
+use Rattle.masks.proofs.CheckLaws.{refused-way, given-way}
+use Rattle.masks.proofs.FreezeLaws.{same-checks, ones-fit, all_set, not-all-set}
+use Rattle.masks.proofs.RoomLaws.{room_of}
+use Rattle.masks.proofs.builder.BitmapBuilder.into_opt_validity.Goals as goal
+
+pub returns-then-refusal-ne0 : goal.returns-then-refusal-ne0
+returns-then-refusal-ne0 c =
+    let both = refused-way _ _ _ _ (same-checks _ _ _ c.builder_failure-refusal.ensures) _ _ c.if-refusal-ne0.true in
+    record { answer = both.0; bytes = both.1 }
+
+pub finish-requires : goal.finish-requires
+finish-requires c = room_of _ _ _ (sym c.builder_failure-refusal.ensures ∙ c.if-refusal-ne0.false)
+
+pub all_ones-requires : goal.all_ones-requires
+all_ones-requires c = ones-fit _ _ _ (room_of _ _ _ (sym c.builder_failure-refusal.ensures ∙ c.if-refusal-ne0.false))
+
+pub returns-then-all_ones-self : goal.returns-then-all_ones-self
+returns-then-all_ones-self c =
+    let both = given-way _ _ _ _ (same-checks _ _ _ c.builder_failure-refusal.ensures) _ _ _ _ c.if-refusal-ne0.false (all_set c.args.self _ c.all_ones.ensures c.if-all_ones-self.true)
+    c.finish.ensures in
+    record { answer = both.0; bytes = both.1 }
+
+pub frozen_mask-requires : goal.frozen_mask-requires
+frozen_mask-requires c = ones-fit _ _ _ (room_of _ _ _ (sym c.builder_failure-refusal.ensures ∙ c.if-refusal-ne0.false))
+
+pub returns : goal.returns
+returns c =
+    let both = given-way _ _ _ _ (same-checks _ _ _ c.builder_failure-refusal.ensures) _ _ _ _ c.if-refusal-ne0.false
+    (not-all-set c.args.self _ _ c.all_ones.ensures c.if-all_ones-self.false c.frozen_mask.ensures) c.finish.ensures in
+    record { answer = both.0; bytes = both.1 }

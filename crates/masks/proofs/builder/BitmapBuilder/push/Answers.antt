@@ -1,0 +1,22 @@
+-- The number of the checks decides: `refused-way` or `append-way`; the first flag of a word of one flag is that flag (`constant-front`).
+use mathlib.Core.Path.{sym, ap, ◌∙◌}
+use native.Mathlib.Omega.{arith}
+use Rattle.masks.specs.Builder.{appended}
+use Rattle.masks.proofs.CheckLaws.{refused-way}
+use Rattle.masks.proofs.AppendLaws.{append-way, constant-front, one-copy}
+use Rattle.masks.proofs.RoomLaws.{room_of}
+use Rattle.masks.proofs.builder.BitmapBuilder.push.Goals as goal
+
+pub returns-then-refusal-ne0 : goal.returns-then-refusal-ne0
+returns-then-refusal-ne0 c =
+    let both = refused-way _ _ _ _ c.builder_failure-refusal.ensures _ _ c.if-refusal-ne0.true in
+    record { answer = both.0; bytes = both.1 }
+
+pub push_flags-requires : goal.push_flags-requires
+push_flags-requires c = (omega arith, room_of _ _ _ (sym c.builder_failure-refusal.ensures ∙ c.if-refusal-ne0.false))
+
+pub returns : goal.returns
+returns c =
+    let both = append-way _ _ _ _ _ _ _ _ c.builder_failure-refusal.ensures c.if-refusal-ne0.false
+    (c.push_flags.ensures ∙ ap (appended _) (constant-front 1 _ _ (omega arith) c.constant_word.ensures ∙ one-copy _)) in
+    record { answer = both.0; bytes = both.1 }

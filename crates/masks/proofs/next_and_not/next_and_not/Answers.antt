@@ -1,0 +1,64 @@
+-- Where the checks have passed (`next-allowed`) a flag is found from the place on (`found-ahead`), or before it (`found_before`), or
+-- nowhere (`found_none`).
+use mathlib.Core.Path.{refl, sym, ap, ◌∙◌}
+use native.Mathlib.Omega.{arith}
+use Rattle.masks.specs.Answer.{given}
+use Rattle.masks.specs.NextAndNot.{next_and_not_of}
+use Rattle.masks.proofs.CheckLaws.{is-given, is-refused}
+use Rattle.masks.proofs.NextAndNotLaws.{before-allowed, found-ahead, found_before, found_none, free-length, next-allowed}
+use Rattle.masks.proofs.next_and_not.next_and_not.Goals as goal
+
+pub returns-then-refusal-ne0 : goal.returns-then-refusal-ne0
+unfolding next_and_not_of
+returns-then-refusal-ne0 c = is-refused _ _ _ _ c.next_failure-refusal.ensures c.if-refusal-ne0.true
+
+pub zeros_ahead-ahead-requires : goal.zeros_ahead-ahead-requires
+zeros_ahead-ahead-requires c = next-allowed _ _ _ _ _ (sym c.next_failure-refusal.ensures ∙ c.if-refusal-ne0.false)
+
+pub overflow_sub-length : goal.overflow_sub-length
+overflow_sub-length c =
+    let ok = next-allowed _ _ _ _ _ (sym c.next_failure-refusal.ensures ∙ c.if-refusal-ne0.false) in
+    ok.ordered
+
+pub returns-then-ahead-length : goal.returns-then-ahead-length
+unfolding next_and_not_of
+returns-then-ahead-length c =
+    let ok = next-allowed _ _ _ _ _ (sym c.next_failure-refusal.ensures ∙ c.if-refusal-ne0.false) in
+    ap given (found-ahead _ _ _ _ (free-length _ _ _ _ ok.beside) ok.ordered c.zeros_ahead-ahead.ensures _ _ c.if-ahead-length.true refl refl)
+    ∙ is-given _ _ _ _ c.next_failure-refusal.ensures c.if-refusal-ne0.false
+
+pub overflow_sub-length-2 : goal.overflow_sub-length-2
+overflow_sub-length-2 c =
+    let ok = next-allowed _ _ _ _ _ (sym c.next_failure-refusal.ensures ∙ c.if-refusal-ne0.false) in
+    ok.ordered
+
+pub windows_of-passed-requires : goal.windows_of-passed-requires
+windows_of-passed-requires c =
+    let ok = next-allowed _ _ _ _ _ (sym c.next_failure-refusal.ensures ∙ c.if-refusal-ne0.false) in
+    omega (arith, ok.short)
+
+pub zeros_ahead-before-requires : goal.zeros_ahead-before-requires
+zeros_ahead-before-requires c =
+    let ok = next-allowed _ _ _ _ _ (sym c.next_failure-refusal.ensures ∙ c.if-refusal-ne0.false) in
+    before-allowed _ _ _ ok
+
+pub returns-then-before-from : goal.returns-then-before-from
+unfolding next_and_not_of
+returns-then-before-from c =
+    let ok = next-allowed _ _ _ _ _ (sym c.next_failure-refusal.ensures ∙ c.if-refusal-ne0.false) in
+    ap given (found_before _ _ _ _ (free-length _ _ _ _ ok.beside) ok.ordered c.zeros_ahead-ahead.ensures _ _ c.if-ahead-length.false c.windows_of-passed.ensures
+    c.zeros_ahead-before.ensures _ c.if-before-from.true refl)
+    ∙ is-given _ _ _ _ c.next_failure-refusal.ensures c.if-refusal-ne0.false
+
+pub windows_of-requires : goal.windows_of-requires
+windows_of-requires c =
+    let ok = next-allowed _ _ _ _ _ (sym c.next_failure-refusal.ensures ∙ c.if-refusal-ne0.false) in
+    omega (arith, ok.ordered, ok.short)
+
+pub returns : goal.returns
+unfolding next_and_not_of
+returns c =
+    let ok = next-allowed _ _ _ _ _ (sym c.next_failure-refusal.ensures ∙ c.if-refusal-ne0.false) in
+    ap given (found_none _ _ _ _ (free-length _ _ _ _ ok.beside) ok.ordered c.zeros_ahead-ahead.ensures _ _ c.if-ahead-length.false c.windows_of-passed.ensures
+    c.zeros_ahead-before.ensures _ _ c.if-before-from.false c.windows_of.ensures refl)
+    ∙ is-given _ _ _ _ c.next_failure-refusal.ensures c.if-refusal-ne0.false

@@ -1,0 +1,13 @@
+-- The invariant: the output is under way (`UnderWay`), with the positions from `at` on. A word is the law `word_split`.
+use Prim.Native.Nat.{◌≤◌, ◌-◌}
+use Rattle.words.specs.Loops.{stretch}
+use Rattle.masks.specs.TrueIdx.{ones_left}
+use Rattle.masks.proofs.PositionLaws.{UnderWay}
+use Rattle.masks.proofs.positions.write_words.Given as goal
+
+abbrev pub invariant-loop-at : goal.invariant-loop-at
+invariant-loop-at l =
+    (l.at ≤ l.length) × UnderWay l.initial.out 0 (ones_left (stretch l.bytes l.start l.length) l.place) l.out l.count (ones_left (stretch l.bytes l.start l.length) l.at)
+
+abbrev pub decreases-loop-at : goal.decreases-loop-at
+decreases-loop-at l = l.length - l.at

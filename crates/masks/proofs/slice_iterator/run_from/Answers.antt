@@ -1,0 +1,32 @@
+-- The invariant of both loops: the flags from `place` to `first` are zeros, those from there to `at` are ones (`Walking`). A byte of ones
+-- (`walk-byte`), a one (`walk-one`) or a zero before the run (`walk-zero`) keeps it; the run ends at a zero behind ones (`walk-stop`) or at
+-- the span's end (`walk_end`).
+use mathlib.Core.Path.{refl}
+use native.Mathlib.Omega.{arith}
+use Rattle.masks.proofs.RunLaws.{walk_begins, walk-byte, walk-stop, walk-zero, walk-one, walk_end}
+use borrow.Author.Rules.{rules}
+use Rattle.masks.proofs.slice_iterator.run_from.Goals as goal
+
+pub bytes-init : goal.bytes-init
+bytes-init c = walk_begins _ _ _ c.requires.1.1.1
+
+pub bytes-preserved-then-all_ones : goal.bytes-preserved-then-all_ones
+bytes-preserved-then-all_ones c = walk-byte _ _ _ _ _ _ c.bytes.invariant _ _ c.all_ones.ensures c.if-all_ones.true refl
+
+pub bytes-preserved-then-byte-bit-eq0 : goal.bytes-preserved-then-byte-bit-eq0
+bytes-preserved-then-byte-bit-eq0 c =
+    let inv = c.bits.invariant in
+    walk-zero _ _ _ _ _ _ inv.0 _ _ _ (search rules) inv.1.0 (search rules) refl c.if-byte-bit-eq0.true c.if-ones-gt0.false
+
+pub bits-preserved : goal.bits-preserved
+bits-preserved c =
+    let inv = c.bits.invariant in
+    (walk-one _ _ _ _ _ _ inv.0 _ _ _ (search rules) inv.1.0 (search rules) refl c.if-byte-bit-eq0.false, (omega arith, (omega arith, omega arith)))
+
+pub returns-then-at-length : goal.returns-then-at-length
+returns-then-at-length c = walk_end _ _ _ _ _ _ c.bytes.invariant c.if-at-length.true
+
+pub returns-then-ones-gt0 : goal.returns-then-ones-gt0
+returns-then-ones-gt0 c =
+    let inv = c.bits.invariant in
+    walk-stop _ _ _ _ _ _ inv.0 _ _ _ (search rules) inv.1.0 (search rules) refl c.if-byte-bit-eq0.true c.if-ones-gt0.true

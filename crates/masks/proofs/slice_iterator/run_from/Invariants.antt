@@ -1,0 +1,21 @@
+-- The invariant of both loops: the flags from `place` to `first` are zeros, those from there to `at` are ones (`Walking`). A byte of ones
+-- (`walk-byte`), a one (`walk-one`) or a zero before the run (`walk-zero`) keeps it; the run ends at a zero behind ones (`walk-stop`) or at
+-- the span's end (`walk_end`).
+use mathlib.Core.Path.{◌≡◌}
+use Prim.Native.Nat.{◌+◌, ◌-◌, ◌*◌, ◌/◌, ◌≤◌}
+use Rattle.words.specs.Loops.{stretch}
+use Rattle.masks.proofs.RunLaws.{Walking}
+use Rattle.masks.proofs.slice_iterator.run_from.Given as goal
+
+abbrev pub invariant-bits : goal.invariant-bits
+invariant-bits l =
+    Walking (stretch l.bytes l.start l.length) l.length l.place l.first l.at × ((l.start + l.at ≡ 8 * (l.flag / 8) + l.bit) × ((l.initial.bit ≤ l.bit) × (l.bit ≤ l.stop)))
+
+abbrev pub decreases-bits : goal.decreases-bits
+decreases-bits l = l.stop - l.bit
+
+abbrev pub invariant-bytes : goal.invariant-bytes
+invariant-bytes l = Walking (stretch l.bytes l.start l.length) l.length l.place l.first l.at
+
+abbrev pub decreases-bytes : goal.decreases-bytes
+decreases-bytes l = l.length - l.at

@@ -1,0 +1,7 @@
+-- `low_value`: the k low flags of the word read from `bit` on, as a number.
+use borrow.Author.Rules.{rules}
+use Rattle.masks.proofs.SpanLaws.{low_value}
+use Rattle.masks.proofs.span.flags_word.Goals as goal
+
+pub returns : goal.returns
+returns c = low_value _ _ c.args.k _ _ (search rules) c.requires c.word_from.ensures c.low_flags.ensures

@@ -1,0 +1,7 @@
+-- `all-zeros`: the words crate counts the ones, this one the zeros.
+use Rattle.words.proofs.Windows.{length-window}
+use Rattle.masks.proofs.PartLaws.{all-zeros}
+use Rattle.masks.proofs.utils.all_flags.Goals as goal
+
+pub returns : goal.returns
+returns c = all-zeros _ _ _ _ (length-window _ _ _) c.all_are.ensures

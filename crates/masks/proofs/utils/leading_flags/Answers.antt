@@ -1,0 +1,37 @@
+-- As `count_zeros`: of no flags 0 (`is-empty`); else the number of the checks decides (`not-empty`), and either call ensures the count.
+use mathlib.Core.Path.{sym, ap, ◌∙◌}
+use native.Mathlib.Omega.{arith}
+use Rattle.masks.specs.Answer.{given}
+use Rattle.masks.specs.Utils.{span_count}
+use Rattle.masks.proofs.CheckLaws.{is-refused, is-given, is-empty, not-empty}
+use Rattle.masks.proofs.SplitLaws.{aligned-allowed}
+use Rattle.masks.proofs.utils.leading_flags.Goals as goal
+
+pub returns-then-length-eq0 : goal.returns-then-length-eq0
+unfolding span_count
+returns-then-length-eq0 c = is-empty _ _ _ c.if-length-eq0.true
+
+pub returns-then-refusal-ne0 : goal.returns-then-refusal-ne0
+unfolding span_count
+returns-then-refusal-ne0 c =
+    not-empty _ _ _ _ c.if-length-eq0.false (is-refused _ _ _ _ c.aligned_failure-refusal.ensures c.if-refusal-ne0.true)
+
+pub overflow_add-start : goal.overflow_add-start
+overflow_add-start c =
+    let a = aligned-allowed _ _ _ _ (sym c.aligned_failure-refusal.ensures ∙ c.if-refusal-ne0.false) in omega (arith, a.0, a.1.0)
+
+pub returns-then-start-length-le64 : goal.returns-then-start-length-le64
+unfolding span_count
+returns-then-start-length-le64 c =
+    not-empty _ _ _ _ c.if-length-eq0.false (ap given c.short_leading.ensures ∙ is-given _ _ _ _ c.aligned_failure-refusal.ensures c.if-refusal-ne0.false)
+
+pub long_leading-requires : goal.long_leading-requires
+long_leading-requires c =
+    let a = aligned-allowed _ _ _ _ (sym c.aligned_failure-refusal.ensures ∙ c.if-refusal-ne0.false) in
+    (omega (arith, a.0), a.1)
+
+pub returns : goal.returns
+unfolding span_count
+returns c =
+    not-empty _ _ _ _ c.if-length-eq0.false
+    (ap given c.long_leading.ensures ∙ is-given _ _ _ _ c.aligned_failure-refusal.ensures c.if-refusal-ne0.false)

@@ -1,0 +1,9 @@
+-- `all-zeros`, as for `all_flags`, and `early-other`: a flag that differs early differs.
+use mathlib.Core.Path.{refl, sym, ◌∙◌}
+use Rattle.words.proofs.UniformLaws.{early-other}
+use Rattle.words.proofs.Windows.{length-window}
+use Rattle.masks.proofs.PartLaws.{all-zeros}
+use Rattle.masks.proofs.utils.other_early.Goals as goal
+
+pub returns : goal.returns
+returns c = λ said. sym (all-zeros _ _ _ _ (length-window _ _ _) refl) ∙ early-other _ _ _ _ _ c.differs_early.ensures said
