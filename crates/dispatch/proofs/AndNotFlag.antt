@@ -1,7 +1,7 @@
 -- What `may_reassign` answers, mask by mask: with no permission mask no, for every truck and whether or not there is a revocation
 -- mask; with both masks flag t of the combination `and_not`; with a permission mask alone that mask's flag. Assumes nothing.
 use mathlib.Core.Path.{◌≡◌, refl, sym, ◌∙◌}
-use mathlib.Core.Bool.{Bool, true, false}
+use mathlib.Core.Bool.{true, false}
 use mathlib.Core.List.{List}
 use Prim.Native.Nat.{ℕ}
 use native.Mathlib.Omega.{arith}

@@ -4,7 +4,7 @@ use mathlib.Core.Path.{◌≡◌, refl, sym, ap, ◌∙◌}
 use mathlib.Core.Bool.{Bool}
 use mathlib.Core.List.{List}
 use Prim.Native.Nat.{ℕ}
-use Rattle.masks.specs.Answer.{Answer, given, refused, decided}
+use Rattle.masks.specs.Answer.{given, refused, decided}
 use Rattle.masks.specs.AtIndex.{and_not_at_checks, and_not_at_of, and_not_flag}
 use Rattle.masks.specs.Checks.{first_failed}
 use Rattle.masks.specs.declared.bitmap.Bitmap.{Bitmap}

@@ -1,13 +1,13 @@
 -- `offer` by the search `next_and_not`: the number of windows that the search gives is the one in the paper's words, and at most
 -- ceil(length / 32) + 1. Assumes nothing.
 use mathlib.Core.Path.{◌≡◌, refl, sym, ap, ap₂, ◌∙◌, subst}
-use mathlib.Core.Bool.{Bool, true, false, cond, ◌&&◌}
+use mathlib.Core.Bool.{Bool, true}
 use mathlib.Core.List.{List, [], ◌∷◌, ◌++◌, append-nil}
 use mathlib.Core.Option.{Option, none, some}
 use mathlib.Core.Logic.{⊎_elim}
 use Prim.Native.Nat.{ℕ, zero, suc, ◌+◌, ◌*◌, ◌-◌, ◌/◌, ◌≤◌, ◌<◌}
 use native.Mathlib.Omega.{arith}
-use lib.Dec.{leb, ltb}
+use lib.Dec.{leb}
 use lib.ListN.{length, length-append}
 use borrow.Author.Tests.{lt-ltb, le-ltb, le-leb, lt-leb}
 use Rattle.masks.specs.Answer.{given, refused, decided}
@@ -23,7 +23,7 @@ use Rattle.masks.proofs.AnswerLaws.{given-number, given-value, refused-failed, r
 use Rattle.masks.proofs.CheckLaws.{earlier-none, failed-append, is-given, is-refused, one-check}
 use Rattle.masks.proofs.NextAndNotLaws.{free-length, next-allowed}
 use Rattle.masks.proofs.NextPlain.{lt-or-le, none-some, some-ahead, some-before, some_same}
-use Rattle.dispatch.specs.Offer.{beginning, holds, in_order, most_windows, moved_to, next_truck, offer_checks, offered_of, Offering, offering, offer_of, or_else, up_to, windows_read}
+use Rattle.dispatch.specs.Offer.{beginning, in_order, most_windows, moved_to, next_truck, offer_checks, offered_of, Offering, offering, offer_of, or_else, up_to, windows_read}
 
 -- ---- windows in order
 

@@ -2,14 +2,14 @@
 use mathlib.Core.Path.{◌≡◌, refl, sym, ap, ap₂, ◌∙◌, subst}
 use mathlib.Core.Bool.{Bool, true, false}
 use mathlib.Core.List.{List, [], ◌∷◌, ◌++◌}
-use mathlib.Core.Option.{Option, none, some}
-use Prim.Native.Nat.{ℕ, zero, suc, ◌+◌, ◌-◌, ◌≤◌, ◌<◌}
+use mathlib.Core.Option.{Option, some}
+use Prim.Native.Nat.{ℕ, zero, suc, ◌+◌, ◌-◌, ◌≤◌}
 use native.Mathlib.Omega.{arith}
 use lib.ListN.{length, take, get_or, length-append}
 use lib.Seq.{take_all}
 use Rattle.masks.specs.Answer.{Answer, given}
 use Rattle.masks.specs.Checks.{first_failed}
-use Rattle.masks.specs.NextAndNot.{free_flags, next_checks}
+use Rattle.masks.specs.NextAndNot.{free_flags}
 use Rattle.masks.specs.Workers.{Searchable}
 use Rattle.masks.specs.declared.bitmap.Bitmap.{Bitmap}
 use Rattle.masks.specs.declared.bitmap.Optional.{Optional}
@@ -20,7 +20,7 @@ use Rattle.masks.proofs.NextPlain.{first-listed, free-flag, head_of, none-some, 
 use Rattle.dispatch.specs.Dispatch.{reassignable}
 use Rattle.dispatch.specs.Offer.{moved_to, next_truck, offer_checks, offered_of, Offering, offering, offer_of, or_else}
 use Rattle.dispatch.specs.Rounds.{Accepted, ARound, cursor_of, First, many_below, may, offers, OneCall, Right, times, truck_in, trucks_of}
-use Rattle.dispatch.proofs.RoundLaws.{around, around_first, around_many, around_times, none_around, turn, Turned}
+use Rattle.dispatch.proofs.RoundLaws.{around, around_first, around_many, around_times, none_around, turn}
 
 -- ---- lists
 

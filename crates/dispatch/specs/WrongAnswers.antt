@@ -1,7 +1,7 @@
 -- Wrong answers that the contract of `may_reassign` rules out. Assumes nothing.
 --
 -- Rows as in `WrongAnswers` of words: the definition at one input, what it gives, and two answers of a faulty call.
-use Rattle.std.specs.Prelude.{ℕ, true, false, List, [], ◌∷◌}
+use Rattle.std.specs.Prelude.{true, false, []}
 use Rattle.masks.specs.Answer.{given, refused}
 use Rattle.masks.specs.Mask.{with_count}
 use Rattle.masks.specs.WrongMasks.{Tried, left, left_bytes, right, right_bytes}

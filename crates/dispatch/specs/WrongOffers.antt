@@ -1,7 +1,7 @@
 -- Wrong answers that the contract of `offer` rules out. Assumes nothing.
 --
 -- Rows as in `WrongAnswers` of words: the definition at one input, what it gives, and two answers of a faulty call.
-use Rattle.std.specs.Prelude.{ℕ, List, [], ◌∷◌}
+use Rattle.std.specs.Prelude.{ℕ, []}
 use Rattle.std.proofs.Math.Option.{none, some}
 use Rattle.masks.specs.Answer.{given, refused}
 use Rattle.masks.specs.WrongMasks.{Tried}

@@ -1,8 +1,8 @@
 -- Serials and histories: `specs/Serials.antt`, from what histories mean of any imported mask. Assumes nothing.
 use Prim.Native.Nat.{ℕ}
-use mathlib.Core.Path.{◌≡◌, sym, ◌∙◌}
+use mathlib.Core.Path.{sym, ◌∙◌}
 use mathlib.Core.List.{List}
-use Rattle.masks.specs.Mask.{mask_checks, mask_flags}
+use Rattle.masks.specs.Mask.{mask_checks}
 use Rattle.masks.specs.SupersedingPlain.{Accepted, under}
 use Rattle.masks.specs.declared.bitmap.Bitmap.{Bitmap}
 use Rattle.masks.proofs.SupersedingPlain.{superseding_plainly}

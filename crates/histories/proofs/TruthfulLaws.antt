@@ -1,14 +1,13 @@
 -- Each other mask that an accepted call takes has no count or a true one: of appends by the checks of the mask, of calls that make a
 -- mask from masks by what is owed for their rows. Assumes nothing.
-use mathlib.Core.Path.{◌≡◌, refl, sym}
-use mathlib.Core.Bool.{true, false}
+use mathlib.Core.Path.{◌≡◌, refl}
+use mathlib.Core.Bool.{true}
 use mathlib.Core.List.{List, ◌++◌}
 use Prim.Native.Nat.{ℕ, zero, suc}
-use native.Mathlib.Omega.{arith}
 use lib.ListN.{length}
 use Rattle.masks.specs.Answer.{Answer, given, refused, decided}
 use Rattle.masks.specs.Appends.{Append, push_flag, extend_constant, push_word, extend_slice, extend_repeated, extend_bitmap}
-use Rattle.masks.specs.Appends.{extend_gather, extend_opt_gather, append_answer, append_bytes, append_checks, grow_checks, inner_checks}
+use Rattle.masks.specs.Appends.{extend_gather, extend_opt_gather, append_answer, append_bytes, grow_checks, inner_checks}
 use Rattle.masks.specs.Appends.{subslice_checks}
 use Rattle.masks.specs.Checks.{first_failed}
 use Rattle.masks.specs.Mask.{mask_checks}

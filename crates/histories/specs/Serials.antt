@@ -1,6 +1,6 @@
 -- Serials and histories: lists of flags are compared, serials may differ, and the record of `superseding` may begin a history.
 -- Assumes nothing.
-use Rattle.std.specs.Prelude.{ℕ, ◌≡◌, Bool, cond, List}
+use Rattle.std.specs.Prelude.{ℕ, ◌≡◌, cond, List}
 use Rattle.masks.specs.Answer.{given}
 use Rattle.masks.specs.Mask.{mask_flags}
 use Rattle.masks.specs.Superseding.{part_bytes, superseding_of}
