@@ -6,7 +6,6 @@ use mathlib.Core.Path.{◌≡◌, refl, sym, ap, subst, ◌∙◌}
 use mathlib.Core.Bool.{Bool, true, false, not, cond}
 use mathlib.Core.List.{List, [], ◌∷◌}
 use mathlib.Core.Option.{Option, none, some}
-use lib.Dec.{eqb}
 use borrow.Author.Tests.{ne_eqb}
 use Rattle.words.specs.Nth.{Found as SetBit, at_place, only_ones}
 use Rattle.masks.specs.Answer.{Answer, given, refused}
@@ -18,7 +17,7 @@ use Rattle.masks.specs.Cursor.{Step, item, ended}
 use Rattle.masks.specs.Iterator.{iter_at}
 use Rattle.masks.specs.Mask.{Recounted}
 use Rattle.masks.specs.NextAndNot.{Found}
-use Rattle.masks.specs.Refusals.{among, all_among, Refuses, RefusesUnwritten, append_family, may_give}
+use Rattle.masks.specs.Refusals.{among, all_among, Refuses, RefusesUnwritten}
 use Rattle.masks.specs.SliceIterator.{slices_at}
 use Rattle.masks.specs.TrueIdx.{true_at}
 use Rattle.masks.specs.declared.aligned.AlignedBitmapSlice.{AlignedBitmapSlice}
@@ -231,9 +230,9 @@ module _ (ns : List ℕ) (l : Listed ns) where
 
 -- ---- a cursor over positions: a number other than 0 says that there is a mask
 
-true_in : (start n place masked : ℕ) → (masked ≡ 0 → ⊥) → true_in start n place masked ≡ true_at start n place true
+true_in_lem : (start n place masked : ℕ) → (masked ≡ 0 → ⊥) → true_in start n place masked ≡ true_at start n place true
 unfolding true_in
-true_in start n place masked h = ap (λ (x : Bool). true_at start n place (not x)) (ne_eqb masked 0 h)
+true_in_lem start n place masked h = ap (λ (x : Bool). true_at start n place (not x)) (ne_eqb masked 0 h)
 
 -- ---- a window of minutes, whose one number is 16
 
@@ -340,11 +339,11 @@ refusals =
       pw_true_idx_new = λ n m bytes. gives _ _ refl _ _ (of-cursor true_out _) ((masks.refusals).true-new n (mask_in m) bytes);
       absent-true_idx_new = λ n m bytes. gives _ _ refl _ _ (of-cursor true_out _) ((masks.refusals).true-new_unmasked n bytes);
       pw_true_idx_next = λ start n place masked bytes h.
-          rw (true_in start n place masked h) (step_back _ refl _ _ true_place _ _ ((masks.refusals).true-next start n place bytes));
+          rw (true_in_lem start n place masked h) (step_back _ refl _ _ true_place _ _ ((masks.refusals).true-next start n place bytes));
       absent-true_idx_next = λ start n place bytes.
           step_back _ refl _ _ true_place _ _ ((masks.refusals).true-next_unmasked start n place bytes);
       pw_true_idx_next_chunk = λ start n place masked bytes out h.
-          rw (true_in start n place masked h) (taken-both _ refl true_place _ _ out _ ((masks.refusals).true-chunk start n place bytes out));
+          rw (true_in_lem start n place masked h) (taken-both _ refl true_place _ _ out _ ((masks.refusals).true-chunk start n place bytes out));
       absent-true_idx_next-chunk = λ start n place bytes out.
           taken-both _ refl true_place _ _ out _ ((masks.refusals).true-chunk_unmasked start n place bytes out);
       pw_and_not_at = λ p p_bytes q q_bytes i.

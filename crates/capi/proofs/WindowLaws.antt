@@ -1,9 +1,8 @@
 -- The laws of the exports of a window of minutes. Assumes nothing.
 use Prim.Native.Nat.{ℕ}
 use mathlib.Core.Path.{◌≡◌, refl, sym, ap, ◌∙◌}
-use mathlib.Core.Bool.{Bool, true, false, cond}
+use mathlib.Core.Bool.{Bool, cond}
 use mathlib.Core.List.{List}
-use lib.Dec.{eqb}
 use borrow.Author.Tests.{ne_eqb}
 use Rattle.activity.specs.Window.{new_of, push_of, counts_of}
 use Rattle.activity.specs.declared.window.Activity.{Activity}

@@ -2,10 +2,7 @@
 use Rattle.std.specs.Prelude.{ℕ, Bool, not, cond, eqb}
 use Rattle.words.specs.Flags.{digit}
 use Rattle.masks.specs.Builder.{builder_under}
-use Rattle.masks.specs.Chunks.{chunks_at}
-use Rattle.masks.specs.Iterator.{iter_at}
 use Rattle.masks.specs.Mask.{mask_under}
-use Rattle.masks.specs.SliceIterator.{slices_at}
 use Rattle.masks.specs.TrueIdx.{true_at}
 use Rattle.masks.specs.declared.bitmap.Bitmap.{Bitmap}
 use Rattle.masks.specs.declared.bitmap.Optional.{Optional}

@@ -1,0 +1,11 @@
+-- The encoding of what the call answers at the records that came in. Written by tests/export_proofs.py.
+use Rattle.capi.proofs.combine.pw_select.Goals as goal
+
+pub returns : goal.returns
+returns c =
+    let own1 = c.mask_in-3.ensures in
+    let own2 = c.mask_in-2.ensures in
+    let own3 = c.mask_in.ensures in record {
+      answer = rw (c.select.ensures.answer, own1, own2, own3) at c.combined_out.ensures;
+      bytes = rw (own1, own2, own3) at c.select.ensures.bytes;
+    }
