@@ -4,6 +4,6 @@
 // bytes, on as many as it takes and on one more; tests/maskreport.py wrote what they are run on and what they must print.
 #![tactic(auto)]
 
-fn main() {
-    report::program::run();
+fn main(rt: HostRuntime) {
+    report::program::run(&rt);
 }

@@ -1,6 +1,6 @@
 // The program maskreport on no bytes. tests/maskreport.py wrote stdin and stdout.
 #![tactic(auto)]
 
-fn main() {
-    report::program::run();
+fn main(rt: HostRuntime) {
+    report::program::run(&rt);
 }

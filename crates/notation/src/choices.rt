@@ -16,9 +16,7 @@ pub fn choice(list: &[u64], tokens: usize, t: u64, whole: [u64; 24]) -> [u64; 24
     let mut v = whole;
     let mut unknown: u64 = 0;
     let mut rest = t;
-    let mut k = tokens;
-    while 0 < k {
-        k -= 1;
+    for k in (0..tokens).rev() {
         let many = values_of(list, k);
         let p = picked(list, k, rest % many);
         let at = p.place % 24;
@@ -48,19 +46,18 @@ struct Pick {
 
 // The value `digit` of token k.
 fn picked(list: &[u64], k: usize, digit: u64) -> Pick {
-    let mut j = (list::token_first(list, k) % 1024) as usize;
+    let first = (list::token_first(list, k) % 1024) as usize;
     let mut left = digit;
-    while j < MOST {
+    for j in first..MOST {
         let many = list::count(list, j);
         if left < many {
             return made_pick(
                 list::kind(list, j),
-                std::num::wrapping_add_u64(list::first(list, j), left),
+                list::first(list, j).wrapping_add(left),
                 k,
             );
         }
         left = text::less(left, many);
-        j += 1;
     }
     made_pick(NUMBER, 0, k)
 }
@@ -97,20 +94,16 @@ fn unknown_bit(kind: u64, k: usize) -> u64 {
 
 // Keeps an answer.
 pub(crate) fn keep(list: &mut [u64], answer: [u64; 12]) {
-    let mut i: usize = 0;
-    while i < 12 {
+    for i in 0..12 {
         list::put(list, KEPT + i, answer[i]);
-        i += 1;
     }
 }
 
 // The answer that is kept.
 pub(crate) fn kept(list: &[u64]) -> [u64; 12] {
     let mut answer = [0u64; 12];
-    let mut i: usize = 0;
-    while i < 12 {
+    for i in 0..12 {
         answer[i] = list::get(list, KEPT + i);
-        i += 1;
     }
     answer
 }
@@ -128,13 +121,11 @@ pub(crate) fn token_of(answer: [u64; 12], i: u64) -> Item {
 
 // Whether the items from `from` to `end` are an answer.
 pub(crate) fn same(list: &[u64], from: usize, end: usize, answer: [u64; 12]) -> bool {
-    let mut i = from;
     let mut token = 0;
     let mut good = true;
-    while i < end {
+    for i in from..end {
         good = good & is_item(list, i, token_of(answer, token));
         token = token % 1024 + 1;
-        i += 1;
     }
     good & (token == answer[numbers::TOKENS])
 }

@@ -1,6 +1,7 @@
-// Standard input, a window at a time, taken apart into lines.
+// What a reader gives, a window at a time, taken apart into lines.
 use crate::text;
-use libc::STDIN_FILENO;
+use std::io;
+use std::io::Read;
 
 // Of the window the bytes from `at` to `size` are to be taken. Of the line in progress its bytes so far, whether it is too long, and
 // whether it is whole; whether the input is at its end.
@@ -34,13 +35,18 @@ pub fn too_long(p: Input) -> bool {
     p.long
 }
 
-// Goes on to the end of a line, or of the window; fills the window where all of it is taken.
-pub fn next(p: Input, window: &mut [u8], line: &mut [u8]) -> Input {
+// Goes on to the end of a line, or of the window; fills the window from the source where all of it is taken.
+pub fn next(
+    p: Input,
+    source: &mut impl Read,
+    window: &mut [u8],
+    line: &mut [u8],
+) -> io::Result<Input> {
     let now = emptied(p);
     if now.at < now.size {
-        taken(now, text::between(window, now.at, now.size), line)
+        Ok(taken(now, text::between(window, now.at, now.size), line))
     } else {
-        refilled(now, window)
+        refilled(now, source, window)
     }
 }
 
@@ -55,14 +61,13 @@ fn emptied(mut p: Input) -> Input {
 }
 
 // A last line may have no line feed.
-fn refilled(mut p: Input, window: &mut [u8]) -> Input {
-    let got = libc::read(STDIN_FILENO, window);
-    let size = io::count(got, window);
+fn refilled(mut p: Input, source: &mut impl Read, window: &mut [u8]) -> io::Result<Input> {
+    let size = source.read(window)?;
     p.at = 0;
     p.size = size;
     p.over = size == 0;
     p.whole = size == 0;
-    p
+    Ok(p)
 }
 
 fn taken(p: Input, rest: &[u8], line: &mut [u8]) -> Input {
@@ -83,10 +88,8 @@ fn grown(mut p: Input, fill: usize, room: usize, end: usize, whole: bool) -> Inp
 // Appends bytes to the line while there is room. Returns how many bytes it has.
 fn append(part: &[u8], fill: usize, line: &mut [u8]) -> usize {
     let mut now = fill;
-    let mut i = 0;
-    while i < part.len() {
+    for i in 0..part.len() {
         now = appended(now, part[i], line);
-        i += 1;
     }
     now
 }

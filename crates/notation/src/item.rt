@@ -111,10 +111,8 @@ fn digits(part: &[u8], hexadecimal: bool) -> Number {
         value: 0,
         good: 0 < part.len(),
     };
-    let mut i = 0;
-    while i < part.len() {
+    for i in 0..part.len() {
         n = longer(n, text::digit(part[i]), hexadecimal);
-        i += 1;
     }
     n
 }

@@ -44,10 +44,8 @@ fn begun() -> Items {
 
 pub(crate) fn read(part: &[u8], list: &mut [u64]) -> Items {
     let mut r = begun();
-    let mut i = 0;
-    while i < part.len() {
+    for i in 0..part.len() {
         r = step(r, part, i, list);
-        i += 1;
     }
     ended(r, part, list)
 }
@@ -104,10 +102,8 @@ fn several(r: Items, part: &[u8], list: &mut [u64]) -> Items {
 // The items of a token, with commas between them.
 fn token_items(part: &[u8], many: usize, list: &mut [u64]) -> Row {
     let mut w = first_of(many);
-    let mut i = 0;
-    while i < part.len() {
+    for i in 0..part.len() {
         w = row_step(w, part, i, list);
-        i += 1;
     }
     last_of(w, part, list)
 }
@@ -156,7 +152,7 @@ fn added(mut w: Row, t: Item, list: &mut [u64]) -> Row {
     list::put_item(list, many, t.kind, t.first, t.count);
     w.good = w.good & t.good & (many < MOST);
     w.many = many % MOST + 1;
-    w.count = std::num::wrapping_add_u64(w.count, t.count);
+    w.count = w.count.wrapping_add(t.count);
     w.kind = t.kind;
     w.any = w.any | (t.kind == ANY);
     w
@@ -202,10 +198,8 @@ fn from_last(mut r: Items, n: Number, list: &mut [u64]) -> Items {
 
 fn last_items(r: Items, begin: u64, size: u64, list: &mut [u64]) -> Items {
     let mut s = r;
-    let mut i = begin;
-    while i < size {
+    for i in begin..size {
         s = one_of_last(s, i, list);
-        i += 1;
     }
     s
 }

@@ -4,6 +4,7 @@
 use crate::lent::ROOM;
 use crate::outcome::Outcome;
 use crate::{items, list, outcome, pieces, tally, text};
+use std::io;
 
 // Where the list has the size of x; after it those of y, z, o and i.
 const LENT: usize = 12304;
@@ -16,19 +17,20 @@ pub const NO_REQUEST: usize = 16384;
 
 // One line more: takes what it lends. Returns where its request begins, or NO_REQUEST.
 pub fn take(
+    rt: &impl Print,
     line: &[u8],
     inputs: &mut [u8],
     given: &mut [u32],
     out: &[u8],
     list: &mut [u64],
-) -> usize {
+) -> io::Result<usize> {
     tally::count_line(list);
     match kind(line) {
-        b'#' => NO_REQUEST,
-        b'+' => continued(inputs, out, list),
-        b'i' => lent_numbers(text::behind(line, 2), given, list),
-        0 => 0,
-        _ => lent(kind(line), text::behind(line, 2), inputs, out, list),
+        b'#' => Ok(NO_REQUEST),
+        b'+' => continued(rt, inputs, out, list),
+        b'i' => lent_numbers(rt, text::behind(line, 2), given, list),
+        0 => Ok(0),
+        _ => lent(rt, kind(line), text::behind(line, 2), inputs, out, list),
     }
 }
 
@@ -54,23 +56,30 @@ pub fn request_of(line: &[u8], from: usize) -> &[u8] {
 }
 
 // A line that has no place.
-pub fn too_long(list: &mut [u64]) {
+pub fn too_long(rt: &impl Print, list: &mut [u64]) -> io::Result<()> {
     tally::count_line(list);
-    tally::count_malformed(list);
+    tally::count_malformed(rt, list)
 }
 
-fn malformed(list: &mut [u64]) -> usize {
-    tally::count_malformed(list);
-    NO_REQUEST
+fn malformed(rt: &impl Print, list: &mut [u64]) -> io::Result<usize> {
+    tally::count_malformed(rt, list)?;
+    Ok(NO_REQUEST)
 }
 
 // Bytes, at the place of their letter.
-fn lent(letter: u8, rest: &[u8], inputs: &mut [u8], out: &[u8], list: &mut [u64]) -> usize {
+fn lent(
+    rt: &impl Print,
+    letter: u8,
+    rest: &[u8],
+    inputs: &mut [u8],
+    out: &[u8],
+    list: &mut [u64],
+) -> io::Result<usize> {
     let place = place_of(letter);
     if place < 4 {
-        lent_at(place, rest, inputs, out, list)
+        lent_at(rt, place, rest, inputs, out, list)
     } else {
-        malformed(list)
+        malformed(rt, list)
     }
 }
 
@@ -84,13 +93,20 @@ fn place_of(letter: u8) -> usize {
     }
 }
 
-fn lent_at(place: usize, rest: &[u8], inputs: &mut [u8], out: &[u8], list: &mut [u64]) -> usize {
+fn lent_at(
+    rt: &impl Print,
+    place: usize,
+    rest: &[u8],
+    inputs: &mut [u8],
+    out: &[u8],
+    list: &mut [u64],
+) -> io::Result<usize> {
     let size = lend(place, rest, text::before(out, size_after(list)), inputs);
     if size < MOST {
         put_size(list, place, size);
-        return NO_REQUEST;
+        return Ok(NO_REQUEST);
     }
-    malformed(list)
+    malformed(rt, list)
 }
 
 fn size_after(list: &[u64]) -> usize {
@@ -123,20 +139,30 @@ fn lend_in(rest: &[u8], after: &[u8], room: &mut [u8]) -> usize {
     if p.good { p.size } else { MOST }
 }
 
-fn lent_numbers(rest: &[u8], given: &mut [u32], list: &mut [u64]) -> usize {
+fn lent_numbers(
+    rt: &impl Print,
+    rest: &[u8],
+    given: &mut [u32],
+    list: &mut [u64],
+) -> io::Result<usize> {
     let r = items::read(rest, list);
     let n = pieces::read_numbers(list, r.many, given, false);
     if r.good & n.good {
         put_size(list, 4, n.size);
-        return NO_REQUEST;
+        return Ok(NO_REQUEST);
     }
-    malformed(list)
+    malformed(rt, list)
 }
 
 // The output goes on as the last call left it. The request comes after the sign.
-fn continued(inputs: &mut [u8], out: &[u8], list: &mut [u64]) -> usize {
-    lent_at(3, b"@", inputs, out, list);
-    2
+fn continued(
+    rt: &impl Print,
+    inputs: &mut [u8],
+    out: &[u8],
+    list: &mut [u64],
+) -> io::Result<usize> {
+    lent_at(rt, 3, b"@", inputs, out, list)?;
+    Ok(2)
 }
 
 // The sizes of what is lent, at their places among the numbers of a request.
@@ -151,14 +177,14 @@ pub fn sizes(list: &[u64]) -> [u64; 24] {
 }
 
 // Counts a request, and prints it if it differs.
-pub fn count(r: Outcome, list: &mut [u64]) {
+pub fn count(rt: &impl Print, r: Outcome, list: &mut [u64]) -> io::Result<()> {
     if r.verdict == outcome::MALFORMED {
-        tally::count_malformed(list);
-        return;
+        return tally::count_malformed(rt, list);
     }
     written(r.output, list);
-    tally::count(list, r.call, r.calls, r.verdict == outcome::DIFFERS);
+    tally::count(rt, list, r.call, r.calls, r.verdict == outcome::DIFFERS)?;
     tally::count_made(list, r.verdict == outcome::MADE);
+    Ok(())
 }
 
 // The size of the last output.
@@ -169,10 +195,10 @@ fn written(output: u8, list: &mut [u64]) {
 }
 
 // Prints what came out: `over` is whether the input was read to its end.
-pub fn print(over: bool, list: &[u64]) {
+pub fn print(rt: &impl Print, over: bool, list: &[u64]) -> io::Result<()> {
     if !over {
-        io::write_all(1, b"standard input is too long\n");
+        println!(rt; "standard input is too long")?;
     }
-    tally::print(list);
-    tally::print_totals(list);
+    tally::print(rt, list)?;
+    tally::print_totals(rt, list)
 }

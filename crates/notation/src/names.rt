@@ -3,6 +3,8 @@
 // A name stands behind two letters: how many arguments the call has, and its output: `o` the bytes, `i` the numbers, `-` none. A new
 // call is a name at the end of a row, or in a new row.
 
+use std::io;
+
 pub const ROWS: usize = 22;
 
 // The numbers of calls are below it.
@@ -81,10 +83,8 @@ fn writing_row(r: usize) -> [u8; 144] {
 fn padded(names: &[u8]) -> [u8; 144] {
     let size = names.len() % 145;
     let mut bytes = [0u8; 144];
-    let mut i = 0;
-    while i < size {
+    for i in 0..size {
         bytes[i] = names[i];
-        i += 1;
     }
     bytes
 }
@@ -112,13 +112,11 @@ fn begun(number: usize) -> Call {
 }
 
 pub(crate) fn call_of(text: &[u8]) -> Call {
-    let mut r = 0;
-    while r < ROWS {
+    for r in 0..ROWS {
         let c = in_row(r, text);
         if c.found {
             return c;
         }
-        r += 1;
     }
     begun(0)
 }
@@ -130,10 +128,8 @@ fn in_row(r: usize, text: &[u8]) -> Call {
 // Looks through the names of a row, whose first call has the number.
 fn found_in(names: [u8; 144], number: usize, text: &[u8]) -> Call {
     let mut c = begun(number);
-    let mut i: usize = 0;
-    while i < 144 {
+    for i in 0..144 {
         c = step(c, names[i], text);
-        i += 1;
     }
     c
 }
@@ -174,32 +170,31 @@ fn closed(mut c: Call, size: usize) -> Call {
 }
 
 // Prints the name of a call.
-pub(crate) fn print(call: usize) {
-    print_in(row(call / 8), call % 8);
+pub(crate) fn print(rt: &impl Print, call: usize) -> io::Result<()> {
+    print_in(rt, row(call / 8), call % 8)
 }
 
-fn print_in(names: [u8; 144], k: usize) {
+fn print_in(rt: &impl Print, names: [u8; 144], k: usize) -> io::Result<()> {
     let mut name = 0;
     let mut place: usize = 0;
-    let mut i: usize = 0;
-    while i < 144 {
+    for i in 0..144 {
         let b = names[i];
-        letter(b, name == k, place);
+        letter(rt, b, name == k, place)?;
         name = next_name(name, b);
         place = next_place(place, b);
-        i += 1;
     }
+    Ok(())
 }
 
-fn letter(b: u8, wanted: bool, place: usize) {
+fn letter(rt: &impl Print, b: u8, wanted: bool, place: usize) -> io::Result<()> {
     if wanted {
         if 1 < place {
             if b != b' ' {
-                let one = [b; 1];
-                io::write_all(1, &one[0..1]);
+                return rt.write_all(&[b]);
             }
         }
     }
+    Ok(())
 }
 
 fn next_name(name: usize, b: u8) -> usize {

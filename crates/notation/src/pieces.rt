@@ -25,10 +25,8 @@ pub(crate) fn read(text: &[u8], buffer: &mut [u8], compare: bool) -> Pieces {
         starred: false,
         times: 0,
     };
-    let mut i = 0;
-    while i < text.len() {
+    for i in 0..text.len() {
         p = step(p, text[i], buffer, compare);
-        i += 1;
     }
     closed(p, buffer, compare)
 }
@@ -133,10 +131,8 @@ fn repeated(mut p: Pieces, buffer: &mut [u8], compare: bool) -> Pieces {
 // Where so many more of a piece end, or a place past any room.
 fn end_of(size: usize, own: usize, more: usize) -> usize {
     let mut end = size;
-    let mut k = 0;
-    while k < more {
+    for k in 0..more {
         end = further(end, own);
-        k += 1;
     }
     end
 }
@@ -151,11 +147,9 @@ fn further(end: usize, own: usize) -> usize {
 // The bytes from `from` to `end` are those `own` before them.
 fn again(buffer: &mut [u8], from: usize, end: usize, own: usize, compare: bool) -> bool {
     let mut good = true;
-    let mut i = from;
-    while i < end {
+    for i in from..end {
         let b = text::at(buffer, less(i, own));
         good = good & stored(buffer, i, b, compare);
-        i += 1;
     }
     good
 }
@@ -175,8 +169,7 @@ pub(crate) fn read_numbers(items: &[u64], many: usize, list: &mut [u32], compare
         good: true,
         same: true,
     };
-    let mut j = 0;
-    while j < many {
+    for j in 0..many {
         n = item(
             n,
             list::kind(items, j),
@@ -185,7 +178,6 @@ pub(crate) fn read_numbers(items: &[u64], many: usize, list: &mut [u32], compare
             list,
             compare,
         );
-        j += 1;
     }
     n
 }
@@ -215,10 +207,8 @@ fn item(
 
 fn row(list: &mut [u32], from: usize, end: usize, value: u32, compare: bool) -> bool {
     let mut good = true;
-    let mut i = from;
-    while i < end {
+    for i in from..end {
         good = good & number(list, i, value, compare);
-        i += 1;
     }
     good
 }
@@ -235,27 +225,21 @@ fn number(list: &mut [u32], at: usize, value: u32, compare: bool) -> bool {
 
 // Copies bytes to the front of a buffer.
 pub(crate) fn copy(from: &[u8], to: &mut [u8]) {
-    let mut i = 0;
-    while i < from.len() {
+    for i in 0..from.len() {
         stored(to, i, from[i], false);
-        i += 1;
     }
 }
 
 pub(crate) fn copy_numbers(from: &[u32], to: &mut [u32]) {
-    let mut i = 0;
-    while i < from.len() {
+    for i in 0..from.len() {
         number(to, i, from[i], false);
-        i += 1;
     }
 }
 
 pub(crate) fn same_numbers(a: &[u32], b: &[u32]) -> bool {
     let mut good = a.len() == b.len();
-    let mut i = 0;
-    while i < a.len() {
+    for i in 0..a.len() {
         good = good & (a[i] == number_at(b, i));
-        i += 1;
     }
     good
 }

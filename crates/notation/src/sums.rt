@@ -5,7 +5,7 @@ pub const FIRST: u64 = 14695981039346656037;
 
 // One number more.
 pub(crate) fn mix(sum: u64, value: u64) -> u64 {
-    let a = std::num::wrapping_add_u64(sum, value);
+    let a = sum.wrapping_add(value);
     let b = a ^ (a << 13);
     let c = b ^ (b >> 7);
     c ^ (c << 17)
@@ -15,10 +15,8 @@ pub(crate) fn mix(sum: u64, value: u64) -> u64 {
 pub(crate) fn answer(sum: u64, a: [u64; 12]) -> u64 {
     let many = a[numbers::TOKENS] % 9;
     let mut all = mix(sum, many);
-    let mut i = 0;
-    while i < many {
+    for i in 0..many {
         all = token(all, a, i);
-        i += 1;
     }
     all
 }
@@ -32,10 +30,8 @@ fn token(sum: u64, a: [u64; 12], i: u64) -> u64 {
 pub fn bytes(sum: u64, b: &[u8]) -> u64 {
     let words = words_of(b.len());
     let mut all = sum;
-    let mut i = 0;
-    while i < words {
+    for i in 0..words {
         all = mix(all, word(b, i));
-        i += 1;
     }
     all
 }
@@ -60,10 +56,8 @@ fn byte(b: &[u8], i: usize) -> u64 {
 
 pub(crate) fn numbers(sum: u64, n: &[u32]) -> u64 {
     let mut all = sum;
-    let mut i = 0;
-    while i < n.len() {
+    for i in 0..n.len() {
         all = mix(all, wide(n[i]));
-        i += 1;
     }
     all
 }

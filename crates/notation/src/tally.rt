@@ -4,6 +4,7 @@ ghost use Rattle.std.specs.Prelude.{◌≤◌};
 
 use crate::list::TALLY;
 use crate::{choices, list, names, numbers};
+use std::io;
 
 // The totals: lines, malformed ones, requests, calls, requests that differ, requests with no answer, lines printed.
 const LINES: usize = 12312;
@@ -25,7 +26,7 @@ const SHOWN: u64 = 20;
 
 // One number and another, or the greatest there is.
 fn sum(a: u64, b: u64) -> u64 {
-    let all = std::num::wrapping_add_u64(a, b);
+    let all = a.wrapping_add(b);
     if all < a { 18446744073709551615 } else { all }
 }
 
@@ -40,21 +41,29 @@ pub(crate) fn count_line(list: &mut [u64]) {
 }
 
 // Counts a malformed line, and prints its number if it is among the first.
-pub(crate) fn count_malformed(list: &mut [u64]) {
+pub(crate) fn count_malformed(rt: &impl Print, list: &mut [u64]) -> io::Result<()> {
     if list::get(list, PRINTED) < SHOWN {
-        print_malformed(list::get(list, LINES));
+        print_malformed(rt, list::get(list, LINES))?;
     }
     add(list, BAD_LINES, 1);
     add(list, PRINTED, 1);
+    Ok(())
 }
 
 // Counts a request of a call, and prints it if it differs and is among the first.
-pub(crate) fn count(list: &mut [u64], call: usize, calls: u64, differs: bool) {
+pub(crate) fn count(
+    rt: &impl Print,
+    list: &mut [u64],
+    call: usize,
+    calls: u64,
+    differs: bool,
+) -> io::Result<()> {
     count_at(list, place(call), calls, differs);
     count_at(list, REQUESTS, calls, differs);
     if differs {
-        show(list, call);
+        return show(rt, list, call);
     }
+    Ok(())
 }
 
 // Three counts in a row: requests, calls, requests that differ.
@@ -69,11 +78,12 @@ fn digit(flag: bool) -> u64 {
     if flag { 1 } else { 0 }
 }
 
-fn show(list: &mut [u64], call: usize) {
+fn show(rt: &impl Print, list: &mut [u64], call: usize) -> io::Result<()> {
     if list::get(list, PRINTED) < SHOWN {
-        print_differing(list::get(list, LINES), call, choices::kept(list));
+        print_differing(rt, list::get(list, LINES), call, choices::kept(list))?;
     }
     add(list, PRINTED, 1);
+    Ok(())
 }
 
 // Counts a request with no answer to compare.
@@ -88,88 +98,79 @@ fn place(call: usize) -> usize
 }
 
 // A line for each call that was requested.
-pub(crate) fn print(list: &[u64]) {
-    let mut call = 0;
-    while call < names::CALLS {
-        print_call(list, call);
-        call += 1;
+pub(crate) fn print(rt: &impl Print, list: &[u64]) -> io::Result<()> {
+    for call in 0..names::CALLS {
+        print_call(rt, list, call)?;
     }
+    Ok(())
 }
 
-fn print_call(list: &[u64], call: usize) {
+fn print_call(rt: &impl Print, list: &[u64], call: usize) -> io::Result<()> {
     let at = place(call);
     let requests = list::get(list, at);
     if 0 < requests {
-        names::print(call);
-        print_numbers(requests, list::get(list, at + 1), list::get(list, at + 2));
+        names::print(rt, call)?;
+        print_numbers(
+            rt,
+            requests,
+            list::get(list, at + 1),
+            list::get(list, at + 2),
+        )?;
     }
+    Ok(())
 }
 
-pub(crate) fn print_totals(list: &[u64]) {
-    io::write_all(1, b"total");
+pub(crate) fn print_totals(rt: &impl Print, list: &[u64]) -> io::Result<()> {
+    print!(rt; "total")?;
     print_numbers(
+        rt,
         list::get(list, REQUESTS),
         list::get(list, CALLS),
         list::get(list, DIFFERING),
-    );
-    io::write_all(1, b"requests with no answer: ");
-    io::print_decimal(1, list::get(list, MADE));
-    io::write_all(1, b"\nmalformed lines: ");
-    io::print_decimal(1, list::get(list, BAD_LINES));
-    io::write_all(1, b"\n");
+    )?;
+    let made = list::get(list, MADE);
+    let malformed = list::get(list, BAD_LINES);
+    println!(rt; "requests with no answer: {made}")?;
+    println!(rt; "malformed lines: {malformed}")
 }
 
-fn print_numbers(requests: u64, calls: u64, differing: u64) {
-    io::write_all(1, b": ");
-    io::print_decimal(1, requests);
-    io::write_all(1, b" requests, ");
-    io::print_decimal(1, calls);
-    io::write_all(1, b" calls, ");
-    io::print_decimal(1, differing);
-    io::write_all(1, b" differ\n");
+fn print_numbers(rt: &impl Print, requests: u64, calls: u64, differing: u64) -> io::Result<()> {
+    println!(rt; ": {requests} requests, {calls} calls, {differing} differ")
 }
 
 // A line that differs, with what the last call gave.
-fn print_differing(line: u64, call: usize, answer: [u64; 12]) {
-    print_number(line);
-    io::write_all(1, b" differs: ");
-    names::print(call);
-    io::write_all(1, b" gave");
-    print_answer(answer);
-    io::write_all(1, b"\n");
+fn print_differing(rt: &impl Print, line: u64, call: usize, answer: [u64; 12]) -> io::Result<()> {
+    print_number(rt, line)?;
+    print!(rt; " differs: ")?;
+    names::print(rt, call)?;
+    print!(rt; " gave")?;
+    print_answer(rt, answer)?;
+    println!(rt; "")
 }
 
-fn print_malformed(line: u64) {
-    print_number(line);
-    io::write_all(1, b" is malformed\n");
+fn print_malformed(rt: &impl Print, line: u64) -> io::Result<()> {
+    print_number(rt, line)?;
+    println!(rt; " is malformed")
 }
 
-fn print_number(line: u64) {
-    io::write_all(1, b"line ");
-    io::print_decimal(1, line);
+fn print_number(rt: &impl Print, line: u64) -> io::Result<()> {
+    print!(rt; "line {line}")
 }
 
-fn print_answer(answer: [u64; 12]) {
+fn print_answer(rt: &impl Print, answer: [u64; 12]) -> io::Result<()> {
     let many = answer[numbers::TOKENS] % 9;
-    let mut i = 0;
-    while i < many {
-        print_token(answer, i);
-        i += 1;
+    for i in 0..many {
+        print_token(rt, answer, i)?;
     }
+    Ok(())
 }
 
-fn print_token(answer: [u64; 12], i: u64) {
+fn print_token(rt: &impl Print, answer: [u64; 12], i: u64) -> io::Result<()> {
     let at = i % 8;
-    io::write_all(1, b" ");
+    let value = answer[at as usize];
     match numbers::kind(answer, at) {
-        0 => {
-            io::print_decimal(1, answer[at as usize]);
-        }
-        1 => {
-            io::write_all(1, b"?");
-        }
-        _ => {
-            io::write_all(1, b"-");
-        }
+        0 => print!(rt; " {value}"),
+        1 => print!(rt; " ?"),
+        _ => print!(rt; " -"),
     }
 }

@@ -35,14 +35,12 @@ pub(crate) fn at(text: &[u8], i: usize) -> u8 {
 pub(crate) fn find(text: &[u8], b: u8) -> usize
     ensures { result ≤ length text.now }
 {
-    let mut i = 0;
-    while i < text.len() {
+    for i in 0..text.len() {
         if text[i] == b {
             return i;
         }
-        i += 1;
     }
-    i
+    text.len()
 }
 
 // The text after its first k bytes.

@@ -4,10 +4,13 @@
 // The file `stdin` beside src/ is the list; compare/record writes it from the Rust alone. docs/REQUESTS.md says what a line means, and
 // what is printed. The file `stdout` has the counts of the whole list, so that a short one shows.
 //
-// `rt check` runs the compiled program. The interpreter of `rt try` stops after ten million steps; the three compiled runs of
-// `rt try` go to the end.
+// `rt run < stdin` makes them once all crates are proved, and so does `rt ci`. `rt try --seconds 1200 < stdin` makes them unproved: its
+// compiled run tests every access, for some two minutes; its interpreter gives no answer, since it does not know the call that asks
+// whether the input can be sought in.
 #![tactic(auto)]
 
-fn main() {
-    requests::run::run();
+use std::io;
+
+fn main(rt: HostRuntime) -> io::Result<()> {
+    requests::run::run(&rt)
 }

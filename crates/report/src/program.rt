@@ -1,10 +1,10 @@
 // The program maskreport: reads standard input to its end and prints a report on it. What it prints of the bytes read is
 // what `numbers` computes.
-ghost use Rattle.std.specs.Prelude.{◌≤◌};
-ghost use Rattle.io.specs.Counts.{IsPrefixLen};
+ghost use Rattle.std.specs.Prelude.{◌≡◌, ◌≤◌, length, take};
 
 use crate::numbers::{Numbers, Reported, report};
-use libc::{STDERR_FILENO, STDIN_FILENO, STDOUT_FILENO};
+use std::io;
+use std::io::Read;
 
 // How many bytes were read, and whether a read failed before the end of the input.
 #[derive(Clone, Copy)]
@@ -15,50 +15,43 @@ struct Input {
 
 // 0 where the report was printed, 1 where the input could not be read, 2 where the output could not be written. One byte more is
 // read than a report takes, so that longer input is seen.
-pub fn run() -> u8
+pub fn run(rt: &(impl io::Input + Print + Eprint)) -> u8
     ensures { result ≤ 2 }
 {
     let mut space = [0u8; 65537];
     let buf: &mut [u8] = &mut space;
-    read_and_print(buf)
+    read_and_print(rt, buf)
 }
 
-fn read_and_print(buf: &mut [u8]) -> u8
+fn read_and_print(rt: &(impl io::Input + Print + Eprint), buf: &mut [u8]) -> u8
     ensures { result ≤ 2 }
 {
-    let input = read_to_end(buf);
+    let input = read_to_end(&mut rt.reader(), buf);
     let size = input.size;
     if input.failed {
-        io::write_all(
-            STDERR_FILENO,
-            b"maskreport: standard input cannot be read\n",
-        );
+        let _ = eprintln!(rt; "maskreport: standard input cannot be read");
         return 1;
     }
-    if print(report(&buf[..size])) {
+    if print(rt, report(&buf[..size])).is_ok() {
         return 0;
     }
-    io::write_all(
-        STDERR_FILENO,
-        b"maskreport: standard output cannot be written\n",
-    );
+    let _ = eprintln!(rt; "maskreport: standard output cannot be written");
     2
 }
 
 // Reads until the buffer is full, the input ends or a read fails. A read may give fewer bytes than it could.
-fn read_to_end(buf: &mut [u8]) -> Input
-    ensures { IsPrefixLen result.size buf.new }
+fn read_to_end(source: &mut impl Read, buf: &mut [u8]) -> Input
+    ensures in_bounds { result.size ≤ length buf.new }
+    ensures counts_bytes { result.size ≡ length (take result.size buf.new) }
 {
     let mut size = 0;
     while size < buf.len() {
-        let got = libc::read(STDIN_FILENO, &mut buf[size..]);
-        if got < 0 {
+        let Ok(more) = source.read(&mut buf[size..]) else {
             return Input {
                 size: size,
                 failed: true,
             };
-        }
-        let more = io::count(got, &buf[size..]);
+        };
         if more == 0 {
             break;
         }
@@ -70,27 +63,25 @@ fn read_to_end(buf: &mut [u8]) -> Input
     }
 }
 
-// Whether all was written; the first write that fails is the last. Longer input is told as `refused=1`, which stands here alone.
-fn print(r: Reported) -> bool {
+// Prints all of it; the first write that fails is the last. Longer input is told as `refused=1`, which stands here alone.
+fn print(rt: &impl Print, r: Reported) -> io::Result<()> {
     match r {
-        Reported::Of(numbers) => lines(numbers),
-        Reported::TooLong => line(b"refused=", 1),
+        Reported::Of(numbers) => lines(rt, numbers),
+        Reported::TooLong => line(rt, "refused=", 1),
     }
 }
 
-fn lines(n: Numbers) -> bool {
-    line(b"flags=", big(n.flags))
-        && line(b"zeros=", big(n.zeros))
-        && line(b"edges=", big(n.edges))
-        && line(b"runs=", big(n.runs))
+fn lines(rt: &impl Print, n: Numbers) -> io::Result<()> {
+    line(rt, "flags=", big(n.flags))?;
+    line(rt, "zeros=", big(n.zeros))?;
+    line(rt, "edges=", big(n.edges))?;
+    line(rt, "runs=", big(n.runs))
 }
 
 fn big(n: usize) -> u64 {
     n as u64
 }
 
-fn line(key: &[u8], n: u64) -> bool {
-    io::write_all(STDOUT_FILENO, key)
-        && io::print_decimal(STDOUT_FILENO, n)
-        && io::write_all(STDOUT_FILENO, b"\n")
+fn line(rt: &impl Print, key: &str, n: u64) -> io::Result<()> {
+    println!(rt; "{key}{n}")
 }

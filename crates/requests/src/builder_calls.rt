@@ -88,7 +88,7 @@ struct Lent {
     number: u8,
 }
 
-// Lends its copy of the record. Proved by hand: a function that makes a reference to a record.
+// Lends its copy of the record.
 fn push_lent(b: BitmapBuilder, buf: &mut [u8], flag: bool) -> Lent
     ensures answer { change_answer result.number result.builder ≡ append_answer (push_flag flag) b buf.old }
     ensures bytes { buf.new ≡ append_bytes (push_flag flag) b buf.old }

@@ -51,11 +51,9 @@ fn minutes(v: [u64; 24], out: &mut [u8]) -> Numbers {
     let step = values::word(v, 4);
     let mut word = values::word(v, 3);
     let mut now = numbers_of(v);
-    let mut k: u64 = 0;
-    while k < many {
-        k += 1;
+    for _ in 0..many {
         now = minute(now, word, out);
-        word = std::num::wrapping_add_u64(word, step);
+        word = word.wrapping_add(step);
     }
     now
 }
@@ -94,38 +92,30 @@ fn left(a: Activity, out: &mut [u8]) -> Numbers {
 
 fn words_in(bytes: &[u8]) -> [u64; 256] {
     let mut words: [u64; 256] = [0; 256];
-    let mut i: usize = 0;
-    while i < 256 {
+    for i in 0..256 {
         words[i] = word::byte_word(bytes, 8 * i);
-        i += 1;
     }
     words
 }
 
 fn counts_in(bytes: &[u8]) -> [u32; 64] {
     let mut counts: [u32; 64] = [0; 64];
-    let mut i: usize = 0;
-    while i < 64 {
+    for i in 0..64 {
         counts[i] = (word::byte_word(bytes, 4 * i + 2048) % 4294967296) as u32;
-        i += 1;
     }
     counts
 }
 
 fn put_words(words: [u64; 256], out: &mut [u8]) {
-    let mut i: usize = 0;
-    while i < 256 {
+    for i in 0..256 {
         word::store_at(out, 8 * i, words[i]);
-        i += 1;
     }
 }
 
 // Two counts at a time.
 fn put_counts(counts: [u32; 64], out: &mut [u8]) {
-    let mut i: usize = 0;
-    while i < 32 {
+    for i in 0..32 {
         word::store_at(out, 8 * i + 2048, both(counts[2 * i], counts[2 * i + 1]));
-        i += 1;
     }
 }
 
@@ -134,10 +124,8 @@ fn both(low: u32, high: u32) -> u64 {
 }
 
 fn put_numbers(counts: [u32; 64], numbers: &mut [u32]) {
-    let mut i: usize = 0;
-    while i < 64 {
+    for i in 0..64 {
         put_number(numbers, i, counts[i]);
-        i += 1;
     }
 }
 

@@ -3,19 +3,22 @@ use crate::calls;
 use notation::outcome::Ran;
 use notation::reading::Reading;
 use notation::{choices, lines, outcome, reading};
+use std::io;
 
 // Makes the request of a line, and counts how it came out.
 pub(crate) fn request(
+    rt: &impl Print,
     line: &[u8],
     inputs: &[u8],
     given: &[u32],
     out: &mut [u8],
     numbers: &mut [u32],
     list: &mut [u64],
-) {
+) -> io::Result<()> {
     let r = reading::read(line, list);
     if r.good {
         made(
+            rt,
             r,
             line,
             lines::sizes(list),
@@ -24,14 +27,15 @@ pub(crate) fn request(
             out,
             numbers,
             list,
-        );
+        )
     } else {
-        lines::count(outcome::malformed(), list);
+        lines::count(rt, outcome::malformed(), list)
     }
 }
 
 // `whole` has the sizes of what is lent.
 fn made(
+    rt: &impl Print,
     r: Reading,
     line: &[u8],
     whole: [u64; 24],
@@ -40,10 +44,10 @@ fn made(
     out: &mut [u8],
     numbers: &mut [u32],
     list: &mut [u64],
-) {
+) -> io::Result<()> {
     let ran = all(r, whole, inputs, given, out, numbers, list);
     let came = outcome::compare(r, ran, line, whole, inputs, given, out, numbers, list);
-    lines::count(came, list);
+    lines::count(rt, came, list)
 }
 
 // Makes a call for each choice of a range.
@@ -57,11 +61,8 @@ fn all(
     list: &mut [u64],
 ) -> Ran {
     let mut now = outcome::none_ran();
-    let mut t = 0;
-    while t < choices::RANGE {
-        let at = t;
-        t += 1;
-        let next = turn(now, at, r, whole, inputs, given, out, numbers, list);
+    for t in 0..choices::RANGE {
+        let next = turn(now, t, r, whole, inputs, given, out, numbers, list);
         if next.calls == now.calls {
             return now;
         }
