@@ -28,7 +28,7 @@ use Rattle.masks.proofs.Accepted.{mask-accepted}
 use Rattle.masks.proofs.AnswerLaws.{given-value, refused-failed}
 use Rattle.masks.proofs.CheckLaws.{when-gt, when-le}
 use Rattle.masks.proofs.CursorLaws.{over-mask}
-use Rattle.masks.proofs.RunsPlain.{first_run, next-lists, none_left}
+use Rattle.masks.proofs.RunsPlain.{first_run_lem, next-lists, none_left}
 use Rattle.report.specs.Numbers.{most, numbers_of, report_of}
 use Rattle.report.specs.declared.numbers.Numbers.{Numbers}
 
@@ -96,7 +96,7 @@ module _ (m : Bitmap) (bytes : List ℕ) (place runs : ℕ) (readable : first_fa
       let first = run_start l place in
       let n = leading_from true l first in
       let seen = step-next (ltb first m.length) r (run_of first n) c (slices_at m.start m.length (first + n)) (slices_at m.start m.length m.length) e in
-      let run = first_run l place (omega (arith, ltb-true first m.length seen.0, flags-length)) in
+      let run = first_run_lem l place (omega (arith, ltb-true first m.length seen.0, flags-length)) in
       let at : c.place ≡ first + n = ap (λ (d : SlicesIterator). d.place) seen.1 in
       (omega (arith, run.after, run.some), omega (arith, run.inside, flags-length))
 

@@ -1,7 +1,7 @@
 -- Wrong answers that the contract of `report` rules out. Assumes nothing.
 --
 -- A row as in `WrongAnswers` of words: the definition at one input, what it gives, and two answers of a faulty call.
-use Rattle.std.specs.Prelude.{ℕ, List, [], ◌∷◌}
+use Rattle.std.specs.Prelude.{ℕ, [], ◌∷◌}
 use Rattle.std.proofs.Math.Option.{some}
 use Rattle.words.specs.WrongAnswers.{Tried}
 use Rattle.report.specs.Numbers.{report_of}
