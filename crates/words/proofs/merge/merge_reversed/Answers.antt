@@ -1,9 +1,6 @@
 -- One law for each branch: an offset of 0, one from 64 on, or the high bits of one word beside the low bits of the next.
-use Rattle.words.proofs.Merging.{merge-bits, merge_none, merge-past}
+use Rattle.words.proofs.Merging.{merge-bits, merge-past}
 use Rattle.words.proofs.merge.merge_reversed.Goals as goal
-
-pub returns-then-offset-eq0 : goal.returns-then-offset-eq0
-returns-then-offset-eq0 c = rw c.if-offset-eq0.true (merge_none _ _)
 
 pub returns-then-offset-ge64 : goal.returns-then-offset-ge64
 returns-then-offset-ge64 c = merge-past 64 _ _ _ c.if-offset-ge64.true

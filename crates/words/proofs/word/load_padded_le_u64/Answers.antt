@@ -7,10 +7,10 @@ use Rattle.words.proofs.Loads.{load-first}
 use Rattle.words.proofs.word.load_padded_le_u64.Goals as goal
 
 pub slice_bounds-join-end : goal.slice_bounds-join-end
-slice_bounds-join-end c = sym (length-take-le 8 c.before.before.before.args.part.now (omega arith))
+slice_bounds-join-end c = sym (length-take-le 8 c.args.part.now (omega arith))
 
 pub join-requires : goal.join-requires
-join-requires c = omega (arith, length-take 8 c.before.before.before.args.part.now)
+join-requires c = omega (arith, length-take 8 c.args.part.now)
 
 pub returns-then-part-ge8 : goal.returns-then-part-ge8
 returns-then-part-ge8 c = load-first _ _ c.join.ensures
