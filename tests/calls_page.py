@@ -62,14 +62,22 @@ def arguments(head):
     return [part.split(":")[0].split()[-1].lstrip("&") for part in inside.split(",") if part.strip()]
 
 
+def promised(head):
+    """The text of each `ensures`."""
+    for clause in re.finditer(r"\bensures(?:\s+\w+)?\s*\{", head):
+        at, depth = clause.end(), 1
+        while depth:
+            depth += {"{": 1, "}": -1}.get(head[at], 0)
+            at += 1
+        yield " ".join(head[clause.end() : at - 1].split())
+
+
 def cited(head):
     """What each `ensures` says the result or a lent buffer equals; lent bytes by their names alone."""
     out = []
-    for clause in re.findall(r"ensures(?:\s+\w+)?\s*\{\s*λ\s+\w+\.\s*⌜(.*?)⌝\s*\}", head, re.S):
-        clause = " ".join(clause.split())
+    for clause in promised(head):
         side = clause.split("≡", 1)[-1].strip()
-        side = re.sub(r"\(now \(«?(\w+)»? \.entry\)\)", r"\1", side)
-        out.append(re.sub(r"[«»]|\w+·", "", side))
+        out.append(re.sub(r"[«»]|\w+·|(?<=\w)\.(?:now|old)\b", "", side))
     return out
 
 
@@ -95,8 +103,9 @@ def functions(crate):
 
 def uses(text):
     """The files of definitions that a source or such a file uses, with the names taken from each."""
-    found = re.findall(r"use Rattle·(\w+?)(?:·specs)?\.specs\.([A-Z]\w*)\.\{([^}]*)\}", text)
-    return [(f"{crate}/specs/{name}.antt", {n.split(" as ")[-1].strip() for n in names.split(",")}) for crate, name, names in found]
+    found = re.findall(r"use Rattle\.(\w+)\.specs\.([A-Z]\w*)\.\{([^}]*)\}", text)
+    files = [(f"{crate}/specs/{name}.antt", {n.split(" as ")[-1].strip() for n in names.split(",")}) for crate, name, names in found]
+    return [(file, names) for file, names in files if os.path.isfile(os.path.join(ROOT, "crates", file))]
 
 
 def clauses():
@@ -105,7 +114,7 @@ def clauses():
         for path in glob.glob(os.path.join(ROOT, "crates", crate, "src", "*.rt")):
             text = re.sub(r"//[^\n]*", "", read(path))
             heads = [head_of(text, match.start(1)) for match in re.finditer(r"\bpub fn (\w+)", text)]
-            yield text, set(re.findall(NAME, " ".join(re.findall(r"⌜(.*?)⌝", " ".join(heads), re.S))))
+            yield text, set(re.findall(NAME, " ".join(clause for head in heads for clause in promised(head))))
 
 
 def reached():

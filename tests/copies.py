@@ -13,7 +13,7 @@ import subprocess
 import sys
 
 sys.dont_write_bytecode = True
-from test_copy import ROOT, Unfit, compiled, difference, printed
+from test_copy import ROOT, Unfit, difference, printed
 
 COPIES = ROOT / "tests" / "copies"
 PROGRAM = "cases"
@@ -23,8 +23,8 @@ RIGHT = re.compile(r"^total: [1-9]\d* requests, \d+ calls, 0 differ\nrequests wi
 def damaged(edit, write):
     """Whether the copy printed what it must."""
     expected = edit.with_suffix(".stdout")
-    with compiled([edit], PROGRAM) as program:
-        got = printed(program, edit.with_suffix(".stdin"))
+    stdin = edit.with_suffix(".stdin")
+    got = printed([edit], PROGRAM, [stdin])[stdin]
     if write:
         expected.write_bytes(got)
     same = got == expected.read_bytes()
@@ -38,12 +38,11 @@ def undamaged(edits):
     """Whether the sources as they are answer every request as its line says, and tests/cases.py too."""
     model = [sys.executable, ROOT / "tests" / "cases.py"]
     right = all([subprocess.run([*model, edit.with_suffix(".stdin")], check=False).returncode == 0 for edit in edits])
-    with compiled([], PROGRAM) as program:
-        for edit in edits:
-            got = printed(program, edit.with_suffix(".stdin")).decode()
-            if not RIGHT.search(got):
-                print(f"{edit.stem}: the sources as they are answer otherwise than the requests say:\n{got[:2000]}")
-                right = False
+    for stdin, printed_there in printed([], PROGRAM, [edit.with_suffix(".stdin") for edit in edits]).items():
+        got = printed_there.decode()
+        if not RIGHT.search(got):
+            print(f"{stdin.stem}: the sources as they are answer otherwise than the requests say:\n{got[:2000]}")
+            right = False
     return right
 
 

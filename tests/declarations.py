@@ -28,13 +28,13 @@ NUMBERS = {
     "PW_REFUSED_OUTSIDE_BYTES": (CHECKS + "Checks.antt", r"check (\d+) \(leb \(start \+ n\) \(8 \* size\)\)"),
     "PW_REFUSED_FALSE_COUNT": (CHECKS + "Mask.antt", r"check (\d+) \(count_valid "),
     "PW_REFUSED_IMPOSSIBLE_BUILDER": (CHECKS + "Builder.antt", r"check (\d+) \(possible "),
-    "PW_REFUSED_UNEQUAL_LENGTHS": (CHECKS + "Combine.antt", r"check (\d+) \(eqb \(\w \.length\) \(\w \.length\)\)"),
-    "PW_REFUSED_OUTSIDE_MASK": (CHECKS + "Mask.antt", r"check (\d+) \(leb \(offset \+ n\) \(m \.length\)\)"),
+    "PW_REFUSED_UNEQUAL_LENGTHS": (CHECKS + "Combine.antt", r"check (\d+) \(eqb \w\.length \w\.length\)"),
+    "PW_REFUSED_OUTSIDE_MASK": (CHECKS + "Mask.antt", r"check (\d+) \(leb \(offset \+ n\) m\.length\)"),
     "PW_REFUSED_COUNT_NOT_OF_SLICE": (CHECKS + "Mask.antt", r"check (\d+) \(recount_valid "),
     "PW_REFUSED_ADDRESS_REMAINDER": (CHECKS + "Checks.antt", r"check (\d+) \(leb address 7\)"),
     "PW_REFUSED_OUTPUT_TOO_SMALL": (CHECKS + "Checks.antt", r"check (\d+) \(leb \(8 \* \(\(n \+ 63\) / 64\)\) size\)"),
     "PW_REFUSED_SERIAL_CONFLICT": (CHECKS + "Superseding.antt", r"check (\d+) \(agree "),
-    "PW_REFUSED_IMPOSSIBLE_WINDOW": ("crates/activity/specs/Refusals.antt", r"\nmayGive = (\d+) ∷ \[\]"),
+    "PW_REFUSED_IMPOSSIBLE_WINDOW": ("crates/activity/specs/Refusals.antt", r"\nmay_give = (\d+) ∷ \[\]"),
 }
 
 

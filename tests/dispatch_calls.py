@@ -4,7 +4,7 @@
     python3 tests/dispatch_calls.py FOLDER     reads the sources of that folder instead
 
 Document 01 has dispatch cite only masks' combinations and searches. A call is found by its name where it is imported (`use
-masks::module::name;`) or written with its path, a method by its name behind a dot or behind its type. Of masks' types only
+masks::module::name;`, or among others in braces) or written with its path, a method by its name behind a dot or behind its type. Of masks' types only
 those may be named that a combination or a search takes or gives. Of words nothing may be used."""
 import pathlib
 import re
@@ -24,8 +24,14 @@ ITEM = re.compile(r"(?m)^impl (\w+)|^(\})|^pub(?:\(crate\))? (?:struct|enum) (\w
 
 
 def code_of(path):
-    """A source without its comments."""
-    return re.sub(r"//[^\n]*", "", path.read_text(encoding="utf-8"))
+    """A source without its comments and its imports for clauses, each other import with a path for each name."""
+    text = re.sub(r"//[^\n]*", "", path.read_text(encoding="utf-8"))
+    text = re.sub(r"(?m)^ghost use [^;]*;", "", text)
+    return re.sub(
+        r"(?m)^((?:pub )?use [\w:]+::)\{([^}]*)\};",
+        lambda found: "\n".join(f"{found[1]}{name.strip()};" for name in found[2].split(",") if name.strip()),
+        text,
+    )
 
 
 def kinds():
@@ -65,7 +71,7 @@ def main():
     sources = sorted(folder.glob("*.rt"))
     for path in sources:
         text = code_of(path)
-        for name in re.findall(r"\bmasks::((?:\w+::)*\w+)", re.sub(r"(?m)^ghost use .*$", "", text)):
+        for name in re.findall(r"\bmasks::((?:\w+::)*\w+)", text):
             if name in functions:
                 used[name] = allowed.get(name)
             elif name not in types:
@@ -75,7 +81,7 @@ def main():
         for name in re.findall(r"(?:\.|\b\w+::)(\w+)\(", text):
             if name in methods and not re.search(rf"\bfn {name}\b", text):
                 used[f"{'/'.join(sorted(methods[name]))}::{name}"] = None
-        if re.search(r"\bwords::", re.sub(r"(?m)^ghost use .*$", "", text)):
+        if re.search(r"\bwords::", text):
             complaints.append(f"{path.name}: words is used")
     complaints += [f"masks::{name} is no combination and no search" for name, kind in used.items() if not kind]
     if not sources or not used:

@@ -84,7 +84,7 @@ def source(module):
 
 def modules():
     """The modules with exports, in the order of the declarations, each with what its first comment says."""
-    found = [path.stem for path in sorted((CAPI / "src").glob("*.rt")) if "#[no_mangle]" in path.read_text()]
+    found = [path.stem for path in sorted((CAPI / "src").glob("*.rt")) if "#[unsafe(no_mangle)]" in path.read_text()]
     for module in sorted(found, key=lambda m: (ORDER.index(m) if m in ORDER else len(ORDER), m)):
         comment = re.match(r"(?://[^\n]*\n)+", source(module))[0].split("\n//\n")[0]
         heading = said(comment).removeprefix("Exported to C and Rust: ")
@@ -93,13 +93,13 @@ def modules():
 
 def exports():
     """All exports in the order of the declarations."""
-    shape = r'((?:^//[^\n]*\n)+)#\[no_mangle\]\npub extern "C" fn (\w+)\((.*?)\)\s*(?:->\s*(\w+)\s*)?((?:ensures.*?)?)^\{'
+    shape = r'((?:^//[^\n]*\n)+)#\[unsafe\(no_mangle\)\]\npub extern "C" fn (\w+)\((.*?)\)\s*(?:->\s*(\w+)\s*)?((?:ensures.*?)?)^\{'
     found = []
     for module, _ in modules():
         text = source(module)
         these = re.findall(shape, text, re.S | re.M)
-        if len(these) != text.count("#[no_mangle]"):
-            sys.exit(f"{module}: {text.count('#[no_mangle]')} exports, of which {len(these)} are understood; each needs a comment")
+        if len(these) != text.count("#[unsafe(no_mangle)]"):
+            sys.exit(f"{module}: {text.count('#[unsafe(no_mangle)]')} exports, of which {len(these)} are understood; each needs a comment")
         found += [Export(module, *this) for this in these]
     return found
 
@@ -122,9 +122,9 @@ def refusals():
     """The numbers that specs/Refusals.antt lists for each export that can refuse."""
     found = {}
     for field in re.split(r"\n  pub ", (CAPI / "specs/Refusals.antt").read_text()):
-        listed = re.match(r"(pw-[\w-]+) :.*?\b(?:Gives\w*|Appends|Combines|Counts) (?:\(([\d ∷]+)\[\]\)|\[\])", field, re.S)
+        listed = re.match(r"(pw_\w+) :.*?\b(?:Gives\w*|Appends|Combines|Counts) (?:\(([\d ∷]+)\[\]\)|\[\])", field, re.S)
         if listed:
-            found[listed[1].replace("-", "_")] = re.findall(r"\d+", listed[2] or "")
+            found[listed[1]] = re.findall(r"\d+", listed[2] or "")
     return found
 
 

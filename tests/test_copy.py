@@ -2,22 +2,21 @@
 """Runs programs over an edited copy of the sources, unproved, and compares what they print with what is expected of the copy.
 
     python3 tests/test_copy.py [--expect FILE] [--stdin FILE] [--show] PROGRAM[,PROGRAM..] EDIT..
-    python3 tests/test_copy.py cases                          with no edit: is what is printed crates/cases/stdout?
+    python3 tests/test_copy.py replay                         with no edit: is what is printed crates/replay/stdout?
     python3 tests/test_copy.py cases,replay crates/*/must-fail/*.edit        a table: which edit is seen by which program
 
 An EDIT is a file in the form of the must-fail edits: `file: src/x.rt`, then pairs of `old:` and `new:` lines, each old text standing once in
 the file. A `file:` of an edit below crates/NAME is of that crate; elsewhere it is written from the repository on (`file: crates/masks/src/x.rt`).
 Several edits are tried one by one, each in a fresh copy; `A.edit+B.edit` applies two together. An edit that touches no file of src/ is left out.
 
-A copy has the sources alone. The program is compiled as `rt try` compiles it, but at -O1, with no proof, and run on its file `stdin` (or FILE):
-the interpreter, with its limit of ten million steps, is not waited for. What it prints is compared with the file `stdout` of the repository
-(or --expect FILE, `-` for what the unedited sources print). --show prints the first differing lines.
+A copy has src/ and specs/ alone. `rt try --cases` compiles the program there with no proof, and with tests of what a proof would show (an
+index out of bounds, an overflow), and runs it on its file `stdin` (or FILE). What it prints is compared with the file `stdout` of the
+repository (or --expect FILE, `-` for what the unedited sources print). --show prints the first differing lines.
 
 The exit status is 0 if every program printed what is expected of every copy, 1 if one did not, 2 if an edit does not fit or does not compile.
 """
 
 import contextlib
-import os
 import pathlib
 import shutil
 import subprocess
@@ -26,14 +25,8 @@ import tempfile
 import time
 
 ROOT = pathlib.Path(__file__).resolve().parent.parent
-LIMIT = 300  # seconds that a program may run
-
-
-def kit():
-    """The folder of the Rattle kit, and of what was compiled for this machine."""
-    home = os.environ.get("RATTLE_HOME") or pathlib.Path(os.path.realpath(shutil.which("rt"))).parent.parent
-    home = pathlib.Path(home)
-    return home, home / "on" / os.uname().machine
+LIMIT = 600  # seconds that a program may run
+STEPS = 1  # of the interpreter, which is not waited for: it knows no call that reads input by parts
 
 
 def dependencies(root):
@@ -42,24 +35,19 @@ def dependencies(root):
         line = line.split("#")[0]
         if ":" in line:
             name, deps = line.split(":")
-            table[name.strip()] = deps.split()
+            table[name.split()[0]] = deps.split()
     return table
 
 
 def reached(root, program):
-    """The libraries that a program uses, directly or through others."""
-    home, _ = kit()
+    """The crates of the repository that a program uses, directly or through others, and itself."""
     table = dependencies(root)
-    for line in (home / "libs" / "libs.txt").read_text().splitlines():
-        if ":" in line:
-            name, deps = line.split(":")
-            table.setdefault(name.strip(), deps.split())
-    found, todo = [], list(table[program])
+    found, todo = [], [program]
     while todo:
         name = todo.pop(0)
-        if name not in found:
+        if name in table and name not in found:
             found.append(name)
-            todo += table.get(name, [])
+            todo += table[name]
     return found
 
 
@@ -96,65 +84,57 @@ def apply(copy, edits):
             path.write_text(text.replace(old, new))
 
 
-def toolchain(folder, program):
-    """The kit's tools behind scripts: the first module is compiled at -O1 and what is linked is kept; then nothing more is compiled."""
-    _, own = kit()
-    tools = own / "toolchain"
-    (folder / "bin").mkdir(parents=True)
-    os.symlink(tools / "lib", folder / "lib")
-    os.symlink(tools / "bin" / "llvm-ar", folder / "bin" / "llvm-ar")
-    clang = f'[ -e "{program}" ] && exit 1\nexec "{tools}/bin/clang" "${{@/#-O0/-O1}}"\n'
-    link = f'"{tools}/bin/ld.lld" "$@" || exit $?\ncp program "{program}"\n'
-    for name, text in ("clang", clang), ("ld.lld", link):
-        path = folder / "bin" / name
-        path.write_text("#!/bin/bash\n" + text)
-        path.chmod(0o755)
+def lay_out(copy, name):
+    """Copies the program and the crates below it, listed in a crates.txt of the copy's own."""
+    wanted = reached(ROOT, name)
+    lines = (ROOT / "crates.txt").read_text().splitlines()
+    listed = [line for line in lines if ":" in line.split("#")[0] and line.split(":")[0].split()[0] in wanted]
+    (copy / "crates.txt").write_text("\n".join(listed) + "\n")
+    for crate in wanted:
+        for part in ("src", "specs"):
+            if (ROOT / "crates" / crate / part).is_dir():
+                shutil.copytree(ROOT / "crates" / crate / part, copy / "crates" / crate / part)
 
 
-def compile_program(copy, name):
-    home, own = kit()
-    work = pathlib.Path(tempfile.mkdtemp(dir=copy))
-    program = work / name
-    toolchain(work / "tools", program)
-    words = [own / "bin" / "rattle-cases", "--toolchain", work / "tools", copy / "crates" / name / "src" / "main.rt", "--crate-name", name]
-    libraries = {"std": home / "libs" / "std"}
-    for library in reached(copy, name):
-        own_crate = copy / "crates" / library
-        libraries[library] = own_crate if own_crate.is_dir() else home / "libs" / library
-    for library, folder in libraries.items():
-        words += ["--lib", f"{library}={folder}/src/lib.rt"]
-    said = subprocess.run(words, capture_output=True, text=True, stdin=subprocess.DEVNULL, check=False)
-    if not program.exists():
-        raise Unfit(f"{name} does not compile:\n{(said.stdout + said.stderr)[:2000]}")
-    return program
-
-
-def printed(program, stdin):
-    with open(stdin if stdin.exists() else os.devnull, "rb") as given:
-        try:
-            run = subprocess.run([program], stdin=given, capture_output=True, timeout=LIMIT, check=False)
-        except subprocess.TimeoutExpired:
-            return b"it did not end\n"
-    return run.stdout + (b"" if run.returncode == 0 else f"it ended with status {run.returncode}\n".encode())
+def outputs(said, stdins):
+    """What the program printed on each input, from what `rt try --cases` says."""
+    found = {}
+    for stdin in stdins:
+        _, mark, rest = said.partition(f"== {stdin.stem}\n".encode())
+        text, mark, end = rest.partition(f"case={stdin.stem} ".encode())
+        if not mark:
+            raise Unfit(f"rt try says nothing of {stdin.stem}:\n{said.decode(errors='replace')[-2000:]}")
+        verdict = end.split(b"\n")[0].decode()
+        found[stdin] = text if " run=ended status=0 " in f" {verdict} " else text + f"it did not end well: {verdict}\n".encode()
+    return found
 
 
 @contextlib.contextmanager
-def compiled(edits, name):
-    """The program, compiled from a copy with these edits."""
+def made_copy(edits, name):
+    """A copy of the sources with these edits."""
     with tempfile.TemporaryDirectory(prefix="test-copy-") as folder:
         copy = pathlib.Path(folder)
-        shutil.copy(ROOT / "crates.txt", copy)
-        for crate in [name, *reached(ROOT, name)]:
-            if (ROOT / "crates" / crate).is_dir():
-                shutil.copytree(ROOT / "crates" / crate / "src", copy / "crates" / crate / "src")
+        lay_out(copy, name)
         apply(copy, edits)
-        yield compile_program(copy, name)
+        yield copy
 
 
-def made(edits, name, stdin):
-    """What the program prints over a copy with these edits."""
-    with compiled(edits, name) as program:
-        return printed(program, stdin)
+def printed(edits, name, stdins):
+    """What the program prints over a copy with these edits, on each of these inputs."""
+    with made_copy(edits, name) as copy:
+        cases = copy / "cases"
+        cases.mkdir()
+        for stdin in stdins:
+            if stdin.exists():
+                shutil.copy(stdin, cases / stdin.stem)
+            else:
+                (cases / stdin.stem).touch()
+        words = ["rt", "try", "--steps", str(STEPS), "--seconds", str(LIMIT), "--cases", str(cases)]
+        how = {"stdin": subprocess.DEVNULL, "stdout": subprocess.PIPE, "stderr": subprocess.STDOUT}
+        ran = subprocess.run(words, cwd=copy / "crates" / name, check=False, **how)
+        if b"\ncases=" not in b"\n" + ran.stdout:
+            raise Unfit(f"{name} does not compile:\n{ran.stdout.decode(errors='replace')[:2000]}")
+        return outputs(ran.stdout, stdins)
 
 
 def difference(expected, got):
@@ -186,10 +166,10 @@ def main():
             begun = time.time()
             try:
                 if chosen["--expect"] == "-":
-                    expected = made([], name, stdin)
+                    expected = printed([], name, [stdin])[stdin]
                 else:
                     expected = pathlib.Path(chosen["--expect"] or ROOT / "crates" / name / "stdout").read_bytes()
-                got = made(edit, name, stdin)
+                got = printed(edit, name, [stdin])[stdin]
             except Unfit as unfit:
                 print(f"{label} | {name} | {unfit}")
                 status = 2

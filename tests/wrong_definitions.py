@@ -103,15 +103,25 @@ def kind(code):
     return re.sub(r"\s+", " ", found[1]) if found else ""
 
 
+def imported(item):
+    """The names that a `use` item brings, each with an item that brings it alone."""
+    head, names = re.fullmatch(r"(.*?)(?:\{(.*)\})?\s*;", item, re.S).groups()
+    for name in names.split(",") if names is not None else [""]:
+        path = " ".join(f"{head}{name}".split())
+        if path and not path.endswith("::"):
+            yield re.search(r"(\w+)$", path)[1], path + ";"
+
+
 def types_only(text):
     """A source file's modules, structs, enums, type names and constants, and the imports that these need."""
+    text = re.sub(r"(?m)^#!\[[^\n]*\]\n", "", text)
     code, kept, imports = blank(text), [], []
     for start, end in items(code, 0, len(code)):
         what = kind(code[start:end])
         if what in ("mod", "struct", "enum", "type", "const"):
             kept.append(text[start:end])
         elif what == "use":
-            imports.append(text[start:end])
+            imports += imported(text[start:end])
         elif what == "impl":
             inner = code.index("{", start)
             consts = [text[a:b] for a, b in items(code, inner + 1, end - 1) if kind(code[a:b]) == "const"]
@@ -119,7 +129,7 @@ def types_only(text):
                 kept.append(text[start:inner] + "{\n" + "\n".join(consts) + "\n}")
     body = "\n\n".join(kept)
     plain = blank(body)
-    needed = [line for line in imports if any(re.search(rf"\b{name}\b", plain) for name in re.findall(r"(\w+)\s*[,};]", line))]
+    needed = [line for name, line in imports if re.search(rf"\b{name}\b", plain)]
     return "\n".join(needed + [body]) + "\n"
 
 
@@ -129,7 +139,7 @@ def types_only(text):
 def read_crates(root):
     """For each crate of crates.txt, the libraries that it names."""
     lines = (line.split("#")[0].partition(":") for line in (root / "crates.txt").read_text(encoding="utf-8").split("\n"))
-    return {name.strip(): rest.split() for name, colon, rest in lines if colon}
+    return {name.split()[0]: rest.split() for name, colon, rest in lines if colon}
 
 
 def below(crates, names):
@@ -204,9 +214,8 @@ def entries(root, crates):
 
 
 def toolchain():
-    home = os.environ.get("RATTLE_HOME") or os.path.dirname(os.path.dirname(os.path.realpath(shutil.which("rt") or fail("no rt"))))
-    own = os.path.join(home, "on", os.uname().machine)
-    return home, own if os.path.isdir(own) else home
+    """The folder of the Rattle kit."""
+    return pathlib.Path(os.path.realpath(shutil.which("rt") or fail("no rt"))).parent.parent
 
 
 class Refusal:
@@ -216,7 +225,7 @@ class Refusal:
         self.crate, self.part, self.file = crate, part, file
         named = re.match(r"`([^`]+)`", text)
         self.declaration = named[1] if named else ""
-        self.blocked = bool(re.search(r"was not admitted|could not be (?:loaded|checked)|has errors", text.split("\n")[0]))
+        self.blocked = bool(re.search(r"was not (?:admitted|checked)|could not be (?:loaded|checked)|has errors", text.split("\n")[0]))
 
     def where(self):
         return f"{self.crate}/{self.part}/{self.file}.antt" + (f" `{self.declaration}`" if self.declaration else "")
@@ -252,7 +261,8 @@ class Trial:
             if not path.is_file():
                 fail(f"there is no {path}")
             found.add((crate, name))
-            waiting += re.findall(r"Rattle·(\w+?)(?:·proofs)?\.proofs\.([A-Z]\w*)\b", path.read_text(encoding="utf-8"))
+            used = re.findall(r"\bRattle\.(\w+)\.proofs\.([A-Z]\w*)\b", path.read_text(encoding="utf-8"))
+            waiting += [(other, name) for other, name in used if other in self.crates]
         return found
 
     def lay_out(self, folder, names, files):
@@ -277,14 +287,14 @@ class Trial:
 
     def check(self, folder, names, kept):
         """Runs the checker on a copy. Returns its status and what it said."""
-        home, own = toolchain()
-        words = [f"{own}/bin/rattle", "check", "--crate-name", "top", "top/src/lib.rt", "--extern", f"std={own}/rlib/std.rlib"]
+        kit = toolchain()
+        words = [f"{kit}/bin/rattle", "check", "--crate-name", "top", "top/src/lib.rt"]
         for crate in names:
-            words += ["--lib", f"{crate}:{','.join(self.crates[crate])}={crate}/src/lib.rt"]
-        for name in sorted({other for crate in names for other in self.crates[crate] if other not in self.crates}):
-            words += ["--extern", f"{name}={own}/rlib/{name}.rlib"]
-        words += ["-L", f"dependency={own}/rlib", "--antt-project", f"{home}/logic/antt-project.json"]
-        words += ["--logic-built", f"{own}/logic-built", "--incremental", str(kept)]
+            words += ["--lib", f"{crate}:{','.join(['core', 'std', *self.crates[crate]])}={crate}/src/lib.rt"]
+        for name in sorted({"core", "std", *(other for crate in names for other in self.crates[crate] if other not in self.crates)}):
+            words += ["--extern", f"{name}={kit}/rlibs/{name}.rlib"]
+        words += ["-L", f"dependency={kit}/rlibs", "--antt-project", f"{kit}/rattle/logic/antt-project.json"]
+        words += ["--logic-built", f"{kit}/logic_built", "--incremental", str(kept)]
         done = subprocess.run(words, cwd=folder, stdin=subprocess.DEVNULL, stdout=subprocess.PIPE, stderr=subprocess.STDOUT)
         return done.returncode, done.stdout.decode("utf-8", "replace")
 
