@@ -5,7 +5,7 @@
 // numbers.
 #![tactic(auto)]
 
-mod answers;
+pub mod answers;
 pub mod at_index;
 pub mod builder;
 pub mod chunks;
@@ -16,7 +16,7 @@ pub mod mask;
 pub mod next_and_not;
 pub mod offer;
 pub mod reassign;
-mod records;
+pub mod records;
 pub mod search;
 pub mod spans;
 pub mod superseding;

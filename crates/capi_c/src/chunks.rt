@@ -1,0 +1,50 @@
+// Exported to C and Rust: the words of a span, and the flags behind the last whole one.
+ghost use Rattle.std.specs.Prelude.{◌≡◌};
+ghost use Rattle.masks.specs.Chunks.{chunks_at, chunks_remainder, new_chunks, next_chunk};
+ghost use Rattle.capi.specs.Answers.{as_cursor, as_remainder, as_word};
+ghost use Rattle.capi.specs.Records.{chunks_out, chunks_place};
+
+use capi::answers::{CursorAnswer, StepAnswer};
+
+// Returns a cursor at the first word of a span.
+#[unsafe(no_mangle)]
+pub extern "C" fn pw_chunks_new(bytes: &[u8], start: usize, length: usize) -> CursorAnswer
+    ensures { result ≡ as_cursor chunks_out (new_chunks bytes.now start length) }
+{
+    capi::chunks::pw_chunks_new(bytes, start, length)
+}
+
+// A cursor at the first word of the first `length` flags of the bytes.
+#[unsafe(no_mangle)]
+pub extern "C" fn pw_chunks_new_exact(bytes: &[u8], length: usize) -> CursorAnswer
+    ensures { result ≡ as_cursor chunks_out (new_chunks bytes.now 0 length) }
+{
+    capi::chunks::pw_chunks_new_exact(bytes, length)
+}
+
+// The next word in `value`; none from word length div 64 on, where the cursor stays.
+#[unsafe(no_mangle)]
+pub extern "C" fn pw_chunks_next(
+    start: usize,
+    length: usize,
+    place: usize,
+    bytes: &[u8],
+) -> StepAnswer
+    ensures { result ≡ as_word chunks_place (next_chunk (chunks_at start length place) bytes.now) }
+{
+    capi::chunks::pw_chunks_next(start, length, place, bytes)
+}
+
+// The last length mod 64 flags as a word in `value`, and their number in `count`, wherever the cursor stands. The cursor stays
+// there: its place is given as it came.
+#[unsafe(no_mangle)]
+pub extern "C" fn pw_chunks_remainder(
+    start: usize,
+    length: usize,
+    place: usize,
+    bytes: &[u8],
+) -> StepAnswer
+    ensures { result ≡ as_remainder place (chunks_remainder (chunks_at start length place) bytes.now) }
+{
+    capi::chunks::pw_chunks_remainder(start, length, place, bytes)
+}

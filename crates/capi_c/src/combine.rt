@@ -1,0 +1,137 @@
+// Exported to C and Rust: the combinations. Each writes frozen bytes over the front of `out` and gives the mask over them.
+ghost use Rattle.std.specs.Prelude.{◌≡◌};
+ghost use Rattle.masks.specs.Combine.{And, AndNot, Or, OrNot, Xor, pair_bytes, pair_of, not_bytes, not_of, select_bytes, select_constant_bytes, select_constant_of, select_of};
+ghost use Rattle.capi.specs.Answers.{as_mask};
+ghost use Rattle.capi.specs.Records.{mask_in};
+
+use capi::answers::MaskAnswer;
+use capi::records::Mask;
+
+// The flags that are set in both masks.
+#[unsafe(no_mangle)]
+pub extern "C" fn pw_and(
+    lhs: Mask,
+    left: &[u8],
+    rhs: Mask,
+    right: &[u8],
+    out: &mut [u8],
+) -> MaskAnswer
+    ensures answer { result ≡
+        as_mask (pair_of And (mask_in lhs) left.now (mask_in rhs) right.now out.old) }
+    ensures bytes { out.new ≡
+        pair_bytes And (mask_in lhs) left.now (mask_in rhs) right.now out.old }
+{
+    capi::combine::pw_and(lhs, left, rhs, right, out)
+}
+
+// The flags that are set in the first mask and not in the second.
+#[unsafe(no_mangle)]
+pub extern "C" fn pw_and_not(
+    lhs: Mask,
+    left: &[u8],
+    rhs: Mask,
+    right: &[u8],
+    out: &mut [u8],
+) -> MaskAnswer
+    ensures answer { result ≡
+        as_mask (pair_of AndNot (mask_in lhs) left.now (mask_in rhs) right.now out.old) }
+    ensures bytes { out.new ≡
+        pair_bytes AndNot (mask_in lhs) left.now (mask_in rhs) right.now out.old }
+{
+    capi::combine::pw_and_not(lhs, left, rhs, right, out)
+}
+
+// The flags that are set in either mask.
+#[unsafe(no_mangle)]
+pub extern "C" fn pw_or(
+    lhs: Mask,
+    left: &[u8],
+    rhs: Mask,
+    right: &[u8],
+    out: &mut [u8],
+) -> MaskAnswer
+    ensures answer { result ≡
+        as_mask (pair_of Or (mask_in lhs) left.now (mask_in rhs) right.now out.old) }
+    ensures bytes { out.new ≡
+        pair_bytes Or (mask_in lhs) left.now (mask_in rhs) right.now out.old }
+{
+    capi::combine::pw_or(lhs, left, rhs, right, out)
+}
+
+// The flags that are set in the first mask or not in the second.
+#[unsafe(no_mangle)]
+pub extern "C" fn pw_or_not(
+    lhs: Mask,
+    left: &[u8],
+    rhs: Mask,
+    right: &[u8],
+    out: &mut [u8],
+) -> MaskAnswer
+    ensures answer { result ≡
+        as_mask (pair_of OrNot (mask_in lhs) left.now (mask_in rhs) right.now out.old) }
+    ensures bytes { out.new ≡
+        pair_bytes OrNot (mask_in lhs) left.now (mask_in rhs) right.now out.old }
+{
+    capi::combine::pw_or_not(lhs, left, rhs, right, out)
+}
+
+// The flags in which the masks differ.
+#[unsafe(no_mangle)]
+pub extern "C" fn pw_xor(
+    lhs: Mask,
+    left: &[u8],
+    rhs: Mask,
+    right: &[u8],
+    out: &mut [u8],
+) -> MaskAnswer
+    ensures answer { result ≡
+        as_mask (pair_of Xor (mask_in lhs) left.now (mask_in rhs) right.now out.old) }
+    ensures bytes { out.new ≡
+        pair_bytes Xor (mask_in lhs) left.now (mask_in rhs) right.now out.old }
+{
+    capi::combine::pw_xor(lhs, left, rhs, right, out)
+}
+
+// Each flag inverted.
+#[unsafe(no_mangle)]
+pub extern "C" fn pw_not(mask: Mask, bytes: &[u8], out: &mut [u8]) -> MaskAnswer
+    ensures answer { result ≡ as_mask (not_of (mask_in mask) bytes.now out.old) }
+    ensures bytes { out.new ≡ not_bytes (mask_in mask) bytes.now out.old }
+{
+    capi::combine::pw_not(mask, bytes, out)
+}
+
+// The flag of `truthy` where the selector's is set, else that of `falsy`.
+#[unsafe(no_mangle)]
+pub extern "C" fn pw_select(
+    selector: Mask,
+    by: &[u8],
+    truthy: Mask,
+    yes: &[u8],
+    falsy: Mask,
+    no: &[u8],
+    out: &mut [u8],
+) -> MaskAnswer
+    ensures answer { result ≡
+        as_mask (select_of (mask_in selector) by.now (mask_in truthy) yes.now (mask_in falsy) no.now out.old) }
+    ensures bytes { out.new ≡
+        select_bytes (mask_in selector) by.now (mask_in truthy) yes.now (mask_in falsy) no.now out.old }
+{
+    capi::combine::pw_select(selector, by, truthy, yes, falsy, no, out)
+}
+
+// The flag of `truthy` where the selector's is set, else `flag`.
+#[unsafe(no_mangle)]
+pub extern "C" fn pw_select_constant(
+    selector: Mask,
+    by: &[u8],
+    truthy: Mask,
+    yes: &[u8],
+    flag: bool,
+    out: &mut [u8],
+) -> MaskAnswer
+    ensures answer { result ≡ as_mask (select_constant_of (mask_in selector) by.now (mask_in truthy) yes.now flag out.old) }
+    ensures bytes { out.new ≡ select_constant_bytes (mask_in selector) by.now (mask_in truthy) yes.now flag out.old }
+{
+    capi::combine::pw_select_constant(selector, by, truthy, yes, flag, out)
+}

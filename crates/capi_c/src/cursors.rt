@@ -1,0 +1,141 @@
+// Exported to C and Rust: the cursors over runs, flags and positions. A step that finds nothing gives the length as the place.
+ghost use Rattle.std.specs.Prelude.{◌≡◌, true, false, length as ListN·length};
+ghost use Rattle.masks.specs.Iterator.{iter_at, new_iter, nth_flag, take_leading};
+ghost use Rattle.masks.specs.Positions.{positions_over, next_positions};
+ghost use Rattle.masks.specs.SliceIterator.{new_slices, next_slice, slices_at};
+ghost use Rattle.masks.specs.TrueIdx.{new_true, next_true};
+ghost use Rattle.capi.specs.Answers.{as_bit, as_cursor, as_run, as_taken, as_word};
+ghost use Rattle.capi.specs.Records.{iter_out, iter_place, mask_in, optional_in, slices_out, slices_place, true_in, true_out, true_place};
+
+use capi::answers::{CursorAnswer, StepAnswer};
+use capi::records::Mask;
+
+// A cursor before the first run of ones of a mask.
+#[unsafe(no_mangle)]
+pub extern "C" fn pw_slices_new(mask: Mask, bytes: &[u8]) -> CursorAnswer
+    ensures { result ≡ as_cursor slices_out (new_slices (mask_in mask) bytes.now) }
+{
+    capi::cursors::pw_slices_new(mask, bytes)
+}
+
+// The next run of ones, its start in `value` and its length in `count`.
+#[unsafe(no_mangle)]
+pub extern "C" fn pw_slices_next(
+    start: usize,
+    length: usize,
+    place: usize,
+    bytes: &[u8],
+) -> StepAnswer
+    ensures { result ≡ as_run slices_place (next_slice (slices_at start length place) bytes.now) }
+{
+    capi::cursors::pw_slices_next(start, length, place, bytes)
+}
+
+// A cursor before the first flag of a span. With length 0 its start, length and place are 0, before any test.
+#[unsafe(no_mangle)]
+pub extern "C" fn pw_iter_new(bytes: &[u8], start: usize, length: usize) -> CursorAnswer
+    ensures { result ≡ as_cursor iter_out (new_iter bytes.now start length) }
+{
+    capi::cursors::pw_iter_new(bytes, start, length)
+}
+
+// The next flag, 0 or 1 in `value`.
+#[unsafe(no_mangle)]
+pub extern "C" fn pw_iter_next(
+    start: usize,
+    length: usize,
+    place: usize,
+    bytes: &[u8],
+) -> StepAnswer
+    ensures { result ≡ as_bit iter_place (nth_flag (iter_at start length place) bytes.now 0) }
+{
+    capi::cursors::pw_iter_next(start, length, place, bytes)
+}
+
+// The flag that stands `n` behind the next one, 0 or 1 in `value`.
+#[unsafe(no_mangle)]
+pub extern "C" fn pw_iter_nth(
+    start: usize,
+    length: usize,
+    place: usize,
+    bytes: &[u8],
+    n: usize,
+) -> StepAnswer
+    ensures { result ≡ as_bit iter_place (nth_flag (iter_at start length place) bytes.now n) }
+{
+    capi::cursors::pw_iter_nth(start, length, place, bytes, n)
+}
+
+// How many ones stand next, in `count`; the cursor moves past them.
+#[unsafe(no_mangle)]
+pub extern "C" fn pw_take_leading_ones(
+    start: usize,
+    length: usize,
+    place: usize,
+    bytes: &[u8],
+) -> StepAnswer
+    ensures { result ≡ as_taken iter_place (take_leading true (iter_at start length place) bytes.now) }
+{
+    capi::cursors::pw_take_leading_ones(start, length, place, bytes)
+}
+
+// How many zeros stand next, in `count`; the cursor moves past them.
+#[unsafe(no_mangle)]
+pub extern "C" fn pw_take_leading_zeros(
+    start: usize,
+    length: usize,
+    place: usize,
+    bytes: &[u8],
+) -> StepAnswer
+    ensures { result ≡ as_taken iter_place (take_leading false (iter_at start length place) bytes.now) }
+{
+    capi::cursors::pw_take_leading_zeros(start, length, place, bytes)
+}
+
+// A cursor before the first position of a one in a mask of `length` flags. Where not `present` there is no mask: record and bytes
+// are not read, every position is given, as in Arrow, and 1 is the only refusal. For pw_may_reassign no permission mask means no truck.
+#[unsafe(no_mangle)]
+pub extern "C" fn pw_true_idx_new(
+    length: usize,
+    present: bool,
+    mask: Mask,
+    bytes: &[u8],
+) -> CursorAnswer
+    ensures { result ≡ as_cursor true_out (new_true length (optional_in present mask) bytes.now) }
+{
+    capi::cursors::pw_true_idx_new(length, present, mask, bytes)
+}
+
+// The next position of a one, in `value`. Without a mask 2 does not come.
+#[unsafe(no_mangle)]
+pub extern "C" fn pw_true_idx_next(
+    start: usize,
+    length: usize,
+    place: usize,
+    masked: u8,
+    bytes: &[u8],
+) -> StepAnswer
+    ensures { result ≡ as_word true_place (next_true (true_in start length place masked) bytes.now) }
+{
+    capi::cursors::pw_true_idx_next(start, length, place, masked, bytes)
+}
+
+// The next positions of ones, as many as there are and `out` has room for, over its front, and their number in `count`: what as
+// many calls of pw_true_idx_next give. The place is just past the last of them, where there was room for more the length; with no
+// room the cursor stays. `found` is true. Without a mask 2 does not come.
+#[unsafe(no_mangle)]
+pub extern "C" fn pw_true_idx_next_chunk(
+    start: usize,
+    length: usize,
+    place: usize,
+    masked: u8,
+    bytes: &[u8],
+    out: &mut [u32],
+) -> StepAnswer
+    ensures answer { result ≡
+        as_taken true_place (next_positions (true_in start length place masked) bytes.now (ListN·length out.old)) }
+    ensures positions { out.new ≡
+        positions_over (true_in start length place masked) bytes.now out.old }
+{
+    capi::cursors::pw_true_idx_next_chunk(start, length, place, masked, bytes, out)
+}

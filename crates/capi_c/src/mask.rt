@@ -1,0 +1,79 @@
+// Exported to C and Rust: the calls that make a mask, cut it, count it and compare it.
+ghost use Rattle.std.specs.Prelude.{◌≡◌};
+ghost use Rattle.masks.specs.Compare.{common_of, edges_of, eq_of};
+ghost use Rattle.masks.specs.Mask.{empty_mask, new_zeroed_bytes, new_zeroed_of, slice_of, try_new_of, unset_bits_of};
+ghost use Rattle.capi.specs.Answers.{as_flag, as_mask, as_number, as_same_mask, as_zeros};
+ghost use Rattle.capi.specs.Records.{mask_in, mask_out};
+
+use capi::answers::{Flag, MaskAnswer, Number, ZerosAnswer};
+use capi::records::Mask;
+
+// Returns the empty mask.
+#[unsafe(no_mangle)]
+pub extern "C" fn pw_bitmap_new() -> Mask
+    ensures { result ≡ mask_out empty_mask }
+{
+    capi::mask::pw_bitmap_new()
+}
+
+// A mask of `length` zeros, whose frozen bytes are written over the front of `out`.
+#[unsafe(no_mangle)]
+pub extern "C" fn pw_new_zeroed(length: usize, out: &mut [u8]) -> MaskAnswer
+    ensures answer { result ≡ as_mask (new_zeroed_of length out.old) }
+    ensures bytes { out.new ≡ new_zeroed_bytes length out.old }
+{
+    capi::mask::pw_new_zeroed(length, out)
+}
+
+// The mask of a span, its zeros not counted.
+#[unsafe(no_mangle)]
+pub extern "C" fn pw_try_new(bytes: &[u8], start: usize, length: usize) -> MaskAnswer
+    ensures { result ≡ as_mask (try_new_of bytes.now start length) }
+{
+    capi::mask::pw_try_new(bytes, start, length)
+}
+
+// The piece of `length` flags from flag `offset` on.
+#[unsafe(no_mangle)]
+pub extern "C" fn pw_slice(mask: Mask, bytes: &[u8], offset: usize, length: usize) -> MaskAnswer
+    ensures { result ≡ as_same_mask mask (slice_of (mask_in mask) bytes.now offset length) }
+{
+    capi::mask::pw_slice(mask, bytes, offset, length)
+}
+
+// Returns the number of zeros, and the mask with that count stored.
+#[unsafe(no_mangle)]
+pub extern "C" fn pw_unset_bits(mask: Mask, bytes: &[u8]) -> ZerosAnswer
+    ensures { result ≡ as_zeros mask (unset_bits_of (mask_in mask) bytes.now) }
+{
+    capi::mask::pw_unset_bits(mask, bytes)
+}
+
+// Whether lengths and flags are equal.
+#[unsafe(no_mangle)]
+pub extern "C" fn pw_eq(lhs: Mask, left: &[u8], rhs: Mask, right: &[u8]) -> Flag
+    ensures { result ≡ as_flag (eq_of (mask_in lhs) left.now (mask_in rhs) right.now) }
+{
+    capi::mask::pw_eq(lhs, left, rhs, right)
+}
+
+// How many flags differ from the next one.
+#[unsafe(no_mangle)]
+pub extern "C" fn pw_num_edges(mask: Mask, bytes: &[u8]) -> Number
+    ensures { result ≡ as_number (edges_of (mask_in mask) bytes.now) }
+{
+    capi::mask::pw_num_edges(mask, bytes)
+}
+
+// How many flags are set in both masks.
+#[unsafe(no_mangle)]
+pub extern "C" fn pw_num_intersections_with(
+    lhs: Mask,
+    left: &[u8],
+    rhs: Mask,
+    right: &[u8],
+) -> Number
+    ensures { result ≡ as_number (common_of (mask_in lhs) left.now (mask_in rhs) right.now) }
+{
+    capi::mask::pw_num_intersections_with(lhs, left, rhs, right)
+}

@@ -1,0 +1,34 @@
+// Exported to C and Rust: the search for a flag that is set in one mask and not in another.
+ghost use Rattle.std.specs.Prelude.{◌≡◌};
+ghost use Rattle.masks.specs.NextAndNot.{next_and_not_of};
+ghost use Rattle.capi.specs.Answers.{as_next};
+ghost use Rattle.capi.specs.Records.{mask_in, optional_in};
+
+use capi::answers::NextAnswer;
+use capi::records::Mask;
+
+// The first position at or after `from` that is set in the first mask and not in the second, and if there is none the first from 0 on.
+// Where not `second_present` there is no second mask, which takes nothing away: record and bytes are then not read, and 5 does not come.
+// `windows` counts windows of 32 flags that begin at `from` and every 32 flags on below the length, then at 0 and every 32 flags on below
+// `from`, up to the one that holds the position, or all of them. A `from` at the length is allowed, above it 6.
+#[unsafe(no_mangle)]
+pub extern "C" fn pw_next_and_not(
+    first: Mask,
+    first_bytes: &[u8],
+    second_present: bool,
+    second: Mask,
+    second_bytes: &[u8],
+    from: usize,
+) -> NextAnswer
+    ensures { result ≡
+        as_next (next_and_not_of (mask_in first) first_bytes.now (optional_in second_present second) second_bytes.now from) }
+{
+    capi::next_and_not::pw_next_and_not(
+        first,
+        first_bytes,
+        second_present,
+        second,
+        second_bytes,
+        from,
+    )
+}

@@ -1,0 +1,41 @@
+// Exported to C and Rust: the calls of words. Nothing is refused.
+ghost use Rattle.std.specs.Prelude.{◌≡◌};
+ghost use Rattle.words.specs.Flags.{bits, flags_of, window, word_flags};
+ghost use Rattle.words.specs.Merge.{merged};
+ghost use Rattle.words.specs.Nth.{nth_one};
+ghost use Rattle.capi.specs.Answers.{as_nth};
+
+use capi::answers::NthAnswer;
+
+// Loads the first eight bytes as a little-endian word, padding a shorter slice with zeros.
+#[unsafe(no_mangle)]
+pub extern "C" fn pw_load_padded_le_u64(part: &[u8]) -> u64
+    ensures { word_flags result ≡ window (flags_of part.now) 0 64 }
+{
+    capi::word::pw_load_padded_le_u64(part)
+}
+
+// Returns 64 flags: those of `current` starting at `offset`, then the low flags of `next`. An offset of 0, or of 64 or more, returns
+// `current`.
+#[unsafe(no_mangle)]
+pub extern "C" fn pw_merge_reversed(current: u64, next: u64, offset: usize) -> u64
+    ensures { word_flags result ≡ merged (word_flags current) (word_flags next) offset }
+{
+    capi::word::pw_merge_reversed(current, next, offset)
+}
+
+// The position of set bit n of a word, counted from 0; where at most n are set, how many are.
+#[unsafe(no_mangle)]
+pub extern "C" fn pw_nth_set_bit_u64(w: u64, n: u64) -> NthAnswer
+    ensures { result ≡ as_nth (nth_one (bits 64 w) n) }
+{
+    capi::word::pw_nth_set_bit_u64(w, n)
+}
+
+// The position of set bit n of a word of 32 bits, counted from 0; where at most n are set, how many are.
+#[unsafe(no_mangle)]
+pub extern "C" fn pw_nth_set_bit_u32(w: u32, n: u32) -> NthAnswer
+    ensures { result ≡ as_nth (nth_one (bits 32 w) n) }
+{
+    capi::word::pw_nth_set_bit_u32(w, n)
+}
