@@ -62,7 +62,7 @@ def thin(module):
     types = [(m.replace("crate", "capi", 1), n) for m, n in brought(text, "use") if m.startswith("crate::")]
     ghost = lines("ghost use", ".", brought(text, "ghost use"), clauses)
     plain = lines("use", "::", types, heads)
-    parts = [text[: text.index("\n") + 1] if text.startswith("//") else "", "\n".join(ghost) + "\n\n" if ghost else "", "\n".join(plain) + "\n\n" if plain else ""]
+    parts = [re.match(r"(?://[^\n]*\n)*", text)[0], "\n".join(ghost) + "\n\n" if ghost else "", "\n".join(plain) + "\n\n" if plain else ""]
     for e in exports:
         arguments = re.findall(r"(\w+)\s*:\s*[^,)]+", e["head"][: e["head"].rindex(")") + 1].replace("; ", ""))
         parts.append(

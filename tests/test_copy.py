@@ -25,7 +25,7 @@ import tempfile
 import time
 
 ROOT = pathlib.Path(__file__).resolve().parent.parent
-LIMIT = 600  # seconds that a program may run
+LIMIT = 1200  # seconds that a program may run
 STEPS = 1  # of the interpreter, which is not waited for: it knows no call that reads input by parts
 
 

@@ -1,4 +1,5 @@
 // Exported to C and Rust: the builder. Each call appends to `buf` and gives the builder to go on with. Finished words are written
+// to the buffer, and nothing else of it; pw_freeze and pw_into_opt_validity write the frozen bytes over its front.
 ghost use Rattle.std.specs.Prelude.{◌≡◌};
 ghost use Rattle.masks.specs.Appends.{append_answer, append_bytes, extend_bitmap, extend_constant, extend_gather, extend_opt_gather, extend_repeated, extend_slice, push_flag, push_word};
 ghost use Rattle.masks.specs.Builder.{new_builder};
