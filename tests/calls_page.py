@@ -18,7 +18,7 @@ ROOT = os.path.dirname(os.path.dirname(os.path.abspath(__file__)))
 PAGE = os.path.join(ROOT, "docs", "CALLS.md")
 CRATES = ("words", "activity", "masks", "dispatch", "report")
 TOTAL = re.compile(r"[\d,]+(?= lines of definitions\s+and\s+contracts)")
-NAME = r"[^\W\d][\w'·-]*"
+NAME = r"[^\W\d][\w'-]*"
 SAID_IN = ("README.md", os.path.join("docs", "CALLS.md"), os.path.join("docs", "TRUST.md"))
 PLAIN = {"bit_at", "flag_at"}  # the sentence on Arrow's numbering, which the definitions of words/specs/Flags.antt are proved to say
 CALL = re.compile(r"^`([\w:]+)(?:\(.*\))?`$")
@@ -77,15 +77,24 @@ def cited(head):
     out = []
     for clause in promised(head):
         side = clause.split("≡", 1)[-1].strip()
-        out.append(re.sub(r"[«»]|\w+·|(?<=\w)\.(?:now|old)\b", "", side))
+        out.append(re.sub(r"[«»]|(?<=\w)\.(?:now|old)\b", "", side))
     return out
+
+
+def source(path):
+    """A source with no comments, where a name that is brought as another stands as it is defined."""
+    text = re.sub(r"//[^\n]*", "", read(path))
+    for line in re.findall(r"ghost use[^;]*;", text):
+        for name, other in re.findall(r"(\w+) as (\w+)", line):
+            text = re.sub(rf"\b{other}\b", name, text)
+    return text
 
 
 def functions(crate):
     """Name, arguments and definitions of each public function: methods with their type's name."""
     found = {}
     for path in sorted(glob.glob(os.path.join(ROOT, "crates", crate, "src", "*.rt"))):
-        text = re.sub(r"//[^\n]*", "", read(path))
+        text = source(path)
         owner = ""
         for match in re.finditer(r"(?m)^impl (\w+)|^(\})|\bpub fn (\w+)", text):
             if match[1]:
@@ -112,7 +121,7 @@ def clauses():
     """For each source file its text, and the names that the clauses of its public functions have."""
     for crate in CRATES:
         for path in glob.glob(os.path.join(ROOT, "crates", crate, "src", "*.rt")):
-            text = re.sub(r"//[^\n]*", "", read(path))
+            text = source(path)
             heads = [head_of(text, match.start(1)) for match in re.finditer(r"\bpub fn (\w+)", text)]
             yield text, set(re.findall(NAME, " ".join(clause for head in heads for clause in promised(head))))
 
@@ -144,7 +153,7 @@ def unreached(files):
         for name, text in parts(file).items():
             known.setdefault(name, []).append((file, text))
     for _, words in clauses():
-        waiting |= {word.split("·")[-1] for word in words}
+        waiting |= words
     while waiting:
         name = waiting.pop()
         if name in known and name not in found:

@@ -6,12 +6,13 @@ usage: python3 tools/respell.py [ROOT]     after port.py, once; ROOT is the top 
 Each row of respell.tsv has the old name, the new one and, where a name is meant in some files alone, the ends of their paths. Whole names turn,
 in definitions, lemmas, proofs, clauses, comments, edits and documents; a name with a dash turns in antt files, edits and code spans alone.
 A row with paths goes first, and leaves what a dot stands before. port.py has turned some names in crates/: their rows are for documents and
-edits. Functions of src/, exported names, strings, inputs and outputs keep their names."""
+edits. ALIASES are names under which clauses bring another. Functions of src/, exported names, strings, inputs and outputs keep their names."""
 import os
 import re
 import sys
 
 HERE = os.path.dirname(os.path.realpath(__file__))
+ALIASES = {"ListN·length": "list_length", "Checks·earlier": "earlier_of", "Checks·rank": "rank_of", "Mask·recounts": "recounts_of"}
 NAME = re.compile(r"(?<![\w'₀-₉-])[A-Za-z_](?:[\w'ℕℤ₀-₉]|-(?=[A-Za-z0-9_]))*")
 SPAN = re.compile(r"(`[^`\n]+`)")
 ANTT = (".antt", ".edit", ".txt")
@@ -43,6 +44,8 @@ def files(root):
 
 
 def respelled(path, text, everywhere, here):
+    for old, new in ALIASES.items():
+        text = text.replace(old, new)
     for old, new, paths in here:
         if path.endswith(paths):
             text = re.sub(rf"(?<![\w'.-]){re.escape(old)}(?![\w'-])", new, text)

@@ -1,5 +1,5 @@
 // Exported to C and Rust: the cursors over runs, flags and positions. A step that finds nothing gives the length as the place.
-ghost use Rattle.std.specs.Prelude.{◌≡◌, true, false, length as ListN·length};
+ghost use Rattle.std.specs.Prelude.{◌≡◌, true, false, length as list_length};
 ghost use Rattle.masks.specs.Iterator.{flag_answer, iter_answer, iter_at, new_iter, nth_flag, take_leading, taken_answer};
 ghost use Rattle.masks.specs.Positions.{positions_answer, positions_over, next_positions};
 ghost use Rattle.masks.specs.SliceIterator.{new_slices, next_slice, slice_answer, slices_answer, slices_at};
@@ -266,7 +266,7 @@ pub extern "C" fn pw_true_idx_next_chunk(
     out: &mut [u32],
 ) -> StepAnswer
     ensures answer { result ≡
-        as_taken true_place (next_positions (true_in start length place masked) bytes.now (ListN·length out.old)) }
+        as_taken true_place (next_positions (true_in start length place masked) bytes.now (list_length out.old)) }
     ensures positions { out.new ≡
         positions_over (true_in start length place masked) bytes.now out.old }
 {

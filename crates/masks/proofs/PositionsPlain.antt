@@ -12,7 +12,7 @@ use Rattle.masks.specs.TrueIdx.{true_moved}
 use Rattle.masks.specs.declared.true_idx.TrueIdxIter.{TrueIdxIter}
 use Rattle.masks.proofs.Listing.{an_item, the_end, behind-item, behind-end}
 use Rattle.masks.proofs.PositionLaws.{behind-many, behind-few, behind-none}
-use Rattle.masks.proofs.TrueIdxPlain.{NextOne, one-next, none-next, next_one, accepted, accepted-at, answer-of}
+use Rattle.masks.proofs.TrueIdxPlain.{NextOne, one-next, none-next, next_one, IsAccepted, accepted-at, answer-of}
 
 none-taken : (k : ℕ) → take {A = ℕ} k [] ≡ []
 none-taken zero = refl
@@ -27,11 +27,11 @@ unfolding after_calls
 same-cursor bytes c = refl
 
 -- The positions written are those that as many calls of `next` give.
-pub chunk-lists : (bytes : List ℕ) (k : ℕ) (c : TrueIdxIter) → accepted bytes c → take k (left_of c bytes) ≡ listing (answer-of bytes) k c
+pub chunk-lists : (bytes : List ℕ) (k : ℕ) (c : TrueIdxIter) → IsAccepted bytes c → take k (left_of c bytes) ≡ listing (answer-of bytes) k c
 chunk-lists bytes zero c ok = sym (no-calls bytes c)
-chunk-lists bytes (suc k) c ok = go (next_one bytes c ok) (λ (d : TrueIdxIter) (o : accepted bytes d). chunk-lists bytes k d o)
+chunk-lists bytes (suc k) c ok = go (next_one bytes c ok) (λ (d : TrueIdxIter) (o : IsAccepted bytes d). chunk-lists bytes k d o)
   where
-    go : NextOne bytes c → ((d : TrueIdxIter) → accepted bytes d → take k (left_of d bytes) ≡ listing (answer-of bytes) k d)
+    go : NextOne bytes c → ((d : TrueIdxIter) → IsAccepted bytes d → take k (left_of d bytes) ≡ listing (answer-of bytes) k d)
         → take (suc k) (left_of c bytes) ≡ listing (answer-of bytes) (suc k) c
     go (one-next p low high e o f) again =
         ap (take (suc k)) f ∙ ap (λ (t : List ℕ). p ∷ t) (again (true_moved c (p + 1)) o) ∙ sym (an_item (answer-of bytes) k c (true_moved c (p + 1)) p e)
@@ -47,11 +47,11 @@ one_more c d p left (suc k) e f = ⊎_elim
     (lt-or-le k (length left))
 
 -- a cursor at the length stays there
-at_the_end : (bytes : List ℕ) (k : ℕ) (c : TrueIdxIter) → accepted bytes c → c.place ≡ c.length → after_calls (answer-of bytes) k c ≡ c
+at_the_end : (bytes : List ℕ) (k : ℕ) (c : TrueIdxIter) → IsAccepted bytes c → c.place ≡ c.length → after_calls (answer-of bytes) k c ≡ c
 at_the_end bytes zero c ok e = same-cursor bytes c
-at_the_end bytes (suc k) c ok e = go (next_one bytes c ok) (λ (d : TrueIdxIter) (o : accepted bytes d) (f : d.place ≡ d.length). at_the_end bytes k d o f)
+at_the_end bytes (suc k) c ok e = go (next_one bytes c ok) (λ (d : TrueIdxIter) (o : IsAccepted bytes d) (f : d.place ≡ d.length). at_the_end bytes k d o f)
   where
-    go : NextOne bytes c → ((d : TrueIdxIter) → accepted bytes d → d.place ≡ d.length → after_calls (answer-of bytes) k d ≡ d)
+    go : NextOne bytes c → ((d : TrueIdxIter) → IsAccepted bytes d → d.place ≡ d.length → after_calls (answer-of bytes) k d ≡ d)
         → after_calls (answer-of bytes) (suc k) c ≡ c
     go (one-next p low high a o f) again = absurd (omega arith)
     go (none-next a f) again =
@@ -60,14 +60,14 @@ at_the_end bytes (suc k) c ok e = go (next_one bytes c ok) (λ (d : TrueIdxIter)
         ∙ again (true_moved c c.length) (accepted-at c (length bytes) c.length ok (omega arith)) refl ∙ same
 
 -- The cursor stands where as many calls of `next` leave it.
-pub chunk-leaves : (bytes : List ℕ) (k : ℕ) (c : TrueIdxIter) → accepted bytes c
+pub chunk-leaves : (bytes : List ℕ) (k : ℕ) (c : TrueIdxIter) → IsAccepted bytes c
     → true_moved c (place_behind c (left_of c bytes) k) ≡ after_calls (answer-of bytes) k c
 chunk-leaves bytes zero c ok = ap (true_moved c) (behind-none c (left_of c bytes)) ∙ sym (same-cursor bytes c)
 chunk-leaves bytes (suc k) c ok =
-    go (next_one bytes c ok) (λ (d : TrueIdxIter) (o : accepted bytes d). chunk-leaves bytes k d o)
+    go (next_one bytes c ok) (λ (d : TrueIdxIter) (o : IsAccepted bytes d). chunk-leaves bytes k d o)
   where
     go : NextOne bytes c
-        → ((d : TrueIdxIter) → accepted bytes d → true_moved d (place_behind d (left_of d bytes) k) ≡ after_calls (answer-of bytes) k d)
+        → ((d : TrueIdxIter) → IsAccepted bytes d → true_moved d (place_behind d (left_of d bytes) k) ≡ after_calls (answer-of bytes) k d)
         → true_moved c (place_behind c (left_of c bytes) (suc k)) ≡ after_calls (answer-of bytes) (suc k) c
     go (one-next p low high a o f) again =
         let d : TrueIdxIter = true_moved c (p + 1) in

@@ -113,17 +113,17 @@ flags-in bytes c = stretch bytes c.start c.length
 abbrev left-of : List ℕ → SlicesIterator → List Run
 left-of bytes c = runs_left (flags-in bytes c) c.place
 
-abbrev accepted : List ℕ → SlicesIterator → Type 0
-accepted bytes c = first_failed (run_checks c bytes) ≡ 0
+abbrev IsAccepted : List ℕ → SlicesIterator → Type 0
+IsAccepted bytes c = first_failed (run_checks c bytes) ≡ 0
 
 abbrev far-of : SlicesIterator → ℕ
 far-of c = c.length - c.place
 
-accepted-at : (bytes : List ℕ) (c : SlicesIterator) (q : ℕ) → accepted bytes c → q ≤ c.length → accepted bytes (slices_moved c q)
+accepted-at : (bytes : List ℕ) (c : SlicesIterator) (q : ℕ) → IsAccepted bytes c → q ≤ c.length → IsAccepted bytes (slices_moved c q)
 unfolding cursor_checks
 accepted-at bytes c q e h = place-again (span_checks c.start c.length (length bytes)) c.place q c.length e h
 
-module _ (bytes : List ℕ) (c : SlicesIterator) (ok : accepted bytes c) where
+module _ (bytes : List ℕ) (c : SlicesIterator) (ok : IsAccepted bytes c) where
   stepped : next_slice c bytes ≡ given (slice_step c (flags-in bytes c))
   unfolding next_slice
   stepped = sym (is-given 0 (first_failed (run_checks c bytes)) c (slice_step c (flags-in bytes c)) (sym ok) refl)
@@ -140,7 +140,7 @@ module _ (bytes : List ℕ) (c : SlicesIterator) (ok : accepted bytes c) where
   unfolding slice_step
   to_end h = rw (le-ltb (run_start (flags-in bytes c) c.place) c.length h)
 
-  moves : Moves (answer-of bytes) (left-of bytes) (accepted bytes) far-of c
+  moves : Moves (answer-of bytes) (left-of bytes) (IsAccepted bytes) far-of c
   moves =
       let l : List Bool = flags-in bytes c in
       let s : ℕ = run_start l c.place in
@@ -157,7 +157,7 @@ module _ (bytes : List ℕ) (c : SlicesIterator) (ok : accepted bytes c) where
 -- A cursor that `next` accepts lists, until it gives none, just the runs from its place on.
 pub lists-runs : (bytes : List ℕ) (c : SlicesIterator) → first_failed (run_checks c bytes) ≡ 0 → (k : ℕ) → c.length - c.place < k
     → listing (λ (d : SlicesIterator). next_slice d bytes) k c ≡ runs_left (stretch bytes c.start c.length) c.place
-lists-runs bytes c ok k h = lists (answer-of bytes) (left-of bytes) (accepted bytes) far-of (moves bytes) k c ok h
+lists-runs bytes c ok k h = lists (answer-of bytes) (left-of bytes) (IsAccepted bytes) far-of (moves bytes) k c ok h
 
 -- So a new cursor lists all runs of its mask.
 pub new-lists-runs : (m : Bitmap) (bytes : List ℕ) → first_failed (mask_checks m bytes) ≡ 0

@@ -158,19 +158,19 @@ answer-of bytes c = next_true c bytes
 abbrev pub left-of : List ℕ → TrueIdxIter → List ℕ
 left-of bytes c = left_of c bytes
 
-abbrev pub accepted : List ℕ → TrueIdxIter → Type 0
-accepted bytes c = first_failed (true_checks c (length bytes)) ≡ 0
+abbrev pub IsAccepted : List ℕ → TrueIdxIter → Type 0
+IsAccepted bytes c = first_failed (true_checks c (length bytes)) ≡ 0
 
 abbrev far-of : TrueIdxIter → ℕ
 far-of c = c.length - c.place
 
 -- one call: the first position that is left, and a cursor with the others before it; or none, where nothing is left
 pub data NextOne (bytes : List ℕ) (c : TrueIdxIter) : Type 0 where
-  one-next : (p : ℕ) → c.place ≤ p → p < c.length → next_true c bytes ≡ given (item p (true_moved c (p + 1))) → accepted bytes (true_moved c (p + 1))
+  one-next : (p : ℕ) → c.place ≤ p → p < c.length → next_true c bytes ≡ given (item p (true_moved c (p + 1))) → IsAccepted bytes (true_moved c (p + 1))
       → left-of bytes c ≡ p ∷ left-of bytes (true_moved c (p + 1)) → NextOne bytes c
   none-next : next_true c bytes ≡ given (ended (true_moved c c.length)) → left-of bytes c ≡ [] → NextOne bytes c
 
-module _ (bytes : List ℕ) (c : TrueIdxIter) (ok : accepted bytes c) where
+module _ (bytes : List ℕ) (c : TrueIdxIter) (ok : IsAccepted bytes c) where
   stepped : next_true c bytes ≡ given (true_step c (nth_from (true_flags c bytes) 0 c.place))
   unfolding next_true
   stepped = sym (is-given 0 (first_failed (true_checks c (length bytes))) c (true_step c (nth_from (true_flags c bytes) 0 c.place)) (sym ok) refl)
@@ -195,17 +195,17 @@ module _ (bytes : List ℕ) (c : TrueIdxIter) (ok : accepted bytes c) where
       (λ (h : count (drop c.place l) ≤ 0). none-next (to_end (forward-none l 0 c.place h)) (none_left l c.place (omega arith)))
       (lt-or-le 0 (count (drop c.place l)))
 
-moves : (bytes : List ℕ) (c : TrueIdxIter) → accepted bytes c → Moves (answer-of bytes) (left-of bytes) (accepted bytes) far-of c
+moves : (bytes : List ℕ) (c : TrueIdxIter) → IsAccepted bytes c → Moves (answer-of bytes) (left-of bytes) (IsAccepted bytes) far-of c
 moves bytes c ok = go (next_one bytes c ok)
   where
-    go : NextOne bytes c → Moves (answer-of bytes) (left-of bytes) (accepted bytes) far-of c
+    go : NextOne bytes c → Moves (answer-of bytes) (left-of bytes) (IsAccepted bytes) far-of c
     go (one-next p low high e o f) = gives p (true_moved c (p + 1)) e o (omega arith) f
     go (none-next e f) = ends (true_moved c c.length) e f
 
 -- A cursor that `next` accepts lists, until it gives none, just the positions of ones at or after its place, rising.
 pub lists-ones : (bytes : List ℕ) (c : TrueIdxIter) → first_failed (true_checks c (length bytes)) ≡ 0 → (k : ℕ) → c.length - c.place < k
     → listing (λ (d : TrueIdxIter). next_true d bytes) k c ≡ ones_left (true_flags c bytes) c.place
-lists-ones bytes c ok k h = lists (answer-of bytes) (left-of bytes) (accepted bytes) far-of (moves bytes) k c ok h
+lists-ones bytes c ok k h = lists (answer-of bytes) (left-of bytes) (IsAccepted bytes) far-of (moves bytes) k c ok h
 
 from_first : (l : List Bool) → ones_left l 0 ≡ ones_from 0 l
 unfolding ones_left
@@ -216,7 +216,7 @@ unfolding first_failed earlier
 zero-limit = refl
 
 -- What `new` accepts `next` accepts.
-accepted-new : (n : ℕ) (mask : Optional) (bytes : List ℕ) → first_failed (new_true_checks n mask bytes) ≡ 0 → accepted bytes (first_true n mask)
+accepted-new : (n : ℕ) (mask : Optional) (bytes : List ℕ) → first_failed (new_true_checks n mask bytes) ≡ 0 → IsAccepted bytes (first_true n mask)
 unfolding new_true_checks first_true true_checks cursor_checks mask_checks
 accepted-new n (Present m) bytes e =
     let five : List Check = check 5 (eqb n m.length) ∷ [] in

@@ -3,7 +3,7 @@ ghost use Rattle.std.specs.Prelude.{◌≡◌, not, ◌&&◌, ◌+◌, ◌-◌, 
 ghost use Rattle.words.specs.Loops.{stretch};
 ghost use Rattle.masks.specs.Checks.{first_failed, limit};
 ghost use Rattle.masks.specs.Utils.{zeros};
-ghost use Rattle.masks.specs.Mask.{cut_zeros, counting_answer, empty_mask, kept_count, made_answer, piece_checks, recounts as Mask·recounts};
+ghost use Rattle.masks.specs.Mask.{cut_zeros, counting_answer, empty_mask, kept_count, made_answer, piece_checks, recounts as recounts_of};
 ghost use Rattle.masks.specs.Mask.{new_zeroed_bytes, new_zeroed_of, sliced_answer, slice_of, try_new_of, uncounted, unset_bits_of, zero_count};
 ghost use Rattle.masks.specs.Mask.{cut_mask, mask_of, mask_under, with_count};
 ghost use Rattle.masks.specs.Workers.{cut_of, recounted_of, PieceAllowed};
@@ -200,7 +200,7 @@ fn piece_failure(mask: Bitmap, bytes: &[u8], offset: usize, length: usize) -> u8
 // Returns whether slicing `old` flags to n recounts the known zeros.
 fn recounts(old: usize, n: usize, zeros: usize) -> bool
     requires { (old ≤ limit) × (n ≤ limit) }
-    ensures { result ≡ Mask·recounts old n zeros }
+    ensures { result ≡ recounts_of old n zeros }
 {
     if zeros == 0 {
         return false;

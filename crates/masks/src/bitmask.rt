@@ -1,5 +1,5 @@
 // Spans cut in two, windows of 32 flags, and searches for the n-th set flag by such windows.
-ghost use Rattle.std.specs.Prelude.{◌≡◌, ◌+◌, ◌*◌, ◌≤◌, ◌<◌, length as ListN·length};
+ghost use Rattle.std.specs.Prelude.{◌≡◌, ◌+◌, ◌*◌, ◌≤◌, ◌<◌, length as list_length};
 ghost use Rattle.words.specs.Flags.{bits, count, word_of};
 ghost use Rattle.words.specs.Loops.{stretch};
 ghost use Rattle.words.specs.Nth.{nth_one, nth_place};
@@ -81,7 +81,7 @@ pub fn get_u32(bytes: &[u8], start: usize, length: usize, index: usize) -> Windo
 
 // Like `get_u32`, for a span that has passed its checks. One load.
 pub(crate) fn span_window(bytes: &[u8], start: usize, length: usize, index: usize) -> u32
-    requires { (start ≤ limit) × ((length ≤ limit) × (start + length ≤ 8 * ListN·length bytes.now)) }
+    requires { (start ≤ limit) × ((length ≤ limit) × (start + length ≤ 8 * list_length bytes.now)) }
     ensures { result ≡ window_word bytes.now start length index }
 {
     if index >= length {
@@ -129,7 +129,7 @@ pub fn nth_set_bit_idx_rev(
 
 // Loads the 32 flags starting at flag 8 * at + k. The eight bytes are in range, so there is one load and no test.
 fn word_window(bytes: &[u8], at: usize, k: usize) -> u32
-    requires { (at + 8 ≤ ListN·length bytes.now) × (k ≤ 32) }
+    requires { (at + 8 ≤ list_length bytes.now) × (k ≤ 32) }
     ensures { result ≡ word_of (stretch bytes.now (8 * at + k) 32) }
 {
     let end = at + 8;
@@ -146,7 +146,7 @@ struct Passed {
 // Passes over the windows that have too few set flags, up to one with enough of them or to the last 63 flags. A window before
 // these has eight bytes from its first byte on, so that a turn is one load and one count.
 fn pass_windows(bytes: &[u8], start: usize, length: usize, n: usize, from: usize) -> Passed
-    requires { (start ≤ limit) × ((length ≤ limit) × ((start + length ≤ 8 * ListN·length bytes.now) × (from < length))) }
+    requires { (start ≤ limit) × ((length ≤ limit) × ((start + length ≤ 8 * list_length bytes.now) × (from < length))) }
     ensures { PassedFrom bytes.now start length n from result.left result.at }
 {
     let inner = length - least(length, 63);
@@ -167,7 +167,7 @@ fn pass_windows(bytes: &[u8], start: usize, length: usize, n: usize, from: usize
 // Searches forward. Where `pass_windows` stops, the flag is in that window or in the one after it, so two windows are read and no loop
 // is needed.
 fn search_from(bytes: &[u8], start: usize, length: usize, n: usize, from: usize) -> Position
-    requires { (start ≤ limit) × ((length ≤ limit) × (start + length ≤ 8 * ListN·length bytes.now)) }
+    requires { (start ≤ limit) × ((length ≤ limit) × (start + length ≤ 8 * list_length bytes.now)) }
     ensures { position_answer result ≡ given (nth_from (stretch bytes.now start length) n from) }
 {
     if from >= length {
@@ -192,7 +192,7 @@ fn search_from(bytes: &[u8], start: usize, length: usize, n: usize, from: usize)
 
 // Searches the last window of the span.
 fn search_last(bytes: &[u8], start: usize, length: usize, n: usize, from: usize) -> Position
-    requires { (start ≤ limit) × ((length ≤ limit) × ((start + length ≤ 8 * ListN·length bytes.now) × ((from ≤ length + 32) × (length ≤ from + 32)))) }
+    requires { (start ≤ limit) × ((length ≤ limit) × ((start + length ≤ 8 * list_length bytes.now) × ((from ≤ length + 32) × (length ≤ from + 32)))) }
     ensures { position_answer result ≡ given (nth_from (stretch bytes.now start length) n from) }
 {
     let seen = nth_in_window(span_window(bytes, start, length, from), n);
@@ -208,7 +208,7 @@ fn search_last(bytes: &[u8], start: usize, length: usize, n: usize, from: usize)
 // As `pass_windows`, down from `end` to the first 63 flags. A window above these is taken from the eight bytes that end with its last
 // byte: it begins 25 to 32 flags behind their first.
 fn pass_back(bytes: &[u8], start: usize, length: usize, n: usize, end: usize) -> Passed
-    requires { (start ≤ limit) × ((length ≤ limit) × ((start + length ≤ 8 * ListN·length bytes.now) × (end ≤ length))) }
+    requires { (start ≤ limit) × ((length ≤ limit) × ((start + length ≤ 8 * list_length bytes.now) × (end ≤ length))) }
     ensures { PassedBack bytes.now start length n end result.left result.at }
 {
     let mut left = n;
@@ -233,7 +233,7 @@ fn pass_back(bytes: &[u8], start: usize, length: usize, n: usize, end: usize) ->
 
 // Searches backward, as `search_from` does forward. The window below `below` has zeros above its end.
 fn search_back(bytes: &[u8], start: usize, length: usize, n: usize, end: usize) -> Position
-    requires { (start ≤ limit) × ((length ≤ limit) × ((start + length ≤ 8 * ListN·length bytes.now) × (end ≤ length))) }
+    requires { (start ≤ limit) × ((length ≤ limit) × ((start + length ≤ 8 * list_length bytes.now) × (end ≤ length))) }
     ensures { position_answer result ≡ given (nth_back (stretch bytes.now start length) n end) }
 {
     let passed = pass_back(bytes, start, length, n, end);
@@ -253,7 +253,7 @@ fn search_back(bytes: &[u8], start: usize, length: usize, n: usize, end: usize) 
 
 // Searches the first window of the span.
 fn search_first(bytes: &[u8], start: usize, length: usize, n: usize, end: usize) -> Position
-    requires { (start ≤ limit) × ((length ≤ limit) × ((start + length ≤ 8 * ListN·length bytes.now) × ((end ≤ length) × (end ≤ 32)))) }
+    requires { (start ≤ limit) × ((length ≤ limit) × ((start + length ≤ 8 * list_length bytes.now) × ((end ≤ length) × (end ≤ 32)))) }
     ensures { position_answer result ≡ given (nth_back (stretch bytes.now start length) n end) }
 {
     let w = span_window(bytes, start, end, 0);

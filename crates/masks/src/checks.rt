@@ -2,7 +2,7 @@
 // masks put their own checks together from are public.
 ghost use Rattle.std.specs.Prelude.{◌≡◌, cond, ◌&&◌, [], ◌∷◌, ◌++◌, ◌+◌, ◌*◌, ◌≤◌, eqb, leb, length};
 ghost use Rattle.words.specs.Loops.{stretch};
-ghost use Rattle.masks.specs.Checks.{earlier as Checks·earlier, rank as Checks·rank, first_failed, limit, check, within_limit, span_checks, address_checks, output_checks};
+ghost use Rattle.masks.specs.Checks.{earlier as earlier_of, rank as rank_of, first_failed, limit, check, within_limit, span_checks, address_checks, output_checks};
 ghost use Rattle.masks.specs.Mask.{count_valid, mask_checks};
 ghost use Rattle.masks.specs.Appends.{inner_checks};
 ghost use Rattle.masks.specs.Builder.{possible, builder_checks, none_from};
@@ -15,7 +15,7 @@ use words::counts::none_from;
 
 // Returns the refusal code of two that takes precedence; 0 means no failure.
 pub fn earlier(a: u8, b: u8) -> u8
-    ensures { result ≡ Checks·earlier a b }
+    ensures { result ≡ earlier_of a b }
 {
     if a == 0 {
         return b;
@@ -28,7 +28,7 @@ pub fn earlier(a: u8, b: u8) -> u8
 
 // The place of a number in the order of the checks; other numbers come behind all of them.
 fn rank(number: u8) -> u8
-    ensures { result ≡ Checks·rank number }
+    ensures { result ≡ rank_of number }
 {
     match number {
         1 => 0,

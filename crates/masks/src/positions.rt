@@ -1,6 +1,6 @@
 // Many positions of ones at once, written to a lent output: for whoever wants them all, since a call for each costs more than what
 // it does.
-ghost use Rattle.std.specs.Prelude.{◌≡◌, true, List, ℕ, ◌+◌, ◌*◌, ◌≤◌, ◌<◌, min, length as ListN·length};
+ghost use Rattle.std.specs.Prelude.{◌≡◌, true, List, ℕ, ◌+◌, ◌*◌, ◌≤◌, ◌<◌, min, length as list_length};
 ghost use Rattle.words.specs.Flags.{copies, over, word_flags};
 ghost use Rattle.words.specs.Loops.{stretch};
 ghost use Rattle.masks.specs.Checks.{limit};
@@ -29,8 +29,8 @@ fn position(index: u32) -> usize
 
 // Writes consecutive positions, starting with `first`.
 fn write_row(part: &mut [u32], first: usize)
-    requires { first + ListN·length part.old ≤ 2 * limit }
-    ensures { part.new ≡ ones_from first (copies (ListN·length part.old) true) }
+    requires { first + list_length part.old ≤ 2 * limit }
+    ensures { part.new ≡ ones_from first (copies (list_length part.old) true) }
 {
     let mut i = 0;
     while i < part.len() {
@@ -41,7 +41,7 @@ fn write_row(part: &mut [u32], first: usize)
 
 // Writes n consecutive positions at `at`.
 fn write_run(out: &mut [u32], at: usize, first: usize, n: usize)
-    requires { (at + n ≤ ListN·length out.old) × (first + n ≤ 2 * limit) }
+    requires { (at + n ≤ list_length out.old) × (first + n ≤ 2 * limit) }
     ensures { out.new ≡ over_from out.old at (ones_from first (copies n true)) }
 {
     let end = at + n;
@@ -51,8 +51,8 @@ fn write_run(out: &mut [u32], at: usize, first: usize, n: usize)
 // The positions of a word's ones behind those written, as many as there is room for: run by run, since ones that stand side by side
 // are written without a look at each. The word's first flag is number `first`.
 fn write_word(out: &mut [u32], done: usize, word: u64, first: usize) -> usize
-    requires { (done ≤ ListN·length out.old) × (first ≤ limit) }
-    ensures count { result ≡ min (ListN·length out.old) (done + ListN·length (ones_from first (word_flags word))) }
+    requires { (done ≤ list_length out.old) × (first ≤ limit) }
+    ensures count { result ≡ min (list_length out.old) (done + list_length (ones_from first (word_flags word))) }
     ensures positions { out.new ≡ over_from out.old done (ones_from first (word_flags word)) }
 {
     let mut w = word;
@@ -79,7 +79,7 @@ fn write_word(out: &mut [u32], done: usize, word: u64, first: usize) -> usize
 // Writes the positions of the ones of a span, word by word, starting at a place.
 fn write_words(out: &mut [u32], bytes: &[u8], start: usize, length: usize, place: usize) -> usize
     requires { (start ≤ limit) × ((length ≤ limit) × (place ≤ length)) }
-    ensures count { result ≡ min (ListN·length out.old) (ListN·length (ones_left (stretch bytes.now start length) place)) }
+    ensures count { result ≡ min (list_length out.old) (list_length (ones_left (stretch bytes.now start length) place)) }
     ensures positions { out.new ≡ over_from out.old 0 (ones_left (stretch bytes.now start length) place) }
 {
     let mut at = place;
@@ -98,7 +98,7 @@ fn write_words(out: &mut [u32], bytes: &[u8], start: usize, length: usize, place
 // Writes the positions that a cursor has left. Without a mask these are consecutive.
 fn write_positions(cursor: TrueIdxIter, bytes: &[u8], out: &mut [u32]) -> usize
     requires { (cursor.start ≤ limit) × ((cursor.length ≤ limit) × (cursor.place ≤ cursor.length)) }
-    ensures count { result ≡ min (ListN·length out.old) (ListN·length (left_of cursor bytes.now)) }
+    ensures count { result ≡ min (list_length out.old) (list_length (left_of cursor bytes.now)) }
     ensures positions { out.new ≡ over out.old (left_of cursor bytes.now) }
 {
     if cursor.masked {
@@ -111,9 +111,9 @@ fn write_positions(cursor: TrueIdxIter, bytes: &[u8], out: &mut [u32]) -> usize
 
 // Returns the place of a cursor that has written `count` positions to `out`.
 fn place_behind(cursor: TrueIdxIter, out: &[u32], count: usize) -> usize
-    requires { count ≤ ListN·length out.now }
-    ensures { (old left : List ℕ) → out.now ≡ over old left → count ≡ min (ListN·length old) (ListN·length left)
-        → result ≡ place_behind cursor left (ListN·length old) }
+    requires { count ≤ list_length out.now }
+    ensures { (old left : List ℕ) → out.now ≡ over old left → count ≡ min (list_length old) (list_length left)
+        → result ≡ place_behind cursor left (list_length old) }
 {
     if count < out.len() {
         return cursor.length;
@@ -128,7 +128,7 @@ fn place_behind(cursor: TrueIdxIter, out: &[u32], count: usize) -> usize
 impl TrueIdxIter {
     // Writes the positions of the next ones to the start of `out`, as many as fit: the results of repeated calls of `next`.
     pub fn next_chunk(self, bytes: &[u8], out: &mut [u32]) -> TrueChunk
-        ensures answer { positions_answer result ≡ next_positions self bytes.now (ListN·length out.old) }
+        ensures answer { positions_answer result ≡ next_positions self bytes.now (list_length out.old) }
         ensures positions { out.new ≡ positions_over self bytes.now out.old }
     {
         let refusal = next_failure(self, bytes.len());

@@ -1,5 +1,5 @@
 // The runs of ones of a mask, one by one.
-ghost use Rattle.std.specs.Prelude.{◌≡◌, ◌&&◌, ◌+◌, ◌*◌, ◌≤◌, eqb, leb, length as ListN·length};
+ghost use Rattle.std.specs.Prelude.{◌≡◌, ◌&&◌, ◌+◌, ◌*◌, ◌≤◌, eqb, leb, length as list_length};
 ghost use Rattle.words.specs.Loops.{stretch};
 ghost use Rattle.masks.specs.Checks.{limit};
 ghost use Rattle.masks.specs.SliceIterator.{slices_answer, new_slices, slice_answer, next_slice};
@@ -53,7 +53,7 @@ fn all_ones(byte: u8, bit: usize, left: usize) -> bool
 // Finds the first run of ones from `place` on: over bytes and, inside them, over bits, both left at the run's end. Passes over a byte
 // of ones at once, and over a zero before the run. Where there is no run it is empty, at the length.
 fn run_from(bytes: &[u8], start: usize, length: usize, place: usize) -> Run
-    requires { (start ≤ limit) × ((length ≤ limit) × ((start + length ≤ 8 * ListN·length bytes.now) × (place ≤ length))) }
+    requires { (start ≤ limit) × ((length ≤ limit) × ((start + length ≤ 8 * list_length bytes.now) × (place ≤ length))) }
     ensures { result ≡ first_run (stretch bytes.now start length) place }
 {
     let mut first = place;
