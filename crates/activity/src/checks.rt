@@ -1,5 +1,5 @@
 // Is a record one that a run of minutes leaves: its numbers, its words and its counts.
-ghost use Rattle.std.specs.Prelude.{◌≡◌, true, ℕ, ◌≤◌, length, take, drop};
+ghost use Rattle.std.specs.Prelude.{◌≡◌, true, ◌≤◌, length, take, drop};
 ghost use Rattle.words.specs.Columns.{column_counts};
 ghost use Rattle.activity.specs.Checks.{width_fits, place_fits, inside_fits, numbers_fit, all_zero, same_numbers, words_fit, left_by_minutes};
 

@@ -1,5 +1,5 @@
 // The window of the last minutes: a record by value, 256 words of which the first `fill` are kept, and a count for each flag.
-ghost use Rattle.std.specs.Prelude.{◌≡◌, ℕ, ◌+◌, ◌%◌, ◌≤◌, ◌<◌, min, length};
+ghost use Rattle.std.specs.Prelude.{◌≡◌, ◌+◌, ◌%◌, ◌≤◌, ◌<◌, min, length};
 ghost use Rattle.activity.specs.Window.{zeros, no_minute, minute_on, new_of, push_of, counts_of};
 ghost use Rattle.activity.specs.Workers.{Good, Holds, Exchanged};
 

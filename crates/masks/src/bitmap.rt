@@ -1,6 +1,5 @@
 // The mask: its record, and the calls that make one, cut it and count it. Its bytes are lent beside it.
-ghost use Rattle.std.specs.Prelude.{◌≡◌, not, ◌&&◌, ◌+◌, ◌-◌, ◌*◌, ◌/◌, ◌≤◌, max, eqb, leb, length};
-ghost use Rattle.words.specs.Loops.{stretch};
+ghost use Rattle.std.specs.Prelude.{◌≡◌, ◌+◌, ◌-◌, ◌/◌, ◌≤◌, max, length};
 ghost use Rattle.masks.specs.Checks.{first_failed, limit};
 ghost use Rattle.masks.specs.Utils.{zeros};
 ghost use Rattle.masks.specs.Mask.{cut_zeros, counting_answer, empty_mask, kept_count, made_answer, piece_checks, recounts as recounts_of};

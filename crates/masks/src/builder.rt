@@ -1,5 +1,5 @@
 // The builder: flags are appended to a lent buffer. A word is written when it is full.
-ghost use Rattle.std.specs.Prelude.{◌≡◌, List, [], ◌∷◌, ℕ, ◌≤◌, ◌-◌, length, take};
+ghost use Rattle.std.specs.Prelude.{◌≡◌, List, ℕ, ◌≤◌, ◌-◌, length, take};
 ghost use Rattle.words.specs.Flags.{word_flags};
 ghost use Rattle.masks.specs.Appends.{pushed_answer, append_answer, append_bytes, change_answer, push_flag, push_word};
 ghost use Rattle.masks.specs.Builder.{builder_under, new_builder, rebuilt, filling, appended};

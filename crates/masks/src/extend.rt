@@ -1,11 +1,10 @@
 // Long extensions of a builder: up to a full word, then whole words written straight to the buffer, then the rest.
 ghost use Rattle.std.specs.Prelude.{true, ◌&&◌, ◌≡◌, ◌+◌, ◌-◌, ◌*◌, ◌%◌, ◌≤◌, ◌<◌, leb, ltb, length, take};
-ghost use Rattle.words.specs.Flags.{copies, digit, window, word_flags};
+ghost use Rattle.words.specs.Flags.{copies, digit, word_flags};
 ghost use Rattle.words.specs.Loops.{stretch};
 ghost use Rattle.masks.specs.Appends.{pushed_answer, append_answer, append_bytes, extend_constant, extend_slice, extend_bitmap};
 ghost use Rattle.masks.specs.Builder.{filling, appended};
 ghost use Rattle.masks.specs.Checks.{limit};
-ghost use Rattle.masks.specs.Mask.{mask_flags};
 ghost use Rattle.masks.specs.Workers.{Room};
 
 use crate::bitmap::Bitmap;

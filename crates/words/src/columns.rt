@@ -1,5 +1,5 @@
 // Words as rows of 64 flags: how many of them have each flag set.
-ghost use Rattle.std.specs.Prelude.{◌≡◌, ℕ, take};
+ghost use Rattle.std.specs.Prelude.{◌≡◌, take};
 ghost use Rattle.words.specs.Columns.{column_counts, digit_of};
 
 use crate::loops::least;

@@ -1,7 +1,7 @@
 // Counting and comparing. A stretch is `len` flags of the bytes from any flag on, zeros past their end. The time is bounded by
 // the bytes lent, whatever `len` is.
 ghost use Rattle.std.specs.Prelude.{◌≡◌, true, false, not, ◌&&◌, ◌*◌, ◌+◌, ◌-◌, ◌≤◌, ◌<◌, length, drop, ltb};
-ghost use Rattle.words.specs.Flags.{flags_of, count, digit, over, window, word_flags};
+ghost use Rattle.words.specs.Flags.{flags_of, count, digit, over, word_flags};
 ghost use Rattle.words.specs.Ops.{op_of};
 ghost use Rattle.words.specs.Kernels.{InRange, WholeWords};
 ghost use Rattle.words.specs.Loops.{stretch, combined, whole_words};

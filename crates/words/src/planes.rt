@@ -1,6 +1,6 @@
 // Bit planes: plane i has digit i of 64 numbers, so that a word is added to all 64 with a few operations. Everything is in range
 // by `requires`: nine planes hold numbers below 512.
-ghost use Rattle.std.specs.Prelude.{◌≡◌, cond, ℕ, ◌+◌, ◌/◌, ◌%◌, ◌^◌, ◌<◌, ◌≤◌, eqb, length};
+ghost use Rattle.std.specs.Prelude.{◌≡◌, cond, ◌+◌, ◌/◌, ◌%◌, ◌^◌, ◌<◌, ◌≤◌, eqb, length};
 ghost use Rattle.std.specs.Int.Bits.{bit_and};
 ghost use Rattle.words.specs.Columns.{digit_of};
 ghost use Rattle.words.specs.Planes.{planes_at, added_from, Added, FourMore, Masks, Totals, Wrote};
