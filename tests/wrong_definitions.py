@@ -54,7 +54,7 @@ TABLES = ("Examples", "Witnesses", "WrongAnswers", "*Rows", "GoesOn")
 THEOREMS = ("Histories", "Plain", "*Plain", "RunsWhole", "SearchCursor", "SliceTruth", "TrueLaws", "Accepted", "AndNotFlag", "Refusals")
 THEOREMS += ("Minutes", "CombinedLaws")
 KIND = re.compile(
-    r"(?:#\[[^\]]*\]\s*)*(?:pub(?:\([a-z]+\))?\s+)?(ghost\s+use|const\s+fn|use|mod|struct|enum|type|const|impl|fn|extern)\b"
+    r"(?:#\[[^\]]*\]\s*)*(?:pub(?:\([a-z]+\))?\s+)?(ghost\s+use|const\s+fn|use|mod|struct|enum|trait|type|const|impl|fn|extern)\b"
 )
 
 
@@ -113,13 +113,16 @@ def imported(item):
 
 
 def types_only(text):
-    """A source file's modules, structs, enums, type names and constants, and the imports that these need."""
+    """A source file's modules, structs, enums, traits, type names and constants, and the imports that these need: those of clauses too
+    where one of these has a ghost field or member."""
     text = re.sub(r"(?m)^#!\[[^\n]*\]\n", "", text)
-    code, kept, imports = blank(text), [], []
+    code, kept, imports, ghosts = blank(text), [], [], []
     for start, end in items(code, 0, len(code)):
         what = kind(code[start:end])
-        if what in ("mod", "struct", "enum", "type", "const"):
+        if what in ("mod", "struct", "enum", "trait", "type", "const"):
             kept.append(text[start:end])
+        elif what == "ghost use":
+            ghosts.append(text[start:end])
         elif what == "use":
             imports += imported(text[start:end])
         elif what == "impl":
@@ -129,8 +132,9 @@ def types_only(text):
                 kept.append(text[start:inner] + "{\n" + "\n".join(consts) + "\n}")
     body = "\n\n".join(kept)
     plain = blank(body)
-    needed = [line for name, line in imports if re.search(rf"\b{name}\b", plain)]
-    return "\n".join(needed + [body]) + "\n"
+    needed = [line for name, line in imports if re.search(rf"(?<!fn )\b{name}\b", plain)]
+    clauses = ghosts if re.search(r"\bghost\b", plain) else []
+    return "\n".join(clauses + needed + [body]) + "\n"
 
 
 # ---- the repository

@@ -3,7 +3,7 @@
 use crate::lines::{Lent, Token};
 use std::fmt::Write;
 
-/// The calls that are recorded, in the order of crates/requests' names.rt, in which the program prints them.
+/// The calls that are recorded, in the order of crates/notation's names.rt, in which the program prints them.
 const CALLS: [&str; 49] = [
     "merge_reversed",
     "nth_set_bit_u32",

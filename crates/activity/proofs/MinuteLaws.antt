@@ -1,26 +1,21 @@
 -- A run of minutes, one minute after the other: the record stays good, and the kept words in the order of their minutes are the
 -- last of the run. Assumes nothing.
-use mathlib.Core.Path.{◌≡◌, refl, sym, ap, ◌∙◌, subst}
-use mathlib.Core.Bool.{Bool, cond}
-use mathlib.Core.List.{List, [], ◌∷◌, ◌++◌, append-nil, append_assoc}
-use mathlib.Core.Logic.{⊎_elim}
-use Prim.Native.Nat.{ℕ, suc, ◌+◌, ◌-◌, ◌%◌, ◌≤◌, ◌<◌, min}
-use native.Mathlib.Nat.{zero-mod, mod-lt, mod-eq_of_lt, mod_self, mod-add-mod, zero-add}
-use native.Mathlib.Numerals.{add-one}
-use native.Mathlib.Omega.{arith}
-use lib.ListN.{length, take, drop, get_or, set, replicate}
-use lib.ListN.{length-set, length-append, length-take, length-drop, length-replicate, drop_of_length-le, take-append-drop}
-use lib.Seq.{take-suc-set, take-set-lt, drop-set-lt, drop-cons, drop-append-le, drop-drop, drop-nil, take-take, length-take-le}
+use Rattle.std.proofs.Common.{◌≡◌, refl, sym, ap, ◌∙◌, subst, Bool, cond, List, [], ◌∷◌, ◌++◌, append-nil, append_assoc, ⊎_elim, ℕ, suc}
+use Rattle.std.proofs.Common.{◌+◌, ◌-◌, ◌%◌, ◌≤◌, ◌<◌, min, mod-lt, mod-eq_of_lt, zero-add, add-one, arith, length, take, drop, get_or}
+use Rattle.std.proofs.Common.{set, replicate, length-set, length-append, length-take, length-drop, drop_of_length-le, take-append-drop}
+use Rattle.std.proofs.Common.{take-suc-set, drop-set-lt, drop-cons, drop-drop, take-take, length-take-le}
+use Rattle.std.proofs.Math.Nat.{zero-mod, mod_self, mod-add-mod}
+use Rattle.std.proofs.Math.ListN.{length-replicate}
+use Rattle.std.proofs.Math.Seq.{take-set-lt, drop-append-le, drop-nil}
 use Rattle.words.specs.Flags.{count}
 use Rattle.words.specs.Columns.{column, columns_from, column_counts}
 use Rattle.words.proofs.ColumnLaws.{column-append, columns-alike}
 use Rattle.words.proofs.Counting.{count-append}
 use Rattle.words.proofs.Windows.{lt-or-le}
 use Rattle.activity.specs.Minutes.{placed, left_by, last_of, pushes}
-use Rattle.activity.specs.Window.{zeros, holding, no_minute, minute_on, accepted, refused, push_of}
+use Rattle.activity.specs.Window.{Answer, zeros, holding, no_minute, minute_on, accepted, refused, push_of}
 use Rattle.activity.specs.Workers.{Good}
 use Rattle.activity.specs.declared.window.ActivityWindow.{ActivityWindow}
-use Rattle.activity.specs.declared.window.Activity.{Activity}
 use Rattle.activity.proofs.CheckLaws.{zeros-zero, good-passes}
 use Rattle.activity.proofs.WindowLaws.{same_parts, still-zero}
 
@@ -272,5 +267,5 @@ module _ (w : ℕ) (s : 1 ≤ w) (b : w ≤ 256) where
   unfolding pushes
   pushes-from done [] = ap (λ (l : List ℕ). accepted (left_by w l)) (sym (append-nil done))
   pushes-from done (m ∷ minutes) =
-      ap (λ (a : Activity). pushes a minutes) (push-more done m) ∙ pushes-from (done ++ (m ∷ [])) minutes
+      ap (λ (a : Answer ActivityWindow). pushes a minutes) (push-more done m) ∙ pushes-from (done ++ (m ∷ [])) minutes
       ∙ ap (λ (l : List ℕ). accepted (left_by w l)) (append_assoc done (m ∷ []) minutes)

@@ -1,21 +1,17 @@
 -- The theorems on runs of minutes (`Statements` of specs/Minutes.antt). Assumes nothing.
-use mathlib.Core.Path.{◌≡◌, refl, sym, ap, ap₂, ◌∙◌}
-use mathlib.Core.Bool.{Bool, true, cond}
-use mathlib.Core.List.{List, [], ◌∷◌, ◌++◌}
-use mathlib.Core.Logic.{⊎_elim}
-use Prim.Native.Nat.{ℕ, zero, suc, ◌+◌, ◌-◌, ◌%◌, ◌≤◌, ◌<◌, min}
-use native.Mathlib.Nat.{mod-eq_of_lt, add-mod_left, zero-add}
-use native.Mathlib.Omega.{arith}
-use lib.ListN.{length, take, drop, set, replicate, length-append, length-replicate, length-drop, take-append-drop}
-use lib.Seq.{sets, sets-eq, length-take-le}
+use Rattle.std.proofs.Common.{◌≡◌, refl, sym, ap, ap₂, ◌∙◌, Bool, true, cond, List, [], ◌∷◌, ◌++◌, ⊎_elim, ℕ, zero, suc, ◌+◌, ◌-◌, ◌%◌}
+use Rattle.std.proofs.Common.{◌≤◌, ◌<◌, min, mod-eq_of_lt, zero-add, arith, length, take, drop, set, replicate, length-append}
+use Rattle.std.proofs.Common.{length-drop, take-append-drop, length-take-le}
+use Rattle.std.proofs.Math.Nat.{add-mod_left}
+use Rattle.std.proofs.Math.ListN.{length-replicate}
+use Rattle.std.proofs.Math.Seq.{sets, sets-eq}
 use Rattle.words.specs.Columns.{column_counts}
 use Rattle.words.proofs.Windows.{lt-or-le}
 use Rattle.activity.specs.Checks.{width_fits, left_by_minutes}
 use Rattle.activity.specs.Minutes.{placed, left_by, last_of, pushes, Words, Run, Statements}
-use Rattle.activity.specs.Window.{zeros, no_minute, accepted, refused, counted, uncounted, new_of, counts_of}
+use Rattle.activity.specs.Window.{Answer, zeros, no_minute, accepted, refused, uncounted, new_of, counts_of}
 use Rattle.activity.specs.Workers.{Good}
 use Rattle.activity.specs.declared.window.ActivityWindow.{ActivityWindow}
-use Rattle.activity.specs.declared.window.Activity.{Activity}
 use Rattle.activity.proofs.CheckLaws.{width_of, good_of, good-passes, zero-words}
 use Rattle.activity.proofs.WindowLaws.{made}
 use Rattle.activity.proofs.MinuteLaws.{After, after_run, left-none, pushes-from, placed-append, order-counts, same-holding}
@@ -30,7 +26,7 @@ new-accepted w h =
 every-run : (w : ℕ) (minutes : List ℕ) → width_fits w ≡ true → pushes (new_of w) minutes ≡ accepted (left_by w minutes)
 every-run w minutes h =
     let b : (1 ≤ w) × (w ≤ 256) = width_of w h in
-    ap (λ (a : Activity). pushes a minutes) (new-accepted w h) ∙ pushes-from w b.0 b.1 [] minutes
+    ap (λ (a : Answer ActivityWindow). pushes a minutes) (new-accepted w h) ∙ pushes-from w b.0 b.1 [] minutes
 
 run-passes : (w : ℕ) (minutes : List ℕ) → width_fits w ≡ true → left_by_minutes (left_by w minutes) ≡ true
 run-passes w minutes h =
@@ -49,13 +45,13 @@ left-counts w minutes at =
     ∙ ap column_counts at.order
 
 fresh-counts : (w : ℕ) (minutes : List ℕ) → width_fits w ≡ true
-    → counts_of (pushes (new_of w) minutes).window ≡ counted (column_counts (last_of w minutes))
+    → counts_of (pushes (new_of w) minutes).value ≡ accepted (column_counts (last_of w minutes))
 unfolding counts_of
 fresh-counts w minutes h =
     let b : (1 ≤ w) × (w ≤ 256) = width_of w h in
-    ap (λ (a : Activity). counts_of a.window) (every-run w minutes h)
-    ∙ ap (λ (t : Bool). cond t (counted (left_by w minutes).counts) uncounted) (run-passes w minutes h)
-    ∙ ap counted (left-counts w minutes (after_run w b.0 b.1 minutes))
+    ap (λ (a : Answer ActivityWindow). counts_of a.value) (every-run w minutes h)
+    ∙ ap (λ (t : Bool). cond t (accepted (left_by w minutes).counts) uncounted) (run-passes w minutes h)
+    ∙ ap accepted (left-counts w minutes (after_run w b.0 b.1 minutes))
 
 -- ---- a run that leaves a record: its words as they stand, and where all places are taken those before the place once more
 

@@ -1,10 +1,9 @@
 -- The rows of `specs/Witnesses.antt`, by computation. Assumes nothing.
-use mathlib.Core.Path.{◌≡◌, refl, ap}
-use mathlib.Core.Bool.{Bool, true, false, cond}
+use Rattle.std.proofs.Common.{◌≡◌, refl, ap, Bool, true, false, cond}
 use Rattle.words.specs.Flags.{bits, count}
 use Rattle.words.specs.Columns.{column, columns_from, column_counts}
 use Rattle.activity.specs.Checks.{width_fits, place_fits, inside_fits, numbers_fit, all_zero, same_numbers, words_fit, left_by_minutes}
-use Rattle.activity.specs.Window.{zeros, no_minute, minute_on, accepted, refused, counted, uncounted, new_of, push_of, counts_of}
+use Rattle.activity.specs.Window.{zeros, no_minute, minute_on, accepted, refused, uncounted, new_of, push_of, counts_of}
 use Rattle.activity.specs.Witnesses.{Refused, Accepted, Witnessed}
 use Rattle.activity.specs.declared.window.ActivityWindow.{ActivityWindow}
 
@@ -14,7 +13,7 @@ unfolding push_of counts_of
 bad a h =
     record {
       push = λ w. ap (λ (t : Bool). cond t (accepted (minute_on a w)) (refused a)) h;
-      counts = ap (λ (t : Bool). cond t (counted a.counts) uncounted) h;
+      counts = ap (λ (t : Bool). cond t (accepted a.counts) uncounted) h;
     }
 
 good : (a : ActivityWindow) → left_by_minutes a ≡ true → Accepted a
@@ -22,7 +21,7 @@ unfolding push_of counts_of
 good a h =
     record {
       push = ap (λ (t : Bool). (cond t (accepted (minute_on a 0)) (refused a)).refusal) h;
-      counts = ap (λ (t : Bool). cond t (counted a.counts) uncounted) h;
+      counts = ap (λ (t : Bool). cond t (accepted a.counts) uncounted) h;
     }
 
 pub witnessed : Witnessed
@@ -42,6 +41,8 @@ witnessed =
       counts-number = refl;
       no_number = refl;
       counted-number = refl;
+      read-ok = λ back a. refl;
+      read-refused = λ back. refl;
       width_0 = bad _ refl;
       width_257 = bad _ refl;
       width_largest = bad _ refl;

@@ -1,24 +1,20 @@
 -- The wrong answers of `specs/WrongAnswers.antt` are ruled out, by computation. Assumes nothing.
-use Prim.Native.Nat.{ℕ}
-use mathlib.Core.Path.{refl}
-use mathlib.Core.List.{List, ◌∷◌, ◌++◌}
-use lib.ListN.{take}
+use Rattle.std.proofs.Common.{ℕ, refl, List, ◌∷◌, ◌++◌, take}
 use Rattle.words.proofs.WrongAnswers.{same_code, tried}
 use Rattle.words.specs.Flags.{bits, count}
 use Rattle.words.specs.Columns.{column, columns_from, column_counts}
 use Rattle.activity.specs.Checks.{width_fits, place_fits, inside_fits, numbers_fit, all_zero, same_numbers, words_fit, left_by_minutes}
-use Rattle.activity.specs.Window.{zeros, no_minute, minute_on, new_of, push_of, counts_of}
+use Rattle.activity.specs.Window.{Answer, zeros, no_minute, minute_on, new_of, push_of, counts_of}
 use Rattle.activity.specs.WrongAnswers.{WrongAnswers}
-use Rattle.activity.specs.declared.window.Activity.{Activity}
-use Rattle.activity.specs.declared.window.ActivityCounts.{ActivityCounts}
+use Rattle.activity.specs.declared.window.ActivityWindow.{ActivityWindow}
 
 -- the numbers of a record, its counts and its first words
-abbrev window_code : Activity → List ℕ
+abbrev window_code : Answer ActivityWindow → List ℕ
 window_code a =
-    a.refusal ∷ a.window.place ∷ a.window.fill ∷ a.window.width ∷ (take 4 a.window.counts ++ take 4 a.window.words)
+    a.refusal ∷ a.value.place ∷ a.value.fill ∷ a.value.width ∷ (take 4 a.value.counts ++ take 4 a.value.words)
 
-abbrev counts_code : ActivityCounts → List ℕ
-counts_code a = a.refusal ∷ a.counts
+abbrev counts_code : Answer (List ℕ) → List ℕ
+counts_code a = a.refusal ∷ a.value
 
 pub ruled_out : WrongAnswers
 unfolding

@@ -2,9 +2,8 @@
 use Rattle.std.specs.Prelude.{ℕ, suc, ◌-◌, ◌%◌, ◌^◌, ◌<◌, min, ◌≡◌, true, List, [], ◌∷◌, length, drop, set}
 use Rattle.words.specs.Columns.{column_counts}
 use Rattle.activity.specs.Checks.{width_fits, left_by_minutes}
-use Rattle.activity.specs.Window.{zeros, holding, accepted, counted, new_of, push_of, counts_of}
+use Rattle.activity.specs.Window.{Answer, zeros, holding, accepted, new_of, push_of, counts_of}
 use Rattle.activity.specs.declared.window.ActivityWindow.{ActivityWindow}
-use Rattle.activity.specs.declared.window.Activity.{Activity}
 
 -- minutes, the first of them minute k: minute k stands at k mod width
 unfoldable pub placed : ℕ → ℕ → List ℕ → List ℕ → List ℕ
@@ -20,9 +19,9 @@ abbrev pub last_of : ℕ → List ℕ → List ℕ
 last_of width minutes = drop (length minutes - width) minutes
 
 -- `push_minute` for each minute, each call given the record of the one before
-unfoldable pub pushes : Activity → List ℕ → Activity
+unfoldable pub pushes : Answer ActivityWindow → List ℕ → Answer ActivityWindow
 pushes a [] = a
-pushes a (m ∷ minutes) = pushes (push_of a.window m) minutes
+pushes a (m ∷ minutes) = pushes (push_of a.value m) minutes
 
 -- ---- what is stated
 
@@ -42,7 +41,7 @@ pub record Statements : Type 0 where
   pub every-run : (width : ℕ) (minutes : List ℕ) → width_fits width ≡ true → pushes (new_of width) minutes ≡ accepted (left_by width minutes)
   -- Each count is then a fresh count over the last words.
   pub fresh-counts : (width : ℕ) (minutes : List ℕ) → width_fits width ≡ true
-      → counts_of (pushes (new_of width) minutes).window ≡ counted (column_counts (last_of width minutes))
+      → counts_of (pushes (new_of width) minutes).value ≡ accepted (column_counts (last_of width minutes))
   -- What a run leaves passes the test,
   pub run-passes : (width : ℕ) (minutes : List ℕ) → width_fits width ≡ true → left_by_minutes (left_by width minutes) ≡ true
   -- and a record of 256 words that passes it is left by a run at its width.

@@ -12,10 +12,10 @@ may_give = 16 ∷ []
 -- and `counts` 64 zeros.
 pub record Refusals : Type 0 where
   pub new-number : (width : ℕ) → (new_of width).refusal ≡ cond (width_fits width) 0 16
-  pub new-refused : (width : ℕ) → (new_of width).refusal ≡ 16 → (new_of width).window ≡ no_minute 0
+  pub new-refused : (width : ℕ) → (new_of width).refusal ≡ 16 → (new_of width).value ≡ no_minute 0
   pub push-number : (a : ActivityWindow) (w : ℕ) → (push_of a w).refusal ≡ cond (left_by_minutes a) 0 16
-  pub push-refused : (a : ActivityWindow) (w : ℕ) → (push_of a w).refusal ≡ 16 → (push_of a w).window ≡ a
+  pub push-refused : (a : ActivityWindow) (w : ℕ) → (push_of a w).refusal ≡ 16 → (push_of a w).value ≡ a
   pub counts-number : (a : ActivityWindow) → (counts_of a).refusal ≡ cond (left_by_minutes a) 0 16
-  pub counts-refused : (a : ActivityWindow) → (counts_of a).refusal ≡ 16 → (counts_of a).counts ≡ zeros 64
+  pub counts-refused : (a : ActivityWindow) → (counts_of a).refusal ≡ 16 → (counts_of a).value ≡ zeros 64
   -- what `new` gives where it refuses is refused by the other two
   pub zeros-refused : left_by_minutes (no_minute 0) ≡ false

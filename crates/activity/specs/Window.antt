@@ -2,12 +2,12 @@
 --
 -- The record has 256 words, of which the first `fill` are kept, 64 counts, the place where the next word goes, and the width:
 -- how many words it keeps at most.
-use Rattle.std.specs.Prelude.{ℕ, ◌+◌, ◌%◌, min, cond, List, take, set, replicate}
+use Rattle.std.specs.Prelude.{ℕ, ◌+◌, ◌%◌, min, cond, List, take, set, replicate, Result, Ok, Err}
 use Rattle.words.specs.Columns.{column_counts}
 use Rattle.activity.specs.Checks.{width_fits, left_by_minutes}
 use Rattle.activity.specs.declared.window.ActivityWindow.{ActivityWindow}
-use Rattle.activity.specs.declared.window.Activity.{Activity}
-use Rattle.activity.specs.declared.window.ActivityCounts.{ActivityCounts}
+use Rattle.activity.specs.declared.window.Refused.{Refused}
+use Rattle.activity.specs.declared.window.Refused.TheVariants.{ImpossibleWindow}
 
 unfoldable pub zeros : ℕ → List ℕ
 zeros n = replicate n 0
@@ -25,28 +25,39 @@ no_minute width = record { words = zeros 256; counts = zeros 64; place = 0; fill
 unfoldable pub minute_on : ActivityWindow → ℕ → ActivityWindow
 minute_on a w = holding (set a.words a.place w) ((a.place + 1) % a.width) (min (a.fill + 1) a.width) a.width
 
--- ---- the answers: a record and the number of the refusal, 0 for none
+-- ---- the answers: a value and the number of the refusal, 0 for none
 
-abbrev pub accepted : ActivityWindow → Activity
-accepted a = record { window = a; refusal = 0 }
+pub record Answer (A : Type 0) : Type 0 where
+  pub value : A
+  pub refusal : ℕ
 
-abbrev pub refused : ActivityWindow → Activity
-refused a = record { window = a; refusal = 16 }
+abbrev pub accepted : {A : Type 0} → A → Answer A
+accepted a = record { value = a; refusal = 0 }
 
-abbrev pub counted : List ℕ → ActivityCounts
-counted l = record { counts = l; refusal = 0 }
+abbrev pub refused : {A : Type 0} → A → Answer A
+refused a = record { value = a; refusal = 16 }
 
-abbrev pub uncounted : ActivityCounts
-uncounted = record { counts = zeros 64; refusal = 16 }
+abbrev pub uncounted : Answer (List ℕ)
+uncounted = refused (zeros 64)
+
+-- the number by which a call refused
+abbrev pub number : Refused → ℕ
+number ImpossibleWindow = 16
+
+-- What a call's result says. Refused, it has the value that is named first: a window of zeros for `new`, the window as it came for
+-- `push_minute`, and 64 zeros for `counts`.
+abbrev pub answer : {A : Type 0} → A → Result A Refused → Answer A
+answer back (Ok a) = accepted a
+answer back (Err e) = record { value = back; refusal = number e }
 
 -- refused: a record of zeros, whose width every call refuses
-unfoldable pub new_of : ℕ → Activity
+unfoldable pub new_of : ℕ → Answer ActivityWindow
 new_of width = cond (width_fits width) (accepted (no_minute width)) (refused (no_minute 0))
 
 -- refused: the record as it came
-unfoldable pub push_of : ActivityWindow → ℕ → Activity
+unfoldable pub push_of : ActivityWindow → ℕ → Answer ActivityWindow
 push_of a w = cond (left_by_minutes a) (accepted (minute_on a w)) (refused a)
 
 -- refused: 64 zeros
-unfoldable pub counts_of : ActivityWindow → ActivityCounts
-counts_of a = cond (left_by_minutes a) (counted a.counts) uncounted
+unfoldable pub counts_of : ActivityWindow → Answer (List ℕ)
+counts_of a = cond (left_by_minutes a) (accepted a.counts) uncounted

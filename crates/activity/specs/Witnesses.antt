@@ -2,9 +2,10 @@
 --
 -- `ActivityWindow::new` is witnessed by widths, `ActivityWindow::push_minute` and `ActivityWindow::counts` by records.
 -- `proofs/Witnesses.antt` computes the rows.
-use Rattle.std.specs.Prelude.{ℕ, ◌-◌, ◌≡◌, List, [], ◌∷◌, ◌++◌, length}
-use Rattle.activity.specs.Window.{zeros, no_minute, accepted, refused, counted, uncounted, new_of, push_of, counts_of}
+use Rattle.std.specs.Prelude.{ℕ, ◌-◌, ◌≡◌, List, [], ◌∷◌, ◌++◌, length, Ok, Err}
+use Rattle.activity.specs.Window.{zeros, no_minute, accepted, refused, uncounted, answer, new_of, push_of, counts_of}
 use Rattle.activity.specs.declared.window.ActivityWindow.{ActivityWindow}
+use Rattle.activity.specs.declared.window.Refused.TheVariants.{ImpossibleWindow}
 
 -- n numbers, zero from the end of the list on
 abbrev pub padded : ℕ → List ℕ → List ℕ
@@ -25,7 +26,7 @@ pub record Refused (a : ActivityWindow) : Type 0 where
 
 pub record Accepted (a : ActivityWindow) : Type 0 where
   pub push : (push_of a 0).refusal ≡ 0
-  pub counts : counts_of a ≡ counted a.counts
+  pub counts : counts_of a ≡ accepted a.counts
 
 pub record Witnessed : Type 0 where
   -- widths: none, the least, the largest, one above it, and the largest number
@@ -35,12 +36,15 @@ pub record Witnessed : Type 0 where
   pub new_257 : new_of 257 ≡ refused (no_minute 0)
   pub new_largest : new_of 0xFFFFFFFFFFFFFFFF ≡ refused (no_minute 0)
   -- a new window has kept no word; a refusal has the number 16, and an answer the number 0
-  pub new-window : (new_of 3).window ≡ window_of [] [] 0 0 3
+  pub new-window : (new_of 3).value ≡ window_of [] [] 0 0 3
   pub new-number : (new_of 0).refusal ≡ 16
   pub push-number : (push_of (no_minute 0) 1).refusal ≡ 16
   pub counts-number : (counts_of (no_minute 0)).refusal ≡ 16
   pub no_number : (new_of 3).refusal ≡ 0
   pub counted-number : (counts_of three_minutes).refusal ≡ 0
+  -- how a result is read
+  pub read-ok : (back a : ActivityWindow) → answer back (Ok a) ≡ accepted a
+  pub read-refused : (back : ActivityWindow) → answer back (Err ImpossibleWindow) ≡ refused back
   pub width_0 : Refused (no_minute 0)
   pub width_257 : Refused (no_minute 257)
   pub width_largest : Refused (no_minute 0xFFFFFFFFFFFFFFFF)

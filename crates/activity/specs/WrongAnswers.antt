@@ -3,7 +3,7 @@
 -- Rows as in `WrongAnswers` of words: the definition at one input, what it gives, and two answers of a faulty call.
 use Rattle.std.specs.Prelude.{[], ◌∷◌, ◌++◌}
 use Rattle.words.specs.WrongAnswers.{Tried}
-use Rattle.activity.specs.Window.{no_minute, accepted, refused, counted, uncounted, new_of, push_of, counts_of}
+use Rattle.activity.specs.Window.{no_minute, accepted, refused, uncounted, new_of, push_of, counts_of}
 use Rattle.activity.specs.Witnesses.{padded, window_of, three_minutes}
 
 pub record WrongAnswers : Type 0 where
@@ -37,15 +37,15 @@ pub record WrongAnswers : Type 0 where
       (accepted (window_of (3 ∷ 1 ∷ []) (2 ∷ 1 ∷ []) 0 1 2))
   -- `ActivityWindow::counts` after the minutes 4, 1 and 3 at width 2
   pub counts : Tried (counts_of three_minutes)
-      (counted (padded 64 (2 ∷ 1 ∷ [])))
+      (accepted (padded 64 (2 ∷ 1 ∷ [])))
       -- minutes that are no longer kept counted
-      (counted (padded 64 (2 ∷ 1 ∷ 1 ∷ [])))
+      (accepted (padded 64 (2 ∷ 1 ∷ 1 ∷ [])))
       -- flags counted from the other end
-      (counted (padded 62 [] ++ (1 ∷ 2 ∷ [])))
+      (accepted (padded 62 [] ++ (1 ∷ 2 ∷ [])))
   -- `ActivityWindow::counts` of a record with a false count
   pub counts-false : Tried (counts_of (window_of (3 ∷ 1 ∷ []) (3 ∷ 1 ∷ []) 1 2 2))
       uncounted
       -- the counts of the record believed
-      (counted (padded 64 (3 ∷ 1 ∷ [])))
+      (accepted (padded 64 (3 ∷ 1 ∷ [])))
       -- the counts made anew
-      (counted (padded 64 (2 ∷ 1 ∷ [])))
+      (accepted (padded 64 (2 ∷ 1 ∷ [])))

@@ -1,8 +1,6 @@
 -- A record that crosses and comes back is the same: nothing of it is lost on the way. Assumes nothing.
-use mathlib.Core.Path.{◌≡◌, refl, ap, ◌∙◌}
-use mathlib.Core.Bool.{Bool, true, false}
-use mathlib.Core.List.{List}
-use Prim.Native.Nat.{ℕ, zero, suc}
+use Rattle.std.specs.Prelude.{Option, Some, None}
+use Rattle.std.proofs.Common.{◌≡◌, refl, ap, ◌∙◌, Bool, true, false, List, ℕ, zero, suc}
 use Rattle.masks.specs.Answer.{checked, decided, kept}
 use Rattle.masks.specs.Appends.{Append, push_flag, extend_constant, push_word, extend_slice, extend_repeated, extend_bitmap, extend_gather, extend_opt_gather}
 use Rattle.masks.specs.Appends.{append_answer, append_bytes, append_checks, append_flags, constant_checks, gather_checks, span_grow_checks, subslice_checks, word_checks}
@@ -14,8 +12,6 @@ use Rattle.masks.specs.Mask.{mask_under}
 use Rattle.masks.specs.SliceIterator.{slices_at}
 use Rattle.masks.specs.TrueIdx.{true_at}
 use Rattle.masks.specs.declared.bitmap.Bitmap.{Bitmap}
-use Rattle.masks.specs.declared.bitmap.Unset.{Unset}
-use Rattle.masks.specs.declared.bitmap.Unset.TheVariants.{Known, Unknown}
 use Rattle.masks.specs.declared.builder.BitmapBuilder.{BitmapBuilder}
 use Rattle.masks.specs.declared.chunks.BitChunks.{BitChunks}
 use Rattle.masks.specs.declared.iterator.BitmapIter.{BitmapIter}
@@ -25,10 +21,10 @@ use Rattle.capi.specs.Answers.{as_builder, builder_answer}
 use Rattle.capi.specs.Records.{builder_in, builder_out, chunks_out, count_in, iter_out, mask_in, mask_out, mask_with, serial_builder_in}
 use Rattle.capi.specs.Records.{slices_out, true_in, true_out}
 
-mask-with : (serial start n : ℕ) (u : Unset) → mask_in (mask_with serial start n u) ≡ mask_under serial start n u
+mask-with : (serial start n : ℕ) (u : Option ℕ) → mask_in (mask_with serial start n u) ≡ mask_under serial start n u
 unfolding mask_in count_in
-mask-with serial start n (Known z) = refl
-mask-with serial start n Unknown = refl
+mask-with serial start n (Some z) = refl
+mask-with serial start n None = refl
 
 pub mask-back : (m : Bitmap) → mask_in (mask_out m) ≡ m
 unfolding mask_out

@@ -1,13 +1,12 @@
 -- Each export refuses by the numbers listed for it alone, and gives back what came. Assumes nothing.
 --
 -- An encoding keeps the answer's number, so that what masks, dispatch and activity say of the answer holds of the record that crosses.
-use Prim.Native.Nat.{ℕ}
-use mathlib.Core.Path.{◌≡◌, refl, sym, ap, subst, ◌∙◌}
-use mathlib.Core.Bool.{Bool, true, false, not, cond}
-use mathlib.Core.List.{List, [], ◌∷◌}
-use mathlib.Core.Option.{Option, none, some}
+use Rattle.std.specs.Prelude.{Option, Some, None}
+use Rattle.std.proofs.Common.{ℕ, ◌≡◌, refl, sym, ap, subst, ◌∙◌, Bool, true, false, not, cond, List, [], ◌∷◌}
 use borrow.Author.Tests.{ne_eqb}
-use Rattle.words.specs.Nth.{Found as SetBit, at_place, only_ones}
+use Rattle.std.specs.Prelude.{Result, Ok, Err}
+use Rattle.masks.specs.declared.next_and_not.Found.{Found}
+use Rattle.masks.specs.declared.bitmap.Recounted.{Recounted}
 use Rattle.masks.specs.Answer.{Answer, given, refused}
 use Rattle.masks.specs.Appends.{Append, append_answer, append_bytes, push_flag, extend_constant, push_word, extend_slice, extend_repeated}
 use Rattle.masks.specs.Appends.{extend_bitmap, extend_gather, extend_opt_gather}
@@ -15,19 +14,16 @@ use Rattle.masks.specs.Chunks.{chunks_at}
 use Rattle.masks.specs.Combine.{And, AndNot, Or, OrNot, Xor}
 use Rattle.masks.specs.Cursor.{Step, item, ended}
 use Rattle.masks.specs.Iterator.{iter_at}
-use Rattle.masks.specs.Mask.{Recounted}
-use Rattle.masks.specs.NextAndNot.{Found}
 use Rattle.masks.specs.Refusals.{among, all_among, Refuses, RefusesUnwritten}
 use Rattle.masks.specs.SliceIterator.{slices_at}
 use Rattle.masks.specs.TrueIdx.{true_at}
 use Rattle.masks.specs.declared.aligned.AlignedBitmapSlice.{AlignedBitmapSlice}
 use Rattle.masks.specs.declared.bitmap.Bitmap.{Bitmap}
-use Rattle.masks.specs.declared.bitmap.Optional.TheVariants.{Present, Absent}
 use Rattle.masks.specs.declared.bitmask.Span.{Span}
 use Rattle.masks.specs.declared.builder.BitmapBuilder.{BitmapBuilder}
 use Rattle.masks.specs.declared.superseding.Part.{Part}
 use Rattle.masks.proofs.Refusals as masks
-use Rattle.dispatch.specs.Offer.{Offering}
+use Rattle.dispatch.specs.declared.offer.Offering.{Offering}
 use Rattle.dispatch.proofs.Refusals as dispatch
 use Rattle.activity.specs.Checks.{width_fits, left_by_minutes}
 use Rattle.activity.proofs.Refusals as activity
@@ -95,8 +91,8 @@ of-flag (given x) = refl
 of-flag (refused k s) = refl
 
 next-number : (o : Option ℕ) (n : ℕ) → (next_at o n).refusal ≡ 0
-next-number (some p) n = refl
-next-number none n = refl
+next-number (Some p) n = refl
+next-number None n = refl
 
 of-next : {S : Type 0} (a : Answer S Found) → (as_next a).refusal ≡ number_in a
 unfolding as_next
@@ -105,8 +101,8 @@ of-next (refused k s) = refl
 
 of-position : {S : Type 0} (a : Answer S (Option ℕ)) → (as_position a).refusal ≡ number_in a
 unfolding as_position
-of-position (given (some p)) = refl
-of-position (given none) = refl
+of-position (given (Some p)) = refl
+of-position (given None) = refl
 of-position (refused k s) = refl
 
 of_mask : {S : Type 0} (a : Answer S Bitmap) → (as_mask a).refusal ≡ number_in a
@@ -121,8 +117,8 @@ of_part (refused k s) = refl
 
 of-validity : {S : Type 0} (a : Answer S (Option Bitmap)) → (as_validity a).refusal ≡ number_in a
 unfolding as_validity
-of-validity (given (some m)) = refl
-of-validity (given none) = refl
+of-validity (given (Some m)) = refl
+of-validity (given None) = refl
 of-validity (refused k s) = refl
 
 of-builder : (a : Answer BitmapBuilder BitmapBuilder) → (as_builder a).refusal ≡ number_in a
@@ -150,10 +146,10 @@ unfolding as_spans
 of-spans (given (a, b)) = refl
 of-spans (refused k s) = refl
 
-nth-gives : (w : SetBit) → Gives [] (as_nth w).refusal
+nth-gives : (w : Result ℕ ℕ) → Gives [] (as_nth w).refusal
 unfolding as_nth all_among
-nth-gives (at_place p) = no_number [] refl
-nth-gives (only_ones k) = no_number [] refl
+nth-gives (Ok p) = no_number [] refl
+nth-gives (Err k) = no_number [] refl
 
 -- ---- what comes back
 
@@ -185,8 +181,8 @@ module _ (ns : List ℕ) (l : Listed ns) where
       record { gives = some_number ns k l (r.number k t refl); same = λ h. ap place (r.state k t refl) }
 
   found_back : (came : ℕ) (o : Option ℕ) (cursor n : ℕ) → GivesBack ns (offer_at o cursor n).refusal came (offer_at o cursor n).cursor
-  found_back came (some t) cursor n = nothing-back ns came cursor l
-  found_back came none cursor n = nothing-back ns came cursor l
+  found_back came (Some t) cursor n = nothing-back ns came cursor l
+  found_back came None cursor n = nothing-back ns came cursor l
 
   offer-back : (cursor : ℕ) (a : Answer ℕ Offering) → Refuses ns cursor a → GivesBack ns (as_offer a).refusal cursor (as_offer a).cursor
   unfolding as_offer
@@ -358,20 +354,20 @@ refusals =
       next-and-not-alone = λ p p_bytes q q_bytes from.
           gives _ _ refl _ _ (of-next _) ((masks.refusals).next-and-not-alone (mask_in p) p_bytes q_bytes from);
       pw_may_reassign = λ p p_bytes q q_bytes truck.
-          gives _ _ refl _ _ (of-flag _) (dispatch.refusals (Present (mask_in p)) p_bytes (Present (mask_in q)) q_bytes truck);
+          gives _ _ refl _ _ (of-flag _) (dispatch.refusals (Some (mask_in p)) p_bytes (Some (mask_in q)) q_bytes truck);
       no-revocation = λ p p_bytes q q_bytes truck.
-          gives _ _ refl _ _ (of-flag _) (dispatch.refusals (Present (mask_in p)) p_bytes Absent q_bytes truck);
+          gives _ _ refl _ _ (of-flag _) (dispatch.refusals (Some (mask_in p)) p_bytes None q_bytes truck);
       no-permission = λ p p_bytes q q_bytes truck.
-          gives _ _ refl _ _ (of-flag _) (dispatch.refusals Absent p_bytes (Present (mask_in q)) q_bytes truck);
-      neither = λ p p_bytes q q_bytes truck. gives _ _ refl _ _ (of-flag _) (dispatch.refusals Absent p_bytes Absent q_bytes truck);
+          gives _ _ refl _ _ (of-flag _) (dispatch.refusals None p_bytes (Some (mask_in q)) q_bytes truck);
+      neither = λ p p_bytes q q_bytes truck. gives _ _ refl _ _ (of-flag _) (dispatch.refusals None p_bytes None q_bytes truck);
       pw_offer = λ p p_bytes q q_bytes cursor.
-          offer-back _ refl cursor _ (dispatch.offer_refusals (Present (mask_in p)) p_bytes (Present (mask_in q)) q_bytes cursor);
+          offer-back _ refl cursor _ (dispatch.offer_refusals (Some (mask_in p)) p_bytes (Some (mask_in q)) q_bytes cursor);
       offer-no-revocation = λ p p_bytes q q_bytes cursor.
-          offer-back _ refl cursor _ (dispatch.offer_refusals (Present (mask_in p)) p_bytes Absent q_bytes cursor);
+          offer-back _ refl cursor _ (dispatch.offer_refusals (Some (mask_in p)) p_bytes None q_bytes cursor);
       offer-no-permission = λ p p_bytes q q_bytes cursor.
-          offer-back _ refl cursor _ (dispatch.offer_refusals Absent p_bytes (Present (mask_in q)) q_bytes cursor);
+          offer-back _ refl cursor _ (dispatch.offer_refusals None p_bytes (Some (mask_in q)) q_bytes cursor);
       offer-neither = λ p p_bytes q q_bytes cursor.
-          offer-back _ refl cursor _ (dispatch.offer_refusals Absent p_bytes Absent q_bytes cursor);
+          offer-back _ refl cursor _ (dispatch.offer_refusals None p_bytes None q_bytes cursor);
       pw_activity_new = λ width words counts.
           record {
             gives = array_back (width_fits width) _ ((activity.refusals).new-number width) words _;

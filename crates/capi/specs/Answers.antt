@@ -2,20 +2,18 @@
 --
 -- `refusal` is 0, or the number of the refusing check. On refusal a record is the very one that the call got, where it got one of
 -- that kind and gives it back; every other field is 0.
-use Rattle.std.specs.Prelude.{ℕ, Bool, true, false}
-use Rattle.std.proofs.Math.Option.{Option, none, some}
+use Rattle.std.specs.Prelude.{ℕ, Bool, true, false, Option, Some, None, Result, Ok, Err}
 use Rattle.words.specs.Flags.{digit}
-use Rattle.words.specs.Nth.{Found as SetBit, at_place, only_ones}
+use Rattle.masks.specs.declared.next_and_not.Found.{Found}
+use Rattle.masks.specs.declared.bitmap.Recounted.{Recounted}
 use Rattle.masks.specs.Answer.{Answer, given, refused}
 use Rattle.masks.specs.Cursor.{Step, item, ended}
-use Rattle.masks.specs.Mask.{Recounted}
-use Rattle.masks.specs.NextAndNot.{Found}
 use Rattle.masks.specs.declared.aligned.AlignedBitmapSlice.{AlignedBitmapSlice}
 use Rattle.masks.specs.declared.bitmap.Bitmap.{Bitmap}
 use Rattle.masks.specs.declared.bitmask.Span.{Span}
 use Rattle.masks.specs.declared.builder.BitmapBuilder.{BitmapBuilder}
 use Rattle.masks.specs.declared.slice_iterator.Run.{Run}
-use Rattle.dispatch.specs.Offer.{Offering}
+use Rattle.dispatch.specs.declared.offer.Offering.{Offering}
 use Rattle.masks.specs.declared.superseding.Part.{Part}
 use Rattle.capi.specs.Records.{mask_out, no_mask, builder_out, no_cursor}
 use Rattle.capi.specs.declared.answers.BuilderAnswer.{BuilderAnswer}
@@ -57,14 +55,14 @@ abbrev pub position_of : ℕ → Bool → ℕ → Position
 position_of k found p = record { refusal = k; found = found; value = p }
 
 unfoldable pub as_position : {S : Type 0} → Answer S (Option ℕ) → Position
-as_position (given (some p)) = position_of 0 true p
-as_position (given none) = position_of 0 false 0
+as_position (given (Some p)) = position_of 0 true p
+as_position (given None) = position_of 0 false 0
 as_position (refused k s) = position_of k false 0
 
 -- the set bit of a word, whose call refuses nothing
-unfoldable pub as_nth : SetBit → NthAnswer
-as_nth (at_place p) = record { refusal = 0; found = true; value = p; ones = 0 }
-as_nth (only_ones k) = record { refusal = 0; found = false; value = 0; ones = k }
+unfoldable pub as_nth : Result ℕ ℕ → NthAnswer
+as_nth (Ok p) = record { refusal = 0; found = true; value = p; ones = 0 }
+as_nth (Err k) = record { refusal = 0; found = false; value = 0; ones = k }
 
 -- ---- a search by windows, an offer
 
@@ -73,8 +71,8 @@ next_of k found p n = record { refusal = k; found = found; position = p; windows
 
 -- a position that may be missing
 abbrev pub next_at : Option ℕ → ℕ → NextAnswer
-next_at (some p) n = next_of 0 true p n
-next_at none n = next_of 0 false 0 n
+next_at (Some p) n = next_of 0 true p n
+next_at None n = next_of 0 false 0 n
 
 unfoldable pub as_next : {S : Type 0} → Answer S Found → NextAnswer
 as_next (given f) = next_at f.position f.windows
@@ -85,8 +83,8 @@ offer_record k found t cursor n = record { refusal = k; found = found; truck = t
 
 -- a truck that may be missing
 abbrev pub offer_at : Option ℕ → ℕ → ℕ → OfferAnswer
-offer_at (some t) cursor n = offer_record 0 true t cursor n
-offer_at none cursor n = offer_record 0 false 0 cursor n
+offer_at (Some t) cursor n = offer_record 0 true t cursor n
+offer_at None cursor n = offer_record 0 false 0 cursor n
 
 unfoldable pub as_offer : Answer ℕ Offering → OfferAnswer
 as_offer (given o) = offer_at o.truck o.cursor o.windows
@@ -111,8 +109,8 @@ abbrev pub validity_of : ℕ → Bool → Mask → ValidityAnswer
 validity_of k present m = record { refusal = k; present = present; mask = m }
 
 unfoldable pub as_validity : {S : Type 0} → Answer S (Option Bitmap) → ValidityAnswer
-as_validity (given (some m)) = validity_of 0 true (mask_out m)
-as_validity (given none) = validity_of 0 false no_mask
+as_validity (given (Some m)) = validity_of 0 true (mask_out m)
+as_validity (given None) = validity_of 0 false no_mask
 as_validity (refused k s) = validity_of k false no_mask
 
 abbrev pub zeros_of : ℕ → ℕ → Mask → ZerosAnswer

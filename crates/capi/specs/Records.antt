@@ -1,14 +1,10 @@
 -- The records that cross, and what each is as a record of masks. Assumes nothing.
-use Rattle.std.specs.Prelude.{ℕ, Bool, not, cond, eqb}
+use Rattle.std.specs.Prelude.{ℕ, Bool, not, cond, eqb, Option, Some, None}
 use Rattle.words.specs.Flags.{digit}
 use Rattle.masks.specs.Builder.{builder_under}
 use Rattle.masks.specs.Mask.{mask_under}
 use Rattle.masks.specs.TrueIdx.{true_at}
 use Rattle.masks.specs.declared.bitmap.Bitmap.{Bitmap}
-use Rattle.masks.specs.declared.bitmap.Optional.{Optional}
-use Rattle.masks.specs.declared.bitmap.Optional.TheVariants.{Present, Absent}
-use Rattle.masks.specs.declared.bitmap.Unset.{Unset}
-use Rattle.masks.specs.declared.bitmap.Unset.TheVariants.{Known, Unknown}
 use Rattle.masks.specs.declared.builder.BitmapBuilder.{BitmapBuilder}
 use Rattle.masks.specs.declared.chunks.BitChunks.{BitChunks}
 use Rattle.masks.specs.declared.iterator.BitmapIter.{BitmapIter}
@@ -21,27 +17,27 @@ use Rattle.capi.specs.declared.records.Mask.{Mask}
 -- ---- the mask
 
 -- the count is read where `known` is not 0
-unfoldable pub count_in : ℕ → ℕ → Unset
-count_in zeros known = cond (eqb known 0) Unknown (Known zeros)
+unfoldable pub count_in : ℕ → ℕ → Option ℕ
+count_in zeros known = cond (eqb known 0) None (Some zeros)
 
 unfoldable pub mask_in : Mask → Bitmap
 mask_in m = mask_under m.serial m.start m.length (count_in m.zeros m.known)
 
 -- an unknown count is given as 0
-abbrev pub mask_with : ℕ → ℕ → ℕ → Unset → Mask
-mask_with serial start n (Known z) = record { start = start; length = n; zeros = z; known = 1; serial = serial }
-mask_with serial start n Unknown = record { start = start; length = n; zeros = 0; known = 0; serial = serial }
+abbrev pub mask_with : ℕ → ℕ → ℕ → Option ℕ → Mask
+mask_with serial start n (Some z) = record { start = start; length = n; zeros = z; known = 1; serial = serial }
+mask_with serial start n None = record { start = start; length = n; zeros = 0; known = 0; serial = serial }
 
 unfoldable pub mask_out : Bitmap → Mask
 mask_out m = mask_with m.serial m.start m.length m.unset
 
 -- in place of a mask where there is none
 abbrev pub no_mask : Mask
-no_mask = mask_with 0 0 0 Unknown
+no_mask = mask_with 0 0 0 None
 
 -- a mask that may be absent: its record is not read where it is
-unfoldable pub optional_in : Bool → Mask → Optional
-optional_in present m = cond present (Present (mask_in m)) Absent
+unfoldable pub optional_in : Bool → Mask → Option Bitmap
+optional_in present m = cond present (Some (mask_in m)) None
 
 -- ---- the builder
 

@@ -229,10 +229,10 @@ pub record Refusals : Type 0 where
       GivesBack [] r.refusal cursor r.cursor
   -- a window of minutes: a new one, of which both arrays stay; one minute on, where the window stays; its counts, where the output stays
   pub pw_activity_new : (width : ℕ) (words counts : List ℕ) → let r = new_of width in
-      GivesBoth (16 ∷ []) (as_window r).refusal words (unless_refused r.refusal words r.window.words)
-      counts (unless_refused r.refusal counts r.window.counts)
+      GivesBoth (16 ∷ []) (as_window r).refusal words (unless_refused r.refusal words r.value.words)
+      counts (unless_refused r.refusal counts r.value.counts)
   pub pw_activity_push_minute : (words counts : List ℕ) (place fill width word : ℕ) → let a = window_in words counts place fill width in
-      GivesBack (16 ∷ []) (as_window (push_of a word)).refusal a (push_of a word).window
+      GivesBack (16 ∷ []) (as_window (push_of a word)).refusal a (push_of a word).value
   pub pw_activity_counts : (words counts : List ℕ) (place fill width : ℕ) (out : List ℕ)
       → let r = counts_of (window_in words counts place fill width) in
-      GivesBack (16 ∷ []) r.refusal out (unless_refused r.refusal out r.counts)
+      GivesBack (16 ∷ []) r.refusal out (unless_refused r.refusal out r.value)

@@ -1,14 +1,14 @@
 -- A window of minutes as it crosses: its two arrays are lent, and its numbers go in and come back beside them. Assumes nothing.
 use Rattle.std.specs.Prelude.{ℕ, cond, List, eqb}
-use Rattle.activity.specs.declared.window.Activity.{Activity}
+use Rattle.activity.specs.Window.{Answer}
 use Rattle.activity.specs.declared.window.ActivityWindow.{ActivityWindow}
 use Rattle.capi.specs.declared.answers.WindowAnswer.{WindowAnswer}
 
 unfoldable pub window_in : List ℕ → List ℕ → ℕ → ℕ → ℕ → ActivityWindow
 window_in words counts place fill width = record { words = words; counts = counts; place = place; fill = fill; width = width }
 
-unfoldable pub as_window : Activity → WindowAnswer
-as_window a = record { refusal = a.refusal; place = a.window.place; fill = a.window.fill; width = a.window.width }
+unfoldable pub as_window : Answer ActivityWindow → WindowAnswer
+as_window a = record { refusal = a.refusal; place = a.value.place; fill = a.value.fill; width = a.value.width }
 
 -- an array that a call writes: refused, it stays as it came
 unfoldable pub unless_refused : ℕ → List ℕ → List ℕ → List ℕ

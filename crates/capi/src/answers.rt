@@ -1,13 +1,16 @@
 // The records in which answers cross to C and Rust. `refusal` is 0, or the number of the refusing check. On refusal a record is
 // the very one that the call got, where it got one of that kind and gives it back; every other field is 0.
 ghost use Rattle.std.specs.Prelude.{◌≡◌};
-ghost use Rattle.capi.specs.Answers.{cursor_answer, flag_of, mask_answer, next_of, number_of, offer_record, position_of, step_of};
+ghost use Rattle.masks.specs.Answer.{answer, answer_back};
+ghost use Rattle.capi.specs.Answers.{as_flag, as_mask, as_number};
 
 use crate::records::{Builder, Cursor, Mask};
+use masks::bitmap::Bitmap;
+use masks::refusal::{Refusal, Refused};
 
 // A number.
 #[repr(C)]
-#[derive(Clone, Copy)]
+#[derive(Clone, Copy, Default)]
 pub struct Number {
     pub refusal: u8,
     pub value: usize,
@@ -15,7 +18,7 @@ pub struct Number {
 
 // A flag, or yes and no.
 #[repr(C)]
-#[derive(Clone, Copy)]
+#[derive(Clone, Copy, Default)]
 pub struct Flag {
     pub refusal: u8,
     pub value: bool,
@@ -23,7 +26,7 @@ pub struct Flag {
 
 // A position, where `found`.
 #[repr(C)]
-#[derive(Clone, Copy)]
+#[derive(Clone, Copy, Default)]
 pub struct Position {
     pub refusal: u8,
     pub found: bool,
@@ -42,7 +45,7 @@ pub struct NthAnswer {
 
 // A position, where `found`, and the number of windows of 32 flags read.
 #[repr(C)]
-#[derive(Clone, Copy)]
+#[derive(Clone, Copy, Default)]
 pub struct NextAnswer {
     pub refusal: u8,
     pub found: bool,
@@ -52,7 +55,7 @@ pub struct NextAnswer {
 
 // A truck, where `found`; the cursor for the next call; and the number of windows of 32 flags read.
 #[repr(C)]
-#[derive(Clone, Copy)]
+#[derive(Clone, Copy, Default)]
 pub struct OfferAnswer {
     pub refusal: u8,
     pub found: bool,
@@ -63,7 +66,7 @@ pub struct OfferAnswer {
 
 // A mask.
 #[repr(C)]
-#[derive(Clone, Copy)]
+#[derive(Clone, Copy, Default)]
 pub struct MaskAnswer {
     pub refusal: u8,
     pub mask: Mask,
@@ -71,7 +74,7 @@ pub struct MaskAnswer {
 
 // A mask, where `present`; without one all flags are set.
 #[repr(C)]
-#[derive(Clone, Copy)]
+#[derive(Clone, Copy, Default)]
 pub struct ValidityAnswer {
     pub refusal: u8,
     pub present: bool,
@@ -90,7 +93,7 @@ pub struct ZerosAnswer {
 // The winner of two masks: `second` where it is the second one, and its bytes are those from `from` to before `to` of the slice that it
 // came with. `mask` is its record over these. On refusal they are none of the first slice.
 #[repr(C)]
-#[derive(Clone, Copy)]
+#[derive(Clone, Copy, Default)]
 pub struct PartAnswer {
     pub refusal: u8,
     pub second: bool,
@@ -109,7 +112,7 @@ pub struct BuilderAnswer {
 
 // A new cursor.
 #[repr(C)]
-#[derive(Clone, Copy)]
+#[derive(Clone, Copy, Default)]
 pub struct CursorAnswer {
     pub refusal: u8,
     pub cursor: Cursor,
@@ -130,7 +133,7 @@ pub struct StepAnswer {
 
 // A span cut in three: lengths in flags, `bulk_start` as a byte of the buffer, `bulk_len` as a number of words.
 #[repr(C)]
-#[derive(Clone, Copy)]
+#[derive(Clone, Copy, Default)]
 pub struct SplitAnswer {
     pub refusal: u8,
     pub prefix: u64,
@@ -143,106 +146,13 @@ pub struct SplitAnswer {
 
 // Two spans.
 #[repr(C)]
-#[derive(Clone, Copy)]
+#[derive(Clone, Copy, Default)]
 pub struct SpansAnswer {
     pub refusal: u8,
     pub first_start: usize,
     pub first_length: usize,
     pub second_start: usize,
     pub second_length: usize,
-}
-
-pub(crate) fn number_of(refusal: u8, value: usize) -> Number
-    ensures { result ≡ number_of refusal value }
-{
-    Number {
-        refusal: refusal,
-        value: value,
-    }
-}
-
-pub(crate) fn flag_of(refusal: u8, value: bool) -> Flag
-    ensures { result ≡ flag_of refusal value }
-{
-    Flag {
-        refusal: refusal,
-        value: value,
-    }
-}
-
-pub(crate) fn position_of(refusal: u8, found: bool, value: usize) -> Position
-    ensures { result ≡ position_of refusal found value }
-{
-    Position {
-        refusal: refusal,
-        found: found,
-        value: value,
-    }
-}
-
-pub(crate) fn next_of(refusal: u8, found: bool, position: usize, windows: usize) -> NextAnswer
-    ensures { result ≡ next_of refusal found position windows }
-{
-    NextAnswer {
-        refusal: refusal,
-        found: found,
-        position: position,
-        windows: windows,
-    }
-}
-
-pub(crate) fn offer_of(
-    refusal: u8,
-    found: bool,
-    truck: usize,
-    cursor: usize,
-    windows: usize,
-) -> OfferAnswer
-    ensures { result ≡ offer_record refusal found truck cursor windows }
-{
-    OfferAnswer {
-        refusal: refusal,
-        found: found,
-        truck: truck,
-        cursor: cursor,
-        windows: windows,
-    }
-}
-
-pub(crate) fn mask_answer(refusal: u8, mask: Mask) -> MaskAnswer
-    ensures { result ≡ mask_answer refusal mask }
-{
-    MaskAnswer {
-        refusal: refusal,
-        mask: mask,
-    }
-}
-
-pub(crate) fn cursor_answer(refusal: u8, cursor: Cursor) -> CursorAnswer
-    ensures { result ≡ cursor_answer refusal cursor }
-{
-    CursorAnswer {
-        refusal: refusal,
-        cursor: cursor,
-    }
-}
-
-pub(crate) fn step_of(
-    refusal: u8,
-    found: bool,
-    value: u64,
-    count: usize,
-    place: usize,
-) -> StepAnswer
-    ensures { result ≡ step_of refusal found value count place }
-{
-    StepAnswer {
-        refusal: refusal,
-        found: found,
-        value: value,
-        count: count,
-        place: place,
-    }
 }
 
 // A window of minutes without its arrays: the place where its next word goes, how many words it keeps now, and its width.
@@ -253,4 +163,65 @@ pub struct WindowAnswer {
     pub place: usize,
     pub fill: usize,
     pub width: usize,
+}
+
+#[tactic(auto, unfolding(crate::specs::Answers::as_number))]
+impl From<Result<usize, Refusal>> for Number {
+    ghost from_gives = { λ r a. a ≡ as_number (answer r) };
+
+    fn from(r: Result<usize, Refusal>) -> Number {
+        match r {
+            Ok(value) => Number { refusal: 0, value },
+            Err(e) => Number {
+                refusal: e.into(),
+                ..Number::default()
+            },
+        }
+    }
+}
+
+#[tactic(auto, unfolding(crate::specs::Answers::as_flag))]
+impl From<Result<bool, Refusal>> for Flag {
+    ghost from_gives = { λ r a. a ≡ as_flag (answer r) };
+
+    fn from(r: Result<bool, Refusal>) -> Flag {
+        match r {
+            Ok(value) => Flag { refusal: 0, value },
+            Err(e) => Flag {
+                refusal: e.into(),
+                ..Flag::default()
+            },
+        }
+    }
+}
+
+#[tactic(auto, unfolding(crate::specs::Answers::as_mask))]
+impl From<Result<Bitmap, Refusal>> for MaskAnswer {
+    ghost from_gives = { λ r a. a ≡ as_mask (answer r) };
+
+    fn from(r: Result<Bitmap, Refusal>) -> MaskAnswer {
+        match r {
+            Ok(m) => MaskAnswer {
+                refusal: 0,
+                mask: m.into(),
+            },
+            Err(e) => MaskAnswer {
+                refusal: e.into(),
+                ..MaskAnswer::default()
+            },
+        }
+    }
+}
+
+// Of a call that gives a record back when it refuses: it is not given, since the caller has it.
+#[tactic(auto, unfolding(crate::specs::Answers::as_mask))]
+impl<S: Copy> From<Result<Bitmap, Refused<S>>> for MaskAnswer {
+    ghost from_gives = { λ r a. a ≡ as_mask (answer_back r) };
+
+    fn from(r: Result<Bitmap, Refused<S>>) -> MaskAnswer {
+        match r {
+            Ok(m) => Ok::<Bitmap, Refusal>(m).into(),
+            Err(e) => Err::<Bitmap, Refusal>(e.refusal).into(),
+        }
+    }
 }

@@ -1,21 +1,12 @@
 // Exported to C and Rust: the combination `and_not` at one index.
 ghost use Rattle.std.specs.Prelude.{◌≡◌};
-ghost use Rattle.masks.specs.AtIndex.{and_not_at_of, flag_at_answer};
+ghost use Rattle.masks.specs.AtIndex.{and_not_at_of};
 ghost use Rattle.capi.specs.Answers.{as_flag};
 ghost use Rattle.capi.specs.Records.{optional_in};
 
-use crate::answers::{Flag, flag_of};
+use crate::answers::Flag;
 use crate::records::{Mask, optional_in};
-use masks::at_index::{FlagAt, and_not_at};
-
-fn flag_at_out(r: FlagAt) -> Flag
-    ensures { result ≡ as_flag (flag_at_answer r) }
-{
-    match r {
-        FlagAt::Flag(x) => flag_of(0, x),
-        FlagAt::Refused(k) => flag_of(k, false),
-    }
-}
+use masks::at_index::and_not_at;
 
 // Whether the flag at `index` is set in the first mask and not in the second. Where not `first_present` there is no first mask, which
 // stands for all ones; where not `second_present` no second mask, which takes nothing away: record and bytes are then not read. 5 comes
@@ -34,11 +25,12 @@ pub extern "C" fn pw_and_not_at(
         as_flag (and_not_at_of (optional_in first_present first) first_bytes.now (optional_in second_present second)
         second_bytes.now index) }
 {
-    flag_at_out(and_not_at(
+    and_not_at(
         optional_in(first_present, first),
         first_bytes,
         optional_in(second_present, second),
         second_bytes,
         index,
-    ))
+    )
+    .into()
 }

@@ -1,62 +1,55 @@
 // Exported to C and Rust: the builder. Each call appends to `buf` and gives the builder to go on with. Finished words are written
 // to the buffer, and nothing else of it; pw_freeze and pw_into_opt_validity write the frozen bytes over its front.
 ghost use Rattle.std.specs.Prelude.{◌≡◌};
+ghost use Rattle.masks.specs.Answer.{answer_back};
 ghost use Rattle.masks.specs.Appends.{append_answer, append_bytes, extend_bitmap, extend_constant, extend_gather, extend_opt_gather};
-ghost use Rattle.masks.specs.Appends.{extend_repeated, extend_slice, pushed_answer, push_flag, push_word};
+ghost use Rattle.masks.specs.Appends.{extend_repeated, extend_slice, push_flag, push_word};
 ghost use Rattle.masks.specs.Builder.{new_builder};
-ghost use Rattle.masks.specs.Freeze.{freeze_bytes, freeze_of, into_opt_validity_of, freeze_answer, validity_answer};
+ghost use Rattle.masks.specs.Freeze.{freeze_bytes, freeze_of, into_opt_validity_of};
 ghost use Rattle.capi.specs.Answers.{as_builder, as_mask, as_validity};
 ghost use Rattle.capi.specs.Records.{builder_in, builder_out, mask_in, serial_builder_in};
 
-use crate::answers::{BuilderAnswer, MaskAnswer, ValidityAnswer, mask_answer};
-use crate::records::{
-    Builder, Mask, builder_in, builder_out, mask_in, mask_out, no_mask, serial_builder_in,
-};
-use masks::builder::{BitmapBuilder, Made, Pushed, Validity};
+use crate::answers::{BuilderAnswer, MaskAnswer, ValidityAnswer};
+use crate::records::{Builder, Mask, builder_in, serial_builder_in};
+use masks::bitmap::Bitmap;
+use masks::builder::BitmapBuilder;
+use masks::refusal::Refused;
 
-fn pushed_out(r: Pushed) -> BuilderAnswer
-    ensures { result ≡ as_builder (pushed_answer r) }
-{
-    match r {
-        Pushed::Done(b) => BuilderAnswer {
-            refusal: 0,
-            builder: builder_out(b),
-        },
-        Pushed::Refused(k, b) => BuilderAnswer {
-            refusal: k,
-            builder: builder_out(b),
-        },
+#[tactic(auto, unfolding(crate::specs::Answers::as_builder))]
+impl From<Result<BitmapBuilder, Refused<BitmapBuilder>>> for BuilderAnswer {
+    ghost from_gives = { λ r a. a ≡ as_builder (answer_back r) };
+
+    fn from(r: Result<BitmapBuilder, Refused<BitmapBuilder>>) -> BuilderAnswer {
+        match r {
+            Ok(b) => BuilderAnswer {
+                refusal: 0,
+                builder: b.into(),
+            },
+            Err(e) => BuilderAnswer {
+                refusal: e.refusal.into(),
+                builder: e.state.into(),
+            },
+        }
     }
 }
 
-fn frozen_out(r: Made) -> MaskAnswer
-    ensures { result ≡ as_mask (freeze_answer r) }
-{
-    match r {
-        Made::Mask(m) => mask_answer(0, mask_out(m)),
-        Made::Refused(k, _) => mask_answer(k, no_mask()),
-    }
-}
+#[tactic(auto, unfolding(crate::specs::Answers::as_validity))]
+impl From<Result<Option<Bitmap>, Refused<BitmapBuilder>>> for ValidityAnswer {
+    ghost from_gives = { λ r a. a ≡ as_validity (answer_back r) };
 
-fn validity_out(r: Validity) -> ValidityAnswer
-    ensures { result ≡ as_validity (validity_answer r) }
-{
-    match r {
-        Validity::Mask(m) => ValidityAnswer {
-            refusal: 0,
-            present: true,
-            mask: mask_out(m),
-        },
-        Validity::AllSet => ValidityAnswer {
-            refusal: 0,
-            present: false,
-            mask: no_mask(),
-        },
-        Validity::Refused(k, _) => ValidityAnswer {
-            refusal: k,
-            present: false,
-            mask: no_mask(),
-        },
+    fn from(r: Result<Option<Bitmap>, Refused<BitmapBuilder>>) -> ValidityAnswer {
+        match r {
+            Ok(Some(m)) => ValidityAnswer {
+                refusal: 0,
+                present: true,
+                mask: m.into(),
+            },
+            Ok(None) => ValidityAnswer::default(),
+            Err(e) => ValidityAnswer {
+                refusal: e.refusal.into(),
+                ..ValidityAnswer::default()
+            },
+        }
     }
 }
 
@@ -65,7 +58,7 @@ fn validity_out(r: Validity) -> ValidityAnswer
 pub extern "C" fn pw_builder_new() -> Builder
     ensures { result ≡ builder_out new_builder }
 {
-    builder_out(BitmapBuilder::new())
+    BitmapBuilder::new().into()
 }
 
 // Appends a flag.
@@ -80,7 +73,7 @@ pub extern "C" fn pw_push(
     ensures answer { result ≡ as_builder (append_answer (push_flag flag) (builder_in length word ones) buf.old) }
     ensures bytes { buf.new ≡ append_bytes (push_flag flag) (builder_in length word ones) buf.old }
 {
-    pushed_out(builder_in(length, word, ones).push(buf, flag))
+    builder_in(length, word, ones).push(buf, flag).into()
 }
 
 // Appends `n` copies of a flag.
@@ -96,7 +89,9 @@ pub extern "C" fn pw_extend_constant(
     ensures answer { result ≡ as_builder (append_answer (extend_constant n flag) (builder_in length word ones) buf.old) }
     ensures bytes { buf.new ≡ append_bytes (extend_constant n flag) (builder_in length word ones) buf.old }
 {
-    pushed_out(builder_in(length, word, ones).extend_constant(buf, n, flag))
+    builder_in(length, word, ones)
+        .extend_constant(buf, n, flag)
+        .into()
 }
 
 // Appends the first `n` flags of a word, whose bits from there on must be 0.
@@ -112,7 +107,9 @@ pub extern "C" fn pw_push_word_with_len_unchecked(
     ensures answer { result ≡ as_builder (append_answer (push_word flags n) (builder_in length word ones) buf.old) }
     ensures bytes { buf.new ≡ append_bytes (push_word flags n) (builder_in length word ones) buf.old }
 {
-    pushed_out(builder_in(length, word, ones).push_word_with_len_unchecked(buf, flags, n))
+    builder_in(length, word, ones)
+        .push_word_with_len_unchecked(buf, flags, n)
+        .into()
 }
 
 // Appends a span.
@@ -131,7 +128,9 @@ pub extern "C" fn pw_extend_from_slice(
     ensures bytes { buf.new ≡
         append_bytes (extend_slice bytes.now start n) (builder_in length word ones) buf.old }
 {
-    pushed_out(builder_in(length, word, ones).extend_from_slice(buf, bytes, start, n))
+    builder_in(length, word, ones)
+        .extend_from_slice(buf, bytes, start, n)
+        .into()
 }
 
 // Appends each flag of a span, `repeats` times in turn.
@@ -151,9 +150,9 @@ pub extern "C" fn pw_extend_each_repeated_from_slice_unchecked(
     ensures bytes { buf.new ≡
         append_bytes (extend_repeated bytes.now start n repeats) (builder_in length word ones) buf.old }
 {
-    pushed_out(builder_in(length, word, ones).extend_each_repeated_from_slice_unchecked(
-        buf, bytes, start, n, repeats,
-    ))
+    builder_in(length, word, ones)
+        .extend_each_repeated_from_slice_unchecked(buf, bytes, start, n, repeats)
+        .into()
 }
 
 // Appends `n` flags of a mask from its flag `start` on.
@@ -174,13 +173,9 @@ pub extern "C" fn pw_subslice_extend_from_bitmap(
     ensures bytes { buf.new ≡
         append_bytes (extend_bitmap (mask_in mask) bytes.now start n) (builder_in length word ones) buf.old }
 {
-    pushed_out(builder_in(length, word, ones).subslice_extend_from_bitmap(
-        buf,
-        mask_in(mask),
-        bytes,
-        start,
-        n,
-    ))
+    builder_in(length, word, ones)
+        .subslice_extend_from_bitmap(buf, mask.into(), bytes, start, n)
+        .into()
 }
 
 // Appends the flag of a span at each index, all of them below its length.
@@ -201,7 +196,9 @@ pub extern "C" fn pw_gather_extend_from_slice(
     ensures bytes { buf.new ≡
         append_bytes (extend_gather bytes.now start n idxs.now) (builder_in length word ones) buf.old }
 {
-    pushed_out(builder_in(length, word, ones).gather_extend_from_slice(buf, bytes, start, n, idxs))
+    builder_in(length, word, ones)
+        .gather_extend_from_slice(buf, bytes, start, n, idxs)
+        .into()
 }
 
 // Appends the flag of a span at each index, 0 for one at or past the span's length.
@@ -222,9 +219,9 @@ pub extern "C" fn pw_opt_gather_extend_from_slice(
     ensures bytes { buf.new ≡
         append_bytes (extend_opt_gather bytes.now start n idxs.now) (builder_in length word ones) buf.old }
 {
-    pushed_out(builder_in(length, word, ones).opt_gather_extend_from_slice(
-        buf, bytes, start, n, idxs,
-    ))
+    builder_in(length, word, ones)
+        .opt_gather_extend_from_slice(buf, bytes, start, n, idxs)
+        .into()
 }
 
 // The mask of the builder's flags, its zeros counted, over their frozen bytes, under the builder's serial, which the caller kept. The
@@ -240,7 +237,9 @@ pub extern "C" fn pw_freeze(
     ensures answer { result ≡ as_mask (freeze_of (serial_builder_in length word ones serial) buf.old) }
     ensures bytes { buf.new ≡ freeze_bytes (serial_builder_in length word ones serial) buf.old }
 {
-    frozen_out(serial_builder_in(length, word, ones, serial).freeze(buf))
+    serial_builder_in(length, word, ones, serial)
+        .freeze(buf)
+        .into()
 }
 
 // The bytes and the mask that pw_freeze gives, under the serial that the caller kept; no mask where all flags are set, so for no flags
@@ -257,5 +256,7 @@ pub extern "C" fn pw_into_opt_validity(
     ensures answer { result ≡ as_validity (into_opt_validity_of (serial_builder_in length word ones serial) buf.old) }
     ensures bytes { buf.new ≡ freeze_bytes (serial_builder_in length word ones serial) buf.old }
 {
-    validity_out(serial_builder_in(length, word, ones, serial).into_opt_validity(buf))
+    serial_builder_in(length, word, ones, serial)
+        .into_opt_validity(buf)
+        .into()
 }

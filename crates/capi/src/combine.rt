@@ -1,22 +1,13 @@
 // Exported to C and Rust: the combinations. Each writes frozen bytes over the front of `out` and gives the mask over them.
 ghost use Rattle.std.specs.Prelude.{◌≡◌};
-ghost use Rattle.masks.specs.Combine.{And, AndNot, Or, OrNot, Xor, combined_answer, pair_bytes, pair_of};
+ghost use Rattle.masks.specs.Combine.{And, AndNot, Or, OrNot, Xor, pair_bytes, pair_of};
 ghost use Rattle.masks.specs.Combine.{not_bytes, not_of, select_bytes, select_constant_bytes, select_constant_of, select_of};
 ghost use Rattle.capi.specs.Answers.{as_mask};
 ghost use Rattle.capi.specs.Records.{mask_in};
 
-use crate::answers::{MaskAnswer, mask_answer};
-use crate::records::{Mask, mask_in, mask_out, no_mask};
-use masks::bitmap_ops::{Combined, and, and_not, not, or, or_not, select, select_constant, xor};
-
-fn combined_out(r: Combined) -> MaskAnswer
-    ensures { result ≡ as_mask (combined_answer r) }
-{
-    match r {
-        Combined::Mask(m) => mask_answer(0, mask_out(m)),
-        Combined::Refused(k) => mask_answer(k, no_mask()),
-    }
-}
+use crate::answers::MaskAnswer;
+use crate::records::Mask;
+use masks::bitmap_ops::{and, and_not, not, or, or_not, select, select_constant, xor};
 
 // The flags that are set in both masks.
 #[unsafe(no_mangle)]
@@ -32,7 +23,7 @@ pub extern "C" fn pw_and(
     ensures bytes { out.new ≡
         pair_bytes And (mask_in lhs) left.now (mask_in rhs) right.now out.old }
 {
-    combined_out(and(mask_in(lhs), left, mask_in(rhs), right, out))
+    and(lhs.into(), left, rhs.into(), right, out).into()
 }
 
 // The flags that are set in the first mask and not in the second.
@@ -49,7 +40,7 @@ pub extern "C" fn pw_and_not(
     ensures bytes { out.new ≡
         pair_bytes AndNot (mask_in lhs) left.now (mask_in rhs) right.now out.old }
 {
-    combined_out(and_not(mask_in(lhs), left, mask_in(rhs), right, out))
+    and_not(lhs.into(), left, rhs.into(), right, out).into()
 }
 
 // The flags that are set in either mask.
@@ -66,7 +57,7 @@ pub extern "C" fn pw_or(
     ensures bytes { out.new ≡
         pair_bytes Or (mask_in lhs) left.now (mask_in rhs) right.now out.old }
 {
-    combined_out(or(mask_in(lhs), left, mask_in(rhs), right, out))
+    or(lhs.into(), left, rhs.into(), right, out).into()
 }
 
 // The flags that are set in the first mask or not in the second.
@@ -83,7 +74,7 @@ pub extern "C" fn pw_or_not(
     ensures bytes { out.new ≡
         pair_bytes OrNot (mask_in lhs) left.now (mask_in rhs) right.now out.old }
 {
-    combined_out(or_not(mask_in(lhs), left, mask_in(rhs), right, out))
+    or_not(lhs.into(), left, rhs.into(), right, out).into()
 }
 
 // The flags in which the masks differ.
@@ -100,7 +91,7 @@ pub extern "C" fn pw_xor(
     ensures bytes { out.new ≡
         pair_bytes Xor (mask_in lhs) left.now (mask_in rhs) right.now out.old }
 {
-    combined_out(xor(mask_in(lhs), left, mask_in(rhs), right, out))
+    xor(lhs.into(), left, rhs.into(), right, out).into()
 }
 
 // Each flag inverted.
@@ -109,7 +100,7 @@ pub extern "C" fn pw_not(mask: Mask, bytes: &[u8], out: &mut [u8]) -> MaskAnswer
     ensures answer { result ≡ as_mask (not_of (mask_in mask) bytes.now out.old) }
     ensures bytes { out.new ≡ not_bytes (mask_in mask) bytes.now out.old }
 {
-    combined_out(not(mask_in(mask), bytes, out))
+    not(mask.into(), bytes, out).into()
 }
 
 // The flag of `truthy` where the selector's is set, else that of `falsy`.
@@ -128,15 +119,16 @@ pub extern "C" fn pw_select(
     ensures bytes { out.new ≡
         select_bytes (mask_in selector) by.now (mask_in truthy) yes.now (mask_in falsy) no.now out.old }
 {
-    combined_out(select(
-        mask_in(selector),
+    select(
+        selector.into(),
         by,
-        mask_in(truthy),
+        truthy.into(),
         yes,
-        mask_in(falsy),
+        falsy.into(),
         no,
         out,
-    ))
+    )
+    .into()
 }
 
 // The flag of `truthy` where the selector's is set, else `flag`.
@@ -152,5 +144,5 @@ pub extern "C" fn pw_select_constant(
     ensures answer { result ≡ as_mask (select_constant_of (mask_in selector) by.now (mask_in truthy) yes.now flag out.old) }
     ensures bytes { out.new ≡ select_constant_bytes (mask_in selector) by.now (mask_in truthy) yes.now flag out.old }
 {
-    combined_out(select_constant(mask_in(selector), by, mask_in(truthy), yes, flag, out))
+    select_constant(selector.into(), by, truthy.into(), yes, flag, out).into()
 }

@@ -20,5 +20,6 @@ pub mod records;
 pub mod search;
 pub mod spans;
 pub mod superseding;
+pub mod walks;
 pub mod window;
 pub mod word;

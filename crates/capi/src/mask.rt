@@ -1,60 +1,51 @@
 // Exported to C and Rust: the calls that make a mask, cut it, count it and compare it.
 ghost use Rattle.std.specs.Prelude.{◌≡◌};
-ghost use Rattle.masks.specs.Compare.{common_of, compared_answer, edges_of, eq_of};
-ghost use Rattle.masks.specs.Mask.{counting_answer, empty_mask, made_answer, new_zeroed_bytes, new_zeroed_of, sliced_answer, slice_of, try_new_of};
+ghost use Rattle.masks.specs.Answer.{answer_back};
+ghost use Rattle.masks.specs.Compare.{common_of, edges_of, eq_of};
+ghost use Rattle.masks.specs.Mask.{empty_mask, new_zeroed_bytes, new_zeroed_of, slice_of, try_new_of};
 ghost use Rattle.masks.specs.Mask.{unset_bits_of};
 ghost use Rattle.capi.specs.Answers.{as_flag, as_mask, as_number, as_same_mask, as_zeros};
 ghost use Rattle.capi.specs.Records.{mask_in, mask_out};
 
-use crate::answers::{Flag, MaskAnswer, Number, ZerosAnswer, flag_of, mask_answer};
-use crate::records::{Mask, mask_in, mask_out, no_mask};
-use crate::spans::counted_out;
-use masks::bitmap::{Bitmap, Counting, Made, Sliced};
-use masks::compare::{Compared, eq, num_edges, num_intersections_with};
-
-fn made_out(r: Made) -> MaskAnswer
-    ensures { result ≡ as_mask (made_answer r) }
-{
-    match r {
-        Made::Mask(m) => mask_answer(0, mask_out(m)),
-        Made::Refused(k) => mask_answer(k, no_mask()),
-    }
-}
+use crate::answers::{Flag, MaskAnswer, Number, ZerosAnswer};
+use crate::records::Mask;
+use masks::bitmap::{Bitmap, Recounted};
+use masks::compare::{eq, num_edges, num_intersections_with};
+use masks::refusal::Refused;
 
 // `came` is the record that the export got.
-fn sliced_out(came: Mask, r: Sliced) -> MaskAnswer
-    ensures { result ≡ as_same_mask came (sliced_answer r) }
+#[tactic(auto, unfolding(crate::specs::Answers::as_same_mask))]
+fn sliced_out(came: Mask, r: Result<Bitmap, Refused<Bitmap>>) -> MaskAnswer
+    ensures { result ≡ as_same_mask came (answer_back r) }
 {
     match r {
-        Sliced::Mask(m) => mask_answer(0, mask_out(m)),
-        Sliced::Refused(k, _) => mask_answer(k, came),
-    }
-}
-
-// `came` is the record that the export got.
-fn counting_out(came: Mask, r: Counting) -> ZerosAnswer
-    ensures { result ≡ as_zeros came (counting_answer r) }
-{
-    match r {
-        Counting::Zeros(z, m) => ZerosAnswer {
+        Ok(m) => MaskAnswer {
             refusal: 0,
-            zeros: z,
-            mask: mask_out(m),
+            mask: m.into(),
         },
-        Counting::Refused(k, _) => ZerosAnswer {
-            refusal: k,
-            zeros: 0,
+        Err(e) => MaskAnswer {
+            refusal: e.refusal.into(),
             mask: came,
         },
     }
 }
 
-fn compared_out(r: Compared) -> Flag
-    ensures { result ≡ as_flag (compared_answer r) }
+// `came` is the record that the export got.
+#[tactic(auto, unfolding(crate::specs::Answers::as_zeros))]
+fn counting_out(came: Mask, r: Result<Recounted, Refused<Bitmap>>) -> ZerosAnswer
+    ensures { result ≡ as_zeros came (answer_back r) }
 {
     match r {
-        Compared::Equal(x) => flag_of(0, x),
-        Compared::Refused(k) => flag_of(k, false),
+        Ok(r) => ZerosAnswer {
+            refusal: 0,
+            zeros: r.zeros,
+            mask: r.mask.into(),
+        },
+        Err(e) => ZerosAnswer {
+            refusal: e.refusal.into(),
+            zeros: 0,
+            mask: came,
+        },
     }
 }
 
@@ -63,7 +54,7 @@ fn compared_out(r: Compared) -> Flag
 pub extern "C" fn pw_bitmap_new() -> Mask
     ensures { result ≡ mask_out empty_mask }
 {
-    mask_out(Bitmap::new())
+    Bitmap::new().into()
 }
 
 // A mask of `length` zeros, whose frozen bytes are written over the front of `out`.
@@ -72,7 +63,7 @@ pub extern "C" fn pw_new_zeroed(length: usize, out: &mut [u8]) -> MaskAnswer
     ensures answer { result ≡ as_mask (new_zeroed_of length out.old) }
     ensures bytes { out.new ≡ new_zeroed_bytes length out.old }
 {
-    made_out(Bitmap::new_zeroed(length, out))
+    Bitmap::new_zeroed(length, out).into()
 }
 
 // The mask of a span, its zeros not counted.
@@ -80,7 +71,7 @@ pub extern "C" fn pw_new_zeroed(length: usize, out: &mut [u8]) -> MaskAnswer
 pub extern "C" fn pw_try_new(bytes: &[u8], start: usize, length: usize) -> MaskAnswer
     ensures { result ≡ as_mask (try_new_of bytes.now start length) }
 {
-    made_out(Bitmap::try_new(bytes, start, length))
+    Bitmap::try_new(bytes, start, length).into()
 }
 
 // The piece of `length` flags from flag `offset` on.
@@ -88,7 +79,7 @@ pub extern "C" fn pw_try_new(bytes: &[u8], start: usize, length: usize) -> MaskA
 pub extern "C" fn pw_slice(mask: Mask, bytes: &[u8], offset: usize, length: usize) -> MaskAnswer
     ensures { result ≡ as_same_mask mask (slice_of (mask_in mask) bytes.now offset length) }
 {
-    sliced_out(mask, mask_in(mask).slice(bytes, offset, length))
+    sliced_out(mask, Bitmap::from(mask).slice(bytes, offset, length))
 }
 
 // Returns the number of zeros, and the mask with that count stored.
@@ -96,7 +87,7 @@ pub extern "C" fn pw_slice(mask: Mask, bytes: &[u8], offset: usize, length: usiz
 pub extern "C" fn pw_unset_bits(mask: Mask, bytes: &[u8]) -> ZerosAnswer
     ensures { result ≡ as_zeros mask (unset_bits_of (mask_in mask) bytes.now) }
 {
-    counting_out(mask, mask_in(mask).unset_bits(bytes))
+    counting_out(mask, Bitmap::from(mask).unset_bits(bytes))
 }
 
 // Whether lengths and flags are equal.
@@ -104,7 +95,7 @@ pub extern "C" fn pw_unset_bits(mask: Mask, bytes: &[u8]) -> ZerosAnswer
 pub extern "C" fn pw_eq(lhs: Mask, left: &[u8], rhs: Mask, right: &[u8]) -> Flag
     ensures { result ≡ as_flag (eq_of (mask_in lhs) left.now (mask_in rhs) right.now) }
 {
-    compared_out(eq(mask_in(lhs), left, mask_in(rhs), right))
+    eq(lhs.into(), left, rhs.into(), right).into()
 }
 
 // How many flags differ from the next one.
@@ -112,7 +103,7 @@ pub extern "C" fn pw_eq(lhs: Mask, left: &[u8], rhs: Mask, right: &[u8]) -> Flag
 pub extern "C" fn pw_num_edges(mask: Mask, bytes: &[u8]) -> Number
     ensures { result ≡ as_number (edges_of (mask_in mask) bytes.now) }
 {
-    counted_out(num_edges(mask_in(mask), bytes))
+    num_edges(mask.into(), bytes).into()
 }
 
 // How many flags are set in both masks.
@@ -125,5 +116,5 @@ pub extern "C" fn pw_num_intersections_with(
 ) -> Number
     ensures { result ≡ as_number (common_of (mask_in lhs) left.now (mask_in rhs) right.now) }
 {
-    counted_out(num_intersections_with(mask_in(lhs), left, mask_in(rhs), right))
+    num_intersections_with(lhs.into(), left, rhs.into(), right).into()
 }

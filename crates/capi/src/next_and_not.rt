@@ -1,20 +1,32 @@
 // Exported to C and Rust: the search for a flag that is set in one mask and not in another.
 ghost use Rattle.std.specs.Prelude.{◌≡◌};
-ghost use Rattle.masks.specs.NextAndNot.{next_and_not_of, searched_answer};
+ghost use Rattle.masks.specs.Answer.{answer};
+ghost use Rattle.masks.specs.NextAndNot.{next_and_not_of};
 ghost use Rattle.capi.specs.Answers.{as_next};
 ghost use Rattle.capi.specs.Records.{mask_in, optional_in};
 
-use crate::answers::{NextAnswer, next_of};
-use crate::records::{Mask, mask_in, optional_in};
-use masks::next_and_not::{Searched, next_and_not};
+use crate::answers::NextAnswer;
+use crate::records::{Mask, optional_in};
+use masks::next_and_not::{Found, next_and_not};
+use masks::refusal::Refusal;
 
-fn next_out(r: Searched) -> NextAnswer
-    ensures { result ≡ as_next (searched_answer r) }
-{
-    match r {
-        Searched::At(p, windows) => next_of(0, true, p, windows),
-        Searched::Missing(windows) => next_of(0, false, 0, windows),
-        Searched::Refused(k) => next_of(k, false, 0, 0),
+#[tactic(auto, unfolding(crate::specs::Answers::as_next))]
+impl From<Result<Found, Refusal>> for NextAnswer {
+    ghost from_gives = { λ r a. a ≡ as_next (answer r) };
+
+    fn from(r: Result<Found, Refusal>) -> NextAnswer {
+        match r {
+            Ok(f) => NextAnswer {
+                refusal: 0,
+                found: f.position.is_some(),
+                position: f.position.unwrap_or(0),
+                windows: f.windows,
+            },
+            Err(e) => NextAnswer {
+                refusal: e.into(),
+                ..NextAnswer::default()
+            },
+        }
     }
 }
 
@@ -34,11 +46,12 @@ pub extern "C" fn pw_next_and_not(
     ensures { result ≡
         as_next (next_and_not_of (mask_in first) first_bytes.now (optional_in second_present second) second_bytes.now from) }
 {
-    next_out(next_and_not(
-        mask_in(first),
+    next_and_not(
+        first.into(),
         first_bytes,
         optional_in(second_present, second),
         second_bytes,
         from,
-    ))
+    )
+    .into()
 }

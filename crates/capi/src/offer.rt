@@ -4,17 +4,29 @@ ghost use Rattle.dispatch.specs.Offer.{offer_answer, offer_of};
 ghost use Rattle.capi.specs.Answers.{as_offer};
 ghost use Rattle.capi.specs.Records.{optional_in};
 
-use crate::answers::{OfferAnswer, offer_of};
+use crate::answers::OfferAnswer;
 use crate::records::{Mask, optional_in};
-use dispatch::offer::{Offered, offer};
+use dispatch::offer::{NoOffer, Offering, offer};
 
-fn offer_out(r: Offered) -> OfferAnswer
-    ensures { result ≡ as_offer (offer_answer r) }
-{
-    match r {
-        Offered::Truck(truck, next, windows) => offer_of(0, true, truck, next, windows),
-        Offered::NoTruck(same, windows) => offer_of(0, false, 0, same, windows),
-        Offered::Refused(k, same) => offer_of(k, false, 0, same, 0),
+#[tactic(auto, unfolding(crate::specs::Answers::as_offer))]
+impl From<Result<Offering, NoOffer>> for OfferAnswer {
+    ghost from_gives = { λ r a. a ≡ as_offer (offer_answer r) };
+
+    fn from(r: Result<Offering, NoOffer>) -> OfferAnswer {
+        match r {
+            Ok(o) => OfferAnswer {
+                refusal: 0,
+                found: o.truck.is_some(),
+                truck: o.truck.unwrap_or(0),
+                cursor: o.cursor,
+                windows: o.windows,
+            },
+            Err(e) => OfferAnswer {
+                refusal: e.refusal.into(),
+                cursor: e.cursor,
+                ..OfferAnswer::default()
+            },
+        }
     }
 }
 
@@ -37,12 +49,12 @@ pub extern "C" fn pw_offer(
         as_offer (offer_of (optional_in permitted permission) permission_bytes.now (optional_in revoked revocation)
         revocation_bytes.now cursor) }
 {
-    let answer = offer(
+    offer(
         optional_in(permitted, permission),
         permission_bytes,
         optional_in(revoked, revocation),
         revocation_bytes,
         cursor,
-    );
-    offer_out(answer)
+    )
+    .into()
 }

@@ -1,21 +1,12 @@
 // Exported to C and Rust: dispatch.
 ghost use Rattle.std.specs.Prelude.{◌≡◌};
-ghost use Rattle.dispatch.specs.Dispatch.{may_reassign, reassign_answer};
+ghost use Rattle.dispatch.specs.Dispatch.{may_reassign};
 ghost use Rattle.capi.specs.Answers.{as_flag};
 ghost use Rattle.capi.specs.Records.{optional_in};
 
-use crate::answers::{Flag, flag_of};
+use crate::answers::Flag;
 use crate::records::{Mask, optional_in};
-use dispatch::dispatch::{Reassign, may_reassign};
-
-fn reassign_out(r: Reassign) -> Flag
-    ensures { result ≡ as_flag (reassign_answer r) }
-{
-    match r {
-        Reassign::May(x) => flag_of(0, x),
-        Reassign::Refused(k) => flag_of(k, false),
-    }
-}
+use dispatch::dispatch::may_reassign;
 
 // Whether truck number `truck` may be reassigned: its flag in the permission mask, and not in the revocation mask. Where not
 // `permitted` there is no permission mask, and the answer is no for every truck; where not `revoked` no revocation mask, which takes
@@ -36,11 +27,12 @@ pub extern "C" fn pw_may_reassign(
         as_flag (may_reassign (optional_in permitted permission) permission_bytes.now (optional_in revoked revocation)
         revocation_bytes.now truck) }
 {
-    reassign_out(may_reassign(
+    may_reassign(
         optional_in(permitted, permission),
         permission_bytes,
         optional_in(revoked, revocation),
         revocation_bytes,
         truck,
-    ))
+    )
+    .into()
 }

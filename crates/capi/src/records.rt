@@ -3,16 +3,15 @@
 // A builder and a cursor are given as a record and go in again as its numbers, which stay in registers: a record that is handed on
 // from call to call through memory costs several times the call.
 ghost use Rattle.std.specs.Prelude.{◌≡◌};
-ghost use Rattle.words.specs.Flags.{digit};
-ghost use Rattle.capi.specs.Records.{builder_in, builder_out, count_in, cursor_of, mask_in, mask_out, no_cursor, no_mask, optional_in, serial_builder_in};
+ghost use Rattle.capi.specs.Records.{builder_in, builder_out, mask_in, mask_out, optional_in, serial_builder_in};
 
-use masks::bitmap::{Bitmap, Optional, Unset};
+use masks::bitmap::Bitmap;
 use masks::builder::BitmapBuilder;
 
 // A mask: a span of its bytes, its zero count, and the serial of the revocation list that it was drawn up under. The count is read
 // where `known` is not 0; an unknown one is given as 0.
 #[repr(C)]
-#[derive(Clone, Copy)]
+#[derive(Clone, Copy, Default)]
 pub struct Mask {
     pub start: usize,
     pub length: usize,
@@ -34,7 +33,7 @@ pub struct Builder {
 // A cursor: a span and the next place in it, counted in flags, for pw_chunks_ in words. `masked` is read by pw_true_idx_next and
 // pw_true_idx_next_chunk alone, for which 0 says that there is no mask; every other call gives it as 1.
 #[repr(C)]
-#[derive(Clone, Copy)]
+#[derive(Clone, Copy, Default)]
 pub struct Cursor {
     pub start: usize,
     pub length: usize,
@@ -42,74 +41,49 @@ pub struct Cursor {
     pub masked: u8,
 }
 
-fn count_in(zeros: usize, known: u8) -> Unset
-    ensures { result ≡ count_in zeros known }
-{
-    if known == 0 {
-        Unset::Unknown
-    } else {
-        Unset::Known(zeros)
-    }
-}
+#[tactic(auto, unfolding(crate::specs::Records::mask_in, crate::specs::Records::count_in))]
+impl From<Mask> for Bitmap {
+    ghost from_gives = { λ m b. b ≡ mask_in m };
 
-pub(crate) fn mask_in(m: Mask) -> Bitmap
-    ensures { result ≡ mask_in m }
-{
-    let unset = count_in(m.zeros, m.known);
-    Bitmap {
-        start: m.start,
-        length: m.length,
-        unset: unset,
-        serial: m.serial,
-    }
-}
-
-pub(crate) fn mask_out(m: Bitmap) -> Mask
-    ensures { result ≡ mask_out m }
-{
-    let unset = m.unset;
-    match unset {
-        Unset::Known(z) => Mask {
+    fn from(m: Mask) -> Bitmap {
+        Bitmap {
             start: m.start,
             length: m.length,
-            zeros: z,
-            known: 1,
+            unset: if m.known == 0 { None } else { Some(m.zeros) },
             serial: m.serial,
-        },
-        Unset::Unknown => Mask {
-            start: m.start,
-            length: m.length,
-            zeros: 0,
-            known: 0,
-            serial: m.serial,
-        },
+        }
     }
 }
 
-pub(crate) fn no_mask() -> Mask
-    ensures { result ≡ no_mask }
-{
-    Mask {
-        start: 0,
-        length: 0,
-        zeros: 0,
-        known: 0,
-        serial: 0,
+#[tactic(auto, unfolding(crate::specs::Records::mask_out))]
+impl From<Bitmap> for Mask {
+    ghost from_gives = { λ b m. m ≡ mask_out b };
+
+    fn from(b: Bitmap) -> Mask {
+        let (zeros, known) = match b.unset {
+            Some(zeros) => (zeros, 1),
+            None => (0, 0),
+        };
+        Mask {
+            start: b.start,
+            length: b.length,
+            zeros,
+            known,
+            serial: b.serial,
+        }
     }
 }
 
 // Returns the mask if `present`. The record of an absent mask is not read.
-pub(crate) fn optional_in(present: bool, m: Mask) -> Optional
+#[tactic(auto, unfolding(crate::specs::Records::optional_in))]
+pub(crate) fn optional_in(present: bool, m: Mask) -> Option<Bitmap>
     ensures { result ≡ optional_in present m }
 {
-    if present {
-        Optional::Present(mask_in(m))
-    } else {
-        Optional::Absent
-    }
+    if present { Some(m.into()) } else { None }
 }
 
 // A builder to append to: its serial does not cross, and 0 stands for it.
+#[tactic(auto, unfolding(crate::specs::Records::builder_in, crate::specs::Records::serial_builder_in))]
 pub(crate) fn builder_in(length: usize, word: u64, ones: usize) -> BitmapBuilder
     ensures { result ≡ builder_in length word ones }
 {
@@ -117,46 +91,27 @@ pub(crate) fn builder_in(length: usize, word: u64, ones: usize) -> BitmapBuilder
 }
 
 // A builder to freeze, with the serial that the caller kept.
+#[tactic(auto, unfolding(crate::specs::Records::serial_builder_in))]
 pub(crate) fn serial_builder_in(length: usize, word: u64, ones: usize, serial: u32) -> BitmapBuilder
     ensures { result ≡ serial_builder_in length word ones serial }
 {
     BitmapBuilder {
-        length: length,
-        word: word,
-        ones: ones,
-        serial: serial,
+        length,
+        word,
+        ones,
+        serial,
     }
 }
 
-pub(crate) fn builder_out(b: BitmapBuilder) -> Builder
-    ensures { result ≡ builder_out b }
-{
-    Builder {
-        length: b.length,
-        word: b.word,
-        ones: b.ones,
+#[tactic(auto, unfolding(crate::specs::Records::builder_out))]
+impl From<BitmapBuilder> for Builder {
+    ghost from_gives = { λ b r. r ≡ builder_out b };
+
+    fn from(b: BitmapBuilder) -> Builder {
+        Builder {
+            length: b.length,
+            word: b.word,
+            ones: b.ones,
+        }
     }
-}
-
-pub(crate) fn cursor_of(start: usize, length: usize, place: usize, masked: u8) -> Cursor
-    ensures { result ≡ cursor_of start length place masked }
-{
-    Cursor {
-        start: start,
-        length: length,
-        place: place,
-        masked: masked,
-    }
-}
-
-pub(crate) fn no_cursor() -> Cursor
-    ensures { result ≡ no_cursor }
-{
-    cursor_of(0, 0, 0, 0)
-}
-
-pub(crate) fn flag_value(x: bool) -> u8
-    ensures { result ≡ digit x }
-{
-    if x { 1 } else { 0 }
 }

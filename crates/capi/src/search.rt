@@ -1,18 +1,29 @@
 // Exported to C and Rust: the searches for the n-th set flag of a span.
 ghost use Rattle.std.specs.Prelude.{◌≡◌};
-ghost use Rattle.masks.specs.Search.{position_answer, search_back, search_from};
+ghost use Rattle.masks.specs.Answer.{answer};
+ghost use Rattle.masks.specs.Search.{search_back, search_from};
 ghost use Rattle.capi.specs.Answers.{as_position};
 
-use crate::answers::{Position, position_of};
-use masks::bitmask::{Position as Found, nth_set_bit_idx, nth_set_bit_idx_rev};
+use crate::answers::Position;
+use masks::bitmask::{nth_set_bit_idx, nth_set_bit_idx_rev};
+use masks::refusal::Refusal;
 
-fn position_out(r: Found) -> Position
-    ensures { result ≡ as_position (position_answer r) }
-{
-    match r {
-        Found::At(p) => position_of(0, true, p),
-        Found::Missing => position_of(0, false, 0),
-        Found::Refused(k) => position_of(k, false, 0),
+#[tactic(auto, unfolding(crate::specs::Answers::as_position))]
+impl From<Result<Option<usize>, Refusal>> for Position {
+    ghost from_gives = { λ r a. a ≡ as_position (answer r) };
+
+    fn from(r: Result<Option<usize>, Refusal>) -> Position {
+        match r {
+            Ok(p) => Position {
+                refusal: 0,
+                found: p.is_some(),
+                value: p.unwrap_or(0),
+            },
+            Err(e) => Position {
+                refusal: e.into(),
+                ..Position::default()
+            },
+        }
     }
 }
 
@@ -27,7 +38,7 @@ pub extern "C" fn pw_nth_set_bit_idx(
 ) -> Position
     ensures { result ≡ as_position (search_from bytes.now start length n from) }
 {
-    position_out(nth_set_bit_idx(bytes, start, length, n, from))
+    nth_set_bit_idx(bytes, start, length, n, from).into()
 }
 
 // The position of the n-th set flag counted down from below `end`, which may exceed the length.
@@ -41,5 +52,5 @@ pub extern "C" fn pw_nth_set_bit_idx_rev(
 ) -> Position
     ensures { result ≡ as_position (search_back bytes.now start length n end) }
 {
-    position_out(nth_set_bit_idx_rev(bytes, start, length, n, end))
+    nth_set_bit_idx_rev(bytes, start, length, n, end).into()
 }

@@ -1,80 +1,60 @@
 // Exported to C and Rust: the calls over bare spans, which are the aligned split, the counts, a span cut in two and a window.
 ghost use Rattle.std.specs.Prelude.{◌≡◌, true, false};
-ghost use Rattle.masks.specs.Aligned.{aligned_answer, aligned_of};
-ghost use Rattle.masks.specs.Bitmask.{parts_answer, split_at, window_answer, window_at};
+ghost use Rattle.masks.specs.Answer.{answer};
+ghost use Rattle.masks.specs.Aligned.{aligned_of};
+ghost use Rattle.masks.specs.Bitmask.{split_at, window_at};
 ghost use Rattle.words.specs.Ends.{leading, trailing};
 ghost use Rattle.words.specs.Loops.{stretch};
-ghost use Rattle.masks.specs.Utils.{counted_answer, span_count, zeros};
+ghost use Rattle.masks.specs.Utils.{span_count, zeros};
 ghost use Rattle.capi.specs.Answers.{as_number, as_spans, as_split};
 
-use crate::answers::{Number, SpansAnswer, SplitAnswer, number_of};
-use masks::aligned::{Aligned, AlignedBitmapSlice};
-use masks::bitmask::{Parts, Window, get_u32, split_at_unchecked};
-use masks::utils::{
-    Counted, count_zeros, leading_ones, leading_zeros, trailing_ones, trailing_zeros,
-};
+use crate::answers::{Number, SpansAnswer, SplitAnswer};
+use masks::aligned::AlignedBitmapSlice;
+use masks::bitmask::{Span, get_u32, split_at_unchecked};
+use masks::refusal::Refusal;
+use masks::utils::{count_zeros, leading_ones, leading_zeros, trailing_ones, trailing_zeros};
 
-fn aligned_out(r: Aligned) -> SplitAnswer
-    ensures { result ≡ as_split (aligned_answer r) }
-{
-    match r {
-        Aligned::Split(s) => SplitAnswer {
-            refusal: 0,
-            prefix: s.prefix,
-            prefix_len: s.prefix_len,
-            bulk_start: s.bulk_start,
-            bulk_len: s.bulk_len,
-            suffix: s.suffix,
-            suffix_len: s.suffix_len,
-        },
-        Aligned::Refused(k) => SplitAnswer {
-            refusal: k,
-            prefix: 0,
-            prefix_len: 0,
-            bulk_start: 0,
-            bulk_len: 0,
-            suffix: 0,
-            suffix_len: 0,
-        },
+#[tactic(auto, unfolding(crate::specs::Answers::as_split))]
+impl From<Result<AlignedBitmapSlice, Refusal>> for SplitAnswer {
+    ghost from_gives = { λ r a. a ≡ as_split (answer r) };
+
+    fn from(r: Result<AlignedBitmapSlice, Refusal>) -> SplitAnswer {
+        match r {
+            Ok(s) => SplitAnswer {
+                refusal: 0,
+                prefix: s.prefix,
+                prefix_len: s.prefix_len,
+                bulk_start: s.bulk_start,
+                bulk_len: s.bulk_len,
+                suffix: s.suffix,
+                suffix_len: s.suffix_len,
+            },
+            Err(e) => SplitAnswer {
+                refusal: e.into(),
+                ..SplitAnswer::default()
+            },
+        }
     }
 }
 
-pub(crate) fn counted_out(r: Counted) -> Number
-    ensures { result ≡ as_number (counted_answer r) }
-{
-    match r {
-        Counted::Count(n) => number_of(0, n),
-        Counted::Refused(k) => number_of(k, 0),
-    }
-}
+#[tactic(auto, unfolding(crate::specs::Answers::as_spans))]
+impl From<Result<(Span, Span), Refusal>> for SpansAnswer {
+    ghost from_gives = { λ r a. a ≡ as_spans (answer r) };
 
-fn parts_out(r: Parts) -> SpansAnswer
-    ensures { result ≡ as_spans (parts_answer r) }
-{
-    match r {
-        Parts::Two(a, b) => SpansAnswer {
-            refusal: 0,
-            first_start: a.start,
-            first_length: a.length,
-            second_start: b.start,
-            second_length: b.length,
-        },
-        Parts::Refused(k) => SpansAnswer {
-            refusal: k,
-            first_start: 0,
-            first_length: 0,
-            second_start: 0,
-            second_length: 0,
-        },
-    }
-}
-
-fn window_out(r: Window) -> Number
-    ensures { result ≡ as_number (window_answer r) }
-{
-    match r {
-        Window::Flags(w) => number_of(0, w as usize),
-        Window::Refused(k) => number_of(k, 0),
+    fn from(r: Result<(Span, Span), Refusal>) -> SpansAnswer {
+        match r {
+            Ok((a, b)) => SpansAnswer {
+                refusal: 0,
+                first_start: a.start,
+                first_length: a.length,
+                second_start: b.start,
+                second_length: b.length,
+            },
+            Err(e) => SpansAnswer {
+                refusal: e.into(),
+                ..SpansAnswer::default()
+            },
+        }
     }
 }
 
@@ -89,7 +69,7 @@ pub extern "C" fn pw_aligned_new(
 ) -> SplitAnswer
     ensures { result ≡ as_split (aligned_of bytes.now start length address) }
 {
-    aligned_out(AlignedBitmapSlice::new(bytes, start, length, address))
+    AlignedBitmapSlice::new(bytes, start, length, address).into()
 }
 
 // How many flags of a span are zero, whatever `address` is. With length 0 it is 0, before any test.
@@ -103,7 +83,7 @@ pub extern "C" fn pw_count_zeros(
     ensures { result ≡
         as_number (span_count bytes.now start length address (zeros (stretch bytes.now start length))) }
 {
-    counted_out(count_zeros(bytes, start, length, address))
+    count_zeros(bytes, start, length, address).into()
 }
 
 // How many zeros stand before the first one of a span, whatever `address` is. With length 0 it is 0, before any test.
@@ -117,7 +97,7 @@ pub extern "C" fn pw_leading_zeros(
     ensures { result ≡
         as_number (span_count bytes.now start length address (leading false (stretch bytes.now start length))) }
 {
-    counted_out(leading_zeros(bytes, start, length, address))
+    leading_zeros(bytes, start, length, address).into()
 }
 
 // How many ones stand before the first zero of a span, whatever `address` is. With length 0 it is 0, before any test.
@@ -131,7 +111,7 @@ pub extern "C" fn pw_leading_ones(
     ensures { result ≡
         as_number (span_count bytes.now start length address (leading true (stretch bytes.now start length))) }
 {
-    counted_out(leading_ones(bytes, start, length, address))
+    leading_ones(bytes, start, length, address).into()
 }
 
 // How many zeros stand behind the last one of a span, whatever `address` is. With length 0 it is 0, before any test.
@@ -145,7 +125,7 @@ pub extern "C" fn pw_trailing_zeros(
     ensures { result ≡
         as_number (span_count bytes.now start length address (trailing false (stretch bytes.now start length))) }
 {
-    counted_out(trailing_zeros(bytes, start, length, address))
+    trailing_zeros(bytes, start, length, address).into()
 }
 
 // How many ones stand behind the last zero of a span, whatever `address` is. With length 0 it is 0, before any test.
@@ -159,7 +139,7 @@ pub extern "C" fn pw_trailing_ones(
     ensures { result ≡
         as_number (span_count bytes.now start length address (trailing true (stretch bytes.now start length))) }
 {
-    counted_out(trailing_ones(bytes, start, length, address))
+    trailing_ones(bytes, start, length, address).into()
 }
 
 // The spans of the flags before flag `at` and from it on.
@@ -172,7 +152,7 @@ pub extern "C" fn pw_split_at_unchecked(
 ) -> SpansAnswer
     ensures { result ≡ as_spans (split_at bytes.now start length at) }
 {
-    parts_out(split_at_unchecked(bytes, start, length, at))
+    split_at_unchecked(bytes, start, length, at).into()
 }
 
 // 32 flags from `index` on, the first in the lowest bit, zeros past the span's end.
@@ -180,5 +160,7 @@ pub extern "C" fn pw_split_at_unchecked(
 pub extern "C" fn pw_get_u32(bytes: &[u8], start: usize, length: usize, index: usize) -> Number
     ensures { result ≡ as_number (window_at bytes.now start length index) }
 {
-    window_out(get_u32(bytes, start, length, index))
+    get_u32(bytes, start, length, index)
+        .map(|w| w as usize)
+        .into()
 }

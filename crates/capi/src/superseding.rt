@@ -1,38 +1,34 @@
 // Exported to C and Rust: which of two masks supersedes the other. A reference does not cross: the part of the bytes is given by its
 // slice, its first byte and the byte past its last.
+#![tactic(auto, unfolding(crate::specs::Answers::as_part))]
+
 ghost use Rattle.std.specs.Prelude.{◌≡◌, cond};
-ghost use Rattle.masks.specs.Superseding.{bytes_of, superseding_of, winner_answer, within};
+ghost use Rattle.masks.specs.Answer.{answer};
+ghost use Rattle.masks.specs.Superseding.{bytes_of, superseding_of, within};
 ghost use Rattle.capi.specs.Answers.{as_part};
 ghost use Rattle.capi.specs.Records.{mask_in};
 
 use crate::answers::PartAnswer;
-use crate::records::{Mask, mask_in, mask_out, no_mask};
-use masks::superseding::{Winner, superseding_part};
+use crate::records::Mask;
+use masks::refusal::Refusal;
+use masks::superseding::{Part, superseding_part};
 
-fn winner_out(r: Winner) -> PartAnswer
-    ensures { result ≡ as_part (winner_answer r) }
-{
-    match r {
-        Winner::Found(part) => {
-            let mask = part.mask;
-            let crossing = mask_out(mask);
-            PartAnswer {
+impl From<Result<Part, Refusal>> for PartAnswer {
+    ghost from_gives = { λ r a. a ≡ as_part (answer r) };
+
+    fn from(r: Result<Part, Refusal>) -> PartAnswer {
+        match r {
+            Ok(part) => PartAnswer {
                 refusal: 0,
                 second: part.second,
                 from: part.from,
                 to: part.to,
-                mask: crossing,
-            }
-        }
-        Winner::Refused(k) => {
-            let none = no_mask();
-            PartAnswer {
-                refusal: k,
-                second: false,
-                from: 0,
-                to: 0,
-                mask: none,
-            }
+                mask: part.mask.into(),
+            },
+            Err(e) => PartAnswer {
+                refusal: e.into(),
+                ..PartAnswer::default()
+            },
         }
     }
 }
@@ -51,5 +47,5 @@ pub extern "C" fn pw_superseding(
         ≡ bytes_of (superseding_of (mask_in first) first_bytes.now (mask_in second) second_bytes.now)
         first_bytes.now second_bytes.now }
 {
-    winner_out(superseding_part(mask_in(first), first_bytes, mask_in(second), second_bytes))
+    superseding_part(first.into(), first_bytes, second.into(), second_bytes).into()
 }

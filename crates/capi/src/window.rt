@@ -2,12 +2,14 @@
 //
 // A window of minutes is lent as its two arrays, of 256 words and of 64 counts, and goes in with its place, its fill and its width,
 // as the call before gave them.
+#![tactic(auto, unfolding(activity::specs::Window::no_minute, crate::specs::Window::as_window, crate::specs::Window::unless_refused, crate::specs::Window::window_in))]
+
 ghost use Rattle.std.specs.Prelude.{◌≡◌};
-ghost use Rattle.activity.specs.Window.{new_of, push_of, counts_of};
+ghost use Rattle.activity.specs.Window.{number, accepted, new_of, push_of, counts_of};
 ghost use Rattle.capi.specs.Window.{as_window, unless_refused, window_in};
 
 use crate::answers::WindowAnswer;
-use activity::window::{Activity, ActivityWindow};
+use activity::window::{ActivityWindow, Refused};
 
 fn window_in(
     words: [u64; 256],
@@ -19,23 +21,46 @@ fn window_in(
     ensures { result ≡ window_in words counts place fill width }
 {
     ActivityWindow {
-        words: words,
-        counts: counts,
-        place: place,
-        fill: fill,
-        width: width,
+        words,
+        counts,
+        place,
+        fill,
+        width,
     }
 }
 
-fn window_out(a: Activity) -> WindowAnswer
-    ensures { result ≡ as_window a }
+// The answer of a call that refused: the numbers that it gives back.
+fn refused_out(e: Refused, place: usize, fill: usize, width: usize) -> WindowAnswer
+    ensures { result ≡ record { refusal = number e; place = place; fill = fill; width = width } }
 {
-    let window = a.window;
     WindowAnswer {
-        refusal: a.refusal,
-        place: window.place,
-        fill: window.fill,
-        width: window.width,
+        refusal: u8::from(e),
+        place,
+        fill,
+        width,
+    }
+}
+
+// Writes a window's arrays, and answers its numbers.
+fn window_out(a: ActivityWindow, words: &mut [u64; 256], counts: &mut [u32; 64]) -> WindowAnswer
+    ensures answer { result ≡ as_window (accepted a) }
+    ensures words { words.new ≡ a.words }
+    ensures counts { counts.new ≡ a.counts }
+{
+    let ActivityWindow {
+        words: kept,
+        counts: counted,
+        place,
+        fill,
+        width,
+    } = a;
+    *words = kept;
+    *counts = counted;
+    WindowAnswer {
+        refusal: 0,
+        place,
+        fill,
+        width,
     }
 }
 
@@ -48,20 +73,14 @@ pub extern "C" fn pw_activity_new(
 ) -> WindowAnswer
     ensures answer { result ≡ as_window (new_of width) }
     ensures words { words.new ≡
-        unless_refused (new_of width).refusal words.old (new_of width).window.words }
+        unless_refused (new_of width).refusal words.old (new_of width).value.words }
     ensures counts { counts.new ≡
-        unless_refused (new_of width).refusal counts.old (new_of width).window.counts }
+        unless_refused (new_of width).refusal counts.old (new_of width).value.counts }
 {
-    let made = ActivityWindow::new(width);
-    if made.refusal != 0 {
-        return window_out(made);
+    match ActivityWindow::new(width) {
+        Ok(made) => window_out(made, words, counts),
+        Err(e) => refused_out(e, 0, 0, 0),
     }
-    let window = made.window;
-    let new_words = window.words;
-    let new_counts = window.counts;
-    *words = new_words;
-    *counts = new_counts;
-    window_out(made)
 }
 
 // Puts the word of the next minute into the window, in the stead of the oldest where all places are taken.
@@ -76,19 +95,14 @@ pub extern "C" fn pw_activity_push_minute(
 ) -> WindowAnswer
     ensures answer { result ≡ as_window (push_of (window_in words.old counts.old place fill width) word) }
     ensures words { words.new ≡
-        (push_of (window_in words.old counts.old place fill width) word).window.words }
+        (push_of (window_in words.old counts.old place fill width) word).value.words }
     ensures counts { counts.new ≡
-        (push_of (window_in words.old counts.old place fill width) word).window.counts }
+        (push_of (window_in words.old counts.old place fill width) word).value.counts }
 {
-    let kept = *words;
-    let counted = *counts;
-    let after = window_in(kept, counted, place, fill, width).push_minute(word);
-    let window = after.window;
-    let new_words = window.words;
-    let new_counts = window.counts;
-    *words = new_words;
-    *counts = new_counts;
-    window_out(after)
+    match window_in(*words, *counts, place, fill, width).push_minute(word) {
+        Ok(after) => window_out(after, words, counts),
+        Err(e) => refused_out(e, place, fill, width),
+    }
 }
 
 // Writes to `out` for each flag how many of the kept words have it set.
@@ -104,15 +118,13 @@ pub extern "C" fn pw_activity_counts(
     ensures answer { result ≡ (counts_of (window_in words.now counts.now place fill width)).refusal }
     ensures counted { out.new ≡
         unless_refused (counts_of (window_in words.now counts.now place fill width)).refusal out.old
-        (counts_of (window_in words.now counts.now place fill width)).counts }
+        (counts_of (window_in words.now counts.now place fill width)).value }
 {
-    let kept = *words;
-    let counted = *counts;
-    let answer = window_in(kept, counted, place, fill, width).counts();
-    if answer.refusal != 0 {
-        return answer.refusal;
+    match window_in(*words, *counts, place, fill, width).counts() {
+        Ok(counted) => {
+            *out = counted;
+            0
+        }
+        Err(e) => u8::from(e),
     }
-    let new_counts = answer.counts;
-    *out = new_counts;
-    0
 }

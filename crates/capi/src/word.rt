@@ -2,25 +2,26 @@
 ghost use Rattle.std.specs.Prelude.{◌≡◌};
 ghost use Rattle.words.specs.Flags.{bits, flags_of, window, word_flags};
 ghost use Rattle.words.specs.Merge.{merged};
-ghost use Rattle.words.specs.Nth.{nth_found, nth_one};
+ghost use Rattle.words.specs.Nth.{nth_one};
 ghost use Rattle.capi.specs.Answers.{as_nth};
 
 use crate::answers::NthAnswer;
 use words::merge::merge_reversed;
-use words::nth::{Nth, nth_set_bit_u32, nth_set_bit_u64};
+use words::nth::{nth_set_bit_u32, nth_set_bit_u64};
 use words::word::load_padded_le_u64;
 
-fn nth_out(r: Nth) -> NthAnswer
-    ensures { result ≡ as_nth (nth_found r) }
+#[tactic(auto, unfolding(crate::specs::Answers::as_nth))]
+fn nth_out(r: Result<u32, u32>) -> NthAnswer
+    ensures { result ≡ as_nth r }
 {
     match r {
-        Nth::At(p) => NthAnswer {
+        Ok(p) => NthAnswer {
             refusal: 0,
             found: true,
             value: p,
             ones: 0,
         },
-        Nth::Missing(k) => NthAnswer {
+        Err(k) => NthAnswer {
             refusal: 0,
             found: false,
             value: 0,

@@ -1,6 +1,7 @@
 // Exported to C and Rust: which of two masks supersedes the other. A reference does not cross: the part of the bytes is given by its
 // slice, its first byte and the byte past its last.
 ghost use Rattle.std.specs.Prelude.{◌≡◌, cond};
+ghost use Rattle.masks.specs.Answer.{answer};
 ghost use Rattle.masks.specs.Superseding.{bytes_of, superseding_of, within};
 ghost use Rattle.capi.specs.Answers.{as_part};
 ghost use Rattle.capi.specs.Records.{mask_in};

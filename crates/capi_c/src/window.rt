@@ -17,9 +17,9 @@ pub extern "C" fn pw_activity_new(
 ) -> WindowAnswer
     ensures answer { result ≡ as_window (new_of width) }
     ensures words { words.new ≡
-        unless_refused (new_of width).refusal words.old (new_of width).window.words }
+        unless_refused (new_of width).refusal words.old (new_of width).value.words }
     ensures counts { counts.new ≡
-        unless_refused (new_of width).refusal counts.old (new_of width).window.counts }
+        unless_refused (new_of width).refusal counts.old (new_of width).value.counts }
 {
     capi::window::pw_activity_new(words, counts, width)
 }
@@ -36,9 +36,9 @@ pub extern "C" fn pw_activity_push_minute(
 ) -> WindowAnswer
     ensures answer { result ≡ as_window (push_of (window_in words.old counts.old place fill width) word) }
     ensures words { words.new ≡
-        (push_of (window_in words.old counts.old place fill width) word).window.words }
+        (push_of (window_in words.old counts.old place fill width) word).value.words }
     ensures counts { counts.new ≡
-        (push_of (window_in words.old counts.old place fill width) word).window.counts }
+        (push_of (window_in words.old counts.old place fill width) word).value.counts }
 {
     capi::window::pw_activity_push_minute(words, counts, place, fill, width, word)
 }
@@ -56,7 +56,7 @@ pub extern "C" fn pw_activity_counts(
     ensures answer { result ≡ (counts_of (window_in words.now counts.now place fill width)).refusal }
     ensures counted { out.new ≡
         unless_refused (counts_of (window_in words.now counts.now place fill width)).refusal out.old
-        (counts_of (window_in words.now counts.now place fill width)).counts }
+        (counts_of (window_in words.now counts.now place fill width)).value }
 {
     capi::window::pw_activity_counts(words, counts, place, fill, width, out)
 }

@@ -3,4 +3,4 @@ use mathlib.Core.Path.{refl}
 use Rattle.dispatch.specs.AnswerPlain.{AnswerPlain}
 
 pub answer-plain : AnswerPlain
-answer-plain = record { gives = λ a. refl; refuses = λ k. refl }
+answer-plain = record { gives = λ a. refl; refuses = λ r. refl }

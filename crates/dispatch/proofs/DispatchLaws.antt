@@ -1,5 +1,6 @@
 -- `may_reassign` has the checks of `and_not_at`. With a permission mask it is that call; with none an accepted call answers by the
 -- rule for none. Assumes nothing.
+use Rattle.std.specs.Prelude.{Option, Some, None}
 use mathlib.Core.Path.{◌≡◌, refl, sym, ap, ◌∙◌}
 use mathlib.Core.Bool.{Bool}
 use mathlib.Core.List.{List}
@@ -8,19 +9,17 @@ use Rattle.masks.specs.Answer.{given, refused, decided}
 use Rattle.masks.specs.AtIndex.{and_not_at_checks, and_not_at_of, and_not_flag}
 use Rattle.masks.specs.Checks.{first_failed}
 use Rattle.masks.specs.declared.bitmap.Bitmap.{Bitmap}
-use Rattle.masks.specs.declared.bitmap.Optional.{Optional}
-use Rattle.masks.specs.declared.bitmap.Optional.TheVariants.{Present, Absent}
 use Rattle.masks.proofs.AnswerLaws.{given-number, refused-failed, refused-number}
 use Rattle.masks.proofs.CheckLaws.{is-given, is-refused}
 use Rattle.dispatch.specs.Dispatch.{may_reassign, reassignable}
 
 -- with a permission mask: `and_not` at the truck's number
-pub is-and-not-at : (p : Bitmap) (p_bytes : List ℕ) (R : Optional) (r_bytes : List ℕ) (t : ℕ)
-    → and_not_at_of (Present p) p_bytes R r_bytes t ≡ may_reassign (Present p) p_bytes R r_bytes t
+pub is-and-not-at : (p : Bitmap) (p_bytes : List ℕ) (R : Option Bitmap) (r_bytes : List ℕ) (t : ℕ)
+    → and_not_at_of (Some p) p_bytes R r_bytes t ≡ may_reassign (Some p) p_bytes R r_bytes t
 unfolding and_not_at_of may_reassign reassignable
 is-and-not-at p p_bytes R r_bytes t = refl
 
-module _ (P : Optional) (p_bytes : List ℕ) (R : Optional) (r_bytes : List ℕ) (t : ℕ) where
+module _ (P : Option Bitmap) (p_bytes : List ℕ) (R : Option Bitmap) (r_bytes : List ℕ) (t : ℕ) where
   number : ℕ
   number = first_failed (and_not_at_checks P p_bytes R r_bytes t)
 
@@ -28,19 +27,19 @@ module _ (P : Optional) (p_bytes : List ℕ) (R : Optional) (r_bytes : List ℕ)
   flag = and_not_flag P p_bytes R r_bytes t
 
   -- with a permission mask the flag of the two masks is the answer
-  pub flag-given : (p : Bitmap) (x : Bool) → P ≡ Present p → given x ≡ and_not_at_of P p_bytes R r_bytes t
+  pub flag-given : (p : Bitmap) (x : Bool) → P ≡ Some p → given x ≡ and_not_at_of P p_bytes R r_bytes t
       → given x ≡ may_reassign P p_bytes R r_bytes t
   flag-given p x here e =
-      e ∙ ap (λ (o : Optional). and_not_at_of o p_bytes R r_bytes t) here ∙ is-and-not-at p p_bytes R r_bytes t
-      ∙ ap (λ (o : Optional). may_reassign o p_bytes R r_bytes t) (sym here)
+      e ∙ ap (λ (o : Option Bitmap). and_not_at_of o p_bytes R r_bytes t) here ∙ is-and-not-at p p_bytes R r_bytes t
+      ∙ ap (λ (o : Option Bitmap). may_reassign o p_bytes R r_bytes t) (sym here)
 
   -- with none it is what the definition has for none, whatever that flag
-  pub rule-given : (x y : Bool) → P ≡ Absent → given x ≡ and_not_at_of P p_bytes R r_bytes t → y ≡ reassignable Absent p_bytes R r_bytes t
+  pub rule-given : (x y : Bool) → P ≡ None → given x ≡ and_not_at_of P p_bytes R r_bytes t → y ≡ reassignable None p_bytes R r_bytes t
       → given y ≡ may_reassign P p_bytes R r_bytes t
   unfolding and_not_at_of may_reassign number flag
   rule-given x y gone e h =
       is-given 0 number tt y (given-number number tt x flag e) refl
-      ∙ ap (decided number tt) (h ∙ ap (λ (o : Optional). reassignable o p_bytes R r_bytes t) (sym gone))
+      ∙ ap (decided number tt) (h ∙ ap (λ (o : Option Bitmap). reassignable o p_bytes R r_bytes t) (sym gone))
 
   -- a refusal is passed on
   pub refusal-given : (k : ℕ) → refused k tt ≡ and_not_at_of P p_bytes R r_bytes t → refused k tt ≡ may_reassign P p_bytes R r_bytes t

@@ -1,29 +1,29 @@
 -- `offer` by the search `next_and_not`: the number of windows that the search gives is the one in the paper's words, and at most
 -- ceil(length / 32) + 1. Assumes nothing.
+use Rattle.std.specs.Prelude.{Option, Some, None}
 use mathlib.Core.Path.{◌≡◌, refl, sym, ap, ap₂, ◌∙◌, subst}
 use mathlib.Core.Bool.{Bool, true}
 use mathlib.Core.List.{List, [], ◌∷◌, ◌++◌, append-nil}
-use mathlib.Core.Option.{Option, none, some}
 use mathlib.Core.Logic.{⊎_elim}
 use Prim.Native.Nat.{ℕ, zero, suc, ◌+◌, ◌*◌, ◌-◌, ◌/◌, ◌≤◌, ◌<◌}
 use native.Mathlib.Omega.{arith}
 use lib.Dec.{leb}
 use lib.ListN.{length, length-append}
 use borrow.Author.Tests.{lt-ltb, le-ltb, le-leb, lt-leb}
+use Rattle.masks.specs.declared.next_and_not.Found.{Found}
 use Rattle.masks.specs.Answer.{given, refused, decided}
 use Rattle.masks.specs.Checks.{check, earlier, first_failed, limit}
 use Rattle.masks.specs.Mask.{mask_checks}
-use Rattle.masks.specs.NextAndNot.{Found, free_flags, going_round, next_and_not_of, next_checks, next_set, other_checks, windows_of}
+use Rattle.masks.specs.NextAndNot.{free_flags, going_round, next_and_not_of, next_checks, next_set, other_checks, windows_of}
 use Rattle.masks.specs.Workers.{Searchable}
 use Rattle.masks.specs.Search.{nth_from}
 use Rattle.masks.specs.declared.bitmap.Bitmap.{Bitmap}
-use Rattle.masks.specs.declared.bitmap.Optional.{Optional}
-use Rattle.masks.specs.declared.bitmap.Optional.TheVariants.{Present, Absent}
 use Rattle.masks.proofs.AnswerLaws.{given-number, given-value, refused-failed, refused-number}
 use Rattle.masks.proofs.CheckLaws.{earlier-none, failed-append, is-given, is-refused, one-check}
 use Rattle.masks.proofs.NextAndNotLaws.{free-length, next-allowed}
 use Rattle.masks.proofs.NextPlain.{lt-or-le, none-some, some-ahead, some-before, some_same}
-use Rattle.dispatch.specs.Offer.{beginning, in_order, most_windows, moved_to, next_truck, offer_checks, offered_of, Offering, offering, offer_of, or_else, up_to, windows_read}
+use Rattle.dispatch.specs.declared.offer.Offering.{Offering}
+use Rattle.dispatch.specs.Offer.{beginning, in_order, most_windows, moved_to, next_truck, offer_checks, offered_of, offering, offer_of, or_else, up_to, windows_read}
 
 -- ---- windows in order
 
@@ -70,11 +70,11 @@ abbrev pub as-offer : ℕ → Found → Offering
 as-offer cursor F = offered cursor F.position F.windows
 
 module _ (n cursor : ℕ) (inside : cursor ≤ n) where
-  read-ahead : (t : ℕ) → cursor ≤ t → t < n → (t - cursor) / 32 + 1 ≡ windows_read n cursor (some t)
+  read-ahead : (t : ℕ) → cursor ≤ t → t < n → (t - cursor) / 32 + 1 ≡ windows_read n cursor (Some t)
   unfolding windows_read in_order
   read-ahead t a b = sym (up_to_there n cursor n t (beginning cursor 0 cursor) (omega arith) a b)
 
-  read-before : (t : ℕ) → t < cursor → windows_of (n - cursor) + (t / 32 + 1) ≡ windows_read n cursor (some t)
+  read-before : (t : ℕ) → t < cursor → windows_of (n - cursor) + (t / 32 + 1) ≡ windows_read n cursor (Some t)
   unfolding windows_read in_order
   read-before t b =
       let first = beginning-length n cursor n (omega arith) in
@@ -83,7 +83,7 @@ module _ (n cursor : ℕ) (inside : cursor ≤ n) where
       sym (up_to_past n cursor n t (beginning cursor 0 cursor) b
       ∙ ap₂ (λ (x y : ℕ). x + y) first (ap (up_to t) (sym (append-nil (beginning cursor 0 cursor))) ∙ second))
 
-  read_all : windows_of (n - cursor) + windows_of cursor ≡ windows_read n cursor none
+  read_all : windows_of (n - cursor) + windows_of cursor ≡ windows_read n cursor None
   unfolding windows_read in_order
   read_all =
       let z : (cursor - 0 + 31) / 32 ≡ windows_of cursor = omega arith in
@@ -95,12 +95,12 @@ module _ (n cursor : ℕ) (inside : cursor ≤ n) where
     round-here : (A B : Option ℕ) → nth_from l 0 cursor ≡ A → nth_from l 0 0 ≡ B
         → as-offer cursor (going_round n cursor A B) ≡ offered cursor (or_else A B) (windows_read n cursor (or_else A B))
     unfolding going_round
-    round-here (some t) B e f =
+    round-here (Some t) B e f =
         let at = some-ahead l cursor t e in
-        ap (offered cursor (some t)) (read-ahead t at.0 (omega (arith, at.1)))
-    round-here none (some t) e f =
-        ap (offered cursor (some t)) (read-before t (some-before l cursor t e f))
-    round-here none none e f = ap (offered cursor none) read_all
+        ap (offered cursor (Some t)) (read-ahead t at.0 (omega (arith, at.1)))
+    round-here None (Some t) e f =
+        ap (offered cursor (Some t)) (read-before t (some-before l cursor t e f))
+    round-here None None e f = ap (offered cursor None) read_all
 
     -- the search's answer as an offer
     pub as_offered : (F : Found) → F ≡ next_set n l cursor → as-offer cursor F ≡ offering n l cursor
@@ -111,9 +111,9 @@ module _ (n cursor : ℕ) (inside : cursor ≤ n) where
 
     bound-here : (A B : Option ℕ) → nth_from l 0 cursor ≡ A → nth_from l 0 0 ≡ B → (going_round n cursor A B).windows ≤ (n + 31) / 32 + 1
     unfolding going_round
-    bound-here (some t) B e f = let at = some-ahead l cursor t e in omega (arith, at.0, at.1)
-    bound-here none (some t) e f = let at = some-before l cursor t e f in omega arith
-    bound-here none none e f = omega arith
+    bound-here (Some t) B e f = let at = some-ahead l cursor t e in omega (arith, at.0, at.1)
+    bound-here None (Some t) e f = let at = some-before l cursor t e f in omega arith
+    bound-here None None e f = omega arith
 
     -- and its bound
     pub search-bound : (F : Found) → F ≡ next_set n l cursor → F.windows ≤ (n + 31) / 32 + 1
@@ -121,14 +121,14 @@ module _ (n cursor : ℕ) (inside : cursor ≤ n) where
     search-bound F e =
         subst (λ (G : Found). G.windows ≤ (n + 31) / 32 + 1) (sym e) (bound-here (nth_from l 0 cursor) (nth_from l 0 0) refl refl)
 
-    inside-here : (A B : Option ℕ) (t : ℕ) → nth_from l 0 cursor ≡ A → nth_from l 0 0 ≡ B → (going_round n cursor A B).position ≡ some t → t < n
+    inside-here : (A B : Option ℕ) (t : ℕ) → nth_from l 0 cursor ≡ A → nth_from l 0 0 ≡ B → (going_round n cursor A B).position ≡ Some t → t < n
     unfolding going_round
-    inside-here (some p) B t e f g = omega (arith, (some-ahead l cursor p e).1, some_same p t g)
-    inside-here none (some p) t e f g = omega (arith, (some-ahead l 0 p f).1, some_same p t g)
-    inside-here none none t e f g = absurd (none-some t g)
+    inside-here (Some p) B t e f g = omega (arith, (some-ahead l cursor p e).1, some_same p t g)
+    inside-here None (Some p) t e f g = omega (arith, (some-ahead l 0 p f).1, some_same p t g)
+    inside-here None None t e f g = absurd (none-some t g)
 
     -- a truck that is found is one of them
-    pub search-inside : (F : Found) (t : ℕ) → F ≡ next_set n l cursor → F.position ≡ some t → t < n
+    pub search-inside : (F : Found) (t : ℕ) → F ≡ next_set n l cursor → F.position ≡ Some t → t < n
     unfolding next_set
     search-inside F t e g =
         inside-here (nth_from l 0 cursor) (nth_from l 0 0) t refl refl (ap (λ (G : Found). G.position) (sym e) ∙ g)
@@ -136,7 +136,7 @@ module _ (n cursor : ℕ) (inside : cursor ≤ n) where
 -- ---- the ways out
 
 -- with a permission mask
-module _ (p : Bitmap) (p_bytes : List ℕ) (R : Optional) (r_bytes : List ℕ) (cursor : ℕ) where
+module _ (p : Bitmap) (p_bytes : List ℕ) (R : Option Bitmap) (r_bytes : List ℕ) (cursor : ℕ) where
   number : ℕ
   number = first_failed (next_checks p p_bytes R r_bytes cursor)
 
@@ -159,56 +159,56 @@ module _ (p : Bitmap) (p_bytes : List ℕ) (R : Optional) (r_bytes : List ℕ) (
     long : length (free_flags p p_bytes R r_bytes) ≡ p.length
     long = free-length p p_bytes R r_bytes ok.beside
 
-    pub found-way : given (as-offer cursor F) ≡ offer_of (Present p) p_bytes R r_bytes cursor
+    pub found-way : given (as-offer cursor F) ≡ offer_of (Some p) p_bytes R r_bytes cursor
     unfolding offer_of offer_checks offered_of number found
     found-way =
         ap given (as_offered p.length cursor ok.ordered (free_flags p p_bytes R r_bytes) long F is_found)
         ∙ is-given 0 number cursor (offering p.length (free_flags p p_bytes R r_bytes) cursor) passed refl
 
-    pub found-bound : F.windows ≤ most_windows (Present p)
+    pub found-bound : F.windows ≤ most_windows (Some p)
     unfolding found
     found-bound = search-bound p.length cursor ok.ordered (free_flags p p_bytes R r_bytes) long F is_found
 
-    pub found_inside : (t : ℕ) → F.position ≡ some t → t < limit
+    pub found_inside : (t : ℕ) → F.position ≡ Some t → t < limit
     unfolding found
     found_inside t h =
         omega (arith, search-inside p.length cursor ok.ordered (free_flags p p_bytes R r_bytes) long F t is_found h, ok.short)
 
-  pub refused-way : (k : ℕ) → refused k tt ≡ next_and_not_of p p_bytes R r_bytes cursor → refused k cursor ≡ offer_of (Present p) p_bytes R r_bytes cursor
+  pub refused-way : (k : ℕ) → refused k tt ≡ next_and_not_of p p_bytes R r_bytes cursor → refused k cursor ≡ offer_of (Some p) p_bytes R r_bytes cursor
   unfolding next_and_not_of offer_of offer_checks number found
   refused-way k e =
       let same = refused-number k number tt tt found e in
-      is-refused k number cursor (offered_of (Present p) p_bytes R r_bytes cursor) same (λ z. refused-failed k number tt tt found e (sym same ∙ z))
+      is-refused k number cursor (offered_of (Some p) p_bytes R r_bytes cursor) same (λ z. refused-failed k number tt tt found e (sym same ∙ z))
 
 -- without one: the search over a revocation mask asks the checks of that mask
-lone-number : (r : Bitmap) (r_bytes p_bytes : List ℕ) → first_failed (next_checks r r_bytes Absent p_bytes 0) ≡ first_failed (mask_checks r r_bytes)
+lone-number : (r : Bitmap) (r_bytes p_bytes : List ℕ) → first_failed (next_checks r r_bytes None p_bytes 0) ≡ first_failed (mask_checks r r_bytes)
 unfolding next_checks other_checks
 lone-number r r_bytes p_bytes =
     failed-append (mask_checks r r_bytes) (check 6 (leb 0 r.length) ∷ [])
     ∙ ap (earlier (first_failed (mask_checks r r_bytes))) (sym (one-check 0 6 true (leb 0 r.length) refl (sym (le-leb 0 r.length (omega arith)))))
     ∙ earlier-none (first_failed (mask_checks r r_bytes))
 
-module _ (p_bytes : List ℕ) (R : Optional) (r : Bitmap) (r_bytes : List ℕ) (cursor : ℕ) (here : R ≡ Present r) where
+module _ (p_bytes : List ℕ) (R : Option Bitmap) (r : Bitmap) (r_bytes : List ℕ) (cursor : ℕ) (here : R ≡ Some r) where
   lone : ℕ
-  lone = first_failed (next_checks r r_bytes Absent p_bytes 0)
+  lone = first_failed (next_checks r r_bytes None p_bytes 0)
 
-  pub none-way : (F : Found) → given F ≡ next_and_not_of r r_bytes Absent p_bytes 0 → given (offered cursor none 0) ≡ offer_of Absent p_bytes R r_bytes cursor
+  pub none-way : (F : Found) → given F ≡ next_and_not_of r r_bytes None p_bytes 0 → given (offered cursor None 0) ≡ offer_of None p_bytes R r_bytes cursor
   unfolding next_and_not_of offer_of offer_checks offered_of lone
   none-way F e =
-      let z : 0 ≡ lone = given-number lone tt F (next_set r.length (free_flags r r_bytes Absent p_bytes) 0) e in
-      is-given 0 (first_failed (mask_checks r r_bytes)) cursor (offered cursor none 0) (z ∙ lone-number r r_bytes p_bytes) refl
-      ∙ ap (λ (o : Optional). offer_of Absent p_bytes o r_bytes cursor) (sym here)
+      let z : 0 ≡ lone = given-number lone tt F (next_set r.length (free_flags r r_bytes None p_bytes) 0) e in
+      is-given 0 (first_failed (mask_checks r r_bytes)) cursor (offered cursor None 0) (z ∙ lone-number r r_bytes p_bytes) refl
+      ∙ ap (λ (o : Option Bitmap). offer_of None p_bytes o r_bytes cursor) (sym here)
 
-  pub none-refused : (k : ℕ) → refused k tt ≡ next_and_not_of r r_bytes Absent p_bytes 0 → refused k cursor ≡ offer_of Absent p_bytes R r_bytes cursor
+  pub none-refused : (k : ℕ) → refused k tt ≡ next_and_not_of r r_bytes None p_bytes 0 → refused k cursor ≡ offer_of None p_bytes R r_bytes cursor
   unfolding next_and_not_of offer_of offer_checks offered_of lone
   none-refused k e =
-      let v = next_set r.length (free_flags r r_bytes Absent p_bytes) 0 in
+      let v = next_set r.length (free_flags r r_bytes None p_bytes) 0 in
       let same = refused-number k lone tt tt v e in
-      is-refused k (first_failed (mask_checks r r_bytes)) cursor (offered cursor none 0) (same ∙ lone-number r r_bytes p_bytes)
+      is-refused k (first_failed (mask_checks r r_bytes)) cursor (offered cursor None 0) (same ∙ lone-number r r_bytes p_bytes)
       (λ z. refused-failed k lone tt tt v e (sym same ∙ z))
-      ∙ ap (λ (o : Optional). offer_of Absent p_bytes o r_bytes cursor) (sym here)
+      ∙ ap (λ (o : Option Bitmap). offer_of None p_bytes o r_bytes cursor) (sym here)
 
 -- with no mask at all
-pub no-mask-way : (p_bytes : List ℕ) (R : Optional) (r_bytes : List ℕ) (cursor : ℕ) → R ≡ Absent → given (offered cursor none 0) ≡ offer_of Absent p_bytes R r_bytes cursor
+pub no-mask-way : (p_bytes : List ℕ) (R : Option Bitmap) (r_bytes : List ℕ) (cursor : ℕ) → R ≡ None → given (offered cursor None 0) ≡ offer_of None p_bytes R r_bytes cursor
 unfolding offer_of offer_checks offered_of first_failed decided
-no-mask-way p_bytes R r_bytes cursor gone = ap (λ (o : Optional). offer_of Absent p_bytes o r_bytes cursor) (sym gone)
+no-mask-way p_bytes R r_bytes cursor gone = ap (λ (o : Option Bitmap). offer_of None p_bytes o r_bytes cursor) (sym gone)

@@ -1,4 +1,5 @@
 -- `may_reassign` and `offer` refuse by the numbers listed for them alone, and each of these has an input. Assumes nothing.
+use Rattle.std.specs.Prelude.{Some, None}
 use mathlib.Core.Path.{refl}
 use Rattle.masks.specs.Answer.{decided}
 use Rattle.masks.specs.AtIndex.{and_not_at_checks, index_checks, length_checks}
@@ -6,7 +7,6 @@ use Rattle.masks.specs.Checks.{earlier, first_failed, rank, place_in, span_check
 use Rattle.masks.specs.Mask.{mask_checks}
 use Rattle.masks.specs.NextAndNot.{next_checks, other_checks}
 use Rattle.masks.specs.Refusals.{numbers, among, all_among}
-use Rattle.masks.specs.declared.bitmap.Optional.TheVariants.{Present, Absent}
 use Rattle.masks.specs.Utils.{zeros}
 use Rattle.masks.proofs.Refusals.{refuses-by}
 use Rattle.masks.proofs.WrongAnswers.{bits, count, flags_of, window}
@@ -16,10 +16,10 @@ use Rattle.dispatch.specs.Refusals.{OfferRefusals, OfferWitnessed, Refusals, Wit
 
 pub refusals : Refusals
 unfolding may_reassign and_not_at_checks index_checks length_checks mask_checks span_checks numbers among all_among
-refusals (Present p) p_bytes (Present r) r_bytes t = refuses-by (and_not_at_checks (Present p) p_bytes (Present r) r_bytes t) _ _ _ refl
-refusals (Present p) p_bytes Absent r_bytes t = refuses-by (and_not_at_checks (Present p) p_bytes Absent r_bytes t) _ _ _ refl
-refusals Absent p_bytes (Present r) r_bytes t = refuses-by (and_not_at_checks Absent p_bytes (Present r) r_bytes t) _ _ _ refl
-refusals Absent p_bytes Absent r_bytes t = refuses-by (and_not_at_checks Absent p_bytes Absent r_bytes t) _ _ _ refl
+refusals (Some p) p_bytes (Some r) r_bytes t = refuses-by (and_not_at_checks (Some p) p_bytes (Some r) r_bytes t) _ _ _ refl
+refusals (Some p) p_bytes None r_bytes t = refuses-by (and_not_at_checks (Some p) p_bytes None r_bytes t) _ _ _ refl
+refusals None p_bytes (Some r) r_bytes t = refuses-by (and_not_at_checks None p_bytes (Some r) r_bytes t) _ _ _ refl
+refusals None p_bytes None r_bytes t = refuses-by (and_not_at_checks None p_bytes None r_bytes t) _ _ _ refl
 
 pub witnessed : Witnessed
 unfolding
@@ -29,10 +29,10 @@ witnessed = record { first = refl; second = refl; permission = refl; revocation 
 
 pub offer_refusals : OfferRefusals
 unfolding offer_of offer_checks next_checks other_checks mask_checks span_checks numbers among all_among
-offer_refusals (Present p) p_bytes (Present r) r_bytes c = refuses-by (offer_checks (Present p) p_bytes (Present r) r_bytes c) _ _ _ refl
-offer_refusals (Present p) p_bytes Absent r_bytes c = refuses-by (offer_checks (Present p) p_bytes Absent r_bytes c) _ _ _ refl
-offer_refusals Absent p_bytes (Present r) r_bytes c = refuses-by (offer_checks Absent p_bytes (Present r) r_bytes c) _ _ _ refl
-offer_refusals Absent p_bytes Absent r_bytes c = refuses-by (offer_checks Absent p_bytes Absent r_bytes c) _ _ _ refl
+offer_refusals (Some p) p_bytes (Some r) r_bytes c = refuses-by (offer_checks (Some p) p_bytes (Some r) r_bytes c) _ _ _ refl
+offer_refusals (Some p) p_bytes None r_bytes c = refuses-by (offer_checks (Some p) p_bytes None r_bytes c) _ _ _ refl
+offer_refusals None p_bytes (Some r) r_bytes c = refuses-by (offer_checks None p_bytes (Some r) r_bytes c) _ _ _ refl
+offer_refusals None p_bytes None r_bytes c = refuses-by (offer_checks None p_bytes None r_bytes c) _ _ _ refl
 
 pub offer_witnessed : OfferWitnessed
 unfolding

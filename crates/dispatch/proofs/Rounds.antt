@@ -1,8 +1,8 @@
 -- What `offer` means for trucks: `right` of one call, `round` of as many calls as there are trucks that may be reassigned. Assumes nothing.
+use Rattle.std.specs.Prelude.{Option, Some}
 use mathlib.Core.Path.{◌≡◌, refl, sym, ap, ap₂, ◌∙◌, subst}
 use mathlib.Core.Bool.{Bool, true, false}
 use mathlib.Core.List.{List, [], ◌∷◌, ◌++◌}
-use mathlib.Core.Option.{Option, some}
 use Prim.Native.Nat.{ℕ, zero, suc, ◌+◌, ◌-◌, ◌≤◌}
 use native.Mathlib.Omega.{arith}
 use lib.ListN.{length, take, get_or, length-append}
@@ -12,13 +12,12 @@ use Rattle.masks.specs.Checks.{first_failed}
 use Rattle.masks.specs.NextAndNot.{free_flags}
 use Rattle.masks.specs.Workers.{Searchable}
 use Rattle.masks.specs.declared.bitmap.Bitmap.{Bitmap}
-use Rattle.masks.specs.declared.bitmap.Optional.{Optional}
-use Rattle.masks.specs.declared.bitmap.Optional.TheVariants.{Present}
 use Rattle.masks.proofs.CheckLaws.{is-given}
 use Rattle.masks.proofs.NextAndNotLaws.{elsewhere-accepted, free-length, next-allowed}
 use Rattle.masks.proofs.NextPlain.{first-listed, free-flag, head_of, none-some, ones, ones-same, some_same}
 use Rattle.dispatch.specs.Dispatch.{reassignable}
-use Rattle.dispatch.specs.Offer.{moved_to, next_truck, offer_checks, offered_of, Offering, offering, offer_of, or_else}
+use Rattle.dispatch.specs.declared.offer.Offering.{Offering}
+use Rattle.dispatch.specs.Offer.{moved_to, next_truck, offer_checks, offered_of, offering, offer_of, or_else}
 use Rattle.dispatch.specs.Rounds.{Accepted, ARound, cursor_of, First, many_below, may, offers, OneCall, Right, times, truck_in, trucks_of}
 use Rattle.dispatch.proofs.RoundLaws.{around, around_first, around_many, around_times, none_around, turn}
 
@@ -55,7 +54,7 @@ module _ (f : ℕ → Bool) (n c : ℕ) (inside : c ≤ n) (o : Offering) (moved
         moves = λ u h. moved ∙ ap (λ (x : Option ℕ). moved_to x c) h;
       }
 
-module _ (p : Bitmap) (p_bytes : List ℕ) (R : Optional) (r_bytes : List ℕ) where
+module _ (p : Bitmap) (p_bytes : List ℕ) (R : Option Bitmap) (r_bytes : List ℕ) where
   flag : ℕ → Bool
   flag t = get_or (free_flags p p_bytes R r_bytes) t false
 
@@ -84,21 +83,21 @@ module _ (p : Bitmap) (p_bytes : List ℕ) (R : Optional) (r_bytes : List ℕ) w
         (first-listed (free_flags p p_bytes R r_bytes) 0 ∙ ap head_of (ap (ones flag 0) z ∙ same_trucks 0 n (omega arith)))
         ∙ around_first (may p p_bytes R r_bytes) n cursor ok.ordered
 
-    is-given-here : given (offered_of (Present p) p_bytes R r_bytes cursor) ≡ offer_of (Present p) p_bytes R r_bytes cursor
+    is-given-here : given (offered_of (Some p) p_bytes R r_bytes cursor) ≡ offer_of (Some p) p_bytes R r_bytes cursor
     unfolding offer_of
     is-given-here =
-        is-given 0 (first_failed (offer_checks (Present p) p_bytes R r_bytes cursor)) cursor (offered_of (Present p) p_bytes R r_bytes cursor) (sym e) refl
+        is-given 0 (first_failed (offer_checks (Some p) p_bytes R r_bytes cursor)) cursor (offered_of (Some p) p_bytes R r_bytes cursor) (sym e) refl
 
   pub right : OneCall p p_bytes R r_bytes
   unfolding offered_of offering
   right cursor e =
-      right_by (may p p_bytes R r_bytes) p.length cursor (ok cursor e).ordered (offered_of (Present p) p_bytes R r_bytes cursor) refl
+      right_by (may p p_bytes R r_bytes) p.length cursor (ok cursor e).ordered (offered_of (Some p) p_bytes R r_bytes cursor) refl
       (around (may p p_bytes R r_bytes) p.length cursor) refl (first-truck cursor e)
 
   -- ---- a round
 
   call : ℕ → Answer ℕ Offering
-  call cursor = offer_of (Present p) p_bytes R r_bytes cursor
+  call cursor = offer_of (Some p) p_bytes R r_bytes cursor
 
   one_more : (k cursor : ℕ) (e : Accepted p p_bytes R r_bytes cursor)
       → ((c : ℕ) → Accepted p p_bytes R r_bytes c → k ≤ length (around (may p p_bytes R r_bytes) p.length c)
@@ -108,7 +107,7 @@ module _ (p : Bitmap) (p_bytes : List ℕ) (R : Optional) (r_bytes : List ℕ) w
   one_more k cursor e ih [] a h = absurd (omega arith)
   one_more k cursor e ih (t ∷ rest) a h =
       let T = turn (may p p_bytes R r_bytes) p.length cursor t rest (ok cursor e).ordered a in
-      let truck : next_truck (free_flags p p_bytes R r_bytes) cursor ≡ some t = first-truck cursor e ∙ ap head_of a in
+      let truck : next_truck (free_flags p p_bytes R r_bytes) cursor ≡ Some t = first-truck cursor e ∙ ap head_of a in
       let here : trucks_of (call cursor) ≡ t ∷ [] = ap trucks_of (sym (is-given-here cursor e)) ∙ ap truck_in truck in
       let next : cursor_of (call cursor) ≡ t + 1 = ap cursor_of (sym (is-given-here cursor e)) ∙ ap (λ (o : Option ℕ). moved_to o cursor) truck in
       let room : k ≤ length (around (may p p_bytes R r_bytes) p.length (t + 1)) = omega (arith, ap length T.turned, length-append rest (t ∷ [])) in

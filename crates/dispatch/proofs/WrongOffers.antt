@@ -9,7 +9,8 @@ use Rattle.masks.specs.Combine.{pair_flags, shortcut}
 use Rattle.masks.specs.Mask.{mask_checks}
 use Rattle.masks.specs.NextAndNot.{free_flags, next_checks, other_checks}
 use Rattle.masks.specs.Search.{nth_from}
-use Rattle.dispatch.specs.Offer.{beginning, in_order, next_truck, offer_checks, offered_of, Offering, offering, offer_of, up_to, windows_read}
+use Rattle.dispatch.specs.declared.offer.Offering.{Offering}
+use Rattle.dispatch.specs.Offer.{beginning, in_order, next_truck, offer_checks, offered_of, offering, offer_of, up_to, windows_read}
 use Rattle.dispatch.specs.WrongOffers.{WrongOffers}
 
 abbrev offering_code : Code Offering

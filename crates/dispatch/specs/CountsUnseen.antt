@@ -1,15 +1,13 @@
 -- The theorem on counts for `may_reassign`: where a mask's checks pass, the answer is that with its count unknown. Assumes nothing.
-use Rattle.std.specs.Prelude.{ℕ, ◌≡◌, List}
+use Rattle.std.specs.Prelude.{ℕ, ◌≡◌, List, Option, Some}
 use Rattle.masks.specs.Checks.{first_failed}
 use Rattle.masks.specs.CountsUnseen.{Unseen}
 use Rattle.masks.specs.Mask.{mask_checks}
 use Rattle.masks.specs.declared.bitmap.Bitmap.{Bitmap}
-use Rattle.masks.specs.declared.bitmap.Optional.{Optional}
-use Rattle.masks.specs.declared.bitmap.Optional.TheVariants.{Present}
 use Rattle.dispatch.specs.Dispatch.{may_reassign}
 
 pub record CountsUnseen : Type 0 where
-  pub permission : (p : Bitmap) (p_bytes : List ℕ) → first_failed (mask_checks p p_bytes) ≡ 0 → (r : Optional) (r_bytes : List ℕ) (t : ℕ)
-      → Unseen p (λ (x : Bitmap). may_reassign (Present x) p_bytes r r_bytes t)
-  pub revocation : (r : Bitmap) (r_bytes : List ℕ) → first_failed (mask_checks r r_bytes) ≡ 0 → (p : Optional) (p_bytes : List ℕ) (t : ℕ)
-      → Unseen r (λ (x : Bitmap). may_reassign p p_bytes (Present x) r_bytes t)
+  pub permission : (p : Bitmap) (p_bytes : List ℕ) → first_failed (mask_checks p p_bytes) ≡ 0 → (r : Option Bitmap) (r_bytes : List ℕ) (t : ℕ)
+      → Unseen p (λ (x : Bitmap). may_reassign (Some x) p_bytes r r_bytes t)
+  pub revocation : (r : Bitmap) (r_bytes : List ℕ) → first_failed (mask_checks r r_bytes) ≡ 0 → (p : Option Bitmap) (p_bytes : List ℕ) (t : ℕ)
+      → Unseen r (λ (x : Bitmap). may_reassign p p_bytes (Some x) r_bytes t)

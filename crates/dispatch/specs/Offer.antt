@@ -1,35 +1,27 @@
 -- Which truck is offered next: the first at or after a cursor that is permitted and not revoked, going round to truck 0 once; and how
 -- many windows of 32 flags are read for it, in the words of paper 02 (m). Assumes nothing.
-use Rattle.std.specs.Prelude.{ℕ, zero, suc, ◌+◌, ◌/◌, Bool, cond, ◌&&◌, List, [], ◌∷◌, ◌++◌, leb, ltb, length}
-use Rattle.std.proofs.Math.Option.{Option, none, some}
+use Rattle.std.specs.Prelude.{ℕ, zero, suc, ◌+◌, ◌/◌, Bool, cond, ◌&&◌, List, [], ◌∷◌, ◌++◌, leb, ltb, length, Option, Some, None, Result, Ok, Err}
+use Rattle.masks.specs.declared.bitmap.Bitmap.{Bitmap}
 use Rattle.masks.specs.Answer.{Answer, given, refused, checked}
 use Rattle.masks.specs.Checks.{Check}
 use Rattle.masks.specs.Mask.{mask_checks}
 use Rattle.masks.specs.NextAndNot.{free_flags, next_checks}
 use Rattle.masks.specs.Search.{nth_from}
-use Rattle.masks.specs.declared.bitmap.Optional.{Optional}
-use Rattle.masks.specs.declared.bitmap.Optional.TheVariants.{Present, Absent}
-use Rattle.dispatch.specs.declared.offer.Offered.{Offered}
-use Rattle.dispatch.specs.declared.offer.Offered.TheVariants.{Truck, NoTruck, Refused}
-
--- a truck, or none; the cursor for the next call; the number of windows read
-pub record Offering : Type 0 where
-  pub truck : Option ℕ
-  pub cursor : ℕ
-  pub windows : ℕ
+use Rattle.masks.specs.Refusal.{number}
+use Rattle.dispatch.specs.declared.offer.NoOffer.{NoOffer}
+use Rattle.dispatch.specs.declared.offer.Offering.{Offering}
 
 -- a refusal carries the cursor that came
-abbrev pub offer_answer : Offered → Answer ℕ Offering
-offer_answer (Truck t next k) = given (record { truck = some t; cursor = next; windows = k })
-offer_answer (NoTruck same k) = given (record { truck = none; cursor = same; windows = k })
-offer_answer (Refused number same) = refused number same
+abbrev pub offer_answer : Result Offering NoOffer → Answer ℕ Offering
+offer_answer (Ok o) = given o
+offer_answer (Err e) = refused (number e.refusal) e.cursor
 
 -- ---- the truck and the cursor
 
 -- the first where there is one, else the second
 abbrev pub or_else : Option ℕ → Option ℕ → Option ℕ
-or_else (some t) other = some t
-or_else none other = other
+or_else (Some t) other = Some t
+or_else None other = other
 
 -- of the flags of trucks that are permitted and not revoked: the first truck at or after the cursor, else the first from truck 0 on
 unfoldable pub next_truck : List Bool → ℕ → Option ℕ
@@ -37,8 +29,8 @@ next_truck l cursor = or_else (nth_from l 0 cursor) (nth_from l 0 0)
 
 -- the cursor moves one past the truck; where none is offered it stays
 abbrev pub moved_to : Option ℕ → ℕ → ℕ
-moved_to (some t) cursor = t + 1
-moved_to none cursor = cursor
+moved_to (Some t) cursor = t + 1
+moved_to None cursor = cursor
 
 -- ---- the windows
 
@@ -62,8 +54,8 @@ up_to t (w ∷ ws) = cond (holds t w) 1 (suc (up_to t ws))
 
 -- up to the one holding the truck, or all where none is offered
 unfoldable pub windows_read : ℕ → ℕ → Option ℕ → ℕ
-windows_read n cursor (some t) = up_to t (in_order n cursor)
-windows_read n cursor none = length (in_order n cursor)
+windows_read n cursor (Some t) = up_to t (in_order n cursor)
+windows_read n cursor None = length (in_order n cursor)
 
 -- ---- the call
 
@@ -77,29 +69,28 @@ offering n l cursor = record {
 
 -- With a permission mask the checks are those of `next_and_not`: 1 to 3 of each mask that is there, 5 where there are two, and 6: the
 -- cursor is at most the length. With none a revocation mask that is there is put to 1 to 3, and nothing else is asked.
-unfoldable pub offer_checks : Optional → List ℕ → Optional → List ℕ → ℕ → List Check
-offer_checks (Present p) p_bytes revocation r_bytes cursor = next_checks p p_bytes revocation r_bytes cursor
-offer_checks Absent p_bytes (Present r) r_bytes cursor = mask_checks r r_bytes
-offer_checks Absent p_bytes Absent r_bytes cursor = []
+unfoldable pub offer_checks : Option Bitmap → List ℕ → Option Bitmap → List ℕ → ℕ → List Check
+offer_checks (Some p) p_bytes revocation r_bytes cursor = next_checks p p_bytes revocation r_bytes cursor
+offer_checks None p_bytes (Some r) r_bytes cursor = mask_checks r r_bytes
+offer_checks None p_bytes None r_bytes cursor = []
 
 -- with no permission mask no truck is offered, and no window read
-unfoldable pub offered_of : Optional → List ℕ → Optional → List ℕ → ℕ → Offering
-offered_of (Present p) p_bytes revocation r_bytes cursor = offering p.length (free_flags p p_bytes revocation r_bytes) cursor
-offered_of Absent p_bytes revocation r_bytes cursor = record { truck = none; cursor = cursor; windows = 0 }
+unfoldable pub offered_of : Option Bitmap → List ℕ → Option Bitmap → List ℕ → ℕ → Offering
+offered_of (Some p) p_bytes revocation r_bytes cursor = offering p.length (free_flags p p_bytes revocation r_bytes) cursor
+offered_of None p_bytes revocation r_bytes cursor = record { truck = None; cursor = cursor; windows = 0 }
 
-unfoldable pub offer_of : Optional → List ℕ → Optional → List ℕ → ℕ → Answer ℕ Offering
+unfoldable pub offer_of : Option Bitmap → List ℕ → Option Bitmap → List ℕ → ℕ → Answer ℕ Offering
 offer_of permission p_bytes revocation r_bytes cursor =
     checked (offer_checks permission p_bytes revocation r_bytes cursor) cursor (offered_of permission p_bytes revocation r_bytes cursor)
 
 -- ---- the bound on the windows
 
 -- how many windows an answer says were read
-abbrev pub windows_in : Offered → ℕ
-windows_in (Truck t next k) = k
-windows_in (NoTruck same k) = k
-windows_in (Refused number same) = 0
+abbrev pub windows_in : Result Offering NoOffer → ℕ
+windows_in (Ok o) = o.windows
+windows_in (Err e) = 0
 
 -- ceil(length / 32) + 1 of the permission mask; without one none is read
-abbrev pub most_windows : Optional → ℕ
-most_windows (Present p) = (p.length + 31) / 32 + 1
-most_windows Absent = 0
+abbrev pub most_windows : Option Bitmap → ℕ
+most_windows (Some p) = (p.length + 31) / 32 + 1
+most_windows None = 0

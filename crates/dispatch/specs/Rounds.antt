@@ -1,14 +1,12 @@
 -- What `offer` means for trucks, in plain words: which one is offered, when none is, and what as many calls as there are such trucks
 -- offer. Assumes nothing.
-use Rattle.std.specs.Prelude.{ℕ, zero, suc, ◌+◌, ◌≤◌, ◌<◌, ◌≡◌, Bool, true, false, cond, ◌&&◌, List, [], ◌∷◌, ◌++◌, eqb, ltb}
-use Rattle.std.proofs.Math.Option.{Option, none, some}
+use Rattle.std.specs.Prelude.{ℕ, zero, suc, ◌+◌, ◌≤◌, ◌<◌, ◌≡◌, Bool, true, false, cond, ◌&&◌, List, [], ◌∷◌, ◌++◌, eqb, ltb, Option, Some, None}
 use Rattle.masks.specs.Answer.{Answer, given, refused}
 use Rattle.masks.specs.Checks.{first_failed}
 use Rattle.masks.specs.declared.bitmap.Bitmap.{Bitmap}
-use Rattle.masks.specs.declared.bitmap.Optional.{Optional}
-use Rattle.masks.specs.declared.bitmap.Optional.TheVariants.{Present}
 use Rattle.dispatch.specs.Dispatch.{reassignable}
-use Rattle.dispatch.specs.Offer.{offer_checks, offered_of, Offering, offer_of}
+use Rattle.dispatch.specs.declared.offer.Offering.{Offering}
+use Rattle.dispatch.specs.Offer.{offer_checks, offered_of, offer_of}
 
 -- ---- one call, of n trucks of which `may` says whether each may be reassigned
 
@@ -23,19 +21,19 @@ pub record First (may : ℕ → Bool) (n cursor t : ℕ) : Type 0 where
 
 pub record Right (may : ℕ → Bool) (n cursor : ℕ) (o : Offering) : Type 0 where
   -- none exactly if no truck may be
-  pub none_then : o.truck ≡ none → (j : ℕ) → j < n → may j ≡ false
-  pub then-none : ((j : ℕ) → j < n → may j ≡ false) → o.truck ≡ none
+  pub none_then : o.truck ≡ None → (j : ℕ) → j < n → may j ≡ false
+  pub then-none : ((j : ℕ) → j < n → may j ≡ false) → o.truck ≡ None
   -- and the cursor then stays
-  pub stays : o.truck ≡ none → o.cursor ≡ cursor
+  pub stays : o.truck ≡ None → o.cursor ≡ cursor
   -- else the first, and the cursor one past it
-  pub first : (t : ℕ) → o.truck ≡ some t → First may n cursor t
-  pub moves : (t : ℕ) → o.truck ≡ some t → o.cursor ≡ t + 1
+  pub first : (t : ℕ) → o.truck ≡ Some t → First may n cursor t
+  pub moves : (t : ℕ) → o.truck ≡ Some t → o.cursor ≡ t + 1
 
 -- ---- calls in a row, each given the cursor of the one before
 
 abbrev pub truck_in : Option ℕ → List ℕ
-truck_in (some t) = t ∷ []
-truck_in none = []
+truck_in (Some t) = t ∷ []
+truck_in None = []
 
 -- the truck that an answer offers, and the cursor that it gives
 abbrev pub trucks_of : Answer ℕ Offering → List ℕ
@@ -63,17 +61,17 @@ times t (u ∷ us) = cond (eqb u t) (suc (times t us)) (times t us)
 
 -- ---- the statements, of a permission mask and a cursor that are accepted
 
-module _ (p : Bitmap) (p_bytes : List ℕ) (revocation : Optional) (r_bytes : List ℕ) where
+module _ (p : Bitmap) (p_bytes : List ℕ) (revocation : Option Bitmap) (r_bytes : List ℕ) where
   abbrev pub may : ℕ → Bool
-  may t = reassignable (Present p) p_bytes revocation r_bytes t
+  may t = reassignable (Some p) p_bytes revocation r_bytes t
 
   abbrev pub Accepted : ℕ → Type 0
-  Accepted cursor = first_failed (offer_checks (Present p) p_bytes revocation r_bytes cursor) ≡ 0
+  Accepted cursor = first_failed (offer_checks (Some p) p_bytes revocation r_bytes cursor) ≡ 0
 
   abbrev pub OneCall : Type 0
-  OneCall = (cursor : ℕ) → Accepted cursor → Right may p.length cursor (offered_of (Present p) p_bytes revocation r_bytes cursor)
+  OneCall = (cursor : ℕ) → Accepted cursor → Right may p.length cursor (offered_of (Some p) p_bytes revocation r_bytes cursor)
 
   -- in as many calls as there are such trucks each of them is offered once, and no other
   abbrev pub ARound : Type 0
   ARound = (cursor : ℕ) → Accepted cursor → (t : ℕ)
-      → times t (offers (offer_of (Present p) p_bytes revocation r_bytes) (many_below may p.length) cursor) ≡ cond (ltb t p.length && may t) 1 0
+      → times t (offers (offer_of (Some p) p_bytes revocation r_bytes) (many_below may p.length) cursor) ≡ cond (ltb t p.length && may t) 1 0

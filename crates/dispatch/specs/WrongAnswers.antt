@@ -1,53 +1,51 @@
 -- Wrong answers that the contract of `may_reassign` rules out. Assumes nothing.
 --
 -- Rows as in `WrongAnswers` of words: the definition at one input, what it gives, and two answers of a faulty call.
-use Rattle.std.specs.Prelude.{true, false, []}
+use Rattle.std.specs.Prelude.{true, false, [], Some, None}
 use Rattle.masks.specs.Answer.{given, refused}
 use Rattle.masks.specs.Mask.{with_count}
 use Rattle.masks.specs.WrongMasks.{Tried, left, left_bytes, right, right_bytes}
-use Rattle.masks.specs.declared.bitmap.Optional.TheVariants.{Present, Absent}
-use Rattle.masks.specs.declared.bitmap.Unset.TheVariants.{Known}
 use Rattle.dispatch.specs.Dispatch.{may_reassign}
 
 -- the permission 1,1,0,0 and the revocation 1,0,1,0, which begins at the flag 2
 pub record WrongAnswers : Type 0 where
   -- `may_reassign` of truck 0
-  pub with-both : Tried (may_reassign (Present left) left_bytes (Present right) right_bytes 0)
+  pub with-both : Tried (may_reassign (Some left) left_bytes (Some right) right_bytes 0)
       (given false)
       -- the revocation ignored
       (given true)
       -- trucks counted from 1
       (refused 6 tt)
   -- `may_reassign` of truck 1, which is not revoked, with no permission mask
-  pub with-revocation : Tried (may_reassign Absent [] (Present right) right_bytes 1)
+  pub with-revocation : Tried (may_reassign None [] (Some right) right_bytes 1)
       (given false)
       -- an absent permission taken for all ones
       (given true)
       -- the bytes of the absent permission tested
       (refused 2 tt)
   -- `may_reassign` of truck 9 with no mask
-  pub with_none : Tried (may_reassign Absent [] Absent [] 9)
+  pub with_none : Tried (may_reassign None [] None [] 9)
       (given false)
       -- yes where both masks are absent
       (given true)
       -- the truck held to the length of no mask
       (refused 6 tt)
   -- `may_reassign` of truck 0 with no revocation mask
-  pub with-permission : Tried (may_reassign (Present left) left_bytes Absent [] 0)
+  pub with-permission : Tried (may_reassign (Some left) left_bytes None [] 0)
       (given true)
       -- an absent revocation taken for all ones
       (given false)
       -- the bytes of the absent revocation tested
       (refused 2 tt)
   -- `may_reassign` of truck 4
-  pub behind_the_end : Tried (may_reassign (Present left) left_bytes (Present right) right_bytes 4)
+  pub behind_the_end : Tried (may_reassign (Some left) left_bytes (Some right) right_bytes 4)
       (refused 6 tt)
       -- the flags behind the end read
       (given false)
       -- lengths compared with the truck's number
       (refused 5 tt)
   -- `may_reassign` of truck 0, the revocation's count one too many: it has two zeros
-  pub stale_count : Tried (may_reassign (Present left) left_bytes (Present (with_count right (Known 3))) right_bytes 0)
+  pub stale_count : Tried (may_reassign (Some left) left_bytes (Some (with_count right (Some 3))) right_bytes 0)
       (refused 3 tt)
       -- the count held to the length alone
       (given false)

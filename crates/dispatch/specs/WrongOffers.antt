@@ -1,52 +1,51 @@
 -- Wrong answers that the contract of `offer` rules out. Assumes nothing.
 --
 -- Rows as in `WrongAnswers` of words: the definition at one input, what it gives, and two answers of a faulty call.
-use Rattle.std.specs.Prelude.{ℕ, []}
-use Rattle.std.proofs.Math.Option.{none, some}
+use Rattle.std.specs.Prelude.{ℕ, [], Some, None}
 use Rattle.masks.specs.Answer.{given, refused}
 use Rattle.masks.specs.WrongMasks.{Tried}
 use Rattle.masks.specs.WrongNext.{some40, some40_bytes, taken40, taken40_bytes}
-use Rattle.masks.specs.declared.bitmap.Optional.TheVariants.{Present, Absent}
-use Rattle.dispatch.specs.Offer.{Offering, offer_of}
+use Rattle.dispatch.specs.declared.offer.Offering.{Offering}
+use Rattle.dispatch.specs.Offer.{offer_of}
 
 abbrev pub truck_at : ℕ → ℕ → ℕ → Offering
-truck_at t cursor k = record { truck = some t; cursor = cursor; windows = k }
+truck_at t cursor k = record { truck = Some t; cursor = cursor; windows = k }
 
 abbrev pub none_at : ℕ → ℕ → Offering
-none_at cursor k = record { truck = none; cursor = cursor; windows = k }
+none_at cursor k = record { truck = None; cursor = cursor; windows = k }
 
 -- of 40 trucks 3, 35 and 38 are permitted and 3 and 38 revoked
 pub record WrongOffers : Type 0 where
   -- `offer` from cursor 36
-  pub round : Tried (offer_of (Present some40) some40_bytes (Present taken40) taken40_bytes 36)
+  pub round : Tried (offer_of (Some some40) some40_bytes (Some taken40) taken40_bytes 36)
       (given (truck_at 35 36 3))
       -- a second round that stops at the cursor's window
       (given (none_at 36 2))
       -- the revocation ignored
       (given (truck_at 38 39 1))
   -- `offer` from cursor 0
-  pub ahead : Tried (offer_of (Present some40) some40_bytes (Present taken40) taken40_bytes 0)
+  pub ahead : Tried (offer_of (Some some40) some40_bytes (Some taken40) taken40_bytes 0)
       (given (truck_at 35 36 2))
       -- the cursor left at the truck
       (given (truck_at 35 35 2))
       -- the window with revoked trucks alone not counted
       (given (truck_at 35 36 1))
   -- `offer` from cursor 32 where every truck is revoked
-  pub nothing : Tried (offer_of (Present some40) some40_bytes (Present some40) some40_bytes 32)
+  pub nothing : Tried (offer_of (Some some40) some40_bytes (Some some40) some40_bytes 32)
       (given (none_at 32 2))
       -- one window too many at a cursor divisible by 32
       (given (none_at 32 3))
       -- the cursor moved on none
       (given (none_at 0 2))
   -- `offer` from cursor 41
-  pub outside : Tried (offer_of (Present some40) some40_bytes Absent [] 41)
+  pub outside : Tried (offer_of (Some some40) some40_bytes None [] 41)
       (refused 6 41)
       -- the cursor taken for the length
       (given (truck_at 3 4 1))
       -- the cursor not given back
       (refused 6 0)
   -- `offer` from cursor 41 with no permission mask
-  pub no-permission : Tried (offer_of Absent [] (Present taken40) taken40_bytes 41)
+  pub no-permission : Tried (offer_of None [] (Some taken40) taken40_bytes 41)
       (given (none_at 41 0))
       -- no permission mask taken for all ones
       (given (truck_at 0 1 1))

@@ -1,9 +1,9 @@
 -- A mask that stands for a list agrees with it in all that is compared, and lists that differ differ in length or in frozen
 -- bytes. Assumes nothing.
+use Rattle.std.specs.Prelude.{Some, None}
 use mathlib.Core.Path.{◌≡◌, refl, sym, ap, ap₂, ◌∙◌, subst}
 use mathlib.Core.Bool.{Bool, true, false, cond}
 use mathlib.Core.List.{List, [], ◌∷◌}
-use mathlib.Core.Option.{none, some}
 use Prim.Native.Nat.{ℕ, zero, suc, ◌+◌, ◌*◌, ◌≤◌, ◌<◌}
 use native.Mathlib.Omega.{arith}
 use lib.Dec.{ltb}
@@ -30,7 +30,6 @@ use Rattle.masks.specs.TrueCounts.{TrueCount}
 use Rattle.masks.specs.Utils.{zeros}
 use Rattle.masks.specs.Workers.{Room}
 use Rattle.masks.specs.declared.bitmap.Bitmap.{Bitmap}
-use Rattle.masks.specs.declared.bitmap.Unset.TheVariants.{Known}
 use Rattle.masks.specs.declared.iterator.BitmapIter.{BitmapIter}
 use Rattle.masks.proofs.Accepted.{builder-accepted, mask-accepted, span-accepted, whole-accepted}
 use Rattle.masks.proofs.CheckLaws.{is-given, is-new}
@@ -70,15 +69,15 @@ frozen_same a b e f = sym (frozen-back a) ∙ ap₂ (λ (x : List ℕ) (n : ℕ)
 -- ---- flags one by one
 
 step-shown : (bytes : List ℕ) (c : BitmapIter) (n : ℕ)
-    → flag_shown (given (flag_step bytes c n)) ≡ some (cond (ltb (c.place + n) c.length)
-    (some (get_or (iter_flags c bytes) (c.place + n) false)) none)
+    → flag_shown (given (flag_step bytes c n)) ≡ Some (cond (ltb (c.place + n) c.length)
+    (Some (get_or (iter_flags c bytes) (c.place + n) false)) None)
 unfolding flag_step
 step-shown bytes c n = go (ltb (c.place + n) c.length)
   where
     go : (t : Bool)
         → flag_shown (given (cond t (item (get_or (iter_flags c bytes) (c.place + n) false) (moved_to c (c.place + n + 1)))
         (ended (moved_to c c.length))))
-        ≡ some (cond t (some (get_or (iter_flags c bytes) (c.place + n) false)) none)
+        ≡ Some (cond t (Some (get_or (iter_flags c bytes) (c.place + n) false)) None)
     go true = refl
     go false = refl
 
@@ -88,7 +87,7 @@ unfolding cursor_checks
 cursor-accepted start size place bytes e h = sym (place-accepted (span_checks start size (length bytes)) place size (sym e) h)
 
 nth-there : (bytes : List ℕ) (start size n : ℕ) → 0 ≡ first_failed (span_checks start size (length bytes))
-    → flag_shown (nth_flag (iter_at start size 0) bytes n) ≡ some (flag_of (stretch bytes start size) n)
+    → flag_shown (nth_flag (iter_at start size 0) bytes n) ≡ Some (flag_of (stretch bytes start size) n)
 unfolding nth_flag
 nth-there bytes start size n e =
     let c = iter_at start size 0 in
@@ -96,12 +95,12 @@ nth-there bytes start size n e =
     ap flag_shown (sym (is-given 0 (first_failed (cursor_checks start size 0 (length bytes))) c (flag_step bytes c n)
     (cursor-accepted start size 0 bytes e (omega arith)) refl))
     ∙ step-shown bytes c n
-    ∙ ap₂ (λ (i k : ℕ). some (cond (ltb i k) (some (get_or (stretch bytes start size) i false)) none)) same
+    ∙ ap₂ (λ (i k : ℕ). Some (cond (ltb i k) (Some (get_or (stretch bytes start size) i false)) None)) same
     (sym (length-window (flags_of bytes) start size))
 
 -- a new cursor: over no flags it is all 0
 new-nth : (bytes : List ℕ) (start size n : ℕ) → 0 ≡ first_failed (span_checks start size (length bytes))
-    → nth_of (new_iter bytes start size) bytes n ≡ some (flag_of (stretch bytes start size) n)
+    → nth_of (new_iter bytes start size) bytes n ≡ Some (flag_of (stretch bytes start size) n)
 unfolding new_iter unless_empty window
 new-nth bytes start zero n e = nth-there bytes 0 0 n (span-accepted 0 0 (length bytes) (omega arith) (omega arith) (omega arith))
 new-nth bytes start (suc size) n e =
@@ -124,12 +123,12 @@ module _ (m : Bitmap) (bytes : List ℕ) (l : List Bool) (s : Stands m bytes l) 
   truth : zero_count m bytes ≡ zeros l
   truth = true-count m bytes s.sound.counts ∙ ap zeros s.flags
 
-  counted : count_shown (unset_bits_of m bytes) ≡ some (zeros l)
+  counted : count_shown (unset_bits_of m bytes) ≡ Some (zeros l)
   unfolding unset_bits_of
   counted =
       ap count_shown (sym (is-given 0 (first_failed (mask_checks m bytes)) m
-      (record { mask = with_count m (Known (zero_count m bytes)); zeros = zero_count m bytes }) whole refl))
-      ∙ ap some truth
+      (record { mask = with_count m (Some (zero_count m bytes)); zeros = zero_count m bytes }) whole refl))
+      ∙ ap Some truth
 
   forward : (n from : ℕ) → search_from bytes m.start m.length n from ≡ given (nth_from l n from)
   unfolding search_from
@@ -143,15 +142,15 @@ module _ (m : Bitmap) (bytes : List ℕ) (l : List Bool) (s : Stands m bytes l) 
       sym (is-given 0 (first_failed (span_checks m.start m.length (length bytes))) tt (nth_back (mask_flags m bytes) n end) in_span refl)
       ∙ ap (λ (t : List Bool). given (nth_back t n end)) s.flags
 
-  nth : (n : ℕ) → nth_shown m bytes n ≡ some (flag_of l n)
-  nth n = new-nth bytes m.start m.length n in_span ∙ ap (λ (t : List Bool). some (flag_of t n)) s.flags
+  nth : (n : ℕ) → nth_shown m bytes n ≡ Some (flag_of l n)
+  nth n = new-nth bytes m.start m.length n in_span ∙ ap (λ (t : List Bool). Some (flag_of t n)) s.flags
 
-  runs : (k : ℕ) → length l < k → runs_shown k m bytes ≡ some (runs_from 0 l)
+  runs : (k : ℕ) → length l < k → runs_shown k m bytes ≡ Some (runs_from 0 l)
   unfolding new_slices runs_left
   runs k h =
       let c = slices_at m.start m.length 0 in
       ap (runs_of k bytes) (sym (is-given 0 (first_failed (mask_checks m bytes)) tt c whole refl))
-      ∙ ap some (lists-runs bytes c (sym (cursor-accepted m.start m.length 0 bytes in_span (omega arith))) k (omega (arith, long))
+      ∙ ap Some (lists-runs bytes c (sym (cursor-accepted m.start m.length 0 bytes in_span (omega arith))) k (omega (arith, long))
       ∙ ap (λ (t : List Bool). runs_from 0 (drop 0 t)) s.flags)
 
   whole-flags : window (mask_flags m bytes) 0 m.length ≡ mask_flags m bytes
@@ -160,17 +159,17 @@ module _ (m : Bitmap) (bytes : List ℕ) (l : List Bool) (s : Stands m bytes l) 
 
   -- a builder with the mask appended, frozen: the bytes that are written
   refrozen-bytes : (f : Filling) (buf : List ℕ) → Builds f l → length f.bytes ≡ length buf → frozen_size m.length ≤ length buf
-      → then_frozen m.length f.bytes (given f.builder) ≡ some (frozen l)
+      → then_frozen m.length f.bytes (given f.builder) ≡ Some (frozen l)
   unfolding frozen_over
   refrozen-bytes f buf i size h =
       let ok = same-checks f.builder (length f.bytes) 0 (builder-accepted f.builder 0 (length f.bytes) i.room) in
       let k = first_failed (freeze_checks f.builder (length f.bytes)) in
       ap₂ (frozen_shown m.length) (sym (is-new 0 k (frozen_over f.builder f.bytes) f.bytes ok refl))
       (sym (is-given 0 k f.builder (frozen_mask f.builder) ok refl))
-      ∙ ap₂ (λ (n : ℕ) (t : List Bool). some (take n (over f.bytes (frozen t)))) (ap frozen_size long ∙ sym (length-frozen l)) i.flags
-      ∙ ap some (take-over f.bytes (frozen l) (omega (arith, length-frozen l, long)))
+      ∙ ap₂ (λ (n : ℕ) (t : List Bool). Some (take n (over f.bytes (frozen t)))) (ap frozen_size long ∙ sym (length-frozen l)) i.flags
+      ∙ ap Some (take-over f.bytes (frozen l) (omega (arith, length-frozen l, long)))
 
-  frozen-bytes : (buf : List ℕ) → frozen_size m.length ≤ length buf → refrozen m bytes buf ≡ some (frozen l)
+  frozen-bytes : (buf : List ℕ) → frozen_size m.length ≤ length buf → refrozen m bytes buf ≡ Some (frozen l)
   frozen-bytes buf h =
       let F = window (mask_flags m bytes) 0 m.length in
       let n : length F ≡ m.length = length-window (mask_flags m bytes) 0 m.length in

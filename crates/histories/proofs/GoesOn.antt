@@ -1,8 +1,8 @@
 -- The table of histories by computation, and which calls a history never has refused. Assumes nothing.
+use Rattle.std.specs.Prelude.{Option, Some, None}
 use mathlib.Core.Path.{◌≡◌, refl, subst}
 use mathlib.Core.Bool.{Bool, true, xor}
 use mathlib.Core.List.{List, flat_map, map, zip, zip_with}
-use mathlib.Core.Option.{Option, none, some}
 use Prim.Native.Nat.{ℕ, zero, suc}
 use native.Mathlib.Omega.{arith}
 use lib.ListN.{length}
@@ -125,8 +125,8 @@ frozen-accepted (suc k) b m bytes e = absurd (omega arith)
 validity-accepted : (k : ℕ) (b : BitmapBuilder) (v : Option Bitmap) (bytes : List ℕ) → 0 ≡ k
     → (after_validity bytes (decided k b v)).accepted ≡ true
 unfolding decided
-validity-accepted zero b none bytes e = refl
-validity-accepted zero b (some m) bytes e = refl
+validity-accepted zero b None bytes e = refl
+validity-accepted zero b (Some m) bytes e = refl
 validity-accepted (suc k) b v bytes e = absurd (omega arith)
 
 module _ {Code : Type 0} (call_of : Code → RowCall) (lawful : (c : Code) → Lawful (call_of c)) where

@@ -1,9 +1,9 @@
 -- Demand 3, proved: whatever calls a history is made of, the mask that it has come to agrees with its reference list in all that is
 -- compared; so two histories with equal lists agree, and where the lists differ, length or frozen bytes differ. Assumes nothing.
+use Rattle.std.specs.Prelude.{Option, Some, None}
 use mathlib.Core.Path.{◌≡◌, refl, sym, ap, ◌∙◌, subst}
 use mathlib.Core.Bool.{Bool}
 use mathlib.Core.List.{List, []}
-use mathlib.Core.Option.{Option, none, some}
 use Prim.Native.Nat.{ℕ, zero, suc, ◌≤◌}
 use native.Mathlib.Omega.{arith}
 use lib.ListN.{length}
@@ -13,8 +13,6 @@ use Rattle.masks.specs.Frozen.{frozen_size}
 use Rattle.masks.specs.Mask.{mask_checks}
 use Rattle.masks.specs.TrueCounts.{TrueCount}
 use Rattle.masks.specs.declared.bitmap.Bitmap.{Bitmap}
-use Rattle.masks.specs.declared.bitmap.Unset.{Unset}
-use Rattle.masks.specs.declared.bitmap.Unset.TheVariants.{Known}
 use Rattle.histories.specs.Agreement.{Agrees, Alike, ComesTo, Fits, OneMeaning, refrozen}
 use Rattle.histories.specs.History.{History, State, masked, waiting, after_try, first_list, from_mask, list_of, row_flags, start_of}
 use Rattle.histories.specs.Library.{Demand3, LibraryCall, library_call, masks}
@@ -34,8 +32,8 @@ module _ (m m' : Bitmap) (bytes bytes' : List ℕ) (l : List Bool) (a : Agrees m
   long : m.length ≡ m'.length
   long = a.long ∙ sym a'.long
 
-  counted-as : (z : ℕ) (u : Unset) → u ≡ Known z → TrueCount u l → TrueCount (Known z) l
-  counted-as z u e t = subst (λ (x : Unset). TrueCount x l) e t
+  counted-as : (z : ℕ) (u : Option ℕ) → u ≡ Some z → TrueCount u l → TrueCount (Some z) l
+  counted-as z u e t = subst (λ (x : Option ℕ). TrueCount x l) e t
 
   room : (buf : List ℕ) → frozen_size m.length ≤ length buf → frozen_size m'.length ≤ length buf
   room buf h = subst (λ (k : ℕ). frozen_size k ≤ length buf) long h
@@ -57,8 +55,8 @@ module _ (m m' : Bitmap) (bytes bytes' : List ℕ) (l : List Bool) (a : Agrees m
       }
 
 abbrev bytes-shown : List ℕ → Option (List ℕ) → List ℕ
-bytes-shown d (some b) = b
-bytes-shown d none = d
+bytes-shown d (Some b) = b
+bytes-shown d None = d
 
 -- masks of one length whose frozen bytes are the same stand for the same list
 told-apart : (m m' : Bitmap) (bytes bytes' : List ℕ) (l l' : List Bool) → Agrees m bytes l → Agrees m' bytes' l' → m.length ≡ m'.length

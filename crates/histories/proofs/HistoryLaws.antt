@@ -1,8 +1,8 @@
 -- What holds between the state of a history and its reference list; through appends and freezing. Assumes nothing.
+use Rattle.std.specs.Prelude.{Some, None}
 use mathlib.Core.Path.{◌≡◌, refl, sym, ap, ◌∙◌, subst}
 use mathlib.Core.Bool.{Bool, true, false, cond, ◌&&◌}
 use mathlib.Core.List.{List, [], ◌∷◌, ◌++◌}
-use mathlib.Core.Option.{none, some}
 use Prim.Native.Nat.{ℕ, zero, suc, ◌+◌, ◌*◌, ◌/◌, ◌≤◌}
 use native.Mathlib.Omega.{arith}
 use lib.Dec.{leb}
@@ -134,7 +134,7 @@ freeze-holds f l (suc k) i = i
 
 pub validity-holds : (f : Filling) (l : List Bool) (k : ℕ) (t : Bool) → Builds f l
     → let o = after_validity (kept k (frozen_over f.builder f.bytes) f.bytes)
-    (decided k f.builder (cond t none (some (frozen_mask f.builder)))) in
+    (decided k f.builder (cond t None (Some (frozen_mask f.builder)))) in
     Holds o.state (cond o.accepted l l)
 unfolding kept decided
 validity-holds f l zero true i = tt

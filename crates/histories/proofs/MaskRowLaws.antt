@@ -1,4 +1,5 @@
 -- The rows of masks are lawful: `slice`, `unset_bits` and the eight combinations. Assumes nothing.
+use Rattle.std.specs.Prelude.{Some}
 use mathlib.Core.Path.{◌≡◌, refl, sym, ap₂, ◌∙◌, subst}
 use mathlib.Core.Bool.{Bool, true, false, cond, xor as exclusive}
 use mathlib.Core.List.{List, [], ◌∷◌, ◌++◌, zip_with}
@@ -11,15 +12,15 @@ use Rattle.words.specs.Flags.{flags_of}
 use Rattle.words.specs.Ops.{op_of, zip3}
 use Rattle.words.specs.declared.ops.Op.{Op}
 use Rattle.words.proofs.Windows.{length-window}
+use Rattle.masks.specs.declared.bitmap.Recounted.{Recounted}
 use Rattle.masks.specs.Answer.{given, refused, checked, decided}
 use Rattle.masks.specs.Checks.{Check, check, first_failed, limit, output_checks, within_limit}
 use Rattle.masks.specs.Combine.{each_bytes, each_of, not_checks, not_flags, pair_bytes, pair_checks}
 use Rattle.masks.specs.Combine.{pair_each, pair_flags, pair_mask, pair_of, pair_shortcut}
 use Rattle.masks.specs.Combine.{result_count, result_mask, select_checks, select_constant_flags, select_flags}
-use Rattle.masks.specs.Mask.{Recounted, mask_checks, mask_flags, piece_checks, slice_of, sliced_mask, uncounted, unset_bits_of, with_count, zero_count}
+use Rattle.masks.specs.Mask.{mask_checks, mask_flags, piece_checks, slice_of, sliced_mask, uncounted, unset_bits_of, with_count, zero_count}
 use Rattle.masks.specs.TrueCounts.{Sound, TrueCount}
 use Rattle.masks.specs.declared.bitmap.Bitmap.{Bitmap}
-use Rattle.masks.specs.declared.bitmap.Unset.TheVariants.{Known}
 use Rattle.masks.proofs.AnswerLaws.{given-number, given-value, refused-state}
 use Rattle.masks.proofs.CheckLaws.{both_left, both_right, first-allowed, rest-allowed}
 use Rattle.masks.proofs.CombineLaws.{pair_lengths, select_lengths}
@@ -79,7 +80,7 @@ pub slice_lawful : (offset n : ℕ) → LawfulKeeps (slice_row offset n)
 slice_lawful offset n = record { made = slice-made offset n; left = slice-left offset n }
 
 count-stands : (m : Bitmap) (bytes : List ℕ) → Sound m bytes
-    → Stands (with_count m (Known (zero_count m bytes))) bytes (mask_flags m bytes)
+    → Stands (with_count m (Some (zero_count m bytes))) bytes (mask_flags m bytes)
 count-stands m bytes s =
     record {
       sound = record { starts = s.starts; short = s.short; inside = s.inside; counts = true-count m bytes s.counts };
@@ -93,20 +94,20 @@ recounted-is (suc k) m r = refl
 
 count-answer : (m : Bitmap) (bytes : List ℕ)
     → recounted (unset_bits_of m bytes) ≡ decided (first_failed (mask_checks m bytes)) m
-    (with_count m (Known (zero_count m bytes)))
+    (with_count m (Some (zero_count m bytes)))
 unfolding unset_bits_of
 count-answer m bytes = recounted-is (first_failed (mask_checks m bytes)) m _
 
 count_made : (m : Bitmap) (bytes : List ℕ) → Sound m bytes → (g : Bitmap) → recounted (unset_bits_of m bytes) ≡ given g
     → Stands g bytes (mask_flags m bytes)
 count_made m bytes s g e =
-    let r = with_count m (Known (zero_count m bytes)) in
+    let r = with_count m (Some (zero_count m bytes)) in
     let same : g ≡ r = given-value (first_failed (mask_checks m bytes)) m g r (sym e ∙ count-answer m bytes) in
     subst (λ (x : Bitmap). Stands x bytes (mask_flags m bytes)) (sym same) (count-stands m bytes s)
 
 count_left : (m : Bitmap) (bytes : List ℕ) (k : ℕ) (g : Bitmap) → recounted (unset_bits_of m bytes) ≡ refused k g → g ≡ m
 count_left m bytes k g e =
-    let r = with_count m (Known (zero_count m bytes)) in
+    let r = with_count m (Some (zero_count m bytes)) in
     refused-state k (first_failed (mask_checks m bytes)) g m r (sym e ∙ count-answer m bytes)
 
 pub count_lawful : LawfulKeeps count_row

@@ -1,5 +1,6 @@
 -- What holds through a call that makes a mask from masks, from what is owed for its row; and what serves every row that writes flags
 -- behind a list of checks. Assumes nothing.
+use Rattle.std.specs.Prelude.{Option}
 use mathlib.Core.Path.{◌≡◌, refl, sym, ap, ap₂, ◌∙◌, subst}
 use mathlib.Core.Bool.{Bool, true, false, cond}
 use mathlib.Core.List.{List}
@@ -14,7 +15,6 @@ use Rattle.masks.specs.Combine.{result_mask}
 use Rattle.masks.specs.Frozen.{frozen}
 use Rattle.masks.specs.TrueCounts.{TrueCount}
 use Rattle.masks.specs.declared.bitmap.Bitmap.{Bitmap}
-use Rattle.masks.specs.declared.bitmap.Unset.{Unset}
 use Rattle.masks.proofs.AnswerLaws.{given-number, given-value}
 use Rattle.masks.proofs.CheckLaws.{is-new}
 use Rattle.masks.proofs.FreezeLaws.{frozen-front}
@@ -84,7 +84,7 @@ module _ (m : Bitmap) (bytes : List ℕ) (l : List Bool) (s : Stands m bytes l) 
 -- ---- rows that write flags behind a list of checks
 
 -- a mask of flags frozen over the front of an output that holds them; its record is made by `result_mask` alone
-pub made-stands : (from : List Bitmap) (n : ℕ) (u : Unset) (F l : List Bool) (out : List ℕ) → length F ≡ n → n ≤ limit
+pub made-stands : (from : List Bitmap) (n : ℕ) (u : Option ℕ) (F l : List Bool) (out : List ℕ) → length F ≡ n → n ≤ limit
     → 8 * ((n + 63) / 64) ≤ length out → F ≡ l → TrueCount u F
     → Stands (result_mask from n u) (over out (frozen F)) l
 made-stands from n u F l out e h r p t =
@@ -101,14 +101,14 @@ made-stands from n u F l out e h r p t =
     }
 
 -- what passed checks have to give: n flags F, within the limit and the output, with this count true, that are G
-pub record Writable (n : ℕ) (u : Unset) (F G : List Bool) (out : List ℕ) : Type 0 where
+pub record Writable (n : ℕ) (u : Option ℕ) (F G : List Bool) (out : List ℕ) : Type 0 where
   pub long : length F ≡ n
   pub short : n ≤ limit
   pub room : 8 * ((n + 63) / 64) ≤ length out
   pub same : F ≡ G
   pub counts : TrueCount u F
 
-pub written_stands : (cs : List Check) (from : List Bitmap) (n : ℕ) (u : Unset) (F G : List Bool) (out : List ℕ) (g : Bitmap)
+pub written_stands : (cs : List Check) (from : List Bitmap) (n : ℕ) (u : Option ℕ) (F G : List Bool) (out : List ℕ) (g : Bitmap)
     → checked cs (tt {0}) (result_mask from n u) ≡ given g
     → (first_failed cs ≡ 0 → Writable n u F G out) → Stands g (kept (first_failed cs) (over out (frozen F)) out) G
 written_stands cs from n u F G out g e known =

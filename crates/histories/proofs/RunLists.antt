@@ -1,9 +1,9 @@
 -- The theorem on run lists: a list of flags and its runs determine each other, and saving the runs, call by call, comes to the flags.
 -- Assumes nothing.
+use Rattle.std.specs.Prelude.{Some, None}
 use mathlib.Core.Path.{◌≡◌, refl, sym, ap, ◌∙◌, subst}
 use mathlib.Core.Bool.{Bool, true, false, cond, ◌&&◌}
 use mathlib.Core.List.{List, [], ◌∷◌, ◌++◌, append_assoc, append-nil, map}
-use mathlib.Core.Option.{some}
 use Prim.Native.Nat.{ℕ, zero, suc, ◌+◌, ◌-◌, ◌≤◌, ◌<◌}
 use native.Mathlib.Omega.{arith}
 use lib.Dec.{eqb}
@@ -121,10 +121,10 @@ gap_ends leaves f l k end m cs all h r more = go (eqb k end && leaves end) refl
   where
     left_out : k ≡ end → Ready f (l ++ copies (end - k) false) (m - (end - k))
     left_out e =
-        let none : copies (end - k) false ≡ [] = copies-none (end - k) false (omega arith) in
+        let None : copies (end - k) false ≡ [] = copies-none (end - k) false (omega arith) in
         let same : m ≡ m - (end - k) = omega arith in
         subst (Ready f (l ++ copies (end - k) false)) same
-        (subst (λ (t : List Bool). Ready f t m) (sym (ap (λ (t : List Bool). l ++ t) none ∙ append-nil l)) r)
+        (subst (λ (t : List Bool). Ready f t m) (sym (ap (λ (t : List Bool). l ++ t) None ∙ append-nil l)) r)
 
     go : (t : Bool) → (eqb k end && leaves end) ≡ t → Ends f (cond t [] (constant (end - k) false ∷ []) ++ cs) all
     go true e = more f (left_out (eqb-true k end (and_left (eqb k end) (leaves end) e)))
@@ -207,12 +207,12 @@ saves n rs l h short leaves buf large =
 -- ---- masks
 
 module _ (m : Bitmap) (bytes : List ℕ) (ok : first_failed (mask_checks m bytes) ≡ 0) where
-  listed : (k : ℕ) → m.length < k → runs_shown k m bytes ≡ some (runs_from 0 (mask_flags m bytes))
+  listed : (k : ℕ) → m.length < k → runs_shown k m bytes ≡ Some (runs_from 0 (mask_flags m bytes))
   unfolding new_slices runs_left
   listed k h =
       let c = slices_at m.start m.length 0 in
       ap (runs_of k bytes) (sym (is-given 0 (first_failed (mask_checks m bytes)) tt c (sym ok) refl))
-      ∙ ap some (lists-runs bytes c (over-mask m bytes 0 ok (omega arith)) k (omega arith))
+      ∙ ap Some (lists-runs bytes c (over-mask m bytes 0 ok (omega arith)) k (omega arith))
 
   in_bytes : first_failed (span_checks m.start m.length (length bytes)) ≡ 0
   unfolding mask_checks

@@ -1,8 +1,8 @@
 -- Demand 3: what a mask has to have in common with a list of flags, all that document 01 compares with its plain list's, and the
 -- whole statement. Assumes nothing.
-use Rattle.std.specs.Prelude.{ℕ, ◌≤◌, ◌<◌, ◌≡◌, Bool, true, false, cond, List, [], ltb, length, get_or, take}
-use Rattle.std.proofs.Math.Option.{Option, none, some}
+use Rattle.std.specs.Prelude.{ℕ, ◌≤◌, ◌<◌, ◌≡◌, Bool, true, false, cond, List, [], ltb, length, get_or, take, Option, Some, None}
 use Rattle.words.specs.Flags.{over}
+use Rattle.masks.specs.declared.bitmap.Recounted.{Recounted}
 use Rattle.masks.specs.Answer.{Answer, given, refused}
 use Rattle.masks.specs.Appends.{Append, append_answer, append_bytes, push_flag, extend_constant, push_word, extend_slice}
 use Rattle.masks.specs.Appends.{extend_repeated, extend_bitmap, extend_gather, extend_opt_gather}
@@ -13,13 +13,12 @@ use Rattle.masks.specs.Freeze.{freeze_bytes, freeze_of}
 use Rattle.masks.specs.Frozen.{frozen, frozen_size}
 use Rattle.masks.specs.Iterator.{new_iter, nth_flag}
 use Rattle.masks.specs.Listing.{listing}
-use Rattle.masks.specs.Mask.{mask_checks, mask_flags, Recounted, unset_bits_of}
+use Rattle.masks.specs.Mask.{mask_checks, mask_flags, unset_bits_of}
 use Rattle.masks.specs.Search.{nth_back, nth_from, search_back, search_from}
 use Rattle.masks.specs.SliceIterator.{new_slices, next_slice, runs_from}
 use Rattle.masks.specs.TrueCounts.{Sound, TrueCount, Truthful}
 use Rattle.masks.specs.Utils.{zeros}
 use Rattle.masks.specs.declared.bitmap.Bitmap.{Bitmap}
-use Rattle.masks.specs.declared.bitmap.Unset.TheVariants.{Known}
 use Rattle.masks.specs.declared.builder.BitmapBuilder.{BitmapBuilder}
 use Rattle.masks.specs.declared.iterator.BitmapIter.{BitmapIter}
 use Rattle.masks.specs.declared.slice_iterator.Run.{Run}
@@ -34,17 +33,17 @@ use Rattle.histories.specs.Rows.{Argument, own, other, Every, RowCall, Tuple, Wr
 
 -- the count that `unset_bits` gives
 abbrev pub count_shown : Answer Bitmap Recounted → Option ℕ
-count_shown (given r) = some r.zeros
-count_shown (refused k m) = none
+count_shown (given r) = Some r.zeros
+count_shown (refused k m) = None
 
 -- the bytes that `freeze` writes for a new builder with the mask appended, in a buffer
 abbrev pub frozen_shown : ℕ → List ℕ → Answer BitmapBuilder Bitmap → Option (List ℕ)
-frozen_shown n bytes (given m) = some (take (frozen_size n) bytes)
-frozen_shown n bytes (refused k b) = none
+frozen_shown n bytes (given m) = Some (take (frozen_size n) bytes)
+frozen_shown n bytes (refused k b) = None
 
 abbrev pub then_frozen : ℕ → List ℕ → Answer BitmapBuilder BitmapBuilder → Option (List ℕ)
 then_frozen n bytes (given b) = frozen_shown n (freeze_bytes b bytes) (freeze_of b bytes)
-then_frozen n bytes (refused k b) = none
+then_frozen n bytes (refused k b) = None
 
 abbrev pub refrozen : Bitmap → List ℕ → List ℕ → Option (List ℕ)
 refrozen m bytes buf =
@@ -53,25 +52,25 @@ refrozen m bytes buf =
 
 -- the flag that `nth` of a new `BitmapIter` gives, or that there is none
 abbrev pub flag_shown : Answer BitmapIter (Step BitmapIter Bool) → Option (Option Bool)
-flag_shown (given (item x c)) = some (some x)
-flag_shown (given (ended c)) = some none
-flag_shown (refused k c) = none
+flag_shown (given (item x c)) = Some (Some x)
+flag_shown (given (ended c)) = Some None
+flag_shown (refused k c) = None
 
 abbrev pub nth_of : Answer (Unit {0}) BitmapIter → List ℕ → ℕ → Option (Option Bool)
 nth_of (given c) bytes n = flag_shown (nth_flag c bytes n)
-nth_of (refused k s) bytes n = none
+nth_of (refused k s) bytes n = None
 
 abbrev pub nth_shown : Bitmap → List ℕ → ℕ → Option (Option Bool)
 nth_shown m bytes n = nth_of (new_iter bytes m.start m.length) bytes n
 
 -- the flag of a list, or that there is none
 abbrev pub flag_of : List Bool → ℕ → Option Bool
-flag_of l n = cond (ltb n (length l)) (some (get_or l n false)) none
+flag_of l n = cond (ltb n (length l)) (Some (get_or l n false)) None
 
 -- the runs that `next` of a new cursor gives until none, in so many calls at most
 abbrev pub runs_of : ℕ → List ℕ → Answer (Unit {0}) SlicesIterator → Option (List Run)
-runs_of k bytes (given c) = some (listing (λ (d : SlicesIterator). next_slice d bytes) k c)
-runs_of k bytes (refused n s) = none
+runs_of k bytes (given c) = Some (listing (λ (d : SlicesIterator). next_slice d bytes) k c)
+runs_of k bytes (refused n s) = None
 
 abbrev pub runs_shown : ℕ → Bitmap → List ℕ → Option (List Run)
 runs_shown k m bytes = runs_of k bytes (new_slices m bytes)
@@ -100,13 +99,13 @@ pub record Agrees (m : Bitmap) (bytes : List ℕ) (l : List Bool) : Type 0 where
   pub flags : mask_flags m bytes ≡ l
   -- a known count, and the one that `unset_bits` gives
   pub known : TrueCount m.unset l
-  pub counted : count_shown (unset_bits_of m bytes) ≡ some (zeros l)
+  pub counted : count_shown (unset_bits_of m bytes) ≡ Some (zeros l)
   -- the frozen bytes, in any buffer that holds them
-  pub frozen_bytes : (buf : List ℕ) → frozen_size m.length ≤ length buf → refrozen m bytes buf ≡ some (frozen l)
+  pub frozen_bytes : (buf : List ℕ) → frozen_size m.length ≤ length buf → refrozen m bytes buf ≡ Some (frozen l)
   -- the runs from place 0, listed by more calls than there are flags
-  pub runs : (k : ℕ) → length l < k → runs_shown k m bytes ≡ some (runs_from 0 l)
+  pub runs : (k : ℕ) → length l < k → runs_shown k m bytes ≡ Some (runs_from 0 l)
   -- `nth` of a new cursor, and both searches, at every argument
-  pub nth : (n : ℕ) → nth_shown m bytes n ≡ some (flag_of l n)
+  pub nth : (n : ℕ) → nth_shown m bytes n ≡ Some (flag_of l n)
   pub forward : (n from : ℕ) → search_from bytes m.start m.length n from ≡ given (nth_from l n from)
   pub backward : (n end : ℕ) → search_back bytes m.start m.length n end ≡ given (nth_back l n end)
   -- each combination with other masks of its length whose checks pass, in an output that is large enough
@@ -117,7 +116,7 @@ pub record Agrees (m : Bitmap) (bytes : List ℕ) (l : List Bool) : Type 0 where
 
 pub record Alike (m : Bitmap) (bytes : List ℕ) (m' : Bitmap) (bytes' : List ℕ) : Type 0 where
   pub long : m.length ≡ m'.length
-  pub known : (z z' : ℕ) → m.unset ≡ Known z → m'.unset ≡ Known z' → z ≡ z'
+  pub known : (z z' : ℕ) → m.unset ≡ Some z → m'.unset ≡ Some z' → z ≡ z'
   pub counted : count_shown (unset_bits_of m bytes) ≡ count_shown (unset_bits_of m' bytes')
   pub frozen_bytes : (buf : List ℕ) → frozen_size m.length ≤ length buf → refrozen m bytes buf ≡ refrozen m' bytes' buf
   pub runs : (k : ℕ) → m.length < k → runs_shown k m bytes ≡ runs_shown k m' bytes'

@@ -1,6 +1,6 @@
 -- A history goes on, so that the theorem is not about nothing: for each kind of call a history in which it is accepted, and for each
 -- kind that a history can have refused one in which it is; all come to a mask. Which kinds are never refused. Assumes nothing.
-use Rattle.std.specs.Prelude.{ℕ, ◌≡◌, true, false, List, [], ◌∷◌, ◌++◌, map, replicate}
+use Rattle.std.specs.Prelude.{ℕ, ◌≡◌, true, false, List, [], ◌∷◌, ◌++◌, map, replicate, Some, None}
 use Rattle.words.specs.Flags.{is_one}
 use Rattle.masks.specs.Appends.{Append, push_flag, extend_constant, push_word, extend_slice}
 use Rattle.masks.specs.Appends.{extend_repeated, extend_bitmap, extend_gather, extend_opt_gather}
@@ -8,7 +8,6 @@ use Rattle.masks.specs.Builder.{Filling}
 use Rattle.masks.specs.Examples.{first, lent}
 use Rattle.masks.specs.Mask.{mask_of}
 use Rattle.masks.specs.declared.bitmap.Bitmap.{Bitmap}
-use Rattle.masks.specs.declared.bitmap.Unset.TheVariants.{Known, Unknown}
 use Rattle.histories.specs.Agreement.{ComesTo}
 use Rattle.histories.specs.History.{Call, try_new, append, freeze, into_opt_validity, make}
 use Rattle.histories.specs.History.{Fed, History, from_builder, from_span, from_mask}
@@ -40,76 +39,76 @@ on_a calls = record { start = from_span; calls = try_new A 0 6 ∷ map (λ (c : 
 
 -- B = 0,1,1,0,0,1 from the flag 3 on, C = 1,1,0,0,1,1, and five flags
 abbrev pub B : Argument
-B = other (mask_of 3 6 Unknown) (0x37 ∷ 0xFF ∷ [])
+B = other (mask_of 3 6 None) (0x37 ∷ 0xFF ∷ [])
 
 abbrev pub C : Argument
-C = other (mask_of 0 6 Unknown) (0x33 ∷ [])
+C = other (mask_of 0 6 None) (0x33 ∷ [])
 
 abbrev pub five : Argument
-five = other (mask_of 0 5 Unknown) (0x33 ∷ [])
+five = other (mask_of 0 5 None) (0x33 ∷ [])
 
 -- ---- each kind of call, accepted
 
 pub record AcceptedKinds : Type 0 where
-  pub push : Comes (built (push_flag true ∷ push_flag false ∷ []) freeze) (1 ∷ 1 ∷ 1 ∷ []) (mask_of 0 2 (Known 1)) (first 0x01) (1 ∷ 0 ∷ [])
-  pub constant : Comes (built (extend_constant 3 true ∷ []) freeze) (1 ∷ 1 ∷ []) (mask_of 0 3 (Known 0)) (first 0x07) (1 ∷ 1 ∷ 1 ∷ [])
-  pub push-word : Comes (built (push_word 0x2D 6 ∷ []) freeze) (1 ∷ 1 ∷ []) (mask_of 0 6 (Known 2)) (first 0x2D) (1 ∷ 0 ∷ 1 ∷ 1 ∷ 0 ∷ 1 ∷ [])
-  pub span : Comes (built (extend_slice A 2 4 ∷ []) freeze) (1 ∷ 1 ∷ []) (mask_of 0 4 (Known 1)) (first 0x0B) (1 ∷ 1 ∷ 0 ∷ 1 ∷ [])
-  pub repeats : Comes (built (extend_repeated A 2 4 2 ∷ []) freeze) (1 ∷ 1 ∷ []) (mask_of 0 8 (Known 2)) (first 0xCF)
+  pub push : Comes (built (push_flag true ∷ push_flag false ∷ []) freeze) (1 ∷ 1 ∷ 1 ∷ []) (mask_of 0 2 (Some 1)) (first 0x01) (1 ∷ 0 ∷ [])
+  pub constant : Comes (built (extend_constant 3 true ∷ []) freeze) (1 ∷ 1 ∷ []) (mask_of 0 3 (Some 0)) (first 0x07) (1 ∷ 1 ∷ 1 ∷ [])
+  pub push-word : Comes (built (push_word 0x2D 6 ∷ []) freeze) (1 ∷ 1 ∷ []) (mask_of 0 6 (Some 2)) (first 0x2D) (1 ∷ 0 ∷ 1 ∷ 1 ∷ 0 ∷ 1 ∷ [])
+  pub span : Comes (built (extend_slice A 2 4 ∷ []) freeze) (1 ∷ 1 ∷ []) (mask_of 0 4 (Some 1)) (first 0x0B) (1 ∷ 1 ∷ 0 ∷ 1 ∷ [])
+  pub repeats : Comes (built (extend_repeated A 2 4 2 ∷ []) freeze) (1 ∷ 1 ∷ []) (mask_of 0 8 (Some 2)) (first 0xCF)
       (1 ∷ 1 ∷ 1 ∷ 1 ∷ 0 ∷ 0 ∷ 1 ∷ 1 ∷ [])
   -- of 0,1,1,0,1 the second to the fourth
-  pub piece : Comes (built (extend_bitmap (mask_of 1 5 Unknown) A 1 3 ∷ []) freeze) (1 ∷ 1 ∷ []) (mask_of 0 3 (Known 1)) (first 0x03)
+  pub piece : Comes (built (extend_bitmap (mask_of 1 5 None) A 1 3 ∷ []) freeze) (1 ∷ 1 ∷ []) (mask_of 0 3 (Some 1)) (first 0x03)
       (1 ∷ 1 ∷ 0 ∷ [])
-  pub gather : Comes (built (extend_gather A 0 6 (5 ∷ 4 ∷ 0 ∷ []) ∷ []) freeze) (1 ∷ 1 ∷ []) (mask_of 0 3 (Known 1)) (first 0x05)
+  pub gather : Comes (built (extend_gather A 0 6 (5 ∷ 4 ∷ 0 ∷ []) ∷ []) freeze) (1 ∷ 1 ∷ []) (mask_of 0 3 (Some 1)) (first 0x05)
       (1 ∷ 0 ∷ 1 ∷ [])
-  pub opt_gather : Comes (built (extend_opt_gather A 0 6 (5 ∷ 6 ∷ 0 ∷ []) ∷ []) freeze) (1 ∷ 1 ∷ []) (mask_of 0 3 (Known 1)) (first 0x05)
+  pub opt_gather : Comes (built (extend_opt_gather A 0 6 (5 ∷ 6 ∷ 0 ∷ []) ∷ []) freeze) (1 ∷ 1 ∷ []) (mask_of 0 3 (Some 1)) (first 0x05)
       (1 ∷ 0 ∷ 1 ∷ [])
-  pub freezes : Comes (built [] freeze) (1 ∷ []) (mask_of 0 0 (Known 0)) (lent 8) []
-  pub validity : Comes (built (push_flag false ∷ []) into_opt_validity) (1 ∷ 1 ∷ []) (mask_of 0 1 (Known 1)) (first 0x00) (0 ∷ [])
+  pub freezes : Comes (built [] freeze) (1 ∷ []) (mask_of 0 0 (Some 0)) (lent 8) []
+  pub validity : Comes (built (push_flag false ∷ []) into_opt_validity) (1 ∷ 1 ∷ []) (mask_of 0 1 (Some 1)) (first 0x00) (0 ∷ [])
   -- a list that comes to a none is no history
   pub no-validity : end_of library_call (built (push_flag true ∷ []) into_opt_validity) ≡ no_mask
-  pub try-new : Comes (on_a []) (1 ∷ []) (mask_of 0 6 Unknown) A (1 ∷ 0 ∷ 1 ∷ 1 ∷ 0 ∷ 1 ∷ [])
-  pub slices : Comes (on_a (slice 2 4 ∷ [])) (1 ∷ 1 ∷ []) (mask_of 2 4 Unknown) A (1 ∷ 1 ∷ 0 ∷ 1 ∷ [])
-  pub counts : Comes (on_a (unset_bits ∷ [])) (1 ∷ 1 ∷ []) (mask_of 0 6 (Known 2)) A (1 ∷ 0 ∷ 1 ∷ 1 ∷ 0 ∷ 1 ∷ [])
+  pub try-new : Comes (on_a []) (1 ∷ []) (mask_of 0 6 None) A (1 ∷ 0 ∷ 1 ∷ 1 ∷ 0 ∷ 1 ∷ [])
+  pub slices : Comes (on_a (slice 2 4 ∷ [])) (1 ∷ 1 ∷ []) (mask_of 2 4 None) A (1 ∷ 1 ∷ 0 ∷ 1 ∷ [])
+  pub counts : Comes (on_a (unset_bits ∷ [])) (1 ∷ 1 ∷ []) (mask_of 0 6 (Some 2)) A (1 ∷ 0 ∷ 1 ∷ 1 ∷ 0 ∷ 1 ∷ [])
   -- of a counted mask
-  pub ands : Comes (on_a (unset_bits ∷ combine (pair and) (lent 8) (two own B) ∷ [])) (1 ∷ 1 ∷ 1 ∷ []) (mask_of 0 6 Unknown) (first 0x24)
+  pub ands : Comes (on_a (unset_bits ∷ combine (pair and) (lent 8) (two own B) ∷ [])) (1 ∷ 1 ∷ 1 ∷ []) (mask_of 0 6 None) (first 0x24)
       (0 ∷ 0 ∷ 1 ∷ 0 ∷ 0 ∷ 1 ∷ [])
-  pub and_nots : Comes (on_a (combine (pair and_not) (lent 8) (two own B) ∷ [])) (1 ∷ 1 ∷ []) (mask_of 0 6 Unknown) (first 0x09)
+  pub and_nots : Comes (on_a (combine (pair and_not) (lent 8) (two own B) ∷ [])) (1 ∷ 1 ∷ []) (mask_of 0 6 None) (first 0x09)
       (1 ∷ 0 ∷ 0 ∷ 1 ∷ 0 ∷ 0 ∷ [])
-  pub ors : Comes (on_a (combine (pair or) (lent 8) (two own B) ∷ [])) (1 ∷ 1 ∷ []) (mask_of 0 6 Unknown) (first 0x2F)
+  pub ors : Comes (on_a (combine (pair or) (lent 8) (two own B) ∷ [])) (1 ∷ 1 ∷ []) (mask_of 0 6 None) (first 0x2F)
       (1 ∷ 1 ∷ 1 ∷ 1 ∷ 0 ∷ 1 ∷ [])
-  pub or_nots : Comes (on_a (combine (pair or_not) (lent 8) (two own B) ∷ [])) (1 ∷ 1 ∷ []) (mask_of 0 6 Unknown) (first 0x3D)
+  pub or_nots : Comes (on_a (combine (pair or_not) (lent 8) (two own B) ∷ [])) (1 ∷ 1 ∷ []) (mask_of 0 6 None) (first 0x3D)
       (1 ∷ 0 ∷ 1 ∷ 1 ∷ 1 ∷ 1 ∷ [])
-  pub xors : Comes (on_a (combine (pair xor) (lent 8) (two own B) ∷ [])) (1 ∷ 1 ∷ []) (mask_of 0 6 Unknown) (first 0x0B)
+  pub xors : Comes (on_a (combine (pair xor) (lent 8) (two own B) ∷ [])) (1 ∷ 1 ∷ []) (mask_of 0 6 None) (first 0x0B)
       (1 ∷ 1 ∷ 0 ∷ 1 ∷ 0 ∷ 0 ∷ [])
-  pub inverts : Comes (on_a (combine invert (lent 8) (one own) ∷ [])) (1 ∷ 1 ∷ []) (mask_of 0 6 Unknown) (first 0x12)
+  pub inverts : Comes (on_a (combine invert (lent 8) (one own) ∷ [])) (1 ∷ 1 ∷ []) (mask_of 0 6 None) (first 0x12)
       (0 ∷ 1 ∷ 0 ∷ 0 ∷ 1 ∷ 0 ∷ [])
-  pub selects : Comes (on_a (combine select (lent 8) (three own B C) ∷ [])) (1 ∷ 1 ∷ []) (mask_of 0 6 Unknown) (first 0x36)
+  pub selects : Comes (on_a (combine select (lent 8) (three own B C) ∷ [])) (1 ∷ 1 ∷ []) (mask_of 0 6 None) (first 0x36)
       (0 ∷ 1 ∷ 1 ∷ 0 ∷ 1 ∷ 1 ∷ [])
-  pub selects-constant : Comes (on_a (combine (select_constant true) (lent 8) (two B own) ∷ [])) (1 ∷ 1 ∷ []) (mask_of 0 6 Unknown)
+  pub selects-constant : Comes (on_a (combine (select_constant true) (lent 8) (two B own) ∷ [])) (1 ∷ 1 ∷ []) (mask_of 0 6 None)
       (first 0x3D) (1 ∷ 0 ∷ 1 ∷ 1 ∷ 1 ∷ 1 ∷ [])
   -- the history's own mask in both places, and a call on what that gave
   pub own-twice : Comes (on_a (combine (pair xor) (lent 8) (two own own) ∷ combine invert (lent 8) (one own) ∷ [])) (1 ∷ 1 ∷ 1 ∷ [])
-      (mask_of 0 6 Unknown) (first 0x3F) (1 ∷ 1 ∷ 1 ∷ 1 ∷ 1 ∷ 1 ∷ [])
+      (mask_of 0 6 None) (first 0x3F) (1 ∷ 1 ∷ 1 ∷ 1 ∷ 1 ∷ 1 ∷ [])
   -- an imported mask, its count true or unknown
-  pub imports : Comes (record { start = from_mask (mask_of 2 4 (Known 1)) A; calls = make (masks unset_bits) ∷ [] }) (1 ∷ [])
-      (mask_of 2 4 (Known 1)) A (1 ∷ 1 ∷ 0 ∷ 1 ∷ [])
-  pub imports-uncounted : Comes (record { start = from_mask (mask_of 2 4 Unknown) A; calls = make (masks (slice 1 2)) ∷ [] }) (1 ∷ [])
-      (mask_of 3 2 Unknown) A (1 ∷ 0 ∷ [])
+  pub imports : Comes (record { start = from_mask (mask_of 2 4 (Some 1)) A; calls = make (masks unset_bits) ∷ [] }) (1 ∷ [])
+      (mask_of 2 4 (Some 1)) A (1 ∷ 1 ∷ 0 ∷ 1 ∷ [])
+  pub imports-uncounted : Comes (record { start = from_mask (mask_of 2 4 None) A; calls = make (masks (slice 1 2)) ∷ [] }) (1 ∷ [])
+      (mask_of 3 2 None) A (1 ∷ 0 ∷ [])
 
 -- ---- each kind of call that a history can have refused: the mask and the list are those without it
 
 -- a one, an append that is refused, and `freeze`
 abbrev pub RefusedAppend : Append → Type 0
-RefusedAppend a = Comes (built (push_flag true ∷ a ∷ []) freeze) (1 ∷ 0 ∷ 1 ∷ []) (mask_of 0 1 (Known 0)) (first 0x01) (1 ∷ [])
+RefusedAppend a = Comes (built (push_flag true ∷ a ∷ []) freeze) (1 ∷ 0 ∷ 1 ∷ []) (mask_of 0 1 (Some 0)) (first 0x01) (1 ∷ [])
 
 -- a call on A that is refused
 abbrev pub RefusedOnA : MaskCall → Type 0
-RefusedOnA c = Comes (on_a (c ∷ [])) (1 ∷ 0 ∷ []) (mask_of 0 6 Unknown) A (1 ∷ 0 ∷ 1 ∷ 1 ∷ 0 ∷ 1 ∷ [])
+RefusedOnA c = Comes (on_a (c ∷ [])) (1 ∷ 0 ∷ []) (mask_of 0 6 None) A (1 ∷ 0 ∷ 1 ∷ 1 ∷ 0 ∷ 1 ∷ [])
 
 pub record RefusedKinds : Type 0 where
   -- 64 ones fill the eight bytes
-  pub push : Comes (built (extend_constant 64 true ∷ push_flag false ∷ []) freeze) (1 ∷ 0 ∷ 1 ∷ []) (mask_of 0 64 (Known 0)) (replicate 8 0xFF)
+  pub push : Comes (built (extend_constant 64 true ∷ push_flag false ∷ []) freeze) (1 ∷ 0 ∷ 1 ∷ []) (mask_of 0 64 (Some 0)) (replicate 8 0xFF)
       (replicate 64 1)
   pub constant : RefusedAppend (extend_constant 64 true)
   -- a bit beyond the word's stated length
@@ -118,22 +117,22 @@ pub record RefusedKinds : Type 0 where
   pub span : RefusedAppend (extend_slice A 2 7)
   pub repeats : RefusedAppend (extend_repeated A 0 8 8)
   -- a piece past its mask
-  pub piece : RefusedAppend (extend_bitmap (mask_of 0 6 Unknown) A 4 3)
+  pub piece : RefusedAppend (extend_bitmap (mask_of 0 6 None) A 4 3)
   -- an index at the span's length
   pub gather : RefusedAppend (extend_gather A 0 6 (6 ∷ []))
   pub opt_gather : RefusedAppend (extend_opt_gather A 0 9 (0 ∷ []))
   -- then a span inside its bytes
-  pub try-new : Comes (record { start = from_span; calls = try_new A 2 7 ∷ try_new A 2 4 ∷ [] }) (0 ∷ 1 ∷ []) (mask_of 2 4 Unknown) A
+  pub try-new : Comes (record { start = from_span; calls = try_new A 2 7 ∷ try_new A 2 4 ∷ [] }) (0 ∷ 1 ∷ []) (mask_of 2 4 None) A
       (1 ∷ 1 ∷ 0 ∷ 1 ∷ [])
   -- an imported mask with a stale count, or past its byte, is no start: then a span
-  pub import_stale : Comes (record { start = from_mask (mask_of 0 6 (Known 3)) A; calls = try_new A 2 4 ∷ [] }) (1 ∷ []) (mask_of 2 4 Unknown) A
+  pub import_stale : Comes (record { start = from_mask (mask_of 0 6 (Some 3)) A; calls = try_new A 2 4 ∷ [] }) (1 ∷ []) (mask_of 2 4 None) A
       (1 ∷ 1 ∷ 0 ∷ 1 ∷ [])
-  pub import_past : Comes (record { start = from_mask (mask_of 2 7 Unknown) A; calls = make (masks unset_bits) ∷ try_new A 2 4 ∷ [] })
-      (0 ∷ 1 ∷ []) (mask_of 2 4 Unknown) A (1 ∷ 1 ∷ 0 ∷ 1 ∷ [])
+  pub import_past : Comes (record { start = from_mask (mask_of 2 7 None) A; calls = make (masks unset_bits) ∷ try_new A 2 4 ∷ [] })
+      (0 ∷ 1 ∷ []) (mask_of 2 4 None) A (1 ∷ 1 ∷ 0 ∷ 1 ∷ [])
   -- a stale count of another mask
-  pub piece_stale : RefusedAppend (extend_bitmap (mask_of 0 6 (Known 3)) A 0 3)
+  pub piece_stale : RefusedAppend (extend_bitmap (mask_of 0 6 (Some 3)) A 0 3)
   pub slices : RefusedOnA (slice 3 4)
-  pub and_stale : RefusedOnA (combine (pair and) (lent 8) (two own (other (mask_of 0 6 (Known 0)) (0x33 ∷ []))))
+  pub and_stale : RefusedOnA (combine (pair and) (lent 8) (two own (other (mask_of 0 6 (Some 0)) (0x33 ∷ []))))
   -- masks of two lengths, or no byte to write to
   pub ands : RefusedOnA (combine (pair and) (lent 8) (two own five))
   pub and_nots : RefusedOnA (combine (pair and_not) [] (two own B))

@@ -4,8 +4,7 @@
 -- A step is made of the definitions that the contracts cite. The reference list is fed the arguments of the calls, save the
 -- history's own record and bytes, and which calls were refused; its words are those of `ReferenceList` and of the rows. Which
 -- calls make a mask from masks is a table: codes, and the row that each stands for.
-use Rattle.std.specs.Prelude.{ℕ, Bool, true, false, cond, List, [], ◌∷◌, ◌++◌}
-use Rattle.std.proofs.Math.Option.{Option, none, some}
+use Rattle.std.specs.Prelude.{ℕ, Bool, true, false, cond, List, [], ◌∷◌, ◌++◌, Option, Some, None}
 use Rattle.masks.specs.Answer.{Answer, given, refused, checked}
 use Rattle.masks.specs.Appends.{Append, append_answer, append_bytes}
 use Rattle.masks.specs.Builder.{Filling, filling, new_builder}
@@ -61,8 +60,8 @@ after_freeze bytes (given m) = outcome (masked m bytes) true
 after_freeze bytes (refused k b) = outcome (building (filling b bytes)) false
 
 abbrev pub after_validity : List ℕ → Answer BitmapBuilder (Option Bitmap) → Outcome
-after_validity bytes (given (some m)) = outcome (masked m bytes) true
-after_validity bytes (given none) = outcome no_mask true
+after_validity bytes (given (Some m)) = outcome (masked m bytes) true
+after_validity bytes (given None) = outcome no_mask true
 after_validity bytes (refused k b) = outcome (building (filling b bytes)) false
 
 -- ---- `try_new`, and calls on a mask

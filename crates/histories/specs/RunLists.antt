@@ -2,8 +2,7 @@
 --
 -- The runs of a list of flags are `runs_from 0`, which a new `SlicesIterator` lists. The calls are those of a history, so that the
 -- theorem speaks of the contracts of `extend_constant` and `freeze`.
-use Rattle.std.specs.Prelude.{ℕ, ◌+◌, ◌-◌, ◌≤◌, ◌<◌, ◌≡◌, Bool, true, false, cond, ◌&&◌, List, [], ◌∷◌, ◌++◌, map, eqb, leb, ltb, length}
-use Rattle.std.proofs.Math.Option.{some}
+use Rattle.std.specs.Prelude.{ℕ, ◌+◌, ◌-◌, ◌≤◌, ◌<◌, ◌≡◌, Bool, true, false, cond, ◌&&◌, List, [], ◌∷◌, ◌++◌, map, eqb, leb, ltb, length, Some}
 use Rattle.masks.specs.Appends.{extend_constant}
 use Rattle.masks.specs.Builder.{Filling, builder_flags}
 use Rattle.masks.specs.Checks.{first_failed, limit}
@@ -79,7 +78,7 @@ pub record Saves (l : List Bool) (buf : List ℕ) (calls : List (Call LibraryCal
 -- a mask taken apart into the runs that its cursor lists, and saved in any buffer of 8 × ceil(length / 64) bytes or more
 pub record Rebuilt (m : Bitmap) (bytes : List ℕ) : Type 0 where
   pub runs : List Run
-  pub listed : (k : ℕ) → m.length < k → runs_shown k m bytes ≡ some runs
+  pub listed : (k : ℕ) → m.length < k → runs_shown k m bytes ≡ Some runs
   pub saved : (leaves : ℕ → Bool) (buf : List ℕ) → frozen_size m.length ≤ length buf
       → Saves (mask_flags m bytes) buf (saving_from leaves m.length 0 runs)
   -- the mask saved answers as the mask that was taken apart

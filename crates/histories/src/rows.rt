@@ -1,32 +1,43 @@
 // Ties each row of `MaskRows` to its call: a function here makes one call of masks and nothing else, and its contract is the row's
 // answer and the row's bytes. Nobody calls them; a row of another call would leave its function unproved.
 ghost use Rattle.std.specs.Prelude.{◌≡◌};
-ghost use Rattle.masks.specs.Combine.{combined_answer};
-ghost use Rattle.masks.specs.Mask.{counting_answer, sliced_answer};
+ghost use Rattle.masks.specs.Answer.{answer, answer_back};
 ghost use Rattle.histories.specs.MaskRows.{constant_row, count_row, not_row, pair_row, recounted, select_row, slice_row};
 ghost use Rattle.histories.specs.ReferenceList.{Pair};
 ghost use Rattle.histories.specs.Rows.{one, two, three, with_bytes};
 
-use masks::bitmap::{Bitmap, Counting, Sliced};
-use masks::bitmap_ops::{Combined, and, and_not, not, or, or_not, select, select_constant, xor};
+use masks::bitmap::{Bitmap, Recounted};
+use masks::bitmap_ops::{and, and_not, not, or, or_not, select, select_constant, xor};
+use masks::refusal::{Refusal, Refused};
 
 // Answers as the row of `slice` does.
-pub fn slice_row(mask: Bitmap, bytes: &[u8], offset: usize, length: usize) -> Sliced
-    ensures { sliced_answer result ≡ (slice_row offset length).answer mask bytes.now }
+pub fn slice_row(
+    mask: Bitmap,
+    bytes: &[u8],
+    offset: usize,
+    length: usize,
+) -> Result<Bitmap, Refused<Bitmap>>
+    ensures { answer_back result ≡ (slice_row offset length).answer mask bytes.now }
 {
     mask.slice(bytes, offset, length)
 }
 
 // Answers as the row of `unset_bits` does, which hands the mask on and not the count.
-pub fn count_row(mask: Bitmap, bytes: &[u8]) -> Counting
-    ensures { recounted (counting_answer result) ≡ count_row.answer mask bytes.now }
+pub fn count_row(mask: Bitmap, bytes: &[u8]) -> Result<Recounted, Refused<Bitmap>>
+    ensures { recounted (answer_back result) ≡ count_row.answer mask bytes.now }
 {
     mask.unset_bits(bytes)
 }
 
 // Answers and writes as the row of `and` does.
-pub fn and_row(lhs: Bitmap, left: &[u8], rhs: Bitmap, right: &[u8], out: &mut [u8]) -> Combined
-    ensures answer { combined_answer result ≡
+pub fn and_row(
+    lhs: Bitmap,
+    left: &[u8],
+    rhs: Bitmap,
+    right: &[u8],
+    out: &mut [u8],
+) -> Result<Bitmap, Refusal>
+    ensures answer { answer result ≡
         (pair_row Pair.and out.old).answer (two (with_bytes lhs left.now) (with_bytes rhs right.now)) }
     ensures bytes { out.new ≡
         (pair_row Pair.and out.old).bytes (two (with_bytes lhs left.now) (with_bytes rhs right.now)) }
@@ -35,8 +46,14 @@ pub fn and_row(lhs: Bitmap, left: &[u8], rhs: Bitmap, right: &[u8], out: &mut [u
 }
 
 // Answers and writes as the row of `and_not` does.
-pub fn and_not_row(lhs: Bitmap, left: &[u8], rhs: Bitmap, right: &[u8], out: &mut [u8]) -> Combined
-    ensures answer { combined_answer result ≡
+pub fn and_not_row(
+    lhs: Bitmap,
+    left: &[u8],
+    rhs: Bitmap,
+    right: &[u8],
+    out: &mut [u8],
+) -> Result<Bitmap, Refusal>
+    ensures answer { answer result ≡
         (pair_row Pair.and_not out.old).answer (two (with_bytes lhs left.now) (with_bytes rhs right.now)) }
     ensures bytes { out.new ≡
         (pair_row Pair.and_not out.old).bytes (two (with_bytes lhs left.now) (with_bytes rhs right.now)) }
@@ -45,8 +62,14 @@ pub fn and_not_row(lhs: Bitmap, left: &[u8], rhs: Bitmap, right: &[u8], out: &mu
 }
 
 // Answers and writes as the row of `or` does.
-pub fn or_row(lhs: Bitmap, left: &[u8], rhs: Bitmap, right: &[u8], out: &mut [u8]) -> Combined
-    ensures answer { combined_answer result ≡
+pub fn or_row(
+    lhs: Bitmap,
+    left: &[u8],
+    rhs: Bitmap,
+    right: &[u8],
+    out: &mut [u8],
+) -> Result<Bitmap, Refusal>
+    ensures answer { answer result ≡
         (pair_row Pair.or out.old).answer (two (with_bytes lhs left.now) (with_bytes rhs right.now)) }
     ensures bytes { out.new ≡
         (pair_row Pair.or out.old).bytes (two (with_bytes lhs left.now) (with_bytes rhs right.now)) }
@@ -55,8 +78,14 @@ pub fn or_row(lhs: Bitmap, left: &[u8], rhs: Bitmap, right: &[u8], out: &mut [u8
 }
 
 // Answers and writes as the row of `or_not` does.
-pub fn or_not_row(lhs: Bitmap, left: &[u8], rhs: Bitmap, right: &[u8], out: &mut [u8]) -> Combined
-    ensures answer { combined_answer result ≡
+pub fn or_not_row(
+    lhs: Bitmap,
+    left: &[u8],
+    rhs: Bitmap,
+    right: &[u8],
+    out: &mut [u8],
+) -> Result<Bitmap, Refusal>
+    ensures answer { answer result ≡
         (pair_row Pair.or_not out.old).answer (two (with_bytes lhs left.now) (with_bytes rhs right.now)) }
     ensures bytes { out.new ≡
         (pair_row Pair.or_not out.old).bytes (two (with_bytes lhs left.now) (with_bytes rhs right.now)) }
@@ -65,8 +94,14 @@ pub fn or_not_row(lhs: Bitmap, left: &[u8], rhs: Bitmap, right: &[u8], out: &mut
 }
 
 // Answers and writes as the row of `xor` does.
-pub fn xor_row(lhs: Bitmap, left: &[u8], rhs: Bitmap, right: &[u8], out: &mut [u8]) -> Combined
-    ensures answer { combined_answer result ≡
+pub fn xor_row(
+    lhs: Bitmap,
+    left: &[u8],
+    rhs: Bitmap,
+    right: &[u8],
+    out: &mut [u8],
+) -> Result<Bitmap, Refusal>
+    ensures answer { answer result ≡
         (pair_row Pair.xor out.old).answer (two (with_bytes lhs left.now) (with_bytes rhs right.now)) }
     ensures bytes { out.new ≡
         (pair_row Pair.xor out.old).bytes (two (with_bytes lhs left.now) (with_bytes rhs right.now)) }
@@ -75,8 +110,8 @@ pub fn xor_row(lhs: Bitmap, left: &[u8], rhs: Bitmap, right: &[u8], out: &mut [u
 }
 
 // Answers and writes as the row of `not` does.
-pub fn not_row(mask: Bitmap, bytes: &[u8], out: &mut [u8]) -> Combined
-    ensures answer { combined_answer result ≡ (not_row out.old).answer (one (with_bytes mask bytes.now)) }
+pub fn not_row(mask: Bitmap, bytes: &[u8], out: &mut [u8]) -> Result<Bitmap, Refusal>
+    ensures answer { answer result ≡ (not_row out.old).answer (one (with_bytes mask bytes.now)) }
     ensures bytes { out.new ≡ (not_row out.old).bytes (one (with_bytes mask bytes.now)) }
 {
     not(mask, bytes, out)
@@ -91,8 +126,8 @@ pub fn select_row(
     falsy: Bitmap,
     no: &[u8],
     out: &mut [u8],
-) -> Combined
-    ensures answer { combined_answer result ≡ (select_row out.old).answer
+) -> Result<Bitmap, Refusal>
+    ensures answer { answer result ≡ (select_row out.old).answer
         (three (with_bytes selector by.now) (with_bytes truthy yes.now) (with_bytes falsy no.now)) }
     ensures bytes { out.new ≡ (select_row out.old).bytes
         (three (with_bytes selector by.now) (with_bytes truthy yes.now) (with_bytes falsy no.now)) }
@@ -108,8 +143,8 @@ pub fn constant_row(
     yes: &[u8],
     flag: bool,
     out: &mut [u8],
-) -> Combined
-    ensures answer { combined_answer result ≡
+) -> Result<Bitmap, Refusal>
+    ensures answer { answer result ≡
         (constant_row flag out.old).answer (two (with_bytes selector by.now) (with_bytes truthy yes.now)) }
     ensures bytes { out.new ≡
         (constant_row flag out.old).bytes (two (with_bytes selector by.now) (with_bytes truthy yes.now)) }

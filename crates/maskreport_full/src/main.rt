@@ -2,5 +2,5 @@
 #![tactic(auto)]
 
 fn main(rt: HostRuntime) {
-    report::program::run(&rt);
+    let _ = report::program::run(&rt);
 }

@@ -240,6 +240,12 @@ change-done b r e = e
 pub change-refused : {S : Type 0} (n m : ℕ) (b s a : S) → refused n b ≡ decided m s a → decided n b b ≡ decided m s a
 change-refused n m b s a e = ap changed e ∙ changed-decided m s a
 
+-- a record that is left as it was
+pub refused-kept : {S : Type 0} (n m : ℕ) (b s a : S) → refused n b ≡ decided m s a → decided n s s ≡ decided m s a
+unfolding decided
+refused-kept n zero b s a e = absurd (let z : ◌≡◌ {A = ℕ} 0 1 = cc e in omega arith)
+refused-kept n (suc m) b s a e = let same : n ≡ suc m = cc e in ap (λ (k : ℕ). decided k s s) same
+
 -- ---- a push reads and gives length, word and ones; what else the record holds plays no part
 
 -- the length, word and ones of c in the record b

@@ -1,4 +1,5 @@
 -- One index of masks that may be absent: what is known where the checks have passed. Assumes nothing.
+use Rattle.std.specs.Prelude.{Option, Some, None}
 use mathlib.Core.Path.{◌≡◌, sym, ◌∙◌, subst}
 use mathlib.Core.Bool.{Bool, false}
 use mathlib.Core.List.{List, [], ◌∷◌, ◌++◌}
@@ -14,22 +15,20 @@ use Rattle.masks.specs.Checks.{first_failed}
 use Rattle.masks.specs.Mask.{mask_checks, mask_flags}
 use Rattle.masks.specs.Workers.{Indexed}
 use Rattle.masks.specs.declared.bitmap.Bitmap.{Bitmap}
-use Rattle.masks.specs.declared.bitmap.Optional.{Optional}
-use Rattle.masks.specs.declared.bitmap.Optional.TheVariants.{Present, Absent}
 use Rattle.masks.proofs.CheckLaws.{both_left, both_right, check-allowed}
 use Rattle.masks.proofs.MaskLaws.{mask-allowed}
 
 -- the index lies in a mask whose checks have passed
-passed-mask : (M : Optional) (bytes : List ℕ) (i : ℕ) → first_failed (index_checks M bytes i) ≡ 0 → Indexed M i
+passed-mask : (M : Option Bitmap) (bytes : List ℕ) (i : ℕ) → first_failed (index_checks M bytes i) ≡ 0 → Indexed M i
 unfolding index_checks
-passed-mask (Present m) bytes i e =
+passed-mask (Some m) bytes i e =
     let span = mask-allowed m bytes (both_left (mask_checks m bytes) (index_inside i m ∷ []) e) in
     let inside = both_right (mask_checks m bytes) (index_inside i m ∷ []) e in
     (span.starts, (span.short, ltb-true i m.length (check-allowed 5 (ltb i m.length) inside)))
-passed-mask Absent bytes i e = tt
+passed-mask None bytes i e = tt
 
 -- and in each of two
-pub passed-masks : (A : Optional) (a_bytes : List ℕ) (B : Optional) (b_bytes : List ℕ) (i : ℕ)
+pub passed-masks : (A : Option Bitmap) (a_bytes : List ℕ) (B : Option Bitmap) (b_bytes : List ℕ) (i : ℕ)
     → first_failed (and_not_at_checks A a_bytes B b_bytes i) ≡ 0 → Indexed A i × Indexed B i
 unfolding and_not_at_checks
 passed-masks A a_bytes B b_bytes i e =
@@ -38,15 +37,15 @@ passed-masks A a_bytes B b_bytes i e =
       passed-mask B b_bytes i (both_left (index_checks B b_bytes i) (length_checks A B) second),
     )
 
-present-indexed : (M : Optional) (m : Bitmap) (i : ℕ) → M ≡ Present m → Indexed M i → Indexed (Present m) i
-present-indexed M m i e h = subst (λ (x : Optional). Indexed x i) e h
+present-indexed : (M : Option Bitmap) (m : Bitmap) (i : ℕ) → M ≡ Some m → Indexed M i → Indexed (Some m) i
+present-indexed M m i e h = subst (λ (x : Option Bitmap). Indexed x i) e h
 
-pub index-fits : (M : Optional) (m : Bitmap) (i : ℕ) → M ≡ Present m → Indexed M i → m.start + i ≤ 8388608
+pub index-fits : (M : Option Bitmap) (m : Bitmap) (i : ℕ) → M ≡ Some m → Indexed M i → m.start + i ≤ 8388608
 index-fits M m i e h =
     let p = present-indexed M m i e h in
     omega (arith, p.0, p.1.0, p.1.1)
 
 -- the flag that is read is the mask's
-pub flag-inside : (M : Optional) (m : Bitmap) (bytes : List ℕ) (i : ℕ) (x : Bool) → M ≡ Present m → Indexed M i
+pub flag-inside : (M : Option Bitmap) (m : Bitmap) (bytes : List ℕ) (i : ℕ) (x : Bool) → M ≡ Some m → Indexed M i
     → x ≡ get_or (flags_of bytes) (m.start + i) false → x ≡ get_or (mask_flags m bytes) i false
 flag-inside M m bytes i x e h read = read ∙ sym (at_in (flags_of bytes) m.start m.length i (present-indexed M m i e h).1.1)

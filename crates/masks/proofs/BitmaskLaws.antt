@@ -39,10 +39,11 @@ pub narrow : (l : List Bool) (b k d r : ℕ) → r ≡ word_of (window l b k) �
 narrow l b k d r e h =
     rw e (lt_of_lt_of_le (word_of_lt (window l b k)) (pow_mono (omega (arith, length-window l b k))))
 
-pub window-value : (bytes : List ℕ) (start n index k r : ℕ) → k ≡ min 32 (n - index) → r ≡ word_of (stretch bytes (start + index) k) → r ≡ window_word bytes start n index
+pub window-value : (bytes : List ℕ) (start n index k r : ℕ) → k ≡ min (n - index) 32 → r ≡ word_of (stretch bytes (start + index) k) → r ≡ window_word bytes start n index
 unfolding window_word
 window-value bytes start n index k r e p =
-    p ∙ ap (λ (x : ℕ). word_of (window (flags_of bytes) (start + index) x)) e
+    let few : k ≡ min 32 (n - index) = omega arith in
+    p ∙ ap (λ (x : ℕ). word_of (window (flags_of bytes) (start + index) x)) few
     ∙ sym (ap word_of (padded (flags_of bytes) start n index 32)
     ∙ word_of_padded 32 (window (flags_of bytes) (start + index) (min 32 (n - index))) (omega (arith, length-window (flags_of bytes) (start + index) (min 32 (n - index)))))
 

@@ -8,6 +8,8 @@ use lib.Dec.{leb, eqb}
 use borrow.Author.Tests.{le-leb, lt-leb, leb-true, eq-eqb, ne_eqb}
 use Rattle.words.proofs.Windows.{lt-or-le}
 use Rattle.masks.specs.Answer.{given, refused, decided, kept, unless_empty}
+use Rattle.masks.specs.Builder.{none_from, possible}
+use Rattle.masks.specs.declared.builder.BitmapBuilder.{BitmapBuilder}
 use Rattle.masks.specs.Checks.{Check, check, rank, place_in, earlier, failure, first_failed, limit, within_limit, span_checks, address_checks}
 use mathlib.Core.Logic.{◌⊎◌, inl, inr, ⊎_elim}
 
@@ -244,13 +246,34 @@ pub and_right : (x y : Bool) → (x && y) ≡ true → y ≡ true
 and_right true y e = e
 and_right false y e = absurd (let z : ◌≡◌ {A = ℕ} 0 1 = cc e in omega arith)
 
+-- the code's tests of three parts: the value of the first two, then the third
+pub both-tested : (v r x y : Bool) → r ≡ x → r ≡ true → v ≡ y → (x && y) ≡ v
+both-tested v r x y e h p = rw (sym e ∙ h) (sym p)
+
+pub first-tested : (v r x y : Bool) → r ≡ x → r ≡ false → v ≡ r → (x && y) ≡ v
+first-tested v r x y e h p = rw (sym e ∙ h) (sym (p ∙ h))
+
+pub third-decides : (x y z : Bool) → (x && y) ≡ true → z ≡ (x && (y && z))
+third-decides true true z h = refl
+third-decides true false z h = absurd (let n : ◌≡◌ {A = ℕ} 0 1 = cc h in omega arith)
+third-decides false y z h = absurd (let n : ◌≡◌ {A = ℕ} 0 1 = cc h in omega arith)
+
+first-decide : (v x y z : Bool) → v ≡ (x && y) → v ≡ false → v ≡ (x && (y && z))
+first-decide v true true z e h = absurd (let n : ◌≡◌ {A = ℕ} 0 1 = cc (e, h) in omega arith)
+first-decide v true false z e h = e
+first-decide v false y z e h = e
+
+pub possible-not : (b : BitmapBuilder) (size : ℕ) (v : Bool) → v ≡ (none_from b.word (b.length % 64) && leb b.ones (64 * (b.length / 64))) → v ≡ false → v ≡ possible b size
+unfolding possible
+possible-not b size v e h = first-decide v (none_from b.word (b.length % 64)) (leb b.ones (64 * (b.length / 64))) (leb (8 * (b.length / 64)) size) e h
+
 -- the checks of a span: where start and length are within the limit, check 2 decides; else it is 1
-span-number : (a b t : Bool) → (a && b) ≡ true → cond t 0 2 ≡ earlier (cond a 0 1) (earlier (cond b 0 1) (earlier (cond t 0 2) 0))
+span-number : (a b t : Bool) → a ≡ true → b ≡ true → cond t 0 2 ≡ earlier (cond a 0 1) (earlier (cond b 0 1) (earlier (cond t 0 2) 0))
 unfolding earlier rank place_in
-span-number true true true h = refl
-span-number true true false h = refl
-span-number true false t h = absurd (let z : ◌≡◌ {A = ℕ} 0 1 = cc h in omega arith)
-span-number false b t h = absurd (let z : ◌≡◌ {A = ℕ} 0 1 = cc h in omega arith)
+span-number true true true h k = refl
+span-number true true false h k = refl
+span-number true false t h k = absurd (let z : ◌≡◌ {A = ℕ} 0 1 = cc k in omega arith)
+span-number false b t h k = absurd (let z : ◌≡◌ {A = ℕ} 0 1 = cc h in omega arith)
 
 over-number : (a b t : Bool) → (a && b) ≡ false → 1 ≡ earlier (cond a 0 1) (earlier (cond b 0 1) (earlier (cond t 0 2) 0))
 unfolding earlier rank place_in
@@ -262,20 +285,14 @@ over-number false true false h = refl
 over-number false false true h = refl
 over-number false false false h = refl
 
-module _ (start n size : ℕ) (x y within : Bool) (ex : x ≡ leb start limit) (ey : y ≡ leb n limit) (e : within ≡ (x && y)) where
-  pub span-within : (r : ℕ) (t : Bool) → within ≡ true → r ≡ cond t 0 2 → t ≡ leb (start + n) (8 * size) → r ≡ first_failed (span_checks start n size)
-  unfolding first_failed span_checks
-  span-within r t h p q =
-      p ∙ ap (λ (z : Bool). cond z 0 2) q ∙ span-number (leb start limit) (leb n limit) (leb (start + n) (8 * size)) (sym (ap₂ ◌&&◌ ex ey) ∙ sym e ∙ h)
+pub span-within : (start n size r : ℕ) (t : Bool) → start ≤ limit → n ≤ limit → r ≡ cond t 0 2 → t ≡ leb (start + n) (8 * size) → r ≡ first_failed (span_checks start n size)
+unfolding first_failed span_checks
+span-within start n size r t h k p q =
+    p ∙ ap (λ (z : Bool). cond z 0 2) q ∙ span-number (leb start limit) (leb n limit) (leb (start + n) (8 * size)) (le-leb start limit h) (le-leb n limit k)
 
-  pub span-over : within ≡ false → 1 ≡ first_failed (span_checks start n size)
-  unfolding first_failed span_checks
-  span-over h = over-number (leb start limit) (leb n limit) (leb (start + n) (8 * size)) (sym (ap₂ ◌&&◌ ex ey) ∙ sym e ∙ h)
-
-  pub both-within : within ≡ true → (start ≤ limit) × (n ≤ limit)
-  both-within h =
-      let t = sym (ap₂ ◌&&◌ ex ey) ∙ sym e ∙ h in
-      (leb-true start limit (and_left (leb start limit) (leb n limit) t), leb-true n limit (and_right (leb start limit) (leb n limit) t))
+pub span-over : (start n size : ℕ) → (leb start limit && leb n limit) ≡ false → 1 ≡ first_failed (span_checks start n size)
+unfolding first_failed span_checks
+span-over start n size h = over-number (leb start limit) (leb n limit) (leb (start + n) (8 * size)) h
 
 earlier-ranked : (a b k : ℕ) → (a ≡ 0 → ⊥) ⊎ (a ≡ 0) → (b ≡ 0 → ⊥) ⊎ (b ≡ 0) → ((a ≡ 0 → ⊥) → rank a ≤ k) → ((b ≡ 0 → ⊥) → rank b ≤ k) → (earlier a b ≡ 0 → ⊥)
     → rank (earlier a b) ≤ k
@@ -339,3 +356,12 @@ module _ {S A B : Type 0} (r m : ℕ) (s : S) (old : B) (e : r ≡ m) where
 
   pub given-way : (a a' : A) (out new : B) → r ≡ 0 → a ≡ a' → out ≡ new → (given a ≡ decided m s a') × (out ≡ kept m new old)
   given-way a a' out new h p q = (ap given p ∙ is-given r m s a' e h, q ∙ is-new r m new old e h)
+
+-- a choice by a check's test: where its number came out, and where it did not
+pub choice-failed : (t : Bool) (k n x : ℕ) → k ≡ cond t 0 n → (k ≡ 0 → ⊥) → k ≡ cond t x n
+choice-failed true k n x e h = absurd (h e)
+choice-failed false k n x e h = e
+
+pub choice-passed : (t : Bool) (n x y : ℕ) → 0 ≡ cond t 0 (suc n) → x ≡ cond t x y
+choice-passed true n x y e = refl
+choice-passed false n x y e = absurd (omega (arith, e))

@@ -1,5 +1,7 @@
 -- The combinations: what is written, by flags and by bytes, and what the counts say. Assumes nothing.
+use Rattle.std.specs.Prelude.{Option, Some, None}
 use mathlib.Core.Path.{◌≡◌, refl, sym, ap, ap₂, ◌∙◌}
+use mathlib.Core.Logic.{◌⊎◌, inl, inr}
 use mathlib.Core.Bool.{Bool, true, false, not, cond, ◌&&◌, ◌||◌}
 use mathlib.Core.List.{List, [], ◌∷◌, ◌++◌, map, zip_with}
 use Prim.Native.Nat.{ℕ, ◌+◌, ◌*◌, ◌/◌, max}
@@ -10,7 +12,6 @@ use borrow.Author.Tests.{eqb-true, eqb-false}
 use Rattle.words.specs.Flags.{flags_of, over, window}
 use Rattle.words.specs.Loops.{whole_words, combined, stretch}
 use Rattle.words.specs.Ops.{op_of, or_not, zip3}
-use Rattle.words.proofs.AnyFlag.{unsaid}
 use Rattle.words.proofs.Combining.{zip_first, zip_two, zip-same, zip-flip, else-set, else-clear}
 use Rattle.words.proofs.Windows.{length-window}
 use Rattle.words.specs.declared.ops.Op.{Op}
@@ -22,11 +23,8 @@ use Rattle.masks.specs.Combine.{shortcut, result_flags, largest_serial, result_m
 use Rattle.masks.specs.Combine.{pair_flags, pair_mask, pair_of, pair_bytes, each_of, each_bytes, select_checks}
 use Rattle.masks.specs.Frozen.{packed, frozen, frozen_size, over_from}
 use Rattle.masks.specs.Mask.{mask_under, mask_checks, uncounted}
-use Rattle.masks.specs.Workers.{has_shortcut, is_or, is_xor, either_all, xor_all, zeros_of_all}
+use Rattle.masks.specs.Workers.{either_all, xor_all, zeros_of_all}
 use Rattle.masks.specs.declared.bitmap.Bitmap.{Bitmap}
-use Rattle.masks.specs.declared.bitmap.Unset.{Unset}
-use Rattle.masks.specs.declared.shortcuts.Shortcut.{Shortcut}
-use Rattle.masks.specs.declared.shortcuts.Shortcut.TheVariants.{Each, All}
 use Rattle.masks.proofs.CheckLaws.{both_right, first-allowed, rest-allowed, is-given, is-refused, is-kept, is-new}
 use Rattle.masks.proofs.FrozenLaws.{Small, flags-packed, packed-small, over_from-small}
 
@@ -51,69 +49,54 @@ frozen-written out out' l p q e =
 
 -- ---- shortcuts
 
-pub either_first : (x l r : Bool) → l ≡ true → All x ≡ either_all x l r
+pub either_first : (x l r : Bool) → l ≡ true → Some x ≡ either_all x l r
 unfolding either_all
 either_first x l r e = rw e
 
-pub either_second : (x l r : Bool) → l ≡ false → r ≡ true → All x ≡ either_all x l r
+pub either_second : (x l r : Bool) → l ≡ false → r ≡ true → Some x ≡ either_all x l r
 unfolding either_all
 either_second x l r e f = rw (e, f)
 
-pub either-none : (x l r : Bool) → l ≡ false → r ≡ false → Each ≡ either_all x l r
+pub either-none : (x l r : Bool) → l ≡ false → r ≡ false → None ≡ either_all x l r
 unfolding either_all
 either-none x l r e f = rw (e, f)
 
 -- the tests say which operation it is
-pub no-shortcut : (op : Op) (n l r : ℕ) → has_shortcut op ≡ false → Each ≡ shortcut op n l r
+pub not-short : (op : Op) (n l r : ℕ) → (op ≡ AndNot) ⊎ ((op ≡ OrNot) ⊎ ((op ≡ Not) ⊎ (op ≡ Select))) → None ≡ shortcut op n l r
 unfolding shortcut
-no-shortcut And n l r e = unsaid (sym e)
-no-shortcut Or n l r e = unsaid (sym e)
-no-shortcut Xor n l r e = unsaid (sym e)
-no-shortcut AndNot n l r e = refl
-no-shortcut OrNot n l r e = refl
-no-shortcut Not n l r e = refl
-no-shortcut Select n l r e = refl
+not-short op n l r (inl e) = rw e
+not-short op n l r (inr (inl e)) = rw e
+not-short op n l r (inr (inr (inl e))) = rw e
+not-short op n l r (inr (inr (inr e))) = rw e
 
-pub is_xor_lem : (op : Op) (n l r : ℕ) (s : Shortcut) → is_xor op ≡ true → s ≡ shortcut Xor n l r → s ≡ shortcut op n l r
-is_xor_lem And n l r s e p = unsaid e
-is_xor_lem Or n l r s e p = unsaid e
-is_xor_lem Xor n l r s e p = p
-is_xor_lem AndNot n l r s e p = unsaid e
-is_xor_lem OrNot n l r s e p = unsaid e
-is_xor_lem Not n l r s e p = unsaid e
-is_xor_lem Select n l r s e p = unsaid e
-
-pub and-or : (op : Op) (n m l r : ℕ) (s : Shortcut) → has_shortcut op ≡ true → is_xor op ≡ false → n ≡ m
-    → s ≡ either_all (is_or op) (eqb l (zeros_of_all (is_or op) n)) (eqb r (zeros_of_all (is_or op) m)) → s ≡ shortcut op n l r
+pub by-and : (n m l r : ℕ) (s : Option Bool) → n ≡ m → s ≡ either_all false (eqb l (zeros_of_all false n)) (eqb r (zeros_of_all false m)) → s ≡ shortcut And n l r
 unfolding shortcut either_all
-and-or And n m l r s e f h p = p ∙ ap (λ (k : ℕ). either_all false (eqb l n) (eqb r k)) (sym h)
-and-or Or n m l r s e f h p = p
-and-or Xor n m l r s e f h p = unsaid (sym f)
-and-or AndNot n m l r s e f h p = unsaid e
-and-or OrNot n m l r s e f h p = unsaid e
-and-or Not n m l r s e f h p = unsaid e
-and-or Select n m l r s e f h p = unsaid e
+by-and n m l r s h p = p ∙ ap (λ (k : ℕ). either_all false (eqb l n) (eqb r k)) (sym h)
 
-pub xor_same : (a b : Bool) → a ≡ true → All false ≡ xor_all a b
+pub by-or : (n l r : ℕ) (s : Option Bool) → s ≡ either_all true (eqb l 0) (eqb r 0) → s ≡ shortcut Or n l r
+unfolding shortcut either_all
+by-or n l r s p = p
+
+pub xor_same : (a b : Bool) → a ≡ true → Some false ≡ xor_all a b
 unfolding xor_all
 xor_same a b e = rw e
 
-pub xor_opposite : (a b : Bool) → a ≡ false → b ≡ true → All true ≡ xor_all a b
+pub xor_opposite : (a b : Bool) → a ≡ false → b ≡ true → Some true ≡ xor_all a b
 unfolding xor_all
 xor_opposite a b e f = rw (e, f)
 
-pub xor-mixed : (a b : Bool) → a ≡ false → b ≡ false → Each ≡ xor_all a b
+pub xor-mixed : (a b : Bool) → a ≡ false → b ≡ false → None ≡ xor_all a b
 unfolding xor_all
 xor-mixed a b e f = rw (e, f)
 
 -- `xor` by its four tests
-pub xor-by : (n l r : ℕ) (a b c d : Bool) (s : Shortcut) → eqb l n ≡ a → eqb r n ≡ b → eqb l 0 ≡ c → eqb r 0 ≡ d
-    → s ≡ cond ((a && b) || (c && d)) (All false) (cond ((c && b) || (a && d)) (All true) Each) → s ≡ shortcut Xor n l r
+pub xor-by : (n l r : ℕ) (a b c d : Bool) (s : Option Bool) → eqb l n ≡ a → eqb r n ≡ b → eqb l 0 ≡ c → eqb r 0 ≡ d
+    → s ≡ cond ((a && b) || (c && d)) (Some false) (cond ((c && b) || (a && d)) (Some true) None) → s ≡ shortcut Xor n l r
 unfolding shortcut
 xor-by n l r a b c d s p q u v e = rw (p, q, u, v) e
 
 -- with a first mask that is all zero, and with one that is all one
-pub xor-clear : (n m l r : ℕ) (s : Shortcut) → n ≡ m → eqb l n ≡ true → s ≡ xor_all (eqb r m) (eqb r 0) → s ≡ shortcut Xor n l r
+pub xor-clear : (n m l r : ℕ) (s : Option Bool) → n ≡ m → eqb l n ≡ true → s ≡ xor_all (eqb r m) (eqb r 0) → s ≡ shortcut Xor n l r
 unfolding xor_all
 xor-clear n m l r s same e p = go (eqb r n) (eqb r 0) (eqb l 0) refl refl refl
   where
@@ -128,7 +111,7 @@ xor-clear n m l r s same e p = go (eqb r n) (eqb r 0) (eqb l 0) refl refl refl
     go false false true u v w = xor-by n l r true false true false s e u w v (both false false u v)
     go false false false u v w = xor-by n l r true false false false s e u w v (both false false u v)
 
-pub xor-full : (n m l r : ℕ) (s : Shortcut) → n ≡ m → eqb l n ≡ false → eqb l 0 ≡ true → s ≡ xor_all (eqb r 0) (eqb r m) → s ≡ shortcut Xor n l r
+pub xor-full : (n m l r : ℕ) (s : Option Bool) → n ≡ m → eqb l n ≡ false → eqb l 0 ≡ true → s ≡ xor_all (eqb r 0) (eqb r m) → s ≡ shortcut Xor n l r
 unfolding xor_all
 xor-full n m l r s same e f p = go (eqb r n) (eqb r 0) refl refl
   where
@@ -142,8 +125,8 @@ xor-full n m l r s same e f p = go (eqb r n) (eqb r 0) refl refl
     go false false u v = xor-by n l r false false true false s e u f v (both false false u v)
 
 -- with one that is neither
-pub xor-other : (n l r : ℕ) → eqb l n ≡ false → eqb l 0 ≡ false → Each ≡ shortcut Xor n l r
-xor-other n l r e f = xor-by n l r false (eqb r n) false (eqb r 0) Each e refl f refl refl
+pub xor-other : (n l r : ℕ) → eqb l n ≡ false → eqb l 0 ≡ false → None ≡ shortcut Xor n l r
+xor-other n l r e f = xor-by n l r false (eqb r n) false (eqb r 0) None e refl f refl refl
 
 -- ---- the answer of two masks combined
 
@@ -163,16 +146,16 @@ module _ (op : Op) (a : Bitmap) (a_bytes : List ℕ) (b : Bitmap) (b_bytes out :
       let number = first_failed (pair_checks a a_bytes b b_bytes (length out)) in
       (is-refused k number tt (pair_mask op a a_bytes b b_bytes) e h, is-kept k number (over out (frozen (pair_flags op a a_bytes b b_bytes))) out e h)
 
-  pub pair-given : (by : Shortcut) (u : Unset) (s : ℕ) (m : Bitmap) → k ≡ 0 → by ≡ pair_shortcut op a a_bytes b b_bytes → u ≡ result_count by a.length
+  pub pair-given : (by : Option Bool) (u : Option ℕ) (s : ℕ) (m : Bitmap) → k ≡ 0 → by ≡ pair_shortcut op a a_bytes b b_bytes → u ≡ result_count by a.length
       → s ≡ largest_serial (a ∷ b ∷ []) → m ≡ mask_under s 0 a.length u → given m ≡ pair_of op a a_bytes b b_bytes out
   unfolding pair_of pair_mask
   pair-given by u s m z p q largest made =
       ap given made
       ∙ ap (λ (t : ℕ). given (mask_under t 0 a.length u)) largest
-      ∙ ap (λ (v : Unset). given (result_mask (a ∷ b ∷ []) a.length v)) (q ∙ ap (λ (s : Shortcut). result_count s a.length) p)
+      ∙ ap (λ (v : Option ℕ). given (result_mask (a ∷ b ∷ []) a.length v)) (q ∙ ap (λ (s : Option Bool). result_count s a.length) p)
       ∙ is-given k (first_failed (pair_checks a a_bytes b b_bytes (length out))) tt (pair_mask op a a_bytes b b_bytes) e z
 
-  pub pair-written : (by : Shortcut) (out' : List ℕ) → k ≡ 0 → by ≡ pair_shortcut op a a_bytes b b_bytes
+  pub pair-written : (by : Option Bool) (out' : List ℕ) → k ≡ 0 → by ≡ pair_shortcut op a a_bytes b b_bytes
       → out' ≡ over out (frozen (result_flags by a.length (combined op a_bytes a.start b_bytes b.start b_bytes b.start a.length)))
       → out' ≡ pair_bytes op a a_bytes b b_bytes out
   unfolding pair_bytes pair_flags
@@ -180,7 +163,7 @@ module _ (op : Op) (a : Bitmap) (a_bytes : List ℕ) (b : Bitmap) (b_bytes out :
       let same : a.length ≡ b.length = pair_lengths a a_bytes b b_bytes (length out) (sym e ∙ z) in
       let number = first_failed (pair_checks a a_bytes b b_bytes (length out)) in
       q
-      ∙ ap₂ (λ (s : Shortcut) (n : ℕ).
+      ∙ ap₂ (λ (s : Option Bool) (n : ℕ).
       over out (frozen (result_flags s a.length (zip3 (op_of op) (stretch a_bytes a.start a.length) (stretch b_bytes b.start n) (stretch b_bytes b.start n))))) p same
       ∙ is-new k number (over out (frozen (result_flags (pair_shortcut op a a_bytes b b_bytes) a.length (pair_each op a a_bytes b b_bytes)))) out e z
 
@@ -208,11 +191,11 @@ module _ (cs : List Check) (masks : List Bitmap) (n : ℕ) (flags : List Bool) (
   unfolding each_of each_bytes
   each-refused h = (is-refused k (first_failed cs) tt (result_mask masks n (uncounted n)) e h, is-kept k (first_failed cs) (over out (frozen flags)) out e h)
 
-  pub each-given : (u : Unset) (s : ℕ) (m : Bitmap) (out' : List ℕ) (written : List Bool) → k ≡ 0 → u ≡ uncounted n
+  pub each-given : (u : Option ℕ) (s : ℕ) (m : Bitmap) (out' : List ℕ) (written : List Bool) → k ≡ 0 → u ≡ uncounted n
       → s ≡ largest_serial masks → m ≡ mask_under s 0 n u → out' ≡ over out (frozen written) → written ≡ flags → (given m ≡ each_of cs masks n) × (out' ≡ each_bytes cs flags out)
   unfolding each_of each_bytes
   each-given u s m out' written z p largest made q r = (
-    ap given made ∙ ap₂ (λ (t : ℕ) (v : Unset). given (mask_under t 0 n v)) largest p ∙ is-given k (first_failed cs) tt (result_mask masks n (uncounted n)) e z,
+    ap given made ∙ ap₂ (λ (t : ℕ) (v : Option ℕ). given (mask_under t 0 n v)) largest p ∙ is-given k (first_failed cs) tt (result_mask masks n (uncounted n)) e z,
     q ∙ ap (λ (l : List Bool). over out (frozen l)) r ∙ is-new k (first_failed cs) (over out (frozen flags)) out e z,
   )
 

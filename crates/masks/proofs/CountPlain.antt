@@ -1,4 +1,5 @@
 -- Where a zero count is known: the statement of `specs/CountPlain.antt`. Assumes nothing.
+use Rattle.std.specs.Prelude.{Option, Some, None}
 use mathlib.Core.Path.{◌≡◌, refl, sym, ap, ap₂, ◌∙◌}
 use mathlib.Core.Bool.{Bool, true, false, cond, ◌&&◌, ◌||◌}
 use mathlib.Core.List.{List, [], ◌∷◌, ◌++◌}
@@ -9,20 +10,17 @@ use lib.Dec.{eqb, leb}
 use lib.ListN.{length}
 use borrow.Author.Tests.{eq-eqb, ne_eqb, le-leb, lt-leb, eqb-true}
 use Rattle.words.specs.declared.ops.Op.{Op}
+use Rattle.masks.specs.declared.bitmap.Recounted.{Recounted}
 use Rattle.masks.specs.Answer.{given, checked}
 use Rattle.masks.specs.Checks.{Check, check, first_failed, span_checks}
 use Rattle.masks.specs.Combine.{And, AndNot, Or, OrNot, Xor, pair_of, pair_mask, pair_checks, shortcut, result_count, result_mask, each_of}
 use Rattle.masks.specs.Combine.{not_checks, select_checks}
 use Rattle.masks.specs.CountPlain.{Brings, told, counted, MadeCounts, SliceCounts, PairCounts, EachCounts, CountsPlainly}
 use Rattle.masks.specs.Freeze.{freeze_checks, frozen_mask}
-use Rattle.masks.specs.Mask.{mask_of, mask_flags, uncounted, count_or, zero_count, with_count, try_new_of, new_zeroed_of, zeroed_checks, unset_bits_of, mask_checks, Recounted}
+use Rattle.masks.specs.Mask.{mask_of, mask_flags, uncounted, count_or, zero_count, with_count, try_new_of, new_zeroed_of, zeroed_checks, unset_bits_of, mask_checks}
 use Rattle.masks.specs.Mask.{slice_of, slice_checks, sliced_mask, sliced_count, cut_zeros, recounts, recount_valid, kept_count, piece_checks}
 use Rattle.masks.specs.Utils.{zeros}
 use Rattle.masks.specs.declared.bitmap.Bitmap.{Bitmap}
-use Rattle.masks.specs.declared.bitmap.Unset.{Unset}
-use Rattle.masks.specs.declared.bitmap.Unset.TheVariants.{Known, Unknown}
-use Rattle.masks.specs.declared.shortcuts.Shortcut.{Shortcut}
-use Rattle.masks.specs.declared.shortcuts.Shortcut.TheVariants.{Each, All}
 use Rattle.masks.proofs.AnswerLaws.{given-number, given-value}
 use Rattle.masks.proofs.CheckLaws.{both_left}
 use Rattle.masks.proofs.MaskLaws.{piece-allowed}
@@ -31,25 +29,25 @@ use Rattle.masks.proofs.MaskLaws.{piece-allowed}
 its_count : {S : Type 0} (cs : List Check) (s : S) (m made : Bitmap) → given m ≡ checked cs s made → m.unset ≡ made.unset
 its_count cs s m made e = ap (λ (x : Bitmap). x.unset) (given-value (first_failed cs) s m made e)
 
-none-known : (n : ℕ) → n ≡ 0 → uncounted n ≡ Known 0
-none-known n e = ap (λ (t : Bool). cond t (Known 0) Unknown) (eq-eqb n 0 e)
+none-known : (n : ℕ) → n ≡ 0 → uncounted n ≡ Some 0
+none-known n e = ap (λ (t : Bool). cond t (Some 0) None) (eq-eqb n 0 e)
 
-some-unknown : (n : ℕ) → (n ≡ 0 → ⊥) → uncounted n ≡ Unknown
-some-unknown n h = ap (λ (t : Bool). cond t (Known 0) Unknown) (ne_eqb n 0 h)
+some-unknown : (n : ℕ) → (n ≡ 0 → ⊥) → uncounted n ≡ None
+some-unknown n h = ap (λ (t : Bool). cond t (Some 0) None) (ne_eqb n 0 h)
 
 brought : (m : Bitmap) (bytes : List ℕ) (z : ℕ) → Brings m bytes z → zero_count m bytes ≡ z
 unfolding zero_count
-brought m bytes z (told e) = ap (λ (u : Unset). count_or u (zeros (mask_flags m bytes))) e
-brought m bytes z (counted e h) = ap (λ (u : Unset). count_or u (zeros (mask_flags m bytes))) e ∙ sym h
+brought m bytes z (told e) = ap (λ (u : Option ℕ). count_or u (zeros (mask_flags m bytes))) e
+brought m bytes z (counted e h) = ap (λ (u : Option ℕ). count_or u (zeros (mask_flags m bytes))) e ∙ sym h
 
 -- ---- masks made and counted
 
-recounted-as : (m : Bitmap) (bytes : List ℕ) (r : Recounted) (z : ℕ) → given r ≡ unset_bits_of m bytes → Brings m bytes z → (r.zeros ≡ z) × (r.mask.unset ≡ Known z)
+recounted-as : (m : Bitmap) (bytes : List ℕ) (r : Recounted) (z : ℕ) → given r ≡ unset_bits_of m bytes → Brings m bytes z → (r.zeros ≡ z) × (r.mask.unset ≡ Some z)
 unfolding unset_bits_of
 recounted-as m bytes r z e h =
-    let made : Recounted = record { mask = with_count m (Known (zero_count m bytes)); zeros = zero_count m bytes } in
+    let made : Recounted = record { mask = with_count m (Some (zero_count m bytes)); zeros = zero_count m bytes } in
     let same : r ≡ made = given-value (first_failed (mask_checks m bytes)) m r made e in
-    (ap (λ (x : Recounted). x.zeros) same ∙ brought m bytes z h, ap (λ (x : Recounted). x.mask.unset) same ∙ ap Known (brought m bytes z h))
+    (ap (λ (x : Recounted). x.zeros) same ∙ brought m bytes z h, ap (λ (x : Recounted). x.mask.unset) same ∙ ap Some (brought m bytes z h))
 
 made-counts : MadeCounts
 unfolding try_new_of new_zeroed_of
@@ -58,23 +56,23 @@ made-counts = record {
   try_new-none = λ bytes start m e. its_count (span_checks start 0 (length bytes)) tt m (mask_of start 0 (uncounted 0)) e;
   try-new = λ bytes start n m e.
       its_count (span_checks start (suc n) (length bytes)) tt m (mask_of start (suc n) (uncounted (suc n))) e ∙ some-unknown (suc n) (λ q. omega arith);
-  new_zeroed = λ n out m e. its_count (zeroed_checks n (length out)) tt m (mask_of 0 n (Known n)) e;
+  new_zeroed = λ n out m e. its_count (zeroed_checks n (length out)) tt m (mask_of 0 n (Some n)) e;
   freeze = λ b buf m e. its_count (freeze_checks b (length buf)) b m (frozen_mask b) e;
   unset_bits = recounted-as;
 }
 
 -- ---- slices
 
-kept-none : (old n cut : ℕ) → sliced_count old n cut (Known 0) ≡ Known 0
+kept-none : (old n cut : ℕ) → sliced_count old n cut (Some 0) ≡ Some 0
 unfolding recounts kept_count
 kept-none old n cut = refl
 
-kept-all : (old n cut : ℕ) → (old ≡ 0 → n ≡ 0) → sliced_count old n cut (Known old) ≡ Known n
+kept-all : (old n cut : ℕ) → (old ≡ 0 → n ≡ 0) → sliced_count old n cut (Some old) ≡ Some n
 unfolding recounts kept_count
-kept-all zero n cut h = ap Known (sym (h refl))
+kept-all zero n cut h = ap Some (sym (h refl))
 kept-all (suc old) n cut h = rw (eq-eqb (suc old) (suc old) refl, ne_eqb (suc old) 0 (λ q. omega arith))
 
-kept-mixed : (old n cut z : ℕ) (t : Bool) → (z ≡ 0 → ⊥) → (z ≡ old → ⊥) → leb old (n + max (old / 5) 32) ≡ t → sliced_count old n cut (Known z) ≡ cond t (Known (z - cut)) Unknown
+kept-mixed : (old n cut z : ℕ) (t : Bool) → (z ≡ 0 → ⊥) → (z ≡ old → ⊥) → leb old (n + max (old / 5) 32) ≡ t → sliced_count old n cut (Some z) ≡ cond t (Some (z - cut)) None
 unfolding recounts kept_count
 kept-mixed old n cut z t p q e = rw (ne_eqb z 0 p, ne_eqb z old q, e)
 
@@ -90,14 +88,14 @@ unfolding slice_of cut_zeros
 slice-counts m bytes offset n s e =
     let cut = cut_zeros m bytes offset n in
     let its : s.unset ≡ sliced_count m.length n cut m.unset = its_count (slice_checks m bytes offset n) m s (sliced_mask m bytes offset n) e in
-    let told-as : (u : Unset) → m.unset ≡ u → s.unset ≡ sliced_count m.length n cut u = λ u h. its ∙ ap (sliced_count m.length n cut) h in
+    let told-as : (u : Option ℕ) → m.unset ≡ u → s.unset ≡ sliced_count m.length n cut u = λ u h. its ∙ ap (sliced_count m.length n cut) h in
     let inside : offset + n ≤ m.length = within m bytes offset n s e in
     record {
-      unknown = λ h. told-as Unknown h;
-      none = λ h. told-as (Known 0) h ∙ kept-none m.length n cut;
-      all = λ h. told-as (Known m.length) h ∙ kept-all m.length n cut (λ q. omega arith);
-      recounted = λ z h p q k. told-as (Known z) h ∙ kept-mixed m.length n cut z true p q (le-leb m.length (n + max (m.length / 5) 32) k);
-      dropped = λ z h p q k. told-as (Known z) h ∙ kept-mixed m.length n cut z false p q (lt-leb m.length (n + max (m.length / 5) 32) k);
+      unknown = λ h. told-as None h;
+      none = λ h. told-as (Some 0) h ∙ kept-none m.length n cut;
+      all = λ h. told-as (Some m.length) h ∙ kept-all m.length n cut (λ q. omega arith);
+      recounted = λ z h p q k. told-as (Some z) h ∙ kept-mixed m.length n cut z true p q (le-leb m.length (n + max (m.length / 5) 32) k);
+      dropped = λ z h p q k. told-as (Some z) h ∙ kept-mixed m.length n cut z false p q (lt-leb m.length (n + max (m.length / 5) 32) k);
     }
 
 -- ---- combinations
@@ -111,31 +109,31 @@ pair-count op a a_bytes b b_bytes out c l r e p q =
     ∙ ap₂ (λ (x y : ℕ). result_count (shortcut op a.length x y) a.length) (brought a a_bytes l p) (brought b b_bytes r q)
 
 -- of no flags the count is 0, with a shortcut or without
-nothing : (s : Shortcut) (n : ℕ) → n ≡ 0 → result_count s n ≡ Known 0
-nothing (All false) n e = ap Known e
-nothing (All true) n e = none-known n e
-nothing Each n e = none-known n e
+nothing : (s : Option Bool) (n : ℕ) → n ≡ 0 → result_count s n ≡ Some 0
+nothing (Some false) n e = ap Some e
+nothing (Some true) n e = none-known n e
+nothing None n e = none-known n e
 
-and-either : (n l r : ℕ) → (l ≡ n) ⊎ (r ≡ n) → result_count (shortcut And n l r) n ≡ Known n
+and-either : (n l r : ℕ) → (l ≡ n) ⊎ (r ≡ n) → result_count (shortcut And n l r) n ≡ Some n
 unfolding shortcut
 and-either n l r (inl e) = rw (eq-eqb l n e)
 and-either n l r (inr e) = go (eqb l n) (eq-eqb r n e)
   where
-    go : (t : Bool) → eqb r n ≡ true → result_count (cond (t || eqb r n) (All false) Each) n ≡ Known n
+    go : (t : Bool) → eqb r n ≡ true → result_count (cond (t || eqb r n) (Some false) None) n ≡ Some n
     go true e = refl
     go false e = rw e
 
-and-neither : (n l r : ℕ) → (n ≡ 0 → ⊥) → (l ≡ n → ⊥) → (r ≡ n → ⊥) → result_count (shortcut And n l r) n ≡ Unknown
+and-neither : (n l r : ℕ) → (n ≡ 0 → ⊥) → (l ≡ n → ⊥) → (r ≡ n → ⊥) → result_count (shortcut And n l r) n ≡ None
 unfolding shortcut
 and-neither n l r z p q = rw (ne_eqb l n p, ne_eqb r n q) (some-unknown n z)
 
-xor-alike : (n l r : ℕ) → ((l ≡ n) × (r ≡ n)) ⊎ ((l ≡ 0) × (r ≡ 0)) → result_count (shortcut Xor n l r) n ≡ Known n
+xor-alike : (n l r : ℕ) → ((l ≡ n) × (r ≡ n)) ⊎ ((l ≡ 0) × (r ≡ 0)) → result_count (shortcut Xor n l r) n ≡ Some n
 unfolding shortcut
 xor-alike n l r (inl e) = rw (eq-eqb l n e.0, eq-eqb r n e.1)
 xor-alike n l r (inr e) = go (eqb l n && eqb r n) (eq-eqb l 0 e.0) (eq-eqb r 0 e.1)
   where
     go : (t : Bool) → eqb l 0 ≡ true → eqb r 0 ≡ true
-        → result_count (cond (t || (eqb l 0 && eqb r 0)) (All false) (cond ((eqb l 0 && eqb r n) || (eqb l n && eqb r 0)) (All true) Each)) n ≡ Known n
+        → result_count (cond (t || (eqb l 0 && eqb r 0)) (Some false) (cond ((eqb l 0 && eqb r n) || (eqb l n && eqb r 0)) (Some true) None)) n ≡ Some n
     go true p q = refl
     go false p q = rw (p, q)
 
@@ -144,21 +142,21 @@ not-both true true P Q p q h = absurd (h (p refl) (q refl))
 not-both true false P Q p q h = refl
 not-both false b P Q p q h = refl
 
-xor_unlike : (n l r : ℕ) → (n ≡ 0 → ⊥) → (l ≡ n → r ≡ n → ⊥) → (l ≡ 0 → r ≡ 0 → ⊥) → result_count (shortcut Xor n l r) n ≡ Unknown
+xor_unlike : (n l r : ℕ) → (n ≡ 0 → ⊥) → (l ≡ n → r ≡ n → ⊥) → (l ≡ 0 → r ≡ 0 → ⊥) → result_count (shortcut Xor n l r) n ≡ None
 unfolding shortcut
 xor_unlike n l r z p q =
     rw (not-both (eqb l n) (eqb r n) (l ≡ n) (r ≡ n) (eqb-true l n) (eqb-true r n) p, not-both (eqb l 0) (eqb r 0) (l ≡ 0) (r ≡ 0) (eqb-true l 0) (eqb-true r 0) q)
     (go ((eqb l 0 && eqb r n) || (eqb l n && eqb r 0)))
   where
-    go : (t : Bool) → result_count (cond t (All true) Each) n ≡ Unknown
+    go : (t : Bool) → result_count (cond t (Some true) None) n ≡ None
     go true = some-unknown n z
     go false = some-unknown n z
 
-no-shortcut : (op : Op) (n l r : ℕ) → (op ≡ Or) ⊎ ((op ≡ AndNot) ⊎ (op ≡ OrNot)) → (n ≡ 0 → ⊥) → result_count (shortcut op n l r) n ≡ Unknown
+no-shortcut : (op : Op) (n l r : ℕ) → (op ≡ Or) ⊎ ((op ≡ AndNot) ⊎ (op ≡ OrNot)) → (n ≡ 0 → ⊥) → result_count (shortcut op n l r) n ≡ None
 unfolding shortcut
 no-shortcut op n l r (inl e) z = ap (λ (o : Op). result_count (shortcut o n l r) n) e ∙ go (eqb l 0 || eqb r 0)
   where
-    go : (t : Bool) → result_count (cond t (All true) Each) n ≡ Unknown
+    go : (t : Bool) → result_count (cond t (Some true) None) n ≡ None
     go true = some-unknown n z
     go false = some-unknown n z
 no-shortcut op n l r (inr (inl e)) z = ap (λ (o : Op). result_count (shortcut o n l r) n) e ∙ some-unknown n z

@@ -1,8 +1,8 @@
 -- Where a call leaves its cursor: the statement of `specs/CursorPlain.antt`. Assumes nothing.
+use Rattle.std.specs.Prelude.{Option, Some, None}
 use mathlib.Core.Path.{◌≡◌, refl, sym, ap, ◌∙◌, subst}
 use mathlib.Core.Bool.{Bool, true, false, cond, not}
 use mathlib.Core.List.{List, [], ◌∷◌, ◌++◌}
-use mathlib.Core.Option.{Option, none, some}
 use Prim.Native.Nat.{ℕ, zero, suc, ◌+◌, ◌-◌, ◌/◌, ◌≤◌, ◌<◌}
 use native.Mathlib.Omega.{arith}
 use lib.Dec.{leb, ltb}
@@ -26,7 +26,6 @@ use Rattle.masks.specs.Positions.{left_of, place_behind, next_positions}
 use Rattle.masks.specs.Search.{nth_from}
 use Rattle.masks.specs.SliceIterator.{slices_at, slices_moved, run_of, new_slices, run_checks, run_start, slice_step, next_slice}
 use Rattle.masks.specs.TrueIdx.{true_at, true_moved, new_true_checks, first_true, new_true, true_flags, true_checks, true_step, next_true}
-use Rattle.masks.specs.declared.bitmap.Optional.TheVariants.{Present, Absent}
 use Rattle.masks.specs.declared.chunks.BitChunks.{BitChunks}
 use Rattle.masks.specs.declared.iterator.BitmapIter.{BitmapIter}
 use Rattle.masks.specs.declared.slice_iterator.Run.{Run}
@@ -54,8 +53,8 @@ new-places = record {
   flags-none = λ bytes start c e. cc;
   flags = λ bytes start n c e. given-value (first_failed (span_checks start (suc n) (length bytes))) tt c (iter_at start (suc n) 0) e;
   runs = λ m bytes c e. given-value (first_failed (mask_checks m bytes)) tt c (slices_at m.start m.length 0) e;
-  ones = λ n m bytes c e. given-value (first_failed (new_true_checks n (Present m) bytes)) tt c (true_at m.start n 0 true) e;
-  every = λ n bytes c e. given-value (first_failed (new_true_checks n Absent bytes)) tt c (true_at 0 n 0 false) e;
+  ones = λ n m bytes c e. given-value (first_failed (new_true_checks n (Some m) bytes)) tt c (true_at m.start n 0 true) e;
+  every = λ n bytes c e. given-value (first_failed (new_true_checks n None bytes)) tt c (true_at 0 n 0 false) e;
 }
 
 -- ---- the calls over each
@@ -182,13 +181,13 @@ run-places c bytes d =
 
 one-moved : (c d : TrueIdxIter) (p : ℕ) (found : Option ℕ) → item p d ≡ true_step c found → d ≡ true_moved c (p + 1)
 unfolding true_step
-one-moved c d p none e = absurd (let z : ◌≡◌ {A = ℕ} 0 1 = cc in omega arith)
-one-moved c d p (some q) e = let r : p ≡ q = cc in let s : d ≡ true_moved c (q + 1) = cc in s ∙ ap (λ (x : ℕ). true_moved c (x + 1)) (sym r)
+one-moved c d p None e = absurd (let z : ◌≡◌ {A = ℕ} 0 1 = cc in omega arith)
+one-moved c d p (Some q) e = let r : p ≡ q = cc in let s : d ≡ true_moved c (q + 1) = cc in s ∙ ap (λ (x : ℕ). true_moved c (x + 1)) (sym r)
 
 one_ended : (c d : TrueIdxIter) (found : Option ℕ) → ended d ≡ true_step c found → d ≡ true_moved c c.length
 unfolding true_step
-one_ended c d none e = cc
-one_ended c d (some q) e = absurd (let z : ◌≡◌ {A = ℕ} 0 1 = cc in omega arith)
+one_ended c d None e = cc
+one_ended c d (Some q) e = absurd (let z : ◌≡◌ {A = ℕ} 0 1 = cc in omega arith)
 
 -- how many positions are given, and where the cursor is left
 positions-given : (c : TrueIdxIter) (bytes : List ℕ) (room n : ℕ) (d : TrueIdxIter) → given (n, d) ≡ next_positions c bytes room

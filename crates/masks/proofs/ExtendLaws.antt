@@ -1,6 +1,7 @@
 -- Long extensions: whole words written to the buffer, and a list appended in three parts. Assumes nothing.
 use mathlib.Core.Path.{◌≡◌, refl, sym, ap, ap₂, ◌∙◌}
-use mathlib.Core.Bool.{Bool, true, ◌&&◌}
+use mathlib.Core.Bool.{Bool, true, false, ◌&&◌}
+use Rattle.std.specs.Int.{from_bool}
 use mathlib.Core.List.{List, [], ◌∷◌, ◌++◌, append-nil}
 use Prim.Native.Nat.{ℕ, zero, suc, ◌+◌, ◌-◌, ◌*◌, ◌/◌, ◌%◌, ◌≤◌, ◌<◌, min}
 use native.Mathlib.Nat.{zero-add, suc-add, zero-lt-suc}
@@ -8,7 +9,7 @@ use native.Mathlib.Omega.{arith}
 use lib.Dec.{leb, ltb}
 use lib.ListN.{length, take, length-append}
 use borrow.Author.Tests.{leb-true, ltb-true}
-use Rattle.words.specs.Flags.{bits, copies, count, flags_of, over, over_at, window, word_of}
+use Rattle.words.specs.Flags.{bits, copies, count, digit, flags_of, over, over_at, window, word_of}
 use Rattle.words.specs.Loops.{whole_words}
 use Rattle.words.proofs.Bits.{length-bits}
 use Rattle.words.proofs.Merging.{front-flags}
@@ -110,3 +111,8 @@ pub stretch-front : (l : List Bool) (bit k w : ℕ) → k ≤ 64 → bits 64 w �
 stretch-front l bit k w h e =
     let z : bit + 0 ≡ bit = omega arith in
     ap (take k) e ∙ window-cut l bit 64 0 k (omega arith) ∙ ap (λ (x : ℕ). window l x k) z
+
+-- a flag as a number, as std has it
+pub ones-of : (n r : ℕ) (x : Bool) → r ≡ from_bool x → (n * r ≡ n * digit x) × (n * r ≤ n)
+ones-of n r true e = (ap (λ (x : ℕ). n * x) e, omega (arith, ap (λ (x : ℕ). n * x) e))
+ones-of n r false e = (ap (λ (x : ℕ). n * x) e, omega (arith, ap (λ (x : ℕ). n * x) e))

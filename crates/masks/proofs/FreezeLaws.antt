@@ -1,9 +1,9 @@
 -- Freezing a builder: the word in progress behind the finished ones makes the frozen bytes. Assumes nothing.
+use Rattle.std.specs.Prelude.{Some, None}
 use mathlib.Core.Path.{◌≡◌, refl, sym, ap, ap₂, ◌∙◌}
 use mathlib.Core.Bool.{Bool, true, false, cond}
 use mathlib.Core.List.{List, [], ◌++◌}
 use Prim.Native.Nat.{ℕ, ◌+◌, ◌-◌, ◌*◌, ◌/◌, ◌%◌, ◌≤◌}
-use mathlib.Core.Option.{none, some}
 use native.Mathlib.Nat.{add-zero}
 use native.Mathlib.Omega.{arith}
 use borrow.Author.Tests.{eq-eqb, ne_eqb}
@@ -103,11 +103,11 @@ module _ (b : BitmapBuilder) (bytes : List ℕ) (r : Room b 0 (length bytes)) wh
 pub same-checks : (b : BitmapBuilder) (size r : ℕ) → r ≡ first_failed (builder_checks b (b.length + 0) size) → r ≡ first_failed (freeze_checks b size)
 same-checks b size r e = e ∙ ap (λ (n : ℕ). first_failed (builder_checks b n size)) (add-zero b.length)
 
-pub all_set : (b : BitmapBuilder) (n : ℕ) → n ≡ all_ones b → n ≡ b.length → none ≡ validity_of b
-all_set b n e h = ap (λ (t : Bool). cond t none (some (frozen_mask b))) (sym (eq-eqb (all_ones b) b.length (sym e ∙ h)))
+pub all_set : (b : BitmapBuilder) (n : ℕ) → n ≡ all_ones b → n ≡ b.length → None ≡ validity_of b
+all_set b n e h = ap (λ (t : Bool). cond t None (Some (frozen_mask b))) (sym (eq-eqb (all_ones b) b.length (sym e ∙ h)))
 
-pub not-all-set : (b : BitmapBuilder) (n : ℕ) (m : Bitmap) → n ≡ all_ones b → (n ≡ b.length → ⊥) → m ≡ frozen_mask b → some m ≡ validity_of b
-not-all-set b n m e h p = ap some p ∙ ap (λ (t : Bool). cond t none (some (frozen_mask b))) (sym (ne_eqb (all_ones b) b.length (λ q. h (e ∙ q))))
+pub not-all-set : (b : BitmapBuilder) (n : ℕ) (m : Bitmap) → n ≡ all_ones b → (n ≡ b.length → ⊥) → m ≡ frozen_mask b → Some m ≡ validity_of b
+not-all-set b n m e h p = ap Some p ∙ ap (λ (t : Bool). cond t None (Some (frozen_mask b))) (sym (ne_eqb (all_ones b) b.length (λ q. h (e ∙ q))))
 
 -- ---- what the frozen bytes and the count stand for
 

@@ -1,13 +1,14 @@
 -- Flags gathered by indices: index by index into a word, and word by word. Assumes nothing.
-use mathlib.Core.Path.{◌≡◌, refl, sym, ap, ap₂, ◌∙◌, subst}
-use mathlib.Core.Bool.{Bool, true, false, ◌&&◌}
-use mathlib.Core.List.{List, [], ◌∷◌, ◌++◌}
-use Prim.Native.Nat.{ℕ, suc, ◌+◌, ◌-◌, ◌≤◌, ◌<◌}
+use mathlib.Core.Path.{◌≡◌, refl, sym, ap, ap₂, ◌∙◌}
+use mathlib.Core.Bool.{Bool, false, ◌&&◌}
+use mathlib.Core.List.{List, [], ◌∷◌, ◌++◌, append-nil}
+use Prim.Native.Nat.{ℕ, suc, ◌+◌, ◌≤◌, ◌<◌}
 use native.Mathlib.Numerals.{add-one}
 use native.Mathlib.Omega.{arith}
 use lib.Dec.{ltb}
-use lib.ListN.{length, take, drop, get_or, length-append, length-drop, take-append-drop}
-use lib.Seq.{take-suc, take_all, take-take, take-add, take-append-add, length-take-le, drop-cons}
+use Rattle.std.specs.List.{list_all}
+use lib.ListN.{length, take, get_or, length-append}
+use lib.Seq.{take-suc, take_all, take-take, take-append-add}
 use borrow.Author.Tests.{lt-ltb, le-ltb}
 use Rattle.words.specs.Flags.{bits, copies, window}
 use Rattle.words.proofs.Bits.{length-bits}
@@ -76,56 +77,32 @@ word-all l a w i inv h k =
     let e : i ≡ length a = omega arith in
     ap (λ (n : ℕ). take n (bits 64 w)) (sym e) ∙ inv ∙ ap (gathered l) (take_all i a k)
 
--- ---- word by word
+-- ---- word by word: appending what is left gives what appending all of them gives
 
-pub part_step : (f g h : Filling) (l : List Bool) (a : List ℕ) (w i end : ℕ) → g ≡ appended f (gathered l (take i a)) → i < end → end ≤ length a
-    → take (length (take (end - i) (drop i a))) (bits 64 w) ≡ gathered l (take (end - i) (drop i a)) → h ≡ appended g (take (end - i) (bits 64 w))
-    → h ≡ appended f (gathered l (take end a))
-part_step f g h l a w i end p q fits part push =
-    let e : i + (end - i) ≡ end = omega arith in
-    let n : length (take (end - i) (drop i a)) ≡ end - i = length-take-le (end - i) (drop i a) (omega (arith, length-drop i a)) in
-    append-then f g h (gathered l (take i a)) (take (end - i) (bits 64 w)) p push
-    ∙ ap (appended f) (ap (λ (t : List Bool). gathered l (take i a) ++ t) (ap (λ (k : ℕ). take k (bits 64 w)) (sym n) ∙ part)
-    ∙ sym (gathered-append l (take i a) (take (end - i) (drop i a))) ∙ ap (gathered l) (sym (take-add i (end - i) a) ∙ ap (λ (k : ℕ). take k a) e))
+pub part-step : (f g h : Filling) (l : List Bool) (p a rest : List ℕ) (w : ℕ) → appended g (gathered l a) ≡ f → a ≡ p ++ rest
+    → take (length p) (bits 64 w) ≡ gathered l p → h ≡ appended g (take (length p) (bits 64 w)) → appended h (gathered l rest) ≡ f
+part-step f g h l p a rest w inv e part push =
+    append-then g h (appended h (gathered l rest)) (gathered l p) (gathered l rest) (push ∙ ap (appended g) part) refl
+    ∙ ap (appended g) (sym (gathered-append l p rest) ∙ ap (gathered l) (sym e)) ∙ inv
 
-pub part_room : (f g : Filling) (l : List Bool) (a : List ℕ) (i k : ℕ) → g ≡ appended f (gathered l (take i a)) → i + k ≤ length a
-    → Room f.builder (length a) (length f.bytes) → Room g.builder k (length g.bytes)
-part_room f g l a i k e h r =
-    let n : length (gathered l (take i a)) ≡ i = length-gathered l (take i a) ∙ length-take-le i a (omega arith) in
-    room_after f g (gathered l (take i a)) (length a) k e (omega arith) r
+pub part-room : (g h : Filling) (l : List Bool) (p a rest : List ℕ) (w : ℕ) → a ≡ p ++ rest
+    → take (length p) (bits 64 w) ≡ gathered l p → h ≡ appended g (take (length p) (bits 64 w))
+    → Room g.builder (length a) (length g.bytes) → Room h.builder (length rest) (length h.bytes)
+part-room g h l p a rest w e part push r =
+    let n : length (take (length p) (bits 64 w)) ≡ length p = ap length part ∙ length-gathered l p in
+    let m : length a ≡ length p + length rest = ap length e ∙ length-append p rest in
+    room_after g h (take (length p) (bits 64 w)) (length a) (length rest) push (omega arith) r
 
-pub parts_all : (f g : Filling) (l : List Bool) (a : List ℕ) (i : ℕ) → g ≡ appended f (gathered l (take i a)) → length a ≤ i → g ≡ appended f (gathered l a)
-parts_all f g l a i e h = e ∙ ap (λ (t : List ℕ). appended f (gathered l t)) (take_all i a h)
+pub none-more : (g h : Filling) (l : List Bool) → h ≡ appended g l → appended h [] ≡ h
+none-more g h l e = append-then g h (appended h []) l [] e refl ∙ ap (appended g) (append-nil l) ∙ sym e
 
--- ---- indices that are all below n
+pub nothing-left : (f g : Filling) (l : List Bool) (a : List ℕ) → appended g (gathered l a) ≡ f → length a ≡ 0 → appended g [] ≡ g → g ≡ f
+nothing-left f g l [] inv e none = sym none ∙ ap (appended g) (gathered_none l []) ∙ inv
+nothing-left f g l (i ∷ a) inv e none = absurd (omega arith)
 
-below-first : (t x y z : Bool) → (x ≡ true → y ≡ z) → (t && x) ≡ true → (t && y) ≡ z
-below-first true x y z h e = h e
-below-first false x y z h e = absurd (let q : ◌≡◌ {A = ℕ} 0 1 = cc in omega arith)
+-- ---- indices that are all below n, in std's words
 
-below-append : (n : ℕ) (a b : List ℕ) → all_below n a ≡ true → all_below n (a ++ b) ≡ all_below n b
+pub below-is-all : (n : ℕ) (a : List ℕ) → list_all (λ (i : ℕ). ltb i n) a ≡ all_below n a
 unfolding all_below
-below-append n [] b e = refl
-below-append n (i ∷ a) b e = below-first (ltb i n) (all_below n a) (all_below n (a ++ b)) (all_below n b) (below-append n a b) e
-
-pub below_none : (n : ℕ) (a : List ℕ) → all_below n (take 0 a) ≡ true
-unfolding all_below
-below_none n a = refl
-
-first_below : (n i : ℕ) (a : List ℕ) (t : Bool) → ltb i n ≡ t → all_below n (i ∷ a) ≡ (t && all_below n a)
-unfolding all_below
-first_below n i a t e = ap (λ (x : Bool). x && all_below n a) e
-
-pub below_next : (n : ℕ) (a : List ℕ) (i at : ℕ) → all_below n (take i a) ≡ true → i < length a → at ≡ get_or a i 0 → at < n → all_below n (take (i + 1) a) ≡ true
-below_next n a i at inv h e lt =
-    ap (λ (k : ℕ). all_below n (take k a)) (add-one i) ∙ ap (all_below n) (take-suc a i 0 h) ∙ below-append n (take i a) (get_or a i 0 ∷ []) inv
-    ∙ first_below n (get_or a i 0) [] true (lt-ltb (get_or a i 0) n (subst (λ (x : ℕ). x < n) e lt)) ∙ below_none n a
-
-pub below-not : (n : ℕ) (a : List ℕ) (i at : ℕ) → all_below n (take i a) ≡ true → i < length a → at ≡ get_or a i 0 → n ≤ at → false ≡ all_below n a
-below-not n a i at inv h e le =
-    sym (ap (all_below n) (sym (take-append-drop i a) ∙ ap (λ (t : List ℕ). take i a ++ t) (drop-cons a i 0 h))
-    ∙ below-append n (take i a) (get_or a i 0 ∷ drop (suc i) a) inv
-    ∙ first_below n (get_or a i 0) (drop (suc i) a) false (le-ltb (get_or a i 0) n (subst (λ (x : ℕ). n ≤ x) e le)))
-
-pub below_all : (n : ℕ) (a : List ℕ) (i : ℕ) → all_below n (take i a) ≡ true → length a ≤ i → true ≡ all_below n a
-below_all n a i inv h = sym inv ∙ ap (all_below n) (take_all i a h)
+below-is-all n [] = refl
+below-is-all n (i ∷ a) = ap (λ (x : Bool). ltb i n && x) (below-is-all n a)

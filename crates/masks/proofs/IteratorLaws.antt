@@ -94,9 +94,13 @@ pub alike-done : (l : List Bool) (x : Bool) (start size place at : ℕ) → Alik
     → at - place ≡ leading_from x (window l start size) place
 alike-done l x start size place at a h = omega (arith, a.low, a.sum, at-end (window l start size) x at (omega (arith, length-window l start size)))
 
+pub alike-whole : (l : List Bool) (x : Bool) (start size place at : ℕ) → Alike (window l start size) x size place at → size ≤ at
+    → size - place ≡ leading_from x (window l start size) place
+alike-whole l x start size place at a h = omega (arith, a.inside, alike-done l x start size place at a h)
+
 -- the first k flags of a word that was read in the span
 module _ (l : List Bool) (x : Bool) (start size place at k w r : ℕ) (a : Alike (window l start size) x size place at)
-    (most : k ≡ min 64 (size - at)) (before : at < size) (flags : bits 64 w ≡ window l (start + at) 64) (same : r ≡ leading x (take k (bits 64 w))) where
+    (most : k ≡ min (size - at) 64) (before : at < size) (flags : bits 64 w ≡ window l (start + at) 64) (same : r ≡ leading x (take k (bits 64 w))) where
   fits : at + k ≤ length (window l start size)
   fits = omega (arith, length-window l start size)
 
@@ -105,14 +109,26 @@ module _ (l : List Bool) (x : Bool) (start size place at k w r : ℕ) (a : Alike
       same ∙ ap (λ (t : List Bool). leading x (take k t)) flags
       ∙ ap (leading x) (window-cut l (start + at) 64 0 k (omega arith) ∙ ap (λ (y : ℕ). window l y k) (add-zero (start + at)) ∙ sym (in_window l start size at k (omega arith)))
 
-  pub alike-most : r ≤ k
+  alike-most : r ≤ k
   alike-most = no_more (window l start size) x at k r fits in_span
 
-  pub alike-stop : r < k → at + r - place ≡ leading_from x (window l start size) place
+  pub alike-stop : r < k → at - place + r ≡ leading_from x (window l start size) place
   alike-stop h = omega (arith, a.low, a.sum, some_alike (window l start size) x at k r fits in_span h)
 
-  pub alike-more : k ≤ r → Alike (window l start size) x size place (at + r)
-  alike-more h = record { low = omega (arith, a.low); inside = omega (arith, alike-most); sum = omega (arith, a.sum, every-alike (window l start size) x at k r fits in_span h) }
+  alike-on : k ≤ r → Alike (window l start size) x size place (at + k)
+  alike-on h =
+      let same : r ≡ k = omega (arith, alike-most) in
+      record {
+        low = omega (arith, a.low);
+        inside = omega arith;
+        sum = omega (arith, a.sum, rw same at (every-alike (window l start size) x at k r fits in_span h));
+      }
+
+  pub alike-more : k ≤ r → 64 < size - at → Alike (window l start size) x size place (at + 64)
+  alike-more h more = let all : k ≡ 64 = omega arith in rw all at (alike-on h)
+
+  pub alike-last : k ≤ r → size - at ≤ 64 → size - place ≡ leading_from x (window l start size) place
+  alike-last h few = alike-whole l x start size place (at + k) (alike-on h) (omega arith)
 
 -- the first k flags of a word that was read from `place` on
 pub word-alike : (l : List Bool) (x : Bool) (start size place k w r : ℕ) → place + k ≤ size → take k (bits 64 w) ≡ window l (start + place) k

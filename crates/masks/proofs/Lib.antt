@@ -8,6 +8,7 @@ pub mod AppendPlain
 pub mod AtIndexLaws
 pub mod BitmaskLaws
 pub mod CheckLaws
+pub mod RefusalLaws
 pub mod ChunkLaws
 pub mod CombineLaws
 pub mod CompareLaws
@@ -23,6 +24,7 @@ pub mod GatherLaws
 pub mod InsideLaws
 pub mod IteratorLaws
 pub mod LengthLaws
+pub mod LentLaws
 pub mod Listing
 pub mod MaskLaws
 pub mod NextAndNotLaws

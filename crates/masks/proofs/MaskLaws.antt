@@ -1,4 +1,7 @@
 -- The mask's checks, its count, and the count of a slice. Assumes nothing.
+use Rattle.masks.specs.declared.refusal.Refusal.{Refusal}
+use Rattle.masks.specs.declared.refusal.Refusal.TheVariants.{WrongRecount}
+use Rattle.std.specs.Prelude.{Option, Some, None, Result, Ok, Err}
 use mathlib.Core.Path.{◌≡◌, refl, sym, ap, ◌∙◌}
 use mathlib.Core.Bool.{Bool, true, false, cond, ◌&&◌}
 use mathlib.Core.List.{List, [], ◌∷◌}
@@ -17,9 +20,6 @@ use Rattle.masks.specs.TrueCounts.{Sound, TrueCount, Truthful}
 use Rattle.masks.specs.Utils.{zeros}
 use Rattle.masks.specs.Workers.{PieceAllowed, recounted_of, cut_of}
 use Rattle.masks.specs.declared.bitmap.Bitmap.{Bitmap}
-use Rattle.masks.specs.declared.bitmap.Cut.{Cut}
-use Rattle.masks.specs.declared.bitmap.Unset.{Unset}
-use Rattle.masks.specs.declared.bitmap.Unset.TheVariants.{Known, Unknown}
 use Rattle.masks.proofs.CheckLaws.{before, first-refused, last-refused, last-given, both_left, both_right}
 use Rattle.masks.proofs.CheckLaws.{span-allowed, SpanAllowed, rest-allowed, check-allowed}
 
@@ -29,9 +29,9 @@ unfolding mask_checks
 mask-allowed m bytes e = span-allowed m.start m.length (length bytes) (both_left (span_checks m.start m.length (length bytes)) (check 3 (count_valid m bytes) ∷ []) e)
 
 -- its count is not known, or true: check 3 says just that
-count-true : (u : Unset) (l : List Bool) → count_is u (zeros l) ≡ true → TrueCount u l
-count-true (Known z) l e = eqb-true z (zeros l) e
-count-true Unknown l e = tt
+count-true : (u : Option ℕ) (l : List Bool) → count_is u (zeros l) ≡ true → TrueCount u l
+count-true (Some z) l e = eqb-true z (zeros l) e
+count-true None l e = tt
 
 -- a count that is compared from the other side, with a number that it equals
 pub count-told : (z n v : ℕ) (r : Bool) → z ≡ v → r ≡ eqb n v → r ≡ eqb z n
@@ -42,16 +42,16 @@ count-told z n v r e p = p ∙ ap (eqb n) (sym e) ∙ go (eqb n z) refl
     go false h = sym (ne_eqb z n (λ s. eqb-false n z h (sym s)))
 
 -- a known count, compared with the zeros of the flags in the whole of the bytes
-pub known-valid : (u : Unset) (z : ℕ) (bytes : List ℕ) (start n : ℕ) (r : Bool) → u ≡ Known z
+pub known-valid : (u : Option ℕ) (z : ℕ) (bytes : List ℕ) (start n : ℕ) (r : Bool) → u ≡ Some z
     → r ≡ eqb z (zeros (stretch (take (length bytes - 0) (drop 0 bytes)) start n)) → r ≡ count_is u (zeros (stretch bytes start n))
 known-valid u z bytes start n r k e =
     e
     ∙ ap (λ (l : List Bool). eqb z (zeros l)) (whole-stretch bytes start n)
-    ∙ ap (λ (x : Unset). count_is x (zeros (stretch bytes start n))) (sym k)
+    ∙ ap (λ (x : Option ℕ). count_is x (zeros (stretch bytes start n))) (sym k)
 
-pub true-valid : (u : Unset) (l : List Bool) → TrueCount u l → count_is u (zeros l) ≡ true
-true-valid (Known z) l t = eq-eqb z (zeros l) t
-true-valid Unknown l t = refl
+pub true-valid : (u : Option ℕ) (l : List Bool) → TrueCount u l → count_is u (zeros l) ≡ true
+true-valid (Some z) l t = eq-eqb z (zeros l) t
+true-valid None l t = refl
 
 pub mask-truthful : (m : Bitmap) (bytes : List ℕ) → first_failed (mask_checks m bytes) ≡ 0 → Truthful m bytes
 unfolding mask_checks
@@ -89,44 +89,52 @@ unfolding recounts
 recounts-by old n z p h k e = rw (ne_eqb z 0 h, ne_eqb z old k, e)
 
 -- recounted, kept, and not known
-pub cut-known : (old n cut x z : ℕ) (u : Unset) (r : Cut) → u ≡ Known z → recounts old n z ≡ true → r ≡ recounted_of z x n → x ≡ cut → r ≡ cut_of old n cut u
+pub cut-known : (old n cut x z : ℕ) (u : Option ℕ) (r : Result (Option ℕ) Refusal) → u ≡ Some z → recounts old n z ≡ true → r ≡ recounted_of z x n → x ≡ cut → r ≡ cut_of old n cut u
 unfolding recounted_of
 cut-known old n cut x z u r k t e h =
     e ∙ ap (λ (y : ℕ). recounted_of z y n) h
-    ∙ sym (ap (cut_of old n cut) k ∙ ap (λ (b : Bool). cond (cond b (leb cut z && leb (z - cut) n) true) (Cut.Count (cond b (Known (z - cut)) (kept_count z old n))) Cut.Wrong) t)
+    ∙ sym (ap (cut_of old n cut) k ∙ ap (λ (b : Bool). cond (cond b (leb cut z && leb (z - cut) n) true) (Ok (cond b (Some (z - cut)) (kept_count z old n))) (Err WrongRecount)) t)
 
-pub cut-kept : (old n cut z : ℕ) (u : Unset) (r : Cut) → u ≡ Known z → recounts old n z ≡ false → r ≡ Cut.Count (kept_count z old n) → r ≡ cut_of old n cut u
+pub cut-kept : (old n cut z : ℕ) (u : Option ℕ) (r : Result (Option ℕ) Refusal) → u ≡ Some z → recounts old n z ≡ false → r ≡ Ok (kept_count z old n) → r ≡ cut_of old n cut u
 cut-kept old n cut z u r k t e =
     e
-    ∙ sym (ap (cut_of old n cut) k ∙ ap (λ (b : Bool). cond (cond b (leb cut z && leb (z - cut) n) true) (Cut.Count (cond b (Known (z - cut)) (kept_count z old n))) Cut.Wrong) t)
+    ∙ sym (ap (cut_of old n cut) k ∙ ap (λ (b : Bool). cond (cond b (leb cut z && leb (z - cut) n) true) (Ok (cond b (Some (z - cut)) (kept_count z old n))) (Err WrongRecount)) t)
 
-pub cut-unknown : (old n cut : ℕ) (u : Unset) → u ≡ Unknown → Cut.Count Unknown ≡ cut_of old n cut u
+pub cut-unknown : (old n cut : ℕ) (u : Option ℕ) → u ≡ None → Ok None ≡ cut_of old n cut u
 cut-unknown old n cut u k = sym (ap (cut_of old n cut) k)
 
-pub below-cut : (z cut n : ℕ) → z < cut → Cut.Wrong ≡ recounted_of z cut n
+pub below-cut : (z cut n : ℕ) → z < cut → (Err WrongRecount) ≡ recounted_of z cut n
 unfolding recounted_of
 below-cut z cut n h = rw (lt-leb cut z h)
 
-pub above-length : (z cut n : ℕ) → cut ≤ z → n < z - cut → Cut.Wrong ≡ recounted_of z cut n
+pub above-length : (z cut n : ℕ) → cut ≤ z → n < z - cut → (Err WrongRecount) ≡ recounted_of z cut n
 unfolding recounted_of
 above-length z cut n h k = rw (le-leb cut z h, lt-leb (z - cut) n k)
 
-pub within_both : (z cut n : ℕ) → cut ≤ z → z - cut ≤ n → Cut.Count (Known (z - cut)) ≡ recounted_of z cut n
+pub within_both : (z cut n : ℕ) → cut ≤ z → z - cut ≤ n → Ok (Some (z - cut)) ≡ recounted_of z cut n
 unfolding recounted_of
 within_both z cut n h k = rw (le-leb cut z h, le-leb (z - cut) n k)
 
 -- what a cut says of check 7 and of the count
-pub cut_wrong : (old n cut : ℕ) (u : Unset) → Cut.Wrong ≡ cut_of old n cut u → recount_valid old n cut u ≡ false
+pub cut_wrong : (old n cut : ℕ) (u : Option ℕ) → (Err WrongRecount) ≡ cut_of old n cut u → recount_valid old n cut u ≡ false
 cut_wrong old n cut u e = go (recount_valid old n cut u) e
   where
-    go : (t : Bool) → Cut.Wrong ≡ cond t (Cut.Count (sliced_count old n cut u)) Cut.Wrong → t ≡ false
+    go : (t : Bool) → (Err WrongRecount) ≡ cond t (Ok (sliced_count old n cut u)) (Err WrongRecount) → t ≡ false
     go true e = absurd (let z : ◌≡◌ {A = ℕ} 0 1 = cc in omega arith)
     go false e = refl
 
-pub cut_right : (old n cut : ℕ) (u v : Unset) → Cut.Count v ≡ cut_of old n cut u → (recount_valid old n cut u ≡ true) × (v ≡ sliced_count old n cut u)
+pub cut-error : (old n cut : ℕ) (u : Option ℕ) (e : Refusal) → cut_of old n cut u ≡ Err e → (Err WrongRecount ≡ cut_of old n cut u) × (e ≡ WrongRecount)
+cut-error old n cut u e h = go (recount_valid old n cut u) h
+  where
+    go : (t : Bool) → cond t (Ok (sliced_count old n cut u)) (Err WrongRecount) ≡ Err e
+        → (Err WrongRecount ≡ cond t (Ok (sliced_count old n cut u)) (Err WrongRecount)) × (e ≡ WrongRecount)
+    go true k = cc
+    go false k = (refl, cc)
+
+pub cut_right : (old n cut : ℕ) (u v : Option ℕ) → Ok v ≡ cut_of old n cut u → (recount_valid old n cut u ≡ true) × (v ≡ sliced_count old n cut u)
 cut_right old n cut u v e = go (recount_valid old n cut u) e
   where
-    go : (t : Bool) → Cut.Count v ≡ cond t (Cut.Count (sliced_count old n cut u)) Cut.Wrong → (t ≡ true) × (v ≡ sliced_count old n cut u)
+    go : (t : Bool) → Ok v ≡ cond t (Ok (sliced_count old n cut u)) (Err WrongRecount) → (t ≡ true) × (v ≡ sliced_count old n cut u)
     go true e = (refl, cc)
     go false e = absurd (let z : ◌≡◌ {A = ℕ} 0 1 = cc in omega arith)
 
@@ -144,16 +152,16 @@ module _ (m : Bitmap) (bytes : List ℕ) (offset n k : ℕ) (piece : k ≡ first
       first-refused (piece_checks m bytes offset n) k 6 (recount_valid m.length n (cut_zeros m bytes offset n) m.unset) m
       (sliced_mask m bytes offset n) (piece-before m bytes offset n) piece h
 
-  pub slice_wrong : k ≡ 0 → Cut.Wrong ≡ cut_of m.length n (cut_zeros m bytes offset n) m.unset → refused 7 m ≡ slice_of m bytes offset n
+  pub slice_wrong : k ≡ 0 → (Err WrongRecount) ≡ cut_of m.length n (cut_zeros m bytes offset n) m.unset → refused 7 m ≡ slice_of m bytes offset n
   unfolding slice_of slice_checks
   slice_wrong z e =
       last-refused (piece_checks m bytes offset n) k 6 (recount_valid m.length n (cut_zeros m bytes offset n) m.unset) m
       (sliced_mask m bytes offset n) piece z (cut_wrong m.length n (cut_zeros m bytes offset n) m.unset e)
 
-  pub slice-right : (v : Unset) → k ≡ 0 → Cut.Count v ≡ cut_of m.length n (cut_zeros m bytes offset n) m.unset
+  pub slice-right : (v : Option ℕ) → k ≡ 0 → Ok v ≡ cut_of m.length n (cut_zeros m bytes offset n) m.unset
       → given (cut_mask m (m.start + offset) n v) ≡ slice_of m bytes offset n
   unfolding slice_of slice_checks
   slice-right v z e =
       let known = cut_right m.length n (cut_zeros m bytes offset n) m.unset v e in
-      ap (λ (u : Unset). given (cut_mask m (m.start + offset) n u)) known.1
+      ap (λ (u : Option ℕ). given (cut_mask m (m.start + offset) n u)) known.1
       ∙ last-given (piece_checks m bytes offset n) k 6 (recount_valid m.length n (cut_zeros m bytes offset n) m.unset) m (sliced_mask m bytes offset n) piece z known.0

@@ -1,9 +1,9 @@
 -- The next flag that is set in one mask and not in another: the checks, the words and blocks that are read, and the ways out.
 -- Assumes nothing.
+use Rattle.std.specs.Prelude.{Option, Some, None}
 use mathlib.Core.Path.{◌≡◌, refl, sym, ap, ap₂, ◌∙◌, subst}
 use mathlib.Core.Bool.{Bool, true, false, cond, ◌&&◌}
 use mathlib.Core.List.{List, [], ◌∷◌, ◌++◌, zip_with}
-use mathlib.Core.Option.{Option, none, some}
 use Prim.Native.Nat.{ℕ, ◌+◌, ◌-◌, ◌/◌, ◌≤◌, ◌<◌, min}
 use native.Mathlib.Nat.{add-zero}
 use native.Mathlib.Omega.{arith}
@@ -28,8 +28,6 @@ use Rattle.masks.specs.NextAndNot.{free_flags, going_round, next_checks, next_se
 use Rattle.masks.specs.Workers.{Beside, PassedTo, Searchable}
 use Rattle.masks.specs.Search.{nth_from}
 use Rattle.masks.specs.declared.bitmap.Bitmap.{Bitmap}
-use Rattle.masks.specs.declared.bitmap.Optional.{Optional}
-use Rattle.masks.specs.declared.bitmap.Optional.TheVariants.{Present, Absent}
 use Rattle.masks.proofs.CheckLaws.{both_left, both_right, check-allowed, one-check, passed-before, two-pieces}
 use Rattle.masks.proofs.IteratorLaws.{at-end, every-alike, some_alike}
 use Rattle.masks.proofs.MaskLaws.{mask-allowed}
@@ -38,40 +36,40 @@ use Rattle.masks.proofs.TrueIdxLaws.{first-from, none_from_lem}
 
 -- ---- the checks
 
-module _ (a : Bitmap) (a_bytes : List ℕ) (S : Optional) (b_bytes : List ℕ) (from : ℕ) where
+module _ (a : Bitmap) (a_bytes : List ℕ) (S : Option Bitmap) (b_bytes : List ℕ) (from : ℕ) where
   -- with a second mask
-  pub both-checked : (b : Bitmap) (r own rest others other equal place : ℕ) → S ≡ Present b → r ≡ earlier own rest → rest ≡ earlier others place
+  pub both-checked : (b : Bitmap) (r own rest others other equal place : ℕ) → S ≡ Some b → r ≡ earlier own rest → rest ≡ earlier others place
       → others ≡ earlier other equal → own ≡ first_failed (mask_checks a a_bytes) → other ≡ first_failed (mask_checks b b_bytes)
       → equal ≡ cond (eqb a.length b.length) 0 5 → place ≡ cond (leb from a.length) 0 6
       → r ≡ first_failed (next_checks a a_bytes S b_bytes from)
   unfolding next_checks other_checks
   both-checked b r own rest others other equal place here e f g p q h i =
-      two-pieces own rest r (mask_checks a a_bytes) (other_checks a.length (Present b) b_bytes ++ (check 6 (leb from a.length) ∷ [])) e p
-      (two-pieces others place rest (other_checks a.length (Present b) b_bytes) (check 6 (leb from a.length) ∷ []) f
+      two-pieces own rest r (mask_checks a a_bytes) (other_checks a.length (Some b) b_bytes ++ (check 6 (leb from a.length) ∷ [])) e p
+      (two-pieces others place rest (other_checks a.length (Some b) b_bytes) (check 6 (leb from a.length) ∷ []) f
       (two-pieces other equal others (mask_checks b b_bytes) (check 5 (eqb a.length b.length) ∷ []) g q
       (one-check equal 5 (eqb a.length b.length) (eqb a.length b.length) h refl))
       (one-check place 6 (leb from a.length) (leb from a.length) i refl))
-      ∙ ap (λ (o : Optional). first_failed (next_checks a a_bytes o b_bytes from)) (sym here)
+      ∙ ap (λ (o : Option Bitmap). first_failed (next_checks a a_bytes o b_bytes from)) (sym here)
 
   -- without one
-  pub alone-checked : (r own place : ℕ) → S ≡ Absent → r ≡ earlier own place → own ≡ first_failed (mask_checks a a_bytes)
+  pub alone-checked : (r own place : ℕ) → S ≡ None → r ≡ earlier own place → own ≡ first_failed (mask_checks a a_bytes)
       → place ≡ cond (leb from a.length) 0 6 → r ≡ first_failed (next_checks a a_bytes S b_bytes from)
   unfolding next_checks other_checks
   alone-checked r own place gone e p i =
       two-pieces own place r (mask_checks a a_bytes) (check 6 (leb from a.length) ∷ []) e p
       (one-check place 6 (leb from a.length) (leb from a.length) i refl)
-      ∙ ap (λ (o : Optional). first_failed (next_checks a a_bytes o b_bytes from)) (sym gone)
+      ∙ ap (λ (o : Option Bitmap). first_failed (next_checks a a_bytes o b_bytes from)) (sym gone)
 
-beside-allowed : (n : ℕ) (S : Optional) (b_bytes : List ℕ) → first_failed (other_checks n S b_bytes) ≡ 0 → Beside n S
+beside-allowed : (n : ℕ) (S : Option Bitmap) (b_bytes : List ℕ) → first_failed (other_checks n S b_bytes) ≡ 0 → Beside n S
 unfolding other_checks
-beside-allowed n (Present b) b_bytes e = (
+beside-allowed n (Some b) b_bytes e = (
   (mask-allowed b b_bytes (both_left (mask_checks b b_bytes) (check 5 (eqb n b.length) ∷ []) e)).starts,
   eqb-true n b.length (check-allowed 4 (eqb n b.length) (both_right (mask_checks b b_bytes) (check 5 (eqb n b.length) ∷ []) e)),
 )
-beside-allowed n Absent b_bytes e = tt
+beside-allowed n None b_bytes e = tt
 
 -- where they have passed, the flags from the place on can be searched
-pub next-allowed : (a : Bitmap) (a_bytes : List ℕ) (S : Optional) (b_bytes : List ℕ) (from : ℕ) → first_failed (next_checks a a_bytes S b_bytes from) ≡ 0
+pub next-allowed : (a : Bitmap) (a_bytes : List ℕ) (S : Option Bitmap) (b_bytes : List ℕ) (from : ℕ) → first_failed (next_checks a a_bytes S b_bytes from) ≡ 0
     → Searchable a S from a.length
 unfolding next_checks
 next-allowed a a_bytes S b_bytes from e =
@@ -87,7 +85,7 @@ next-allowed a a_bytes S b_bytes from e =
     }
 
 -- they pass at each place up to the length, if at one
-pub elsewhere-accepted : (a : Bitmap) (a_bytes : List ℕ) (S : Optional) (b_bytes : List ℕ) (from at : ℕ)
+pub elsewhere-accepted : (a : Bitmap) (a_bytes : List ℕ) (S : Option Bitmap) (b_bytes : List ℕ) (from at : ℕ)
     → first_failed (next_checks a a_bytes S b_bytes from) ≡ 0 → at ≤ a.length → first_failed (next_checks a a_bytes S b_bytes at) ≡ 0
 unfolding next_checks
 elsewhere-accepted a a_bytes S b_bytes from at e h =
@@ -101,7 +99,7 @@ elsewhere-accepted a a_bytes S b_bytes from at e h =
     (one-check 0 6 true (leb at a.length) refl (sym (le-leb at a.length h)))))
 
 -- and those before it
-pub before-allowed : (a : Bitmap) (S : Optional) (from : ℕ) → Searchable a S from a.length → Searchable a S 0 from
+pub before-allowed : (a : Bitmap) (S : Option Bitmap) (from : ℕ) → Searchable a S from a.length → Searchable a S 0 from
 before-allowed a S from s = record { starts = s.starts; short = s.short; beside = s.beside; ordered = omega arith; inside = s.ordered }
 
 -- ---- the flags
@@ -111,24 +109,24 @@ and_self true = refl
 and_self false = refl
 
 -- a second mask that an arm has
-beside-here : (n : ℕ) (S : Optional) (b : Bitmap) → S ≡ Present b → Beside n S → Beside n (Present b)
-beside-here n S b e h = subst (λ (o : Optional). Beside n o) e h
+beside-here : (n : ℕ) (S : Option Bitmap) (b : Bitmap) → S ≡ Some b → Beside n S → Beside n (Some b)
+beside-here n S b e h = subst (λ (o : Option Bitmap). Beside n o) e h
 
-pub second-starts : (n : ℕ) (S : Optional) (b : Bitmap) → S ≡ Present b → Beside n S → b.start ≤ limit
+pub second-starts : (n : ℕ) (S : Option Bitmap) (b : Bitmap) → S ≡ Some b → Beside n S → b.start ≤ limit
 second-starts n S b e h = (beside-here n S b e h).0
 
 module _ (a : Bitmap) (a_bytes : List ℕ) (b : Bitmap) (b_bytes : List ℕ) (same : a.length ≡ b.length) where
   each : List Bool
   each = zip3 (op_of AndNot) (window (flags_of a_bytes) a.start a.length) (window (flags_of b_bytes) b.start a.length) (window (flags_of b_bytes) b.start a.length)
 
-  is-each : each ≡ free_flags a a_bytes (Present b) b_bytes
+  is-each : each ≡ free_flags a a_bytes (Some b) b_bytes
   unfolding each free_flags pair_flags shortcut
   is-each = ap (λ (n : ℕ). zip3 (op_of AndNot) (window (flags_of a_bytes) a.start a.length) (window (flags_of b_bytes) b.start n) (window (flags_of b_bytes) b.start n)) same
 
   -- a part, from stretches of the two buffers
   each_part : (at k : ℕ) → at + k ≤ a.length
       → zip3 (op_of AndNot) (window (flags_of a_bytes) (a.start + at) k) (window (flags_of b_bytes) (b.start + at) k) (window (flags_of b_bytes) (b.start + at) k)
-      ≡ window (free_flags a a_bytes (Present b) b_bytes) at k
+      ≡ window (free_flags a a_bytes (Some b) b_bytes) at k
   unfolding each
   each_part at k h =
       zip-part (op_of AndNot) (flags_of a_bytes) (flags_of b_bytes) (flags_of b_bytes) a.start b.start b.start a.length at k h
@@ -137,7 +135,7 @@ module _ (a : Bitmap) (a_bytes : List ℕ) (b : Bitmap) (b_bytes : List ℕ) (sa
   -- the first k flags of a word of both
   each_word : (at k u v w : ℕ) → k ≤ 64 → at + k ≤ a.length → bits 64 u ≡ window (flags_of a_bytes) (a.start + at) 64
       → bits 64 v ≡ window (flags_of b_bytes) (b.start + at) 64 → bits 64 w ≡ zip_with and_not (bits 64 u) (bits 64 v)
-      → take k (bits 64 w) ≡ window (free_flags a a_bytes (Present b) b_bytes) at k
+      → take k (bits 64 w) ≡ window (free_flags a a_bytes (Some b) b_bytes) at k
   each_word at k u v w few h p q op =
       let A = flags_of a_bytes in
       let B = flags_of b_bytes in
@@ -154,12 +152,12 @@ module _ (a : Bitmap) (a_bytes : List ℕ) (b : Bitmap) (b_bytes : List ℕ) (sa
       ∙ each_part at k h
 
 -- the second mask of an arm
-module _ (a : Bitmap) (a_bytes : List ℕ) (S : Optional) (b_bytes : List ℕ) (b : Bitmap) (here : S ≡ Present b) (beside : Beside a.length S) where
+module _ (a : Bitmap) (a_bytes : List ℕ) (S : Option Bitmap) (b_bytes : List ℕ) (b : Bitmap) (here : S ≡ Some b) (beside : Beside a.length S) where
   same_length : a.length ≡ b.length
   same_length = (beside-here a.length S b here beside).1
 
-  to-here : (at k : ℕ) → window (free_flags a a_bytes (Present b) b_bytes) at k ≡ window (free_flags a a_bytes S b_bytes) at k
-  to-here at k = ap (λ (o : Optional). window (free_flags a a_bytes o b_bytes) at k) (sym here)
+  to-here : (at k : ℕ) → window (free_flags a a_bytes (Some b) b_bytes) at k ≡ window (free_flags a a_bytes S b_bytes) at k
+  to-here at k = ap (λ (o : Option Bitmap). window (free_flags a a_bytes o b_bytes) at k) (sym here)
 
   pub any-both : (at n : ℕ) (t : Bool) → at + n ≤ a.length
       → t ≡ any_set (combined AndNot a_bytes (a.start + at) b_bytes (b.start + at) b_bytes (b.start + at) n)
@@ -172,12 +170,12 @@ module _ (a : Bitmap) (a_bytes : List ℕ) (S : Optional) (b_bytes : List ℕ) (
   word-both at k u v w few h p q op = each_word a a_bytes b b_bytes same_length at k u v w few h p q op ∙ to-here at k
 
 -- no second mask
-module _ (a : Bitmap) (a_bytes : List ℕ) (S : Optional) (b_bytes : List ℕ) (gone : S ≡ Absent) where
+module _ (a : Bitmap) (a_bytes : List ℕ) (S : Option Bitmap) (b_bytes : List ℕ) (gone : S ≡ None) where
   own-part : (at k : ℕ) → at + k ≤ a.length → window (flags_of a_bytes) (a.start + at) k ≡ window (free_flags a a_bytes S b_bytes) at k
   unfolding free_flags
   own-part at k h =
       sym (in_window (flags_of a_bytes) a.start a.length at k h)
-      ∙ ap (λ (o : Optional). window (free_flags a a_bytes o b_bytes) at k) (sym gone)
+      ∙ ap (λ (o : Option Bitmap). window (free_flags a a_bytes o b_bytes) at k) (sym gone)
 
   pub any-alone : (at n : ℕ) (t : Bool) → at + n ≤ a.length
       → t ≡ any_set (combined And a_bytes (a.start + at) a_bytes (a.start + at) a_bytes (a.start + at) n)
@@ -192,10 +190,10 @@ module _ (a : Bitmap) (a_bytes : List ℕ) (S : Optional) (b_bytes : List ℕ) (
       ∙ ap (λ (x : ℕ). window (flags_of a_bytes) x k) (add-zero (a.start + at)) ∙ own-part at k h
 
 -- there are as many as the first mask has
-pub free-length : (a : Bitmap) (a_bytes : List ℕ) (S : Optional) (b_bytes : List ℕ) → Beside a.length S → length (free_flags a a_bytes S b_bytes) ≡ a.length
+pub free-length : (a : Bitmap) (a_bytes : List ℕ) (S : Option Bitmap) (b_bytes : List ℕ) → Beside a.length S → length (free_flags a a_bytes S b_bytes) ≡ a.length
 unfolding free_flags
-free-length a a_bytes (Present b) b_bytes h = flags-length a a_bytes b b_bytes h.1 AndNot
-free-length a a_bytes Absent b_bytes h = length-window (flags_of a_bytes) a.start a.length
+free-length a a_bytes (Some b) b_bytes h = flags-length a a_bytes b b_bytes h.1 AndNot
+free-length a a_bytes None b_bytes h = length-window (flags_of a_bytes) a.start a.length
 
 -- ---- flags passed over
 
@@ -260,19 +258,19 @@ module _ (Z : List Bool) (n from ahead : ℕ) (long : length Z ≡ n) (inside : 
 
   -- from the place on
   pub found-ahead : (position read : ℕ) → ahead < n - from → position ≡ from + ahead → read ≡ ahead / 32 + 1
-      → record { position = some position; windows = read } ≡ next_set n Z from
+      → record { position = Some position; windows = read } ≡ next_set n Z from
   unfolding next_set going_round
   found-ahead position read h p r =
-      let there : some position ≡ nth_from Z 0 from = ap some p ∙ first-from Z from ahead ahead-all (omega arith) in
+      let there : Some position ≡ nth_from Z 0 from = ap Some p ∙ first-from Z from ahead ahead-all (omega arith) in
       let w : read ≡ (position - from) / 32 + 1 = omega arith in
-      ap (λ (x : ℕ). record { position = some position; windows = x }) w ∙ ap (λ (o : Option ℕ). going_round n from o (nth_from Z 0 0)) there
+      ap (λ (x : ℕ). record { position = Some position; windows = x }) w ∙ ap (λ (o : Option ℕ). going_round n from o (nth_from Z 0 0)) there
 
   -- there is none: before it
   module _ (passed before : ℕ) (few : n - from ≤ ahead) (w : passed ≡ windows_of (n - from)) (f : before ≡ leading_from false (take from Z) 0) where
-    none_ahead : none ≡ nth_from Z 0 from
+    none_ahead : None ≡ nth_from Z 0 from
     none_ahead = none_from_lem Z from ahead ahead-all (omega arith)
 
-    round-none : (o : Option ℕ) → o ≡ nth_from Z 0 0 → going_round n from none o ≡ next_set n Z from
+    round-none : (o : Option ℕ) → o ≡ nth_from Z 0 0 → going_round n from None o ≡ next_set n Z from
     unfolding next_set
     round-none o p = ap₂ (going_round n from) none_ahead p
 
@@ -281,20 +279,20 @@ module _ (Z : List Bool) (n from ahead : ℕ) (long : length Z ≡ n) (inside : 
     from_0 = leading-take false from Z ∙ sym f
 
     pub found_before : (read : ℕ) → before < from → read ≡ passed + (before / 32 + 1)
-        → record { position = some before; windows = read } ≡ next_set n Z from
+        → record { position = Some before; windows = read } ≡ next_set n Z from
     unfolding going_round leading_from
     found_before read h r =
         let all : before ≡ leading false Z = omega (arith, from_0) in
         let z : before ≡ 0 + before = omega arith in
-        ap (λ (x : ℕ). record { position = some before; windows = x }) (r ∙ ap (λ (x : ℕ). x + (before / 32 + 1)) w)
-        ∙ round-none (some before) (ap some z ∙ first-from Z 0 before all (omega arith))
+        ap (λ (x : ℕ). record { position = Some before; windows = x }) (r ∙ ap (λ (x : ℕ). x + (before / 32 + 1)) w)
+        ∙ round-none (Some before) (ap Some z ∙ first-from Z 0 before all (omega arith))
 
     pub found_none : (read rest : ℕ) → from ≤ before → rest ≡ windows_of from → read ≡ passed + rest
-        → record { position = none; windows = read } ≡ next_set n Z from
+        → record { position = None; windows = read } ≡ next_set n Z from
     unfolding going_round leading_from
     found_none read rest h v r =
         let front : length (take from Z) ≡ from = length-take-le from Z (omega arith) in
         let whole : leading false Z ≡ length (take from Z) + leading false (drop from Z) =
         ap (leading false) (sym (take-append-drop from Z)) ∙ leading-all false (take from Z) (drop from Z) (omega (arith, f)) in
-        ap (λ (x : ℕ). record { position = none; windows = x }) (r ∙ ap₂ (λ (x y : ℕ). x + y) w v)
-        ∙ round-none none (none_from_lem Z 0 (leading false Z) refl (omega (arith, ahead-all)))
+        ap (λ (x : ℕ). record { position = None; windows = x }) (r ∙ ap₂ (λ (x y : ℕ). x + y) w v)
+        ∙ round-none None (none_from_lem Z 0 (leading false Z) refl (omega (arith, ahead-all)))

@@ -1,13 +1,13 @@
 -- Where the next set flag is, going round once: the positions of set flags from a place on and then those before it, of which the
 -- first is given; and what an accepted `next_and_not` says of its masks. Assumes nothing.
+use Rattle.std.specs.Prelude.{Option, Some, None, slice_get}
 use mathlib.Core.Path.{◌≡◌, refl, sym, ap, ap₂, ◌∙◌}
 use mathlib.Core.Bool.{Bool, true, false, cond, ◌&&◌}
 use mathlib.Core.List.{List, [], ◌∷◌}
 use mathlib.Core.Logic.{⊎_elim}
-use mathlib.Core.Option.{Option, none, some}
 use Prim.Native.Nat.{ℕ, zero, suc, ◌+◌, ◌-◌, ◌≤◌, ◌<◌}
 use native.Mathlib.Omega.{arith}
-use lib.ListN.{length, take, drop, get_or, get_elem?, length-take, length-drop, take-append-drop}
+use lib.ListN.{length, take, drop, get_or, length-take, length-drop, take-append-drop}
 use lib.Seq.{get_or-drop}
 use borrow.Author.Tests.{lt-ltb}
 use Rattle.words.specs.Flags.{count}
@@ -22,20 +22,18 @@ use Rattle.masks.specs.NextAndNot.{free_flags}
 use Rattle.masks.specs.Workers.{Beside}
 use Rattle.masks.specs.TrueIdx.{ones_from, ones_left}
 use Rattle.masks.specs.declared.bitmap.Bitmap.{Bitmap}
-use Rattle.masks.specs.declared.bitmap.Optional.{Optional}
-use Rattle.masks.specs.declared.bitmap.Optional.TheVariants.{Present, Absent}
 use Rattle.masks.proofs.PairPlain.{at-and-not}
 use Rattle.masks.proofs.SearchCursor.{forward-nth}
 use Rattle.masks.proofs.SearchPlain.{forward-none, forward-some}
 
-pub some_same : (p t : ℕ) → some p ≡ some t → p ≡ t
+pub some_same : (p t : ℕ) → Some p ≡ Some t → p ≡ t
 some_same p t e = cc
 
-pub none-some : (t : ℕ) → none ≡ some t → ⊥
+pub none-some : (t : ℕ) → None ≡ Some t → ⊥
 none-some t e = let z : ◌≡◌ {A = ℕ} 0 1 = cc in omega arith
 
 -- a position that is given lies at or after the place, in the list
-pub some-ahead : (l : List Bool) (from p : ℕ) → nth_from l 0 from ≡ some p → (from ≤ p) × (p < length l)
+pub some-ahead : (l : List Bool) (from p : ℕ) → nth_from l 0 from ≡ Some p → (from ≤ p) × (p < length l)
 some-ahead l from p e = ⊎_elim
     (λ (h : 0 < count (drop from l)).
     let f = forward-some l 0 from h in
@@ -45,14 +43,14 @@ some-ahead l from p e = ⊎_elim
     (lt-or-le 0 (count (drop from l)))
 
 -- where none is given no flag is set from there on
-pub none-counted : (l : List Bool) (from : ℕ) → nth_from l 0 from ≡ none → count (drop from l) ≡ 0
+pub none-counted : (l : List Bool) (from : ℕ) → nth_from l 0 from ≡ None → count (drop from l) ≡ 0
 none-counted l from e = ⊎_elim
     (λ (h : 0 < count (drop from l)). absurd (none-some (forward-some l 0 from h).0 (sym e ∙ (forward-some l 0 from h).1.0)))
     (λ (h : count (drop from l) ≤ 0). omega arith)
     (lt-or-le 0 (count (drop from l)))
 
 -- and then the first of all lies before it
-pub some-before : (l : List Bool) (from p : ℕ) → nth_from l 0 from ≡ none → nth_from l 0 0 ≡ some p → p < from
+pub some-before : (l : List Bool) (from p : ℕ) → nth_from l 0 from ≡ None → nth_from l 0 0 ≡ Some p → p < from
 unfolding nth_from
 some-before l from p e f =
     let zero-on = none-counted l from e in
@@ -62,7 +60,7 @@ some-before l from p e f =
     let front : 0 < count (take from l) = omega arith in
     let there : nth_place l 0 ≡ nth_place (take from l) 0 =
     ap (λ (t : List Bool). nth_place t 0) (sym (take-append-drop from l)) ∙ nth-low (take from l) (drop from l) 0 front in
-    let at : some (0 + nth_place l 0) ≡ some p = sym (rw (lt-ltb 0 (count l) h)) ∙ f in
+    let at : Some (0 + nth_place l 0) ≡ Some p = sym (rw (lt-ltb 0 (count l) h)) ∙ f in
     omega (arith, some_same (0 + nth_place l 0) p at, there, nth-lt (take from l) 0 front, length-take from l))
     (λ (h : count l ≤ 0). absurd (none-some p (sym (forward-none l 0 0 h) ∙ f)))
     (lt-or-le 0 (count l))
@@ -106,10 +104,10 @@ listed k (false ∷ m) =
     ∙ ap (λ (b : Bool). cond b (k ∷ ones (flags k false m) (suc k) (length m)) (ones (flags k false m) (suc k) (length m))) (sym (first-flag k false m))
 
 abbrev pub head_of : List ℕ → Option ℕ
-head_of [] = none
-head_of (t ∷ ts) = some t
+head_of [] = None
+head_of (t ∷ ts) = Some t
 
-element_0 : (ts : List ℕ) → get_elem? ts 0 ≡ head_of ts
+element_0 : (ts : List ℕ) → slice_get ts 0 ≡ head_of ts
 element_0 [] = refl
 element_0 (t ∷ ts) = refl
 
@@ -130,8 +128,8 @@ and-true true = refl
 and-true false = refl
 
 -- each is that of `and_not` at its index
-pub free-flag : (a : Bitmap) (a_bytes : List ℕ) (S : Optional) (b_bytes : List ℕ) (i : ℕ) → Beside a.length S → i < a.length
-    → get_or (free_flags a a_bytes S b_bytes) i false ≡ and_not_flag (Present a) a_bytes S b_bytes i
+pub free-flag : (a : Bitmap) (a_bytes : List ℕ) (S : Option Bitmap) (b_bytes : List ℕ) (i : ℕ) → Beside a.length S → i < a.length
+    → get_or (free_flags a a_bytes S b_bytes) i false ≡ and_not_flag (Some a) a_bytes S b_bytes i
 unfolding free_flags and_not_flag flag_or
-free-flag a a_bytes (Present b) b_bytes i h inside = at-and-not a a_bytes b b_bytes h.1 i inside
-free-flag a a_bytes Absent b_bytes i h inside = sym (and-true (get_or (mask_flags a a_bytes) i false))
+free-flag a a_bytes (Some b) b_bytes i h inside = at-and-not a a_bytes b b_bytes h.1 i inside
+free-flag a a_bytes None b_bytes i h inside = sym (and-true (get_or (mask_flags a a_bytes) i false))

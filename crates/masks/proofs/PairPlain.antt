@@ -1,5 +1,6 @@
 -- A combination of two masks, flag by flag: what stands at a position of its flags, and that the mask that an accepted one gives has
 -- these flags in the bytes that it writes, whatever its masks' counts are. Assumes nothing.
+use Rattle.std.specs.Prelude.{Option, Some, None}
 use mathlib.Core.Path.{◌≡◌, refl, sym, ap, ap₂, ◌∙◌}
 use mathlib.Core.Bool.{Bool, false, not, ◌&&◌}
 use mathlib.Core.List.{List, ◌∷◌, ◌++◌}
@@ -20,8 +21,6 @@ use Rattle.masks.specs.Frozen.{frozen}
 use Rattle.masks.specs.Mask.{cut_mask, mask_checks, mask_flags}
 use Rattle.masks.specs.TrueCounts.{Truthful}
 use Rattle.masks.specs.declared.bitmap.Bitmap.{Bitmap}
-use Rattle.masks.specs.declared.shortcuts.Shortcut.{Shortcut}
-use Rattle.masks.specs.declared.shortcuts.Shortcut.TheVariants.{Each, All}
 use Rattle.masks.proofs.CheckLaws.{both_left, both_right, is-new, rest-allowed}
 use Rattle.masks.proofs.CombineLaws.{pair_lengths}
 use Rattle.masks.proofs.FreezeLaws.{frozen-front}
@@ -58,9 +57,9 @@ module _ (a : Bitmap) (a_bytes : List ℕ) (b : Bitmap) (b_bytes : List ℕ) (sa
   unfolding pair_flags
   flags-length op = go (pair_shortcut op a a_bytes b b_bytes)
     where
-      go : (s : Shortcut) → length (result_flags s a.length (pair_each op a a_bytes b b_bytes)) ≡ a.length
-      go Each = each-length op
-      go (All x) = length-copies a.length x
+      go : (s : Option Bool) → length (result_flags s a.length (pair_each op a a_bytes b b_bytes)) ≡ a.length
+      go None = each-length op
+      go (Some x) = length-copies a.length x
 
 -- the mask that an accepted combination gives has the combination's flags in the bytes written
 pub written-flags : (op : Op) (a : Bitmap) (a_bytes : List ℕ) (b : Bitmap) (b_bytes out : List ℕ) → first_failed (pair_checks a a_bytes b b_bytes (length out)) ≡ 0

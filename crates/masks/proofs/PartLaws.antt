@@ -113,47 +113,42 @@ module _ (x : Bool) (l : List Bool) (s n : ℕ) where
       let all : 64 * i ≡ leading x (window l s (64 * i)) = omega (arith, leading_le x (window l s (64 * i)), length-window l s (64 * i)) in
       ap (λ (m : ℕ). 64 * m) (sym e) ∙ all ∙ ap (λ (m : ℕ). leading x (window l s (64 * m))) e
 
-  -- the words before k, the word k, the i words behind it
-  end-cut : (i k : ℕ) → i + k + 1 ≡ n → window l s (64 * n) ≡ window l s (64 * k) ++ (window l (s + 64 * k) 64 ++ window l (s + 64 * (n - i)) (64 * i))
-  end-cut i k h =
-      let e : 64 * n ≡ 64 * k + (64 + 64 * i) = omega arith in
-      let f : s + 64 * k + 64 ≡ s + 64 * (n - i) = omega arith in
-      ap (window l s) e ∙ window-add l s (64 * k) (64 + 64 * i)
-      ∙ ap (λ (t : List Bool). window l s (64 * k) ++ t) (window-add l (s + 64 * k) 64 (64 * i) ∙ ap (λ (z : ℕ). window l (s + 64 * k) 64 ++ window l z (64 * i)) f)
+  -- the words before word i, word i, the k words from word j on
+  end-cut : (k i j : ℕ) → j ≡ i + 1 → k + j ≡ n → window l s (64 * n) ≡ window l s (64 * i) ++ (window l (s + 64 * i) 64 ++ window l (s + 64 * j) (64 * k))
+  end-cut k i j d h =
+      let e : 64 * n ≡ 64 * i + (64 + 64 * k) = omega arith in
+      let f : s + 64 * i + 64 ≡ s + 64 * j = omega arith in
+      ap (window l s) e ∙ window-add l s (64 * i) (64 + 64 * k)
+      ∙ ap (λ (t : List Bool). window l s (64 * i) ++ t) (window-add l (s + 64 * i) 64 (64 * k) ∙ ap (λ (z : ℕ). window l (s + 64 * i) 64 ++ window l z (64 * k)) f)
 
-  pub end_none : 64 * 0 ≤ trailing x (window l (s + 64 * (n - 0)) (64 * 0))
-  end_none = omega arith
-
-  pub end-exit : (i k p w a : ℕ) → i + k + 1 ≡ n → 64 * i ≤ trailing x (window l (s + 64 * (n - i)) (64 * i)) → bits 64 w ≡ window l p 64 → p ≡ s + 64 * k
+  pub end-exit : (k i j p w a : ℕ) → j ≡ i + 1 → k + j ≡ n → 64 * k ≤ trailing x (window l (s + 64 * j) (64 * k)) → bits 64 w ≡ window l p 64 → p ≡ s + 64 * i
       → a ≡ trailing x (take 64 (bits 64 w)) → a < 64
-      → 64 * i + a ≡ trailing x (window l s (64 * n))
-  end-exit i k p w a h inv q e u b =
-      let here : a ≡ trailing x (window l (s + 64 * k) 64) = u ∙ ap (trailing x) (whole_word w ∙ q ∙ ap (λ (z : ℕ). window l z 64) e) in
-      end-middle x (window l s (64 * k)) (window l (s + 64 * k) 64) (window l (s + 64 * (n - i)) (64 * i))
-      (trailing x (window l (s + 64 * (n - i)) (64 * i))) (64 * i) a 64 refl (length-window l (s + 64 * (n - i)) (64 * i)) inv here (length-window l (s + 64 * k) 64) b
-      ∙ ap (trailing x) (sym (end-cut i k h))
+      → 64 * k + a ≡ trailing x (window l s (64 * n))
+  end-exit k i j p w a d h inv q e u b =
+      let here : a ≡ trailing x (window l (s + 64 * i) 64) = u ∙ ap (trailing x) (whole_word w ∙ q ∙ ap (λ (z : ℕ). window l z 64) e) in
+      end-middle x (window l s (64 * i)) (window l (s + 64 * i) 64) (window l (s + 64 * j) (64 * k))
+      (trailing x (window l (s + 64 * j) (64 * k))) (64 * k) a 64 refl (length-window l (s + 64 * j) (64 * k)) inv here (length-window l (s + 64 * i) 64) b
+      ∙ ap (trailing x) (sym (end-cut k i j d h))
 
-  pub end_step : (i k p w a : ℕ) → i + k + 1 ≡ n → 64 * i ≤ trailing x (window l (s + 64 * (n - i)) (64 * i)) → bits 64 w ≡ window l p 64 → p ≡ s + 64 * k
+  pub end_step : (k i j p w a : ℕ) → j ≡ i + 1 → k + j ≡ n → 64 * k ≤ trailing x (window l (s + 64 * j) (64 * k)) → bits 64 w ≡ window l p 64 → p ≡ s + 64 * i
       → a ≡ trailing x (take 64 (bits 64 w)) → 64 ≤ a
-      → 64 * (i + 1) ≤ trailing x (window l (s + 64 * (n - (i + 1))) (64 * (i + 1)))
-  end_step i k p w a h inv q e u b =
-      let m : 64 * (i + 1) ≡ 64 + 64 * i = omega arith in
-      let f : s + 64 * (n - (i + 1)) ≡ s + 64 * k = omega arith in
-      let g : s + 64 * k + 64 ≡ s + 64 * (n - i) = omega arith in
-      let here : a ≡ trailing x (window l (s + 64 * k) 64) = u ∙ ap (trailing x) (whole_word w ∙ q ∙ ap (λ (z : ℕ). window l z 64) e) in
-      let all : trailing x (window l (s + 64 * (n - (i + 1))) (64 * (i + 1))) ≡ length (window l (s + 64 * (n - i)) (64 * i)) + trailing x (window l (s + 64 * k) 64) =
-      ap₂ (λ (y z : ℕ). trailing x (window l y z)) f m
-      ∙ ap (trailing x) (window-add l (s + 64 * k) 64 (64 * i) ∙ ap (λ (z : ℕ). window l (s + 64 * k) 64 ++ window l z (64 * i)) g)
-      ∙ trailing-all x (window l (s + 64 * k) 64) (window l (s + 64 * (n - i)) (64 * i)) (omega (arith, length-window l (s + 64 * (n - i)) (64 * i))) in
-      omega (arith, length-window l (s + 64 * (n - i)) (64 * i))
+      → 64 * (n - i) ≤ trailing x (window l (s + 64 * i) (64 * (n - i)))
+  end_step k i j p w a d h inv q e u b =
+      let m : 64 * (n - i) ≡ 64 + 64 * k = omega arith in
+      let g : s + 64 * i + 64 ≡ s + 64 * j = omega arith in
+      let here : a ≡ trailing x (window l (s + 64 * i) 64) = u ∙ ap (trailing x) (whole_word w ∙ q ∙ ap (λ (z : ℕ). window l z 64) e) in
+      let all : trailing x (window l (s + 64 * i) (64 * (n - i))) ≡ length (window l (s + 64 * j) (64 * k)) + trailing x (window l (s + 64 * i) 64) =
+      ap (λ (z : ℕ). trailing x (window l (s + 64 * i) z)) m
+      ∙ ap (trailing x) (window-add l (s + 64 * i) 64 (64 * k) ∙ ap (λ (z : ℕ). window l (s + 64 * i) 64 ++ window l z (64 * k)) g)
+      ∙ trailing-all x (window l (s + 64 * i) 64) (window l (s + 64 * j) (64 * k)) (omega (arith, length-window l (s + 64 * j) (64 * k))) in
+      omega (arith, length-window l (s + 64 * j) (64 * k))
 
-  pub end-all : (i : ℕ) → 64 * i ≤ trailing x (window l (s + 64 * (n - i)) (64 * i)) → i ≤ n → n ≤ i → 64 * n ≡ trailing x (window l s (64 * n))
-  end-all i inv h k =
-      let e : i ≡ n = omega arith in
-      let f : s + 64 * (n - i) ≡ s = omega arith in
-      let last = window l (s + 64 * (n - i)) (64 * i) in
-      let all : 64 * i ≡ trailing x last = omega (arith, trailing_le x last, length-window l (s + 64 * (n - i)) (64 * i)) in
-      ap (λ (m : ℕ). 64 * m) (sym e) ∙ all ∙ ap₂ (λ (y m : ℕ). trailing x (window l y (64 * m))) f e
+  pub end-all : 64 * (n - 0) ≤ trailing x (window l (s + 64 * 0) (64 * (n - 0))) → 64 * n ≡ trailing x (window l s (64 * n))
+  end-all inv =
+      let e : n - 0 ≡ n = omega arith in
+      let f : s + 64 * 0 ≡ s = omega arith in
+      let same : window l (s + 64 * 0) (64 * (n - 0)) ≡ window l s (64 * n) = ap₂ (λ (y m : ℕ). window l y (64 * m)) f e in
+      omega (arith, inv, ap (trailing x) same, trailing_le x (window l s (64 * n)), length-window l s (64 * n))
 
 -- the ones of a span that fits the word from its first byte on
 pub short-count : (bytes : List ℕ) (start n x r c : ℕ) → start % 8 + n ≤ 64 → bits 64 x ≡ window (flags_of bytes) (8 * (start / 8)) 64

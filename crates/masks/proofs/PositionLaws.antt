@@ -66,9 +66,9 @@ over-same [] (y ∷ m) e = absurd (omega arith)
 over-same (x ∷ l) [] e = absurd (omega arith)
 over-same (x ∷ l) (y ∷ m) e = ap (λ (t : List ℕ). y ∷ t) (over-same l m (omega arith))
 
-pub row-all : (l : List ℕ) (first i : ℕ) (part : List ℕ) → part ≡ over l (ones_from first (copies i true)) → i ≤ length part → length part ≤ i
-    → length part ≡ length l → part ≡ ones_from first (copies (length l) true)
-row-all l first i part p a b e =
+pub row-all : (l : List ℕ) (first i : ℕ) (part : List ℕ) → part ≡ over l (ones_from first (copies i true)) → i ≤ length l → length l ≤ i
+    → part ≡ ones_from first (copies (length l) true)
+row-all l first i part p a b =
     let n : i ≡ length l = omega arith in
     p ∙ ap (λ (x : ℕ). over l (ones_from first (copies x true))) n
     ∙ over-same l (ones_from first (copies (length l) true)) (sym (length-row first (length l)))

@@ -175,3 +175,14 @@ word_split bytes start n at k w h small e =
 
 pub none-behind : (bytes : List ℕ) (start n at : ℕ) → n ≤ at → ones_left (stretch bytes start n) at ≡ []
 none-behind bytes start n at h = past_end (stretch bytes start n) at (omega (arith, length-window (flags_of bytes) start n))
+
+-- the positions of a word more
+pub word-on : (out₀ : List ℕ) (done : ℕ) (all out : List ℕ) (count : ℕ) (bytes : List ℕ) (start n at : ℕ)
+    → UnderWay out₀ done all out count (ones_left (stretch bytes start n) at) → (k w : ℕ) → at + k ≤ n → k ≤ 64
+    → w ≡ word_of (stretch bytes (start + at) k) → (out' : List ℕ) (r : ℕ) → out' ≡ over_from out count (ones_from at (bits 64 w))
+    → r ≡ min (length out) (count + length (ones_from at (bits 64 w))) → (next : ℕ) → next ≡ at + k
+    → UnderWay out₀ done all out' r (ones_left (stretch bytes start n) next)
+word-on out₀ done all out count bytes start n at u k w h small e out' r p q next f =
+    rw f
+    (goes_on out₀ done all out count (ones_left (stretch bytes start n) at) (ones_from at (bits 64 w)) (ones_left (stretch bytes start n) (at + k)) out' r u
+    (word_split bytes start n at k w h small e) p q)

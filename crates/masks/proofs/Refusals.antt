@@ -1,4 +1,5 @@
 -- Each call refuses by the numbers listed for it alone, and a refusal changes nothing. Assumes nothing.
+use Rattle.std.specs.Prelude.{Some, None}
 use mathlib.Core.Path.{◌≡◌, refl, sym, ap, ◌∙◌, subst}
 use mathlib.Core.Bool.{Bool, true, false, cond, ◌||◌}
 use mathlib.Core.List.{List, [], ◌∷◌, ◌++◌}
@@ -38,7 +39,6 @@ use Rattle.masks.specs.Superseding.{record_of, superseding_checks, superseding_o
 use Rattle.masks.specs.TrueIdx.{true_at, new_true_checks, true_checks, new_true, next_true}
 use Rattle.masks.specs.Utils.{span_count}
 use Rattle.masks.specs.declared.bitmap.Bitmap.{Bitmap}
-use Rattle.masks.specs.declared.bitmap.Optional.TheVariants.{Present, Absent}
 use Rattle.masks.specs.declared.builder.BitmapBuilder.{BitmapBuilder}
 use Rattle.masks.specs.declared.superseding.Part.{Part}
 
@@ -232,12 +232,12 @@ refusals =
       eq = λ a a_bytes b b_bytes. refuses-by (mask_checks a a_bytes ++ mask_checks b b_bytes) _ _ _ refl;
       edges = λ m bytes. refuses-by (mask_checks m bytes) _ _ _ refl;
       common = λ a a_bytes b b_bytes. refuses-by (common_checks a a_bytes b b_bytes) _ _ _ refl;
-      and_not_at = λ a a_bytes b b_bytes i. refuses-by (and_not_at_checks (Present a) a_bytes (Present b) b_bytes i) _ _ _ refl;
-      and-not-at-first = λ a a_bytes b_bytes i. refuses-by (and_not_at_checks (Present a) a_bytes Absent b_bytes i) _ _ _ refl;
-      and-not-at-second = λ a_bytes b b_bytes i. refuses-by (and_not_at_checks Absent a_bytes (Present b) b_bytes i) _ _ _ refl;
-      and-not-at-none = λ a_bytes b_bytes i. refuses-by (and_not_at_checks Absent a_bytes Absent b_bytes i) _ _ _ refl;
-      next_and_not = λ a a_bytes b b_bytes from. refuses-by (next_checks a a_bytes (Present b) b_bytes from) _ _ _ refl;
-      next-and-not-alone = λ a a_bytes b_bytes from. refuses-by (next_checks a a_bytes Absent b_bytes from) _ _ _ refl;
+      and_not_at = λ a a_bytes b b_bytes i. refuses-by (and_not_at_checks (Some a) a_bytes (Some b) b_bytes i) _ _ _ refl;
+      and-not-at-first = λ a a_bytes b_bytes i. refuses-by (and_not_at_checks (Some a) a_bytes None b_bytes i) _ _ _ refl;
+      and-not-at-second = λ a_bytes b b_bytes i. refuses-by (and_not_at_checks None a_bytes (Some b) b_bytes i) _ _ _ refl;
+      and-not-at-none = λ a_bytes b_bytes i. refuses-by (and_not_at_checks None a_bytes None b_bytes i) _ _ _ refl;
+      next_and_not = λ a a_bytes b b_bytes from. refuses-by (next_checks a a_bytes (Some b) b_bytes from) _ _ _ refl;
+      next-and-not-alone = λ a a_bytes b_bytes from. refuses-by (next_checks a a_bytes None b_bytes from) _ _ _ refl;
       superseding_part = λ a a_bytes b b_bytes. refuses-by (superseding_checks a a_bytes b b_bytes) _ _ _ refl;
       superseding = λ a a_bytes b b_bytes. refuses-record _ (superseding_of a a_bytes b b_bytes) (refuses-by (superseding_checks a a_bytes b b_bytes) _ _ _ refl);
       slices-new = λ m bytes. refuses-by (mask_checks m bytes) _ _ _ refl;
@@ -245,8 +245,8 @@ refusals =
       iter-new = λ bytes start n. refuses-nonempty n _ _ _ _ (refuses-by (span_checks start n (length bytes)) _ _ _ refl);
       iter-nth = λ c bytes k. refuses-by (iter_checks c bytes) _ _ _ refl;
       iter-take = λ x c bytes. refuses-by (iter_checks c bytes) _ _ _ refl;
-      true-new = λ n m bytes. refuses-by (new_true_checks n (Present m) bytes) _ _ _ refl;
-      true-new_unmasked = λ n bytes. refuses-by (new_true_checks n Absent bytes) _ _ _ refl;
+      true-new = λ n m bytes. refuses-by (new_true_checks n (Some m) bytes) _ _ _ refl;
+      true-new_unmasked = λ n bytes. refuses-by (new_true_checks n None bytes) _ _ _ refl;
       true-next = λ start n place bytes. refuses-by (true_checks (true_at start n place true) (length bytes)) _ _ _ refl;
       true-next_unmasked = λ start n place bytes. refuses-by (true_checks (true_at start n place false) (length bytes)) _ _ _ refl;
       true-chunk = λ start n place bytes out. refuses-unwritten (true_checks (true_at start n place true) (length bytes)) _ _ _ _ _ refl;

@@ -2,10 +2,11 @@
 use mathlib.Core.Path.{◌≡◌, refl, sym, ap, ◌∙◌, subst}
 use mathlib.Core.Bool.{Bool, false}
 use mathlib.Core.List.{List, [], ◌∷◌, ◌++◌, append_assoc, append-nil}
-use mathlib.Core.Logic.{inl, inr, ⊎_elim}
-use Prim.Native.Nat.{ℕ, zero, suc, ◌+◌, ◌*◌, ◌≤◌, ◌<◌}
-use native.Mathlib.Nat.{zero-mul, mul-zero, suc-mul, mul-one, mul_comm, mul-le-mul, mul-le-mul_right, le-mul_of_pos_right}
+use mathlib.Core.Logic.{⊎_elim}
+use Prim.Native.Nat.{ℕ, suc, ◌+◌, ◌-◌, ◌*◌, ◌^◌, ◌≤◌, ◌<◌, min}
+use native.Mathlib.Nat.{zero-mul, suc-mul, mul-one, mul-le-mul_right}
 use native.Mathlib.Omega.{arith}
+use Rattle.words.proofs.Windows.{lt-or-le}
 use lib.ListN.{length, get_or, length-append}
 use borrow.Author.Tests.{lt-leb}
 use Rattle.words.specs.Flags.{copies, window}
@@ -13,7 +14,7 @@ use Rattle.words.proofs.Windows.{length-copies, length-window, window-add}
 use Rattle.masks.specs.Appends.{repeated, grow_checks}
 use Rattle.masks.specs.Builder.{Filling, appended}
 use Rattle.masks.specs.Checks.{first_failed, limit}
-use Rattle.masks.specs.Workers.{SameOrOver, Room}
+use Rattle.masks.specs.Workers.{Room}
 use Rattle.masks.specs.declared.builder.BitmapBuilder.{BitmapBuilder}
 use Rattle.masks.proofs.AppendLaws.{append-then}
 use Rattle.masks.proofs.RoomLaws.{room_after, over-limit}
@@ -77,30 +78,13 @@ runs-room f g l s i n k e h r =
 pub runs-all : (f g : Filling) (l : List Bool) (s i n k : ℕ) → g ≡ appended f (repeated k (window l s i)) → i ≤ n → n ≤ i → g ≡ appended f (repeated k (window l s n))
 runs-all f g l s i n k e h q = let z : i ≡ n = omega arith in e ∙ ap (λ (x : ℕ). appended f (repeated k (window l s x))) z
 
--- ---- the product
+-- ---- the product, or the largest number if it does not fit: over the limit check 1 decides
 
-pub product-none : (k : ℕ) (n : ℕ) → n ≡ 0 → SameOrOver 0 (n * k)
-product-none k n e = inl (sym (ap (λ (x : ℕ). x * k) e ∙ zero-mul k))
-
-pub product-no-repeats : (k : ℕ) (n : ℕ) → k ≡ 0 → SameOrOver 0 (n * k)
-product-no-repeats k n e = inl (sym (ap (λ (x : ℕ). n * x) e ∙ mul-zero n))
-
-pub product-long : (k n : ℕ) → (k ≡ 0 → ⊥) → limit < n → SameOrOver n (n * k)
-product-long zero n h q = absurd (h refl)
-product-long (suc k) n h q = inr (q, omega (arith, le-mul_of_pos_right {m = suc k} n (omega arith)))
-
-pub product_often : (k n : ℕ) → (n ≡ 0 → ⊥) → limit < k → SameOrOver k (n * k)
-product_often k n h q = subst (SameOrOver k) (mul_comm k n) (product-long n k h q)
-
-pub product-fits : (k n : ℕ) → k ≤ limit → n ≤ limit → n * k ≤ 17592186044416
-product-fits k n h q = mul-le-mul q h
-
--- over the limit check 1 decides
 too_long_lem : (b : BitmapBuilder) (n size : ℕ) → limit < n → 1 ≡ first_failed (grow_checks b n size)
 too_long_lem b n size h = over-limit b n size (lt-leb (b.length + n) limit (omega arith))
 
-pub exact-product : (b : BitmapBuilder) (r p size c : ℕ) → SameOrOver r p → c ≡ first_failed (grow_checks b r size) → c ≡ first_failed (grow_checks b p size)
-exact-product b r p size c h e = e ∙ ⊎_elim
-    (λ (q : r ≡ p). ap (λ (x : ℕ). first_failed (grow_checks b x size)) q)
-    (λ (q : (limit < r) × (limit < p)). sym (too_long_lem b r size q.0) ∙ too_long_lem b p size q.1)
-    h
+pub exact-product : (b : BitmapBuilder) (r p size c : ℕ) → r ≡ min p (2 ^ 64 - 1) → c ≡ first_failed (grow_checks b r size) → c ≡ first_failed (grow_checks b p size)
+exact-product b r p size c e h = h ∙ ⊎_elim
+    (λ (q : 2 ^ 64 - 1 < p). sym (too_long_lem b r size (omega arith)) ∙ too_long_lem b p size (omega arith))
+    (λ (q : p ≤ 2 ^ 64 - 1). let same : r ≡ p = omega arith in ap (λ (x : ℕ). first_failed (grow_checks b x size)) same)
+    (lt-or-le (2 ^ 64 - 1) p)

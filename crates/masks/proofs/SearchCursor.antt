@@ -1,13 +1,13 @@
 -- The searches agree with the cursor over ones: forward, the n-th position that the cursor gives; down from an end, the n-th
 -- from the last of the positions below it. Assumes nothing.
+use Rattle.std.specs.Prelude.{Some, None, slice_get}
 use mathlib.Core.Path.{◌≡◌, refl, sym, ap, ◌∙◌}
 use mathlib.Core.Bool.{Bool, true, false}
 use mathlib.Core.List.{List, [], ◌∷◌, ◌++◌, reverse, reverse-cons}
 use mathlib.Core.Logic.{⊎_elim}
-use mathlib.Core.Option.{none, some}
 use Prim.Native.Nat.{ℕ, zero, suc, ◌+◌, ◌-◌, ◌≤◌, ◌<◌}
 use native.Mathlib.Omega.{arith}
-use lib.ListN.{length, take, drop, get_elem?, length-reverse}
+use lib.ListN.{length, take, drop, length-reverse}
 use borrow.Author.Tests.{lt-ltb}
 use Rattle.words.specs.Flags.{count}
 use Rattle.words.specs.Nth.{nth_place}
@@ -22,31 +22,31 @@ use Rattle.masks.proofs.TrueIdxPlain.{lists-ones}
 
 -- ---- element n of a list
 
-past-list : (xs : List ℕ) (n : ℕ) → length xs ≤ n → get_elem? xs n ≡ none
+past-list : (xs : List ℕ) (n : ℕ) → length xs ≤ n → slice_get xs n ≡ None
 past-list [] n h = refl
 past-list (x ∷ xs) zero h = absurd (omega arith)
 past-list (x ∷ xs) (suc n) h = past-list xs n (omega arith)
 
-in-first : (xs ys : List ℕ) (n : ℕ) → n < length xs → get_elem? (xs ++ ys) n ≡ get_elem? xs n
+in-first : (xs ys : List ℕ) (n : ℕ) → n < length xs → slice_get (xs ++ ys) n ≡ slice_get xs n
 in-first [] ys n h = absurd (omega arith)
 in-first (x ∷ xs) ys zero h = refl
 in-first (x ∷ xs) ys (suc n) h = in-first xs ys n (omega arith)
 
-just_behind : (xs : List ℕ) (y n : ℕ) → n ≡ length xs → get_elem? (xs ++ (y ∷ [])) n ≡ some y
+just_behind : (xs : List ℕ) (y n : ℕ) → n ≡ length xs → slice_get (xs ++ (y ∷ [])) n ≡ Some y
 just_behind [] y zero h = refl
 just_behind [] y (suc n) h = absurd (omega arith)
 just_behind (x ∷ xs) y zero h = absurd (omega arith)
 just_behind (x ∷ xs) y (suc n) h = just_behind xs y n (omega arith)
 
-from_last : (xs : List ℕ) (n : ℕ) → n < length xs → get_elem? (reverse xs) n ≡ get_elem? xs (length xs - 1 - n)
+from_last : (xs : List ℕ) (n : ℕ) → n < length xs → slice_get (reverse xs) n ≡ slice_get xs (length xs - 1 - n)
 from_last [] n h = absurd (omega arith)
-from_last (x ∷ xs) n h = ap (λ (t : List ℕ). get_elem? t n) (reverse-cons x xs) ∙ ⊎_elim
+from_last (x ∷ xs) n h = ap (λ (t : List ℕ). slice_get t n) (reverse-cons x xs) ∙ ⊎_elim
     (λ (b : n < length xs).
     let e : suc (length xs - 1 - n) ≡ suc (length xs) - 1 - n = omega arith in
-    in-first (reverse xs) (x ∷ []) n (omega (arith, length-reverse xs)) ∙ from_last xs n b ∙ ap (get_elem? (x ∷ xs)) e)
+    in-first (reverse xs) (x ∷ []) n (omega (arith, length-reverse xs)) ∙ from_last xs n b ∙ ap (slice_get (x ∷ xs)) e)
     (λ (b : length xs ≤ n).
     let e : 0 ≡ suc (length xs) - 1 - n = omega arith in
-    just_behind (reverse xs) x n (omega (arith, length-reverse xs)) ∙ ap (get_elem? (x ∷ xs)) e)
+    just_behind (reverse xs) x n (omega (arith, length-reverse xs)) ∙ ap (slice_get (x ∷ xs)) e)
     (lt-or-le n (length xs))
 
 -- ---- element n of the positions of ones
@@ -57,17 +57,17 @@ how-many k [] = refl
 how-many k (true ∷ l) = omega (arith, how-many (suc k) l)
 how-many k (false ∷ l) = omega (arith, how-many (suc k) l)
 
-the_nth : (k : ℕ) (l : List Bool) (n : ℕ) → n < count l → get_elem? (ones_from k l) n ≡ some (k + nth_place l n)
+the_nth : (k : ℕ) (l : List Bool) (n : ℕ) → n < count l → slice_get (ones_from k l) n ≡ Some (k + nth_place l n)
 unfolding ones_from count nth_place
 the_nth k [] n h = absurd (omega arith)
-the_nth k (true ∷ l) zero h = let e : k ≡ k + 0 = omega arith in ap some e
-the_nth k (true ∷ l) (suc n) h = let e : suc k + nth_place l n ≡ k + suc (nth_place l n) = omega arith in the_nth (suc k) l n (omega arith) ∙ ap some e
-the_nth k (false ∷ l) n h = let e : suc k + nth_place l n ≡ k + suc (nth_place l n) = omega arith in the_nth (suc k) l n (omega arith) ∙ ap some e
+the_nth k (true ∷ l) zero h = let e : k ≡ k + 0 = omega arith in ap Some e
+the_nth k (true ∷ l) (suc n) h = let e : suc k + nth_place l n ≡ k + suc (nth_place l n) = omega arith in the_nth (suc k) l n (omega arith) ∙ ap Some e
+the_nth k (false ∷ l) n h = let e : suc k + nth_place l n ≡ k + suc (nth_place l n) = omega arith in the_nth (suc k) l n (omega arith) ∙ ap Some e
 
 -- ---- the searches
 
 -- the n-th set flag from a place on is element n of the positions of ones there; none where there are fewer
-pub forward-nth : (l : List Bool) (n from : ℕ) → nth_from l n from ≡ get_elem? (ones_left l from) n
+pub forward-nth : (l : List Bool) (n from : ℕ) → nth_from l n from ≡ slice_get (ones_left l from) n
 unfolding nth_from ones_left
 forward-nth l n from = ⊎_elim
     (λ (h : n < count (drop from l)). rw (lt-ltb n (count (drop from l)) h) (sym (the_nth from (drop from l) n h)))
@@ -77,12 +77,12 @@ forward-nth l n from = ⊎_elim
 
 -- so it is the n-th item of the cursor at that place
 pub forward-item : (bytes : List ℕ) (c : TrueIdxIter) → first_failed (true_checks c (length bytes)) ≡ 0 → (n k : ℕ) → c.length - c.place < k
-    → nth_from (true_flags c bytes) n c.place ≡ get_elem? (listing (λ (d : TrueIdxIter). next_true d bytes) k c) n
+    → nth_from (true_flags c bytes) n c.place ≡ slice_get (listing (λ (d : TrueIdxIter). next_true d bytes) k c) n
 forward-item bytes c ok n k h =
-    forward-nth (true_flags c bytes) n c.place ∙ ap (λ (t : List ℕ). get_elem? t n) (sym (lists-ones bytes c ok k h))
+    forward-nth (true_flags c bytes) n c.place ∙ ap (λ (t : List ℕ). slice_get t n) (sym (lists-ones bytes c ok k h))
 
 -- the n-th counted down from below an end is element n, from the last on, of the positions of ones below it
-pub backward-nth : (l : List Bool) (n end : ℕ) → nth_back l n end ≡ get_elem? (reverse (ones_from 0 (take end l))) n
+pub backward-nth : (l : List Bool) (n end : ℕ) → nth_back l n end ≡ slice_get (reverse (ones_from 0 (take end l))) n
 unfolding nth_back
 backward-nth l n end =
     let m : List Bool = take end l in
@@ -92,6 +92,6 @@ backward-nth l n end =
     let few : count m - 1 - n < count m = omega arith in
     let e : 0 + nth_place m (count m - 1 - n) ≡ nth_place m (count m - 1 - n) = omega arith in
     rw (lt-ltb n (count m) h)
-    (sym (from_last ps n (omega arith) ∙ ap (λ (x : ℕ). get_elem? ps (x - 1 - n)) long ∙ the_nth 0 m (count m - 1 - n) few ∙ ap some e)))
+    (sym (from_last ps n (omega arith) ∙ ap (λ (x : ℕ). slice_get ps (x - 1 - n)) long ∙ the_nth 0 m (count m - 1 - n) few ∙ ap Some e)))
     (λ (h : count m ≤ n). backward-none l n end h ∙ sym (past-list (reverse ps) n (omega (arith, length-reverse ps))))
     (lt-or-le n (count m))

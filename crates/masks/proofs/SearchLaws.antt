@@ -1,9 +1,9 @@
 -- Searches for the n-th set flag by windows of d flags: found in a window, passed over, at the end. Assumes nothing.
+use Rattle.std.specs.Prelude.{Some, None, Ok, Err}
 use mathlib.Core.Path.{◌≡◌, sym, ap, ap₂, ◌∙◌, subst}
 use mathlib.Core.Bool.{Bool, cond}
 use mathlib.Core.List.{List, [], ◌++◌}
 use mathlib.Core.Logic.{⊎_elim}
-use mathlib.Core.Option.{none, some}
 use Prim.Native.Nat.{ℕ, ◌+◌, ◌-◌, ◌≤◌, ◌<◌, min}
 use native.Mathlib.Nat.{add-zero}
 use native.Mathlib.Omega.{arith}
@@ -13,7 +13,7 @@ use lib.Seq.{take_all, take-take, length-take-le}
 use borrow.Author.Tests.{lt-ltb, le-ltb}
 use Rattle.words.specs.Flags.{bits, count, flags_of, window}
 use Rattle.words.specs.Loops.{stretch}
-use Rattle.words.specs.Nth.{at_place, nth_one, nth_place, only_ones}
+use Rattle.words.specs.Nth.{nth_one, nth_place}
 use Rattle.words.proofs.Bits.{length-bits}
 use Rattle.words.proofs.Counting.{count-append, count-le, count-padded}
 use Rattle.words.proofs.NthLaws.{nth-low, nth-high, nth-lt}
@@ -59,9 +59,9 @@ module _ (l : List Bool) (at d : ℕ) where
       place-whole n (omega (arith, count-on)) ∙ nth-high (window l at d) (window (drop (at + d) l) 0 (length l)) n h
       ∙ ap₂ (λ (x y : ℕ). x + y) (length-window l at d) (place-padded (drop (at + d) l) (length l) (n - count (window l at d)) (omega (arith, length-drop (at + d) l)) k)
 
-  pub from_found : (n : ℕ) → n < count (window l at d) → some (at + nth_place (window l at d) n) ≡ nth_from l n at
+  pub from_found : (n : ℕ) → n < count (window l at d) → Some (at + nth_place (window l at d) n) ≡ nth_from l n at
   unfolding nth_from
-  from_found n h = rw (lt-ltb n (count (drop at l)) (omega (arith, count-on))) (ap (λ (x : ℕ). some (at + x)) (sym (place_in n h)))
+  from_found n h = rw (lt-ltb n (count (drop at l)) (omega (arith, count-on))) (ap (λ (x : ℕ). Some (at + x)) (sym (place_in n h)))
 
   pub from_on : (n : ℕ) → count (window l at d) ≤ n → nth_from l n at ≡ nth_from l (n - count (window l at d)) (at + d)
   unfolding nth_from
@@ -69,12 +69,12 @@ module _ (l : List Bool) (at d : ℕ) where
       (λ (k : n - count (window l at d) < count (drop (at + d) l)).
       let e : at + (d + nth_place (drop (at + d) l) (n - count (window l at d))) ≡ at + d + nth_place (drop (at + d) l) (n - count (window l at d)) = omega arith in
       rw (lt-ltb n (count (drop at l)) (omega (arith, count-on)), lt-ltb (n - count (window l at d)) (count (drop (at + d) l)) k)
-      (ap some (ap (λ (x : ℕ). at + x) (place_behind n h k) ∙ e)))
+      (ap Some (ap (λ (x : ℕ). at + x) (place_behind n h k) ∙ e)))
       (λ (k : count (drop (at + d) l) ≤ n - count (window l at d)).
       rw (le-ltb n (count (drop at l)) (omega (arith, count-on)), le-ltb (n - count (window l at d)) (count (drop (at + d) l)) k))
       (lt-or-le (n - count (window l at d)) (count (drop (at + d) l)))
 
-pub from_end : (l : List Bool) (n at : ℕ) → length l ≤ at → none ≡ nth_from l n at
+pub from_end : (l : List Bool) (n at : ℕ) → length l ≤ at → None ≡ nth_from l n at
 unfolding nth_from
 from_end l n at h = rw (le-ltb n (count (drop at l)) (omega (arith, ap count (drop_of_length-le l h), count-empty)))
 
@@ -98,14 +98,14 @@ module _ (l : List Bool) (s e d : ℕ) (low : s ≤ e) (inside : e ≤ length l)
   ones-before = ap count parts ∙ count-append (take s l) (drop s (take e l)) ∙ ap (λ (x : ℕ). count (take s l) + x) (sym ones-there)
 
   pub back_found : (n : ℕ) → n < count (window (take e l) s d)
-      → some (s + nth_place (window (take e l) s d) (count (window (take e l) s d) - 1 - n)) ≡ nth_back l n e
+      → Some (s + nth_place (window (take e l) s d) (count (window (take e l) s d) - 1 - n)) ≡ nth_back l n e
   unfolding nth_back
   back_found n h =
       let c : count (take e l) ≡ count (take s l) + count (window (take e l) s d) = ones-before in
       let k : count (take s l) ≤ count (take e l) - 1 - n = omega arith in
       let i : count (take e l) - 1 - n - count (take s l) ≡ count (window (take e l) s d) - 1 - n = omega arith in
       rw (lt-ltb n (count (take e l)) (omega arith))
-      (sym (ap some (ap (λ (t : List Bool). nth_place t (count (take e l) - 1 - n)) parts
+      (sym (ap Some (ap (λ (t : List Bool). nth_place t (count (take e l) - 1 - n)) parts
       ∙ nth-high (take s l) (drop s (take e l)) (count (take e l) - 1 - n) k
       ∙ ap₂ (λ (x y : ℕ). x + nth_place (drop s (take e l)) y) (length-take-le s l (omega arith)) i
       ∙ ap (λ (x : ℕ). s + x) (sym (ap (λ (t : List Bool). nth_place t (count (window (take e l) s d) - 1 - n)) the_window
@@ -119,13 +119,13 @@ module _ (l : List Bool) (s e d : ℕ) (low : s ≤ e) (inside : e ≤ length l)
       (λ (k : n < count (take e l)).
       let i : count (take e l) - 1 - n ≡ count (take s l) - 1 - (n - count (window (take e l) s d)) = omega arith in
       rw (lt-ltb n (count (take e l)) k, lt-ltb (n - count (window (take e l) s d)) (count (take s l)) (omega arith))
-      (ap some (ap (λ (t : List Bool). nth_place t (count (take e l) - 1 - n)) parts
+      (ap Some (ap (λ (t : List Bool). nth_place t (count (take e l) - 1 - n)) parts
       ∙ nth-low (take s l) (drop s (take e l)) (count (take e l) - 1 - n) (omega arith) ∙ ap (nth_place (take s l)) i)))
       (λ (k : count (take e l) ≤ n).
       rw (le-ltb n (count (take e l)) k, le-ltb (n - count (window (take e l) s d)) (count (take s l)) (omega arith)))
       (lt-or-le n (count (take e l)))
 
-pub back_end : (l : List Bool) (n : ℕ) → none ≡ nth_back l n 0
+pub back_end : (l : List Bool) (n : ℕ) → None ≡ nth_back l n 0
 unfolding nth_back
 back_end l n = rw (le-ltb n (count []) (omega (arith, count-empty)))
 
@@ -136,7 +136,7 @@ back-most l n end m e = ⊎_elim
     (λ (h : end < length l). let z : m ≡ end = omega arith in ap (nth_back l n) z)
     (λ (h : length l ≤ end).
     let z : take m l ≡ take end l = take_all m l (omega arith) ∙ sym (take_all end l h) in
-    ap (λ (t : List Bool). cond (ltb n (count t)) (some (nth_place t (count t - 1 - n))) none) z)
+    ap (λ (t : List Bool). cond (ltb n (count t)) (Some (nth_place t (count t - 1 - n))) None) z)
     (lt-or-le end (length l))
 
 -- ---- what a window says
@@ -150,18 +150,18 @@ pub record IsOnly (l : List Bool) (n k : ℕ) : Type 0 where
   pub few : count l ≤ n
   pub number : k ≡ count l
 
-pub seen-there : (l : List Bool) (n i : ℕ) → nth_one l n ≡ at_place i → IsThere l n i
+pub seen-there : (l : List Bool) (n i : ℕ) → nth_one l n ≡ Ok i → IsThere l n i
 seen-there l n i e = ⊎_elim
     (λ (h : n < count l).
-    let a : nth_one l n ≡ at_place (nth_place l n) = nth-found l n h in
+    let a : nth_one l n ≡ Ok (nth_place l n) = nth-found l n h in
     let p : i ≡ nth_place l n = cc in
     record { many = h; place = p; inside = omega (arith, nth-lt l n h) })
     (λ (h : count l ≤ n).
-    let a : nth_one l n ≡ only_ones (count l) = nth-missing l n h in
+    let a : nth_one l n ≡ Err (count l) = nth-missing l n h in
     let z : ◌≡◌ {A = ℕ} 0 1 = cc in absurd (omega arith))
     (lt-or-le n (count l))
 
-pub seen-only : (l : List Bool) (n k : ℕ) → nth_one l n ≡ only_ones k → IsOnly l n k
+pub seen-only : (l : List Bool) (n k : ℕ) → nth_one l n ≡ Err k → IsOnly l n k
 seen-only l n k e = let told : (k ≡ count l) × (count l ≤ n) = missing-nth l n k e in record { few = told.1; number = told.0 }
 
 -- no word of d flags has a set flag from number d on
@@ -176,9 +176,9 @@ ask_least d w n m p = ⊎_elim
 -- ---- the turns of the two loops, over the flags of a span
 
 -- the flags of a number are those of a window
-pub turn-there : (l m : List Bool) (n at i : ℕ) → m ≡ window l at 32 → IsThere m n i → some (at + i) ≡ nth_from l n at
+pub turn-there : (l m : List Bool) (n at i : ℕ) → m ≡ window l at 32 → IsThere m n i → Some (at + i) ≡ nth_from l n at
 turn-there l m n at i e h =
-    ap (λ (x : ℕ). some (at + x)) (h.place ∙ ap (λ (t : List Bool). nth_place t n) e)
+    ap (λ (x : ℕ). Some (at + x)) (h.place ∙ ap (λ (t : List Bool). nth_place t n) e)
     ∙ from_found l at 32 n (subst (λ (t : List Bool). n < count t) e h.many)
 
 pub turn-only : (l m : List Bool) (n at k : ℕ) → m ≡ window l at 32 → IsOnly m n k → nth_from l (n - k) (at + 32) ≡ nth_from l n at
@@ -186,11 +186,11 @@ turn-only l m n at k e h =
     ap (λ (x : ℕ). nth_from l (n - x) (at + 32)) (h.number ∙ ap count e)
     ∙ sym (from_on l at 32 n (subst (λ (t : List Bool). count t ≤ n) e h.few))
 
-pub turn_end : (l : List Bool) (start size n at : ℕ) → size ≤ at → none ≡ nth_from (window l start size) n at
+pub turn_end : (l : List Bool) (start size n at : ℕ) → size ≤ at → None ≡ nth_from (window l start size) n at
 turn_end l start size n at h = from_end (window l start size) n at (omega (arith, length-window l start size))
 
 -- the last window is passed over
-pub turn_last : (l m : List Bool) (start size n at k : ℕ) → m ≡ window (window l start size) at 32 → IsOnly m n k → size ≤ at + 32 → none ≡ nth_from (window l start size) n at
+pub turn_last : (l m : List Bool) (start size n at k : ℕ) → m ≡ window (window l start size) at 32 → IsOnly m n k → size ≤ at + 32 → None ≡ nth_from (window l start size) n at
 turn_last l m start size n at k e h z = turn_end l start size (n - k) (at + 32) z ∙ turn-only (window l start size) m n at k e h
 
 -- a window that has enough set flags has not too few
@@ -223,9 +223,9 @@ module _ (bytes : List ℕ) (start size s e w : ℕ) (at : Below size s e) (flag
   same : bits 32 w ≡ window (take e (stretch bytes start size)) s 32
   same = back-flags bytes start size e s w at.inside flags
 
-  pub turn-back : (n k i : ℕ) → k ≡ count (bits 32 w) → n < k → i ≡ nth_place (bits 32 w) (k - 1 - n) → some (s + i) ≡ nth_back (stretch bytes start size) n e
+  pub turn-back : (n k i : ℕ) → k ≡ count (bits 32 w) → n < k → i ≡ nth_place (bits 32 w) (k - 1 - n) → Some (s + i) ≡ nth_back (stretch bytes start size) n e
   turn-back n k i p h j =
-      ap (λ (x : ℕ). some (s + x)) (j ∙ ap₂ (λ (t : List Bool) (x : ℕ). nth_place t (x - 1 - n)) same (p ∙ ap count same))
+      ap (λ (x : ℕ). Some (s + x)) (j ∙ ap₂ (λ (t : List Bool) (x : ℕ). nth_place t (x - 1 - n)) same (p ∙ ap count same))
       ∙ back_found (stretch bytes start size) s e 32 at.low reach at.near n (subst (λ (x : ℕ). n < x) (p ∙ ap count same) h)
 
   pub turn-down : (n k : ℕ) → k ≡ count (bits 32 w) → k ≤ n → nth_back (stretch bytes start size) (n - k) s ≡ nth_back (stretch bytes start size) n e
@@ -233,7 +233,7 @@ module _ (bytes : List ℕ) (start size s e w : ℕ) (at : Below size s e) (flag
       ap (λ (x : ℕ). nth_back (stretch bytes start size) (n - x) s) (p ∙ ap count same)
       ∙ sym (back_on (stretch bytes start size) s e 32 at.low reach at.near n (subst (λ (x : ℕ). x ≤ n) (p ∙ ap count same) h))
 
-pub back_none : (l : List Bool) (n e : ℕ) → e ≤ 0 → none ≡ nth_back l n e
+pub back_none : (l : List Bool) (n e : ℕ) → e ≤ 0 → None ≡ nth_back l n e
 back_none l n e h = let z : 0 ≡ e = omega arith in back_end l n ∙ ap (nth_back l n) z
 
 pub place-below : (w n i : ℕ) → n < count (bits 32 w) → i ≡ nth_place (bits 32 w) n → i < 32

@@ -1,8 +1,8 @@
 -- The plain reading of the two searches: where they give a position, and where none. Assumes nothing.
+use Rattle.std.specs.Prelude.{Some, None}
 use mathlib.Core.Path.{◌≡◌, sym, ap, ◌∙◌}
 use mathlib.Core.Bool.{Bool, true, false}
 use mathlib.Core.List.{List}
-use mathlib.Core.Option.{none, some}
 use Prim.Native.Nat.{ℕ, suc, ◌+◌, ◌-◌, ◌≤◌, ◌<◌}
 use native.Mathlib.Omega.{arith}
 use lib.ListN.{length, take, drop, get_or, length-take, length-drop, take-append-drop}
@@ -24,7 +24,7 @@ pub record Forward (l : List Bool) (n from p : ℕ) : Type 0 where
   pub between : count (window l from (p - from)) ≡ n
 
 -- If more than n flags are set from `from` on, a position is given, and it is that of the n-th,
-pub forward-some : (l : List Bool) (n from : ℕ) → n < count (drop from l) → (p : ℕ) × ((nth_from l n from ≡ some p) × Forward l n from p)
+pub forward-some : (l : List Bool) (n from : ℕ) → n < count (drop from l) → (p : ℕ) × ((nth_from l n from ≡ Some p) × Forward l n from p)
 unfolding nth_from
 forward-some l n from h =
     let k : nth_place (drop from l) n < length (drop from l) = nth_inside (drop from l) n h in
@@ -44,7 +44,7 @@ forward-some l n from h =
     )
 
 -- and if at most n are, none is.
-pub forward-none : (l : List Bool) (n from : ℕ) → count (drop from l) ≤ n → nth_from l n from ≡ none
+pub forward-none : (l : List Bool) (n from : ℕ) → count (drop from l) ≤ n → nth_from l n from ≡ None
 unfolding nth_from
 forward-none l n from h = rw (le-ltb n (count (drop from l)) h)
 
@@ -58,7 +58,7 @@ pub record Backward (l : List Bool) (n end p : ℕ) : Type 0 where
   pub between : count (drop (suc p) (take end l)) ≡ n
 
 -- If more than n flags are set below `end`, a position is given, and it is that of the n-th counted down,
-pub backward-some : (l : List Bool) (n end : ℕ) → n < count (take end l) → (p : ℕ) × ((nth_back l n end ≡ some p) × Backward l n end p)
+pub backward-some : (l : List Bool) (n end : ℕ) → n < count (take end l) → (p : ℕ) × ((nth_back l n end ≡ Some p) × Backward l n end p)
 unfolding nth_back
 backward-some l n end h =
     let m : ℕ = count (take end l) - 1 - n in
@@ -85,6 +85,6 @@ backward-some l n end h =
     )
 
 -- and if at most n are, none is.
-pub backward-none : (l : List Bool) (n end : ℕ) → count (take end l) ≤ n → nth_back l n end ≡ none
+pub backward-none : (l : List Bool) (n end : ℕ) → count (take end l) ≤ n → nth_back l n end ≡ None
 unfolding nth_back
 backward-none l n end h = rw (le-ltb n (count (take end l)) h)

@@ -1,25 +1,25 @@
 -- The serial of every record that a call gives: `specs/SerialPlain.antt`. Assumes nothing.
+use Rattle.std.specs.Prelude.{Some, None}
 use mathlib.Core.Path.{◌≡◌, refl, sym, ap, ◌∙◌, subst}
 use mathlib.Core.Bool.{Bool, true, false, cond}
 use mathlib.Core.List.{List, [], ◌∷◌}
 use mathlib.Core.Logic.{inl, inr, ⊎_elim}
-use mathlib.Core.Option.{none, some}
 use Prim.Native.Nat.{ℕ, ◌≤◌, ◌<◌, max}
 use native.Mathlib.Omega.{arith}
 use lib.Dec.{eqb}
 use lib.ListN.{length}
 use Rattle.words.proofs.Windows.{lt-or-le}
+use Rattle.masks.specs.declared.bitmap.Recounted.{Recounted}
 use Rattle.masks.specs.Answer.{given, checked}
 use Rattle.masks.specs.Appends.{Append, append_answer, append_checks, append_flags}
 use Rattle.masks.specs.Builder.{appended, filling}
 use Rattle.masks.specs.Checks.{Check, first_failed, span_checks}
 use Rattle.masks.specs.Combine.{each_of, largest_serial, not_checks, pair_checks, pair_mask, pair_of, result_mask, select_checks}
 use Rattle.masks.specs.Freeze.{all_ones, freeze_checks, frozen_mask, validity_of}
-use Rattle.masks.specs.Mask.{Recounted, mask_checks, mask_of, new_zeroed_of, slice_checks, slice_of, sliced_mask, try_new_of, uncounted, unset_bits_of, with_count}
+use Rattle.masks.specs.Mask.{mask_checks, mask_of, new_zeroed_of, slice_checks, slice_of, sliced_mask, try_new_of, uncounted, unset_bits_of, with_count}
 use Rattle.masks.specs.Mask.{zero_count, zeroed_checks}
 use Rattle.masks.specs.SerialPlain.{Largest, SerialsPlainly}
 use Rattle.masks.specs.declared.bitmap.Bitmap.{Bitmap}
-use Rattle.masks.specs.declared.bitmap.Unset.TheVariants.{Known}
 use Rattle.masks.specs.declared.builder.BitmapBuilder.{BitmapBuilder}
 use Rattle.masks.proofs.AnswerLaws.{given-value}
 use Rattle.masks.proofs.CombineLaws.{one-serial}
@@ -34,7 +34,7 @@ unfolding appended
 append-serial a b buf c e =
     ap (λ (x : BitmapBuilder). x.serial) (given-value (first_failed (append_checks a b buf)) b c (appended (filling b buf) (append_flags a)).builder e)
 
-validity-serial : (b : BitmapBuilder) (t : Bool) (m : Bitmap) → some m ≡ cond t none (some (frozen_mask b)) → m.serial ≡ b.serial
+validity-serial : (b : BitmapBuilder) (t : Bool) (m : Bitmap) → Some m ≡ cond t None (Some (frozen_mask b)) → m.serial ≡ b.serial
 validity-serial b true m e = absurd (let z : ◌≡◌ {A = ℕ} 0 1 = cc in omega arith)
 validity-serial b false m e = ap (λ (x : Bitmap). x.serial) (let s : m ≡ frozen_mask b = cc in s)
 
@@ -43,7 +43,7 @@ validity-serial b false m e = ap (λ (x : Bitmap). x.serial) (let s : m ≡ froz
 counted-serial : (m : Bitmap) (bytes : List ℕ) (r : Recounted) → given r ≡ unset_bits_of m bytes → r.mask.serial ≡ m.serial
 unfolding unset_bits_of
 counted-serial m bytes r e =
-    let made : Recounted = record { mask = with_count m (Known (zero_count m bytes)); zeros = zero_count m bytes } in
+    let made : Recounted = record { mask = with_count m (Some (zero_count m bytes)); zeros = zero_count m bytes } in
     ap (λ (x : Recounted). x.mask.serial) (given-value (first_failed (mask_checks m bytes)) m r made e)
 
 -- ---- combinations
@@ -71,12 +71,12 @@ unfolding try_new_of new_zeroed_of slice_of pair_of pair_mask each_of
 serials_plainly = record {
   new-builder = refl;
   new = refl;
-  new_zeroed = λ n out m e. its_serial (zeroed_checks n (length out)) tt m (mask_of 0 n (Known n)) e;
+  new_zeroed = λ n out m e. its_serial (zeroed_checks n (length out)) tt m (mask_of 0 n (Some n)) e;
   try-new = λ bytes start n m e. its_serial (span_checks start n (length bytes)) tt m (mask_of start n (uncounted n)) e;
   append = append-serial;
   freeze = λ b buf m e. its_serial (freeze_checks b (length buf)) b m (frozen_mask b) e;
   into-opt-validity = λ b buf m e.
-      validity-serial b (eqb (all_ones b) b.length) m (given-value (first_failed (freeze_checks b (length buf))) b (some m) (validity_of b) e);
+      validity-serial b (eqb (all_ones b) b.length) m (given-value (first_failed (freeze_checks b (length buf))) b (Some m) (validity_of b) e);
   slice = λ m bytes offset n s e. its_serial (slice_checks m bytes offset n) m s (sliced_mask m bytes offset n) e;
   unset_bits = counted-serial;
   pair = λ op a a_bytes b b_bytes out c e.

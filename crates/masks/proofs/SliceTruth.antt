@@ -1,5 +1,7 @@
 -- A slice of a mask with a true count has a true count, and check 7 never fails, whatever the input; a slice of the whole changes
 -- nothing; the count of a combination is true of the flags it writes. Assumes nothing.
+use Rattle.masks.specs.declared.refusal.Refusal.TheVariants.{WrongRecount}
+use Rattle.std.specs.Prelude.{Option, Some, None, Ok, Err}
 use mathlib.Core.Path.{◌≡◌, refl, sym, ap, ap₂, ◌∙◌}
 use mathlib.Core.Bool.{Bool, true, false, not, cond, ◌&&◌}
 use mathlib.Core.List.{List, [], ◌∷◌, ◌++◌}
@@ -21,11 +23,6 @@ use Rattle.masks.specs.TrueCounts.{TrueCount, Truthful}
 use Rattle.masks.specs.Utils.{zeros}
 use Rattle.masks.specs.Workers.{cut_of}
 use Rattle.masks.specs.declared.bitmap.Bitmap.{Bitmap}
-use Rattle.masks.specs.declared.bitmap.Cut.{Cut}
-use Rattle.masks.specs.declared.bitmap.Unset.{Unset}
-use Rattle.masks.specs.declared.bitmap.Unset.TheVariants.{Known, Unknown}
-use Rattle.masks.specs.declared.shortcuts.Shortcut.{Shortcut}
-use Rattle.masks.specs.declared.shortcuts.Shortcut.TheVariants.{Each, All}
 use Rattle.masks.proofs.CheckLaws.{both_left, first-number, last_made, passed-before}
 use Rattle.masks.proofs.MaskLaws.{mask-allowed, mask-truthful, piece-allowed, piece-before, slice-right}
 use Rattle.masks.proofs.PartLaws.{zeros-most, zeros-none}
@@ -55,7 +52,7 @@ zeros-of-zeros n = omega (arith, count-not (copies n false), length-copies n fal
 pub none_true : (n : ℕ) (l : List Bool) → length l ≡ n → TrueCount (uncounted n) l
 none_true n l e = go (eqb n 0) refl
   where
-    go : (t : Bool) → eqb n 0 ≡ t → TrueCount (cond t (Known 0) Unknown) l
+    go : (t : Bool) → eqb n 0 ≡ t → TrueCount (cond t (Some 0) None) l
     go true p = let z : n ≡ 0 = eqb-true n 0 p in let r : 0 ≡ zeros l = omega (arith, zeros-most l n (zeros l) e refl) in r
     go false p = tt
 
@@ -90,22 +87,22 @@ module _ (l : List Bool) (start old offset n : ℕ) (h : offset + n ≤ old) whe
   unfolding kept_count
   kept-true z e = go (eqb z 0) (eqb z old) refl refl
     where
-      go : (a b : Bool) → eqb z 0 ≡ a → eqb z old ≡ b → TrueCount (cond a (Known 0) (cond b (Known n) Unknown)) (window l (start + offset) n)
+      go : (a b : Bool) → eqb z 0 ≡ a → eqb z old ≡ b → TrueCount (cond a (Some 0) (cond b (Some n) None)) (window l (start + offset) n)
       go true b p q = let z0 : z ≡ 0 = eqb-true z 0 p in let r : 0 ≡ middle = omega (arith, in_three) in r
       go false true p q = let zo : z ≡ old = eqb-true z old q in let r : n ≡ middle = omega (arith, in_three, first-most, middle-most, last-most) in r
       go false false p q = tt
 
-  sliced-true : (u : Unset) → TrueCount u (window l start old) → TrueCount (sliced_count old n (first + last) u) (window l (start + offset) n)
-  sliced-true Unknown e = tt
-  sliced-true (Known z) e = go (recounts old n z)
+  sliced-true : (u : Option ℕ) → TrueCount u (window l start old) → TrueCount (sliced_count old n (first + last) u) (window l (start + offset) n)
+  sliced-true None e = tt
+  sliced-true (Some z) e = go (recounts old n z)
     where
-      go : (t : Bool) → TrueCount (cond t (Known (z - (first + last))) (kept_count z old n)) (window l (start + offset) n)
+      go : (t : Bool) → TrueCount (cond t (Some (z - (first + last))) (kept_count z old n)) (window l (start + offset) n)
       go true = let r : z - (first + last) ≡ middle = omega (arith, in_three) in r
       go false = kept-true z e
 
-  never_wrong : (u : Unset) → TrueCount u (window l start old) → recount_valid old n (first + last) u ≡ true
-  never_wrong Unknown e = refl
-  never_wrong (Known z) e = go (recounts old n z)
+  never_wrong : (u : Option ℕ) → TrueCount u (window l start old) → recount_valid old n (first + last) u ≡ true
+  never_wrong None e = refl
+  never_wrong (Some z) e = go (recounts old n z)
     where
       go : (t : Bool) → cond t (leb (first + last) z && leb (z - (first + last)) n) true ≡ true
       go true =
@@ -158,11 +155,11 @@ slice-accepted m bytes offset n = ap (λ (k : ℕ). decided k m (sliced_mask m b
 
 -- ---- the whole
 
-whole-count : (old : ℕ) (u : Unset) (l : List Bool) → length l ≡ old → TrueCount u l
+whole-count : (old : ℕ) (u : Option ℕ) (l : List Bool) → length l ≡ old → TrueCount u l
     → (sliced_count old old 0 u ≡ u) × (recount_valid old old 0 u ≡ true)
 unfolding recounts kept_count
-whole-count old Unknown l e t = (refl, refl)
-whole-count old (Known z) l e t = go (eqb z 0) (eqb z old) refl refl
+whole-count old None l e t = (refl, refl)
+whole-count old (Some z) l e t = go (eqb z 0) (eqb z old) refl refl
   where
     fits : z ≤ old
     fits = zeros-most l old z e t
@@ -174,10 +171,10 @@ whole-count old (Known z) l e t = go (eqb z 0) (eqb z old) refl refl
     less = omega arith
 
     go : (a b : Bool) → eqb z 0 ≡ a → eqb z old ≡ b
-        → (cond (not a && (not b && leb old (old + max (old / 5) 32))) (Known (z - 0)) (cond a (Known 0) (cond b (Known old) Unknown)) ≡ Known z)
+        → (cond (not a && (not b && leb old (old + max (old / 5) 32))) (Some (z - 0)) (cond a (Some 0) (cond b (Some old) None)) ≡ Some z)
         × (cond (not a && (not b && leb old (old + max (old / 5) 32))) (leb 0 z && leb (z - 0) old) true ≡ true)
-    go true b p q = (ap Known (sym (eqb-true z 0 p)), refl)
-    go false true p q = (ap Known (sym (eqb-true z old q)), refl)
+    go true b p q = (ap Some (sym (eqb-true z 0 p)), refl)
+    go false true p q = (ap Some (sym (eqb-true z old q)), refl)
     go false false p q = rw (far, less) (refl, ap₂ ◌&&◌ (le-leb 0 z (omega arith)) (le-leb z old fits))
 
 none-cut : (m : Bitmap) (bytes : List ℕ) → cut_zeros m bytes 0 m.length ≡ 0
@@ -201,12 +198,12 @@ slice-whole m bytes e =
     let known = whole-count m.length m.unset (mask_flags m bytes) long (mask-truthful m bytes e) in
     let s : m.start + 0 ≡ m.start = omega arith in
     sym (slice-right m bytes 0 m.length 0 (whole-allowed m bytes e) m.unset refl
-    (sym (ap (λ (x : ℕ). cut_of m.length m.length x m.unset) none ∙ ap₂ (λ (b : Bool) (u : Unset). cond b (Cut.Count u) Cut.Wrong) known.1 known.0)))
+    (sym (ap (λ (x : ℕ). cut_of m.length m.length x m.unset) none ∙ ap₂ (λ (b : Bool) (u : Option ℕ). cond b (Ok u) (Err WrongRecount)) known.1 known.0)))
     ∙ ap (λ (x : ℕ). given (mask_under m.serial x m.length m.unset)) s
 
 -- ---- a combination's count
 
-pub result-true : (s : Shortcut) (n : ℕ) (flags : List Bool) → length flags ≡ n → TrueCount (result_count s n) (result_flags s n flags)
-result-true (All false) n flags e = sym (zeros-of-zeros n)
-result-true (All true) n flags e = none_true n (copies n true) (length-copies n true)
-result-true Each n flags e = none_true n flags e
+pub result-true : (s : Option Bool) (n : ℕ) (flags : List Bool) → length flags ≡ n → TrueCount (result_count s n) (result_flags s n flags)
+result-true (Some false) n flags e = sym (zeros-of-zeros n)
+result-true (Some true) n flags e = none_true n (copies n true) (length-copies n true)
+result-true None n flags e = none_true n flags e

@@ -1,8 +1,8 @@
 -- The first one at or after a place, by the zeros before it, and what a cursor over ones gives. Assumes nothing.
+use Rattle.std.specs.Prelude.{Some, None}
 use mathlib.Core.Path.{◌≡◌, refl, sym, ap, ◌∙◌}
 use mathlib.Core.Bool.{Bool, true, false, cond}
 use mathlib.Core.List.{List, [], ◌∷◌, ◌++◌}
-use mathlib.Core.Option.{none, some}
 use Prim.Native.Nat.{ℕ, zero, suc, ◌+◌, ◌≤◌, ◌<◌}
 use native.Mathlib.Omega.{arith}
 use lib.Dec.{leb}
@@ -43,13 +43,13 @@ first-none [] h = refl
 first-none (true ∷ l) h = absurd (omega arith)
 first-none (false ∷ l) h = omega (arith, first-none l (omega arith))
 
-pub first-from : (l : List Bool) (at r : ℕ) → r ≡ leading_from false l at → at + r < length l → some (at + r) ≡ nth_from l 0 at
+pub first-from : (l : List Bool) (at r : ℕ) → r ≡ leading_from false l at → at + r < length l → Some (at + r) ≡ nth_from l 0 at
 unfolding leading_from nth_from
 first-from l at r e h =
     let k : leading false (drop at l) < length (drop at l) = omega (arith, length-drop at l) in
-    rw (lt-ltb 0 (count (drop at l)) (first-there (drop at l) k)) (ap (λ (x : ℕ). some (at + x)) (e ∙ sym (first-place (drop at l) k)))
+    rw (lt-ltb 0 (count (drop at l)) (first-there (drop at l) k)) (ap (λ (x : ℕ). Some (at + x)) (e ∙ sym (first-place (drop at l) k)))
 
-pub none_from_lem : (l : List Bool) (at r : ℕ) → r ≡ leading_from false l at → length l ≤ at + r → none ≡ nth_from l 0 at
+pub none_from_lem : (l : List Bool) (at r : ℕ) → r ≡ leading_from false l at → length l ≤ at + r → None ≡ nth_from l 0 at
 unfolding leading_from nth_from
 none_from_lem l at r e h = rw (le-ltb 0 (count (drop at l)) (omega (arith, first-none (drop at l) (omega (arith, length-drop at l)))))
 
@@ -93,6 +93,12 @@ three-passed a b c e =
       check-allowed 0 a (both_left (check 1 a ∷ []) (check 1 b ∷ check 6 c ∷ []) e),
       (check-allowed 0 b (both_left (check 1 b ∷ []) (check 6 c ∷ []) rest), check-allowed 5 c (both_right (check 1 b ∷ []) (check 6 c ∷ []) rest)),
     )
+
+-- of a cursor over a mask
+pub masked-allowed : (c : TrueIdxIter) (size : ℕ) → c.masked ≡ true → first_failed (true_checks c size) ≡ 0
+    → CursorAllowed c.start c.length c.place size
+unfolding true_checks
+masked-allowed c size m e = cursor-allowed c.start c.length c.place size (rw m at e)
 
 pub true-allowed : (c : TrueIdxIter) (size : ℕ) → first_failed (true_checks c size) ≡ 0 → TrueAllowed c
 unfolding true_checks

@@ -1,19 +1,20 @@
 -- The plain reading of a cursor over ones: its calls list all positions of ones, rising; with no mask every position. Assumes nothing.
+use Rattle.std.specs.Prelude.{Option, Some, None, slice_get}
 use mathlib.Core.Path.{◌≡◌, refl, sym, ap, ◌∙◌, subst}
 use mathlib.Core.Bool.{Bool, true, false, cond}
 use mathlib.Core.List.{List, [], ◌∷◌, ◌++◌}
 use mathlib.Core.Logic.{⊎_elim}
-use mathlib.Core.Option.{Option, none, some}
 use Prim.Native.Nat.{ℕ, zero, suc, ◌+◌, ◌-◌, ◌≤◌, ◌<◌}
 use native.Mathlib.Omega.{arith}
 use lib.Dec.{eqb, leb}
-use lib.ListN.{length, drop, get_or, get_elem?, length-drop, get_or-eq_default}
+use lib.ListN.{length, drop, get_or, length-drop, get_or-eq_default}
 use lib.Seq.{drop-cons, drop-drop}
 use borrow.Author.Tests.{eqb-true, lt-ltb}
 use Rattle.words.specs.Flags.{copies, count}
 use Rattle.words.specs.Nth.{nth_place}
 use Rattle.words.proofs.Plain.{nth_inside}
 use Rattle.words.proofs.Windows.{lt-or-le}
+use Rattle.masks.specs.declared.bitmap.Bitmap.{Bitmap}
 use Rattle.masks.specs.Answer.{Answer, given}
 use Rattle.masks.specs.Checks.{Check, check, earlier, first_failed, span_checks, within_limit}
 use Rattle.masks.specs.Cursor.{Step, item, ended, cursor_checks}
@@ -22,8 +23,6 @@ use Rattle.masks.specs.Mask.{count_valid, mask_checks}
 use Rattle.masks.specs.Positions.{left_of}
 use Rattle.masks.specs.Search.{nth_from}
 use Rattle.masks.specs.TrueIdx.{new_true_checks, first_true, true_moved, true_flags, true_checks, true_step, next_true, ones_from, ones_left}
-use Rattle.masks.specs.declared.bitmap.Optional.{Optional}
-use Rattle.masks.specs.declared.bitmap.Optional.TheVariants.{Present, Absent}
 use Rattle.masks.specs.declared.true_idx.TrueIdxIter.{TrueIdxIter}
 use Rattle.masks.proofs.CheckLaws.{both_left, both_right, check-allowed, is-given, passed-before}
 use Rattle.masks.proofs.Listing.{Moves, gives, ends, lists, place-accepted, place-again}
@@ -116,7 +115,7 @@ none-set k (false ∷ m) h = none-set (suc k) m (omega arith)
 abbrev first : List Bool → ℕ → ℕ
 first l place = place + nth_place (drop place l) 0
 
-found : (l : List Bool) (place : ℕ) → 0 < count (drop place l) → nth_from l 0 place ≡ some (first l place)
+found : (l : List Bool) (place : ℕ) → 0 < count (drop place l) → nth_from l 0 place ≡ Some (first l place)
 unfolding nth_from
 found l place h = rw (lt-ltb 0 (count (drop place l)) h)
 
@@ -175,11 +174,11 @@ module _ (bytes : List ℕ) (c : TrueIdxIter) (ok : IsAccepted bytes c) where
   unfolding next_true
   stepped = sym (is-given 0 (first_failed (true_checks c (length bytes))) c (true_step c (nth_from (true_flags c bytes) 0 c.place)) (sym ok) refl)
 
-  to_item : (p : ℕ) → nth_from (true_flags c bytes) 0 c.place ≡ some p → next_true c bytes ≡ given (item p (true_moved c (p + 1)))
+  to_item : (p : ℕ) → nth_from (true_flags c bytes) 0 c.place ≡ Some p → next_true c bytes ≡ given (item p (true_moved c (p + 1)))
   unfolding true_step
   to_item p e = stepped ∙ ap (λ (o : Option ℕ). given (true_step c o)) e
 
-  to_end : nth_from (true_flags c bytes) 0 c.place ≡ none → next_true c bytes ≡ given (ended (true_moved c c.length))
+  to_end : nth_from (true_flags c bytes) 0 c.place ≡ None → next_true c bytes ≡ given (ended (true_moved c c.length))
   unfolding true_step
   to_end e = stepped ∙ ap (λ (o : Option ℕ). given (true_step c o)) e
 
@@ -216,9 +215,9 @@ unfolding first_failed earlier
 zero-limit = refl
 
 -- What `new` accepts `next` accepts.
-accepted-new : (n : ℕ) (mask : Optional) (bytes : List ℕ) → first_failed (new_true_checks n mask bytes) ≡ 0 → IsAccepted bytes (first_true n mask)
+accepted-new : (n : ℕ) (mask : Option Bitmap) (bytes : List ℕ) → first_failed (new_true_checks n mask bytes) ≡ 0 → IsAccepted bytes (first_true n mask)
 unfolding new_true_checks first_true true_checks cursor_checks mask_checks
-accepted-new n (Present m) bytes e =
+accepted-new n (Some m) bytes e =
     let five : List Check = check 5 (eqb n m.length) ∷ [] in
     let rest : first_failed (mask_checks m bytes ++ five) ≡ 0 = both_right (within_limit n ∷ []) (mask_checks m bytes ++ five) e in
     let same : n ≡ m.length = eqb-true n m.length (check-allowed 4 (eqb n m.length) (both_right (mask_checks m bytes) five rest)) in
@@ -226,19 +225,19 @@ accepted-new n (Present m) bytes e =
     both_left (span_checks m.start m.length (length bytes)) (check 3 (count_valid m bytes) ∷ []) (both_left (mask_checks m bytes) five rest) in
     place-accepted (span_checks m.start n (length bytes)) 0 n
     (ap (λ (k : ℕ). first_failed (span_checks m.start k (length bytes))) same ∙ span) (omega arith)
-accepted-new n Absent bytes e =
+accepted-new n None bytes e =
     place-accepted (within_limit 0 ∷ within_limit n ∷ []) 0 n
     (sym (passed-before (within_limit 0 ∷ []) (within_limit n ∷ []) 0 0 zero-limit refl (sym e))) (omega arith)
 
 -- So a new cursor lists all positions of ones.
-pub new-lists-ones : (n : ℕ) (mask : Optional) (bytes : List ℕ) → first_failed (new_true_checks n mask bytes) ≡ 0
+pub new-lists-ones : (n : ℕ) (mask : Option Bitmap) (bytes : List ℕ) → first_failed (new_true_checks n mask bytes) ≡ 0
     → listing (λ (d : TrueIdxIter). next_true d bytes) (suc n) (first_true n mask) ≡ ones_from 0 (true_flags (first_true n mask) bytes)
 unfolding first_true
-new-lists-ones n (Present m) bytes e =
-    lists-ones bytes (first_true n (Present m)) (accepted-new n (Present m) bytes e) (suc n) (omega arith)
-    ∙ from_first (true_flags (first_true n (Present m)) bytes)
-new-lists-ones n Absent bytes e =
-    lists-ones bytes (first_true n Absent) (accepted-new n Absent bytes e) (suc n) (omega arith) ∙ from_first (true_flags (first_true n Absent) bytes)
+new-lists-ones n (Some m) bytes e =
+    lists-ones bytes (first_true n (Some m)) (accepted-new n (Some m) bytes e) (suc n) (omega arith)
+    ∙ from_first (true_flags (first_true n (Some m)) bytes)
+new-lists-ones n None bytes e =
+    lists-ones bytes (first_true n None) (accepted-new n None bytes e) (suc n) (omega arith) ∙ from_first (true_flags (first_true n None) bytes)
 
 -- ---- with no mask
 
@@ -247,8 +246,8 @@ unfolding true_flags
 unmasked c bytes e = rw e
 
 -- every position from k on, as many as there are flags
-pub each-position : (k n i : ℕ) → i < n → get_elem? (ones_from k (copies n true)) i ≡ some (k + i)
+pub each-position : (k n i : ℕ) → i < n → slice_get (ones_from k (copies n true)) i ≡ Some (k + i)
 unfolding ones_from copies
 each-position k zero i h = absurd (omega arith)
-each-position k (suc n) zero h = let e : k ≡ k + 0 = omega arith in ap some e
-each-position k (suc n) (suc i) h = let e : suc k + i ≡ k + suc i = omega arith in each-position (suc k) n i (omega arith) ∙ ap some e
+each-position k (suc n) zero h = let e : k ≡ k + 0 = omega arith in ap Some e
+each-position k (suc n) (suc i) h = let e : suc k + i ≡ k + suc i = omega arith in each-position (suc k) n i (omega arith) ∙ ap Some e

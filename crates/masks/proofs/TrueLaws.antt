@@ -1,4 +1,5 @@
 -- Where the counts are true a shortcut is never seen: the flags written are the operation on the arguments' flags. Assumes nothing.
+use Rattle.std.specs.Prelude.{Option, Some, None}
 use mathlib.Core.Path.{◌≡◌, refl, sym, ap, ap₂, ◌∙◌}
 use mathlib.Core.Bool.{Bool, true, false, cond, ◌&&◌, ◌||◌, xor}
 use mathlib.Core.List.{List, [], ◌∷◌}
@@ -17,9 +18,6 @@ use Rattle.masks.specs.Mask.{count_or, mask_flags, zero_count}
 use Rattle.masks.specs.TrueCounts.{TrueCount, Truthful}
 use Rattle.masks.specs.Utils.{zeros}
 use Rattle.masks.specs.declared.bitmap.Bitmap.{Bitmap}
-use Rattle.masks.specs.declared.bitmap.Unset.{Unset}
-use Rattle.masks.specs.declared.bitmap.Unset.TheVariants.{Known, Unknown}
-use Rattle.masks.specs.declared.shortcuts.Shortcut.TheVariants.{Each, All}
 
 -- ---- lists that are constant by their count
 
@@ -78,7 +76,7 @@ zip_constants f x y (suc n) = ap (λ (t : List Bool). f x y y ∷ t) (zip_consta
 -- ---- one law over the operation
 
 module _ (l m : List Bool) (n : ℕ) (el : length l ≡ n) (em : length m ≡ n) where
-  and-seen : (a b : Bool) → eqb (zeros l) n ≡ a → eqb (zeros m) n ≡ b → result_flags (cond (a || b) (All false) Each) n (zip3 (op_of And) l m m) ≡ zip3 (op_of And) l m m
+  and-seen : (a b : Bool) → eqb (zeros l) n ≡ a → eqb (zeros m) n ≡ b → result_flags (cond (a || b) (Some false) None) n (zip3 (op_of And) l m m) ≡ zip3 (op_of And) l m m
   and-seen true b p q =
       sym (ap (λ (t : List Bool). zip3 (op_of And) t m m) (all-zero l n el (eqb-true (zeros l) n p))
       ∙ zip-first-constant (op_of And) false false (λ y z. refl) n m em)
@@ -87,7 +85,7 @@ module _ (l m : List Bool) (n : ℕ) (el : length l ≡ n) (em : length m ≡ n)
       ∙ zip-second-constant (op_of And) false false and-false n l el)
   and-seen false false p q = refl
 
-  or-seen : (a b : Bool) → eqb (zeros l) 0 ≡ a → eqb (zeros m) 0 ≡ b → result_flags (cond (a || b) (All true) Each) n (zip3 (op_of Or) l m m) ≡ zip3 (op_of Or) l m m
+  or-seen : (a b : Bool) → eqb (zeros l) 0 ≡ a → eqb (zeros m) 0 ≡ b → result_flags (cond (a || b) (Some true) None) n (zip3 (op_of Or) l m m) ≡ zip3 (op_of Or) l m m
   or-seen true b p q = sym (ap (λ (t : List Bool). zip3 (op_of Or) t m m) (all_one l n el (eqb-true (zeros l) 0 p)) ∙ zip-first-constant (op_of Or) true true (λ y z. refl) n m em)
   or-seen false true p q = sym (ap (λ (t : List Bool). zip3 (op_of Or) l t t) (all_one m n em (eqb-true (zeros m) 0 q)) ∙ zip-second-constant (op_of Or) true true or-true n l el)
   or-seen false false p q = refl
@@ -96,7 +94,7 @@ module _ (l m : List Bool) (n : ℕ) (el : length l ≡ n) (em : length m ≡ n)
   both_constant x y w p q e = ap (copies n) (sym e) ∙ sym (ap₂ (λ (s t : List Bool). zip3 (op_of Xor) s t t) p q ∙ zip_constants (op_of Xor) x y n)
 
   xor-seen : (a b c d : Bool) → eqb (zeros l) n ≡ a → eqb (zeros m) n ≡ b → eqb (zeros l) 0 ≡ c → eqb (zeros m) 0 ≡ d
-      → result_flags (cond ((a && b) || (c && d)) (All false) (cond ((c && b) || (a && d)) (All true) Each)) n (zip3 (op_of Xor) l m m) ≡ zip3 (op_of Xor) l m m
+      → result_flags (cond ((a && b) || (c && d)) (Some false) (cond ((c && b) || (a && d)) (Some true) None)) n (zip3 (op_of Xor) l m m) ≡ zip3 (op_of Xor) l m m
   unfolding xor
   xor-seen true true c d p q r s = both_constant false false false (all-zero l n el (eqb-true (zeros l) n p)) (all-zero m n em (eqb-true (zeros m) n q)) refl
   xor-seen true false true true p q r s = both_constant true true false (all_one l n el (eqb-true (zeros l) 0 r)) (all_one m n em (eqb-true (zeros m) 0 s)) refl
@@ -123,9 +121,9 @@ pub true-count : (m : Bitmap) (bytes : List ℕ) → Truthful m bytes → zero_c
 unfolding zero_count
 true-count m bytes t = go m.unset t
   where
-    go : (u : Unset) → TrueCount u (mask_flags m bytes) → count_or u (zeros (mask_flags m bytes)) ≡ zeros (mask_flags m bytes)
-    go (Known z) e = e
-    go Unknown e = refl
+    go : (u : Option ℕ) → TrueCount u (mask_flags m bytes) → count_or u (zeros (mask_flags m bytes)) ≡ zeros (mask_flags m bytes)
+    go (Some z) e = e
+    go None e = refl
 
 -- with true counts the flags written are the operation on the arguments' flags
 pub flags-by_operation : (op : Op) (a : Bitmap) (a_bytes : List ℕ) (b : Bitmap) (b_bytes : List ℕ) → a.length ≡ b.length → Truthful a a_bytes → Truthful b b_bytes

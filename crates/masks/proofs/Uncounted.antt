@@ -1,5 +1,6 @@
 -- The theorem on counts, proved: the list of checks of a mask whose checks pass is that of the same mask uncounted, and so is the
 -- number of zeros that it brings; a call sees nothing else of a count. Assumes nothing.
+use Rattle.std.specs.Prelude.{Option, Some, None}
 use Prim.Native.Nat.{ℕ, zero, suc, ◌+◌}
 use mathlib.Core.Path.{◌≡◌, refl, sym, ap, ap₂, ◌∙◌}
 use mathlib.Core.Bool.{Bool, true, false, cond, ◌&&◌}
@@ -9,6 +10,7 @@ use lib.ListN.{length}
 use Rattle.words.specs.Counts.{same_flags}
 use Rattle.words.specs.Flags.{count, over, window}
 use Rattle.words.specs.declared.ops.Op.{Op}
+use Rattle.masks.specs.declared.bitmap.Recounted.{Recounted}
 use Rattle.masks.specs.Answer.{given, checked, decided, kept}
 use Rattle.masks.specs.Appends.{grow_checks, inner_checks, subslice_checks}
 use Rattle.masks.specs.AtIndex.{and_not_at_checks, and_not_at_of, and_not_flag, flag_or, index_checks, index_inside, length_checks}
@@ -21,14 +23,11 @@ use Rattle.masks.specs.Combine.{select_constant_flags, select_constant_of, selec
 use Rattle.masks.specs.Compare.{common_checks, common_of, edges, edges_of, eq_of}
 use Rattle.masks.specs.CountsUnseen.{CountsUnseen, UnseenBoth, but_count, forgot, forgot_part, part_but_count}
 use Rattle.masks.specs.Frozen.{frozen}
-use Rattle.masks.specs.Mask.{Recounted, mask_checks, mask_flags, piece_checks, sliced_mask, slice_of, unset_bits_of, with_count, zero_count}
+use Rattle.masks.specs.Mask.{mask_checks, mask_flags, piece_checks, sliced_mask, slice_of, unset_bits_of, with_count, zero_count}
 use Rattle.masks.specs.SliceIterator.{new_slices, slices_at}
 use Rattle.masks.specs.Superseding.{agree, part_of, superseding_checks, superseding_of, winning}
 use Rattle.masks.specs.TrueIdx.{first_true, new_true, new_true_checks, true_at}
 use Rattle.masks.specs.declared.bitmap.Bitmap.{Bitmap}
-use Rattle.masks.specs.declared.bitmap.Optional.{Optional}
-use Rattle.masks.specs.declared.bitmap.Optional.TheVariants.{Present, Absent}
-use Rattle.masks.specs.declared.bitmap.Unset.TheVariants.{Known}
 use Rattle.masks.specs.declared.builder.BitmapBuilder.{BitmapBuilder}
 use Rattle.masks.specs.declared.superseding.Part.{Part}
 use Rattle.masks.proofs.CheckLaws.{is-given}
@@ -71,7 +70,7 @@ module _ (m : Bitmap) (bytes : List ℕ) (e : first_failed (mask_checks m bytes)
   counted : unset_bits_of m bytes ≡ unset_bits_of (forgot m) bytes
   unfolding unset_bits_of
   counted =
-      let known : ℕ → Recounted = λ (z : ℕ). record { mask = with_count m (Known z); zeros = z } in
+      let known : ℕ → Recounted = λ (z : ℕ). record { mask = with_count m (Some z); zeros = z } in
       sym (is-given 0 (first_failed (mask_checks m bytes)) m (known (zero_count m bytes)) (sym e) refl)
       ∙ ap (λ (z : ℕ). given (known z)) same_count
       ∙ is-given 0 (first_failed (mask_checks (forgot m) bytes)) (forgot m) (known (zero_count (forgot m) bytes))
@@ -101,7 +100,7 @@ module _ (m : Bitmap) (bytes : List ℕ) (e : first_failed (mask_checks m bytes)
   unfolding new_slices
   runs-new = ap (λ (cs : List Check). checked cs tt (slices_at m.start m.length 0)) same-checks
 
-  ones-new : (n : ℕ) → new_true n (Present m) bytes ≡ new_true n (Present (forgot m)) bytes
+  ones-new : (n : ℕ) → new_true n (Some m) bytes ≡ new_true n (Some (forgot m)) bytes
   unfolding new_true new_true_checks first_true
   ones-new n =
       ap (λ (cs : List Check). checked ((within_limit n ∷ []) ++ (cs ++ (check 5 (eqb n m.length) ∷ []))) tt
@@ -225,32 +224,32 @@ module _ (m : Bitmap) (bytes : List ℕ) (e : first_failed (mask_checks m bytes)
 
   -- ---- one index
 
-  index-alike : (i : ℕ) → index_checks (Present m) bytes i ≡ index_checks (Present (forgot m)) bytes i
+  index-alike : (i : ℕ) → index_checks (Some m) bytes i ≡ index_checks (Some (forgot m)) bytes i
   unfolding index_checks
   index-alike i = ap (λ (cs : List Check). cs ++ (index_inside i m ∷ [])) same-checks
 
-  pub at-checks-left : (second : Optional) (b_b : List ℕ) (i : ℕ)
-      → and_not_at_checks (Present m) bytes second b_b i ≡ and_not_at_checks (Present (forgot m)) bytes second b_b i
+  pub at-checks-left : (second : Option Bitmap) (b_b : List ℕ) (i : ℕ)
+      → and_not_at_checks (Some m) bytes second b_b i ≡ and_not_at_checks (Some (forgot m)) bytes second b_b i
   unfolding and_not_at_checks length_checks
   at-checks-left second b_b i =
-      ap (λ (cs : List Check). cs ++ (index_checks second b_b i ++ length_checks (Present m) second)) (index-alike i)
+      ap (λ (cs : List Check). cs ++ (index_checks second b_b i ++ length_checks (Some m) second)) (index-alike i)
 
-  pub at-checks-right : (first : Optional) (a_b : List ℕ) (i : ℕ)
-      → and_not_at_checks first a_b (Present m) bytes i ≡ and_not_at_checks first a_b (Present (forgot m)) bytes i
+  pub at-checks-right : (first : Option Bitmap) (a_b : List ℕ) (i : ℕ)
+      → and_not_at_checks first a_b (Some m) bytes i ≡ and_not_at_checks first a_b (Some (forgot m)) bytes i
   unfolding and_not_at_checks length_checks
-  at-checks-right (Present a) a_b i =
-      ap (λ (cs : List Check). index_checks (Present a) a_b i ++ (cs ++ length_checks (Present a) (Present m))) (index-alike i)
-  at-checks-right Absent a_b i = ap (λ (cs : List Check). index_checks Absent a_b i ++ (cs ++ length_checks Absent (Present m))) (index-alike i)
+  at-checks-right (Some a) a_b i =
+      ap (λ (cs : List Check). index_checks (Some a) a_b i ++ (cs ++ length_checks (Some a) (Some m))) (index-alike i)
+  at-checks-right None a_b i = ap (λ (cs : List Check). index_checks None a_b i ++ (cs ++ length_checks None (Some m))) (index-alike i)
 
-  at_left : (second : Optional) (b_b : List ℕ) (i : ℕ)
-      → and_not_at_of (Present m) bytes second b_b i ≡ and_not_at_of (Present (forgot m)) bytes second b_b i
+  at_left : (second : Option Bitmap) (b_b : List ℕ) (i : ℕ)
+      → and_not_at_of (Some m) bytes second b_b i ≡ and_not_at_of (Some (forgot m)) bytes second b_b i
   unfolding and_not_at_of and_not_flag flag_or
-  at_left second b_b i = ap (λ (cs : List Check). checked cs tt (and_not_flag (Present m) bytes second b_b i)) (at-checks-left second b_b i)
+  at_left second b_b i = ap (λ (cs : List Check). checked cs tt (and_not_flag (Some m) bytes second b_b i)) (at-checks-left second b_b i)
 
-  at_right : (first : Optional) (a_b : List ℕ) (i : ℕ)
-      → and_not_at_of first a_b (Present m) bytes i ≡ and_not_at_of first a_b (Present (forgot m)) bytes i
+  at_right : (first : Option Bitmap) (a_b : List ℕ) (i : ℕ)
+      → and_not_at_of first a_b (Some m) bytes i ≡ and_not_at_of first a_b (Some (forgot m)) bytes i
   unfolding and_not_at_of and_not_flag flag_or
-  at_right first a_b i = ap (λ (cs : List Check). checked cs tt (and_not_flag first a_b (Present m) bytes i)) (at-checks-right first a_b i)
+  at_right first a_b i = ap (λ (cs : List Check). checked cs tt (and_not_flag first a_b (Some m) bytes i)) (at-checks-right first a_b i)
 
 -- ---- the theorem
 

@@ -1,11 +1,11 @@
 -- The wrong answers of the five `specs/Wrong..` tables are ruled out, by computation. Assumes nothing.
 --
 -- What a crate above needs for a table of its own is passed on: it may not use words.
+use Rattle.std.specs.Prelude.{Option, Some, None}
 use Prim.Native.Nat.{ℕ}
 use mathlib.Core.Path.{refl}
 use mathlib.Core.Bool.{Bool, xor}
 use mathlib.Core.List.{List, [], ◌∷◌, ◌++◌, zip_with}
-use mathlib.Core.Option.{Option, none, some}
 unfoldable pub use Rattle.words.proofs.WrongAnswers.{same_code}
 pub use Rattle.words.proofs.WrongAnswers.{tried}
 use Rattle.words.specs.Counts.{any_set, same_flags}
@@ -14,6 +14,7 @@ unfoldable pub use Rattle.words.specs.Flags.{bits, count, flags_of, window}
 use Rattle.words.specs.Flags.{copies, digit, over, word_of}
 use Rattle.words.specs.Nth.{nth_place}
 use Rattle.words.specs.Ops.{zip3}
+use Rattle.masks.specs.declared.bitmap.Recounted.{Recounted}
 use Rattle.masks.specs.Aligned.{aligned_checks, aligned_of, bulk_offset, bulk_start_of, prefix_length}
 use Rattle.masks.specs.Answer.{Answer, given, refused, decided, kept, unless_empty}
 use Rattle.masks.specs.Appends.{all_below, constant_checks, gather_checks, gathered, inner_checks, repeated, span_grow_checks, subslice_checks, word_checks}
@@ -28,7 +29,7 @@ use Rattle.masks.specs.Cursor.{Step, item, ended, cursor_checks}
 use Rattle.masks.specs.Freeze.{frozen_over}
 use Rattle.masks.specs.Frozen.{frozen, over_from, packed}
 use Rattle.masks.specs.Iterator.{flag_step, leading_from, new_iter, nth_flag, take_leading}
-use Rattle.masks.specs.Mask.{Recounted, cut_zeros, kept_count, mask_checks, new_zeroed_bytes, new_zeroed_of, piece_checks, recounts, slice_checks, slice_of, try_new_of, unset_bits_of, zero_count, zeroed_checks}
+use Rattle.masks.specs.Mask.{cut_zeros, kept_count, mask_checks, new_zeroed_bytes, new_zeroed_of, piece_checks, recounts, slice_checks, slice_of, try_new_of, unset_bits_of, zero_count, zeroed_checks}
 use Rattle.masks.specs.Search.{nth_back, nth_from, search_back, search_from}
 use Rattle.masks.specs.SliceIterator.{new_slices, next_slice, run_start, slice_step}
 use Rattle.masks.specs.Positions.{next_positions, positions_over, place_behind}
@@ -42,8 +43,6 @@ use Rattle.masks.specs.WrongSerials.{WrongSerials}
 use Rattle.masks.specs.WrongSpans.{WrongSpans}
 use Rattle.masks.specs.declared.aligned.AlignedBitmapSlice.{AlignedBitmapSlice}
 use Rattle.masks.specs.declared.bitmap.Bitmap.{Bitmap}
-use Rattle.masks.specs.declared.bitmap.Unset.{Unset}
-use Rattle.masks.specs.declared.bitmap.Unset.TheVariants.{Known, Unknown}
 use Rattle.masks.specs.declared.bitmask.Span.{Span}
 use Rattle.masks.specs.declared.builder.BitmapBuilder.{BitmapBuilder}
 use Rattle.masks.specs.declared.chunks.BitChunks.{BitChunks}
@@ -68,8 +67,8 @@ abbrev pub flag : Code Bool
 flag x = digit x ∷ []
 
 abbrev pub option : {A : Type 0} → Code A → Code (Option A)
-option code none = 0 ∷ []
-option code (some a) = 1 ∷ code a
+option code None = 0 ∷ []
+option code (Some a) = 1 ∷ code a
 
 abbrev pub both : {A B : Type 0} → Code A → Code B → Code (A × B)
 both a b p = a p.0 ++ b p.1
@@ -95,9 +94,9 @@ stepping cursor value = answer cursor (step cursor value)
 
 -- ---- codes of the records
 
-abbrev unset_code : Code Unset
-unset_code (Known z) = 1 ∷ z ∷ []
-unset_code Unknown = 0 ∷ []
+abbrev unset_code : Code (Option ℕ)
+unset_code (Some z) = 1 ∷ z ∷ []
+unset_code None = 0 ∷ []
 
 abbrev mask_code : Code Bitmap
 mask_code m = m.start ∷ m.length ∷ m.serial ∷ unset_code m.unset
@@ -227,9 +226,9 @@ masks-ruled-out =
       num_edges = tried (plain number) refl refl refl;
       num_intersections_with = tried (plain number) refl refl refl;
       earlier-number = tried number refl refl refl;
-      span_failure = tried number refl refl refl;
-      mask_failure = tried number refl refl refl;
-      frozen_failure = tried number refl refl refl;
+      check_span = tried number refl refl refl;
+      check_mask = tried number refl refl refl;
+      check_output = tried number refl refl refl;
     }
 
 pub cursors-ruled-out : WrongCursors

@@ -4,11 +4,9 @@
 use Rattle.std.specs.Prelude.{ℕ, ◌+◌, ◌-◌, ◌*◌, ◌/◌, ◌%◌, Bool, cond, List, ◌++◌, leb, length}
 use Rattle.words.specs.Flags.{word_of}
 use Rattle.words.specs.Loops.{stretch}
-use Rattle.masks.specs.Answer.{Answer, given, refused, checked, unless_empty}
+use Rattle.masks.specs.Answer.{Answer, given, checked, unless_empty}
 use Rattle.masks.specs.Checks.{Check, span_checks, address_checks}
 use Rattle.masks.specs.declared.aligned.AlignedBitmapSlice.{AlignedBitmapSlice}
-use Rattle.masks.specs.declared.aligned.Aligned.{Aligned}
-use Rattle.masks.specs.declared.aligned.Aligned.TheVariants.{Split, Refused}
 
 -- from the span's first byte to the next whose address is divisible by 8
 abbrev pub bytes_to_aligned : ℕ → ℕ → ℕ
@@ -52,10 +50,6 @@ empty_split = record { prefix = 0; prefix_len = 0; bulk_start = 0; bulk_len = 0;
 -- checks 1, 2 and 8
 unfoldable pub aligned_checks : ℕ → ℕ → ℕ → ℕ → List Check
 aligned_checks start n size address = span_checks start n size ++ address_checks address
-
-abbrev pub aligned_answer : Aligned → Answer (Unit {0}) AlignedBitmapSlice
-aligned_answer (Split s) = given s
-aligned_answer (Refused n) = refused n tt
 
 unfoldable pub aligned_of : List ℕ → ℕ → ℕ → ℕ → Answer (Unit {0}) AlignedBitmapSlice
 aligned_of bytes start n address =

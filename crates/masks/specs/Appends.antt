@@ -5,14 +5,12 @@
 use Rattle.std.specs.Prelude.{ℕ, ◌+◌, ◌*◌, Bool, true, false, ◌&&◌, List, [], ◌∷◌, ◌++◌, leb, ltb, length, get_or, take}
 use Rattle.words.specs.Flags.{copies, window, word_flags}
 use Rattle.words.specs.Loops.{stretch}
-use Rattle.masks.specs.Answer.{Answer, given, refused, checked, decided, kept}
+use Rattle.masks.specs.Answer.{Answer, checked, decided, kept}
 use Rattle.masks.specs.Builder.{filling, appended, builder_checks, none_from}
 use Rattle.masks.specs.Checks.{Check, check, first_failed, within_limit, span_checks}
 use Rattle.masks.specs.Mask.{mask_checks, mask_flags}
 use Rattle.masks.specs.declared.bitmap.Bitmap.{Bitmap}
 use Rattle.masks.specs.declared.builder.BitmapBuilder.{BitmapBuilder}
-use Rattle.masks.specs.declared.builder.Pushed.{Pushed}
-use Rattle.masks.specs.declared.builder.Pushed.TheVariants.{Done, Refused}
 
 -- the calls, with their arguments save the builder and its buffer: `push` both ways, `extend_constant`,
 -- `push_word_with_len_unchecked`, `extend_from_slice`, `extend_each_repeated_from_slice_unchecked`,
@@ -101,10 +99,6 @@ append_answer a b buf = checked (append_checks a b buf) b (appended (filling b b
 
 abbrev pub append_bytes : Append → BitmapBuilder → List ℕ → List ℕ
 append_bytes a b buf = kept (first_failed (append_checks a b buf)) (appended (filling b buf) (append_flags a)).bytes buf
-
-abbrev pub pushed_answer : Pushed → Answer BitmapBuilder BitmapBuilder
-pushed_answer (Done b) = given b
-pushed_answer (Refused n b) = refused n b
 
 -- what a call over the caller's own record answers: 0 or the number of a check, and the record that it leaves
 abbrev pub change_answer : ℕ → BitmapBuilder → Answer BitmapBuilder BitmapBuilder

@@ -2,13 +2,9 @@
 use Rattle.std.specs.Prelude.{ℕ, ◌+◌, ◌-◌, List, [], ◌∷◌, ◌++◌, leb, length}
 use Rattle.words.specs.Flags.{word_of, window}
 use Rattle.words.specs.Loops.{stretch}
-use Rattle.masks.specs.Answer.{Answer, given, refused, checked}
+use Rattle.masks.specs.Answer.{Answer, checked}
 use Rattle.masks.specs.Checks.{Check, check, within_limit, span_checks}
 use Rattle.masks.specs.declared.bitmask.Span.{Span}
-use Rattle.masks.specs.declared.bitmask.Parts.{Parts}
-use Rattle.masks.specs.declared.bitmask.Parts.TheVariants.{Two, Refused as Parts-as-Refused}
-use Rattle.masks.specs.declared.bitmask.Window.{Window}
-use Rattle.masks.specs.declared.bitmask.Window.TheVariants.{Flags, Refused as Window-as-Refused}
 
 -- ---- a span cut in two
 
@@ -19,10 +15,6 @@ span_of start n = record { start = start; length = n }
 unfoldable pub split_checks : ℕ → ℕ → ℕ → ℕ → List Check
 split_checks start n at size = span_checks start n size ++ (within_limit (start + at) ∷ check 6 (leb at n) ∷ [])
 
-abbrev pub parts_answer : Parts → Answer (Unit {0}) (Span × Span)
-parts_answer (Two a b) = given (a, b)
-parts_answer (Parts-as-Refused n) = refused n tt
-
 -- the first `at` flags, and those behind them
 unfoldable pub split_at : List ℕ → ℕ → ℕ → ℕ → Answer (Unit {0}) (Span × Span)
 split_at bytes start n at = checked (split_checks start n at (length bytes)) tt (span_of start at, span_of (start + at) (n - at))
@@ -32,10 +24,6 @@ split_at bytes start n at = checked (split_checks start n at (length bytes)) tt 
 -- 32 flags of a span from the index on as a number, zeros past the span's end
 unfoldable pub window_word : List ℕ → ℕ → ℕ → ℕ → ℕ
 window_word bytes start n index = word_of (window (stretch bytes start n) index 32)
-
-abbrev pub window_answer : Window → Answer (Unit {0}) ℕ
-window_answer (Flags w) = given w
-window_answer (Window-as-Refused n) = refused n tt
 
 -- checks 1 and 2
 unfoldable pub window_at : List ℕ → ℕ → ℕ → ℕ → Answer (Unit {0}) ℕ

@@ -1,24 +1,15 @@
 -- The combinations of masks: flag by flag, or by the counts alone where these say that the result is constant. Assumes nothing.
-use Rattle.std.specs.Prelude.{ℕ, max, Bool, true, false, not, cond, ◌&&◌, ◌||◌, eqb, length}
+use Rattle.std.specs.Prelude.{ℕ, max, Bool, true, false, not, cond, ◌&&◌, ◌||◌, eqb, length, Option, Some, None}
 use mathlib.Core.List.{List, [], ◌∷◌, ◌++◌, map, zip_with}
 use Rattle.words.specs.Flags.{copies, over}
 use Rattle.words.specs.Ops.{op_of, zip3}
 use Rattle.words.specs.declared.ops.Op.{Op}
 pub use Rattle.words.specs.declared.ops.Op.TheVariants.{And, AndNot, Or, OrNot, Xor, Not, Select}
-use Rattle.masks.specs.Answer.{Answer, given, refused, checked, kept}
+use Rattle.masks.specs.Answer.{Answer, checked, kept}
 use Rattle.masks.specs.Checks.{Check, check, first_failed, output_checks}
 use Rattle.masks.specs.Frozen.{frozen}
 use Rattle.masks.specs.Mask.{mask_under, mask_flags, mask_checks, zero_count, uncounted}
 use Rattle.masks.specs.declared.bitmap.Bitmap.{Bitmap}
-use Rattle.masks.specs.declared.bitmap.Unset.{Unset}
-use Rattle.masks.specs.declared.bitmap.Unset.TheVariants.{Known}
-use Rattle.masks.specs.declared.bitmap_ops.Combined.{Combined}
-use Rattle.masks.specs.declared.shortcuts.Shortcut.{Shortcut}
-use Rattle.masks.specs.declared.shortcuts.Shortcut.TheVariants.{Each, All}
-
-abbrev pub combined_answer : Combined → Answer (Unit {0}) Bitmap
-combined_answer (Combined.Mask m) = given m
-combined_answer (Combined.Refused k) = refused k tt
 
 -- ---- shortcuts: what the zero counts l and r of two masks of n flags say of the result
 
@@ -31,27 +22,27 @@ clear n zeros = eqb zeros n
 
 -- `and` is all zero if either count equals the length; `or` is all one if either count is 0; `xor` is constant if both masks
 -- are constant by count. The other combinations have no shortcut.
-unfoldable pub shortcut : Op → ℕ → ℕ → ℕ → Shortcut
-shortcut And n l r = cond (clear n l || clear n r) (All false) Each
-shortcut Or n l r = cond (full n l || full n r) (All true) Each
+unfoldable pub shortcut : Op → ℕ → ℕ → ℕ → Option Bool
+shortcut And n l r = cond (clear n l || clear n r) (Some false) None
+shortcut Or n l r = cond (full n l || full n r) (Some true) None
 shortcut Xor n l r =
-    cond ((clear n l && clear n r) || (full n l && full n r)) (All false)
-    (cond ((full n l && clear n r) || (clear n l && full n r)) (All true) Each)
-shortcut AndNot n l r = Each
-shortcut OrNot n l r = Each
-shortcut Not n l r = Each
-shortcut Select n l r = Each
+    cond ((clear n l && clear n r) || (full n l && full n r)) (Some false)
+    (cond ((full n l && clear n r) || (clear n l && full n r)) (Some true) None)
+shortcut AndNot n l r = None
+shortcut OrNot n l r = None
+shortcut Not n l r = None
+shortcut Select n l r = None
 
 -- the flags of the result, where those flag by flag are given
-abbrev pub result_flags : Shortcut → ℕ → List Bool → List Bool
-result_flags Each n flags = flags
-result_flags (All x) n flags = copies n x
+abbrev pub result_flags : Option Bool → ℕ → List Bool → List Bool
+result_flags None n flags = flags
+result_flags (Some x) n flags = copies n x
 
 -- its count: its length where a shortcut gives all zeros, 0 for no flags, else unknown
-abbrev pub result_count : Shortcut → ℕ → Unset
-result_count (All false) n = Known n
-result_count (All true) n = uncounted n
-result_count Each n = uncounted n
+abbrev pub result_count : Option Bool → ℕ → Option ℕ
+result_count (Some false) n = Some n
+result_count (Some true) n = uncounted n
+result_count None n = uncounted n
 
 -- the largest serial of some masks, read or not
 unfoldable pub largest_serial : List Bitmap → ℕ
@@ -59,7 +50,7 @@ largest_serial [] = 0
 largest_serial (m ∷ ms) = max m.serial (largest_serial ms)
 
 -- the record of a result of n flags, made here alone: of the masks combined it takes the largest serial
-abbrev pub result_mask : List Bitmap → ℕ → Unset → Bitmap
+abbrev pub result_mask : List Bitmap → ℕ → Option ℕ → Bitmap
 result_mask masks n u = mask_under (largest_serial masks) 0 n u
 
 -- ---- two masks
@@ -68,7 +59,7 @@ unfoldable pub pair_checks : Bitmap → List ℕ → Bitmap → List ℕ → ℕ
 pair_checks a a_bytes b b_bytes size =
     mask_checks a a_bytes ++ (mask_checks b b_bytes ++ (check 5 (eqb a.length b.length) ∷ output_checks a.length size))
 
-abbrev pub pair_shortcut : Op → Bitmap → List ℕ → Bitmap → List ℕ → Shortcut
+abbrev pub pair_shortcut : Op → Bitmap → List ℕ → Bitmap → List ℕ → Option Bool
 pair_shortcut op a a_bytes b b_bytes = shortcut op a.length (zero_count a a_bytes) (zero_count b b_bytes)
 
 -- flag by flag: an operation on two flags does not read the third

@@ -4,15 +4,10 @@ use Rattle.std.specs.Bool.{xor}
 use mathlib.Core.List.{List, [], ◌∷◌, ◌++◌, zip_with}
 use Rattle.words.specs.Counts.{same_flags}
 use Rattle.words.specs.Flags.{count, digit}
-use Rattle.masks.specs.Answer.{Answer, given, refused, checked}
+use Rattle.masks.specs.Answer.{Answer, checked}
 use Rattle.masks.specs.Checks.{Check, check}
 use Rattle.masks.specs.Mask.{mask_checks, mask_flags}
 use Rattle.masks.specs.declared.bitmap.Bitmap.{Bitmap}
-use Rattle.masks.specs.declared.compare.Compared.{Compared}
-
-abbrev pub compared_answer : Compared → Answer (Unit {0}) Bool
-compared_answer (Compared.Equal x) = given x
-compared_answer (Compared.Refused k) = refused k tt
 
 -- are the lengths and the flags equal
 unfoldable pub eq_of : Bitmap → List ℕ → Bitmap → List ℕ → Answer (Unit {0}) Bool

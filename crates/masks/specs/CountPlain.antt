@@ -1,69 +1,69 @@
 -- Which masks have a known zero count, in document 01's words, for every call that gives a mask. Assumes nothing.
 --
 -- Each line speaks of a call that was accepted. The statement names none of the definitions that decide on a count.
-use Rattle.std.specs.Prelude.{ℕ, suc, ◌+◌, ◌-◌, ◌/◌, ◌≤◌, ◌<◌, max, ◌≡◌, Bool, List, ◌⊎◌}
+use Rattle.std.specs.Prelude.{ℕ, suc, ◌+◌, ◌-◌, ◌/◌, ◌≤◌, ◌<◌, max, ◌≡◌, Bool, List, ◌⊎◌, Some, None}
 use Rattle.words.specs.Flags.{count, word_flags}
 use Rattle.words.specs.Loops.{stretch}
 use Rattle.words.specs.declared.ops.Op.{Op}
+use Rattle.masks.specs.declared.bitmap.Recounted.{Recounted}
 use Rattle.masks.specs.Answer.{Answer, given}
 use Rattle.masks.specs.Combine.{And, AndNot, Or, OrNot, Xor, pair_of, not_of, select_of, select_constant_of}
 use Rattle.masks.specs.Freeze.{freeze_of}
-use Rattle.masks.specs.Mask.{mask_flags, empty_mask, try_new_of, new_zeroed_of, unset_bits_of, slice_of, Recounted}
+use Rattle.masks.specs.Mask.{mask_flags, empty_mask, try_new_of, new_zeroed_of, unset_bits_of, slice_of}
 use Rattle.masks.specs.Utils.{zeros}
 use Rattle.masks.specs.declared.bitmap.Bitmap.{Bitmap}
-use Rattle.masks.specs.declared.bitmap.Unset.TheVariants.{Known, Unknown}
 use Rattle.masks.specs.declared.builder.BitmapBuilder.{BitmapBuilder}
 
 -- the count that a mask brings: the known one; an unknown one is counted
 pub data Brings (m : Bitmap) (bytes : List ℕ) (z : ℕ) : Type 0 where
-  told : m.unset ≡ Known z → Brings m bytes z
-  counted : m.unset ≡ Unknown → z ≡ zeros (mask_flags m bytes) → Brings m bytes z
+  told : m.unset ≡ Some z → Brings m bytes z
+  counted : m.unset ≡ None → z ≡ zeros (mask_flags m bytes) → Brings m bytes z
 
 -- ---- masks made, counted and cut
 
 pub record MadeCounts : Type 0 where
   -- `new` is the empty mask with known 0; `try_new` gives known 0 for length 0, else unknown; `new_zeroed` has its length
-  pub new : empty_mask.unset ≡ Known 0
-  pub try_new-none : (bytes : List ℕ) (start : ℕ) (m : Bitmap) → given m ≡ try_new_of bytes start 0 → m.unset ≡ Known 0
-  pub try-new : (bytes : List ℕ) (start n : ℕ) (m : Bitmap) → given m ≡ try_new_of bytes start (suc n) → m.unset ≡ Unknown
-  pub new_zeroed : (n : ℕ) (out : List ℕ) (m : Bitmap) → given m ≡ new_zeroed_of n out → m.unset ≡ Known n
+  pub new : empty_mask.unset ≡ Some 0
+  pub try_new-none : (bytes : List ℕ) (start : ℕ) (m : Bitmap) → given m ≡ try_new_of bytes start 0 → m.unset ≡ Some 0
+  pub try-new : (bytes : List ℕ) (start n : ℕ) (m : Bitmap) → given m ≡ try_new_of bytes start (suc n) → m.unset ≡ None
+  pub new_zeroed : (n : ℕ) (out : List ℕ) (m : Bitmap) → given m ≡ new_zeroed_of n out → m.unset ≡ Some n
   -- `freeze`: length minus ones, those held and those in the word
   pub freeze : (b : BitmapBuilder) (buf : List ℕ) (m : Bitmap) → given m ≡ freeze_of b buf
-      → m.unset ≡ Known (b.length - (b.ones + count (word_flags b.word)))
+      → m.unset ≡ Some (b.length - (b.ones + count (word_flags b.word)))
   -- `unset_bits` hands back the mask with its count known
   pub unset_bits : (m : Bitmap) (bytes : List ℕ) (r : Recounted) (z : ℕ) → given r ≡ unset_bits_of m bytes → Brings m bytes z
-      → (r.zeros ≡ z) × (r.mask.unset ≡ Known z)
+      → (r.zeros ≡ z) × (r.mask.unset ≡ Some z)
 
 -- the slice of n flags from the flag `offset` on, which was accepted
 pub record SliceCounts (m : Bitmap) (bytes : List ℕ) (offset n : ℕ) (s : Bitmap) : Type 0 where
   -- an unknown count stays unknown; 0 stays 0; one equal to the old length becomes the new length
-  pub unknown : m.unset ≡ Unknown → s.unset ≡ Unknown
-  pub none : m.unset ≡ Known 0 → s.unset ≡ Known 0
-  pub all : m.unset ≡ Known m.length → s.unset ≡ Known n
+  pub unknown : m.unset ≡ None → s.unset ≡ None
+  pub none : m.unset ≡ Some 0 → s.unset ≡ Some 0
+  pub all : m.unset ≡ Some m.length → s.unset ≡ Some n
   -- another is recounted if new length + max(old length div 5, 32) >= old length: less the zeros cut off before and behind
-  pub recounted : (z : ℕ) → m.unset ≡ Known z → (z ≡ 0 → ⊥) → (z ≡ m.length → ⊥) → m.length ≤ n + max (m.length / 5) 32
-      → s.unset ≡ Known (z - (zeros (stretch bytes m.start offset) + zeros (stretch bytes (m.start + offset + n) (m.length - (offset + n)))))
+  pub recounted : (z : ℕ) → m.unset ≡ Some z → (z ≡ 0 → ⊥) → (z ≡ m.length → ⊥) → m.length ≤ n + max (m.length / 5) 32
+      → s.unset ≡ Some (z - (zeros (stretch bytes m.start offset) + zeros (stretch bytes (m.start + offset + n) (m.length - (offset + n)))))
   -- and else becomes unknown
-  pub dropped : (z : ℕ) → m.unset ≡ Known z → (z ≡ 0 → ⊥) → (z ≡ m.length → ⊥) → n + max (m.length / 5) 32 < m.length → s.unset ≡ Unknown
+  pub dropped : (z : ℕ) → m.unset ≡ Some z → (z ≡ 0 → ⊥) → (z ≡ m.length → ⊥) → n + max (m.length / 5) 32 < m.length → s.unset ≡ None
 
 -- ---- combinations
 
 -- two masks of counts l and r, combined to a mask c
 pub record PairCounts (n l r : ℕ) (op : Op) (c : Bitmap) : Type 0 where
   -- known as 0 for length 0
-  pub none : n ≡ 0 → c.unset ≡ Known 0
+  pub none : n ≡ 0 → c.unset ≡ Some 0
   -- known as the length where a shortcut of `and` or `xor` gives all zeros
-  pub and-zeros : op ≡ And → (l ≡ n) ⊎ (r ≡ n) → c.unset ≡ Known n
-  pub xor-zeros : op ≡ Xor → ((l ≡ n) × (r ≡ n)) ⊎ ((l ≡ 0) × (r ≡ 0)) → c.unset ≡ Known n
+  pub and-zeros : op ≡ And → (l ≡ n) ⊎ (r ≡ n) → c.unset ≡ Some n
+  pub xor-zeros : op ≡ Xor → ((l ≡ n) × (r ≡ n)) ⊎ ((l ≡ 0) × (r ≡ 0)) → c.unset ≡ Some n
   -- else unknown
-  pub and-other : op ≡ And → (n ≡ 0 → ⊥) → (l ≡ n → ⊥) → (r ≡ n → ⊥) → c.unset ≡ Unknown
-  pub xor-other : op ≡ Xor → (n ≡ 0 → ⊥) → (l ≡ n → r ≡ n → ⊥) → (l ≡ 0 → r ≡ 0 → ⊥) → c.unset ≡ Unknown
-  pub others : (op ≡ Or) ⊎ ((op ≡ AndNot) ⊎ (op ≡ OrNot)) → (n ≡ 0 → ⊥) → c.unset ≡ Unknown
+  pub and-other : op ≡ And → (n ≡ 0 → ⊥) → (l ≡ n → ⊥) → (r ≡ n → ⊥) → c.unset ≡ None
+  pub xor-other : op ≡ Xor → (n ≡ 0 → ⊥) → (l ≡ n → r ≡ n → ⊥) → (l ≡ 0 → r ≡ 0 → ⊥) → c.unset ≡ None
+  pub others : (op ≡ Or) ⊎ ((op ≡ AndNot) ⊎ (op ≡ OrNot)) → (n ≡ 0 → ⊥) → c.unset ≡ None
 
 -- `not`, `select` and `select_constant`
 pub record EachCounts (n : ℕ) (answer : Answer (Unit {0}) Bitmap) : Type 0 where
-  pub none : (c : Bitmap) → given c ≡ answer → n ≡ 0 → c.unset ≡ Known 0
-  pub other : (c : Bitmap) → given c ≡ answer → (n ≡ 0 → ⊥) → c.unset ≡ Unknown
+  pub none : (c : Bitmap) → given c ≡ answer → n ≡ 0 → c.unset ≡ Some 0
+  pub other : (c : Bitmap) → given c ≡ answer → (n ≡ 0 → ⊥) → c.unset ≡ None
 
 -- the statement
 pub record CountsPlainly : Type 0 where

@@ -1,6 +1,6 @@
 -- The theorem on counts: a call that takes a mask whose checks pass answers, and writes, as it does for the same mask with its count
 -- unknown, save the counts in the records that `slice` and `superseding_part` give. Assumes nothing.
-use Rattle.std.specs.Prelude.{ℕ, ◌≡◌, Bool, List}
+use Rattle.std.specs.Prelude.{ℕ, ◌≡◌, Bool, List, Option, Some, None}
 use Rattle.words.specs.declared.ops.Op.{Op}
 use Rattle.masks.specs.Answer.{Answer, given, refused}
 use Rattle.masks.specs.Appends.{append_answer, append_bytes, extend_bitmap}
@@ -13,15 +13,12 @@ use Rattle.masks.specs.SliceIterator.{new_slices}
 use Rattle.masks.specs.Superseding.{superseding_of}
 use Rattle.masks.specs.TrueIdx.{new_true}
 use Rattle.masks.specs.declared.bitmap.Bitmap.{Bitmap}
-use Rattle.masks.specs.declared.bitmap.Optional.{Optional}
-use Rattle.masks.specs.declared.bitmap.Optional.TheVariants.{Present}
-use Rattle.masks.specs.declared.bitmap.Unset.TheVariants.{Unknown}
 use Rattle.masks.specs.declared.builder.BitmapBuilder.{BitmapBuilder}
 use Rattle.masks.specs.declared.superseding.Part.{Part}
 
 -- the same mask, its count unknown
 abbrev pub forgot : Bitmap → Bitmap
-forgot m = with_count m Unknown
+forgot m = with_count m None
 
 -- a value made of a mask is the same for the mask with its count unknown
 abbrev pub Unseen : {X : Type 0} → Bitmap → (Bitmap → X) → Type 0
@@ -71,8 +68,8 @@ pub record CountUnseen (m : Bitmap) (bytes : List ℕ) : Type 0 where
       → UnseenBoth m (λ (x : Bitmap). select_constant_of a a_bytes x bytes flag out)
       (λ (x : Bitmap). select_constant_bytes a a_bytes x bytes flag out)
   -- `and_not_at`, where the other mask may be absent
-  pub at_first : (second : Optional) (b_bytes : List ℕ) (i : ℕ) → Unseen m (λ (x : Bitmap). and_not_at_of (Present x) bytes second b_bytes i)
-  pub at_second : (first : Optional) (a_bytes : List ℕ) (i : ℕ) → Unseen m (λ (x : Bitmap). and_not_at_of first a_bytes (Present x) bytes i)
+  pub at_first : (second : Option Bitmap) (b_bytes : List ℕ) (i : ℕ) → Unseen m (λ (x : Bitmap). and_not_at_of (Some x) bytes second b_bytes i)
+  pub at_second : (first : Option Bitmap) (a_bytes : List ℕ) (i : ℕ) → Unseen m (λ (x : Bitmap). and_not_at_of first a_bytes (Some x) bytes i)
   pub eq-first : (b : Bitmap) (b_bytes : List ℕ) → Unseen m (λ (x : Bitmap). eq_of x bytes b b_bytes)
   pub eq-second : (a : Bitmap) (a_bytes : List ℕ) → Unseen m (λ (x : Bitmap). eq_of a a_bytes x bytes)
   pub edges : Unseen m (λ (x : Bitmap). edges_of x bytes)
@@ -81,7 +78,7 @@ pub record CountUnseen (m : Bitmap) (bytes : List ℕ) : Type 0 where
   pub superseding-first : (b : Bitmap) (b_bytes : List ℕ) → Unseen m (λ (x : Bitmap). part_but_count (superseding_of x bytes b b_bytes))
   pub superseding-second : (a : Bitmap) (a_bytes : List ℕ) → Unseen m (λ (x : Bitmap). part_but_count (superseding_of a a_bytes x bytes))
   pub slices-new : Unseen m (λ (x : Bitmap). new_slices x bytes)
-  pub true-new : (n : ℕ) → Unseen m (λ (x : Bitmap). new_true n (Present x) bytes)
+  pub true-new : (n : ℕ) → Unseen m (λ (x : Bitmap). new_true n (Some x) bytes)
 
 -- the statement
 abbrev pub CountsUnseen : Type 0

@@ -1,6 +1,10 @@
 -- Cursors: a span and the next place in it. Document 01 calls them walks. Assumes nothing.
-use Rattle.std.specs.Prelude.{ℕ, List, [], ◌∷◌, ◌++◌, leb}
+use Rattle.std.specs.Prelude.{ℕ, List, [], ◌∷◌, ◌++◌, leb, Option, Some, None, Result, Ok, Err}
+use Rattle.masks.specs.Answer.{Answer, given, refused}
 use Rattle.masks.specs.Checks.{Check, check, span_checks}
+use Rattle.masks.specs.Refusal.{number}
+use Rattle.masks.specs.declared.cursor.Step.{Step as Stepped}
+use Rattle.masks.specs.declared.refusal.Refused.{Refused}
 
 -- checks 1, 2 and 6, of a cursor over so many bytes
 unfoldable pub cursor_checks : ℕ → ℕ → ℕ → ℕ → List Check
@@ -10,3 +14,12 @@ cursor_checks start n place size = span_checks start n size ++ (check 6 (leb pla
 pub data Step (C A : Type 0) : Type 0 where
   item : A → C → Step C A
   ended : C → Step C A
+
+abbrev pub step_of : {A C : Type 0} → Option A → C → Step C A
+step_of (Some a) c = item a c
+step_of None c = ended c
+
+-- the answer of a cursor's call
+abbrev pub answer_step : {A C : Type 0} → Result (Stepped A C) (Refused C) → Answer C (Step C A)
+answer_step (Ok s) = given (step_of s.item s.cursor)
+answer_step (Err e) = refused (number e.refusal) e.state

@@ -3,7 +3,7 @@
 -- Each line speaks of a call that was accepted: a new cursor stands at place 0; an answer moves the place just past what it gives; an
 -- answer none moves it to the length, for chunks not at all. Start, length and mark stay. `Refusals` says that a refused call gives
 -- back the cursor that it got.
-use Rattle.std.specs.Prelude.{ℕ, suc, ◌+◌, ◌/◌, ◌≤◌, ◌<◌, ◌≡◌, Bool, true, false, not, List, length, get_or}
+use Rattle.std.specs.Prelude.{ℕ, suc, ◌+◌, ◌/◌, ◌≤◌, ◌<◌, ◌≡◌, Bool, true, false, not, List, length, get_or, Some, None}
 use Rattle.words.specs.Flags.{flag_at}
 use Rattle.masks.specs.Answer.{given}
 use Rattle.masks.specs.Chunks.{chunks_at, new_chunks, next_chunk}
@@ -13,7 +13,6 @@ use Rattle.masks.specs.Positions.{next_positions, left_of}
 use Rattle.masks.specs.SliceIterator.{slices_at, new_slices, next_slice}
 use Rattle.masks.specs.TrueIdx.{true_at, new_true, next_true}
 use Rattle.masks.specs.declared.bitmap.Bitmap.{Bitmap}
-use Rattle.masks.specs.declared.bitmap.Optional.TheVariants.{Present, Absent}
 use Rattle.masks.specs.declared.chunks.BitChunks.{BitChunks}
 use Rattle.masks.specs.declared.iterator.BitmapIter.{BitmapIter}
 use Rattle.masks.specs.declared.slice_iterator.Run.{Run}
@@ -26,8 +25,8 @@ pub record NewPlaces : Type 0 where
   pub flags-none : (bytes : List ℕ) (start : ℕ) (c : BitmapIter) → given c ≡ new_iter bytes start 0 → c ≡ iter_at 0 0 0
   pub flags : (bytes : List ℕ) (start n : ℕ) (c : BitmapIter) → given c ≡ new_iter bytes start (suc n) → c ≡ iter_at start (suc n) 0
   pub runs : (m : Bitmap) (bytes : List ℕ) (c : SlicesIterator) → given c ≡ new_slices m bytes → c ≡ slices_at m.start m.length 0
-  pub ones : (n : ℕ) (m : Bitmap) (bytes : List ℕ) (c : TrueIdxIter) → given c ≡ new_true n (Present m) bytes → c ≡ true_at m.start n 0 true
-  pub every : (n : ℕ) (bytes : List ℕ) (c : TrueIdxIter) → given c ≡ new_true n Absent bytes → c ≡ true_at 0 n 0 false
+  pub ones : (n : ℕ) (m : Bitmap) (bytes : List ℕ) (c : TrueIdxIter) → given c ≡ new_true n (Some m) bytes → c ≡ true_at m.start n 0 true
+  pub every : (n : ℕ) (bytes : List ℕ) (c : TrueIdxIter) → given c ≡ new_true n None bytes → c ≡ true_at 0 n 0 false
 
 -- `BitChunks::next`: places count words, and none is given from floor(length / 64) on
 pub record ChunkPlaces (c : BitChunks) (bytes : List ℕ) (d : BitChunks) : Type 0 where

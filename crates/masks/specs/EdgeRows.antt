@@ -3,7 +3,7 @@
 --
 -- A row has what the definitions give at one input, and what the papers' words give there, worked out by hand. Each call goes through the
 -- definition that its contract cites. `proofs/EdgeRows.antt` proves that the columns are equal.
-use Rattle.std.specs.Prelude.{ℕ, ◌≡◌, true, false, List, [], ◌∷◌, ◌++◌, map, replicate}
+use Rattle.std.specs.Prelude.{ℕ, ◌≡◌, true, false, List, [], ◌∷◌, ◌++◌, map, replicate, Some, None}
 use Rattle.masks.specs.Aligned.{aligned_of}
 use Rattle.masks.specs.Answer.{Answer, given, refused}
 use Rattle.masks.specs.Appends.{Append, push_flag, extend_constant, push_word, extend_slice, extend_repeated, extend_bitmap, extend_gather, extend_opt_gather}
@@ -26,8 +26,6 @@ use Rattle.masks.specs.Utils.{span_count}
 use Rattle.masks.specs.Witnesses.{byte, whole, shorter, buffer}
 use Rattle.masks.specs.declared.aligned.AlignedBitmapSlice.{AlignedBitmapSlice}
 use Rattle.masks.specs.declared.bitmap.Bitmap.{Bitmap}
-use Rattle.masks.specs.declared.bitmap.Optional.TheVariants.{Present, Absent}
-use Rattle.masks.specs.declared.bitmap.Unset.TheVariants.{Known, Unknown}
 use Rattle.masks.specs.declared.builder.BitmapBuilder.{BitmapBuilder}
 
 -- ---- the calls of the rows
@@ -50,23 +48,23 @@ abbrev pub two_bytes : List ℕ
 two_bytes = 0x0F ∷ 0x2D ∷ []
 
 abbrev pub twelve : Bitmap
-twelve = mask_of 4 12 (Known 8)
+twelve = mask_of 4 12 (Some 8)
 
 -- ---- the limit
 
 unfoldable pub limit_rows : List Row
 limit_rows =
     -- Each length is at most 4,194,304, and each start: there the next check decides.
-    row (said (new_true 4194304 Absent [])) accepted
-    ∷ row (said (new_true 4194305 Absent [])) (refusal 1)
+    row (said (new_true 4194304 None [])) accepted
+    ∷ row (said (new_true 4194305 None [])) (refusal 1)
     ∷ row (said (try_new_of [] 4194304 0)) (refusal 2)
     ∷ row (said (try_new_of [] 4194305 0)) (refusal 1)
     ∷ row (said (try_new_of [] 0 4194305)) (refusal 1)
     ∷ row (said (new_zeroed_of 4194304 [])) (refusal 9)
     ∷ row (said (new_zeroed_of 4194305 [])) (refusal 1)
     -- The start of a slice in its bytes, and of a split's second part, are starts too; so is the start of a piece.
-    ∷ row (said (slice_of (mask_of 4194303 8 Unknown) byte 1 4)) (refusal 2)
-    ∷ row (said (slice_of (mask_of 4194304 8 Unknown) byte 1 4)) (refusal 1)
+    ∷ row (said (slice_of (mask_of 4194303 8 None) byte 1 4)) (refusal 2)
+    ∷ row (said (slice_of (mask_of 4194304 8 None) byte 1 4)) (refusal 1)
     ∷ row (said (slice_of whole byte 0 4194305)) (refusal 1)
     ∷ row (said (split_at byte 4194303 8 1)) (refusal 2)
     ∷ row (said (split_at byte 4194304 8 1)) (refusal 1)
@@ -110,9 +108,9 @@ edge_rows =
     ∷ row (said (next_slice (slices_at 0 8 9) byte)) (refusal 6)
     ∷ row (said (next_true (true_at 0 8 8 false) [])) accepted
     ∷ row (said (next_true (true_at 0 8 9 false) [])) (refusal 6)
-    ∷ row (said (and_not_at_of (Present whole) byte Absent [] 7)) accepted
-    ∷ row (said (and_not_at_of (Present whole) byte Absent [] 8)) (refusal 6)
-    ∷ row (said (and_not_at_of Absent [] (Present whole) byte 8)) (refusal 6)
+    ∷ row (said (and_not_at_of (Some whole) byte None [] 7)) accepted
+    ∷ row (said (and_not_at_of (Some whole) byte None [] 8)) (refusal 6)
+    ∷ row (said (and_not_at_of None [] (Some whole) byte 8)) (refusal 6)
     ∷ row (said (window_at byte 0 8 9)) accepted
     ∷ row (append_said new_builder 8 (push_word 0 64)) accepted
     ∷ row (append_said new_builder 16 (push_word 0 65)) (refusal 6)
@@ -145,10 +143,10 @@ edge_rows =
 
 -- a mask that does not lie in its byte, and one of the byte, which has four zeros, with a count of 3
 abbrev pub past : Bitmap
-past = mask_of 2 7 Unknown
+past = mask_of 2 7 None
 
 abbrev pub false-count : Bitmap
-false-count = mask_of 0 8 (Known 3)
+false-count = mask_of 0 8 (Some 3)
 
 unfoldable pub mask_rows : List Row
 mask_rows =
@@ -170,9 +168,9 @@ mask_rows =
     ∷ row (said (select_of whole byte whole byte shorter byte buffer)) (refusal 5)
     ∷ row (said (select_constant_of whole byte past byte true buffer)) (refusal 2)
     ∷ row (said (select_constant_of whole byte shorter byte true buffer)) (refusal 5)
-    ∷ row (said (and_not_at_of (Present whole) byte (Present past) byte 0)) (refusal 2)
-    ∷ row (said (and_not_at_of (Present whole) byte (Present shorter) byte 0)) (refusal 5)
-    ∷ row (said (new_true 7 (Present whole) byte)) (refusal 5)
+    ∷ row (said (and_not_at_of (Some whole) byte (Some past) byte 0)) (refusal 2)
+    ∷ row (said (and_not_at_of (Some whole) byte (Some shorter) byte 0)) (refusal 5)
+    ∷ row (said (new_true 7 (Some whole) byte)) (refusal 5)
     ∷ row (said (new_slices false-count byte)) (refusal 3)
     ∷ row (append_said new_builder 8 (extend_bitmap past byte 0 1)) (refusal 2)
     ∷ row (append_said new_builder 8 (extend_bitmap false-count byte 0 1)) (refusal 3)
@@ -184,7 +182,7 @@ unfoldable pub unwritten_rows : List Row
 unwritten_rows =
     row (bytes (new_zeroed_bytes 65 buffer)) (bytes buffer)
     ∷ row (bytes (pair_bytes And whole byte shorter byte buffer)) (bytes buffer)
-    ∷ row (bytes (not_bytes (mask_of 1 8 Unknown) byte buffer)) (bytes buffer)
+    ∷ row (bytes (not_bytes (mask_of 1 8 None) byte buffer)) (bytes buffer)
     ∷ row (bytes (not_bytes whole byte (replicate 7 0xAA))) (bytes (replicate 7 0xAA))
     ∷ row (bytes (select_bytes whole byte whole byte shorter byte buffer)) (bytes buffer)
     ∷ row (bytes (select_constant_bytes whole byte shorter byte true buffer)) (bytes buffer)
@@ -227,23 +225,23 @@ split_rows =
 unfoldable pub start_rows : List Row
 start_rows =
     -- Whole words go behind the finished ones. 64 ones, then 64 zeros.
-    row (frozen_in 16 (extend_constant 64 true ∷ extend_constant 64 false ∷ [])) (mask (replicate 8 0xFF ++ replicate 8 0) (Known 64))
+    row (frozen_in 16 (extend_constant 64 true ∷ extend_constant 64 false ∷ [])) (mask (replicate 8 0xFF ++ replicate 8 0) (Some 64))
     -- A slice's count is the known one less the zeros cut off on either side. Flags 2 to 9 of the twelve: 0,0,1,0,1,1,0,1.
-    ∷ row (sliced_value (slice_of twelve two_bytes 2 8)) (count (Known 4))
+    ∷ row (sliced_value (slice_of twelve two_bytes 2 8)) (count (Some 4))
     -- A slice of a mask of unknown count has none.
-    ∷ row (sliced_value (slice_of whole byte 0 4)) (count Unknown)
+    ∷ row (sliced_value (slice_of whole byte 0 4)) (count None)
     -- `slice` recounts where at most 32 flags are cut off, of masks of up to 164 flags. Of 100 flags, 68 and 67.
-    ∷ row (sliced_to 68 (mixed 100)) (count (Known 33))
-    ∷ row (sliced_to 67 (mixed 100)) (count Unknown)
+    ∷ row (sliced_to 68 (mixed 100)) (count (Some 33))
+    ∷ row (sliced_to 67 (mixed 100)) (count None)
     ∷ []
 
 -- ---- no shortcut: `and_not`, `or_not` and `not` of all zeros or all ones leave the count unknown
 
 unfoldable pub count_rows : List Row
 count_rows =
-    row (pair_of_told AndNot 4 (Known 4) 0xF0 Unknown 0xFF) (mask (first 0) Unknown)
-    ∷ row (pair_of_told AndNot 4 Unknown 0xFF (Known 0) 0xFF) (mask (first 0) Unknown)
-    ∷ row (pair_of_told OrNot 4 (Known 4) 0xF0 (Known 0) 0xFF) (mask (first 0) Unknown)
+    row (pair_of_told AndNot 4 (Some 4) 0xF0 None 0xFF) (mask (first 0) None)
+    ∷ row (pair_of_told AndNot 4 None 0xFF (Some 0) 0xFF) (mask (first 0) None)
+    ∷ row (pair_of_told OrNot 4 (Some 4) 0xF0 (Some 0) 0xFF) (mask (first 0) None)
     ∷ []
 
 -- the statements

@@ -3,9 +3,9 @@
 -- A row has the example's number, what the definitions give, and what the paper states. Each call goes through the definition
 -- that its contract cites, calls one after another with what the one before gave. `proofs/Examples.antt` proves that the two
 -- columns are equal.
-use Rattle.std.specs.Prelude.{ℕ, ◌≡◌, true, List, [], ◌∷◌, ◌++◌, map, length, replicate}
-use Rattle.std.proofs.Math.Option.{Option, none, some}
+use Rattle.std.specs.Prelude.{ℕ, ◌≡◌, true, List, [], ◌∷◌, ◌++◌, map, length, replicate, Option, Some, None}
 use Rattle.words.specs.Flags.{is_one}
+use Rattle.masks.specs.declared.bitmap.Recounted.{Recounted}
 use Rattle.masks.specs.Answer.{Answer, given, refused}
 use Rattle.masks.specs.Appends.{Append, push_flag, extend_constant, extend_slice, extend_repeated, extend_gather, extend_opt_gather, append_answer, append_bytes}
 use Rattle.masks.specs.Builder.{new_builder}
@@ -14,12 +14,10 @@ use Rattle.masks.specs.Compare.{edges_of}
 use Rattle.masks.specs.Freeze.{freeze_bytes, freeze_of, into_opt_validity_of}
 use Rattle.masks.specs.Frozen.{frozen}
 use Rattle.masks.specs.Listing.{listing}
-use Rattle.masks.specs.Mask.{empty_mask, mask_of, Recounted, slice_of, try_new_of, unset_bits_of}
+use Rattle.masks.specs.Mask.{empty_mask, mask_of, slice_of, try_new_of, unset_bits_of}
 use Rattle.masks.specs.Search.{search_from, search_back}
 use Rattle.masks.specs.SliceIterator.{new_slices, next_slice, run_of}
 use Rattle.masks.specs.declared.bitmap.Bitmap.{Bitmap}
-use Rattle.masks.specs.declared.bitmap.Unset.{Unset}
-use Rattle.masks.specs.declared.bitmap.Unset.TheVariants.{Known, Unknown}
 use Rattle.masks.specs.declared.builder.BitmapBuilder.{BitmapBuilder}
 use Rattle.masks.specs.declared.slice_iterator.Run.{Run}
 use Rattle.masks.specs.declared.slice_iterator.SlicesIterator.{SlicesIterator}
@@ -28,8 +26,8 @@ use Rattle.masks.specs.declared.slice_iterator.SlicesIterator.{SlicesIterator}
 
 -- what calls give and write. A mask is its bytes and its zero count.
 pub data Value : Type 0 where
-  mask : List ℕ → Unset → Value
-  count : Unset → Value
+  mask : List ℕ → Option ℕ → Value
+  count : Option ℕ → Value
   bytes : List ℕ → Value
   validity : Option Bitmap → Value
   runs : List Run → Value
@@ -109,7 +107,7 @@ pushes flags = map (λ (x : ℕ). push_flag (is_one x)) flags
 
 -- a mask of flags, written as 0 or 1, with no known count; and its bytes
 abbrev pub mask_in : List ℕ → Bitmap
-mask_in flags = mask_of 0 (length flags) Unknown
+mask_in flags = mask_of 0 (length flags) None
 
 abbrev pub bytes_in : List ℕ → List ℕ
 bytes_in flags = frozen (map is_one flags)
@@ -158,22 +156,22 @@ A-bytes = 0x2D ∷ []
 unfoldable pub examples : List Example
 examples =
     -- 1. A freezes to 0x2D and seven zero bytes, 2 zeros.
-    example 1 (frozen_in 8 (pushes A)) (mask (first 0x2D) (Known 2))
+    example 1 (frozen_in 8 (pushes A)) (mask (first 0x2D) (Some 2))
     -- 2. Start 2, length 4 of 0x2D: 0x0B first, 1 zero.
-    ∷ example 2 (frozen_in 8 (extend_slice A-bytes 2 4 ∷ [])) (mask (first 0x0B) (Known 1))
+    ∷ example 2 (frozen_in 8 (extend_slice A-bytes 2 4 ∷ [])) (mask (first 0x0B) (Some 1))
     -- 3. Runs of A: (0,1), (2,2), (5,1).
     ∷ example 3 (runs_value A-bytes (new_slices (mask_in A) A-bytes)) (runs (run_of 0 1 ∷ run_of 2 2 ∷ run_of 5 1 ∷ []))
     -- 4. A forward from 0: n 2 gives 3; n 4 none. Backward from 5: n 1 gives 2; from 900, n 3 gives 0.
-    ∷ example 4 (position_value (search_from A-bytes 0 6 2 0)) (position (some 3))
-    ∷ example 4 (position_value (search_from A-bytes 0 6 4 0)) (position none)
-    ∷ example 4 (position_value (search_back A-bytes 0 6 1 5)) (position (some 2))
-    ∷ example 4 (position_value (search_back A-bytes 0 6 3 900)) (position (some 0))
+    ∷ example 4 (position_value (search_from A-bytes 0 6 2 0)) (position (Some 3))
+    ∷ example 4 (position_value (search_from A-bytes 0 6 4 0)) (position None)
+    ∷ example 4 (position_value (search_back A-bytes 0 6 1 5)) (position (Some 2))
+    ∷ example 4 (position_value (search_back A-bytes 0 6 3 900)) (position (Some 0))
     -- 5. 60 ones, then 5: eight 0xFF, 0x01, seven zero bytes.
-    ∷ example 5 (frozen_in 16 (extend_constant 60 true ∷ extend_constant 5 true ∷ [])) (mask (replicate 8 0xFF ++ first 0x01) (Known 0))
+    ∷ example 5 (frozen_in 16 (extend_constant 60 true ∷ extend_constant 5 true ∷ [])) (mask (replicate 8 0xFF ++ first 0x01) (Some 0))
     -- 6. Empty: no bytes, 0 zeros, validity none. (No buffer is needed, and one that is lent stays as it was.)
-    ∷ example 6 (frozen_in 0 []) (mask [] (Known 0))
-    ∷ example 6 (frozen_in 8 []) (mask (lent 8) (Known 0))
-    ∷ example 6 (validity_value (into_opt_validity_of new_builder [])) (validity none)
+    ∷ example 6 (frozen_in 0 []) (mask [] (Some 0))
+    ∷ example 6 (frozen_in 8 []) (mask (lent 8) (Some 0))
+    ∷ example 6 (validity_value (into_opt_validity_of new_builder [])) (validity None)
     -- 7. `or_not` of 0,0,1 and 1,0,0: 0x06 first.
     ∷ example 7 (or_not_of (0 ∷ 0 ∷ 1 ∷ []) (1 ∷ 0 ∷ 0 ∷ [])) (bytes (first 0x06))
     -- 8. `select` by 1,0,1,0 from 1,1,0,0 and 0,1,1,1: 0x0B first.
@@ -181,17 +179,17 @@ examples =
     -- 9. `num_edges` of A: 4.
     ∷ example 9 (edges_value (edges_of (mask_in A) A-bytes)) (edges 4)
     -- 10. Optional gather 5,6,0 from A: 0x05 first; the strict one gives 6.
-    ∷ example 10 (frozen_in 8 (extend_opt_gather A-bytes 0 6 (5 ∷ 6 ∷ 0 ∷ []) ∷ [])) (mask (first 0x05) (Known 1))
+    ∷ example 10 (frozen_in 8 (extend_opt_gather A-bytes 0 6 (5 ∷ 6 ∷ 0 ∷ []) ∷ [])) (mask (first 0x05) (Some 1))
     ∷ example 10 (append_value (append_answer (extend_gather A-bytes 0 6 (5 ∷ 6 ∷ 0 ∷ [])) new_builder (lent 8))) (refusal 6)
     -- 11. Example 2 repeated twice: 0xCF first.
-    ∷ example 11 (frozen_in 8 (extend_repeated A-bytes 2 4 2 ∷ [])) (mask (first 0xCF) (Known 2))
+    ∷ example 11 (frozen_in 8 (extend_repeated A-bytes 2 4 2 ∷ [])) (mask (first 0xCF) (Some 2))
     -- 12. Mixed known mask of 100 flags: slice to 68 recounted, to 67 unknown; of 200: 160 and 159.
-    ∷ example 12 (count_value (mixed 100)) (count (Known 49))
-    ∷ example 12 (sliced_to 68 (mixed 100)) (count (Known 33))
-    ∷ example 12 (sliced_to 67 (mixed 100)) (count Unknown)
-    ∷ example 12 (count_value (mixed 200)) (count (Known 100))
-    ∷ example 12 (sliced_to 160 (mixed 200)) (count (Known 80))
-    ∷ example 12 (sliced_to 159 (mixed 200)) (count Unknown)
+    ∷ example 12 (count_value (mixed 100)) (count (Some 49))
+    ∷ example 12 (sliced_to 68 (mixed 100)) (count (Some 33))
+    ∷ example 12 (sliced_to 67 (mixed 100)) (count None)
+    ∷ example 12 (count_value (mixed 200)) (count (Some 100))
+    ∷ example 12 (sliced_to 160 (mixed 200)) (count (Some 80))
+    ∷ example 12 (sliced_to 159 (mixed 200)) (count None)
     ∷ []
 
 -- the statement: in every row the definitions give what the paper states

@@ -1,30 +1,24 @@
 -- Freezing: the mask of a builder's flags, and their frozen bytes. Assumes nothing.
-use Rattle.std.specs.Prelude.{ℕ, ◌+◌, ◌-◌, cond, List, eqb, length}
-use Rattle.std.proofs.Math.Option.{Option, none, some}
+use Rattle.std.specs.Prelude.{ℕ, ◌+◌, ◌-◌, cond, List, eqb, length, Option, Some, None}
 use Rattle.words.specs.Flags.{count, over, word_flags}
-use Rattle.masks.specs.Answer.{Answer, given, refused, checked, kept}
+use Rattle.masks.specs.Answer.{Answer, checked, kept}
 use Rattle.masks.specs.Builder.{filling, builder_flags, builder_checks}
 use Rattle.masks.specs.Checks.{Check, first_failed}
 use Rattle.masks.specs.Frozen.{frozen}
 use Rattle.masks.specs.Mask.{mask_under}
 use Rattle.masks.specs.declared.bitmap.Bitmap.{Bitmap}
-use Rattle.masks.specs.declared.bitmap.Unset.TheVariants.{Known}
 use Rattle.masks.specs.declared.builder.BitmapBuilder.{BitmapBuilder}
-use Rattle.masks.specs.declared.builder.Made.{Made}
-use Rattle.masks.specs.declared.builder.Made.TheVariants.{Mask as Made-as-Mask, Refused as Made-as-Refused}
-use Rattle.masks.specs.declared.builder.Validity.{Validity}
-use Rattle.masks.specs.declared.builder.Validity.TheVariants.{Mask as Validity-as-Mask, AllSet, Refused as Validity-as-Refused}
 
 -- the ones of a builder: those held, and those in the word
 abbrev pub all_ones : BitmapBuilder → ℕ
 all_ones b = b.ones + count (word_flags b.word)
 
 abbrev pub frozen_mask : BitmapBuilder → Bitmap
-frozen_mask b = mask_under b.serial 0 b.length (Known (b.length - all_ones b))
+frozen_mask b = mask_under b.serial 0 b.length (Some (b.length - all_ones b))
 
 -- no mask exactly when the ones equal the length
 abbrev pub validity_of : BitmapBuilder → Option Bitmap
-validity_of b = cond (eqb (all_ones b) b.length) none (some (frozen_mask b))
+validity_of b = cond (eqb (all_ones b) b.length) None (Some (frozen_mask b))
 
 -- checks 1, 4 and 9
 abbrev pub freeze_checks : BitmapBuilder → ℕ → List Check
@@ -43,12 +37,3 @@ into_opt_validity_of b bytes = checked (freeze_checks b (length bytes)) b (valid
 
 abbrev pub freeze_bytes : BitmapBuilder → List ℕ → List ℕ
 freeze_bytes b bytes = kept (first_failed (freeze_checks b (length bytes))) (frozen_over b bytes) bytes
-
-abbrev pub freeze_answer : Made → Answer BitmapBuilder Bitmap
-freeze_answer (Made-as-Mask m) = given m
-freeze_answer (Made-as-Refused n b) = refused n b
-
-abbrev pub validity_answer : Validity → Answer BitmapBuilder (Option Bitmap)
-validity_answer (Validity-as-Mask m) = given (some m)
-validity_answer AllSet = given none
-validity_answer (Validity-as-Refused n b) = refused n b

@@ -2,16 +2,10 @@
 use Rattle.std.specs.Prelude.{ℕ, ◌+◌, Bool, false, cond, List, ltb, length, drop, get_or}
 use Rattle.words.specs.Ends.{leading}
 use Rattle.words.specs.Loops.{stretch}
-use Rattle.masks.specs.Answer.{Answer, given, refused, checked, unless_empty}
+use Rattle.masks.specs.Answer.{Answer, given, checked, unless_empty}
 use Rattle.masks.specs.Checks.{Check, span_checks}
 use Rattle.masks.specs.Cursor.{Step, item, ended, cursor_checks}
 use Rattle.masks.specs.declared.iterator.BitmapIter.{BitmapIter}
-use Rattle.masks.specs.declared.iterator.Iter.{Iter}
-use Rattle.masks.specs.declared.iterator.Iter.TheVariants.{Cursor, Refused as Iter-as-Refused}
-use Rattle.masks.specs.declared.iterator.Flag.{Flag}
-use Rattle.masks.specs.declared.iterator.Flag.TheVariants.{Next, Done, Refused as Flag-as-Refused}
-use Rattle.masks.specs.declared.iterator.Taken.{Taken}
-use Rattle.masks.specs.declared.iterator.Taken.TheVariants.{Took, Refused as Taken-as-Refused}
 
 -- the one place where a cursor's record is made. Its place counts flags.
 abbrev pub iter_at : ℕ → ℕ → ℕ → BitmapIter
@@ -25,10 +19,6 @@ abbrev pub moved_to : BitmapIter → ℕ → BitmapIter
 moved_to c place = iter_at c.start c.length place
 
 -- ---- a new cursor
-
-abbrev pub iter_answer : Iter → Answer (Unit {0}) BitmapIter
-iter_answer (Cursor c) = given c
-iter_answer (Iter-as-Refused n) = refused n tt
 
 -- checks 1 and 2; for length 0, before them, a cursor that is all 0
 unfoldable pub new_iter : List ℕ → ℕ → ℕ → Answer (Unit {0}) BitmapIter
@@ -46,11 +36,6 @@ flag_step bytes c k =
     (item (get_or (iter_flags c bytes) (c.place + k) false) (moved_to c (c.place + k + 1)))
     (ended (moved_to c c.length))
 
-abbrev pub flag_answer : Flag → Answer BitmapIter (Step BitmapIter Bool)
-flag_answer (Next x c) = given (item x c)
-flag_answer (Done c) = given (ended c)
-flag_answer (Flag-as-Refused n c) = refused n c
-
 unfoldable pub nth_flag : BitmapIter → List ℕ → ℕ → Answer BitmapIter (Step BitmapIter Bool)
 nth_flag c bytes k = checked (iter_checks c bytes) c (flag_step bytes c k)
 
@@ -59,10 +44,6 @@ nth_flag c bytes k = checked (iter_checks c bytes) c (flag_step bytes c k)
 -- how many flags x stand from a place on
 unfoldable pub leading_from : Bool → List Bool → ℕ → ℕ
 leading_from x l place = leading x (drop place l)
-
-abbrev pub taken_answer : Taken → Answer BitmapIter (ℕ × BitmapIter)
-taken_answer (Took k c) = given (k, c)
-taken_answer (Taken-as-Refused n c) = refused n c
 
 -- their number, and the cursor past them
 unfoldable pub take_leading : Bool → BitmapIter → List ℕ → Answer BitmapIter (ℕ × BitmapIter)

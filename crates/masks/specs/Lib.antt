@@ -1,6 +1,7 @@
 -- What the contracts of this crate mean. `Checks`, `Answer` and `Mask` are read first.
 pub mod Aligned
 pub mod Answer
+pub mod Refusal
 pub mod AnswerPlain
 pub mod AppendPlain
 pub mod Appends
@@ -20,6 +21,7 @@ pub mod Examples
 pub mod Freeze
 pub mod Frozen
 pub mod Iterator
+pub mod Lent
 pub mod Listing
 pub mod Mask
 pub mod NextAndNot

@@ -1,32 +1,28 @@
 -- The mask: its flags, its zero count, and what a slice makes of them. Assumes nothing.
-use Rattle.std.specs.Prelude.{ℕ, ◌+◌, ◌-◌, ◌/◌, max, Bool, true, false, cond, not, ◌&&◌, List, [], ◌∷◌, ◌++◌, eqb, leb, length}
+use Rattle.std.specs.Prelude.{ℕ, ◌+◌, ◌-◌, ◌/◌, max, Bool, true, false, cond, not, ◌&&◌, List, [], ◌∷◌, ◌++◌, eqb, leb, length, Option, Some, None}
 use Rattle.words.specs.Flags.{copies, over}
 use Rattle.words.specs.Loops.{stretch}
-use Rattle.masks.specs.Answer.{Answer, given, refused, checked, kept}
+use Rattle.masks.specs.Answer.{Answer, checked, kept}
 use Rattle.masks.specs.Checks.{Check, check, first_failed, output_checks, within_limit, span_checks}
 use Rattle.masks.specs.Frozen.{frozen}
 use Rattle.masks.specs.Utils.{zeros}
 use Rattle.masks.specs.declared.bitmap.Bitmap.{Bitmap}
-use Rattle.masks.specs.declared.bitmap.Counting.{Counting}
-use Rattle.masks.specs.declared.bitmap.Made.{Made}
-use Rattle.masks.specs.declared.bitmap.Sliced.{Sliced}
-use Rattle.masks.specs.declared.bitmap.Unset.{Unset}
-use Rattle.masks.specs.declared.bitmap.Unset.TheVariants.{Known, Unknown}
+use Rattle.masks.specs.declared.bitmap.Recounted.{Recounted}
 
 -- the one place where a mask's record is made, under its serial
-abbrev pub mask_under : ℕ → ℕ → ℕ → Unset → Bitmap
+abbrev pub mask_under : ℕ → ℕ → ℕ → Option ℕ → Bitmap
 mask_under serial start n unset = record { start = start; length = n; unset = unset; serial = serial }
 
 -- a mask that is made of no other one: its serial is 0
-abbrev pub mask_of : ℕ → ℕ → Unset → Bitmap
+abbrev pub mask_of : ℕ → ℕ → Option ℕ → Bitmap
 mask_of start n unset = mask_under 0 start n unset
 
 -- the same mask cut to the n flags of its bytes from `start` on, with their count, under its serial
-abbrev pub cut_mask : Bitmap → ℕ → ℕ → Unset → Bitmap
+abbrev pub cut_mask : Bitmap → ℕ → ℕ → Option ℕ → Bitmap
 cut_mask m start n unset = mask_under m.serial start n unset
 
 -- the same mask with another count
-abbrev pub with_count : Bitmap → Unset → Bitmap
+abbrev pub with_count : Bitmap → Option ℕ → Bitmap
 with_count m unset = cut_mask m m.start m.length unset
 
 -- the flags of a mask in its bytes
@@ -36,25 +32,25 @@ mask_flags m bytes = stretch bytes m.start m.length
 -- ---- the zero count
 
 -- is a known count this number
-abbrev pub count_is : Unset → ℕ → Bool
-count_is (Known z) n = eqb z n
-count_is Unknown n = true
+abbrev pub count_is : Option ℕ → ℕ → Bool
+count_is (Some z) n = eqb z n
+count_is None n = true
 
 -- check 3: a known zero count is the number of zeros among the mask's flags
 abbrev pub count_valid : Bitmap → List ℕ → Bool
 count_valid m bytes = count_is m.unset (zeros (mask_flags m bytes))
 
-abbrev pub count_or : Unset → ℕ → ℕ
-count_or (Known z) n = z
-count_or Unknown n = n
+abbrev pub count_or : Option ℕ → ℕ → ℕ
+count_or (Some z) n = z
+count_or None n = n
 
 -- the count that a mask brings: the known one, or the zeros counted
 unfoldable pub zero_count : Bitmap → List ℕ → ℕ
 zero_count m bytes = count_or m.unset (zeros (mask_flags m bytes))
 
 -- known as 0 where there are no flags, else unknown
-abbrev pub uncounted : ℕ → Unset
-uncounted n = cond (eqb n 0) (Known 0) Unknown
+abbrev pub uncounted : ℕ → Option ℕ
+uncounted n = cond (eqb n 0) (Some 0) None
 
 -- checks 1 to 3, of a mask
 unfoldable pub mask_checks : Bitmap → List ℕ → List Check
@@ -63,11 +59,7 @@ mask_checks m bytes = span_checks m.start m.length (length bytes) ++ (check 3 (c
 -- ---- new, try_new, unset_bits
 
 abbrev pub empty_mask : Bitmap
-empty_mask = mask_of 0 0 (Known 0)
-
-abbrev pub made_answer : Made → Answer (Unit {0}) Bitmap
-made_answer (Made.Mask m) = given m
-made_answer (Made.Refused k) = refused k tt
+empty_mask = mask_of 0 0 (Some 0)
 
 unfoldable pub try_new_of : List ℕ → ℕ → ℕ → Answer (Unit {0}) Bitmap
 try_new_of bytes start n = checked (span_checks start n (length bytes)) tt (mask_of start n (uncounted n))
@@ -77,24 +69,15 @@ unfoldable pub zeroed_checks : ℕ → ℕ → List Check
 zeroed_checks n size = within_limit n ∷ output_checks n size
 
 unfoldable pub new_zeroed_of : ℕ → List ℕ → Answer (Unit {0}) Bitmap
-new_zeroed_of n out = checked (zeroed_checks n (length out)) tt (mask_of 0 n (Known n))
+new_zeroed_of n out = checked (zeroed_checks n (length out)) tt (mask_of 0 n (Some n))
 
 unfoldable pub new_zeroed_bytes : ℕ → List ℕ → List ℕ
 new_zeroed_bytes n out = kept (first_failed (zeroed_checks n (length out))) (over out (frozen (copies n false))) out
 
--- a mask with its count, and the count
-pub record Recounted : Type 0 where
-  pub mask : Bitmap
-  pub zeros : ℕ
-
-abbrev pub counting_answer : Counting → Answer Bitmap Recounted
-counting_answer (Counting.Zeros z m) = given (record { mask = m; zeros = z })
-counting_answer (Counting.Refused k m) = refused k m
-
 unfoldable pub unset_bits_of : Bitmap → List ℕ → Answer Bitmap Recounted
 unset_bits_of m bytes =
     checked (mask_checks m bytes) m
-    (record { mask = with_count m (Known (zero_count m bytes)); zeros = zero_count m bytes })
+    (record { mask = with_count m (Some (zero_count m bytes)); zeros = zero_count m bytes })
 
 -- ---- slice
 
@@ -108,18 +91,18 @@ unfoldable pub recounts : ℕ → ℕ → ℕ → Bool
 recounts old n z = not (eqb z 0) && (not (eqb z old) && leb old (n + max (old / 5) 32))
 
 -- a known count that is not recounted: of none it stays 0, of all it becomes the new length, else it is unknown
-unfoldable pub kept_count : ℕ → ℕ → ℕ → Unset
-kept_count z old n = cond (eqb z 0) (Known 0) (cond (eqb z old) (Known n) Unknown)
+unfoldable pub kept_count : ℕ → ℕ → ℕ → Option ℕ
+kept_count z old n = cond (eqb z 0) (Some 0) (cond (eqb z old) (Some n) None)
 
 -- the count of a slice of n flags that cuts off so many zeros
-abbrev pub sliced_count : ℕ → ℕ → ℕ → Unset → Unset
-sliced_count old n cut Unknown = Unknown
-sliced_count old n cut (Known z) = cond (recounts old n z) (Known (z - cut)) (kept_count z old n)
+abbrev pub sliced_count : ℕ → ℕ → ℕ → Option ℕ → Option ℕ
+sliced_count old n cut None = None
+sliced_count old n cut (Some z) = cond (recounts old n z) (Some (z - cut)) (kept_count z old n)
 
 -- check 7, made where the slice recounts
-abbrev pub recount_valid : ℕ → ℕ → ℕ → Unset → Bool
-recount_valid old n cut Unknown = true
-recount_valid old n cut (Known z) = cond (recounts old n z) (leb cut z && leb (z - cut) n) true
+abbrev pub recount_valid : ℕ → ℕ → ℕ → Option ℕ → Bool
+recount_valid old n cut None = true
+recount_valid old n cut (Some z) = cond (recounts old n z) (leb cut z && leb (z - cut) n) true
 
 -- checks 1, 2, 3 and 6
 unfoldable pub piece_checks : Bitmap → List ℕ → ℕ → ℕ → List Check
@@ -134,10 +117,6 @@ slice_checks m bytes offset n =
 
 abbrev pub sliced_mask : Bitmap → List ℕ → ℕ → ℕ → Bitmap
 sliced_mask m bytes offset n = cut_mask m (m.start + offset) n (sliced_count m.length n (cut_zeros m bytes offset n) m.unset)
-
-abbrev pub sliced_answer : Sliced → Answer Bitmap Bitmap
-sliced_answer (Sliced.Mask m) = given m
-sliced_answer (Sliced.Refused k m) = refused k m
 
 unfoldable pub slice_of : Bitmap → List ℕ → ℕ → ℕ → Answer Bitmap Bitmap
 slice_of m bytes offset n = checked (slice_checks m bytes offset n) m (sliced_mask m bytes offset n)

@@ -1,29 +1,20 @@
 -- The next flag that is set in one mask and not in another, from a place on and going round once, and how many windows of 32 flags
 -- are read. Assumes nothing.
-use Rattle.std.specs.Prelude.{ℕ, ◌+◌, ◌-◌, ◌/◌, Bool, List, [], ◌∷◌, ◌++◌, eqb, leb}
-use Rattle.std.proofs.Math.Option.{Option, none, some}
-use Rattle.masks.specs.Answer.{Answer, given, refused, checked}
+use Rattle.std.specs.Prelude.{ℕ, ◌+◌, ◌-◌, ◌/◌, Bool, List, [], ◌∷◌, ◌++◌, eqb, leb, Option, Some, None}
+use Rattle.masks.specs.Answer.{Answer, checked}
 use Rattle.masks.specs.Checks.{Check, check}
 use Rattle.masks.specs.Combine.{AndNot, pair_flags}
 use Rattle.masks.specs.Mask.{mask_checks, mask_flags}
 use Rattle.masks.specs.Search.{nth_from}
 use Rattle.masks.specs.declared.bitmap.Bitmap.{Bitmap}
-use Rattle.masks.specs.declared.bitmap.Optional.{Optional}
-use Rattle.masks.specs.declared.bitmap.Optional.TheVariants.{Present, Absent}
-use Rattle.masks.specs.declared.next_and_not.Searched.{Searched}
-use Rattle.masks.specs.declared.next_and_not.Searched.TheVariants.{At, Missing, Refused}
+use Rattle.masks.specs.declared.next_and_not.Found.{Found}
 
 -- the flags that are set in the first mask and not in the second: those of `and_not`; without a second mask the first's
-unfoldable pub free_flags : Bitmap → List ℕ → Optional → List ℕ → List Bool
-free_flags a a_bytes (Present b) b_bytes = pair_flags AndNot a a_bytes b b_bytes
-free_flags a a_bytes Absent b_bytes = mask_flags a a_bytes
+unfoldable pub free_flags : Bitmap → List ℕ → Option Bitmap → List ℕ → List Bool
+free_flags a a_bytes (Some b) b_bytes = pair_flags AndNot a a_bytes b b_bytes
+free_flags a a_bytes None b_bytes = mask_flags a a_bytes
 
 -- ---- the position and the windows
-
--- what a search gives: a position, or none, and the number of windows read
-pub record Found : Type 0 where
-  pub position : Option ℕ
-  pub windows : ℕ
 
 -- how many windows of 32 flags n flags take
 abbrev pub windows_of : ℕ → ℕ
@@ -33,9 +24,9 @@ windows_of n = (n + 31) / 32
 -- below `from`. Here the first set position from `from` on, if there is one, and the first from 0 on. The window that holds the
 -- position is the last one read.
 unfoldable pub going_round : ℕ → ℕ → Option ℕ → Option ℕ → Found
-going_round n from (some p) first = record { position = some p; windows = (p - from) / 32 + 1 }
-going_round n from none (some p) = record { position = some p; windows = windows_of (n - from) + (p / 32 + 1) }
-going_round n from none none = record { position = none; windows = windows_of (n - from) + windows_of from }
+going_round n from (Some p) first = record { position = Some p; windows = (p - from) / 32 + 1 }
+going_round n from None (Some p) = record { position = Some p; windows = windows_of (n - from) + (p / 32 + 1) }
+going_round n from None None = record { position = None; windows = windows_of (n - from) + windows_of from }
 
 -- the first set flag of n flags at or after `from`, and if there is none the first from 0 on
 unfoldable pub next_set : ℕ → List Bool → ℕ → Found
@@ -44,20 +35,15 @@ next_set n l from = going_round n from (nth_from l 0 from) (nth_from l 0 0)
 -- ---- the call
 
 -- 1, 2 and 3 of a second mask that is there, and 5
-unfoldable pub other_checks : ℕ → Optional → List ℕ → List Check
-other_checks n (Present b) b_bytes = mask_checks b b_bytes ++ (check 5 (eqb n b.length) ∷ [])
-other_checks n Absent b_bytes = []
+unfoldable pub other_checks : ℕ → Option Bitmap → List ℕ → List Check
+other_checks n (Some b) b_bytes = mask_checks b b_bytes ++ (check 5 (eqb n b.length) ∷ [])
+other_checks n None b_bytes = []
 
 -- and 6: the place is at most the length
-unfoldable pub next_checks : Bitmap → List ℕ → Optional → List ℕ → ℕ → List Check
+unfoldable pub next_checks : Bitmap → List ℕ → Option Bitmap → List ℕ → ℕ → List Check
 next_checks a a_bytes second b_bytes from =
     mask_checks a a_bytes ++ (other_checks a.length second b_bytes ++ (check 6 (leb from a.length) ∷ []))
 
-abbrev pub searched_answer : Searched → Answer (Unit {0}) Found
-searched_answer (At p k) = given (record { position = some p; windows = k })
-searched_answer (Missing k) = given (record { position = none; windows = k })
-searched_answer (Refused k) = refused k tt
-
-unfoldable pub next_and_not_of : Bitmap → List ℕ → Optional → List ℕ → ℕ → Answer (Unit {0}) Found
+unfoldable pub next_and_not_of : Bitmap → List ℕ → Option Bitmap → List ℕ → ℕ → Answer (Unit {0}) Found
 next_and_not_of a a_bytes second b_bytes from =
     checked (next_checks a a_bytes second b_bytes from) tt (next_set a.length (free_flags a a_bytes second b_bytes) from)

@@ -1,12 +1,10 @@
 -- Many positions of ones at once. Assumes nothing.
 use Rattle.std.specs.Prelude.{ℕ, zero, suc, ◌+◌, cond, List, ltb, length, take, get_or}
 use Rattle.words.specs.Flags.{over}
-use Rattle.masks.specs.Answer.{Answer, given, refused, checked, kept}
+use Rattle.masks.specs.Answer.{Answer, checked, kept}
 use Rattle.masks.specs.Checks.{first_failed}
 use Rattle.masks.specs.TrueIdx.{ones_left, true_checks, true_flags, true_moved}
 use Rattle.masks.specs.declared.true_idx.TrueIdxIter.{TrueIdxIter}
-use Rattle.masks.specs.declared.true_idx.TrueChunk.{TrueChunk}
-use Rattle.masks.specs.declared.true_idx.TrueChunk.TheVariants.{Wrote, Refused}
 
 -- the positions that a cursor has before it
 abbrev pub left_of : TrueIdxIter → List ℕ → List ℕ
@@ -17,10 +15,6 @@ left_of c bytes = ones_left (true_flags c bytes) c.place
 unfoldable pub place_behind : TrueIdxIter → List ℕ → ℕ → ℕ
 place_behind c left zero = c.place
 place_behind c left (suc k) = cond (ltb k (length left)) (get_or left k 0 + 1) c.length
-
-abbrev pub positions_answer : TrueChunk → Answer TrueIdxIter (ℕ × TrueIdxIter)
-positions_answer (Wrote n c) = given (n, c)
-positions_answer (Refused k c) = refused k c
 
 -- of an output with room for so many: how many positions are written, and the cursor behind them
 unfoldable pub next_positions : TrueIdxIter → List ℕ → ℕ → Answer TrueIdxIter (ℕ × TrueIdxIter)

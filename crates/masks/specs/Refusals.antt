@@ -2,7 +2,7 @@
 --
 -- The calls stand in families; those of one family may refuse by the same numbers. `may_give` is the table of these, and `Refusals` the
 -- statement on every call and input, through the definitions that the contracts cite. `Witnesses` has an input for each number.
-use Rattle.std.specs.Prelude.{ℕ, ◌≡◌, Bool, true, false, ◌&&◌, ◌||◌, List, [], ◌∷◌, eqb, length}
+use Rattle.std.specs.Prelude.{ℕ, ◌≡◌, Bool, true, false, ◌&&◌, ◌||◌, List, [], ◌∷◌, eqb, length, Some, None}
 use Rattle.words.specs.declared.ops.Op.{Op}
 use Rattle.masks.specs.Aligned.{aligned_of}
 use Rattle.masks.specs.Answer.{Answer, refused}
@@ -25,7 +25,6 @@ use Rattle.masks.specs.Superseding.{record_of, superseding_of}
 use Rattle.masks.specs.TrueIdx.{true_at, new_true, next_true}
 use Rattle.masks.specs.Utils.{span_count}
 use Rattle.masks.specs.declared.bitmap.Bitmap.{Bitmap}
-use Rattle.masks.specs.declared.bitmap.Optional.TheVariants.{Present, Absent}
 use Rattle.masks.specs.declared.builder.BitmapBuilder.{BitmapBuilder}
 use Rattle.masks.specs.declared.chunks.BitChunks.{BitChunks}
 use Rattle.masks.specs.declared.iterator.BitmapIter.{BitmapIter}
@@ -174,17 +173,17 @@ pub record Refusals : Type 0 where
   pub edges : (m : Bitmap) (bytes : List ℕ) → Refuses (may_give masks) tt (edges_of m bytes)
   pub common : (a : Bitmap) (a_bytes : List ℕ) (b : Bitmap) (b_bytes : List ℕ) → Refuses (may_give intersections) tt (common_of a a_bytes b b_bytes)
   pub and_not_at : (a : Bitmap) (a_bytes : List ℕ) (b : Bitmap) (b_bytes : List ℕ) (i : ℕ)
-      → Refuses (may_give indexed-pairs) tt (and_not_at_of (Present a) a_bytes (Present b) b_bytes i)
+      → Refuses (may_give indexed-pairs) tt (and_not_at_of (Some a) a_bytes (Some b) b_bytes i)
   pub and-not-at-first : (a : Bitmap) (a_bytes b_bytes : List ℕ) (i : ℕ)
-      → Refuses (may_give indexed-masks) tt (and_not_at_of (Present a) a_bytes Absent b_bytes i)
+      → Refuses (may_give indexed-masks) tt (and_not_at_of (Some a) a_bytes None b_bytes i)
   pub and-not-at-second : (a_bytes : List ℕ) (b : Bitmap) (b_bytes : List ℕ) (i : ℕ)
-      → Refuses (may_give indexed-masks) tt (and_not_at_of Absent a_bytes (Present b) b_bytes i)
+      → Refuses (may_give indexed-masks) tt (and_not_at_of None a_bytes (Some b) b_bytes i)
   -- of no mask nothing is asked
-  pub and-not-at-none : (a_bytes b_bytes : List ℕ) (i : ℕ) → Refuses [] tt (and_not_at_of Absent a_bytes Absent b_bytes i)
+  pub and-not-at-none : (a_bytes b_bytes : List ℕ) (i : ℕ) → Refuses [] tt (and_not_at_of None a_bytes None b_bytes i)
   pub next_and_not : (a : Bitmap) (a_bytes : List ℕ) (b : Bitmap) (b_bytes : List ℕ) (from : ℕ)
-      → Refuses (may_give indexed-pairs) tt (next_and_not_of a a_bytes (Present b) b_bytes from)
+      → Refuses (may_give indexed-pairs) tt (next_and_not_of a a_bytes (Some b) b_bytes from)
   pub next-and-not-alone : (a : Bitmap) (a_bytes b_bytes : List ℕ) (from : ℕ)
-      → Refuses (may_give indexed-masks) tt (next_and_not_of a a_bytes Absent b_bytes from)
+      → Refuses (may_give indexed-masks) tt (next_and_not_of a a_bytes None b_bytes from)
   pub superseding_part : (a : Bitmap) (a_bytes : List ℕ) (b : Bitmap) (b_bytes : List ℕ)
       → Refuses (may_give supersessions) tt (superseding_of a a_bytes b b_bytes)
   pub superseding : (a : Bitmap) (a_bytes : List ℕ) (b : Bitmap) (b_bytes : List ℕ)
@@ -195,8 +194,8 @@ pub record Refusals : Type 0 where
   pub iter-new : (bytes : List ℕ) (start n : ℕ) → Refuses (may_give spans) tt (new_iter bytes start n)
   pub iter-nth : (c : BitmapIter) (bytes : List ℕ) (k : ℕ) → Refuses (may_give cursors) c (nth_flag c bytes k)
   pub iter-take : (x : Bool) (c : BitmapIter) (bytes : List ℕ) → Refuses (may_give cursors) c (take_leading x c bytes)
-  pub true-new : (n : ℕ) (m : Bitmap) (bytes : List ℕ) → Refuses (may_give stated-masks) tt (new_true n (Present m) bytes)
-  pub true-new_unmasked : (n : ℕ) (bytes : List ℕ) → Refuses (may_give stated_lengths) tt (new_true n Absent bytes)
+  pub true-new : (n : ℕ) (m : Bitmap) (bytes : List ℕ) → Refuses (may_give stated-masks) tt (new_true n (Some m) bytes)
+  pub true-new_unmasked : (n : ℕ) (bytes : List ℕ) → Refuses (may_give stated_lengths) tt (new_true n None bytes)
   pub true-next : (start n place : ℕ) (bytes : List ℕ)
       → let c = true_at start n place true in Refuses (may_give cursors) c (next_true c bytes)
   pub true-next_unmasked : (start n place : ℕ) (bytes : List ℕ)

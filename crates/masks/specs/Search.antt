@@ -1,28 +1,20 @@
 -- The set flag number n of a list, counted from a place on, and counted down from below an end. Assumes nothing.
-use Rattle.std.specs.Prelude.{ℕ, ◌+◌, ◌-◌, Bool, cond, List, ltb, length, take, drop}
-use Rattle.std.proofs.Math.Option.{Option, none, some}
+use Rattle.std.specs.Prelude.{ℕ, ◌+◌, ◌-◌, Bool, cond, List, ltb, length, take, drop, Option, Some, None}
 use Rattle.words.specs.Flags.{count}
 use Rattle.words.specs.Loops.{stretch}
 use Rattle.words.specs.Nth.{nth_place}
-use Rattle.masks.specs.Answer.{Answer, given, refused, checked}
+use Rattle.masks.specs.Answer.{Answer, checked}
 use Rattle.masks.specs.Checks.{span_checks}
-use Rattle.masks.specs.declared.bitmask.Position.{Position}
-use Rattle.masks.specs.declared.bitmask.Position.TheVariants.{At, Missing, Refused}
 
 -- the position, at or after `from`, of the n-th set flag there, counted from 0; none if at most n are set
 unfoldable pub nth_from : List Bool → ℕ → ℕ → Option ℕ
-nth_from l n from = cond (ltb n (count (drop from l))) (some (from + nth_place (drop from l) n)) none
+nth_from l n from = cond (ltb n (count (drop from l))) (Some (from + nth_place (drop from l) n)) None
 
 -- the position of the n-th set flag counted down from below `end`: of c set flags before it, the one numbered c - 1 - n
 unfoldable pub nth_back : List Bool → ℕ → ℕ → Option ℕ
-nth_back l n end = cond (ltb n (count (take end l))) (some (nth_place (take end l) (count (take end l) - 1 - n))) none
+nth_back l n end = cond (ltb n (count (take end l))) (Some (nth_place (take end l) (count (take end l) - 1 - n))) None
 
 -- ---- the calls: checks 1 and 2
-
-abbrev pub position_answer : Position → Answer (Unit {0}) (Option ℕ)
-position_answer (At k) = given (some k)
-position_answer Missing = given none
-position_answer (Refused k) = refused k tt
 
 unfoldable pub search_from : List ℕ → ℕ → ℕ → ℕ → ℕ → Answer (Unit {0}) (Option ℕ)
 search_from bytes start size n from = checked (span_checks start size (length bytes)) tt (nth_from (stretch bytes start size) n from)

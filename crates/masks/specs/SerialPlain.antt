@@ -2,15 +2,15 @@
 --
 -- Each line speaks of a call that was accepted; a refused one gives back the record that it got (`Refusals`). The statement names none
 -- of the definitions that decide on a serial.
-use Rattle.std.specs.Prelude.{ℕ, ◌≤◌, ◌≡◌, Bool, List, [], ◌∷◌, ◌⊎◌}
-use Rattle.std.proofs.Math.Option.{some}
+use Rattle.std.specs.Prelude.{ℕ, ◌≤◌, ◌≡◌, Bool, List, [], ◌∷◌, ◌⊎◌, Some}
 use Rattle.words.specs.declared.ops.Op.{Op}
+use Rattle.masks.specs.declared.bitmap.Recounted.{Recounted}
 use Rattle.masks.specs.Answer.{given}
 use Rattle.masks.specs.Appends.{Append, append_answer}
 use Rattle.masks.specs.Builder.{new_builder}
 use Rattle.masks.specs.Combine.{pair_of, not_of, select_of, select_constant_of}
 use Rattle.masks.specs.Freeze.{freeze_of, into_opt_validity_of}
-use Rattle.masks.specs.Mask.{empty_mask, try_new_of, new_zeroed_of, unset_bits_of, slice_of, Recounted}
+use Rattle.masks.specs.Mask.{empty_mask, try_new_of, new_zeroed_of, unset_bits_of, slice_of}
 use Rattle.masks.specs.declared.bitmap.Bitmap.{Bitmap}
 use Rattle.masks.specs.declared.builder.BitmapBuilder.{BitmapBuilder}
 
@@ -35,7 +35,7 @@ pub record SerialsPlainly : Type 0 where
   -- extensions, both pushes among them, leave the builder's own; `freeze` and `into_opt_validity` hand it on
   pub append : (a : Append) (b : BitmapBuilder) (buf : List ℕ) (c : BitmapBuilder) → given c ≡ append_answer a b buf → c.serial ≡ b.serial
   pub freeze : (b : BitmapBuilder) (buf : List ℕ) (m : Bitmap) → given m ≡ freeze_of b buf → m.serial ≡ b.serial
-  pub into-opt-validity : (b : BitmapBuilder) (buf : List ℕ) (m : Bitmap) → given (some m) ≡ into_opt_validity_of b buf → m.serial ≡ b.serial
+  pub into-opt-validity : (b : BitmapBuilder) (buf : List ℕ) (m : Bitmap) → given (Some m) ≡ into_opt_validity_of b buf → m.serial ≡ b.serial
   -- `slice` and `unset_bits` keep their mask's
   pub slice : (m : Bitmap) (bytes : List ℕ) (offset n : ℕ) (s : Bitmap) → given s ≡ slice_of m bytes offset n → s.serial ≡ m.serial
   pub unset_bits : (m : Bitmap) (bytes : List ℕ) (r : Recounted) → given r ≡ unset_bits_of m bytes → r.mask.serial ≡ m.serial

@@ -1,7 +1,7 @@
 -- The runs of ones of a mask, one by one. Assumes nothing.
 use Rattle.std.specs.Prelude.{ℕ, suc, ◌+◌, Bool, true, false, cond, List, [], ◌∷◌, ltb, eqb, length}
 use Rattle.words.specs.Loops.{stretch}
-use Rattle.masks.specs.Answer.{Answer, given, refused, checked}
+use Rattle.masks.specs.Answer.{Answer, checked}
 use Rattle.masks.specs.Checks.{Check}
 use Rattle.masks.specs.Cursor.{Step, item, ended, cursor_checks}
 use Rattle.masks.specs.Iterator.{leading_from}
@@ -9,10 +9,6 @@ use Rattle.masks.specs.Mask.{mask_checks}
 use Rattle.masks.specs.declared.bitmap.Bitmap.{Bitmap}
 use Rattle.masks.specs.declared.slice_iterator.Run.{Run}
 use Rattle.masks.specs.declared.slice_iterator.SlicesIterator.{SlicesIterator}
-use Rattle.masks.specs.declared.slice_iterator.Slices.{Slices}
-use Rattle.masks.specs.declared.slice_iterator.Slices.TheVariants.{Cursor, Refused as Slices-as-Refused}
-use Rattle.masks.specs.declared.slice_iterator.Slice.{Slice}
-use Rattle.masks.specs.declared.slice_iterator.Slice.TheVariants.{Next, Done, Refused as Slice-as-Refused}
 
 -- the one place where a cursor's record is made. Its place counts flags.
 abbrev pub slices_at : ℕ → ℕ → ℕ → SlicesIterator
@@ -26,10 +22,6 @@ abbrev pub run_of : ℕ → ℕ → Run
 run_of first n = record { start = first; length = n }
 
 -- ---- a new cursor: checks 1 to 3
-
-abbrev pub slices_answer : Slices → Answer (Unit {0}) SlicesIterator
-slices_answer (Cursor c) = given c
-slices_answer (Slices-as-Refused k) = refused k tt
 
 unfoldable pub new_slices : Bitmap → List ℕ → Answer (Unit {0}) SlicesIterator
 new_slices m bytes = checked (mask_checks m bytes) tt (slices_at m.start m.length 0)
@@ -49,11 +41,6 @@ slice_step c l =
     let first = run_start l c.place in
     let n = leading_from true l first in
     cond (ltb first c.length) (item (run_of first n) (slices_moved c (first + n))) (ended (slices_moved c c.length))
-
-abbrev pub slice_answer : Slice → Answer SlicesIterator (Step SlicesIterator Run)
-slice_answer (Next r c) = given (item r c)
-slice_answer (Done c) = given (ended c)
-slice_answer (Slice-as-Refused k c) = refused k c
 
 unfoldable pub next_slice : SlicesIterator → List ℕ → Answer SlicesIterator (Step SlicesIterator Run)
 next_slice c bytes = checked (run_checks c bytes) c (slice_step c (stretch bytes c.start c.length))

@@ -3,8 +3,7 @@
 --
 -- A row has the numbers that a call gives, through the definition that its contract cites, and those that the papers' words give there,
 -- worked out by hand. `proofs/StartRows.antt` proves that the columns are equal.
-use Rattle.std.specs.Prelude.{ℕ, ◌≡◌, true, false, List, [], ◌∷◌, map, replicate}
-use Rattle.std.proofs.Math.Option.{Option, none, some}
+use Rattle.std.specs.Prelude.{ℕ, ◌≡◌, true, false, List, [], ◌∷◌, map, replicate, Option, Some, None}
 use Rattle.words.specs.Flags.{digit}
 use Rattle.masks.specs.Answer.{Answer, given, refused}
 use Rattle.masks.specs.Bitmask.{split_at, window_at}
@@ -18,7 +17,6 @@ use Rattle.masks.specs.Search.{search_from, search_back}
 use Rattle.masks.specs.SliceIterator.{new_slices, next_slice, slices_at}
 use Rattle.masks.specs.TrueIdx.{new_true, next_true, true_at}
 use Rattle.masks.specs.declared.bitmap.Bitmap.{Bitmap}
-use Rattle.masks.specs.declared.bitmap.Optional.TheVariants.{Present, Absent}
 use Rattle.masks.specs.declared.bitmask.Span.{Span}
 use Rattle.masks.specs.declared.chunks.BitChunks.{BitChunks}
 use Rattle.masks.specs.declared.iterator.BitmapIter.{BitmapIter}
@@ -62,8 +60,8 @@ remaining (given p) = p.0 ∷ p.1 ∷ []
 remaining (refused k c) = []
 
 abbrev pub placed : Answer (Unit {0}) (Option ℕ) → List ℕ
-placed (given (some p)) = p ∷ []
-placed (given none) = []
+placed (given (Some p)) = p ∷ []
+placed (given None) = []
 placed (refused k s) = k ∷ k ∷ []
 
 abbrev pub cut : Answer Bitmap Bitmap → List ℕ
@@ -96,8 +94,8 @@ start_rows =
     ∷ numbers (stepped slices_numbers (λ (r : Run). r.length) (next_slice (slices_at 4 12 5) two_bytes)) (2 ∷ 4 ∷ 12 ∷ 8 ∷ [])
     ∷ numbers (stepped slices_numbers (λ (r : Run). r.length) (next_slice (slices_at 4 12 10) two_bytes)) (4 ∷ 12 ∷ 12 ∷ [])
     -- ones
-    ∷ numbers (made true_numbers (new_true 12 (Present twelve) two_bytes)) (4 ∷ 12 ∷ 0 ∷ 1 ∷ [])
-    ∷ numbers (made true_numbers (new_true 12 Absent [])) (0 ∷ 12 ∷ 0 ∷ 0 ∷ [])
+    ∷ numbers (made true_numbers (new_true 12 (Some twelve) two_bytes)) (4 ∷ 12 ∷ 0 ∷ 1 ∷ [])
+    ∷ numbers (made true_numbers (new_true 12 None [])) (0 ∷ 12 ∷ 0 ∷ 0 ∷ [])
     ∷ numbers (stepped true_numbers (λ (p : ℕ). p) (next_true (true_at 4 12 5 true) two_bytes)) (6 ∷ 4 ∷ 12 ∷ 7 ∷ 1 ∷ [])
     ∷ numbers (stepped true_numbers (λ (p : ℕ). p) (next_true (true_at 0 12 5 false) [])) (5 ∷ 0 ∷ 12 ∷ 6 ∷ 0 ∷ [])
     ∷ numbers (stepped true_numbers (λ (p : ℕ). p) (next_true (true_at 4 12 10 true) two_bytes)) (4 ∷ 12 ∷ 12 ∷ 1 ∷ [])

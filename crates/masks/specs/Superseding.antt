@@ -6,7 +6,6 @@ use Rattle.masks.specs.Checks.{Check, check}
 use Rattle.masks.specs.Mask.{cut_mask, mask_checks, mask_flags}
 use Rattle.masks.specs.declared.bitmap.Bitmap.{Bitmap}
 use Rattle.masks.specs.declared.superseding.Part.{Part}
-use Rattle.masks.specs.declared.superseding.Winner.{Winner}
 
 -- ---- the checks
 
@@ -34,10 +33,6 @@ abbrev pub winning : Bitmap → Bitmap → Part
 winning a b = cond (ltb a.serial b.serial) (part_of true b) (part_of false a)
 
 -- ---- the answers
-
-abbrev pub winner_answer : Winner → Answer (Unit {0}) Part
-winner_answer (Winner.Found p) = given p
-winner_answer (Winner.Refused k) = refused k tt
 
 unfoldable pub superseding_of : Bitmap → List ℕ → Bitmap → List ℕ → Answer (Unit {0}) Part
 superseding_of a a_bytes b b_bytes = checked (superseding_checks a a_bytes b b_bytes) tt (winning a b)

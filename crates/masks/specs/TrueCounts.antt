@@ -1,16 +1,14 @@
 -- When a zero count is true, and which masks the theorem on histories is about. Assumes nothing.
-use Rattle.std.specs.Prelude.{ℕ, ◌+◌, ◌*◌, ◌≤◌, ◌≡◌, Bool, List, length}
+use Rattle.std.specs.Prelude.{ℕ, ◌+◌, ◌*◌, ◌≤◌, ◌≡◌, Bool, List, length, Option, Some, None}
 use Rattle.masks.specs.Checks.{limit}
 use Rattle.masks.specs.Mask.{mask_flags}
 use Rattle.masks.specs.Utils.{zeros}
 use Rattle.masks.specs.declared.bitmap.Bitmap.{Bitmap}
-use Rattle.masks.specs.declared.bitmap.Unset.{Unset}
-use Rattle.masks.specs.declared.bitmap.Unset.TheVariants.{Known, Unknown}
 
 -- a known count is the number of zeros; an unknown one says nothing
-abbrev pub TrueCount : Unset → List Bool → Type 0
-TrueCount (Known z) l = z ≡ zeros l
-TrueCount Unknown l = Unit {0}
+abbrev pub TrueCount : Option ℕ → List Bool → Type 0
+TrueCount (Some z) l = z ≡ zeros l
+TrueCount None l = Unit {0}
 
 -- a mask with no count or a true one
 abbrev pub Truthful : Bitmap → List ℕ → Type 0

@@ -1,20 +1,14 @@
 -- The positions of the ones of a mask; with no mask every position. Assumes nothing.
-use Rattle.std.specs.Prelude.{ℕ, suc, ◌+◌, Bool, true, false, cond, List, [], ◌∷◌, ◌++◌, leb, eqb, length, drop}
-use Rattle.std.proofs.Math.Option.{Option, none, some}
+use Rattle.std.specs.Prelude.{ℕ, suc, ◌+◌, Bool, true, false, cond, List, [], ◌∷◌, ◌++◌, leb, eqb, length, drop, Option, Some, None}
 use Rattle.words.specs.Flags.{copies}
 use Rattle.words.specs.Loops.{stretch}
-use Rattle.masks.specs.Answer.{Answer, given, refused, checked}
+use Rattle.masks.specs.declared.bitmap.Bitmap.{Bitmap}
+use Rattle.masks.specs.Answer.{Answer, checked}
 use Rattle.masks.specs.Checks.{Check, check, within_limit}
 use Rattle.masks.specs.Cursor.{Step, item, ended, cursor_checks}
 use Rattle.masks.specs.Mask.{mask_checks}
 use Rattle.masks.specs.Search.{nth_from}
-use Rattle.masks.specs.declared.bitmap.Optional.{Optional}
-use Rattle.masks.specs.declared.bitmap.Optional.TheVariants.{Present, Absent}
 use Rattle.masks.specs.declared.true_idx.TrueIdxIter.{TrueIdxIter}
-use Rattle.masks.specs.declared.true_idx.TrueIter.{TrueIter}
-use Rattle.masks.specs.declared.true_idx.TrueIter.TheVariants.{Cursor, Refused as TrueIter-as-Refused}
-use Rattle.masks.specs.declared.true_idx.TrueIdx.{TrueIdx}
-use Rattle.masks.specs.declared.true_idx.TrueIdx.TheVariants.{Index, Done, Refused as TrueIdx-as-Refused}
 
 -- the one place where a cursor's record is made
 abbrev pub true_at : ℕ → ℕ → ℕ → Bool → TrueIdxIter
@@ -27,20 +21,16 @@ true_moved c place = true_at c.start c.length place c.masked
 -- ---- a new cursor
 
 -- checks 1 to 3 and 5; with no mask, check 1
-unfoldable pub new_true_checks : ℕ → Optional → List ℕ → List Check
-new_true_checks n (Present m) bytes = (within_limit n ∷ []) ++ (mask_checks m bytes ++ (check 5 (eqb n m.length) ∷ []))
-new_true_checks n Absent bytes = within_limit n ∷ []
+unfoldable pub new_true_checks : ℕ → Option Bitmap → List ℕ → List Check
+new_true_checks n (Some m) bytes = (within_limit n ∷ []) ++ (mask_checks m bytes ++ (check 5 (eqb n m.length) ∷ []))
+new_true_checks n None bytes = within_limit n ∷ []
 
 -- the cursor marks whether there is a mask
-unfoldable pub first_true : ℕ → Optional → TrueIdxIter
-first_true n (Present m) = true_at m.start n 0 true
-first_true n Absent = true_at 0 n 0 false
+unfoldable pub first_true : ℕ → Option Bitmap → TrueIdxIter
+first_true n (Some m) = true_at m.start n 0 true
+first_true n None = true_at 0 n 0 false
 
-abbrev pub true_iter_answer : TrueIter → Answer (Unit {0}) TrueIdxIter
-true_iter_answer (Cursor c) = given c
-true_iter_answer (TrueIter-as-Refused k) = refused k tt
-
-unfoldable pub new_true : ℕ → Optional → List ℕ → Answer (Unit {0}) TrueIdxIter
+unfoldable pub new_true : ℕ → Option Bitmap → List ℕ → Answer (Unit {0}) TrueIdxIter
 new_true n mask bytes = checked (new_true_checks n mask bytes) tt (first_true n mask)
 
 -- ---- the next position
@@ -57,13 +47,8 @@ true_checks c size =
 
 -- the position and the cursor just past it; none, and the cursor at the length
 unfoldable pub true_step : TrueIdxIter → Option ℕ → Step TrueIdxIter ℕ
-true_step c none = ended (true_moved c c.length)
-true_step c (some p) = item p (true_moved c (p + 1))
-
-abbrev pub true_idx_answer : TrueIdx → Answer TrueIdxIter (Step TrueIdxIter ℕ)
-true_idx_answer (Index p c) = given (item p c)
-true_idx_answer (Done c) = given (ended c)
-true_idx_answer (TrueIdx-as-Refused k c) = refused k c
+true_step c None = ended (true_moved c c.length)
+true_step c (Some p) = item p (true_moved c (p + 1))
 
 -- the first one at or after the place
 unfoldable pub next_true : TrueIdxIter → List ℕ → Answer TrueIdxIter (Step TrueIdxIter ℕ)

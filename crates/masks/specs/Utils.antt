@@ -2,17 +2,11 @@
 use Rattle.std.specs.Prelude.{ℕ, Bool, not, List, map, length}
 use Rattle.words.specs.Flags.{count}
 use Rattle.masks.specs.Aligned.{aligned_checks}
-use Rattle.masks.specs.Answer.{Answer, given, refused, checked, unless_empty}
-use Rattle.masks.specs.declared.utils.Counted.{Counted}
-use Rattle.masks.specs.declared.utils.Counted.TheVariants.{Count, Refused}
+use Rattle.masks.specs.Answer.{Answer, given, checked, unless_empty}
 
 -- how many flags are zero
 unfoldable pub zeros : List Bool → ℕ
 zeros l = count (map not l)
-
-abbrev pub counted_answer : Counted → Answer (Unit {0}) ℕ
-counted_answer (Count n) = given n
-counted_answer (Refused k) = refused k tt
 
 -- the answer of a count over a span of n flags: 0 before any check where there is none, else the value after checks 1, 2
 -- and 8

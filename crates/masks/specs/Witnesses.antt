@@ -3,7 +3,7 @@
 --
 -- `proofs/Witnesses.antt` computes what the definitions that the calls' contracts cite give at these inputs. The calls stand above
 -- their lists, in the order of these.
-use Rattle.std.specs.Prelude.{ℕ, ◌≡◌, true, false, cond, List, [], ◌∷◌, ◌++◌, eqb, length, drop, replicate}
+use Rattle.std.specs.Prelude.{ℕ, ◌≡◌, true, false, cond, List, [], ◌∷◌, ◌++◌, eqb, length, drop, replicate, Option, Some, None}
 use Rattle.words.specs.Ends.{leading, trailing}
 use Rattle.words.specs.Loops.{stretch}
 use Rattle.words.specs.declared.ops.Op.{Op}
@@ -31,9 +31,6 @@ use Rattle.masks.specs.Superseding.{record_of, superseding_of}
 use Rattle.masks.specs.TrueIdx.{true_at, new_true, next_true}
 use Rattle.masks.specs.Utils.{span_count, zeros}
 use Rattle.masks.specs.declared.bitmap.Bitmap.{Bitmap}
-use Rattle.masks.specs.declared.bitmap.Optional.{Optional}
-use Rattle.masks.specs.declared.bitmap.Optional.TheVariants.{Present, Absent}
-use Rattle.masks.specs.declared.bitmap.Unset.TheVariants.{Known, Unknown}
 use Rattle.masks.specs.declared.builder.BitmapBuilder.{BitmapBuilder}
 
 -- ---- inputs
@@ -48,10 +45,10 @@ abbrev pub byte : List ℕ
 byte = 0x2D ∷ []
 
 abbrev pub whole : Bitmap
-whole = mask_of 0 8 Unknown
+whole = mask_of 0 8 None
 
 abbrev pub shorter : Bitmap
-shorter = mask_of 0 7 Unknown
+shorter = mask_of 0 7 None
 
 -- a lent buffer, a length just past the limit, and a builder of no flags with a bit in its word
 abbrev pub buffer : List ℕ
@@ -73,11 +70,11 @@ at_cursors f = f too_long 1 0 ∷ f 2 7 0 ∷ f 0 8 9 ∷ []
 
 -- at masks that checks 1 to 3 refuse: the byte has four zeros
 abbrev pub at_masks : (Bitmap → ℕ) → List ℕ
-at_masks f = f (mask_of 0 too_long Unknown) ∷ f (mask_of 2 7 Unknown) ∷ f (mask_of 0 8 (Known 3)) ∷ []
+at_masks f = f (mask_of 0 too_long None) ∷ f (mask_of 2 7 None) ∷ f (mask_of 0 8 (Some 3)) ∷ []
 
 -- the same, of masks that are short, so that their flags can be listed
 abbrev pub at_short_masks : (Bitmap → ℕ) → List ℕ
-at_short_masks f = f (mask_of too_long 1 Unknown) ∷ f (mask_of 2 7 Unknown) ∷ f (mask_of 0 8 (Known 9)) ∷ []
+at_short_masks f = f (mask_of too_long 1 None) ∷ f (mask_of 2 7 None) ∷ f (mask_of 0 8 (Some 9)) ∷ []
 
 -- at spans and address remainders that checks 1, 2 and 8 refuse
 abbrev pub at_addresses : (ℕ → ℕ → ℕ → ℕ) → List ℕ
@@ -119,11 +116,11 @@ abbrev pub select_constant_number : Bitmap → List ℕ → ℕ
 select_constant_number m out = number_of (select_constant_of whole byte m byte false out)
 
 -- the number of `and_not` at an index of masks over the byte
-abbrev pub at_number : Optional → Optional → ℕ → ℕ
+abbrev pub at_number : Option Bitmap → Option Bitmap → ℕ → ℕ
 at_number first second i = number_of (and_not_at_of first byte second byte i)
 
 -- the number of `next_and_not` from a place on
-abbrev pub next_number : Bitmap → Optional → ℕ → ℕ
+abbrev pub next_number : Bitmap → Option Bitmap → ℕ → ℕ
 next_number first second from = number_of (next_and_not_of first byte second byte from)
 
 -- ---- the table: for each call a list, what its definition gives at one input for each number of its family
@@ -244,28 +241,28 @@ witnesses intersections =
     ∷ []
 witnesses indexed-pairs =
     -- `and_not_at` of two masks, where the first is refused and where the second is
-    (at_masks (λ m. at_number (Present m) (Present whole) 0)
-    ++ (at_number (Present shorter) (Present whole) 0 ∷ at_number (Present whole) (Present whole) 8 ∷ []))
-    ∷ (at_masks (λ m. at_number (Present whole) (Present m) 0)
-    ++ (at_number (Present whole) (Present shorter) 0 ∷ at_number (Present whole) (Present whole) 8 ∷ []))
+    (at_masks (λ m. at_number (Some m) (Some whole) 0)
+    ++ (at_number (Some shorter) (Some whole) 0 ∷ at_number (Some whole) (Some whole) 8 ∷ []))
+    ∷ (at_masks (λ m. at_number (Some whole) (Some m) 0)
+    ++ (at_number (Some whole) (Some shorter) 0 ∷ at_number (Some whole) (Some whole) 8 ∷ []))
     -- `next_and_not` likewise
-    ∷ (at_masks (λ m. next_number m (Present whole) 0) ++ (next_number shorter (Present whole) 0 ∷ next_number whole (Present whole) 9 ∷ []))
-    ∷ (at_masks (λ m. next_number whole (Present m) 0) ++ (next_number whole (Present shorter) 0 ∷ next_number whole (Present whole) 9 ∷ []))
+    ∷ (at_masks (λ m. next_number m (Some whole) 0) ++ (next_number shorter (Some whole) 0 ∷ next_number whole (Some whole) 9 ∷ []))
+    ∷ (at_masks (λ m. next_number whole (Some m) 0) ++ (next_number whole (Some shorter) 0 ∷ next_number whole (Some whole) 9 ∷ []))
     ∷ []
 witnesses indexed-masks =
     -- `and_not_at` of the first mask alone, and of the second
-    (at_masks (λ m. at_number (Present m) Absent 0) ++ (at_number (Present whole) Absent 8 ∷ []))
-    ∷ (at_masks (λ m. at_number Absent (Present m) 0) ++ (at_number Absent (Present whole) 8 ∷ []))
+    (at_masks (λ m. at_number (Some m) None 0) ++ (at_number (Some whole) None 8 ∷ []))
+    ∷ (at_masks (λ m. at_number None (Some m) 0) ++ (at_number None (Some whole) 8 ∷ []))
     -- `next_and_not` of the first mask alone
-    ∷ (at_masks (λ m. next_number m Absent 0) ++ (next_number whole Absent 9 ∷ []))
+    ∷ (at_masks (λ m. next_number m None 0) ++ (next_number whole None 9 ∷ []))
     ∷ []
 witnesses stated-masks =
     -- `TrueIdxIter::new`
-    (at_masks (λ m. number_of (new_true 8 (Present m) byte)) ++ (number_of (new_true 8 (Present shorter) byte) ∷ []))
+    (at_masks (λ m. number_of (new_true 8 (Some m) byte)) ++ (number_of (new_true 8 (Some shorter) byte) ∷ []))
     ∷ []
 witnesses stated_lengths =
     -- `TrueIdxIter::new`
-    (number_of (new_true too_long Absent []) ∷ [])
+    (number_of (new_true too_long None []) ∷ [])
     ∷ []
 witnesses supersessions =
     -- `superseding_part`, where the first is refused and where the second is

@@ -1,11 +1,11 @@
 -- What the private functions of masks ask and promise each other. No contract of a public function cites it, so it need not be
 -- believed. Assumes nothing.
-use Rattle.std.specs.Prelude.{◌≡◌, ◌⊎◌, ℕ, ◌+◌, ◌-◌, ◌*◌, ◌/◌, ◌%◌, ◌≤◌, ◌<◌, Bool, true, false, cond, ◌&&◌, ◌||◌, List, ◌++◌, eqb, leb, take}
+use Rattle.masks.specs.declared.refusal.Refusal.{Refusal}
+use Rattle.masks.specs.declared.refusal.Refused.{Refused}
+use Rattle.masks.specs.declared.refusal.Refusal.TheVariants.{WrongRecount}
+use Rattle.std.specs.Prelude.{◌≡◌, ℕ, ◌+◌, ◌-◌, ◌*◌, ◌/◌, ◌%◌, ◌≤◌, ◌<◌, Bool, true, false, cond, ◌&&◌, ◌||◌, List, ◌++◌, eqb, leb, take, Option, Some, None, Result, Ok, Err}
 use Rattle.words.specs.Flags.{bits, count, word_flags}
 use Rattle.words.specs.Loops.{stretch}
-use Rattle.words.specs.Nth.{Found, at_place, only_ones}
-use Rattle.words.specs.declared.ops.Op.{Op}
-use Rattle.words.specs.declared.ops.Op.TheVariants.{And, AndNot, Or, OrNot, Xor, Not, Select}
 use Rattle.masks.specs.Bitmask.{window_word}
 use Rattle.masks.specs.Builder.{none_from}
 use Rattle.masks.specs.Checks.{limit}
@@ -15,16 +15,7 @@ use Rattle.masks.specs.Search.{nth_from, nth_back}
 use Rattle.masks.specs.SliceIterator.{run_of, run_start}
 use Rattle.masks.specs.declared.aligned.AlignedBitmapSlice.{AlignedBitmapSlice}
 use Rattle.masks.specs.declared.bitmap.Bitmap.{Bitmap}
-use Rattle.masks.specs.declared.bitmap.Cut.{Cut}
-use Rattle.masks.specs.declared.bitmap.Optional.{Optional}
-use Rattle.masks.specs.declared.bitmap.Optional.TheVariants.{Present, Absent}
-use Rattle.masks.specs.declared.bitmap.Unset.{Unset}
-use Rattle.masks.specs.declared.bitmap.Unset.TheVariants.{Known}
-use Rattle.masks.specs.declared.bitmask.Seen.{Seen}
-use Rattle.masks.specs.declared.bitmask.Seen.TheVariants.{There, Only}
 use Rattle.masks.specs.declared.builder.BitmapBuilder.{BitmapBuilder}
-use Rattle.masks.specs.declared.shortcuts.Shortcut.{Shortcut}
-use Rattle.masks.specs.declared.shortcuts.Shortcut.TheVariants.{Each, All}
 use Rattle.masks.specs.declared.slice_iterator.Run.{Run}
 
 -- ---- `utils`: counts over the parts of an aligned split
@@ -58,42 +49,14 @@ pub record PieceAllowed (m : Bitmap) (offset n : ℕ) : Type 0 where
   pub inside : offset + n ≤ m.length
 
 -- a recount: z less the zeros cut off, of n flags
-unfoldable pub recounted_of : ℕ → ℕ → ℕ → Cut
-recounted_of z cut n = cond (leb cut z && leb (z - cut) n) (Cut.Count (Known (z - cut))) Cut.Wrong
+unfoldable pub recounted_of : ℕ → ℕ → ℕ → Result (Option ℕ) Refusal
+recounted_of z cut n = cond (leb cut z && leb (z - cut) n) (Ok (Some (z - cut))) (Err WrongRecount)
 
 -- the count of a slice, or that check 7 fails
-abbrev pub cut_of : ℕ → ℕ → ℕ → Unset → Cut
-cut_of old n cut u = cond (recount_valid old n cut u) (Cut.Count (sliced_count old n cut u)) Cut.Wrong
+abbrev pub cut_of : ℕ → ℕ → ℕ → Option ℕ → Result (Option ℕ) Refusal
+cut_of old n cut u = cond (recount_valid old n cut u) (Ok (sliced_count old n cut u)) (Err WrongRecount)
 
 -- ---- `shortcuts`
-
--- an operation that has a shortcut
-abbrev pub has_shortcut : Op → Bool
-has_shortcut And = true
-has_shortcut Or = true
-has_shortcut Xor = true
-has_shortcut AndNot = false
-has_shortcut OrNot = false
-has_shortcut Not = false
-has_shortcut Select = false
-
-abbrev pub is_xor : Op → Bool
-is_xor And = false
-is_xor Or = false
-is_xor Xor = true
-is_xor AndNot = false
-is_xor OrNot = false
-is_xor Not = false
-is_xor Select = false
-
-abbrev pub is_or : Op → Bool
-is_or And = false
-is_or Or = true
-is_or Xor = false
-is_or AndNot = false
-is_or OrNot = false
-is_or Not = false
-is_or Select = false
 
 -- the zeros of n flags that are all x
 abbrev pub zeros_of_all : Bool → ℕ → ℕ
@@ -105,19 +68,19 @@ abbrev pub is_all : Bool → Bitmap → List ℕ → Bool
 is_all x m bytes = eqb (zero_count m bytes) (zeros_of_all x m.length)
 
 -- the shortcut of `and`, x 0, and of `or`, x 1: whether each mask is all x
-unfoldable pub either_all : Bool → Bool → Bool → Shortcut
-either_all x l r = cond (l || r) (All x) Each
+unfoldable pub either_all : Bool → Bool → Bool → Option Bool
+either_all x l r = cond (l || r) (Some x) None
 
 -- the shortcut of `xor` with a constant mask: whether the other is all the same, all the opposite
-unfoldable pub xor_all : Bool → Bool → Shortcut
-xor_all same opposite = cond same (All false) (cond opposite (All true) Each)
+unfoldable pub xor_all : Bool → Bool → Option Bool
+xor_all same opposite = cond same (Some false) (cond opposite (Some true) None)
 
 -- ---- `at_index`
 
 -- the index lies in the mask, if there is one, and the mask within the limit
-abbrev pub Indexed : Optional → ℕ → Type 0
-Indexed (Present m) i = (m.start ≤ limit) × ((m.length ≤ limit) × (i < m.length))
-Indexed Absent i = Unit {0}
+abbrev pub Indexed : Option Bitmap → ℕ → Type 0
+Indexed (Some m) i = (m.start ≤ limit) × ((m.length ≤ limit) × (i < m.length))
+Indexed None i = Unit {0}
 
 -- ---- `builder`, `extend`, `repeat`, `gather`: what is appended
 
@@ -136,16 +99,7 @@ pub record Inside (b : BitmapBuilder) (flags k : ℕ) : Type 0 where
   pub low : none_from b.word (b.length % 64) ≡ true
   pub few : none_from flags k ≡ true
 
--- a number that stands for another: the same, or over the flag limit as that is
-abbrev pub SameOrOver : ℕ → ℕ → Type 0
-SameOrOver r p = (r ≡ p) ⊎ ((limit < r) × (limit < p))
-
 -- ---- `bitmask`: searches by windows of 32 flags
-
--- what a window says of a set flag, case by case: where it is in the window, or how many are set there
-abbrev pub seen_found : Seen → Found
-seen_found (There k) = at_place k
-seen_found (Only k) = only_ones k
 
 -- the search for `left` from `at` on is the one asked for, and a window there with too few set flags is among the last two
 pub record PassedFrom (bytes : List ℕ) (start size n from left at : ℕ) : Type 0 where
@@ -168,9 +122,9 @@ first_run l place = run_of (run_start l place) (leading_from true l (run_start l
 -- ---- `next_and_not`
 
 -- a second mask has the first one's length and lies within the limit
-abbrev pub Beside : ℕ → Optional → Type 0
-Beside n (Present b) = (b.start ≤ limit) × (n ≡ b.length)
-Beside n Absent = Unit {0}
+abbrev pub Beside : ℕ → Option Bitmap → Type 0
+Beside n (Some b) = (b.start ≤ limit) × (n ≡ b.length)
+Beside n None = Unit {0}
 
 -- `end` flags of l, of which those from `from` up to `at` are zeros
 pub record PassedTo (l : List Bool) (end from at : ℕ) : Type 0 where
@@ -179,9 +133,15 @@ pub record PassedTo (l : List Bool) (end from at : ℕ) : Type 0 where
   pub same : at + leading_from false l at ≡ from + leading_from false l from
 
 -- masks that have passed their checks, and a part of their flags
-pub record Searchable (a : Bitmap) (second : Optional) (from end : ℕ) : Type 0 where
+pub record Searchable (a : Bitmap) (second : Option Bitmap) (from end : ℕ) : Type 0 where
   pub starts : a.start ≤ limit
   pub short : a.length ≤ limit
   pub beside : Beside a.length second
   pub ordered : from ≤ end
   pub inside : end ≤ a.length
+
+-- ---- `refusal`: a refusal with the record that the call got
+
+abbrev pub with_state : {S A : Type 0} → Result A Refusal → S → Result A (Refused S)
+with_state (Ok a) s = Ok a
+with_state (Err r) s = Err (record { refusal = r; state = s })

@@ -1,8 +1,7 @@
 -- Wrong answers that the contracts of the builder's calls rule out, two for each call. Assumes nothing.
 --
 -- Rows as in `WrongAnswers` of words. An answer stands with what the lent buffer then holds.
-use Rattle.std.specs.Prelude.{ℕ, true, List, [], ◌∷◌, ◌++◌, replicate}
-use Rattle.std.proofs.Math.Option.{none, some}
+use Rattle.std.specs.Prelude.{ℕ, true, List, [], ◌∷◌, ◌++◌, replicate, Some, None}
 use Rattle.words.specs.WrongAnswers.{Tried}
 use Rattle.masks.specs.Answer.{Answer, given, refused}
 use Rattle.masks.specs.Appends.{Append, push_flag, extend_constant, push_word, extend_slice, extend_repeated, extend_bitmap, extend_gather, extend_opt_gather, append_answer, append_bytes, change_answer}
@@ -11,7 +10,6 @@ use Rattle.masks.specs.Examples.{first, lent}
 use Rattle.masks.specs.Freeze.{freeze_of, into_opt_validity_of, freeze_bytes}
 use Rattle.masks.specs.Mask.{mask_of}
 use Rattle.masks.specs.WrongSpans.{two}
-use Rattle.masks.specs.declared.bitmap.Unset.TheVariants.{Known, Unknown}
 use Rattle.masks.specs.declared.builder.BitmapBuilder.{BitmapBuilder}
 
 -- an append to a builder over a buffer
@@ -77,7 +75,7 @@ pub record WrongBuilders : Type 0 where
       -- once too often
       (in_word 9 0x3F)
   -- `BitmapBuilder::subslice_extend_from_bitmap` of 3 flags from the flag 1 on of a mask that begins at the flag 2
-  pub subslice_extend : Tried (appending (extend_bitmap (mask_of 2 6 Unknown) two 1 3) new_builder (lent 8))
+  pub subslice_extend : Tried (appending (extend_bitmap (mask_of 2 6 None) two 1 3) new_builder (lent 8))
       (in_word 3 5)
       -- the mask's start not added
       (in_word 3 6)
@@ -99,15 +97,15 @@ pub record WrongBuilders : Type 0 where
       (in_word 2 3)
   -- `BitmapBuilder::freeze` of the flags 1,0,1
   pub freeze : Tried (freezing freeze_of (builder_of 3 5 0))
-      (given (mask_of 0 3 (Known 1)), first 5)
+      (given (mask_of 0 3 (Some 1)), first 5)
       -- bytes behind the flags left as they were
-      (given (mask_of 0 3 (Known 1)), 5 ∷ lent 7)
+      (given (mask_of 0 3 (Some 1)), 5 ∷ lent 7)
       -- ones given as zeros
-      (given (mask_of 0 3 (Known 2)), first 5)
+      (given (mask_of 0 3 (Some 2)), first 5)
   -- `BitmapBuilder::into_opt_validity` of three ones
   pub into-opt-validity : Tried (freezing into_opt_validity_of (builder_of 3 7 0))
-      (given none, first 7)
+      (given None, first 7)
       -- a mask of ones
-      (given (some (mask_of 0 3 (Known 0))), first 7)
+      (given (Some (mask_of 0 3 (Some 0))), first 7)
       -- no byte written
-      (given none, lent 8)
+      (given None, lent 8)

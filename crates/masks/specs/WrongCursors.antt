@@ -1,7 +1,7 @@
 -- Wrong answers that the contracts of the cursors' calls rule out, two for each call. Assumes nothing.
 --
 -- Rows as in `WrongAnswers` of words.
-use Rattle.std.specs.Prelude.{ℕ, true, false, List, [], ◌∷◌, length}
+use Rattle.std.specs.Prelude.{ℕ, true, false, List, [], ◌∷◌, length, None}
 use Rattle.words.specs.WrongAnswers.{Tried}
 use Rattle.masks.specs.Answer.{Answer, given, refused}
 use Rattle.masks.specs.Cursor.{item, ended}
@@ -11,8 +11,6 @@ use Rattle.masks.specs.Positions.{next_positions, positions_over}
 use Rattle.masks.specs.SliceIterator.{slices_at, run_of, new_slices, next_slice}
 use Rattle.masks.specs.TrueIdx.{true_at, new_true, next_true}
 use Rattle.masks.specs.WrongSpans.{two}
-use Rattle.masks.specs.declared.bitmap.Optional.TheVariants.{Absent}
-use Rattle.masks.specs.declared.bitmap.Unset.TheVariants.{Unknown}
 use Rattle.masks.specs.declared.true_idx.TrueIdxIter.{TrueIdxIter}
 
 -- four zeros, eight ones, four zeros
@@ -28,7 +26,7 @@ positions_into c bytes out = positions_told (next_positions c bytes (length out)
 
 pub record WrongCursors : Type 0 where
   -- `SlicesIterator::new` of 9 flags from the flag 4 on, the first of them a zero
-  pub slices-new : Tried (new_slices (mask_of 4 9 Unknown) two)
+  pub slices-new : Tried (new_slices (mask_of 4 9 None) two)
       (given (slices_at 4 9 0))
       -- the start lost
       (given (slices_at 0 9 0))
@@ -77,7 +75,7 @@ pub record WrongCursors : Type 0 where
       -- the cursor not moved
       (given (6, iter_at 0 16 6))
   -- `TrueIdxIter::new` of 8 flags with no mask and no bytes
-  pub true-new : Tried (new_true 8 Absent [])
+  pub true-new : Tried (new_true 8 None [])
       (given (true_at 0 8 0 false))
       -- marked as with a mask
       (given (true_at 0 8 0 true))

@@ -1,41 +1,39 @@
 -- Wrong answers that the contracts of the mask's calls rule out, two for each call. Assumes nothing.
 --
 -- Rows as in `WrongAnswers` of words. An answer of a call that writes stands with what the lent output then holds.
-use Rattle.std.specs.Prelude.{ℕ, true, false, List, [], ◌∷◌, ◌++◌, replicate}
+use Rattle.std.specs.Prelude.{ℕ, true, false, List, [], ◌∷◌, ◌++◌, replicate, Option, Some, None}
 pub use Rattle.words.specs.WrongAnswers.{Tried}
 use Rattle.words.specs.declared.ops.Op.{Op}
+use Rattle.masks.specs.declared.bitmap.Recounted.{Recounted}
 use Rattle.masks.specs.Answer.{Answer, given, refused}
 use Rattle.masks.specs.AtIndex.{and_not_at_of}
 use Rattle.masks.specs.Checks.{earlier, first_failed, output_checks, span_checks}
 use Rattle.masks.specs.Combine.{And, AndNot, Or, OrNot, Xor, pair_of, pair_bytes, not_of, not_bytes, select_of, select_bytes, select_constant_of, select_constant_bytes}
 use Rattle.masks.specs.Compare.{eq_of, edges_of, common_of}
 use Rattle.masks.specs.Examples.{first, lent}
-use Rattle.masks.specs.Mask.{mask_checks, mask_of, empty_mask, try_new_of, new_zeroed_of, new_zeroed_bytes, Recounted, unset_bits_of, slice_of}
+use Rattle.masks.specs.Mask.{mask_checks, mask_of, empty_mask, try_new_of, new_zeroed_of, new_zeroed_bytes, unset_bits_of, slice_of}
 use Rattle.masks.specs.WrongSpans.{two}
 use Rattle.masks.specs.declared.bitmap.Bitmap.{Bitmap}
-use Rattle.masks.specs.declared.bitmap.Optional.TheVariants.{Present, Absent}
-use Rattle.masks.specs.declared.bitmap.Unset.{Unset}
-use Rattle.masks.specs.declared.bitmap.Unset.TheVariants.{Known, Unknown}
 
 -- ---- inputs: masks of four flags, with ones behind them
 
 -- 1,1,0,0
 abbrev pub left : Bitmap
-left = mask_of 0 4 Unknown
+left = mask_of 0 4 None
 
 abbrev pub left_bytes : List ℕ
 left_bytes = 0xF3 ∷ []
 
 -- 1,0,1,0, from the flag 2 on
 abbrev pub right : Bitmap
-right = mask_of 2 4 Unknown
+right = mask_of 2 4 None
 
 abbrev pub right_bytes : List ℕ
 right_bytes = 0xD4 ∷ []
 
 -- 1,1,1,1, which the count says
 abbrev pub ones : Bitmap
-ones = mask_of 0 4 (Known 0)
+ones = mask_of 0 4 (Some 0)
 
 abbrev pub ones_bytes : List ℕ
 ones_bytes = 0xFF ∷ []
@@ -53,191 +51,191 @@ abbrev pub paired : Op → Bitmap → List ℕ → Bitmap → List ℕ → Writt
 paired op a a_bytes b b_bytes = paired_in op a a_bytes b b_bytes (lent 8)
 
 -- a mask of four flags with this count, and these bytes
-abbrev pub four : Unset → List ℕ → Written
+abbrev pub four : Option ℕ → List ℕ → Written
 four u out = (given (mask_of 0 4 u), out)
 
-abbrev pub recounted : Unset → ℕ → Recounted
+abbrev pub recounted : Option ℕ → ℕ → Recounted
 recounted u z = record { mask = mask_of 3 9 u; zeros = z }
 
 pub record WrongMasks : Type 0 where
   -- `Bitmap::new`
   pub new : Tried empty_mask
-      (mask_of 0 0 (Known 0))
+      (mask_of 0 0 (Some 0))
       -- the count unknown
-      (mask_of 0 0 Unknown)
+      (mask_of 0 0 None)
       -- a flag counted
-      (mask_of 0 1 (Known 0))
+      (mask_of 0 1 (Some 0))
   -- `Bitmap::new_zeroed` of 3 flags in nine bytes
   pub new_zeroed : Tried {A = Written} (new_zeroed_of 3 (lent 9), new_zeroed_bytes 3 (lent 9))
-      (given (mask_of 0 3 (Known 3)), first 0 ++ lent 1)
+      (given (mask_of 0 3 (Some 3)), first 0 ++ lent 1)
       -- no zeros counted
-      (given (mask_of 0 3 (Known 0)), first 0 ++ lent 1)
+      (given (mask_of 0 3 (Some 0)), first 0 ++ lent 1)
       -- the byte behind the last word cleared
-      (given (mask_of 0 3 (Known 3)), first 0 ++ (0 ∷ []))
+      (given (mask_of 0 3 (Some 3)), first 0 ++ (0 ∷ []))
   -- `Bitmap::try_new` of 9 flags from the flag 3 on
   pub try-new : Tried (try_new_of two 3 9)
-      (given (mask_of 3 9 Unknown))
+      (given (mask_of 3 9 None))
       -- the start lost
-      (given (mask_of 0 9 Unknown))
+      (given (mask_of 0 9 None))
       -- counted at once
-      (given (mask_of 3 9 (Known 7)))
+      (given (mask_of 3 9 (Some 7)))
   -- `Bitmap::slice` to the last 4 of 8 flags, four of them known as zeros
-  pub slice : Tried (slice_of (mask_of 0 8 (Known 4)) two 4 4)
-      (given (mask_of 4 4 (Known 3)))
+  pub slice : Tried (slice_of (mask_of 0 8 (Some 4)) two 4 4)
+      (given (mask_of 4 4 (Some 3)))
       -- the old count kept
-      (given (mask_of 4 4 (Known 4)))
+      (given (mask_of 4 4 (Some 4)))
       -- the count dropped
-      (given (mask_of 4 4 Unknown))
+      (given (mask_of 4 4 None))
   -- `Bitmap::slice` to the last 4 of 8 flags, four of them zeros, with a false count of 7
-  pub slice-refused : Tried (slice_of (mask_of 0 8 (Known 7)) two 4 4)
-      (refused 3 (mask_of 0 8 (Known 7)))
+  pub slice-refused : Tried (slice_of (mask_of 0 8 (Some 7)) two 4 4)
+      (refused 3 (mask_of 0 8 (Some 7)))
       -- found false only where it is cut
-      (refused 7 (mask_of 0 8 (Known 7)))
+      (refused 7 (mask_of 0 8 (Some 7)))
       -- refused, and the mask cut
-      (refused 3 (mask_of 4 4 (Known 7)))
+      (refused 3 (mask_of 4 4 (Some 7)))
   -- `Bitmap::unset_bits` of 9 flags from the flag 3 on, with a false count of 6
-  pub unset-bits-refused : Tried (unset_bits_of (mask_of 3 9 (Known 6)) two)
-      (refused 3 (mask_of 3 9 (Known 6)))
+  pub unset-bits-refused : Tried (unset_bits_of (mask_of 3 9 (Some 6)) two)
+      (refused 3 (mask_of 3 9 (Some 6)))
       -- the count believed
-      (given (recounted (Known 6) 6))
+      (given (recounted (Some 6) 6))
       -- the count corrected
-      (given (recounted (Known 7) 7))
+      (given (recounted (Some 7) 7))
   -- `Bitmap::unset_bits` of four ones, said to be zeros, and of four zeros, said to be ones
-  pub unset-bits-all : Tried (unset_bits_of (mask_of 0 4 (Known 4)) ones_bytes)
-      (refused 3 (mask_of 0 4 (Known 4)))
+  pub unset-bits-all : Tried (unset_bits_of (mask_of 0 4 (Some 4)) ones_bytes)
+      (refused 3 (mask_of 0 4 (Some 4)))
       -- a count of all believed
-      (given (record { mask = mask_of 0 4 (Known 4); zeros = 4 }))
+      (given (record { mask = mask_of 0 4 (Some 4); zeros = 4 }))
       -- the mask given back corrected
-      (refused 3 (mask_of 0 4 (Known 0)))
-  pub unset-bits-none : Tried (unset_bits_of (mask_of 0 4 (Known 0)) (0xF0 ∷ []))
-      (refused 3 (mask_of 0 4 (Known 0)))
+      (refused 3 (mask_of 0 4 (Some 0)))
+  pub unset-bits-none : Tried (unset_bits_of (mask_of 0 4 (Some 0)) (0xF0 ∷ []))
+      (refused 3 (mask_of 0 4 (Some 0)))
       -- a count of 0 believed
-      (given (record { mask = mask_of 0 4 (Known 0); zeros = 0 }))
+      (given (record { mask = mask_of 0 4 (Some 0); zeros = 0 }))
       -- the mask given back uncounted
-      (refused 3 (mask_of 0 4 Unknown))
+      (refused 3 (mask_of 0 4 None))
   -- `Bitmap::unset_bits` of 9 flags from the flag 3 on
-  pub unset_bits : Tried (unset_bits_of (mask_of 3 9 Unknown) two)
-      (given (recounted (Known 7) 7))
+  pub unset_bits : Tried (unset_bits_of (mask_of 3 9 None) two)
+      (given (recounted (Some 7) 7))
       -- the count not put into the mask
-      (given (recounted Unknown 7))
+      (given (recounted None 7))
       -- ones counted
-      (given (recounted (Known 2) 2))
+      (given (recounted (Some 2) 2))
   -- `and`
   pub and : Tried (paired And left left_bytes right right_bytes)
-      (four Unknown (first 0x01))
+      (four None (first 0x01))
       -- flags past the end kept
-      (four Unknown (first 0x31))
+      (four None (first 0x31))
       -- the right mask's start ignored
-      (four Unknown (first 0x00))
+      (four None (first 0x00))
   -- `and` of 4 flags and of 3 with a false count of 3, with no byte to write to
-  pub and-refused : Tried (paired_in And left left_bytes (mask_of 2 3 (Known 3)) right_bytes [])
+  pub and-refused : Tried (paired_in And left left_bytes (mask_of 2 3 (Some 3)) right_bytes [])
       (refused 3 tt, [])
       -- the lengths compared first
       (refused 5 tt, [])
       -- the output measured first
       (refused 9 tt, [])
   -- `and` of 4 flags with a false count and of 4 outside their bytes
-  pub and-outside : Tried (paired_in And (mask_of 0 4 (Known 1)) left_bytes (mask_of 5 4 Unknown) right_bytes (lent 8))
+  pub and-outside : Tried (paired_in And (mask_of 0 4 (Some 1)) left_bytes (mask_of 5 4 None) right_bytes (lent 8))
       (refused 2 tt, lent 8)
       -- the first mask's checks made alone
       (refused 3 tt, lent 8)
       -- the count believed
-      (four Unknown (first 0x00))
+      (four None (first 0x00))
   -- `and` where the second mask's count is one too many
-  pub and_stale : Tried (paired_in And (mask_of 0 4 (Known 2)) left_bytes (mask_of 2 4 (Known 3)) right_bytes (lent 8))
+  pub and_stale : Tried (paired_in And (mask_of 0 4 (Some 2)) left_bytes (mask_of 2 4 (Some 3)) right_bytes (lent 8))
       (refused 3 tt, lent 8)
       -- the first mask's count checked alone
-      (four Unknown (first 0x01))
+      (four None (first 0x01))
       -- refused, and written
       (refused 3 tt, first 0x01)
   -- `and_not`
   pub and-not : Tried (paired AndNot left left_bytes right right_bytes)
-      (four Unknown (first 0x02))
+      (four None (first 0x02))
       -- the left mask inverted
-      (four Unknown (first 0x04))
+      (four None (first 0x04))
       -- none inverted
-      (four Unknown (first 0x01))
+      (four None (first 0x01))
   -- `or` with a mask that is all ones by its count
   pub or : Tried (paired Or ones ones_bytes right right_bytes)
-      (four Unknown (first 0x0F))
+      (four None (first 0x0F))
       -- zeros by the count
-      (four (Known 4) (first 0x00))
+      (four (Some 4) (first 0x00))
       -- its own count given
-      (four (Known 0) (first 0x0F))
+      (four (Some 0) (first 0x0F))
   -- `or_not`
   pub or-not : Tried (paired OrNot left left_bytes right right_bytes)
-      (four Unknown (first 0x0B))
+      (four None (first 0x0B))
       -- none inverted
-      (four Unknown (first 0x07))
+      (four None (first 0x07))
       -- flags past the end kept
-      (four Unknown (first 0xFB))
+      (four None (first 0xFB))
   -- `xor` of two masks that are all ones by their counts
   pub xor : Tried (paired Xor ones ones_bytes ones ones_bytes)
-      (four (Known 4) (first 0x00))
+      (four (Some 4) (first 0x00))
       -- the count unknown
-      (four Unknown (first 0x00))
+      (four None (first 0x00))
       -- the count of the masks combined
-      (four (Known 0) (first 0x00))
+      (four (Some 0) (first 0x00))
   -- `not` of a mask that begins at the flag 2
   pub not : Tried {A = Written} (not_of right right_bytes (lent 8), not_bytes right right_bytes (lent 8))
-      (four Unknown (first 0x0A))
+      (four None (first 0x0A))
       -- zeros past the end inverted
-      (four Unknown (0xFA ∷ replicate 7 0xFF))
+      (four None (0xFA ∷ replicate 7 0xFF))
       -- the start kept
-      (given (mask_of 2 4 Unknown), first 0x0A)
+      (given (mask_of 2 4 None), first 0x0A)
   -- `select` by 1,1,0,0 from 1,0,1,0 and 1,1,1,1
   pub select : Tried {A = Written}
       (select_of left left_bytes right right_bytes ones ones_bytes (lent 8), select_bytes left left_bytes right right_bytes ones ones_bytes (lent 8))
-      (four Unknown (first 0x0D))
+      (four None (first 0x0D))
       -- the two masks exchanged
-      (four Unknown (first 0x07))
+      (four None (first 0x07))
       -- the selector's own flags
-      (four Unknown (first 0x03))
+      (four None (first 0x03))
   -- `select_constant` by 1,1,0,0 from 1,0,1,0 and ones
   pub select_constant : Tried {A = Written}
       (select_constant_of left left_bytes right right_bytes true (lent 8), select_constant_bytes left left_bytes right right_bytes true (lent 8))
-      (four Unknown (first 0x0D))
+      (four None (first 0x0D))
       -- the constant inverted
-      (four Unknown (first 0x01))
+      (four None (first 0x01))
       -- the constant past the end
-      (four Unknown (0xFD ∷ replicate 7 0xFF))
+      (four None (0xFD ∷ replicate 7 0xFF))
   -- `and_not_at` of index 0
-  pub and_not_at : Tried (and_not_at_of (Present left) left_bytes (Present right) right_bytes 0)
+  pub and_not_at : Tried (and_not_at_of (Some left) left_bytes (Some right) right_bytes 0)
       (given false)
       -- the second mask's start ignored
       (given true)
       -- indices counted from 1
       (refused 6 tt)
   -- `and_not_at` of index 2 with no first mask
-  pub and-not-at-second : Tried (and_not_at_of Absent [] (Present right) right_bytes 2)
+  pub and-not-at-second : Tried (and_not_at_of None [] (Some right) right_bytes 2)
       (given false)
       -- the second mask not inverted
       (given true)
       -- the bytes of the absent mask tested
       (refused 2 tt)
   -- `and_not_at` of index 9 with no mask
-  pub and-not-at-none : Tried (and_not_at_of Absent [] Absent [] 9)
+  pub and-not-at-none : Tried (and_not_at_of None [] None [] 9)
       (given true)
       -- an absent first mask taken for zeros
       (given false)
       -- the index held to the length of no mask
       (refused 6 tt)
   -- `and_not_at` of index 4
-  pub and-not-at-refused : Tried (and_not_at_of (Present left) left_bytes (Present right) right_bytes 4)
+  pub and-not-at-refused : Tried (and_not_at_of (Some left) left_bytes (Some right) right_bytes 4)
       (refused 6 tt)
       -- the flags behind the end read
       (given false)
       -- lengths compared with the index
       (refused 5 tt)
   -- `eq` of the first 4 flags and the first 3
-  pub eq : Tried (eq_of left left_bytes (mask_of 0 3 Unknown) left_bytes)
+  pub eq : Tried (eq_of left left_bytes (mask_of 0 3 None) left_bytes)
       (given false)
       -- the shorter length compared
       (given true)
       -- another length refused
       (refused 5 tt)
   -- `num_edges` of 1,0,1,1,0,1
-  pub num_edges : Tried (edges_of (mask_of 0 6 Unknown) two)
+  pub num_edges : Tried (edges_of (mask_of 0 6 None) two)
       (given 4)
       -- the flag behind the end compared
       (given 5)
@@ -257,22 +255,22 @@ pub record WrongMasks : Type 0 where
       3
       -- none where both failed
       0
-  -- `span_failure` of 7 flags from the flag 2 on, in one byte
-  pub span_failure : Tried (first_failed (span_checks 2 7 1))
+  -- `check_span` of 7 flags from the flag 2 on, in one byte
+  pub check_span : Tried (first_failed (span_checks 2 7 1))
       2
       -- the start not added
       0
       -- the number of a length over the limit
       1
-  -- `mask_failure` of 8 flags, four of them zeros, with a count of 3
-  pub mask_failure : Tried (first_failed (mask_checks (mask_of 0 8 (Known 3)) (0x2D ∷ [])))
+  -- `check_mask` of 8 flags, four of them zeros, with a count of 3
+  pub check_mask : Tried (first_failed (mask_checks (mask_of 0 8 (Some 3)) (0x2D ∷ [])))
       3
       -- the count not looked at, or held to the length
       0
       -- the count taken for a length
       2
-  -- `frozen_failure` of 65 flags in 15 bytes
-  pub frozen_failure : Tried (first_failed (output_checks 65 15))
+  -- `check_output` of 65 flags in 15 bytes
+  pub check_output : Tried (first_failed (output_checks 65 15))
       9
       -- held to whole bytes, not to whole words
       0

@@ -1,7 +1,7 @@
 -- Wrong answers that the contracts rule out where serials decide or are handed on. Assumes nothing.
 --
 -- Rows as in `WrongAnswers` of words. An answer of a call that writes stands with what the lent output then holds.
-use Rattle.std.specs.Prelude.{ℕ, Bool, true, false, List, [], ◌∷◌}
+use Rattle.std.specs.Prelude.{ℕ, Bool, true, false, List, [], ◌∷◌, Some, None}
 pub use Rattle.words.specs.WrongAnswers.{Tried}
 use Rattle.masks.specs.Answer.{given, refused}
 use Rattle.masks.specs.Appends.{push_flag}
@@ -15,28 +15,27 @@ use Rattle.masks.specs.WrongBuilders.{appending, freezing}
 use Rattle.masks.specs.WrongMasks.{Written, paired}
 use Rattle.masks.specs.WrongSpans.{two}
 use Rattle.masks.specs.declared.bitmap.Bitmap.{Bitmap}
-use Rattle.masks.specs.declared.bitmap.Unset.TheVariants.{Known, Unknown}
 use Rattle.masks.specs.declared.superseding.Part.{Part}
 
 -- ---- inputs
 
 -- the first byte's flags under serial 5
 abbrev pub old : Bitmap
-old = mask_under 5 0 8 Unknown
+old = mask_under 5 0 8 None
 
 -- four flags from the flag 11 on under serial 7
 abbrev pub later : Bitmap
-later = mask_under 7 11 4 (Known 1)
+later = mask_under 7 11 4 (Some 1)
 
 -- four ones by count, at the start and from the flag 4 on
 abbrev pub byte : List ℕ
 byte = 0xFF ∷ []
 
 abbrev pub low : Bitmap
-low = mask_under 5 0 4 (Known 0)
+low = mask_under 5 0 4 (Some 0)
 
 abbrev pub high : Bitmap
-high = mask_under 5 4 4 (Known 0)
+high = mask_under 5 4 4 (Some 0)
 
 abbrev pub part : Bool → ℕ → ℕ → Bitmap → Part
 part second from to m = record { second = second; from = from; to = to; mask = m }
@@ -46,12 +45,12 @@ abbrev pub bytes_given : Bitmap → Bitmap → List ℕ
 bytes_given a b = bytes_of (superseding_of a two b two) two two
 
 abbrev pub selected : ℕ → Written
-selected serial = (given (mask_under serial 0 4 Unknown), first 0x0F)
+selected serial = (given (mask_under serial 0 4 None), first 0x0F)
 
 pub record WrongSerials : Type 0 where
   -- `superseding_part` of serials 5 and 7
   pub superseding_part : Tried (superseding_of old two later two)
-      (given (part true 1 2 (mask_under 7 3 4 (Known 1))))
+      (given (part true 1 2 (mask_under 7 3 4 (Some 1))))
       -- the smaller serial wins
       (given (part false 0 1 old))
       -- the start not fitted
@@ -64,7 +63,7 @@ pub record WrongSerials : Type 0 where
       -- equal serials refused whatever the lists
       (refused 14 tt)
   -- `superseding_part` of equal serials and lists of unequal length
-  pub superseding-part-refused : Tried (superseding_of low byte (mask_under 5 4 3 Unknown) byte)
+  pub superseding-part-refused : Tried (superseding_of low byte (mask_under 5 4 3 None) byte)
       (refused 14 tt)
       -- the first wins unseen
       (given (part false 0 1 low))
@@ -72,27 +71,27 @@ pub record WrongSerials : Type 0 where
       (refused 5 tt)
   -- `superseding` of serials 5 and 7
   pub superseding : Tried (record_of (superseding_of old two later two))
-      (given (mask_under 7 3 4 (Known 1)))
+      (given (mask_under 7 3 4 (Some 1)))
       -- the serial lost
-      (given (mask_of 3 4 (Known 1)))
+      (given (mask_of 3 4 (Some 1)))
       -- the count dropped
-      (given (mask_under 7 3 4 Unknown))
+      (given (mask_under 7 3 4 None))
   -- `superseding_bytes` of nine flags that end inside the second byte
-  pub superseding_bytes : Tried (bytes_given (mask_under 7 3 9 Unknown) old)
+  pub superseding_bytes : Tried (bytes_given (mask_under 7 3 9 None) old)
       two
       -- one byte short
       (0x2D ∷ [])
       -- none
       []
   -- `superseding_bytes` of no flags from the flag 3 on
-  pub superseding-bytes-of-none : Tried (bytes_given (mask_under 7 3 0 (Known 0)) old)
+  pub superseding-bytes-of-none : Tried (bytes_given (mask_under 7 3 0 (Some 0)) old)
       (0x2D ∷ [])
       -- an empty part
       []
       -- the loser's bytes and more
       two
   -- `superseding_bytes` after a refusal: the first's span lies outside its bytes
-  pub superseding-bytes-refused : Tried (bytes_given (mask_under 7 3 14 Unknown) old)
+  pub superseding-bytes-refused : Tried (bytes_given (mask_under 7 3 14 None) old)
       []
       -- the first slice whole
       two
@@ -100,11 +99,11 @@ pub record WrongSerials : Type 0 where
       (0x2D ∷ [])
   -- `or` of four ones by count under 5, which a shortcut reads alone, and of a mask under 7
   pub or : Tried (paired Or low byte later two)
-      (given (mask_under 7 0 4 Unknown), first 0x0F)
+      (given (mask_under 7 0 4 None), first 0x0F)
       -- the first's serial
-      (given (mask_under 5 0 4 Unknown), first 0x0F)
+      (given (mask_under 5 0 4 None), first 0x0F)
       -- serial 0, as of a new mask
-      (given (mask_of 0 4 Unknown), first 0x0F)
+      (given (mask_of 0 4 None), first 0x0F)
   -- `select` with the largest serial in the mask that gives no flag
   pub select : Tried {A = Written} (select_of low byte high byte later two (lent 8), select_bytes low byte high byte later two (lent 8))
       (selected 7)
@@ -114,11 +113,11 @@ pub record WrongSerials : Type 0 where
       (selected 0)
   -- `Bitmap::slice`
   pub slice : Tried (slice_of later two 0 2)
-      (given (mask_under 7 11 2 (Known 1)))
+      (given (mask_under 7 11 2 (Some 1)))
       -- the serial lost
-      (given (mask_of 11 2 (Known 1)))
+      (given (mask_of 11 2 (Some 1)))
       -- another one's serial
-      (given (mask_under 5 11 2 (Known 1)))
+      (given (mask_under 5 11 2 (Some 1)))
   -- `BitmapBuilder::push` and `BitmapBuilder::push_mut`
   pub push : Tried (appending (push_flag true) (builder_under 5 0 0 0) (lent 8))
       (given (builder_under 5 1 1 0), lent 8)
@@ -128,8 +127,8 @@ pub record WrongSerials : Type 0 where
       (given (builder_under 6 1 1 0), lent 8)
   -- `BitmapBuilder::freeze`
   pub freeze : Tried (freezing freeze_of (builder_under 5 3 5 0))
-      (given (mask_under 5 0 3 (Known 1)), first 5)
+      (given (mask_under 5 0 3 (Some 1)), first 5)
       -- the serial lost
-      (given (mask_of 0 3 (Known 1)), first 5)
+      (given (mask_of 0 3 (Some 1)), first 5)
       -- the length in its place
-      (given (mask_under 3 0 3 (Known 1)), first 5)
+      (given (mask_under 3 0 3 (Some 1)), first 5)

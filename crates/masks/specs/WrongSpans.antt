@@ -1,8 +1,7 @@
 -- Wrong answers that the contracts of the calls over bare spans rule out, two for each call. Assumes nothing.
 --
 -- Rows as in `WrongAnswers` of words: a call's definition at one input, what it gives, and two answers of a faulty call.
-use Rattle.std.specs.Prelude.{ℕ, true, false, List, [], ◌∷◌, ◌++◌, replicate}
-use Rattle.std.proofs.Math.Option.{none, some}
+use Rattle.std.specs.Prelude.{ℕ, true, false, List, [], ◌∷◌, ◌++◌, replicate, Some, None}
 use Rattle.words.specs.Ends.{leading, trailing}
 use Rattle.words.specs.Loops.{stretch}
 use Rattle.words.specs.WrongAnswers.{Tried}
@@ -121,15 +120,15 @@ pub record WrongSpans : Type 0 where
       (given 5)
   -- `nth_set_bit_idx` of 12 flags, n 2 from 1 on
   pub nth_set_bit_idx : Tried (search_from two 0 12 2 1)
-      (given (some 5))
+      (given (Some 5))
       -- n counted from 1
-      (given (some 3))
+      (given (Some 3))
       -- the position counted from where the search begins
-      (given (some 4))
+      (given (Some 4))
   -- `nth_set_bit_idx_rev` of 12 flags, n 1 below 900
   pub nth_set_bit_idx_rev : Tried (search_back two 0 12 1 900)
-      (given (some 3))
+      (given (Some 3))
       -- none below an end past the length
-      (given none)
+      (given None)
       -- flags past the end read
-      (given (some 14))
+      (given (Some 14))

@@ -1,14 +1,17 @@
 // The aligned split of a span: prefix, whole words, suffix.
 ghost use Rattle.std.specs.Prelude.{◌≡◌, ◌+◌, ◌*◌, ◌≤◌, ◌<◌, length};
-ghost use Rattle.masks.specs.Aligned.{aligned_answer, aligned_of, aligned_checks, aligned_split, prefix_length, bulk_start_of, bulk_offset};
+ghost use Rattle.masks.specs.Answer.{answer};
+ghost use Rattle.masks.specs.Refusal.{failure_of};
+ghost use Rattle.masks.specs.Aligned.{aligned_of, aligned_checks, aligned_split, prefix_length, bulk_start_of, bulk_offset};
 ghost use Rattle.masks.specs.Checks.{first_failed, limit};
 
-use crate::checks::{address_failure, earlier, span_failure};
+use crate::checks::{check_address, check_span};
+use crate::refusal::{Refusal, earlier};
 use crate::span::flags_word;
 
 // A span's flags in three parts: a word of prefix flags, whole words that begin at a byte, and a word of suffix flags. The
 // Rust's `AlignedBitmapSlice`, with the whole words by their first byte and their number.
-#[derive(Clone, Copy)]
+#[derive(Clone, Copy, PartialEq, Eq, Debug)]
 pub struct AlignedBitmapSlice {
     pub prefix: u64,
     pub prefix_len: usize,
@@ -18,19 +21,18 @@ pub struct AlignedBitmapSlice {
     pub suffix_len: usize,
 }
 
-#[derive(Clone, Copy)]
-pub enum Aligned {
-    Split(AlignedBitmapSlice),
-    Refused(u8),
-}
-
 impl AlignedBitmapSlice {
     // Splits a span. `address` is the address of the first byte modulo 8.
-    pub fn new(bytes: &[u8], start: usize, length: usize, address: usize) -> Aligned
-        ensures { aligned_answer result ≡ aligned_of bytes.now start length address }
+    pub fn new(
+        bytes: &[u8],
+        start: usize,
+        length: usize,
+        address: usize,
+    ) -> Result<AlignedBitmapSlice, Refusal>
+        ensures { answer result ≡ aligned_of bytes.now start length address }
     {
         if length == 0 {
-            return Aligned::Split(AlignedBitmapSlice {
+            return Ok(AlignedBitmapSlice {
                 prefix: 0,
                 prefix_len: 0,
                 bulk_start: 0,
@@ -39,18 +41,20 @@ impl AlignedBitmapSlice {
                 suffix_len: 0,
             });
         }
-        let refusal = aligned_failure(start, length, bytes.len(), address);
-        if refusal != 0 {
-            return Aligned::Refused(refusal);
-        }
-        Aligned::Split(split(bytes, start, length, address))
+        check_aligned(start, length, bytes.len(), address)?;
+        Ok(split(bytes, start, length, address))
     }
 }
 
-pub(crate) fn aligned_failure(start: usize, length: usize, size: usize, address: usize) -> u8
-    ensures { result ≡ first_failed (aligned_checks start length size address) }
+pub(crate) fn check_aligned(
+    start: usize,
+    length: usize,
+    size: usize,
+    address: usize,
+) -> Result<(), Refusal>
+    ensures { failure_of result ≡ first_failed (aligned_checks start length size address) }
 {
-    earlier(span_failure(start, length, size), address_failure(address))
+    earlier(check_span(start, length, size), check_address(address))
 }
 
 // Returns the offset in bytes from the span's first byte to its first whole word.
@@ -100,11 +104,11 @@ pub(crate) fn split(bytes: &[u8], start: usize, length: usize, address: usize) -
     let prefix = flags_word(bytes, start, prefix_len);
     let suffix = flags_word(bytes, start + length - suffix_len, suffix_len);
     AlignedBitmapSlice {
-        prefix: prefix,
-        prefix_len: prefix_len,
-        bulk_start: bulk_start,
-        bulk_len: bulk_len,
-        suffix: suffix,
-        suffix_len: suffix_len,
+        prefix,
+        prefix_len,
+        bulk_start,
+        bulk_len,
+        suffix,
+        suffix_len,
     }
 }

@@ -1,47 +1,28 @@
 // The builder: flags are appended to a lent buffer. A word is written when it is full.
 ghost use Rattle.std.specs.Prelude.{◌≡◌, List, ℕ, ◌≤◌, ◌-◌, length, take};
 ghost use Rattle.words.specs.Flags.{word_flags};
-ghost use Rattle.masks.specs.Appends.{pushed_answer, append_answer, append_bytes, change_answer, push_flag, push_word};
+ghost use Rattle.masks.specs.Refusal.{failure_of};
+ghost use Rattle.masks.specs.Answer.{answer, answer_back};
+ghost use Rattle.masks.specs.Appends.{append_answer, append_bytes, change_answer, push_flag, push_word};
 ghost use Rattle.masks.specs.Builder.{builder_under, new_builder, rebuilt, filling, appended};
 ghost use Rattle.masks.specs.declared.builder.BitmapBuilder.{BitmapBuilder};
-ghost use Rattle.masks.specs.Freeze.{all_ones, frozen_mask, freeze_bytes, freeze_of, frozen_over, into_opt_validity_of, freeze_answer, validity_answer};
+ghost use Rattle.masks.specs.Freeze.{all_ones, frozen_mask, freeze_bytes, freeze_of, frozen_over, into_opt_validity_of};
 ghost use Rattle.masks.specs.Workers.{Inside, Room};
 
-use crate::bitmap::{Bitmap, Unset, mask_under};
-use crate::checks::{builder_failure, earlier, word_failure};
+use crate::bitmap::{Bitmap, mask_under};
+use crate::checks::{check_builder, check_word};
+use crate::refusal::{Refusal, Refused, earlier, give_back};
 use words::ops::or_word;
 use words::word::{constant_word, down, low_flags, ones_in_word, store_whole, up};
 
 // The length, the word in progress, the ones in the finished words, and the serial that its mask will have. The Rust's
 // `BitmapBuilder` with a serial, its buffer lent beside it.
-#[derive(Clone, Copy)]
+#[derive(Clone, Copy, PartialEq, Eq, Debug)]
 pub struct BitmapBuilder {
     pub length: usize,
     pub word: u64,
     pub ones: usize,
     pub serial: u32,
-}
-
-// What a call that appends gives: the builder, or a check's number and the builder as it came.
-#[derive(Clone, Copy)]
-pub enum Pushed {
-    Done(BitmapBuilder),
-    Refused(u8, BitmapBuilder),
-}
-
-// What `freeze` gives.
-#[derive(Clone, Copy)]
-pub enum Made {
-    Mask(Bitmap),
-    Refused(u8, BitmapBuilder),
-}
-
-// What `into_opt_validity` gives: no mask where all flags are set.
-#[derive(Clone, Copy)]
-pub enum Validity {
-    Mask(Bitmap),
-    AllSet,
-    Refused(u8, BitmapBuilder),
 }
 
 impl BitmapBuilder {
@@ -51,83 +32,72 @@ impl BitmapBuilder {
         builder_under(0, 0, 0, 0)
     }
 
-    pub fn push(self, buf: &mut [u8], flag: bool) -> Pushed
-        ensures answer { pushed_answer result ≡ append_answer (push_flag flag) self buf.old }
+    pub fn push(self, buf: &mut [u8], flag: bool) -> Result<BitmapBuilder, Refused<BitmapBuilder>>
+        ensures answer { answer_back result ≡ append_answer (push_flag flag) self buf.old }
         ensures bytes { buf.new ≡ append_bytes (push_flag flag) self buf.old }
     {
-        let refusal = builder_failure(self, 1, buf.len());
-        if refusal != 0 {
-            return Pushed::Refused(refusal, self);
-        }
-        Pushed::Done(push_flags(self, buf, constant_word(flag), 1))
+        give_back(check_builder(self, 1, buf.len()), self)?;
+        Ok(push_flags(self, buf, constant_word(flag), 1))
     }
 
-    // The same over the caller's own record: returns 0, or the number of the check that refused. Takes length, word and ones apart,
-    // calls the by-value push with them and stores them back; the caller's serial stays as it is.
-    pub fn push_mut(&mut self, buf: &mut [u8], flag: bool) -> u8
-        ensures answer { change_answer result self.new ≡ append_answer (push_flag flag) self.old buf.old }
+    // The same over the caller's own record. Takes length, word and ones apart, calls the by-value push with them and stores them back;
+    // the caller's serial stays as it is.
+    pub fn push_mut(&mut self, buf: &mut [u8], flag: bool) -> Result<(), Refusal>
+        ensures answer { change_answer (failure_of result) self.new ≡ append_answer (push_flag flag) self.old buf.old }
         ensures bytes { buf.new ≡ append_bytes (push_flag flag) self.old buf.old }
     {
-        let length = self.length;
-        let word = self.word;
-        let ones = self.ones;
-        let next = push_change(length, word, ones, buf, flag);
-        self.length = next.length;
-        self.word = next.word;
-        self.ones = next.ones;
-        next.number
+        let own = builder_under(self.serial, self.length, self.word, self.ones);
+        match own.push(buf, flag) {
+            Ok(next) => {
+                self.length = next.length;
+                self.word = next.word;
+                self.ones = next.ones;
+                Ok(())
+            }
+            Err(refused) => Err(refused.refusal),
+        }
     }
 
     // Appends the first flags of a word.
-    pub fn push_word_with_len_unchecked(self, buf: &mut [u8], word: u64, k: usize) -> Pushed
-        ensures answer { pushed_answer result ≡ append_answer (push_word word k) self buf.old }
+    pub fn push_word_with_len_unchecked(
+        self,
+        buf: &mut [u8],
+        word: u64,
+        k: usize,
+    ) -> Result<BitmapBuilder, Refused<BitmapBuilder>>
+        ensures answer { answer_back result ≡ append_answer (push_word word k) self buf.old }
         ensures bytes { buf.new ≡ append_bytes (push_word word k) self buf.old }
     {
-        let refusal = earlier(builder_failure(self, k, buf.len()), word_failure(word, k));
-        if refusal != 0 {
-            return Pushed::Refused(refusal, self);
-        }
-        Pushed::Done(push_flags(self, buf, word, k))
+        give_back(
+            earlier(check_builder(self, k, buf.len()), check_word(word, k)),
+            self,
+        )?;
+        Ok(push_flags(self, buf, word, k))
     }
 
     // Writes the word in progress, and gives the mask of all flags.
-    pub fn freeze(self, buf: &mut [u8]) -> Made
-        ensures answer { freeze_answer result ≡ freeze_of self buf.old }
+    pub fn freeze(self, buf: &mut [u8]) -> Result<Bitmap, Refused<BitmapBuilder>>
+        ensures answer { answer_back result ≡ freeze_of self buf.old }
         ensures bytes { buf.new ≡ freeze_bytes self buf.old }
     {
-        let refusal = builder_failure(self, 0, buf.len());
-        if refusal != 0 {
-            return Made::Refused(refusal, self);
-        }
+        give_back(check_builder(self, 0, buf.len()), self)?;
         finish(self, buf);
-        Made::Mask(frozen_mask(self))
+        Ok(frozen_mask(self))
     }
 
     // The same, but no mask where the ones equal the length: Arrow's none, which means all ones. dispatch takes no permission mask
     // for no truck, so there a builder is ended by `freeze`.
-    pub fn into_opt_validity(self, buf: &mut [u8]) -> Validity
-        ensures answer { validity_answer result ≡ into_opt_validity_of self buf.old }
+    pub fn into_opt_validity(self, buf: &mut [u8]) -> Result<Option<Bitmap>, Refused<BitmapBuilder>>
+        ensures answer { answer_back result ≡ into_opt_validity_of self buf.old }
         ensures bytes { buf.new ≡ freeze_bytes self buf.old }
     {
-        let refusal = builder_failure(self, 0, buf.len());
-        if refusal != 0 {
-            return Validity::Refused(refusal, self);
-        }
+        give_back(check_builder(self, 0, buf.len()), self)?;
         finish(self, buf);
         if all_ones(self) == self.length {
-            return Validity::AllSet;
+            return Ok(None);
         }
-        Validity::Mask(frozen_mask(self))
+        Ok(Some(frozen_mask(self)))
     }
-}
-
-// What `push_mut` stores in the caller's record, and the number that it returns.
-#[derive(Clone, Copy)]
-struct Change {
-    length: usize,
-    word: u64,
-    ones: usize,
-    number: u8,
 }
 
 // The one place where a builder's record is made, under its serial.
@@ -135,10 +105,10 @@ fn builder_under(serial: u32, length: usize, word: u64, ones: usize) -> BitmapBu
     ensures { result ≡ builder_under serial length word ones }
 {
     BitmapBuilder {
-        length: length,
-        word: word,
-        ones: ones,
-        serial: serial,
+        length,
+        word,
+        ones,
+        serial,
     }
 }
 
@@ -148,30 +118,6 @@ pub(crate) fn copied(b: BitmapBuilder) -> BitmapBuilder
     ensures { result ≡ b }
 {
     grown(b, b.length, b.word, b.ones)
-}
-
-// Calls the by-value push for `push_mut`, with a record of this length, word and ones counted. Promises the answer for every record
-// `b` that has these three, whatever else it holds.
-fn push_change(length: usize, word: u64, counted: usize, buf: &mut [u8], flag: bool) -> Change
-    ensures answer { (b : BitmapBuilder) → change_answer result.number (rebuilt b result.length result.word result.ones)
-        ≡ append_answer (push_flag flag) (rebuilt b length word counted) buf.old }
-    ensures bytes { (b : BitmapBuilder) → buf.new ≡ append_bytes (push_flag flag) (rebuilt b length word counted) buf.old }
-{
-    let own = builder_under(0, length, word, counted);
-    match own.push(buf, flag) {
-        Pushed::Done(next) => Change {
-            length: next.length,
-            word: next.word,
-            ones: next.ones,
-            number: 0,
-        },
-        Pushed::Refused(number, same) => Change {
-            length: same.length,
-            word: same.word,
-            ones: same.ones,
-            number: number,
-        },
-    }
 }
 
 // The same builder with another length, word and ones, under its serial.
@@ -232,5 +178,5 @@ fn frozen_mask(b: BitmapBuilder) -> Bitmap
     ensures { result ≡ frozen_mask b }
 {
     let zeros = b.length - all_ones(b);
-    mask_under(b.serial, 0, b.length, Unset::Known(zeros))
+    mask_under(b.serial, 0, b.length, Some(zeros))
 }

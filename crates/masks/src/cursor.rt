@@ -1,15 +1,32 @@
 // What all cursors share. A cursor is a span and the next place in it: document 01's walk.
 ghost use Rattle.std.specs.Prelude.{◌≡◌};
+ghost use Rattle.masks.specs.Refusal.{failure_of};
 ghost use Rattle.masks.specs.Checks.{first_failed};
 ghost use Rattle.masks.specs.Cursor.{cursor_checks};
 
-use crate::checks::{earlier, failed, span_failure};
+use crate::checks::check_span;
+use crate::refusal::{Refusal, check, earlier};
 
-pub(crate) fn cursor_failure(start: usize, length: usize, place: usize, size: usize) -> u8
-    ensures { result ≡ first_failed (cursor_checks start length place size) }
+// The cursors' own structs stay three, as the port names them, and `moved` is a method of each: one generic `moved` would ask for a
+// trait that each implements by that line, `Self { place, ..self }`.
+//
+// What a cursor gives: an item and the cursor just past it, or none and where the cursor then stands.
+#[derive(Clone, Copy, PartialEq, Eq, Debug)]
+pub struct Step<T, C> {
+    pub item: Option<T>,
+    pub cursor: C,
+}
+
+pub(crate) fn check_cursor(
+    start: usize,
+    length: usize,
+    place: usize,
+    size: usize,
+) -> Result<(), Refusal>
+    ensures { failure_of result ≡ first_failed (cursor_checks start length place size) }
 {
     earlier(
-        span_failure(start, length, size),
-        failed(6, place <= length),
+        check_span(start, length, size),
+        check(Refusal::Outside, place <= length),
     )
 }

@@ -2,17 +2,17 @@
 ghost use Rattle.std.specs.Prelude.{true, ◌&&◌, ◌≡◌, ◌+◌, ◌-◌, ◌*◌, ◌%◌, ◌≤◌, ◌<◌, leb, ltb, length, take};
 ghost use Rattle.words.specs.Flags.{copies, digit, word_flags};
 ghost use Rattle.words.specs.Loops.{stretch};
-ghost use Rattle.masks.specs.Appends.{pushed_answer, append_answer, append_bytes, extend_constant, extend_slice, extend_bitmap};
+ghost use Rattle.masks.specs.Answer.{answer_back};
+ghost use Rattle.masks.specs.Appends.{append_answer, append_bytes, extend_constant, extend_slice, extend_bitmap};
 ghost use Rattle.masks.specs.Builder.{filling, appended};
 ghost use Rattle.masks.specs.Checks.{limit};
 ghost use Rattle.masks.specs.Workers.{Room};
 
 use crate::bitmap::Bitmap;
-use crate::builder::{BitmapBuilder, Pushed, copied, grown, push_flags, push_inside};
-use crate::checks::{
-    builder_failure, earlier, inner_failure, limit_failure, mask_failure, span_grow_failure,
-};
-use crate::span::{least, near_word};
+use crate::builder::{BitmapBuilder, copied, grown, push_flags, push_inside};
+use crate::checks::{check_builder, check_inner, check_limit, check_mask, check_span_grow};
+use crate::refusal::{Refused, earlier, give_back};
+use crate::span::near_word;
 use words::counts::{copy_count, none_from};
 use words::loops::fill_whole;
 use words::ops::or_word;
@@ -25,33 +25,44 @@ const LIMIT_WORDS: usize = Bitmap::LIMIT / 64;
 
 impl BitmapBuilder {
     // Appends n copies of a flag.
-    pub fn extend_constant(self, buf: &mut [u8], n: usize, flag: bool) -> Pushed
-        ensures answer { pushed_answer result ≡ append_answer (extend_constant n flag) self buf.old }
+    pub fn extend_constant(
+        self,
+        buf: &mut [u8],
+        n: usize,
+        flag: bool,
+    ) -> Result<BitmapBuilder, Refused<BitmapBuilder>>
+        ensures answer { answer_back result ≡ append_answer (extend_constant n flag) self buf.old }
         ensures bytes { buf.new ≡ append_bytes (extend_constant n flag) self buf.old }
     {
         if fits_inside(self, n, buf.len()) {
-            return Pushed::Done(push_inside(self, constant_flags(flag, n), n));
+            return Ok(push_inside(self, constant_flags(flag, n), n));
         }
-        let refusal = earlier(builder_failure(self, n, buf.len()), limit_failure(n));
-        if refusal != 0 {
-            return Pushed::Refused(refusal, self);
-        }
-        Pushed::Done(append_copies(copied(self), buf, n, flag))
+        give_back(
+            earlier(check_builder(self, n, buf.len()), check_limit(n)),
+            self,
+        )?;
+        Ok(append_copies(copied(self), buf, n, flag))
     }
 
     // Appends a span.
-    pub fn extend_from_slice(self, buf: &mut [u8], bytes: &[u8], start: usize, n: usize) -> Pushed
-        ensures answer { pushed_answer result ≡ append_answer (extend_slice bytes.now start n) self buf.old }
+    pub fn extend_from_slice(
+        self,
+        buf: &mut [u8],
+        bytes: &[u8],
+        start: usize,
+        n: usize,
+    ) -> Result<BitmapBuilder, Refused<BitmapBuilder>>
+        ensures answer { answer_back result ≡ append_answer (extend_slice bytes.now start n) self buf.old }
         ensures bytes { buf.new ≡ append_bytes (extend_slice bytes.now start n) self buf.old }
     {
-        let refusal = span_grow_failure(start, n, bytes.len(), self, buf.len());
-        if refusal != 0 {
-            return Pushed::Refused(refusal, self);
-        }
+        give_back(
+            check_span_grow(start, n, bytes.len(), self, buf.len()),
+            self,
+        )?;
         if stays_inside(self, n) {
-            return Pushed::Done(push_inside(self, low_flags(near_word(bytes, start), n), n));
+            return Ok(push_inside(self, low_flags(near_word(bytes, start), n), n));
         }
-        Pushed::Done(append_stretch(copied(self), buf, &bytes[0..], start, n))
+        Ok(append_stretch(copied(self), buf, &bytes[0..], start, n))
     }
 
     // Appends a piece of a mask.
@@ -62,21 +73,21 @@ impl BitmapBuilder {
         bytes: &[u8],
         start: usize,
         n: usize,
-    ) -> Pushed
-        ensures answer { pushed_answer result ≡ append_answer (extend_bitmap mask bytes.now start n) self buf.old }
+    ) -> Result<BitmapBuilder, Refused<BitmapBuilder>>
+        ensures answer { answer_back result ≡ append_answer (extend_bitmap mask bytes.now start n) self buf.old }
         ensures bytes { buf.new ≡ append_bytes (extend_bitmap mask bytes.now start n) self buf.old }
     {
-        let refusal = earlier(
-            mask_failure(mask, bytes),
+        give_back(
             earlier(
-                inner_failure(start, n, mask.length),
-                builder_failure(self, n, buf.len()),
+                check_mask(mask, bytes),
+                earlier(
+                    check_inner(start, n, mask.length),
+                    check_builder(self, n, buf.len()),
+                ),
             ),
-        );
-        if refusal != 0 {
-            return Pushed::Refused(refusal, self);
-        }
-        Pushed::Done(append_stretch(self, buf, bytes, mask.start + start, n))
+            self,
+        )?;
+        Ok(append_stretch(self, buf, bytes, mask.start + start, n))
     }
 }
 
@@ -94,18 +105,14 @@ fn fits_inside(b: BitmapBuilder, n: usize, size: usize) -> bool
     if 64 * (b.length / 64) < b.ones {
         return false;
     }
-    b.length / 64 < least(size / 8, LIMIT_WORDS)
+    b.length / 64 < (size / 8).min(LIMIT_WORDS)
 }
 
 // Returns whether n flags can be read by one load and fit in the word in progress.
 fn stays_inside(b: BitmapBuilder, n: usize) -> bool
     ensures { result ≡ (leb n 57 && ltb (b.length % 64 + n) 64) }
 {
-    if n <= 57 {
-        b.length % 64 + n < 64
-    } else {
-        false
-    }
+    n <= 57 && b.length % 64 + n < 64
 }
 
 // Returns how many flags complete the word in progress.
@@ -144,12 +151,6 @@ fn close_word(b: BitmapBuilder, buf: &mut [u8], word: u64) -> BitmapBuilder
     grown(b, longer, 0, ones)
 }
 
-fn ones_of(flag: bool, n: usize) -> usize
-    ensures { (result ≡ n * digit flag) × (result ≤ n) }
-{
-    if flag { n } else { 0 }
-}
-
 // Appends whole words of one flag to a builder that has no word in progress.
 fn fill_words(b: BitmapBuilder, buf: &mut [u8], whole: usize, flag: bool) -> BitmapBuilder
     requires { (b.length % 64 ≡ 0) × Room b (64 * whole) (length buf.old) }
@@ -157,7 +158,7 @@ fn fill_words(b: BitmapBuilder, buf: &mut [u8], whole: usize, flag: bool) -> Bit
 {
     let n = 64 * whole;
     let longer = b.length + n;
-    let ones = b.ones + ones_of(flag, n);
+    let ones = b.ones + n * usize::from(flag);
     let at = 8 * (b.length / 64);
     fill_whole(flag, whole, &mut buf[at..]);
     grown(b, longer, 0, ones)

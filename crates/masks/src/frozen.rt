@@ -6,24 +6,22 @@ ghost use Rattle.words.specs.Loops.{combined, stretch};
 ghost use Rattle.masks.specs.Frozen.{frozen};
 ghost use Rattle.masks.specs.Combine.{result_flags};
 
-use crate::shortcuts::Shortcut;
+use words::flags::Flags;
 use words::ops::Op;
 
 // Combines three stretches and writes the result as frozen bytes to the start of `out`.
-pub(crate) fn combine_frozen(
+pub(crate) fn combine_frozen<'a>(
     op: Op,
-    a: &[u8],
-    sa: usize,
-    b: &[u8],
-    sb: usize,
-    c: &[u8],
-    sc: usize,
+    a: &Flags<'a>,
+    b: &Flags<'a>,
+    c: &Flags<'a>,
     n: usize,
     out: &mut [u8],
 )
-    ensures { out.new ≡ over out.old (frozen (combined op a.now sa b.now sb c.now sc n)) }
+    ensures { out.new ≡ over out.old (frozen
+        (combined op a.now.bytes.now a.now.start b.now.bytes.now b.now.start c.now.bytes.now c.now.start n)) }
 {
-    words::loops::combine(op, a, sa, b, sb, c, sc, n, out);
+    words::loops::combine(op, a, b, c, n, out);
 }
 
 // Copies of a flag, frozen over the front of out.
@@ -34,39 +32,31 @@ pub(crate) fn fill_frozen(flag: bool, n: usize, out: &mut [u8])
 }
 
 // Writes the result of a combination, by its shortcut or by the loop.
-pub(crate) fn write_result(
-    by: Shortcut,
+pub(crate) fn write_result<'a>(
+    by: Option<bool>,
     op: Op,
-    a: &[u8],
-    sa: usize,
-    b: &[u8],
-    sb: usize,
+    a: &Flags<'a>,
+    b: &Flags<'a>,
     n: usize,
     out: &mut [u8],
 )
-    ensures { out.new ≡ over out.old (frozen (result_flags by n (combined op a.now sa b.now sb b.now sb n))) }
+    ensures { out.new ≡ over out.old (frozen (result_flags by n
+        (combined op a.now.bytes.now a.now.start b.now.bytes.now b.now.start b.now.bytes.now b.now.start n))) }
 {
     match by {
-        Shortcut::All(flag) => fill_frozen(flag, n, out),
-        Shortcut::Each => combine_frozen(op, a, sa, b, sb, b, sb, n, out),
+        Some(flag) => fill_frozen(flag, n, out),
+        None => combine_frozen(op, a, b, b, n, out),
     }
 }
 
 // Combines two stretches as `select_constant` does.
-pub(crate) fn select_frozen(
-    a: &[u8],
-    sa: usize,
-    b: &[u8],
-    sb: usize,
-    flag: bool,
-    n: usize,
-    out: &mut [u8],
-)
-    ensures { out.new ≡ over out.old (frozen (zip_with (λ p q. cond p q flag) (stretch a.now sa n) (stretch b.now sb n))) }
+pub(crate) fn select_frozen<'a>(a: &Flags<'a>, b: &Flags<'a>, flag: bool, n: usize, out: &mut [u8])
+    ensures { out.new ≡ over out.old (frozen (zip_with (λ p q. cond p q flag)
+        (stretch a.now.bytes.now a.now.start n) (stretch b.now.bytes.now b.now.start n))) }
 {
     if flag {
-        combine_frozen(Op::OrNot, b, sb, a, sa, a, sa, n, out);
+        combine_frozen(Op::OrNot, b, a, a, n, out);
     } else {
-        combine_frozen(Op::And, a, sa, b, sb, b, sb, n, out);
+        combine_frozen(Op::And, a, b, b, n, out);
     }
 }

@@ -2,13 +2,15 @@
 ghost use Rattle.std.specs.Prelude.{◌≡◌, false, ◌+◌, ◌*◌, ◌≤◌, ◌<◌, length, take, get_or};
 ghost use Rattle.words.specs.Flags.{word_flags};
 ghost use Rattle.words.specs.Loops.{stretch};
-ghost use Rattle.masks.specs.Appends.{pushed_answer, append_answer, append_bytes, extend_gather, extend_opt_gather, gathered, all_below};
+ghost use Rattle.masks.specs.Answer.{answer_back};
+ghost use Rattle.masks.specs.Appends.{append_answer, append_bytes, extend_gather, extend_opt_gather, gathered, all_below};
 ghost use Rattle.masks.specs.Builder.{filling, appended};
 ghost use Rattle.masks.specs.Checks.{limit};
 ghost use Rattle.masks.specs.Workers.{Room};
 
-use crate::builder::{BitmapBuilder, Pushed, push_flags};
-use crate::checks::{builder_failure, earlier, failed, span_failure};
+use crate::builder::{BitmapBuilder, push_flags};
+use crate::checks::{check_builder, check_span};
+use crate::refusal::{Refusal, Refused, check, earlier, give_back};
 use words::word::{behind, constant_word, flag_at};
 
 impl BitmapBuilder {
@@ -20,21 +22,21 @@ impl BitmapBuilder {
         start: usize,
         n: usize,
         idxs: &[u32],
-    ) -> Pushed
-        ensures answer { pushed_answer result ≡ append_answer (extend_gather bytes.now start n idxs.now) self buf.old }
+    ) -> Result<BitmapBuilder, Refused<BitmapBuilder>>
+        ensures answer { answer_back result ≡ append_answer (extend_gather bytes.now start n idxs.now) self buf.old }
         ensures bytes { buf.new ≡ append_bytes (extend_gather bytes.now start n idxs.now) self buf.old }
     {
-        let refusal = earlier(
+        give_back(
             earlier(
-                span_failure(start, n, bytes.len()),
-                builder_failure(self, idxs.len(), buf.len()),
+                earlier(
+                    check_span(start, n, bytes.len()),
+                    check_builder(self, idxs.len(), buf.len()),
+                ),
+                check(Refusal::Outside, all_below(idxs, n)),
             ),
-            failed(6, all_below(idxs, n)),
-        );
-        if refusal != 0 {
-            return Pushed::Refused(refusal, self);
-        }
-        Pushed::Done(append_gathered(self, buf, bytes, start, n, idxs))
+            self,
+        )?;
+        Ok(append_gathered(self, buf, bytes, start, n, idxs))
     }
 
     // Appends the flag at each index, or 0 if the index is not below the span's length.
@@ -45,39 +47,26 @@ impl BitmapBuilder {
         start: usize,
         n: usize,
         idxs: &[u32],
-    ) -> Pushed
-        ensures answer { pushed_answer result ≡ append_answer (extend_opt_gather bytes.now start n idxs.now) self buf.old }
+    ) -> Result<BitmapBuilder, Refused<BitmapBuilder>>
+        ensures answer { answer_back result ≡ append_answer (extend_opt_gather bytes.now start n idxs.now) self buf.old }
         ensures bytes { buf.new ≡ append_bytes (extend_opt_gather bytes.now start n idxs.now) self buf.old }
     {
-        let refusal = earlier(
-            span_failure(start, n, bytes.len()),
-            builder_failure(self, idxs.len(), buf.len()),
-        );
-        if refusal != 0 {
-            return Pushed::Refused(refusal, self);
-        }
-        Pushed::Done(append_gathered(self, buf, bytes, start, n, idxs))
+        give_back(
+            earlier(
+                check_span(start, n, bytes.len()),
+                check_builder(self, idxs.len(), buf.len()),
+            ),
+            self,
+        )?;
+        Ok(append_gathered(self, buf, bytes, start, n, idxs))
     }
-}
-
-fn index(x: u32) -> usize
-    ensures { result ≡ x }
-{
-    x as usize
 }
 
 // Returns whether all indices are below n.
 fn all_below(idxs: &[u32], n: usize) -> bool
     ensures { result ≡ all_below n idxs.now }
 {
-    let mut i = 0;
-    while i < idxs.len() {
-        if n <= index(idxs[i]) {
-            return false;
-        }
-        i += 1;
-    }
-    true
+    idxs.iter().all(|x| (*x as usize) < n)
 }
 
 // Returns the flag at an index of a span, or 0 if the index is not below its length.
@@ -98,21 +87,11 @@ fn gather_word(bytes: &[u8], start: usize, n: usize, idxs: &[u32]) -> u64
     ensures { take (length idxs.now) (word_flags result) ≡ gathered (stretch bytes.now start n) idxs.now }
 {
     let mut w: u64 = 0;
-    let mut i = 0;
-    while i < idxs.len() {
-        let flag = span_flag(bytes, start, n, index(idxs[i]));
+    for (i, x) in idxs.iter().enumerate() {
+        let flag = span_flag(bytes, start, n, *x as usize);
         w = behind(w, i, constant_word(flag));
-        i += 1;
     }
     w
-}
-
-// Returns the end of the chunk of up to 64 indices that starts at i.
-fn part_end(i: usize, n: usize) -> usize
-    requires { i < n }
-    ensures { (i < result) × ((result ≤ n) × (result ≤ i + 64)) }
-{
-    if n - i < 64 { n } else { i + 64 }
 }
 
 fn append_gathered(
@@ -127,12 +106,9 @@ fn append_gathered(
     ensures { filling result buf.new ≡ appended (filling b buf.old) (gathered (stretch bytes.now start n) idxs.now) }
 {
     let mut grown = b;
-    let mut i = 0;
-    while i < idxs.len() {
-        let end = part_end(i, idxs.len());
-        let word = gather_word(bytes, start, n, &idxs[i..end]);
-        grown = push_flags(grown, buf, word, end - i);
-        i = end;
+    for part in idxs.chunks(64) {
+        let word = gather_word(bytes, start, n, part);
+        grown = push_flags(grown, buf, word, part.len());
     }
     grown
 }

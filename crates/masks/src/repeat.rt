@@ -2,15 +2,17 @@
 ghost use Rattle.std.specs.Prelude.{◌≡◌, ◌+◌, ◌*◌, ◌%◌, ◌≤◌, ◌<◌, length};
 ghost use Rattle.words.specs.Flags.{copies};
 ghost use Rattle.words.specs.Loops.{stretch};
-ghost use Rattle.masks.specs.Appends.{pushed_answer, append_answer, append_bytes, extend_repeated, grow_checks, repeated};
+ghost use Rattle.masks.specs.Answer.{answer_back};
+ghost use Rattle.masks.specs.Refusal.{failure_of};
+ghost use Rattle.masks.specs.Appends.{append_answer, append_bytes, extend_repeated, grow_checks, repeated};
 ghost use Rattle.masks.specs.Builder.{filling, appended};
 ghost use Rattle.masks.specs.Checks.{first_failed, limit};
-ghost use Rattle.masks.specs.Workers.{SameOrOver, Room};
+ghost use Rattle.masks.specs.Workers.{Room};
 
-use crate::bitmap::Bitmap;
-use crate::builder::{BitmapBuilder, Pushed, copied, push_inside};
-use crate::checks::{builder_failure, earlier, span_failure};
+use crate::builder::{BitmapBuilder, copied, push_inside};
+use crate::checks::{check_builder, check_span};
 use crate::extend::{append_copies, append_stretch};
+use crate::refusal::{Refusal, Refused, earlier, give_back};
 use words::word::{constant_flags, flag_at};
 
 impl BitmapBuilder {
@@ -22,45 +24,26 @@ impl BitmapBuilder {
         start: usize,
         n: usize,
         repeats: usize,
-    ) -> Pushed
-        ensures answer { pushed_answer result ≡ append_answer (extend_repeated bytes.now start n repeats) self buf.old }
+    ) -> Result<BitmapBuilder, Refused<BitmapBuilder>>
+        ensures answer { answer_back result ≡ append_answer (extend_repeated bytes.now start n repeats) self buf.old }
         ensures bytes { buf.new ≡ append_bytes (extend_repeated bytes.now start n repeats) self buf.old }
     {
-        let refusal = earlier(
-            span_failure(start, n, bytes.len()),
-            product_failure(self, n, repeats, buf.len()),
-        );
-        if refusal != 0 {
-            return Pushed::Refused(refusal, self);
-        }
-        Pushed::Done(append_repeated(self, buf, bytes, start, n, repeats))
+        give_back(
+            earlier(
+                check_span(start, n, bytes.len()),
+                check_product(self, n, repeats, buf.len()),
+            ),
+            self,
+        )?;
+        Ok(append_repeated(self, buf, bytes, start, n, repeats))
     }
 }
 
-// Returns n * repeats, or some number above the flag limit if the product is above it.
-fn product(n: usize, repeats: usize) -> usize
-    ensures { SameOrOver result (n * repeats) }
+// Makes the checks for appending n * repeats flags. A product that overflows is far above the flag limit.
+fn check_product(b: BitmapBuilder, n: usize, repeats: usize, size: usize) -> Result<(), Refusal>
+    ensures { failure_of result ≡ first_failed (grow_checks b (n * repeats) size) }
 {
-    if n == 0 {
-        return 0;
-    }
-    if repeats == 0 {
-        return 0;
-    }
-    if Bitmap::LIMIT < n {
-        return n;
-    }
-    if Bitmap::LIMIT < repeats {
-        return repeats;
-    }
-    n * repeats
-}
-
-// Makes the checks for appending n * repeats flags, without overflow.
-fn product_failure(b: BitmapBuilder, n: usize, repeats: usize, size: usize) -> u8
-    ensures { result ≡ first_failed (grow_checks b (n * repeats) size) }
-{
-    builder_failure(b, product(n, repeats), size)
+    check_builder(b, n.saturating_mul(repeats), size)
 }
 
 fn append_repeated(
@@ -107,10 +90,8 @@ fn append_runs(
     ensures { filling result buf.new ≡ appended (filling b buf.old) (repeated repeats (stretch bytes.now start n)) }
 {
     let mut grown = b;
-    let mut i = 0;
-    while i < n {
+    for i in 0..n {
         grown = append_run(grown, buf, repeats, flag_at(bytes, start + i));
-        i += 1;
     }
     grown
 }

@@ -1,17 +1,19 @@
 // The later revocation wins: of two masks of one operator, each over its own bytes, the one with the larger serial, and the part of the
 // bytes lent that holds it. That both masks are one operator's is the caller's to see.
 ghost use Rattle.std.specs.Prelude.{◌≡◌, ◌≤◌};
+ghost use Rattle.masks.specs.Answer.{answer};
+ghost use Rattle.masks.specs.Refusal.{failure_of};
 ghost use Rattle.masks.specs.Checks.{first_failed, limit};
-ghost use Rattle.masks.specs.Mask.{made_answer};
-ghost use Rattle.masks.specs.Superseding.{bytes_of, part_of, record_of, superseding_checks, superseding_of, winner_answer};
+ghost use Rattle.masks.specs.Superseding.{bytes_of, part_of, record_of, superseding_checks, superseding_of};
 
-use crate::bitmap::{Bitmap, Made, cut_mask};
-use crate::checks::{earlier, failed, mask_failure};
-use crate::compare::{Compared, eq};
+use crate::bitmap::{Bitmap, cut_mask};
+use crate::checks::check_mask;
+use crate::compare::eq;
+use crate::refusal::{Refusal, check, earlier};
 
 // The winner: whether it is the second mask, the part of its slice that holds it, from byte `from` to before byte `to`, and its record
 // over that part.
-#[derive(Clone, Copy)]
+#[derive(Clone, Copy, PartialEq, Eq, Debug)]
 pub struct Part {
     pub second: bool,
     pub from: usize,
@@ -19,23 +21,20 @@ pub struct Part {
     pub mask: Bitmap,
 }
 
-#[derive(Clone, Copy)]
-pub enum Winner {
-    Found(Part),
-    Refused(u8),
-}
-
 // Checks 1 to 3 of both masks, and 14: masks of equal serials have equal lists. Lists are compared only where the serials are equal.
-fn superseding_failure(first: Bitmap, left: &[u8], second: Bitmap, right: &[u8]) -> u8
-    ensures { result ≡ first_failed (superseding_checks first left.now second right.now) }
+fn check_superseding(
+    first: Bitmap,
+    left: &[u8],
+    second: Bitmap,
+    right: &[u8],
+) -> Result<(), Refusal>
+    ensures { failure_of result ≡ first_failed (superseding_checks first left.now second right.now) }
 {
     if first.serial != second.serial {
-        return earlier(mask_failure(first, left), mask_failure(second, right));
+        return earlier(check_mask(first, left), check_mask(second, right));
     }
-    match eq(first, left, second, right) {
-        Compared::Equal(same) => failed(14, same),
-        Compared::Refused(number) => number,
-    }
+    let same = eq(first, left, second, right)?;
+    check(Refusal::UnequalLists, same)
 }
 
 // The part of its slice that holds a mask, and the mask over it.
@@ -50,9 +49,9 @@ fn part_of(second: bool, mask: Bitmap) -> Part
     let unset = mask.unset;
     let fitted = cut_mask(mask, start, mask.length, unset);
     Part {
-        second: second,
-        from: from,
-        to: to,
+        second,
+        from,
+        to,
         mask: fitted,
     }
 }
@@ -63,30 +62,27 @@ pub fn superseding_part(
     first_bytes: &[u8],
     second: Bitmap,
     second_bytes: &[u8],
-) -> Winner
-    ensures { winner_answer result ≡ superseding_of first first_bytes.now second second_bytes.now }
+) -> Result<Part, Refusal>
+    ensures { answer result ≡ superseding_of first first_bytes.now second second_bytes.now }
 {
-    let refusal = superseding_failure(first, first_bytes, second, second_bytes);
-    if refusal != 0 {
-        return Winner::Refused(refusal);
-    }
+    check_superseding(first, first_bytes, second, second_bytes)?;
     if first.serial < second.serial {
-        return Winner::Found(part_of(true, second));
+        return Ok(part_of(true, second));
     }
-    Winner::Found(part_of(false, first))
+    Ok(part_of(false, first))
 }
 
 // The winner's record over the part that `superseding_bytes` gives.
-pub fn superseding(first: Bitmap, first_bytes: &[u8], second: Bitmap, second_bytes: &[u8]) -> Made
-    ensures { made_answer result ≡ record_of (superseding_of first first_bytes.now second second_bytes.now) }
+pub fn superseding(
+    first: Bitmap,
+    first_bytes: &[u8],
+    second: Bitmap,
+    second_bytes: &[u8],
+) -> Result<Bitmap, Refusal>
+    ensures { answer result ≡ record_of (superseding_of first first_bytes.now second second_bytes.now) }
 {
-    match superseding_part(first, first_bytes, second, second_bytes) {
-        Winner::Found(part) => {
-            let mask = part.mask;
-            Made::Mask(mask)
-        }
-        Winner::Refused(number) => Made::Refused(number),
-    }
+    let part = superseding_part(first, first_bytes, second, second_bytes)?;
+    Ok(part.mask)
 }
 
 // The winner's bytes: a part of one of the two slices lent. After a refusal it is an empty part of the first.
@@ -100,7 +96,7 @@ pub fn superseding_bytes<'a>(
         first_bytes.now second_bytes.now }
 {
     match superseding_part(first, first_bytes, second, second_bytes) {
-        Winner::Found(part) => {
+        Ok(part) => {
             let from = part.from;
             let to = part.to;
             if part.second {
@@ -108,6 +104,6 @@ pub fn superseding_bytes<'a>(
             }
             &first_bytes[from..to]
         }
-        Winner::Refused(_) => &first_bytes[0..0],
+        Err(_) => &first_bytes[0..0],
     }
 }

@@ -1,24 +1,20 @@
 // Counts over bare spans. A span that fits one word from its first byte on is read as one. Of others each hands the address on to the
 // aligned split and works from its three parts; the answer does not depend on the address.
-ghost use Rattle.std.specs.Prelude.{◌≡◌, true, false, ◌+◌, ◌-◌, ◌*◌, ◌/◌, ◌%◌, ◌≤◌, ◌<◌, eqb};
+ghost use Rattle.std.specs.Prelude.{◌≡◌, ℕ, Bool, true, false, List, ◌+◌, ◌-◌, ◌*◌, ◌/◌, ◌%◌, ◌≤◌, ◌<◌, eqb, take};
 ghost use Rattle.words.specs.Ends.{leading, trailing};
-ghost use Rattle.words.specs.Flags.{count};
+ghost use Rattle.words.specs.Flags.{count, word_flags};
 ghost use Rattle.words.specs.Loops.{stretch};
+ghost use Rattle.masks.specs.Answer.{answer};
 ghost use Rattle.masks.specs.Checks.{limit};
-ghost use Rattle.masks.specs.Utils.{zeros, counted_answer, span_count};
+ghost use Rattle.masks.specs.Utils.{zeros, span_count};
 ghost use Rattle.masks.specs.Workers.{Bounded, split_flags, zeros_of_all};
 
-use crate::aligned::{AlignedBitmapSlice, aligned_failure, split};
+use crate::aligned::{AlignedBitmapSlice, check_aligned, split};
+use crate::refusal::Refusal;
 use words::counts::count_ones;
 use words::ends::{leading_in_word, trailing_in_word};
 use words::uniform::{all_are, differs_early};
 use words::word::{byte_word, down, low_flags, ones_below, ones_in_word, word_from};
-
-#[derive(Clone, Copy)]
-pub enum Counted {
-    Count(usize),
-    Refused(u8),
-}
 
 // Counts the ones in the three parts of a split.
 fn ones_of(bytes: &[u8], s: AlignedBitmapSlice) -> usize
@@ -36,30 +32,26 @@ fn leading_words(flag: bool, bytes: &[u8], at: usize, n: usize) -> usize
     requires { (at ≤ limit) × (n ≤ limit / 64) }
     ensures { result ≡ leading flag (stretch bytes.now (8 * at) (64 * n)) }
 {
-    let mut i = 0;
-    while i < n {
+    for i in 0..n {
         let alike = leading_in_word(flag, word_from(bytes, 8 * at + 64 * i), 64);
         if alike < 64 {
             return 64 * i + alike;
         }
-        i += 1;
     }
     64 * n
 }
 
-// Counts the flags equal to `flag` at the end of n words, which begin at byte `at`.
+// Counts the flags equal to `flag` at the end of n words, which begin at byte `at`. Apart from `leading_words`, as the two functions
+// of a split are: what they share is two tests, and each line names the words or the parts from the other side.
 fn trailing_words(flag: bool, bytes: &[u8], at: usize, n: usize) -> usize
     requires { (at ≤ limit) × (n ≤ limit / 64) }
     ensures { result ≡ trailing flag (stretch bytes.now (8 * at) (64 * n)) }
 {
-    let mut i = 0;
-    while i < n {
-        let k = n - 1 - i;
-        let alike = trailing_in_word(flag, word_from(bytes, 8 * at + 64 * k), 64);
+    for i in (0..n).rev() {
+        let alike = trailing_in_word(flag, word_from(bytes, 8 * at + 64 * i), 64);
         if alike < 64 {
-            return 64 * i + alike;
+            return 64 * (n - 1 - i) + alike;
         }
-        i += 1;
     }
     64 * n
 }
@@ -146,114 +138,148 @@ pub(crate) fn other_early(flag: bool, bytes: &[u8], start: usize, length: usize)
 
 // How many flags of a span are zero. `zeros_at` is outside this body and gets a slice of its own: the slice given here, which it
 // would otherwise take from memory, stays in registers for the short spans.
-pub fn count_zeros(bytes: &[u8], start: usize, length: usize, address: usize) -> Counted
-    ensures { counted_answer result ≡ span_count bytes.now start length address (zeros (stretch bytes.now start length)) }
+pub fn count_zeros(
+    bytes: &[u8],
+    start: usize,
+    length: usize,
+    address: usize,
+) -> Result<usize, Refusal>
+    ensures { answer result ≡ span_count bytes.now start length address (zeros (stretch bytes.now start length)) }
 {
     if length == 0 {
-        return Counted::Count(0);
+        return Ok(0);
     }
-    let refusal = aligned_failure(start, length, bytes.len(), address);
-    if refusal != 0 {
-        return Counted::Refused(refusal);
-    }
+    check_aligned(start, length, bytes.len(), address)?;
     if start % 8 + length <= 64 {
-        return Counted::Count(short_zeros(bytes, start, length));
+        return Ok(short_zeros(bytes, start, length));
     }
-    Counted::Count(zeros_at(&bytes[0..], start, length, address))
+    Ok(zeros_at(&bytes[0..], start, length, address))
 }
 
-// How many flags at the front of a span that fits a word equal `flag`: it is read as one.
-fn short_leading(flag: bool, bytes: &[u8], start: usize, length: usize) -> usize
+// An end of a span, from which flags alike are counted.
+trait End {
+    // how many flags x stand at this end
+    ghost run: { Bool → List Bool → ℕ };
+
+    // Of the first k flags of a word.
+    fn in_word(flag: bool, word: u64, k: usize) -> usize
+        ensures { result ≡ run flag (take k (word_flags word)) };
+
+    // Of a split.
+    fn in_split(flag: bool, bytes: &[u8], s: AlignedBitmapSlice) -> usize
+        requires { Bounded s }
+        ensures { result ≡ run flag (split_flags bytes.now s) };
+}
+
+struct Front {}
+
+struct Back {}
+
+impl End for Front {
+    ghost run = { leading };
+
+    fn in_word(flag: bool, word: u64, k: usize) -> usize {
+        leading_in_word(flag, word, k)
+    }
+
+    fn in_split(flag: bool, bytes: &[u8], s: AlignedBitmapSlice) -> usize {
+        leading_of(flag, bytes, s)
+    }
+}
+
+impl End for Back {
+    ghost run = { trailing };
+
+    fn in_word(flag: bool, word: u64, k: usize) -> usize {
+        trailing_in_word(flag, word, k)
+    }
+
+    fn in_split(flag: bool, bytes: &[u8], s: AlignedBitmapSlice) -> usize {
+        trailing_of(flag, bytes, s)
+    }
+}
+
+// How many flags at an end of a span that fits a word equal `flag`: it is read as one.
+fn short_run<E: End>(flag: bool, bytes: &[u8], start: usize, length: usize) -> usize
     requires { start % 8 + length ≤ 64 }
-    ensures { result ≡ leading flag (stretch bytes.now start length) }
+    ensures { result ≡ E.run flag (stretch bytes.now start length) }
 {
-    leading_in_word(flag, down(byte_word(bytes, start / 8), start % 8), length)
+    E::in_word(flag, down(byte_word(bytes, start / 8), start % 8), length)
 }
 
 // The same of any span, by the three parts of its split.
-fn long_leading(flag: bool, bytes: &[u8], start: usize, length: usize, address: usize) -> usize
+fn long_run<E: End>(flag: bool, bytes: &[u8], start: usize, length: usize, address: usize) -> usize
     requires { (start ≤ 2 * limit) × ((length ≤ limit) × (address ≤ 7)) }
-    ensures { result ≡ leading flag (stretch bytes.now start length) }
+    ensures { result ≡ E.run flag (stretch bytes.now start length) }
 {
     let s = split(bytes, start, length, address);
-    leading_of(flag, bytes, s)
+    E::in_split(flag, bytes, s)
 }
 
 // The checks, then the short span or any other, as in `count_zeros`.
-fn leading_flags(flag: bool, bytes: &[u8], start: usize, length: usize, address: usize) -> Counted
-    ensures { counted_answer result ≡ span_count bytes.now start length address (leading flag (stretch bytes.now start length)) }
+fn run_flags<E: End>(
+    flag: bool,
+    bytes: &[u8],
+    start: usize,
+    length: usize,
+    address: usize,
+) -> Result<usize, Refusal>
+    ensures { answer result ≡ span_count bytes.now start length address (E.run flag (stretch bytes.now start length)) }
 {
     if length == 0 {
-        return Counted::Count(0);
+        return Ok(0);
     }
-    let refusal = aligned_failure(start, length, bytes.len(), address);
-    if refusal != 0 {
-        return Counted::Refused(refusal);
-    }
+    check_aligned(start, length, bytes.len(), address)?;
     if start % 8 + length <= 64 {
-        return Counted::Count(short_leading(flag, bytes, start, length));
+        return Ok(short_run::<E>(flag, bytes, start, length));
     }
-    Counted::Count(long_leading(flag, bytes, start, length, address))
-}
-
-// How many flags at the end of a span that fits a word equal `flag`: it is read as one.
-fn short_trailing(flag: bool, bytes: &[u8], start: usize, length: usize) -> usize
-    requires { start % 8 + length ≤ 64 }
-    ensures { result ≡ trailing flag (stretch bytes.now start length) }
-{
-    trailing_in_word(flag, down(byte_word(bytes, start / 8), start % 8), length)
-}
-
-// The same of any span, by the three parts of its split.
-fn long_trailing(flag: bool, bytes: &[u8], start: usize, length: usize, address: usize) -> usize
-    requires { (start ≤ 2 * limit) × ((length ≤ limit) × (address ≤ 7)) }
-    ensures { result ≡ trailing flag (stretch bytes.now start length) }
-{
-    let s = split(bytes, start, length, address);
-    trailing_of(flag, bytes, s)
-}
-
-// The checks, then the short span or any other, as in `count_zeros`.
-fn trailing_flags(flag: bool, bytes: &[u8], start: usize, length: usize, address: usize) -> Counted
-    ensures { counted_answer result ≡ span_count bytes.now start length address (trailing flag (stretch bytes.now start length)) }
-{
-    if length == 0 {
-        return Counted::Count(0);
-    }
-    let refusal = aligned_failure(start, length, bytes.len(), address);
-    if refusal != 0 {
-        return Counted::Refused(refusal);
-    }
-    if start % 8 + length <= 64 {
-        return Counted::Count(short_trailing(flag, bytes, start, length));
-    }
-    Counted::Count(long_trailing(flag, bytes, start, length, address))
+    Ok(long_run::<E>(flag, bytes, start, length, address))
 }
 
 // Counts the zeros at the start of a span.
-pub fn leading_zeros(bytes: &[u8], start: usize, length: usize, address: usize) -> Counted
-    ensures { counted_answer result ≡ span_count bytes.now start length address (leading false (stretch bytes.now start length)) }
+pub fn leading_zeros(
+    bytes: &[u8],
+    start: usize,
+    length: usize,
+    address: usize,
+) -> Result<usize, Refusal>
+    ensures { answer result ≡ span_count bytes.now start length address (leading false (stretch bytes.now start length)) }
 {
-    leading_flags(false, bytes, start, length, address)
+    run_flags::<Front>(false, bytes, start, length, address)
 }
 
 // Counts the ones at the start of a span.
-pub fn leading_ones(bytes: &[u8], start: usize, length: usize, address: usize) -> Counted
-    ensures { counted_answer result ≡ span_count bytes.now start length address (leading true (stretch bytes.now start length)) }
+pub fn leading_ones(
+    bytes: &[u8],
+    start: usize,
+    length: usize,
+    address: usize,
+) -> Result<usize, Refusal>
+    ensures { answer result ≡ span_count bytes.now start length address (leading true (stretch bytes.now start length)) }
 {
-    leading_flags(true, bytes, start, length, address)
+    run_flags::<Front>(true, bytes, start, length, address)
 }
 
 // Counts the zeros at the end of a span.
-pub fn trailing_zeros(bytes: &[u8], start: usize, length: usize, address: usize) -> Counted
-    ensures { counted_answer result ≡ span_count bytes.now start length address (trailing false (stretch bytes.now start length)) }
+pub fn trailing_zeros(
+    bytes: &[u8],
+    start: usize,
+    length: usize,
+    address: usize,
+) -> Result<usize, Refusal>
+    ensures { answer result ≡ span_count bytes.now start length address (trailing false (stretch bytes.now start length)) }
 {
-    trailing_flags(false, bytes, start, length, address)
+    run_flags::<Back>(false, bytes, start, length, address)
 }
 
 // Counts the ones at the end of a span.
-pub fn trailing_ones(bytes: &[u8], start: usize, length: usize, address: usize) -> Counted
-    ensures { counted_answer result ≡ span_count bytes.now start length address (trailing true (stretch bytes.now start length)) }
+pub fn trailing_ones(
+    bytes: &[u8],
+    start: usize,
+    length: usize,
+    address: usize,
+) -> Result<usize, Refusal>
+    ensures { answer result ≡ span_count bytes.now start length address (trailing true (stretch bytes.now start length)) }
 {
-    trailing_flags(true, bytes, start, length, address)
+    run_flags::<Back>(true, bytes, start, length, address)
 }

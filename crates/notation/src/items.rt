@@ -1,212 +1,168 @@
-// The arguments and the answer of a request, read token by token into the list.
-use crate::item::{Item, Number};
-use crate::list::{ANY, MOST, NUMBER, SIZE};
-use crate::{choices, item, list, text};
+// The arguments and the answer of a request, and other lists of items.
+use crate::answer::{Answer, Token};
+use crate::fault::Fault;
+use crate::item::{Item, Kind};
+use crate::text;
+use std::alloc::Global;
 
-// `many` items are read, `arguments` of them before the `=`, in `tokens` tokens, of which the first `plain` are no sizes; `ranged`: one has
-// more than one value. The token in progress begins at byte `from`.
-#[derive(Clone, Copy)]
-pub struct Items {
-    pub many: usize,
-    pub arguments: usize,
-    pub tokens: usize,
-    pub plain: usize,
-    pub ranged: bool,
-    pub answered: bool,
-    pub good: bool,
-    from: usize,
+// At most this many items are in a line.
+const MOST: usize = 1024;
+
+// A token of the arguments: its first item, how many values its items have, and whether it is a size or a serial.
+#[derive(Clone, Copy, Debug)]
+pub(crate) struct Choice {
+    pub(crate) first: usize,
+    pub(crate) values: u64,
+    pub(crate) size: bool,
 }
 
-// The items of the token in progress: `many` items are read in all, those of the token have `count` values, and the last of them has the
-// kind; `any`: one of them is `_`. The next one begins at byte `from`.
-#[derive(Clone, Copy)]
-struct Row {
-    from: usize,
-    many: usize,
-    count: u64,
-    kind: u64,
-    any: bool,
-    good: bool,
+// All items in a row, the tokens of the arguments, and which item begins the answer, if there is one.
+#[derive(Drop)]
+pub(crate) struct Items {
+    all: Vec<Item>,
+    choices: Vec<Choice>,
+    answer: Option<usize>,
 }
 
-fn begun() -> Items {
-    Items {
-        many: 0,
-        arguments: 0,
-        tokens: 0,
-        plain: 0,
-        ranged: false,
-        answered: false,
-        good: true,
-        from: 0,
+impl Items {
+    // `last` is what `@` stands for.
+    pub(crate) fn read(alloc: Global, text: &[u8], last: &Answer) -> Result<Items, Fault> {
+        let mut items = Items {
+            all: Vec::new(alloc),
+            choices: Vec::new(alloc),
+            answer: None,
+        };
+        if !text.is_empty() {
+            for token in text.split(|b| *b == b' ') {
+                items.token(token, last)?;
+            }
+        }
+        Ok(items)
+    }
+
+    pub(crate) fn all(&self) -> &[Item] {
+        self.all.as_slice()
+    }
+
+    pub(crate) fn choices(&self) -> &[Choice] {
+        self.choices.as_slice()
+    }
+
+    pub(crate) fn answer(&self) -> Option<&[Item]> {
+        self.all.as_slice().get(self.answer?..)
+    }
+
+    // How many arguments there are, sizes and serials left out.
+    pub(crate) fn plain(&self) -> usize {
+        self.choices.iter().filter(|choice| !choice.size).count()
+    }
+
+    // Whether an argument has more than one value.
+    pub(crate) fn is_ranged(&self) -> bool {
+        self.choices.iter().any(|choice| 1 < choice.values)
+    }
+
+    // The number of an item `#N` that is alone.
+    pub(crate) fn sum(&self) -> Option<u64> {
+        match self.all.as_slice() {
+            [item] if item.kind == Kind::Calls => Some(item.first),
+            _ => None,
+        }
+    }
+
+    fn token(&mut self, token: &[u8], last: &Answer) -> Result<(), Fault> {
+        match token {
+            b"=" => self.equals(),
+            [b'=', ..] => Err(Fault::Malformed),
+            [b'@', many @ ..] => self.from_last(many, last),
+            _ => self.several(token),
+        }
+    }
+
+    fn equals(&mut self) -> Result<(), Fault> {
+        if self.answer.is_some() {
+            return Err(Fault::Malformed);
+        }
+        self.answer = Some(self.all.len());
+        Ok(())
+    }
+
+    // The last tokens of an answer, each a token of its own.
+    fn from_last(&mut self, many: &[u8], last: &Answer) -> Result<(), Fault> {
+        let many = text::number(many).ok_or(Fault::Malformed)?;
+        let tokens = last.as_slice();
+        let from = (tokens.len() as u64)
+            .checked_sub(many)
+            .ok_or(Fault::Malformed)?;
+        for token in tokens.iter().skip(from as usize) {
+            let first = self.all.len();
+            self.push(Item::from(*token))?;
+            self.close(first, false)?;
+        }
+        Ok(())
+    }
+
+    // The items of a token, with commas between them. A number after a size is a size too.
+    fn several(&mut self, token: &[u8]) -> Result<(), Fault> {
+        let first = self.all.len();
+        let mut kind = Kind::Number;
+        for part in token.split(|b| *b == b',') {
+            let item = Item::read(part, kind).ok_or(Fault::Malformed)?;
+            self.push(item)?;
+            kind = if item.kind.is_size() {
+                item.kind
+            } else {
+                Kind::Number
+            };
+        }
+        self.close(first, kind.is_size())
+    }
+
+    fn push(&mut self, item: Item) -> Result<(), Fault> {
+        if MOST <= self.all.len() {
+            return Err(Fault::Malformed);
+        }
+        self.all.push(item)?;
+        Ok(())
+    }
+
+    // The end of a token that began at an item. Sizes come after the arguments, of which none is `_`.
+    fn close(&mut self, first: usize, size: bool) -> Result<(), Fault> {
+        if self.answer.is_some() {
+            return Ok(());
+        }
+        let items = self.all.as_slice().get(first..).unwrap_or(&[]);
+        let any = items.iter().any(|item| item.kind == Kind::Any);
+        let after_size = self.choices.last().is_some_and(|choice| choice.size);
+        if any || (after_size && !size) {
+            return Err(Fault::Malformed);
+        }
+        let values = items
+            .iter()
+            .fold(0u64, |n, item| n.wrapping_add(item.count));
+        self.choices.push(Choice {
+            first,
+            values,
+            size,
+        })?;
+        Ok(())
     }
 }
 
-pub(crate) fn read(part: &[u8], list: &mut [u64]) -> Items {
-    let mut r = begun();
-    for i in 0..part.len() {
-        r = step(r, part, i, list);
-    }
-    ended(r, part, list)
-}
-
-fn step(r: Items, part: &[u8], i: usize, list: &mut [u64]) -> Items {
-    if text::at(part, i) == b' ' {
-        moved(token(r, text::between(part, r.from, i), list), i)
-    } else {
-        r
+impl From<Token> for Item {
+    fn from(token: Token) -> Item {
+        match token {
+            Token::Number(n) => Item::single(Kind::Number, n),
+            Token::Unknown => Item::single(Kind::Unknown, 0),
+            Token::Missing => Item::single(Kind::Missing, 0),
+        }
     }
 }
 
-fn moved(mut r: Items, i: usize) -> Items {
-    r.from = i % 1048576 + 1;
-    r
-}
-
-// The last token ends with the text. With no `=` all are arguments.
-fn ended(r: Items, part: &[u8], list: &mut [u64]) -> Items {
-    if part.len() == 0 {
-        return r;
+impl Item {
+    // Whether it says what a token is, or is `_` for a number.
+    pub(crate) fn says(self, token: Token) -> bool {
+        let number = matches!(token, Token::Number(_));
+        self == Item::from(token) || (self.kind == Kind::Any && number)
     }
-    whole(token(r, text::between(part, r.from, part.len()), list))
-}
-
-fn whole(mut r: Items) -> Items {
-    if !r.answered {
-        r.arguments = r.many;
-    }
-    r
-}
-
-fn token(r: Items, part: &[u8], list: &mut [u64]) -> Items {
-    match text::at(part, 0) {
-        b'=' => equals(r, part.len() == 1),
-        b'@' => from_last(r, item::read_number(text::behind(part, 1)), list),
-        _ => several(r, part, list),
-    }
-}
-
-// The `=` is a token of its own, and there is one.
-fn equals(mut r: Items, alone: bool) -> Items {
-    r.good = r.good & !r.answered & alone;
-    r.answered = true;
-    r.arguments = r.many;
-    r
-}
-
-fn several(r: Items, part: &[u8], list: &mut [u64]) -> Items {
-    let w = token_items(part, r.many, list);
-    closed(r, w, list)
-}
-
-// The items of a token, with commas between them.
-fn token_items(part: &[u8], many: usize, list: &mut [u64]) -> Row {
-    let mut w = first_of(many);
-    for i in 0..part.len() {
-        w = row_step(w, part, i, list);
-    }
-    last_of(w, part, list)
-}
-
-fn first_of(many: usize) -> Row {
-    Row {
-        from: 0,
-        many: many,
-        count: 0,
-        kind: NUMBER,
-        any: false,
-        good: true,
-    }
-}
-
-fn row_step(w: Row, part: &[u8], i: usize, list: &mut [u64]) -> Row {
-    if text::at(part, i) == b',' {
-        next_of(
-            added(w, item::read(text::between(part, w.from, i), w.kind), list),
-            i,
-        )
-    } else {
-        w
-    }
-}
-
-// After a comma: the next item is a size too, if this one is.
-fn next_of(mut w: Row, i: usize) -> Row {
-    w.from = i % 1048576 + 1;
-    if w.kind < SIZE {
-        w.kind = NUMBER;
-    }
-    w
-}
-
-fn last_of(w: Row, part: &[u8], list: &mut [u64]) -> Row {
-    added(
-        w,
-        item::read(text::between(part, w.from, part.len()), w.kind),
-        list,
-    )
-}
-
-fn added(mut w: Row, t: Item, list: &mut [u64]) -> Row {
-    let many = w.many;
-    list::put_item(list, many, t.kind, t.first, t.count);
-    w.good = w.good & t.good & (many < MOST);
-    w.many = many % MOST + 1;
-    w.count = w.count.wrapping_add(t.count);
-    w.kind = t.kind;
-    w.any = w.any | (t.kind == ANY);
-    w
-}
-
-// A token's end: those of the arguments are kept, and no argument is `_`.
-fn closed(mut r: Items, w: Row, list: &mut [u64]) -> Items {
-    let begin = r.many;
-    r.many = w.many;
-    r.good = r.good & w.good;
-    if r.answered {
-        return r;
-    }
-    r.good = r.good & !w.any;
-    list::put_token(list, r.tokens, begin, w.count);
-    counted(r, 1 < w.count, SIZE <= w.kind)
-}
-
-// Sizes come after the plain arguments.
-fn counted(mut r: Items, ranged: bool, size: bool) -> Items {
-    let tokens = r.tokens;
-    let plain = r.plain;
-    r.good = r.good & (tokens < MOST) & (size | (plain == tokens));
-    r.ranged = r.ranged | ranged;
-    r.tokens = tokens % MOST + 1;
-    if !size {
-        r.plain = tokens % MOST + 1;
-    }
-    r
-}
-
-// Adds the last n tokens of the answer that is kept, each a token of its own.
-fn from_last(mut r: Items, n: Number, list: &mut [u64]) -> Items {
-    let size = choices::kept_size(list);
-    let many = n.value;
-    r.good = r.good & n.good;
-    if size < many {
-        r.good = false;
-        return r;
-    }
-    last_items(r, size - many, size, list)
-}
-
-fn last_items(r: Items, begin: u64, size: u64, list: &mut [u64]) -> Items {
-    let mut s = r;
-    for i in begin..size {
-        s = one_of_last(s, i, list);
-    }
-    s
-}
-
-fn one_of_last(r: Items, i: u64, list: &mut [u64]) -> Items {
-    let answer = choices::kept(list);
-    let t = choices::token_of(answer, i);
-    let w = added(first_of(r.many), t, list);
-    closed(r, w, list)
 }

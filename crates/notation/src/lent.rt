@@ -1,29 +1,139 @@
-// What is lent to the calls: the bytes x, y, z and o, which lie one after the other in one buffer, and the numbers i.
+// What is lent to the calls: the bytes x, y, z and o, and the numbers i.
+use crate::element;
+use crate::fault::Fault;
+use crate::last::Last;
+use std::alloc::{AllocError, Global};
 
-// At most this many bytes of each.
-pub const ROOM: usize = 524352;
+// The letter of what is lent.
+#[derive(Clone, Copy, Debug, PartialEq, Eq)]
+pub enum Letter {
+    X,
+    Y,
+    Z,
+    O,
+    I,
+}
 
-// The first `size` of the bytes at a place: 0 to 3 for x, y, z, o.
-pub fn part(inputs: &[u8], place: usize, size: usize) -> &[u8] {
-    let first = place % 4 * ROOM;
-    let end = first + size % 1048576;
-    if end <= inputs.len() {
-        &inputs[first..end]
-    } else {
-        &inputs[0..0]
+impl Letter {
+    pub(crate) fn of(letter: u8) -> Option<Letter> {
+        match letter {
+            b'x' => Some(Letter::X),
+            b'y' => Some(Letter::Y),
+            b'z' => Some(Letter::Z),
+            b'o' => Some(Letter::O),
+            b'i' => Some(Letter::I),
+            _ => None,
+        }
     }
 }
 
-// The first `size` numbers.
-pub(crate) fn first_numbers(n: &[u32], size: usize) -> &[u32] {
-    if size <= n.len() {
-        &n[0..size]
-    } else {
-        &n[0..0]
+// How many of each are lent.
+#[derive(Clone, Copy, Debug)]
+pub struct Sizes {
+    pub x: usize,
+    pub y: usize,
+    pub z: usize,
+    pub o: usize,
+    pub i: usize,
+}
+
+impl Sizes {
+    // At most so many of this letter.
+    pub(crate) fn limit(&mut self, letter: Letter, most: u64) {
+        let most = most as usize;
+        match letter {
+            Letter::X => self.x = self.x.min(most),
+            Letter::Y => self.y = self.y.min(most),
+            Letter::Z => self.z = self.z.min(most),
+            Letter::O => self.o = self.o.min(most),
+            Letter::I => self.i = self.i.min(most),
+        }
     }
 }
 
-// The size of what is lent, of the numbers of a request: of o at place 19, of i at 20.
-pub(crate) fn size(whole: [u64; 24], i: usize) -> usize {
-    whole[i % 24] as usize
+// What the lines so far lend.
+#[derive(Drop)]
+pub struct Lent {
+    pub(crate) x: Vec<u8>,
+    pub(crate) y: Vec<u8>,
+    pub(crate) z: Vec<u8>,
+    pub(crate) o: Vec<u8>,
+    pub(crate) i: Vec<u32>,
+}
+
+// What a call reads of it.
+#[derive(Clone, Copy)]
+pub struct Parts<'a> {
+    pub x: &'a [u8],
+    pub y: &'a [u8],
+    pub z: &'a [u8],
+    pub i: &'a [u32],
+}
+
+impl Lent {
+    pub fn new(alloc: Global) -> Lent {
+        Lent {
+            x: Vec::new(alloc),
+            y: Vec::new(alloc),
+            z: Vec::new(alloc),
+            o: Vec::new(alloc),
+            i: Vec::new(alloc),
+        }
+    }
+
+    // Takes what a line lends. A malformed one changes nothing.
+    pub fn take(
+        &mut self,
+        alloc: Global,
+        letter: Letter,
+        text: &[u8],
+        last: &Last,
+    ) -> Result<(), Fault> {
+        match letter {
+            Letter::X => self.x = bytes(alloc, text, last)?,
+            Letter::Y => self.y = bytes(alloc, text, last)?,
+            Letter::Z => self.z = bytes(alloc, text, last)?,
+            Letter::O => self.o = bytes(alloc, text, last)?,
+            Letter::I => self.i = element::lent(alloc, text, last)?,
+        }
+        Ok(())
+    }
+
+    // The output goes on as the last call left it.
+    pub fn go_on(&mut self, last: &Last) -> Result<(), AllocError> {
+        element::refill(&mut self.o, last.bytes.as_slice())
+    }
+
+    pub fn sizes(&self) -> Sizes {
+        Sizes {
+            x: self.x.len(),
+            y: self.y.len(),
+            z: self.z.len(),
+            o: self.o.len(),
+            i: self.i.len(),
+        }
+    }
+
+    // The first bytes and numbers of each letter.
+    pub fn parts(&self, sizes: Sizes) -> Parts<'_> {
+        Parts {
+            x: first(self.x.as_slice(), sizes.x),
+            y: first(self.y.as_slice(), sizes.y),
+            z: first(self.z.as_slice(), sizes.z),
+            i: first(self.i.as_slice(), sizes.i),
+        }
+    }
+}
+
+// Pieces, or `@` for what the last call left.
+fn bytes(alloc: Global, text: &[u8], last: &Last) -> Result<Vec<u8>, Fault> {
+    match text {
+        [b'@', ..] => Ok(Vec::from_slice(alloc, last.bytes.as_slice())?),
+        _ => element::lent(alloc, text, last),
+    }
+}
+
+// The first n, or all.
+fn first<T>(items: &[T], n: usize) -> &[T] {
+    items.get(..n).unwrap_or(items)
 }

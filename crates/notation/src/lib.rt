@@ -2,18 +2,22 @@
 // answer and the output of a call are compared with what the line says. Nothing here knows what a call does.
 #![tactic(auto)]
 
-pub mod choices;
-pub mod input;
+pub mod answer;
+pub mod arguments;
+pub mod call;
+mod choices;
+mod element;
+pub mod fault;
 mod item;
 mod items;
+pub mod last;
 pub mod lent;
+pub mod line;
 pub mod lines;
-mod list;
-mod names;
-pub mod numbers;
+pub mod names;
 pub mod outcome;
 mod pieces;
 pub mod reading;
 pub mod sums;
-mod tally;
+pub mod tally;
 mod text;

@@ -1,249 +1,117 @@
-// Lent bytes and lists of numbers, written in pieces; and what an output holds, compared with pieces.
-use crate::{list, text};
+// Lists of bytes and of numbers, written in pieces. A list that is well formed and has more than the room is None.
+use crate::fault::Fault;
+use crate::item::{Item, Kind};
+use crate::text;
+use std::alloc::{AllocError, Global};
 
-// `size` bytes are read, those of the piece in progress from `begin` on; `high` is its first digit where the second is not read, else
-// 16; `times` is how often it stands, behind a `*`. `same`: all are those of the buffer, where they are compared.
-#[derive(Clone, Copy)]
-pub struct Pieces {
-    pub size: usize,
-    pub good: bool,
-    pub same: bool,
-    begin: usize,
-    high: u64,
-    starred: bool,
-    times: usize,
+// Of how often bytes stand the last eight decimal digits count, and of how often a number stands the low 24 bits.
+const BYTES_TIMES: u64 = 100000000;
+
+const NUMBER_TIMES: u64 = 1 << 24;
+
+// A list with room for so many, and whether all that came had room.
+#[derive(Drop)]
+struct Bounded<T> {
+    list: Vec<T>,
+    room: usize,
+    fits: bool,
 }
 
-// Reads bytes into the front of a buffer, or compares them with it.
-pub(crate) fn read(text: &[u8], buffer: &mut [u8], compare: bool) -> Pieces {
-    let mut p = Pieces {
-        size: 0,
-        good: true,
-        same: true,
-        begin: 0,
-        high: 16,
-        starred: false,
-        times: 0,
-    };
-    for i in 0..text.len() {
-        p = step(p, text[i], buffer, compare);
-    }
-    closed(p, buffer, compare)
-}
-
-fn step(p: Pieces, b: u8, buffer: &mut [u8], compare: bool) -> Pieces {
-    match b {
-        b' ' => closed(p, buffer, compare),
-        b'*' => starred(p),
-        _ => digit(p, text::digit(b), buffer, compare),
-    }
-}
-
-fn starred(mut p: Pieces) -> Pieces {
-    p.good = p.good & !p.starred & (p.high == 16) & (p.begin < p.size);
-    p.starred = true;
-    p
-}
-
-fn digit(mut p: Pieces, d: u64, buffer: &mut [u8], compare: bool) -> Pieces {
-    if p.starred {
-        return times_digit(p, d);
-    }
-    if 16 <= d {
-        p.good = false;
-        return p;
-    }
-    let high = p.high;
-    if high == 16 {
-        p.high = d;
-        return p;
-    }
-    p.high = 16;
-    byte(p, ((16 * (high % 16) + d) % 256) as u8, buffer, compare)
-}
-
-fn times_digit(mut p: Pieces, d: u64) -> Pieces {
-    let times = p.times % 10000000;
-    p.good = p.good & (d < 10);
-    p.times = 10 * times + (d % 16) as usize;
-    p
-}
-
-// One byte more.
-fn byte(mut p: Pieces, b: u8, buffer: &mut [u8], compare: bool) -> Pieces {
-    let at = p.size;
-    if buffer.len() <= at {
-        p.good = p.good & compare;
-        p.same = false;
-        return p;
-    }
-    p.same = p.same & stored(buffer, at, b, compare);
-    p.size = at + 1;
-    p
-}
-
-fn stored(buffer: &mut [u8], at: usize, b: u8, compare: bool) -> bool {
-    if at < buffer.len() {
-        if compare {
-            return buffer[at] == b;
+impl<T: Copy> Bounded<T> {
+    fn new(alloc: Global, room: usize) -> Bounded<T> {
+        Bounded {
+            list: Vec::new(alloc),
+            room,
+            fits: true,
         }
-        buffer[at] = b;
     }
-    true
-}
 
-// A piece's end: it is repeated.
-fn closed(p: Pieces, buffer: &mut [u8], compare: bool) -> Pieces {
-    if p.starred {
-        finished(repeated(p, buffer, compare))
-    } else {
-        finished(p)
-    }
-}
-
-fn finished(mut p: Pieces) -> Pieces {
-    p.good = p.good & (p.high == 16) & (!p.starred | (0 < p.times));
-    p.begin = p.size;
-    p.starred = false;
-    p.times = 0;
-    p
-}
-
-fn less(a: usize, b: usize) -> usize {
-    if a < b { 0 } else { a - b }
-}
-
-fn repeated(mut p: Pieces, buffer: &mut [u8], compare: bool) -> Pieces {
-    let size = p.size;
-    let own = less(size, p.begin);
-    let end = end_of(size, own, less(p.times, 1));
-    if end <= buffer.len() {
-        let same = again(buffer, size, end, own, compare);
-        p.same = p.same & same;
-        p.size = end;
-        return p;
-    }
-    p.good = p.good & compare;
-    p.same = false;
-    p
-}
-
-// Where so many more of a piece end, or a place past any room.
-fn end_of(size: usize, own: usize, more: usize) -> usize {
-    let mut end = size;
-    for k in 0..more {
-        end = further(end, own);
-    }
-    end
-}
-
-fn further(end: usize, own: usize) -> usize {
-    if 16777216 <= end {
-        return end;
-    }
-    end + own % 16777216
-}
-
-// The bytes from `from` to `end` are those `own` before them.
-fn again(buffer: &mut [u8], from: usize, end: usize, own: usize, compare: bool) -> bool {
-    let mut good = true;
-    for i in from..end {
-        let b = text::at(buffer, less(i, own));
-        good = good & stored(buffer, i, b, compare);
-    }
-    good
-}
-
-// How many numbers were read, and whether they have a place; `same` as above.
-#[derive(Clone, Copy)]
-pub struct Numbers {
-    pub size: usize,
-    pub good: bool,
-    pub same: bool,
-}
-
-// The numbers of the first `many` items, into the front of a list, or compared with it.
-pub(crate) fn read_numbers(items: &[u64], many: usize, list: &mut [u32], compare: bool) -> Numbers {
-    let mut n = Numbers {
-        size: 0,
-        good: true,
-        same: true,
-    };
-    for j in 0..many {
-        n = item(
-            n,
-            list::kind(items, j),
-            list::first(items, j),
-            list::count(items, j),
-            list,
-            compare,
-        );
-    }
-    n
-}
-
-fn item(
-    mut n: Numbers,
-    kind: u64,
-    first: u64,
-    count: u64,
-    list: &mut [u32],
-    compare: bool,
-) -> Numbers {
-    let size = n.size % 16777216;
-    let end = size + (count % 16777216) as usize;
-    n.good = n.good & ((kind == list::NUMBER) | (kind == list::TIMES));
-    if end <= list.len() {
-        let value = (first % 4294967296) as u32;
-        let same = row(list, size, end, value, compare);
-        n.same = n.same & same;
-        n.size = end;
-        return n;
-    }
-    n.good = n.good & compare;
-    n.same = false;
-    n
-}
-
-fn row(list: &mut [u32], from: usize, end: usize, value: u32, compare: bool) -> bool {
-    let mut good = true;
-    for i in from..end {
-        good = good & number(list, i, value, compare);
-    }
-    good
-}
-
-fn number(list: &mut [u32], at: usize, value: u32, compare: bool) -> bool {
-    if at < list.len() {
-        if compare {
-            return list[at] == value;
+    // Appends a part so often, if there is room for all.
+    fn append(&mut self, part: &[T], times: usize) -> Result<(), AllocError> {
+        let more = part.len().saturating_mul(times);
+        if self.room < self.list.len().saturating_add(more) {
+            self.fits = false;
+            return Ok(());
         }
-        list[at] = value;
+        for _ in 0..times {
+            self.list.extend_from_slice(part)?;
+        }
+        Ok(())
     }
-    true
-}
 
-// Copies bytes to the front of a buffer.
-pub(crate) fn copy(from: &[u8], to: &mut [u8]) {
-    for i in 0..from.len() {
-        stored(to, i, from[i], false);
-    }
-}
-
-pub(crate) fn copy_numbers(from: &[u32], to: &mut [u32]) {
-    for i in 0..from.len() {
-        number(to, i, from[i], false);
+    fn finish(self) -> Option<Vec<T>> {
+        let Bounded { list, fits, .. } = self;
+        fits.then_some(list)
     }
 }
 
-pub(crate) fn same_numbers(a: &[u32], b: &[u32]) -> bool {
-    let mut good = a.len() == b.len();
-    for i in 0..a.len() {
-        good = good & (a[i] == number_at(b, i));
+pub(crate) fn bytes(alloc: Global, text: &[u8], room: usize) -> Result<Option<Vec<u8>>, Fault> {
+    let mut bytes = Bounded::new(alloc, room);
+    for piece in text.split(|b| *b == b' ') {
+        bytes.read(alloc, piece)?;
     }
-    good
+    Ok(bytes.finish())
 }
 
-fn number_at(n: &[u32], i: usize) -> u32 {
-    if i < n.len() { n[i] } else { 0 }
+impl Bounded<u8> {
+    // `HEX` or `HEX*N`.
+    fn read(&mut self, alloc: Global, piece: &[u8]) -> Result<(), Fault> {
+        let Some((hex, times)) = text::split_once(piece, b'*') else {
+            return self.read_hex(piece);
+        };
+        let begin = self.list.len();
+        self.read_hex(hex)?;
+        let more = more_times(times).ok_or(Fault::Malformed)?;
+        match self.list.as_slice().get(begin..) {
+            None | Some([]) => Err(Fault::Malformed),
+            Some(bytes) => {
+                let bytes = Vec::from_slice(alloc, bytes)?;
+                self.append(bytes.as_slice(), more)?;
+                Ok(())
+            }
+        }
+    }
+
+    // Two digits a byte.
+    fn read_hex(&mut self, hex: &[u8]) -> Result<(), Fault> {
+        for pair in hex.chunks(2) {
+            let byte = byte_of(pair).ok_or(Fault::Malformed)?;
+            self.append(&[byte], 1)?;
+        }
+        Ok(())
+    }
+}
+
+fn byte_of(pair: &[u8]) -> Option<u8> {
+    match pair {
+        [high, low] => Some(text::digit(*high)? << 4 | text::digit(*low)?),
+        _ => None,
+    }
+}
+
+// How often bytes stand that stand N times, besides the first time: N is decimal and at least 1.
+fn more_times(digits: &[u8]) -> Option<usize> {
+    let mut times: u64 = 0;
+    for b in digits {
+        let d = text::digit(*b).filter(|d| *d < 10)?;
+        times = times.saturating_mul(10).saturating_add(u64::from(d)) % BYTES_TIMES;
+    }
+    (times as usize).checked_sub(1)
+}
+
+// Of the item `N` the number, of `N*K` the number K times. Of a number the low 32 bits count.
+pub(crate) fn numbers(
+    alloc: Global,
+    items: &[Item],
+    room: usize,
+) -> Result<Option<Vec<u32>>, Fault> {
+    let mut numbers = Bounded::new(alloc, room);
+    for item in items {
+        if item.kind != Kind::Number && item.kind != Kind::Times {
+            return Err(Fault::Malformed);
+        }
+        let n = (item.first & 0xffff_ffff) as u32;
+        numbers.append(&[n], (item.count % NUMBER_TIMES) as usize)?;
+    }
+    Ok(numbers.finish())
 }

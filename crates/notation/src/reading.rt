@@ -1,68 +1,67 @@
 // A request's line, taken apart.
+use crate::answer::Answer;
+use crate::arguments::Arguments;
+use crate::fault::Fault;
 use crate::items::Items;
-use crate::names::Call;
-use crate::{items, names, text};
+use crate::lent::Sizes;
+use crate::names::{NAMES, Named, Output};
+use crate::{names, text};
+use std::alloc::Global;
 
-// Whether the line is a request; its call's number, and its output: `o`, `i` or `-`; how many tokens its arguments are. The items from
-// `arguments` to `many` are its answer, if it is `answered`; `ranged`: it has several calls. What the output must hold begins at `after`.
-#[derive(Clone, Copy)]
-pub struct Reading {
-    pub good: bool,
-    pub call: usize,
-    pub output: u8,
-    pub tokens: usize,
-    pub(crate) arguments: usize,
-    pub(crate) many: usize,
-    pub(crate) answered: bool,
-    pub(crate) ranged: bool,
-    pub(crate) after: usize,
+// The place of the call's name and what it says, the items of its arguments and its answer, and what its output must hold.
+#[derive(Drop)]
+pub struct Reading<'a> {
+    pub(crate) place: usize,
+    pub named: Named,
+    pub(crate) items: Items,
+    pub(crate) after: &'a [u8],
 }
 
-// Reads a line into the list.
-pub fn read(line: &[u8], list: &mut [u64]) -> Reading {
-    let bar = text::find(line, b'|');
-    let head = before_bar(line, bar);
-    let end = text::find(head, b' ');
-    let call = names::call_of(text::before(head, end));
-    let r = items::read(text::behind(head, end + 1), list);
-    made(call, r, bar < line.len(), bar + 2)
-}
+impl<'a> Reading<'a> {
+    // `last` is the answer of the last call.
+    pub fn read(alloc: Global, line: &'a [u8], last: &Answer) -> Result<Reading<'a>, Fault> {
+        let bar = line.iter().position(|b| *b == b'|');
+        let (head, after) = cut(line, bar);
+        let (name, rest) = text::split_once(head, b' ').unwrap_or((head, &[]));
+        let place = names::place(name).ok_or(Fault::Malformed)?;
+        let reading = Reading {
+            place,
+            named: NAMES.get(place).copied().ok_or(Fault::Malformed)?,
+            items: Items::read(alloc, rest, last)?,
+            after,
+        };
+        if reading.items.plain() != reading.named.arguments {
+            return Err(Fault::Malformed);
+        }
+        if bar.is_some() != (reading.compared() != Output::Nothing) {
+            return Err(Fault::Malformed);
+        }
+        Ok(reading)
+    }
 
-// The text before a ` |`, or all of it.
-fn before_bar(line: &[u8], bar: usize) -> &[u8] {
-    if bar < line.len() {
-        if 0 < bar {
-            return text::before(line, bar - 1);
+    // The output that is compared: that of a single call with an answer. A range has it in its checksum.
+    pub(crate) fn compared(&self) -> Output {
+        if self.items.answer().is_some() && !self.items.is_ranged() {
+            self.named.output
+        } else {
+            Output::Nothing
         }
     }
-    line
-}
 
-fn made(call: Call, r: Items, barred: bool, after: usize) -> Reading {
-    Reading {
-        good: well_formed(call, r, barred),
-        call: call.number,
-        output: call.output,
-        tokens: r.tokens,
-        arguments: r.arguments,
-        many: r.many,
-        answered: r.answered,
-        ranged: r.ranged,
-        after: after,
+    // The arguments of call t of the request, None after its last one.
+    pub fn choice(&self, t: u64, sizes: Sizes) -> Option<Arguments> {
+        self.items.choice(t, sizes)
     }
 }
 
-fn well_formed(call: Call, r: Items, barred: bool) -> bool {
-    let written = call.output != b'-';
-    let single = !r.ranged;
-    if !call.found {
-        return false;
-    }
-    if r.plain != call.arguments {
-        return false;
-    }
-    if !r.answered {
-        return r.good & !barred;
-    }
-    r.good & (barred == (written & single))
+// The text before ` |`, and that behind `| `. With no bar, or at its start, all is before it.
+fn cut(line: &[u8], bar: Option<usize>) -> (&[u8], &[u8]) {
+    let Some(bar) = bar else {
+        return (line, &[]);
+    };
+    let head = match bar.checked_sub(1) {
+        Some(end) => line.get(..end).unwrap_or(line),
+        None => line,
+    };
+    (head, line.get(bar.saturating_add(2)..).unwrap_or(&[]))
 }

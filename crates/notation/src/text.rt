@@ -1,77 +1,47 @@
-// Digits, bytes in a text, and parts of it.
-ghost use Rattle.std.specs.Prelude.{◌≡◌, ◌≤◌, length};
+// Digits and numbers, and a text cut in two.
+ghost use Rattle.std.specs.Prelude.{◌<◌, IfSome};
 
-// The value of a digit, 16 for what is none.
-pub(crate) fn digit(b: u8) -> u64
-    ensures { result ≤ 16 }
+// A number with one digit more has been below this, so that it fits.
+const LIMIT: u64 = 1 << 60;
+
+// The value of a digit, with lower-case letters.
+pub(crate) fn digit(b: u8) -> Option<u8>
+    ensures { IfSome result (λ d. d < 16) }
 {
-    if b < b'0' {
-        return 16;
+    match b {
+        b'0'..=b'9' => Some(b - b'0'),
+        b'a'..=b'f' => Some(b - b'a' + 10),
+        _ => None,
     }
-    if b <= b'9' {
-        return wide(b - b'0');
-    }
-    if b < b'a' {
-        return 16;
-    }
-    if b <= b'f' {
-        return wide(b - b'a') + 10;
-    }
-    16
 }
 
-pub(crate) fn wide(x: u8) -> u64
-    ensures { result ≡ x }
-{
-    x as u64
+// A decimal number, or a hexadecimal one after `x`.
+pub(crate) fn number(text: &[u8]) -> Option<u64> {
+    match text {
+        [b'x', digits @ ..] => in_base(digits, 16),
+        _ => in_base(text, 10),
+    }
 }
 
-// Byte i, 0 where there is none.
-pub(crate) fn at(text: &[u8], i: usize) -> u8 {
-    if i < text.len() { text[i] } else { 0 }
-}
-
-// Returns the place of the first such byte, or of the end of the text.
-pub(crate) fn find(text: &[u8], b: u8) -> usize
-    ensures { result ≤ length text.now }
-{
-    for i in 0..text.len() {
-        if text[i] == b {
-            return i;
+fn in_base(digits: &[u8], base: u8) -> Option<u64> {
+    if digits.is_empty() {
+        return None;
+    }
+    let mut n: u64 = 0;
+    for b in digits {
+        let d = digit(*b)?;
+        if d >= base || n >= LIMIT {
+            return None;
         }
+        n = n.checked_mul(u64::from(base))?.checked_add(u64::from(d))?;
     }
-    text.len()
+    Some(n)
 }
 
-// The text after its first k bytes.
-pub(crate) fn behind(text: &[u8], k: usize) -> &[u8] {
-    if k <= text.len() {
-        &text[k..]
-    } else {
-        &text[0..0]
-    }
-}
-
-// The first k bytes.
-pub(crate) fn before(text: &[u8], k: usize) -> &[u8] {
-    if k <= text.len() {
-        &text[0..k]
-    } else {
-        &text[0..0]
-    }
-}
-
-// The bytes from one place to another.
-pub(crate) fn between(text: &[u8], from: usize, end: usize) -> &[u8] {
-    if from <= end {
-        if end <= text.len() {
-            return &text[from..end];
-        }
-    }
-    &text[0..0]
-}
-
-// A difference, or 0.
-pub(crate) fn less(a: u64, b: u64) -> u64 {
-    if a < b { 0 } else { a - b }
+// The text before the first such byte, and that after it.
+pub(crate) fn split_once(text: &[u8], separator: u8) -> Option<(&[u8], &[u8])> {
+    let at = text.iter().position(|b| *b == separator)?;
+    let (before, rest) = text.split_at_checked(at)?;
+    let (_, after) = rest.split_first()?;
+    Some((before, after))
 }

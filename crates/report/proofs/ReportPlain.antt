@@ -1,10 +1,10 @@
 -- A report is given of just what `specs/ReportPlain.antt` says. Assumes nothing.
-use Prim.Native.Nat.{ℕ}
-use mathlib.Core.Path.{refl, ap}
-use mathlib.Core.Bool.{cond}
-use mathlib.Core.Option.{none, some}
-use lib.Dec.{leb}
+use Rattle.std.specs.Prelude.{Some, None}
+use mathlib.Core.Path.{sym}
+use native.Mathlib.Omega.{arith}
+use lib.ListN.{length}
 use Rattle.words.specs.Flags.{flags_of}
+use Rattle.masks.proofs.CheckLaws.{when-gt, when-le}
 use Rattle.report.specs.Numbers.{most, numbers_of, report_of}
 use Rattle.report.specs.ReportPlain.{ReportPlain}
 
@@ -12,8 +12,8 @@ pub report_plain : ReportPlain
 unfolding report_of
 report_plain =
     record {
-      longest = λ bytes e. ap (λ (n : ℕ). cond (leb n most) (some (numbers_of (flags_of bytes))) none) e;
-      too_long = λ bytes e. ap (λ (n : ℕ). cond (leb n most) (some (numbers_of (flags_of bytes))) none) e;
-      reported = λ n. refl;
-      refused = refl;
+      longest = λ bytes e. sym (when-le (length bytes) most (Some (numbers_of (flags_of bytes))) None (omega (arith, e)));
+      too_long = λ bytes e. sym (when-gt (length bytes) most (Some (numbers_of (flags_of bytes))) None (omega (arith, e)));
+      reported = λ bytes h. sym (when-le (length bytes) most (Some (numbers_of (flags_of bytes))) None h);
+      refused = λ bytes h. sym (when-gt (length bytes) most (Some (numbers_of (flags_of bytes))) None h);
     }

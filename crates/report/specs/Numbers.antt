@@ -1,13 +1,10 @@
 -- The numbers of a report on bytes that are read as eight flags each. Assumes nothing.
-use Rattle.std.specs.Prelude.{ℕ, Bool, cond, List, leb, length}
-use Rattle.std.proofs.Math.Option.{Option, none, some}
+use Rattle.std.specs.Prelude.{ℕ, Bool, cond, List, leb, length, Option, Some, None}
 use Rattle.words.specs.Flags.{flags_of}
 use Rattle.masks.specs.Compare.{edges}
 use Rattle.masks.specs.SliceIterator.{runs_from}
 use Rattle.masks.specs.Utils.{zeros}
 use Rattle.report.specs.declared.numbers.Numbers.{Numbers}
-use Rattle.report.specs.declared.numbers.Reported.{Reported}
-use Rattle.report.specs.declared.numbers.Reported.TheVariants.{Of, TooLong}
 
 -- how many flags, zeros, neighbours that differ, and runs of ones
 abbrev pub numbers_of : List Bool → Numbers
@@ -17,10 +14,6 @@ numbers_of l = record { flags = length l; zeros = zeros l; edges = edges l; runs
 abbrev pub most : ℕ
 most = 65536
 
-abbrev pub reported_answer : Reported → Option Numbers
-reported_answer (Of n) = some n
-reported_answer TooLong = none
-
 -- Of more bytes there is no report: this limit is the report's own, and no check has its number.
 unfoldable pub report_of : List ℕ → Option Numbers
-report_of bytes = cond (leb (length bytes) most) (some (numbers_of (flags_of bytes))) none
+report_of bytes = cond (leb (length bytes) most) (Some (numbers_of (flags_of bytes))) None

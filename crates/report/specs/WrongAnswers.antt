@@ -1,8 +1,7 @@
 -- Wrong answers that the contract of `report` rules out. Assumes nothing.
 --
 -- A row as in `WrongAnswers` of words: the definition at one input, what it gives, and two answers of a faulty call.
-use Rattle.std.specs.Prelude.{ℕ, [], ◌∷◌}
-use Rattle.std.proofs.Math.Option.{some}
+use Rattle.std.specs.Prelude.{ℕ, [], ◌∷◌, Some}
 use Rattle.words.specs.WrongAnswers.{Tried}
 use Rattle.report.specs.Numbers.{report_of}
 use Rattle.report.specs.declared.numbers.Numbers.{Numbers}
@@ -13,8 +12,8 @@ four_of flags zeros edges runs = record { flags = flags; zeros = zeros; edges = 
 pub record WrongAnswers : Type 0 where
   -- `report` of the flags 1,0,1,1,0,0,0,0
   pub one_byte : Tried (report_of (0x0D ∷ []))
-      (some (four_of 8 5 3 2))
+      (Some (four_of 8 5 3 2))
       -- ones given as zeros
-      (some (four_of 8 3 3 2))
+      (Some (four_of 8 3 3 2))
       -- runs given as edges
-      (some (four_of 8 5 2 2))
+      (Some (four_of 8 5 2 2))

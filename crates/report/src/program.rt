@@ -1,87 +1,77 @@
 // The program maskreport: reads standard input to its end and prints a report on it. What it prints of the bytes read is
 // what `numbers` computes.
-ghost use Rattle.std.specs.Prelude.{◌≡◌, ◌≤◌, length, take};
+ghost use Rattle.std.specs.Io.{ReadsAtMost};
 
-use crate::numbers::{Numbers, Reported, report};
-use std::io;
+use crate::numbers::{Numbers, report};
 use std::io::Read;
+use std::{fmt, io};
 
-// How many bytes were read, and whether a read failed before the end of the input.
-#[derive(Clone, Copy)]
-struct Input {
-    size: usize,
-    failed: bool,
+// What kept the program from printing a report: the input cannot be read, or the output cannot be written.
+#[derive(Clone, Copy, PartialEq, Eq, Debug)]
+pub enum Failure {
+    Input,
+    Output,
 }
 
-// 0 where the report was printed, 1 where the input could not be read, 2 where the output could not be written. One byte more is
-// read than a report takes, so that longer input is seen.
-pub fn run(rt: &(impl io::Input + Print + Eprint)) -> u8
-    ensures { result ≤ 2 }
-{
-    let mut space = [0u8; 65537];
-    let buf: &mut [u8] = &mut space;
-    read_and_print(rt, buf)
-}
-
-fn read_and_print(rt: &(impl io::Input + Print + Eprint), buf: &mut [u8]) -> u8
-    ensures { result ≤ 2 }
-{
-    let input = read_to_end(&mut rt.reader(), buf);
-    let size = input.size;
-    if input.failed {
-        let _ = eprintln!(rt; "maskreport: standard input cannot be read");
-        return 1;
+impl fmt::Display for Failure {
+    fn fmt<W: fmt::Write>(&self, f: &mut fmt::Formatter<W>) -> fmt::Result {
+        match self {
+            Failure::Input => write!(f, "standard input cannot be read"),
+            Failure::Output => write!(f, "standard output cannot be written"),
+        }
     }
-    if print(rt, report(&buf[..size])).is_ok() {
-        return 0;
-    }
-    let _ = eprintln!(rt; "maskreport: standard output cannot be written");
-    2
 }
 
-// Reads until the buffer is full, the input ends or a read fails. A read may give fewer bytes than it could.
-fn read_to_end(source: &mut impl Read, buf: &mut [u8]) -> Input
-    ensures in_bounds { result.size ≤ length buf.new }
-    ensures counts_bytes { result.size ≡ length (take result.size buf.new) }
+// Prints the report on standard input, or says on standard error what kept it from that, and gives it back.
+pub fn run(rt: &(impl io::Input + Print + Eprint)) -> Result<(), Failure> {
+    let printed = read_and_print(rt);
+    if let Err(failure) = printed {
+        let _ = eprintln!(rt; "maskreport: {failure}");
+    }
+    printed
+}
+
+// One byte more is read than a report takes, so that longer input is seen.
+fn read_and_print(rt: &(impl io::Input + Print)) -> Result<(), Failure> {
+    let mut buf = [0u8; 65537];
+    let size = read_to_end(&mut rt.reader(), &mut buf).map_err(|_| Failure::Input)?;
+    print(rt, report(&buf[..size])).map_err(|_| Failure::Output)
+}
+
+// Reads until the buffer is full, the input ends or a read fails. A read may give fewer bytes than it could. Of the library's methods
+// `read_exact` tells no number where the input ends early, and `read_to_end` wants a `Vec`.
+fn read_to_end(source: &mut impl Read, buf: &mut [u8]) -> io::Result<usize>
+    ensures { ReadsAtMost result buf.new }
 {
     let mut size = 0;
     while size < buf.len() {
-        let Ok(more) = source.read(&mut buf[size..]) else {
-            return Input {
-                size: size,
-                failed: true,
-            };
-        };
+        let more = source.read(&mut buf[size..])?;
         if more == 0 {
             break;
         }
         size += more;
     }
-    Input {
-        size: size,
-        failed: false,
-    }
+    Ok(size)
 }
 
 // Prints all of it; the first write that fails is the last. Longer input is told as `refused=1`, which stands here alone.
-fn print(rt: &impl Print, r: Reported) -> io::Result<()> {
-    match r {
-        Reported::Of(numbers) => lines(rt, numbers),
-        Reported::TooLong => line(rt, "refused=", 1),
+fn print(rt: &impl Print, report: Option<Numbers>) -> io::Result<()> {
+    match report {
+        Some(numbers) => print_numbers(rt, numbers),
+        None => println!(rt; "refused=1"),
     }
 }
 
-fn lines(rt: &impl Print, n: Numbers) -> io::Result<()> {
-    line(rt, "flags=", big(n.flags))?;
-    line(rt, "zeros=", big(n.zeros))?;
-    line(rt, "edges=", big(n.edges))?;
-    line(rt, "runs=", big(n.runs))
-}
-
-fn big(n: usize) -> u64 {
-    n as u64
-}
-
-fn line(rt: &impl Print, key: &str, n: u64) -> io::Result<()> {
-    println!(rt; "{key}{n}")
+// Each line is a write of its own: where one fails, those before it are out. A `Display` of all four would be one write.
+fn print_numbers(rt: &impl Print, numbers: Numbers) -> io::Result<()> {
+    let Numbers {
+        flags,
+        zeros,
+        edges,
+        runs,
+    } = numbers;
+    println!(rt; "flags={flags}")?;
+    println!(rt; "zeros={zeros}")?;
+    println!(rt; "edges={edges}")?;
+    println!(rt; "runs={runs}")
 }

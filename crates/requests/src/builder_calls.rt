@@ -1,106 +1,91 @@
 // The calls of the builder, whose buffer is the output.
 ghost use Rattle.std.specs.Prelude.{◌≡◌};
 ghost use Rattle.masks.specs.Appends.{change_answer, append_answer, append_bytes, push_flag};
+ghost use Rattle.masks.specs.Refusal.{failure_of};
 
-use crate::{mask_calls, values};
-use masks::builder::{BitmapBuilder, Made, Pushed, Validity};
+use crate::tell::Tell;
+use crate::{tell, values};
+use masks::builder::BitmapBuilder;
+use masks::refusal::Refusal;
+use notation::answer::Answer;
+use notation::arguments::{Arguments, Serial};
+use notation::call::{BuilderCall, ExtendCall, GatherCall};
 
-pub(crate) fn answer(call: usize, v: [u64; 24], buf: &mut [u8]) -> [u64; 12] {
-    let b = values::builder(v);
+pub(crate) fn answer(call: BuilderCall, a: &Arguments, buf: &mut [u8]) -> Answer {
+    let b = values::builder(a);
     match call {
-        0 => appended(b.push(buf, values::flag(v, 3))),
-        1 => left(push_lent(b, buf, values::flag(v, 3))),
-        2 => appended(b.push_word_with_len_unchecked(buf, values::word(v, 3), values::size(v, 4))),
-        3 => appended(b.extend_constant(buf, values::size(v, 3), values::flag(v, 4))),
-        4 => frozen(b.freeze(buf)),
-        5 => validity(b.into_opt_validity(buf)),
-        _ => mask_calls::zeroed(v, buf),
+        BuilderCall::Push => tell::answer_back(b.push(buf, a.flag(3))),
+        BuilderCall::PushMut => left(push_lent(b, buf, a.flag(3))),
+        BuilderCall::PushWord => {
+            tell::answer_back(b.push_word_with_len_unchecked(buf, a.word(3), a.size(4)))
+        }
+        BuilderCall::ExtendConstant => tell::answer_back(b.extend_constant(
+            buf,
+            a.size(3),
+            a.flag(4),
+        )),
+        BuilderCall::Freeze => tell::answer_back(b.freeze(buf)),
+        BuilderCall::IntoOptValidity => tell::answer_back(b.into_opt_validity(buf)),
     }
 }
 
 // Appends that read x.
-pub(crate) fn extending(call: usize, v: [u64; 24], x: &[u8], buf: &mut [u8]) -> [u64; 12] {
-    let b = values::builder(v);
-    let first = values::size(v, 3);
-    let second = values::size(v, 4);
-    match call {
-        0 => appended(b.extend_from_slice(buf, x, first, second)),
-        1 => appended(b.extend_each_repeated_from_slice_unchecked(
-            buf,
-            x,
-            first,
-            second,
-            values::size(v, 5),
-        )),
-        _ => appended(b.subslice_extend_from_bitmap(
-            buf,
-            values::mask(v, 3),
-            x,
-            values::size(v, 6),
-            values::size(v, 7),
-        )),
-    }
+pub(crate) fn extending(call: ExtendCall, a: &Arguments, x: &[u8], buf: &mut [u8]) -> Answer {
+    let b = values::builder(a);
+    let start = a.size(3);
+    let n = a.size(4);
+    tell::answer_back(match call {
+        ExtendCall::FromSlice => b.extend_from_slice(buf, x, start, n),
+        ExtendCall::EachRepeated => {
+            b.extend_each_repeated_from_slice_unchecked(buf, x, start, n, a.size(5))
+        }
+        ExtendCall::FromBitmap => {
+            let mask = values::mask(a, 3, Serial::Second);
+            b.subslice_extend_from_bitmap(buf, mask, x, a.size(6), a.size(7))
+        }
+    })
 }
 
 // Appends that read x at indices.
 pub(crate) fn gathering(
-    call: usize,
-    v: [u64; 24],
+    call: GatherCall,
+    a: &Arguments,
     x: &[u8],
     idxs: &[u32],
     buf: &mut [u8],
-) -> [u64; 12] {
-    let b = values::builder(v);
-    let start = values::size(v, 3);
-    let n = values::size(v, 4);
-    match call {
-        0 => appended(b.gather_extend_from_slice(buf, x, start, n, idxs)),
-        _ => appended(b.opt_gather_extend_from_slice(buf, x, start, n, idxs)),
-    }
-}
-
-fn appended(r: Pushed) -> [u64; 12] {
-    match r {
-        Pushed::Done(b) => values::built(0, b),
-        Pushed::Refused(number, b) => values::built(number, b),
-    }
-}
-
-fn frozen(r: Made) -> [u64; 12] {
-    match r {
-        Made::Mask(m) => values::masked(0, m),
-        Made::Refused(number, b) => values::built(number, b),
-    }
-}
-
-fn validity(r: Validity) -> [u64; 12] {
-    match r {
-        Validity::Mask(m) => values::masked(0, m),
-        Validity::AllSet => values::none(),
-        Validity::Refused(number, b) => values::built(number, b),
-    }
+) -> Answer {
+    let b = values::builder(a);
+    let start = a.size(3);
+    let n = a.size(4);
+    tell::answer_back(match call {
+        GatherCall::FromSlice => b.gather_extend_from_slice(buf, x, start, n, idxs),
+        GatherCall::OptFromSlice => b.opt_gather_extend_from_slice(buf, x, start, n, idxs),
+    })
 }
 
 // The record that push_mut left, and its answer.
 #[derive(Clone, Copy)]
 struct Lent {
     builder: BitmapBuilder,
-    number: u8,
+    answer: Result<(), Refusal>,
 }
 
 // Lends its copy of the record.
 fn push_lent(b: BitmapBuilder, buf: &mut [u8], flag: bool) -> Lent
-    ensures answer { change_answer result.number result.builder ≡ append_answer (push_flag flag) b buf.old }
+    ensures answer { change_answer (failure_of result.answer) result.builder ≡ append_answer (push_flag flag) b buf.old }
     ensures bytes { buf.new ≡ append_bytes (push_flag flag) b buf.old }
 {
     let mut own = b;
-    let number = own.push_mut(buf, flag);
+    let answer = own.push_mut(buf, flag);
     Lent {
         builder: own,
-        number: number,
+        answer,
     }
 }
 
-fn left(r: Lent) -> [u64; 12] {
-    values::built(r.number, r.builder)
+fn left(r: Lent) -> Answer {
+    match r.answer {
+        Ok(()) => r.builder.tell(Answer::new(0)),
+        Err(refusal) => r.builder.tell(Answer::new(refusal.into())),
+    }
 }

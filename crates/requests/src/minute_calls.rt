@@ -2,135 +2,98 @@
 //
 // The arrays of a window lie in bytes, little-endian: its 256 words, then its 64 counts, 2,304 bytes. Its place, its fill and its width
 // are the first three arguments, and stand last in an answer.
-use crate::values;
-use activity::window::{Activity, ActivityWindow};
+use activity::window::ActivityWindow;
+use notation::answer::Answer;
+use notation::arguments::Arguments;
+use notation::call::MinutesCall;
 use words::word;
 
+// Where the counts begin.
+const COUNTS: usize = 2048;
+
 // Calls that write a window.
-pub(crate) fn answer(call: usize, v: [u64; 24], out: &mut [u8]) -> [u64; 12] {
+pub(crate) fn answer(call: MinutesCall, a: &Arguments, out: &mut [u8]) -> Answer {
     match call {
-        0 => shown(left(ActivityWindow::new(values::size(v, 0)), out)),
-        1 => shown(minute(numbers_of(v), values::word(v, 3), out)),
-        _ => shown(minutes(v, out)),
+        MinutesCall::New => made(a.size(0), out),
+        MinutesCall::PushMinute => minutes(a, 1, out),
+        MinutesCall::PushMinutes => minutes(a, a.word(5) % 65536, out),
     }
 }
 
 // The counts of the window whose arrays are x, as numbers.
-pub(crate) fn counts(v: [u64; 24], x: &[u8], numbers: &mut [u32]) -> [u64; 12] {
-    let r = window(numbers_of(v), x).counts();
-    let counts = r.counts;
-    put_numbers(counts, numbers);
-    values::refused(r.refusal)
-}
-
-// A window without its arrays, and the number by which its call refused.
-#[derive(Clone, Copy)]
-struct Numbers {
-    refusal: u8,
-    place: usize,
-    fill: usize,
-    width: usize,
-}
-
-fn numbers_of(v: [u64; 24]) -> Numbers {
-    Numbers {
-        refusal: 0,
-        place: values::size(v, 0),
-        fill: values::size(v, 1),
-        width: values::size(v, 2),
+pub(crate) fn counts(a: &Arguments, x: &[u8], numbers: &mut [u32]) -> Answer {
+    let (number, counts) = match window(a, x).counts() {
+        Ok(counts) => (0, counts),
+        Err(refused) => (u8::from(refused), [0; 64]),
+    };
+    for (number, count) in numbers.iter_mut().zip(counts) {
+        *number = count;
     }
+    Answer::new(number)
 }
 
-fn shown(n: Numbers) -> [u64; 12] {
-    values::cursor(n.refusal, n.place, n.fill, n.width)
+// A new window. Where it is refused, one of zeros is written.
+fn made(width: usize, out: &mut [u8]) -> Answer {
+    match ActivityWindow::new(width) {
+        Ok(window) => left(0, window, out),
+        Err(refused) => {
+            let none = ActivityWindow {
+                words: [0; 256],
+                counts: [0; 64],
+                place: 0,
+                fill: 0,
+                width: 0,
+            };
+            left(u8::from(refused), none, out)
+        }
+    }
 }
 
 // A run of minutes: each word is a step more than the one before it. After a refusal no minute is pushed.
-fn minutes(v: [u64; 24], out: &mut [u8]) -> Numbers {
-    let many = values::word(v, 5) % 65536;
-    let step = values::word(v, 4);
-    let mut word = values::word(v, 3);
-    let mut now = numbers_of(v);
+fn minutes(a: &Arguments, many: u64, out: &mut [u8]) -> Answer {
+    let mut word = a.word(3);
+    let mut now = window(a, out);
     for _ in 0..many {
-        now = minute(now, word, out);
-        word = word.wrapping_add(step);
+        match now.push_minute(word) {
+            Ok(next) => now = next,
+            Err(refused) => return left(u8::from(refused), now, out),
+        }
+        word = word.wrapping_add(a.word(4));
     }
-    now
+    left(0, now, out)
 }
 
-fn minute(n: Numbers, word: u64, out: &mut [u8]) -> Numbers {
-    if n.refusal != 0 {
-        return n;
+fn window(a: &Arguments, bytes: &[u8]) -> ActivityWindow {
+    let mut words = [0; 256];
+    for (word, part) in words.iter_mut().zip(bytes.chunks(8)) {
+        *word = word::load_padded_le_u64(part);
     }
-    left(window(n, out).push_minute(word), out)
-}
-
-fn window(n: Numbers, bytes: &[u8]) -> ActivityWindow {
+    let mut counts = [0; 64];
+    let rest = bytes.get(COUNTS..).unwrap_or(&[]);
+    for (count, part) in counts.iter_mut().zip(rest.chunks(4)) {
+        *count = (word::load_padded_le_u64(part) & 0xffff_ffff) as u32;
+    }
     ActivityWindow {
-        words: words_in(bytes),
-        counts: counts_in(bytes),
-        place: n.place,
-        fill: n.fill,
-        width: n.width,
+        words,
+        counts,
+        place: a.size(0),
+        fill: a.size(1),
+        width: a.size(2),
     }
 }
 
 // The arrays of a window that a call gave are written.
-fn left(a: Activity, out: &mut [u8]) -> Numbers {
-    let window = a.window;
-    let words = window.words;
-    let counts = window.counts;
-    put_words(words, out);
-    put_counts(counts, out);
-    Numbers {
-        refusal: a.refusal,
-        place: window.place,
-        fill: window.fill,
-        width: window.width,
+fn left(number: u8, window: ActivityWindow, out: &mut [u8]) -> Answer {
+    for (part, word) in out.chunks_mut(8).zip(window.words) {
+        word::store_le_u64(part, word);
     }
-}
-
-fn words_in(bytes: &[u8]) -> [u64; 256] {
-    let mut words: [u64; 256] = [0; 256];
-    for i in 0..256 {
-        words[i] = word::byte_word(bytes, 8 * i);
+    let size = out.len().min(COUNTS);
+    let (_, rest) = out.split_at_mut(size);
+    for (part, count) in rest.chunks_mut(4).zip(window.counts) {
+        word::store_le_u64(part, u64::from(count));
     }
-    words
-}
-
-fn counts_in(bytes: &[u8]) -> [u32; 64] {
-    let mut counts: [u32; 64] = [0; 64];
-    for i in 0..64 {
-        counts[i] = (word::byte_word(bytes, 4 * i + 2048) % 4294967296) as u32;
-    }
-    counts
-}
-
-fn put_words(words: [u64; 256], out: &mut [u8]) {
-    for i in 0..256 {
-        word::store_at(out, 8 * i, words[i]);
-    }
-}
-
-// Two counts at a time.
-fn put_counts(counts: [u32; 64], out: &mut [u8]) {
-    for i in 0..32 {
-        word::store_at(out, 8 * i + 2048, both(counts[2 * i], counts[2 * i + 1]));
-    }
-}
-
-fn both(low: u32, high: u32) -> u64 {
-    values::wide(low) | values::wide(high) << 32
-}
-
-fn put_numbers(counts: [u32; 64], numbers: &mut [u32]) {
-    for i in 0..64 {
-        put_number(numbers, i, counts[i]);
-    }
-}
-
-fn put_number(numbers: &mut [u32], i: usize, n: u32) {
-    if i < numbers.len() {
-        numbers[i] = n;
-    }
+    Answer::new(number)
+        .and(window.place)
+        .and(window.fill)
+        .and(window.width)
 }

@@ -1,56 +1,51 @@
 // The calls of the crate words.
-use crate::values;
-use words::nth::Nth;
+use notation::answer::{Answer, Token};
+use notation::arguments::Arguments;
+use notation::call::{FlagsCall, LoadCall, OperationCall, StoreCall, WordCall, ZipCall};
+use words::flags::Flags;
 use words::ops::Op;
 use words::{counts, ends, loops, merge, nth, ops, word};
 
-// Calls on words alone.
-pub(crate) fn plain(call: usize, v: [u64; 24]) -> [u64; 12] {
-    let w = values::word(v, 0);
-    let k = values::size(v, 1);
+pub(crate) fn plain(call: WordCall, a: &Arguments) -> Answer {
+    let w = a.word(0);
+    let k = a.size(1);
     match call {
-        0 => values::one(merge::merge_reversed(w, values::word(v, 1), values::size(v, 2))),
-        1 => set_bit(nth::nth_set_bit_u32(values::low(v, 0), values::low(v, 1))),
-        2 => set_bit(nth::nth_set_bit_u64(w, values::word(v, 1))),
-        3 => values::one(word::low_flags(w, k)),
-        4 => values::one(word::down(w, k)),
-        5 => values::one(word::up(w, k)),
-        6 => values::one(word::behind(w, k, values::word(v, 2))),
-        _ => values::one(word::constant_word(values::flag(v, 0))),
+        WordCall::MergeReversed => one(merge::merge_reversed(w, a.word(1), a.size(2))),
+        WordCall::NthSetBitU32 => set_bit(nth::nth_set_bit_u32(a.low(0), a.low(1))),
+        WordCall::NthSetBitU64 => set_bit(nth::nth_set_bit_u64(w, a.word(1))),
+        WordCall::LowFlags => one(word::low_flags(w, k)),
+        WordCall::Down => one(word::down(w, k)),
+        WordCall::Up => one(word::up(w, k)),
+        WordCall::Behind => one(word::behind(w, k, a.word(2))),
+        WordCall::ConstantWord => one(word::constant_word(a.flag(0))),
     }
 }
 
-// More of them.
-pub(crate) fn counting(call: usize, v: [u64; 24]) -> [u64; 12] {
-    let w = values::word(v, 0);
-    let k = values::size(v, 1);
-    let flag = values::flag(v, 0);
-    let second = values::word(v, 1);
-    let third = values::word(v, 2);
+pub(crate) fn counting(call: FlagsCall, a: &Arguments) -> Answer {
+    let w = a.word(0);
+    let k = a.size(1);
+    let flag = a.flag(0);
+    let second = a.word(1);
     match call {
-        0 => values::one(word::constant_flags(flag, k)),
-        1 => number(word::ones_in_word(w)),
-        2 => number(word::ones_below(w, k)),
-        3 => truth(counts::none_from(w, k)),
-        4 => number(ends::leading_in_word(flag, second, values::size(v, 2))),
-        5 => number(ends::trailing_in_word(flag, second, values::size(v, 2))),
-        _ => values::one(ops::combine_word(op(w), second, third, values::word(v, 3))),
+        FlagsCall::ConstantFlags => one(word::constant_flags(flag, k)),
+        FlagsCall::OnesInWord => one(word::ones_in_word(w)),
+        FlagsCall::OnesBelow => one(word::ones_below(w, k)),
+        FlagsCall::NoneFrom => one(counts::none_from(w, k)),
+        FlagsCall::LeadingInWord => one(ends::leading_in_word(flag, second, a.size(2))),
+        FlagsCall::TrailingInWord => one(ends::trailing_in_word(flag, second, a.size(2))),
+        FlagsCall::CombineWord => { one(ops::combine_word(op(w), second, a.word(2), a.word(3))) }
     }
 }
 
-fn set_bit(r: Nth) -> [u64; 12] {
+fn one(value: impl Into<Token> + Drop) -> Answer {
+    Answer::new(0).and(value)
+}
+
+fn set_bit(r: Result<u32, u32>) -> Answer {
     match r {
-        Nth::At(place) => values::one(values::wide(place)),
-        Nth::Missing(ones) => values::missing_then(values::wide(ones)),
+        Ok(place) => Answer::new(0).and(place),
+        Err(ones) => Answer::new(0).and(Token::Missing).and(ones),
     }
-}
-
-fn number(n: usize) -> [u64; 12] {
-    values::one(values::big(n))
-}
-
-fn truth(flag: bool) -> [u64; 12] {
-    values::one(values::digit(flag))
 }
 
 // The operation of a number.
@@ -66,79 +61,73 @@ fn op(n: u64) -> Op {
     }
 }
 
-// The operations on words.
-pub(crate) fn operation(call: usize, v: [u64; 24]) -> [u64; 12] {
-    let p = values::word(v, 0);
-    let q = values::word(v, 1);
-    let r = values::word(v, 2);
+// The flags of an input from a place on.
+fn flags(bytes: &[u8], start: usize) -> Flags<'_> {
+    Flags { bytes, start }
+}
+
+pub(crate) fn operation(call: OperationCall, a: &Arguments) -> Answer {
+    let p = a.word(0);
+    let q = a.word(1);
+    one(match call {
+        OperationCall::And => ops::and_word(p, q),
+        OperationCall::AndNot => ops::and_not_word(p, q),
+        OperationCall::Or => ops::or_word(p, q),
+        OperationCall::OrNot => ops::or_not_word(p, q),
+        OperationCall::Xor => ops::xor_word(p, q),
+        OperationCall::Not => ops::not_word(p),
+        OperationCall::Select => ops::select_word(p, q, a.word(2)),
+    })
+}
+
+pub(crate) fn reading(call: LoadCall, a: &Arguments, x: &[u8]) -> Answer {
+    let at = a.size(0);
     match call {
-        0 => values::one(ops::and_word(p, q)),
-        1 => values::one(ops::and_not_word(p, q)),
-        2 => values::one(ops::or_word(p, q)),
-        3 => values::one(ops::or_not_word(p, q)),
-        4 => values::one(ops::xor_word(p, q)),
-        5 => values::one(ops::not_word(p)),
-        _ => values::one(ops::select_word(p, q, r)),
+        LoadCall::LoadPaddedLeU64 => one(word::load_padded_le_u64(x)),
+        LoadCall::ByteWord => one(word::byte_word(x, at)),
+        LoadCall::WordFrom => one(word::word_from(x, at)),
+        LoadCall::FlagAt => one(word::flag_at(x, at)),
+        LoadCall::CountOnes => one(counts::count_ones(x, at, a.size(1))),
     }
 }
 
-// Calls that read x.
-pub(crate) fn reading(call: usize, v: [u64; 24], x: &[u8]) -> [u64; 12] {
-    let at = values::size(v, 0);
+pub(crate) fn comparing(call: ZipCall, a: &Arguments, x: &[u8], y: &[u8], z: &[u8]) -> Answer {
+    let o = op(a.word(0));
+    let first = flags(x, a.size(1));
+    let second = flags(y, a.size(2));
+    let third = flags(z, a.size(3));
+    let len = a.size(4);
     match call {
-        0 => values::one(word::load_padded_le_u64(x)),
-        1 => values::one(word::byte_word(x, at)),
-        2 => values::one(word::word_from(x, at)),
-        3 => truth(word::flag_at(x, at)),
-        _ => number(counts::count_ones(x, at, values::size(v, 1))),
+        ZipCall::Equal => {
+            let left = flags(x, a.size(0));
+            let right = flags(y, a.size(1));
+            one(counts::equal(&left, &right, a.size(2)))
+        }
+        ZipCall::CountOnesOf => { one(counts::count_ones_of(o, &first, &second, &third, len)) }
+        ZipCall::AnySet => one(counts::any_set(o, &first, &second, &third, len)),
     }
 }
 
-// Calls that read x, y and z.
-pub(crate) fn comparing(call: usize, v: [u64; 24], x: &[u8], y: &[u8], z: &[u8]) -> [u64; 12] {
-    let o = op(values::word(v, 0));
-    let first = values::size(v, 0);
-    let second = values::size(v, 1);
-    let third = values::size(v, 2);
-    let fourth = values::size(v, 3);
-    let len = values::size(v, 4);
+pub(crate) fn writing(call: StoreCall, a: &Arguments, x: &[u8], out: &mut [u8]) -> Answer {
+    let first = a.size(0);
+    let second = a.size(1);
     match call {
-        0 => truth(counts::equal(x, first, y, second, third)),
-        1 => number(counts::count_ones_of(o, x, second, y, third, z, fourth, len)),
-        _ => truth(counts::any_set(o, x, second, y, third, z, fourth, len)),
+        StoreCall::StoreLeU64 => word::store_le_u64(out, a.word(0)),
+        StoreCall::StoreAt => word::store_at(out, first, a.word(1)),
+        StoreCall::StoreWhole => word::store_whole(out, first, a.word(1)),
+        StoreCall::CopySpan => loops::copy(x, first, second, out),
+        StoreCall::CopyCount => return one(counts::copy_count(x, first, second, out)),
+        StoreCall::Fill => loops::fill(a.flag(0), second, out),
+        StoreCall::FillWhole => loops::fill_whole(a.flag(0), second, out),
     }
+    Answer::new(0)
 }
 
-// Calls that write the output.
-pub(crate) fn writing(call: usize, v: [u64; 24], x: &[u8], out: &mut [u8]) -> [u64; 12] {
-    let first = values::size(v, 0);
-    let second = values::size(v, 1);
-    match call {
-        0 => stored(word::store_le_u64(out, values::word(v, 0))),
-        1 => stored(word::store_at(out, first, values::word(v, 1))),
-        2 => stored(word::store_whole(out, first, values::word(v, 1))),
-        3 => stored(loops::copy(x, first, second, out)),
-        4 => number(counts::copy_count(x, first, second, out)),
-        5 => stored(loops::fill(values::flag(v, 0), second, out)),
-        _ => stored(loops::fill_whole(values::flag(v, 0), second, out)),
-    }
-}
-
-fn stored(_: ()) -> [u64; 12] {
-    values::nothing()
-}
-
-pub(crate) fn combining(v: [u64; 24], x: &[u8], y: &[u8], z: &[u8], out: &mut [u8]) -> [u64; 12] {
-    loops::combine(
-        op(values::word(v, 0)),
-        x,
-        values::size(v, 1),
-        y,
-        values::size(v, 2),
-        z,
-        values::size(v, 3),
-        values::size(v, 4),
-        out,
-    );
-    values::nothing()
+pub(crate) fn combining(a: &Arguments, x: &[u8], y: &[u8], z: &[u8], out: &mut [u8]) -> Answer {
+    let o = op(a.word(0));
+    let first = flags(x, a.size(1));
+    let second = flags(y, a.size(2));
+    let third = flags(z, a.size(3));
+    loops::combine(o, &first, &second, &third, a.size(4), out);
+    Answer::new(0)
 }

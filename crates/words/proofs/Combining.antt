@@ -8,7 +8,8 @@ use native.Mathlib.Omega.{arith}
 use lib.ListN.{length, take, get_or, get_or-eq_default}
 use lib.Dec.{ltb, leb-suc-suc}
 use borrow.Author.Tests.{lt-ltb, le-ltb}
-use Rattle.words.specs.Flags.{bits, copies, window}
+use Rattle.words.specs.Flags.{bits, copies, flags_of, window}
+use Rattle.words.specs.Loops.{stretch}
 use Rattle.words.specs.Ops.{zip3}
 use Rattle.words.proofs.Windows.{ltb-sub, at_take, window-ext, as-window}
 
@@ -142,26 +143,32 @@ module _ (f : Bool → Bool → Bool → Bool) (A B C : List Bool) where
       op ∙ rw (pu, pv, pw, ex, ey, ez) (zip-part p q r m (64 * i) 64 h)
 
   -- a word cut at the end
-  pub cut_word : (p q r m i x y z u v w t s : ℕ) → x ≡ p + 64 * i → y ≡ q + 64 * i → z ≡ r + 64 * i
-      → bits 64 u ≡ window A x 64 → bits 64 v ≡ window B y 64 → bits 64 w ≡ window C z 64 → bits 64 t ≡ zip3 f (bits 64 u) (bits 64 v) (bits 64 w)
-      → bits 64 s ≡ window (take (m - 64 * i) (bits 64 t)) 0 64
+  pub cut_word : (p q r m i u v w t s : ℕ)
+      → bits 64 u ≡ window A (p + 64 * i) 64 → bits 64 v ≡ window B (q + 64 * i) 64 → bits 64 w ≡ window C (r + 64 * i) 64
+      → bits 64 t ≡ zip3 f (bits 64 u) (bits 64 v) (bits 64 w) → bits 64 s ≡ window (take (m - 64 * i) (bits 64 t)) 0 64
       → bits 64 s ≡ window (zip3 f (window A p m) (window B q m) (window C r m)) (64 * i) 64
-  cut_word p q r m i x y z u v w t s ex ey ez pu pv pw op cut =
-      cut ∙ rw (op, pu, pv, pw, ex, ey, ez) (zip-cut p q r m (64 * i) 64)
+  cut_word p q r m i u v w t s pu pv pw op cut = cut ∙ rw (op, pu, pv, pw) (zip-cut p q r m (64 * i) 64)
 
   -- the same starts under other names
   pub zip-starts : (p q r x y z n : ℕ) → x ≡ p → y ≡ q → z ≡ r → zip3 f (window A x n) (window B y n) (window C z n) ≡ zip3 f (window A p n) (window B q n) (window C r n)
   zip-starts p q r x y z n ex ey ez = rw (ex, ey, ez)
 
-  -- a part, under another name of its start
-  pub zip-later : (p q r x y z m k n : ℕ) → x ≡ p + k → y ≡ q + k → z ≡ r + k → k + n ≤ m
-      → zip3 f (window A x n) (window B y n) (window C z n) ≡ window (zip3 f (window A p m) (window B q m) (window C r m)) k n
-  zip-later p q r x y z m k n ex ey ez h = zip-starts (p + k) (q + k) (r + k) x y z n ex ey ez ∙ zip-part p q r m k n h
-
   -- what lies behind n flags, where all three have ended by then
   pub zip-behind : (p q r m n : ℕ) → n ≤ m → length A ≤ p + n → length B ≤ q + n → length C ≤ r + n
       → window (zip3 f (window A p m) (window B q m) (window C r m)) n (m - n) ≡ copies (m - n) (f false false false)
   zip-behind p q r m n h ha hb hc = sym (zip-part p q r m n (m - n) (omega arith)) ∙ zip-past (p + n) (q + n) (r + n) (m - n) ha hb hc
+
+-- three stretches under other names
+pub zip-at : (f : Bool → Bool → Bool → Bool) (A A' B B' C C' : List ℕ) (p p' q q' r r' n : ℕ) → A ≡ A' → p ≡ p' → B ≡ B' → q ≡ q' → C ≡ C' → r ≡ r'
+    → zip3 f (stretch A p n) (stretch B q n) (stretch C r n) ≡ zip3 f (stretch A' p' n) (stretch B' q' n) (stretch C' r' n)
+zip-at f A A' B B' C C' p p' q q' r r' n ea ep eb eq ec er = rw (ea, ep, eb, eq, ec, er)
+
+-- a part of them
+pub zip-later : (f : Bool → Bool → Bool → Bool) (A A' B B' C C' : List ℕ) (p p' q q' r r' m k n : ℕ) → A ≡ A' → p ≡ p' + k → B ≡ B' → q ≡ q' + k → C ≡ C' → r ≡ r' + k
+    → k + n ≤ m → zip3 f (stretch A p n) (stretch B q n) (stretch C r n) ≡ window (zip3 f (stretch A' p' m) (stretch B' q' m) (stretch C' r' m)) k n
+zip-later f A A' B B' C C' p p' q q' r r' m k n ea ep eb eq ec er h =
+    zip-at f A A' B B' C C' p (p' + k) q (q' + k) r (r' + k) n ea ep eb eq ec er
+    ∙ zip-part f (flags_of A') (flags_of B') (flags_of C') p' q' r' m k n h
 
 -- a list with itself
 pub zip-self : (f : Bool → Bool → Bool → Bool) → ((x : Bool) → f x x x ≡ x) → (a : List Bool) → zip3 f a a a ≡ a

@@ -13,7 +13,6 @@ pub mod Merging
 pub mod NthLaws
 pub mod Plain
 mod PlaneLaws
-mod Ranges
 mod RowLaws
 pub mod UniformLaws
 pub mod Windows

@@ -1,4 +1,5 @@
 -- The set flag number n, in a list cut in two and in a word whose low half is counted. Assumes nothing.
+use Rattle.std.specs.Prelude.{Ok, Err}
 use mathlib.Core.Path.{◌≡◌, refl, sym, ap, ap₂, ◌∙◌, subst}
 use mathlib.Core.Bool.{Bool, true, false, cond}
 use mathlib.Core.List.{List, [], ◌∷◌, ◌++◌}
@@ -13,7 +14,7 @@ use lib.ListN.{length, take}
 use lib.Seq.{take_all}
 use Rattle.words.specs.Flags.{bits, copies, count}
 use borrow.Author.Tests.{lt-ltb, le-ltb}
-use Rattle.words.specs.Nth.{at_place, nth_one, nth_place, only_ones}
+use Rattle.words.specs.Nth.{nth_one, nth_place}
 use Rattle.words.proofs.Bits.{bits-add, bits-mod, bits-shl, bits-take, length-bits}
 use Rattle.words.proofs.Counting.{ones-bits, count-append, count-copies}
 use Rattle.words.proofs.Windows.{lt-or-le}
@@ -130,10 +131,10 @@ pub place-one : (d w n : ℕ) → d ≤ 1 → n < count (bits d w) → 0 ≡ nth
 place-one d w n l h = omega (arith, place-lt d w n h)
 
 -- the answer, at any width
-pub found : (d w n r : ℕ) → w < 2 ^ d → n < ones w → r ≡ nth_place (bits d w) n → at_place r ≡ nth_one (bits d w) n
+pub found : (d w n r : ℕ) → w < 2 ^ d → n < ones w → r ≡ nth_place (bits d w) n → Ok r ≡ nth_one (bits d w) n
 unfolding nth_one
-found d w n r b h p = rw (lt-ltb n (count (bits d w)) (omega (arith, ones-bits d w b))) (ap at_place p)
+found d w n r b h p = rw (lt-ltb n (count (bits d w)) (omega (arith, ones-bits d w b))) (ap Ok p)
 
-pub missing : (d w n : ℕ) → w < 2 ^ d → ones w ≤ n → only_ones (ones w) ≡ nth_one (bits d w) n
+pub missing : (d w n : ℕ) → w < 2 ^ d → ones w ≤ n → Err (ones w) ≡ nth_one (bits d w) n
 unfolding nth_one
-missing d w n b h = rw (le-ltb n (count (bits d w)) (omega (arith, ones-bits d w b))) (ap only_ones (sym (ones-bits d w b)))
+missing d w n b h = rw (le-ltb n (count (bits d w)) (omega (arith, ones-bits d w b))) (ap Err (sym (ones-bits d w b)))

@@ -2,6 +2,7 @@
 -- A reading that is a law of another file is named, not repeated. Assumes nothing.
 --
 -- `digit`, `bit_at`, `flag_at` and `op_of` are read as they stand. Of a list l, flag j is `get_or l j false`: false from its end on.
+use Rattle.std.specs.Prelude.{Ok, Err}
 use mathlib.Core.Path.{◌≡◌, refl, sym, ap, ◌∙◌}
 use mathlib.Core.Bool.{Bool, true, false, xor}
 use mathlib.Core.List.{List, [], ◌∷◌, ◌++◌}
@@ -17,10 +18,9 @@ use Rattle.words.specs.Flags.{is_one, digit, bit_at, flag_at, bits, word_of, fla
 use Rattle.words.specs.Counts.{any_set, same_flags}
 use Rattle.words.specs.Loops.{stretch, combined, whole_words}
 use Rattle.words.specs.Merge.{merged}
-use Rattle.words.specs.Nth.{at_place, nth_found, nth_one, nth_place, only_ones}
+use Rattle.words.specs.Nth.{nth_one, nth_place}
 use Rattle.words.specs.Ops.{op_of, zip3}
 use Rattle.words.specs.Uniform.{all_are}
-use Rattle.words.specs.declared.nth.Nth.{Nth}
 use Rattle.words.specs.declared.ops.Op.{Op}
 use Rattle.words.proofs.AnyFlag.{any_some}
 use Rattle.words.proofs.Bits.{length-bits, halves, eqb-is_one}
@@ -239,20 +239,20 @@ nth-before (true ∷ l) zero h = refl
 nth-before (true ∷ l) (suc n) h = omega (arith, nth-before l n (omega arith))
 
 -- `nth_one l n` is that place if more than n flags are set,
-pub nth-found : (l : List Bool) (n : ℕ) → n < count l → nth_one l n ≡ at_place (nth_place l n)
+pub nth-found : (l : List Bool) (n : ℕ) → n < count l → nth_one l n ≡ Ok (nth_place l n)
 unfolding nth_one
 nth-found l n h = rw (lt-ltb n (count l) h)
 
 -- and the number of the set flags if at most n are,
-pub nth-missing : (l : List Bool) (n : ℕ) → count l ≤ n → nth_one l n ≡ only_ones (count l)
+pub nth-missing : (l : List Bool) (n : ℕ) → count l ≤ n → nth_one l n ≡ Err (count l)
 unfolding nth_one
 nth-missing l n h = rw (le-ltb n (count l) h)
 
 -- and only then: a number that it gives is that of the set flags, and at most n.
-pub missing-nth : (l : List Bool) (n k : ℕ) → nth_one l n ≡ only_ones k → (k ≡ count l) × (count l ≤ n)
+pub missing-nth : (l : List Bool) (n k : ℕ) → nth_one l n ≡ Err k → (k ≡ count l) × (count l ≤ n)
 missing-nth l n k e = ⊎_elim
-    (λ (h : n < count l). absurd (let f : nth_one l n ≡ at_place (nth_place l n) = nth-found l n h in let z : ◌≡◌ {A = ℕ} 0 1 = cc in omega arith))
-    (λ (h : count l ≤ n). let f : nth_one l n ≡ only_ones (count l) = nth-missing l n h in let p : k ≡ count l = cc in (p, h))
+    (λ (h : n < count l). absurd (let f : nth_one l n ≡ Ok (nth_place l n) = nth-found l n h in let z : ◌≡◌ {A = ℕ} 0 1 = cc in omega arith))
+    (λ (h : count l ≤ n). let f : nth_one l n ≡ Err (count l) = nth-missing l n h in let p : k ≡ count l = cc in (p, h))
     (lt-or-le n (count l))
 
 -- ---- is a flag set, and are two lists the same
@@ -289,14 +289,6 @@ equal-same a b e = ap (same_flags a) (sym e) ∙ itself a
     itself [] = refl
     itself (true ∷ a) = itself a
     itself (false ∷ a) = itself a
-
--- ---- what the answer of an n-th set flag stands for
-
-pub found_at : (k : ℕ) → nth_found (Nth.At k) ≡ at_place k
-found_at k = refl
-
-pub found-only : (k : ℕ) → nth_found (Nth.Missing k) ≡ only_ones k
-found-only k = refl
 
 -- ---- are all flags one flag
 

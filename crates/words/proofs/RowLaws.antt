@@ -169,8 +169,5 @@ all_whole size start len r e f h = let k : len / 64 ≤ r = leb-true (len / 64) 
 
 -- ---- `&bytes[0..]` is all bytes
 
-pub lent-within : (bytes : List ℕ) (p n : ℕ) → n ≤ length bytes - p → n ≤ length (take (length bytes - 0) (drop 0 bytes)) - p
-lent-within bytes p n h = let e : length (take (length bytes - 0) (drop 0 bytes)) ≡ length bytes = ap length (whole_part bytes) in omega arith
-
 pub lent-count : (bytes : List ℕ) (p q n m c : ℕ) → c ≡ count (window (flags_of (take (length bytes - 0) (drop 0 bytes))) q m) → q ≡ p → m ≡ n → c ≡ count (window (flags_of bytes) p n)
 lent-count bytes p q n m c e a b = e ∙ ap (λ (l : List ℕ). count (window (flags_of l) q m)) (whole_part bytes) ∙ ap₂ (λ (x y : ℕ). count (window (flags_of bytes) x y)) a b

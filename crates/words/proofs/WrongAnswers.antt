@@ -1,6 +1,7 @@
 -- The wrong answers of `specs/WrongAnswers.antt` are ruled out, by computation. Assumes nothing.
 --
 -- Two answers differ if their codes, lists of numbers, differ: whatever a code is, equal answers have equal codes.
+use Rattle.std.specs.Prelude.{Result, Ok, Err}
 use Prim.Native.Nat.{ℕ}
 use mathlib.Core.Path.{◌≡◌, refl, sym, ap, ◌∙◌}
 use mathlib.Core.Bool.{Bool, true, false, ◌&&◌}
@@ -10,7 +11,7 @@ use lib.Dec.{eqb}
 use borrow.Author.Tests.{eq-eqb}
 use Rattle.words.specs.Flags.{bits, count, digit, flags_of, window}
 use Rattle.words.specs.Merge.{merged}
-use Rattle.words.specs.Nth.{Found, at_place, nth_one, nth_place, only_ones}
+use Rattle.words.specs.Nth.{nth_one, nth_place}
 use Rattle.words.specs.WrongAnswers.{Tried, WrongAnswers}
 
 -- ---- codes
@@ -47,9 +48,9 @@ tried code {right = right} {first = first} {second = second} e f s =
 abbrev flags_code : List Bool → List ℕ
 flags_code l = map digit l
 
-abbrev nth_code : Found → List ℕ
-nth_code (at_place k) = 1 ∷ k ∷ []
-nth_code (only_ones k) = 0 ∷ k ∷ []
+abbrev nth_code : Result ℕ ℕ → List ℕ
+nth_code (Ok k) = 1 ∷ k ∷ []
+nth_code (Err k) = 0 ∷ k ∷ []
 
 pub ruled_out : WrongAnswers
 unfolding same_code bits count flags_of window merged nth_one nth_place

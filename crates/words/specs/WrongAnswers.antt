@@ -3,11 +3,10 @@
 -- A contract says that an answer equals a definition at the call's arguments. So it rules out every answer that the definition
 -- does not give there. A row has a call's definition at one input, what it gives, and two answers that a faulty function
 -- would give, the fault named above each. `proofs/WrongAnswers.antt` proves the rows by computing them.
-use Rattle.std.specs.Prelude.{◌≡◌, [], ◌∷◌}
+use Rattle.std.specs.Prelude.{◌≡◌, [], ◌∷◌, Ok, Err}
 use Rattle.words.specs.Flags.{bits, flags_of, window, word_flags}
 use Rattle.words.specs.Merge.{merged}
-use Rattle.words.specs.Nth.{nth_found, nth_one}
-use Rattle.words.specs.declared.nth.Nth.TheVariants.{At, Missing}
+use Rattle.words.specs.Nth.{nth_one}
 
 -- what a definition gives is the right answer and neither of the wrong ones
 pub record Tried {A : Type 0} (answer right first second : A) : Type 0 where
@@ -40,36 +39,36 @@ pub record WrongAnswers : Type 0 where
       (word_flags 5)
   -- `nth_set_bit_u32` of 0x2D, whose bits 0, 2, 3 and 5 are set, with n 2
   pub nth_set_bit_u32 : Tried (nth_one (bits 32 0x2D) 2)
-      (nth_found (At 3))
+      (Ok 3)
       -- n counted from 1
-      (nth_found (At 2))
+      (Ok 2)
       -- zeros counted
-      (nth_found (At 6))
+      (Ok 6)
   -- the same with n 4
   pub nth-set-bit-u32-missing : Tried (nth_one (bits 32 0x2D) 4)
-      (nth_found (Missing 4))
+      (Err 4)
       -- 0 in place of the number
-      (nth_found (Missing 0))
+      (Err 0)
       -- the number of zeros
-      (nth_found (Missing 28))
+      (Err 28)
   -- `nth_set_bit_u64` of a word with the bits 0 and 40 set, with n 1
   pub nth_set_bit_u64 : Tried (nth_one (bits 64 0x10000000001) 1)
-      (nth_found (At 40))
+      (Ok 40)
       -- the upper half not read
-      (nth_found (Missing 1))
+      (Err 1)
       -- the place in the upper half
-      (nth_found (At 8))
+      (Ok 8)
   -- the same with n 2
   pub nth-set-bit-u64-missing : Tried (nth_one (bits 64 0x10000000001) 2)
-      (nth_found (Missing 2))
+      (Err 2)
       -- 0 in place of the number
-      (nth_found (Missing 0))
+      (Err 0)
       -- the number of zeros
-      (nth_found (Missing 62))
+      (Err 62)
   -- the same with n 7
   pub nth-set-bit-u64-few : Tried (nth_one (bits 64 0x10000000001) 7)
-      (nth_found (Missing 2))
+      (Err 2)
       -- n itself
-      (nth_found (Missing 7))
+      (Err 7)
       -- the upper half not counted
-      (nth_found (Missing 1))
+      (Err 1)

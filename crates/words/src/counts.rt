@@ -1,29 +1,35 @@
 // Counting and comparing. A stretch is `len` flags of the bytes from any flag on, zeros past their end. The time is bounded by
 // the bytes lent, whatever `len` is.
-ghost use Rattle.std.specs.Prelude.{◌≡◌, true, false, not, ◌&&◌, ◌*◌, ◌+◌, ◌-◌, ◌≤◌, ◌<◌, length, drop, ltb};
+ghost use Rattle.std.specs.Prelude.{◌≡◌, true, false, not, ◌&&◌, ◌*◌, ◌-◌, ◌≤◌, drop, ltb};
 ghost use Rattle.words.specs.Flags.{flags_of, count, digit, over, word_flags};
 ghost use Rattle.words.specs.Ops.{op_of};
-ghost use Rattle.words.specs.Kernels.{InRange, WholeWords};
+ghost use Rattle.words.specs.Kernels.{WholeWords};
 ghost use Rattle.words.specs.Loops.{stretch, combined, whole_words};
 ghost use Rattle.words.specs.Counts.{any_set, same_flags};
 
-use crate::kernels::{copy_bytes, copy_words, each_count, each_join};
-use crate::loops::{common_room, copy, least, room, triple_word, words_for};
+use crate::flags::Flags;
+use crate::kernels::{Count, Join, copy_words, each};
+use crate::lanes::{Aligned, Lane, Lanes, Shifted};
+use crate::loops::{copy, room, triple_word, words_for};
 use crate::ops::Op;
 use crate::rows::{ones_many, ones_single, ones_words};
 use crate::word::{byte_word, down, ones_below, ones_in_word};
 
 // How many flags of a stretch are set. Whole words from a byte on, all in range, are counted with no look for partial ones. What is
-// rare is outside this body and gets a slice of its own, so that the slice given here stays in registers.
+// rare is outside this body and gets a slice or a record of its own, so that the slice given here stays in registers. The choice
+// stands here and in `ones_words`: through that function, with two callers, 1000 flags take 30 instructions more.
 pub fn count_ones(bytes: &[u8], start: usize, len: usize) -> usize
     ensures { result ≡ count (stretch bytes.now start len) }
 {
     if whole_words(bytes.len(), start, len) {
+        let at = start / 8;
         let n = len / 64;
         if n < 128 {
-            return ones_single(bytes, start / 8, n);
+            let few = Aligned { bytes, at, n };
+            return ones_single(&few);
         }
-        return ones_many(&bytes[0..], start / 8, n);
+        let many = Aligned { bytes, at, n };
+        return ones_many(&many);
     }
     count_mixed(&bytes[0..], start, len)
 }
@@ -32,11 +38,7 @@ pub fn count_ones(bytes: &[u8], start: usize, len: usize) -> usize
 fn whole_words(size: usize, start: usize, len: usize) -> bool
     ensures { result ≡ true → WholeWords size start len }
 {
-    if start % 8 + len % 64 == 0 {
-        len / 64 <= room(size, start / 8)
-    } else {
-        false
-    }
+    start % 8 + len % 64 == 0 && len / 64 <= room(size, start / 8)
 }
 
 // The flags of the first eight bytes, whole words, and the rest. What fits a word is one load.
@@ -49,9 +51,10 @@ fn count_mixed(bytes: &[u8], start: usize, len: usize) -> usize
         return ones_below(w, len);
     }
     let q = start / 8 + 8;
-    let n = least((len - k) / 64, room(bytes.len(), q));
+    let n = ((len - k) / 64).min(room(bytes.len(), q));
     let first = ones_in_word(w);
-    let mid = ones_words(bytes, q, n);
+    let words = Aligned { bytes, at: q, n };
+    let mid = ones_words(&words);
     let rest = len - k - 64 * n;
     let last = ones_below(byte_word(bytes, q + 8 * n), rest);
     first + mid + last
@@ -65,13 +68,15 @@ pub fn copy_count(bytes: &[u8], start: usize, len: usize, out: &mut [u8]) -> usi
     if len % 64 != 0 {
         return copy_then_count(bytes, start, len, out);
     }
-    if least(room(bytes.len(), start / 8 + 1), out.len() / 8) < len / 64 {
+    if room(bytes.len(), start / 8 + 1).min(out.len() / 8) < len / 64 {
         return copy_then_count(bytes, start, len, out);
     }
     if start % 8 == 0 {
-        return copy_bytes(bytes, start / 8, len / 64, out);
+        let lane = Aligned::new(bytes, start / 8);
+        return copy_words(&lane, len / 64, out);
     }
-    copy_words(bytes, start / 8, start % 8, len / 64, out)
+    let lane = Shifted::new(Flags { bytes, start });
+    copy_words(&lane, len / 64, out)
 }
 
 // Does the work of `copy_count` in two passes, if some word is partial or out of range.
@@ -87,13 +92,7 @@ fn copy_then_count(bytes: &[u8], start: usize, len: usize, out: &mut [u8]) -> us
 fn reach(x: usize, y: usize, z: usize) -> usize
     ensures { (x ≤ 8 * result) × ((y ≤ 8 * result) × (z ≤ 8 * result)) }
 {
-    most(x, most(y, z)) / 8 + 1
-}
-
-fn most(x: usize, y: usize) -> usize
-    ensures { (x ≤ result) × (y ≤ result) }
-{
-    if x < y { y } else { x }
+    x.max(y).max(z) / 8 + 1
 }
 
 // Returns the flag that the operation yields past the end of all stretches.
@@ -126,11 +125,7 @@ fn ones_behind(flag: bool, len: usize, n: usize) -> usize
 fn any_behind(flag: bool, len: usize, n: usize) -> bool
     ensures { result ≡ (ltb (64 * n) len && flag) }
 {
-    if flag {
-        if n <= len / 64 { 64 * n < len } else { false }
-    } else {
-        false
-    }
+    flag && n <= len / 64 && 64 * n < len
 }
 
 // Returns whether any flag of a word is set.
@@ -148,56 +143,37 @@ pub fn none_from(w: u64, k: usize) -> bool
 }
 
 // Counts the ones of a combination of three stretches.
-pub fn count_ones_of(
-    op: Op,
-    a: &[u8],
-    sa: usize,
-    b: &[u8],
-    sb: usize,
-    c: &[u8],
-    sc: usize,
-    len: usize,
-) -> usize
-    ensures { result ≡ count (combined op a.now sa b.now sb c.now sc len) }
+pub fn count_ones_of<'a>(op: Op, a: &Flags<'a>, b: &Flags<'a>, c: &Flags<'a>, len: usize) -> usize
+    ensures { result ≡ count
+        (combined op a.now.bytes.now a.now.start b.now.bytes.now b.now.start c.now.bytes.now c.now.start len) }
 {
     if len <= 64 {
-        return ones_in_word(triple_word(op, a, sa, b, sb, c, sc, len, 0));
+        return ones_in_word(triple_word(op, a, b, c, len, 0));
     }
-    let n = least(words_for(len), reach(a.len(), b.len(), c.len()));
-    let pa = sa / 8;
-    let pb = sb / 8;
-    let pc = sc / 8;
-    let mut i = common_room(len / 64, a.len(), pa + 1, b.len(), pb + 1, c.len(), pc + 1);
-    let mut ones = each_count(op, a, pa, sa % 8, b, pb, sb % 8, c, pc, sc % 8, i);
-    while i < n {
-        ones += ones_in_word(triple_word(op, a, sa, b, sb, c, sc, len, i));
-        i += 1;
+    let n = words_for(len).min(reach(a.bytes.len(), b.bytes.len(), c.bytes.len()));
+    let x = Shifted::new(*a);
+    let y = Shifted::new(*b);
+    let z = Shifted::new(*c);
+    let lanes = Lanes::new(len / 64, x, y, z);
+    let mut ones = each::<Count, Shifted, Shifted, Shifted>(op, &lanes, &mut []);
+    for i in lanes.n..n {
+        ones += ones_in_word(triple_word(op, a, b, c, len, i));
     }
     ones + ones_behind(past_end(op), len, n)
 }
 
-// Returns whether any flag of n words of a combination is set. Tests 64 words at a time and stops at the first block with one.
-fn any_whole(
-    op: Op,
-    a: &[u8],
-    pa: usize,
-    s: usize,
-    b: &[u8],
-    pb: usize,
-    t: usize,
-    c: &[u8],
-    pc: usize,
-    u: usize,
-    n: usize,
-) -> bool
-    requires { InRange (length a.now - (pa + 1)) (length b.now - (pb + 1)) (length c.now - (pc + 1)) n s t u }
-    ensures { result ≡ any_set (combined op a.now (8 * pa + s) b.now (8 * pb + t) c.now (8 * pc + u) (64 * n)) }
+// Returns whether any flag of three lanes combined is set. Tests 64 words at a time and stops at the first block with one.
+// The last block is shorter: over a range in steps of 64, k would be reckoned all the same.
+fn any_whole<A: Lane, B: Lane, C: Lane>(op: Op, lanes: &Lanes<A, B, C>) -> bool
+    ensures { result ≡ any_set (combined op (A.source lanes.now.a) (A.start lanes.now.a) (B.source lanes.now.b) (B.start lanes.now.b)
+        (C.source lanes.now.c) (C.start lanes.now.c) (64 * lanes.now.n)) }
 {
+    let n = lanes.n;
     let mut i = 0;
     while i < n {
-        let k = least(64, n - i);
-        let at = 8 * i;
-        let all = each_join(op, a, pa + at, s, b, pb + at, t, c, pc + at, u, k);
+        let k = (n - i).min(64);
+        let block = lanes.part(i, k);
+        let all = each::<Join, A, B, C>(op, &block, &mut []);
         if is_set(all) {
             return true;
         }
@@ -207,41 +183,32 @@ fn any_whole(
 }
 
 // Returns whether any flag of a combination of three stretches is set.
-pub fn any_set(
-    op: Op,
-    a: &[u8],
-    sa: usize,
-    b: &[u8],
-    sb: usize,
-    c: &[u8],
-    sc: usize,
-    len: usize,
-) -> bool
-    ensures { result ≡ any_set (combined op a.now sa b.now sb c.now sc len) }
+pub fn any_set<'a>(op: Op, a: &Flags<'a>, b: &Flags<'a>, c: &Flags<'a>, len: usize) -> bool
+    ensures { result ≡ any_set
+        (combined op a.now.bytes.now a.now.start b.now.bytes.now b.now.start c.now.bytes.now c.now.start len) }
 {
     if len <= 64 {
-        return is_set(triple_word(op, a, sa, b, sb, c, sc, len, 0));
+        return is_set(triple_word(op, a, b, c, len, 0));
     }
-    let n = least(words_for(len), reach(a.len(), b.len(), c.len()));
-    let pa = sa / 8;
-    let pb = sb / 8;
-    let pc = sc / 8;
-    let mut i = common_room(len / 64, a.len(), pa + 1, b.len(), pb + 1, c.len(), pc + 1);
-    if any_whole(op, a, pa, sa % 8, b, pb, sb % 8, c, pc, sc % 8, i) {
+    let n = words_for(len).min(reach(a.bytes.len(), b.bytes.len(), c.bytes.len()));
+    let x = Shifted::new(*a);
+    let y = Shifted::new(*b);
+    let z = Shifted::new(*c);
+    let lanes = Lanes::new(len / 64, x, y, z);
+    if any_whole(op, &lanes) {
         return true;
     }
-    while i < n {
-        if is_set(triple_word(op, a, sa, b, sb, c, sc, len, i)) {
+    for i in lanes.n..n {
+        if is_set(triple_word(op, a, b, c, len, i)) {
             return true;
         }
-        i += 1;
     }
     any_behind(past_end(op), len, n)
 }
 
 // Returns whether two stretches have the same flags.
-pub fn equal(a: &[u8], sa: usize, b: &[u8], sb: usize, len: usize) -> bool
-    ensures { result ≡ same_flags (stretch a.now sa len) (stretch b.now sb len) }
+pub fn equal<'a>(a: &Flags<'a>, b: &Flags<'a>, len: usize) -> bool
+    ensures { result ≡ same_flags (stretch a.now.bytes.now a.now.start len) (stretch b.now.bytes.now b.now.start len) }
 {
-    !any_set(Op::Xor, a, sa, b, sb, b, sb, len)
+    !any_set(Op::Xor, a, b, b, len)
 }

@@ -8,10 +8,13 @@
 pub mod columns;
 pub mod counts;
 pub mod ends;
+pub mod flags;
 mod kernels;
+mod lanes;
 pub mod loops;
 pub mod merge;
 pub mod nth;
+mod operations;
 pub mod ops;
 mod planes;
 mod rows;

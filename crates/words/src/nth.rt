@@ -1,14 +1,7 @@
 // The n-th set flag of a word.
-ghost use Rattle.std.specs.Prelude.{cond, ◌≡◌, ltb, ◌<◌, ◌≤◌};
+ghost use Rattle.std.specs.Prelude.{cond, ◌≡◌, ltb, ◌<◌, ◌≤◌, ◌^◌};
 ghost use Rattle.words.specs.Flags.{bits, count};
-ghost use Rattle.words.specs.Nth.{nth_found, nth_place, nth_one};
-
-// Where the set flag number n is, counted from 0; or, where at most n flags are set, how many are.
-#[derive(Clone, Copy)]
-pub enum Nth {
-    At(u32),
-    Missing(u32),
-}
+ghost use Rattle.words.specs.Nth.{nth_place, nth_one};
 
 // Returns x if set flag n is not among the first `ones`, else 0. A separate function, so that it compiles without a branch.
 fn if_behind(n: u32, ones: u32, x: u32) -> u32
@@ -32,32 +25,30 @@ fn descend(w: u64, n: u32, width: u32) -> u32
     skip + descend(w >> skip, n - passed, width - half)
 }
 
-fn wide(x: u32) -> u64
-    ensures { result ≡ x }
+// Where the set flag number n of a word of WIDTH flags is, counted from 0; or, where at most n are set, how many are. The one count of
+// the word decides, and is the answer where there is no flag n.
+fn nth_set_bit<const WIDTH: u32>(w: u64, n: u64) -> Result<u32, u32>
+    requires { (WIDTH ≤ 64) × (w < 2 ^ WIDTH) }
+    ensures { result ≡ nth_one (bits WIDTH w) n }
 {
-    x as u64
+    let ones = w.count_ones();
+    if n < ones as u64 {
+        Ok(descend(w, n as u32, WIDTH))
+    } else {
+        Err(ones)
+    }
 }
 
-// The one count of the word decides whether it has a set flag n, and is the answer where it has none.
-pub fn nth_set_bit_u64(w: u64, n: u64) -> Nth
-    ensures { nth_found result ≡ nth_one (bits 64 w) n }
+// Where the set flag number n is, counted from 0; or, where at most n flags are set, how many are.
+pub fn nth_set_bit_u64(w: u64, n: u64) -> Result<u32, u32>
+    ensures { result ≡ nth_one (bits 64 w) n }
 {
-    let ones = u64::count_ones(w);
-    if n < wide(ones) {
-        Nth::At(descend(w, n as u32, 64))
-    } else {
-        Nth::Missing(ones)
-    }
+    nth_set_bit::<64>(w, n)
 }
 
 // The same of a word of 32 flags.
-pub fn nth_set_bit_u32(w: u32, n: u32) -> Nth
-    ensures { nth_found result ≡ nth_one (bits 32 w) n }
+pub fn nth_set_bit_u32(w: u32, n: u32) -> Result<u32, u32>
+    ensures { result ≡ nth_one (bits 32 w) n }
 {
-    let ones = u32::count_ones(w);
-    if n < ones {
-        Nth::At(descend(w as u64, n, 32))
-    } else {
-        Nth::Missing(ones)
-    }
+    nth_set_bit::<32>(w as u64, n as u64)
 }

@@ -6,7 +6,7 @@ ghost use Rattle.words.specs.Flags.{word_flags};
 ghost use Rattle.words.specs.Ops.{and_not, or_not, op_of, zip3};
 
 // An operation on the flags of up to three masks: `Not` reads the first, `Select` all three, the others the first two.
-#[derive(Clone, Copy)]
+#[derive(Clone, Copy, PartialEq, Eq, Debug)]
 pub enum Op {
     And,
     AndNot,

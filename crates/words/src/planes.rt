@@ -11,12 +11,10 @@ fn add_from(planes: &mut [u64; 9], k: usize, w: u64)
     ensures { planes.new ≡ added_from k planes.old w }
 {
     let mut carry = w;
-    let mut i = k;
-    while i < 9 {
+    for i in k..9 {
         let p = planes[i];
         planes[i] = p ^ carry;
         carry = p & carry;
-        i += 1;
     }
 }
 
@@ -82,7 +80,8 @@ fn add_eight(planes: &mut [u64; 9], words: &[u64], at: usize)
     add_from(planes, 3, d.high);
 }
 
-// Adds the first n words to planes of zeros, eight at a time, and returns how many were added.
+// Adds the first n words to planes of zeros, eight at a time, and returns how many were added: where the loop ended, for which a range in
+// steps of eight has no name.
 pub(crate) fn add_eights(planes: &mut [u64; 9], words: &[u64], n: usize) -> usize
     requires { Totals words.now planes.old 0 × (n ≤ length words.now) × (n < 512) }
     ensures { (result ≤ n) × Totals words.now planes.new result }
@@ -100,10 +99,8 @@ pub(crate) fn add_rest(planes: &mut [u64; 9], words: &[u64], done: usize, n: usi
     requires { Totals words.now planes.old done × (done ≤ n) × (n ≤ length words.now) × (n < 512) }
     ensures { Totals words.now planes.new n }
 {
-    let mut i = done;
-    while i < n {
+    for i in done..n {
         add_one(planes, words, i);
-        i += 1;
     }
 }
 
@@ -130,10 +127,8 @@ fn masks() -> [u32; 32]
     ensures { (length result ≡ 32) × Masks result 32 }
 {
     let mut out: [u32; 32] = [0; 32];
-    let mut c: usize = 0;
-    while c < 32 {
+    for c in 0..32 {
         out[c] = mask_at(c);
-        c += 1;
     }
     out
 }
@@ -159,9 +154,7 @@ fn column_by(planes: &[u64; 9], s: usize, c: usize, mask: u32) -> u32
     ensures { result ≡ planes_at planes.now (s + c) }
 {
     let mut sum: u32 = 0;
-    let mut i: usize = 9;
-    while 0 < i {
-        i = i - 1;
+    for i in (0..9).rev() {
         let half = half_of(planes[i], s);
         sum = 2 * sum + digit_by(half, mask);
     }
@@ -174,10 +167,8 @@ fn spread_half(planes: &[u64; 9], masks: &[u32; 32], s: usize, out: &mut [u32; 6
         × Wrote planes.now out.old s }
     ensures { (length out.new ≡ 64) × Wrote planes.now out.new (s + 32) }
 {
-    let mut c: usize = 0;
-    while c < 32 {
+    for c in 0..32 {
         out[s + c] = column_by(planes, s, c, masks[c]);
-        c += 1;
     }
 }
 

@@ -1,9 +1,10 @@
-// The ones of whole words in range by `requires`: few words one by one, many in seven rows side by side.
-ghost use Rattle.std.specs.Prelude.{◌≡◌, ◌*◌, ◌+◌, ◌-◌, ◌^◌, ◌≤◌, ◌<◌, length};
+// The ones of whole words in range: few words one by one, many in seven rows side by side.
+ghost use Rattle.std.specs.Prelude.{◌≡◌, ◌*◌, ◌+◌, ◌^◌, ◌≤◌, ◌<◌};
 ghost use Rattle.words.specs.Flags.{word_flags, flags_of, count, window};
 
+use crate::lanes::{Aligned, Lane};
 use crate::planes::full_add;
-use crate::word::{full_word, ones_in_word};
+use crate::word::ones_in_word;
 
 // The ones of seven words: added flag by flag, so that three words are counted in place of seven.
 fn seven_ones(a: u64, b: u64, c: u64, d: u64, e: u64, f: u64, g: u64) -> usize
@@ -20,63 +21,57 @@ fn seven_ones(a: u64, b: u64, c: u64, d: u64, e: u64, f: u64, g: u64) -> usize
     ones + 2 * twos + 4 * fours
 }
 
-// The ones of seven rows of m words each from the byte p on, side by side: each row is read in order, so the loop is vectorised.
-fn ones_rows(bytes: &[u8], p: usize, m: usize) -> usize
-    requires { (56 * m ≤ length bytes.now - p) × (448 * m < 2 ^ 64) }
-    ensures { result ≡ count (window (flags_of bytes.now) (8 * p) (448 * m)) }
+// The ones of the first 7 * m words, as seven rows side by side: each row is read in order, so the loop is vectorised.
+fn ones_rows(words: &Aligned, m: usize) -> usize
+    requires { (7 * m ≤ words.now.n) × (448 * m < 2 ^ 64) }
+    ensures { result ≡ count (window (flags_of words.now.bytes.now) (8 * words.now.at) (448 * m)) }
 {
-    let row = 8 * m;
     let mut ones: usize = 0;
-    let mut i = 0;
-    while i < m {
-        let at = p + 8 * i;
-        let a = full_word(bytes, at);
-        let b = full_word(bytes, at + row);
-        let c = full_word(bytes, at + 2 * row);
-        let d = full_word(bytes, at + 3 * row);
-        let e = full_word(bytes, at + 4 * row);
-        let f = full_word(bytes, at + 5 * row);
-        let g = full_word(bytes, at + 6 * row);
+    for i in 0..m {
+        let a = words.word(i);
+        let b = words.word(i + m);
+        let c = words.word(i + 2 * m);
+        let d = words.word(i + 3 * m);
+        let e = words.word(i + 4 * m);
+        let f = words.word(i + 5 * m);
+        let g = words.word(i + 6 * m);
         ones += seven_ones(a, b, c, d, e, f, g);
-        i += 1;
     }
     ones
 }
 
-// The ones of n words from the byte p on, one by one.
-pub(crate) fn ones_single(bytes: &[u8], p: usize, n: usize) -> usize
-    requires { (8 * n ≤ length bytes.now - p) × (64 * n < 2 ^ 64) }
-    ensures { result ≡ count (window (flags_of bytes.now) (8 * p) (64 * n)) }
+// The ones of words, one by one.
+pub(crate) fn ones_single(words: &Aligned) -> usize
+    requires { 64 * words.now.n < 2 ^ 64 }
+    ensures { result ≡ count (window (flags_of words.now.bytes.now) (8 * words.now.at) (64 * words.now.n)) }
 {
     let mut ones: usize = 0;
-    let mut i = 0;
-    while i < n {
-        let at = 8 * i;
-        ones += ones_in_word(full_word(bytes, p + at));
-        i += 1;
+    for i in 0..words.n {
+        ones += ones_in_word(words.word(i));
     }
     ones
 }
 
-// The ones of many words: seven rows of them and what is left. It is called from more than one place, so that it stays outside the
-// bodies that count few words.
-pub(crate) fn ones_many(bytes: &[u8], p: usize, n: usize) -> usize
-    requires { (8 * n ≤ length bytes.now - p) × (64 * n < 2 ^ 64) }
-    ensures { result ≡ count (window (flags_of bytes.now) (8 * p) (64 * n)) }
+// The ones of many words: seven rows of them and what is left.
+pub(crate) fn ones_many(words: &Aligned) -> usize
+    requires { 64 * words.now.n < 2 ^ 64 }
+    ensures { result ≡ count (window (flags_of words.now.bytes.now) (8 * words.now.at) (64 * words.now.n)) }
 {
-    let m = n / 7;
-    let rows = ones_rows(bytes, p, m);
-    let rest = ones_single(bytes, p + 56 * m, n - 7 * m);
+    let m = words.n / 7;
+    let rows = ones_rows(words, m);
+    let behind = words.part(7 * m, words.n - 7 * m);
+    let rest = ones_single(&behind);
     rows + rest
 }
 
-// The ones of n words from the byte p on.
-pub(crate) fn ones_words(bytes: &[u8], p: usize, n: usize) -> usize
-    requires { (8 * n ≤ length bytes.now - p) × (64 * n < 2 ^ 64) }
-    ensures { result ≡ count (window (flags_of bytes.now) (8 * p) (64 * n)) }
+// The ones of words. Many get a record of their own, so that the one given here stays in registers.
+pub(crate) fn ones_words(words: &Aligned) -> usize
+    requires { 64 * words.now.n < 2 ^ 64 }
+    ensures { result ≡ count (window (flags_of words.now.bytes.now) (8 * words.now.at) (64 * words.now.n)) }
 {
-    if n < 128 {
-        return ones_single(bytes, p, n);
+    if words.n < 128 {
+        return ones_single(words);
     }
-    ones_many(&bytes[0..], p, n)
+    let many = *words;
+    ones_many(&many)
 }

@@ -1,13 +1,14 @@
 // Whether all flags of a stretch are one flag. The first word with another flag ends the search, so that a stretch of mixed flags is
 // mostly decided by one load.
-ghost use Rattle.std.specs.Prelude.{◌≡◌, map, ◌*◌, ◌-◌, ◌≤◌, length, take};
+ghost use Rattle.std.specs.Prelude.{◌≡◌, map, ◌*◌, take};
 ghost use Rattle.std.specs.Bool.{xor};
 ghost use Rattle.words.specs.Flags.{flags_of, window, word_flags};
 ghost use Rattle.words.specs.Loops.{stretch};
 ghost use Rattle.words.specs.Uniform.{all_are, differs_early};
 
 use crate::counts::{count_ones, is_set};
-use crate::loops::{least, room};
+use crate::lanes::{Aligned, Lane};
+use crate::loops::room;
 use crate::ops::{not_word, or_word};
 use crate::word::{byte_word, down, full_word, low_flags};
 
@@ -25,32 +26,29 @@ fn low_are(flag: bool, w: u64, k: usize) -> bool
     !is_set(low_flags(unlike(flag, w), k))
 }
 
-// Are the flags of n words from the byte p on all `flag`: those that are not are joined by `or`, with no end before the last word, so
-// that the loop is vectorised.
-fn block_is(flag: bool, bytes: &[u8], p: usize, n: usize) -> bool
-    requires { 8 * n ≤ length bytes.now - p }
-    ensures { result ≡ all_are flag (window (flags_of bytes.now) (8 * p) (64 * n)) }
+// Are the flags of words all `flag`: those that are not are joined by `or`, with no end before the last word, so that the loop is
+// vectorised.
+fn block_is(flag: bool, words: &Aligned) -> bool
+    ensures { result ≡ all_are flag (window (flags_of words.now.bytes.now) (8 * words.now.at) (64 * words.now.n)) }
 {
     let mut others: u64 = 0;
-    let mut i = 0;
-    while i < n {
-        let at = 8 * i;
-        others = or_word(others, unlike(flag, full_word(bytes, p + at)));
-        i += 1;
+    for i in 0..words.n {
+        others = or_word(others, unlike(flag, words.word(i)));
     }
     !is_set(others)
 }
 
-// The same block by block, with an end at the first that has another flag.
-fn words_are(flag: bool, bytes: &[u8], p: usize, n: usize) -> bool
-    requires { 8 * n ≤ length bytes.now - p }
-    ensures { result ≡ all_are flag (window (flags_of bytes.now) (8 * p) (64 * n)) }
+// The same block by block, with an end at the first that has another flag. The last block is shorter: over a range in steps of 64, k
+// would be reckoned all the same.
+fn words_are(flag: bool, words: &Aligned) -> bool
+    ensures { result ≡ all_are flag (window (flags_of words.now.bytes.now) (8 * words.now.at) (64 * words.now.n)) }
 {
+    let n = words.n;
     let mut i = 0;
     while i < n {
-        let k = least(64, n - i);
-        let at = 8 * i;
-        if !block_is(flag, bytes, p + at, k) {
+        let k = (n - i).min(64);
+        let block = words.part(i, k);
+        if !block_is(flag, &block) {
             return false;
         }
         i += k;
@@ -84,7 +82,8 @@ pub fn all_are(flag: bool, bytes: &[u8], start: usize, len: usize) -> bool
     if !low_are(flag, w, k) {
         return false;
     }
-    if !words_are(flag, bytes, q, n) {
+    let words = Aligned { bytes, at: q, n };
+    if !words_are(flag, &words) {
         return false;
     }
     low_are(flag, byte_word(bytes, q + 8 * n), (len - k) % 64)

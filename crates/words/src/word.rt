@@ -1,18 +1,6 @@
 // A word: loads, stores, its low flags and its ones. Loads and stores that lie in range by `requires` are private to the crate.
-ghost use Rattle.std.specs.Prelude.{false, cond, ◌≡◌, ◌++◌, ◌+◌, ◌*◌, ◌<◌, ◌≤◌, ◌%◌, leb, length, take, get_or};
+ghost use Rattle.std.specs.Prelude.{false, cond, ◌≡◌, ◌++◌, ◌+◌, ◌*◌, ◌≤◌, leb, length, take, get_or};
 ghost use Rattle.words.specs.Flags.{word_flags, copies, flags_of, count, over, over_at, window};
-
-fn wide(x: u8) -> u64
-    ensures { (result ≡ x) × (result < 256) }
-{
-    x as u64
-}
-
-fn low_byte(w: u64) -> u8
-    ensures { result ≡ w % 256 }
-{
-    (w % 256) as u8
-}
 
 // Joins up to eight bytes into a word. Compiles to one load if the length is known to be eight.
 fn join(part: &[u8]) -> u64
@@ -20,10 +8,8 @@ fn join(part: &[u8]) -> u64
     ensures { word_flags result ≡ window (flags_of part.now) 0 64 }
 {
     let mut w: u64 = 0;
-    let mut i = 0;
-    while i < part.len() {
-        w = w | wide(part[i]) << (8 * i);
-        i += 1;
+    for (i, b) in part.iter().enumerate() {
+        w |= (*b as u64) << (8 * i);
     }
     w
 }
@@ -33,10 +19,8 @@ fn split(out: &mut [u8], w: u64)
     requires { length out.old ≤ 8 }
     ensures { flags_of out.new ≡ over (flags_of out.old) (word_flags w) }
 {
-    let mut i = 0;
-    while i < out.len() {
-        out[i] = low_byte(w >> (8 * i));
-        i += 1;
+    for (i, b) in out.iter_mut().enumerate() {
+        *b = ((w >> (8 * i)) % 256) as u8;
     }
 }
 
@@ -184,11 +168,7 @@ pub fn flag_at(bytes: &[u8], bit: usize) -> bool
     ensures { result ≡ get_or (flags_of bytes.now) bit false }
 {
     let at = bit / 8;
-    if at < bytes.len() {
-        (wide(bytes[at]) >> (bit % 8)) % 2 == 1
-    } else {
-        false
-    }
+    at < bytes.len() && (bytes[at] as u64 >> (bit % 8)) % 2 == 1
 }
 
 // Keeps the k low flags of w and clears the others.
@@ -227,7 +207,7 @@ pub fn constant_flags(flag: bool, n: usize) -> u64
 pub fn ones_in_word(w: u64) -> usize
     ensures { result ≡ count (word_flags w) }
 {
-    wide32(u64::count_ones(w))
+    w.count_ones() as usize
 }
 
 // Counts the set flags among the k low flags of w.
@@ -240,11 +220,5 @@ pub fn ones_below(w: u64, k: usize) -> usize
     if 64 < k {
         return ones_in_word(w);
     }
-    wide32(u64::count_ones(w << (64 - k)))
-}
-
-fn wide32(x: u32) -> usize
-    ensures { result ≡ x }
-{
-    x as usize
+    (w << (64 - k)).count_ones() as usize
 }

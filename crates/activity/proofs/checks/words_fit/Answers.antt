@@ -1,21 +1,18 @@
 -- `words-yes`, `words-no`: one for each end.
-use borrow.Author.Rules.{rules}
-use Rattle.activity.proofs.CheckLaws.{words-yes, words-no}
+use Rattle.std.proofs.Common.{rules, ◌≡◌, length}
+use Rattle.activity.proofs.CheckLaws.{zero-rest, words-yes, words-no}
 use Rattle.activity.proofs.checks.words_fit.Goals as goal
 
-pub returns-then-zero_from : goal.returns-then-zero_from
-returns-then-zero_from c =
-    record {
-      fit = words-yes c.args.words
-          c.args.counts c.args.fill _ _
-          c.zero_from.ensures c.if-zero_from.true c.counts_fit.ensures;
-      size = search rules;
-    }
+pub returns-then-all_zero : goal.returns-then-all_zero
+returns-then-all_zero c =
+    let long : length c.args.words ≡ 256 = search rules in
+    let many : length c.args.counts ≡ length c.column_counts.result = search rules in
+    words-yes c.args.words c.args.counts c.args.fill _
+    (zero-rest c.args.words c.args.fill _ long c.all_zero.ensures)
+    _ _ c.requires c.if-all_zero.true many c.column_counts.ensures c.same_numbers.ensures
 
-pub returns-else-zero_from : goal.returns-else-zero_from
-returns-else-zero_from c =
-    record {
-      fit = words-no c.args.words c.args.counts c.args.fill _
-          c.zero_from.ensures c.if-zero_from.false;
-      size = search rules;
-    }
+pub returns-else-all_zero : goal.returns-else-all_zero
+returns-else-all_zero c =
+    let long : length c.args.words ≡ 256 = search rules in
+    words-no c.args.words c.args.counts c.args.fill _
+    (zero-rest c.args.words c.args.fill _ long c.all_zero.ensures) c.if-all_zero.false

@@ -1,16 +1,16 @@
--- In each arm the answer of `and_not_at` is known, and for a flag whether there is a permission mask (`DispatchLaws`).
-use mathlib.Core.Path.{refl, sym, ap, ◌∙◌}
-use Rattle.masks.specs.AtIndex.{flag_at_answer}
+-- The flag of `and_not_at` is known, and whether there is a permission mask (`DispatchLaws`).
+use mathlib.Core.Path.{refl, ◌∙◌}
 use Rattle.dispatch.specs.Dispatch.{reassignable}
+use Rattle.masks.proofs.RefusalLaws.{exit-is}
 use Rattle.dispatch.proofs.DispatchLaws.{flag-given, rule-given, refusal-given}
 use Rattle.dispatch.proofs.dispatch.may_reassign.Goals as goal
 
-pub returns-in-Present : goal.returns-in-Present
-returns-in-Present c = flag-given _ _ _ _ _ _ _ c.in-Present.is (ap flag_at_answer (sym c.in-Flag.is) ∙ c.and_not_at-answer.ensures)
+pub returns-in_err-flag : goal.returns-in_err-flag
+returns-in_err-flag c = exit-is _ _ c.from_residual.ensures.1 ∙ refusal-given _ _ _ _ _ _ c.in_err-flag.ensures
 
-pub returns-in-Absent : goal.returns-in-Absent
+pub returns-in-Some : goal.returns-in-Some
+returns-in-Some c = flag-given _ _ _ _ _ _ _ c.in-Some.is c.in_ok-flag.ensures
+
+pub returns-in-None : goal.returns-in-None
 unfolding reassignable
-returns-in-Absent c = rule-given _ _ _ _ _ _ _ c.in-Absent.is (ap flag_at_answer (sym c.in-Flag.is) ∙ c.and_not_at-answer.ensures) refl
-
-pub returns-in-Refused : goal.returns-in-Refused
-returns-in-Refused c = refusal-given _ _ _ _ _ _ (ap flag_at_answer (sym c.in-Refused.is) ∙ c.and_not_at-answer.ensures)
+returns-in-None c = rule-given _ _ _ _ _ _ _ c.in-None.is c.in_ok-flag.ensures refl

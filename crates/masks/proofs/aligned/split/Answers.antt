@@ -20,6 +20,3 @@ flags_word-prefix-requires c =
       (placed c.args.start
           c.args.length c.args.address).word,
     )
-
-pub returns : goal.returns
-returns c = cc

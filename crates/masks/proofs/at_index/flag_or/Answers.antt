@@ -1,16 +1,12 @@
 -- In each arm the mask is known: a present one has the index by `requires` (`index-fits`, `flag-inside`), an absent one gives `absent`.
-use native.Mathlib.Omega.{arith}
 use Rattle.masks.specs.AtIndex.{flag_or}
-use Rattle.masks.proofs.AtIndexLaws.{flag-inside, index-fits}
+use Rattle.masks.proofs.AtIndexLaws.{flag-inside}
 use Rattle.masks.proofs.at_index.flag_or.Goals as goal
 
-pub overflow_add-m : goal.overflow_add-m
-overflow_add-m c = omega (arith, index-fits _ _ _ c.in-Present.is c.requires)
-
-pub returns-in-Present : goal.returns-in-Present
+pub returns-in-Some : goal.returns-in-Some
 unfolding flag_or
-returns-in-Present c = rw c.in-Present.is (flag-inside _ _ _ _ _ c.in-Present.is c.requires c.flag_at.ensures)
+returns-in-Some c = rw c.in-Some.is (flag-inside _ _ _ _ _ c.in-Some.is c.requires c.flag_at.ensures)
 
-pub returns-in-Absent : goal.returns-in-Absent
+pub returns-in-None : goal.returns-in-None
 unfolding flag_or
-returns-in-Absent c = rw c.in-Absent.is
+returns-in-None c = rw c.in-None.is

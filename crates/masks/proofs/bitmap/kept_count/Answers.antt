@@ -1,18 +1,18 @@
--- The tests decide the definition's choices.
-use mathlib.Core.Path.{ap, ◌∙◌}
+-- The arms and the guard decide the definition's choices.
+use mathlib.Core.Path.{◌≡◌, ◌∙◌}
+use native.Mathlib.Omega.{arith}
 use Rattle.masks.specs.Mask.{kept_count}
-use Rattle.masks.specs.declared.bitmap.Cut.{Cut}
 use Rattle.masks.proofs.CheckLaws.{when-eq, when-ne}
 use Rattle.masks.proofs.bitmap.kept_count.Goals as goal
 
-pub returns-then-zeros-eq0 : goal.returns-then-zeros-eq0
+pub returns-in-0 : goal.returns-in-0
 unfolding kept_count
-returns-then-zeros-eq0 c = ap Cut.Count (when-eq _ _ _ _ c.if-zeros-eq0.true)
+returns-in-0 c = when-eq _ _ _ _ c.in-0.is
 
-pub returns-then-zeros-old : goal.returns-then-zeros-old
+pub returns-in_default : goal.returns-in_default
 unfolding kept_count
-returns-then-zeros-old c = ap Cut.Count (when-eq _ _ _ _ c.if-zeros-old.true ∙ when-ne _ _ _ _ c.if-zeros-eq0.false)
+returns-in_default c = when-eq _ _ _ _ c.if-zeros-old.true ∙ when-ne _ _ _ _ (λ (e : c.args.zeros ≡ 0). omega arith)
 
-pub returns : goal.returns
+pub returns-in_default-2 : goal.returns-in_default-2
 unfolding kept_count
-returns c = ap Cut.Count (when-ne _ _ _ _ c.if-zeros-old.false ∙ when-ne _ _ _ _ c.if-zeros-eq0.false)
+returns-in_default-2 c = when-ne _ _ _ _ c.if-zeros-old.false ∙ when-ne _ _ _ _ (λ (e : c.args.zeros ≡ 0). omega arith)

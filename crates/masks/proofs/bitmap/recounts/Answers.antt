@@ -1,5 +1,4 @@
 -- One law for each branch: no zeros, all zeros, or the comparison with the threshold.
-use native.Mathlib.Omega.{arith}
 use Rattle.masks.proofs.MaskLaws.{recounts-no, recounts-all, recounts-by}
 use Rattle.masks.proofs.bitmap.recounts.Goals as goal
 
@@ -9,8 +8,5 @@ returns-then-zeros-eq0 c = recounts-no _ _ _ c.if-zeros-eq0.true
 pub returns-then-zeros-old : goal.returns-then-zeros-old
 returns-then-zeros-old c = recounts-all _ _ _ c.if-zeros-eq0.false c.if-zeros-old.true
 
-pub overflow_add-result : goal.overflow_add-result
-overflow_add-result c = omega (arith, c.most.ensures)
-
 pub returns : goal.returns
-returns c = recounts-by _ _ _ _ c.if-zeros-eq0.false c.if-zeros-old.false c.most.ensures
+returns c = recounts-by _ _ _ _ c.if-zeros-eq0.false c.if-zeros-old.false c.max.ensures

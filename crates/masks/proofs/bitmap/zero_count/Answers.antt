@@ -2,10 +2,10 @@
 use Rattle.masks.specs.Mask.{zero_count}
 use Rattle.masks.proofs.bitmap.zero_count.Goals as goal
 
-pub returns-in-Known : goal.returns-in-Known
+pub returns-in-Some : goal.returns-in-Some
 unfolding zero_count
-returns-in-Known c = rw c.in-Known.is
+returns-in-Some c = rw c.in-Some.is
 
-pub returns-in-Unknown : goal.returns-in-Unknown
+pub returns-in-None : goal.returns-in-None
 unfolding zero_count
-returns-in-Unknown c = rw c.in-Unknown.is c.zeros_at.ensures
+returns-in-None c = rw c.in-None.is c.zeros_at.ensures

@@ -3,4 +3,4 @@ use Rattle.masks.proofs.CombineLaws.{two-serials}
 use Rattle.masks.proofs.bitmap_ops.pair_serial.Goals as goal
 
 pub returns : goal.returns
-returns c = two-serials _ _ _ c.later.ensures
+returns c = two-serials _ _ _ c.max.ensures

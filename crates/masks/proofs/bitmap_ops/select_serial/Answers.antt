@@ -3,4 +3,4 @@ use Rattle.masks.proofs.CombineLaws.{three-serials}
 use Rattle.masks.proofs.bitmap_ops.select_serial.Goals as goal
 
 pub returns : goal.returns
-returns c = three-serials _ _ _ _ _ c.later.ensures c.later-2.ensures
+returns c = three-serials _ _ _ _ _ c.max.ensures c.max-2.ensures

@@ -1,18 +1,16 @@
--- The number of the span's checks decides: `is-refused` or `is-given`; where all have passed `search_from` may be called (`span-allowed`).
-use mathlib.Core.Path.{sym, ◌∙◌}
-use Rattle.masks.specs.Search.{search_from}
-use Rattle.masks.proofs.CheckLaws.{is-refused, is-given, span-allowed}
+-- The span's checks decide (`refused-alike`, `given-alike`).
+use mathlib.Core.Path.{◌∙◌}
+use Rattle.words.specs.Loops.{stretch}
+use Rattle.masks.specs.Search.{search_from, nth_from}
+use Rattle.masks.specs.Lent.{Part}
+use Rattle.masks.proofs.LentLaws.{refused-alike, given-alike}
+use Rattle.masks.proofs.RefusalLaws.{exit-is}
 use Rattle.masks.proofs.bitmask.nth_set_bit_idx.Goals as goal
 
-pub returns-then-refusal-ne0 : goal.returns-then-refusal-ne0
+pub returns-in_err-span : goal.returns-in_err-span
 unfolding search_from
-returns-then-refusal-ne0 c = is-refused _ _ _ _ c.span_failure-refusal.ensures c.if-refusal-ne0.true
-
-pub search_from-requires : goal.search_from-requires
-search_from-requires c =
-    let span = span-allowed _ _ _ (sym c.span_failure-refusal.ensures ∙ c.if-refusal-ne0.false) in
-    (span.starts, (span.short, span.inside))
+returns-in_err-span c = exit-is _ _ c.from_residual.ensures.1 ∙ refused-alike _ _ _ _ _ c.in_err-span.ensures
 
 pub returns : goal.returns
 unfolding search_from
-returns c = c.search_from.ensures ∙ is-given _ _ _ _ c.span_failure-refusal.ensures c.if-refusal-ne0.false
+returns c = given-alike _ _ _ _ (λ (p : Part). nth_from (stretch p.bytes p.start p.length) c.args.n c.args.from) _ c.in_ok-span.ensures c.search_from.ensures

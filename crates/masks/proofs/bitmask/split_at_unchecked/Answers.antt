@@ -1,21 +1,22 @@
 -- The number of the checks decides; where all have passed, sum and difference fit (`split-allowed`).
-use mathlib.Core.Path.{sym, ◌∙◌}
+use mathlib.Core.Path.{refl, sym, ◌∙◌}
 use native.Mathlib.Omega.{arith}
 use Rattle.masks.specs.Bitmask.{split_at}
 use Rattle.masks.proofs.BitmaskLaws.{split-allowed}
 use Rattle.masks.proofs.CheckLaws.{is-refused, is-given}
+use Rattle.masks.proofs.RefusalLaws.{exit-is, number-ne0}
 use Rattle.masks.proofs.bitmask.split_at_unchecked.Goals as goal
 
-pub returns-then-refusal-ne0 : goal.returns-then-refusal-ne0
+pub returns-in_err-check_split : goal.returns-in_err-check_split
 unfolding split_at
-returns-then-refusal-ne0 c = is-refused _ _ _ _ c.split_failure-refusal.ensures c.if-refusal-ne0.true
+returns-in_err-check_split c = exit-is _ _ c.from_residual.ensures.1 ∙ is-refused _ _ _ _ c.in_err-check_split.ensures (number-ne0 _)
 
 pub overflow_add-second : goal.overflow_add-second
-overflow_add-second c = omega (arith, (split-allowed _ _ _ _ (sym c.split_failure-refusal.ensures ∙ c.if-refusal-ne0.false)).starts)
+overflow_add-second c = omega (arith, (split-allowed _ _ _ _ (sym c.in_ok-check_split.ensures)).starts)
 
 pub overflow_sub-rest : goal.overflow_sub-rest
-overflow_sub-rest c = (split-allowed _ _ _ _ (sym c.split_failure-refusal.ensures ∙ c.if-refusal-ne0.false)).reached
+overflow_sub-rest c = (split-allowed _ _ _ _ (sym c.in_ok-check_split.ensures)).reached
 
 pub returns : goal.returns
 unfolding split_at
-returns c = is-given _ _ _ _ c.split_failure-refusal.ensures c.if-refusal-ne0.false
+returns c = is-given _ _ _ _ c.in_ok-check_split.ensures refl

@@ -1,26 +1,28 @@
 -- The number of the checks decides; then masks of unequal lengths differ (`lengths_differ`), and of one length the flags are compared.
-use mathlib.Core.Path.{sym, ap, ◌∙◌}
+use mathlib.Core.Path.{refl, sym, ap, ◌∙◌}
 use Rattle.words.proofs.Windows.{length-window}
 use Rattle.masks.specs.Answer.{given}
 use Rattle.masks.specs.Compare.{eq_of}
-use Rattle.masks.proofs.CheckLaws.{two-pieces, is-refused, is-given}
+use Rattle.masks.proofs.CheckLaws.{two-pieces, is-given, is-refused}
+use Rattle.masks.proofs.RefusalLaws.{exit-is, number-ne0}
 use Rattle.masks.proofs.CompareLaws.{lengths_differ, same-length-eq}
+use borrow.Author.Tests.{ne_eqb}
 use Rattle.masks.proofs.compare.eq.Goals as goal
 
-pub returns-then-refusal-ne0 : goal.returns-then-refusal-ne0
+pub returns-in_err-earlier : goal.returns-in_err-earlier
 unfolding eq_of
-returns-then-refusal-ne0 c =
-    is-refused _ _ _ _ (two-pieces _ _ _ _ _ c.earlier-refusal.ensures c.mask_failure.ensures c.mask_failure-2.ensures) c.if-refusal-ne0.true
+returns-in_err-earlier c =
+    exit-is _ _ c.from_residual.ensures.1
+    ∙ is-refused _ _ _ _ (two-pieces _ _ _ _ _ c.in_err-earlier.ensures c.check_mask.ensures c.check_mask-2.ensures) (number-ne0 _)
+
+pub returns-else-n-rhs : goal.returns-else-n-rhs
+unfolding eq_of
+returns-else-n-rhs c =
+    ap given (ne_eqb _ _ c.if-n-rhs.false ∙ lengths_differ _ _ (λ h. c.if-n-rhs.false (sym (length-window _ _ _) ∙ h ∙ length-window _ _ _)))
+    ∙ is-given _ _ _ _ (two-pieces _ _ _ _ _ c.in_ok-earlier.ensures c.check_mask.ensures c.check_mask-2.ensures) refl
 
 pub returns-then-n-rhs : goal.returns-then-n-rhs
 unfolding eq_of
 returns-then-n-rhs c =
-    ap given (lengths_differ _ _ (λ h. c.if-n-rhs.true (sym (length-window _ _ _) ∙ h ∙ length-window _ _ _)))
-    ∙ is-given _ _ _ _ (two-pieces _ _ _ _ _ c.earlier-refusal.ensures c.mask_failure.ensures c.mask_failure-2.ensures) c.if-refusal-ne0.false
-
-pub returns : goal.returns
-unfolding eq_of
-returns c =
-    ap given (same-length-eq _ _ _ _ _ _ _ c.if-n-rhs.false c.equal.ensures)
-    ∙ is-given _ _ _ _ (two-pieces _ _ _ _ _ c.earlier-refusal.ensures c.mask_failure.ensures
-    c.mask_failure-2.ensures) c.if-refusal-ne0.false
+    ap given (same-length-eq _ _ _ _ _ _ _ c.if-n-rhs.true c.equal.ensures)
+    ∙ is-given _ _ _ _ (two-pieces _ _ _ _ _ c.in_ok-earlier.ensures c.check_mask.ensures c.check_mask-2.ensures) refl

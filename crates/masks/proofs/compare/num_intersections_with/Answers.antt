@@ -4,19 +4,20 @@ use Rattle.masks.specs.Answer.{given}
 use Rattle.masks.specs.Compare.{common_of, common_checks}
 use Rattle.masks.proofs.CheckLaws.{two-pieces, one-check, is-refused, is-given}
 use Rattle.masks.proofs.CompareLaws.{common-ones, common_lengths}
+use Rattle.masks.proofs.RefusalLaws.{exit-is, number-ne0}
 use Rattle.masks.proofs.compare.num_intersections_with.Goals as goal
 
-pub returns-then-refusal-ne0 : goal.returns-then-refusal-ne0
+pub returns-in_err-earlier : goal.returns-in_err-earlier
 unfolding common_of common_checks
-returns-then-refusal-ne0 c =
-    is-refused _ _ _ _ (two-pieces _ _ _ _ _ c.earlier-refusal.ensures c.mask_failure.ensures
-    (two-pieces _ _ _ _ _ c.earlier.ensures c.mask_failure-second.ensures
-    (one-check _ _ _ _ c.failed-same.ensures refl))) c.if-refusal-ne0.true
+returns-in_err-earlier c =
+    exit-is _ _ c.from_residual.ensures.1 ∙ is-refused _ _ _ _ (two-pieces _ _ _ _ _ c.in_err-earlier.ensures c.check_mask.ensures
+    (two-pieces _ _ _ _ _ c.earlier.ensures c.check_mask-second.ensures
+    (one-check _ _ _ _ c.check-same.ensures refl))) (number-ne0 _)
 
 pub returns : goal.returns
 unfolding common_of common_checks
 returns c =
-    let number = two-pieces _ _ _ _ _ c.earlier-refusal.ensures c.mask_failure.ensures
-    (two-pieces _ _ _ _ _ c.earlier.ensures c.mask_failure-second.ensures
-    (one-check _ _ _ _ c.failed-same.ensures refl)) in
-    ap given (common-ones _ _ _ _ _ _ _ (common_lengths _ _ _ _ (sym number ∙ c.if-refusal-ne0.false)) c.count_ones_of.ensures) ∙ is-given _ _ _ _ number c.if-refusal-ne0.false
+    let number = two-pieces _ _ _ _ _ c.in_ok-earlier.ensures c.check_mask.ensures
+    (two-pieces _ _ _ _ _ c.earlier.ensures c.check_mask-second.ensures
+    (one-check _ _ _ _ c.check-same.ensures refl)) in
+    ap given (common-ones _ _ _ _ _ _ _ (common_lengths _ _ _ _ (sym number ∙ refl)) c.count_ones_of.ensures) ∙ is-given _ _ _ _ number refl

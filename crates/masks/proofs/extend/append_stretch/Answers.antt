@@ -6,14 +6,11 @@ use Rattle.words.proofs.Windows.{length-window}
 use Rattle.masks.specs.Builder.{appended}
 use Rattle.masks.proofs.ExtendLaws.{append-three, window-three, stretch-front}
 use Rattle.masks.proofs.PartLaws.{length-low}
-use Rattle.masks.proofs.RoomLaws.{room-less, room-then, length-then}
+use Rattle.masks.proofs.RoomLaws.{room-then, length-then}
 use Rattle.masks.proofs.extend.append_stretch.Goals as goal
 
 pub returns-then-n-le64 : goal.returns-then-n-le64
 returns-then-n-le64 c = c.push_flags.ensures ∙ ap (appended _) (stretch-front _ _ _ _ c.if-n-le64.true c.word_from-first.ensures)
-
-pub push_flags-started-requires : goal.push_flags-started-requires
-push_flags-started-requires c = (omega arith, room-less _ _ _ _ (omega arith) c.requires.1)
 
 pub copy_words-copied-requires : goal.copy_words-copied-requires
 copy_words-copied-requires c =

@@ -1,35 +1,30 @@
--- The invariant: the flags at the first i indices are appended. One more part is the law `part_step`, with the room that `part_room` gives.
-use Prim.Native.Nat.{◌-◌}
-use mathlib.Core.Path.{sym, ap, ◌∙◌}
-use native.Mathlib.Omega.{arith}
-use lib.ListN.{drop, length-take}
-use Rattle.masks.specs.Builder.{filling, appended}
+-- One part more is `part-step`, with the room that `part-room` leaves; at the end nothing is left.
+use Rattle.std.proofs.Common.{rules}
+use Rattle.masks.specs.Builder.{filling}
 use Rattle.masks.proofs.AppendLaws.{append-none}
-use Rattle.masks.proofs.GatherLaws.{gathered_none, part_step, part_room, parts_all}
-use Rattle.masks.proofs.RoomLaws.{size_after}
+use Rattle.masks.proofs.GatherLaws.{none-more, nothing-left, part-room, part-step}
 use Rattle.masks.proofs.gather.append_gathered.Goals as goal
 
-pub loop-i-init : goal.loop-i-init
-loop-i-init c =
-    (omega arith, sym (append-none (filling _ _) c.well_formed.0.1.1.1.0.1 c.requires.1.low) ∙ ap (appended _) (gathered_none _ c.args.idxs.now))
+pub loop-part-init : goal.loop-part-init
+loop-part-init c = record {
+  parts = search rules;
+  left = search rules;
+  none = append-none (filling _ _) (search rules) c.requires.1.low;
+  room = search rules;
+}
 
-pub gather_word-word-requires : goal.gather_word-word-requires
-gather_word-word-requires c =
-    (c.requires.0, omega (arith, length-take (c.part_end-end.result - c.loop-i.i) (drop c.loop-i.i c.args.idxs.now)))
-
-pub push_flags-grown-requires : goal.push_flags-grown-requires
-push_flags-grown-requires c =
-    (omega arith, part_room _ _ _ c.args.idxs.now c.loop-i.i (c.part_end-end.result - c.loop-i.i) c.loop-i.invariant.1 (omega arith) c.requires.1)
-
-pub loop-i-preserved : goal.loop-i-preserved
-loop-i-preserved c = (
-  omega arith,
-  part_step _ _ _ _ c.args.idxs.now _ c.loop-i.i _ c.loop-i.invariant.1 (omega arith) (omega arith)
-      c.gather_word-word.ensures c.push_flags-grown.ensures,
-)
-
-pub shape_of-buf : goal.shape_of-buf
-shape_of-buf c = size_after _ _ _ c.loop-i.invariant.1
+pub loop-part-preserved : goal.loop-part-preserved
+loop-part-preserved c =
+    let inv = c.loop-part.invariant in
+    let step = c.in-Some.ensures.steps in
+    let word = c.gather_word-word in
+    let push = c.push_flags-grown.ensures in
+    record {
+      parts = search rules;
+      left = part-step _ _ _ _ c.in-Some.part.now _ _ word.result inv.left step.1.0 word.ensures push;
+      none = none-more _ _ _ push;
+      room = part-room _ _ _ c.in-Some.part.now _ _ word.result step.1.0 word.ensures push inv.room;
+    }
 
 pub returns : goal.returns
-returns c = parts_all _ _ _ _ _ c.loop-i.invariant.1 c.loop-i-test.false
+returns c = let inv = c.loop-part.invariant in nothing-left _ _ _ _ inv.left c.in-None.ensures.steps.1.0 inv.none

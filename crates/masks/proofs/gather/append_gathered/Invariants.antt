@@ -1,15 +1,18 @@
--- The invariant: the flags at the first i indices are appended. One more part is the law `part_step`, with the room that `part_room` gives.
-use Prim.Native.Nat.{◌-◌, ◌≤◌}
-use mathlib.Core.Path.{◌≡◌}
-use lib.ListN.{length, take}
+-- The invariant: appending the flags at the indices that are left gives what appending all of them gives.
+-- There is room for them, and appending none changes nothing.
+use Rattle.std.proofs.Common.{◌≡◌, [], length}
+use Rattle.std.specs.Slice.Iter.{chunks_rest, chunks_size}
 use Rattle.words.specs.Loops.{stretch}
 use Rattle.masks.specs.Appends.{gathered}
 use Rattle.masks.specs.Builder.{filling, appended}
+use Rattle.masks.specs.Workers.{Room}
 use Rattle.masks.proofs.gather.append_gathered.Given as goal
 
-abbrev pub invariant-loop-i : goal.invariant-loop-i
-invariant-loop-i l =
-    (l.i ≤ length l.idxs) × (filling l.grown l.buf ≡ appended (filling l.initial.grown l.initial.buf) (gathered (stretch l.bytes l.start l.n) (take l.i l.idxs)))
-
-abbrev pub decreases-loop-i : goal.decreases-loop-i
-decreases-loop-i l = length l.idxs - l.i
+abbrev pub invariant-loop-part : goal.invariant-loop-part
+invariant-loop-part l = record {
+  parts : chunks_size l.part-iterator ≡ 64;
+  left : appended (filling l.grown l.buf) (gathered (stretch l.bytes l.start l.n) (chunks_rest l.part-iterator))
+      ≡ appended (filling l.initial.grown l.initial.buf) (gathered (stretch l.bytes l.start l.n) l.idxs);
+  none : appended (filling l.grown l.buf) [] ≡ filling l.grown l.buf;
+  room : Room l.grown (length (chunks_rest l.part-iterator)) (length l.buf);
+}

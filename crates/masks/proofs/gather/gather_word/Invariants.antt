@@ -1,14 +1,10 @@
 -- The invariant: the first i flags of w are those at the first i indices. One more is the law `word-step`.
-use Prim.Native.Nat.{◌-◌, ◌≤◌}
 use mathlib.Core.Path.{◌≡◌}
-use lib.ListN.{length, take}
+use lib.ListN.{take}
 use Rattle.words.specs.Flags.{word_flags}
 use Rattle.words.specs.Loops.{stretch}
 use Rattle.masks.specs.Appends.{gathered}
 use Rattle.masks.proofs.gather.gather_word.Given as goal
 
 abbrev pub invariant-loop-i : goal.invariant-loop-i
-invariant-loop-i l = (l.i ≤ length l.idxs) × (take l.i (word_flags l.w) ≡ gathered (stretch l.bytes l.start l.n) (take l.i l.idxs))
-
-abbrev pub decreases-loop-i : goal.decreases-loop-i
-decreases-loop-i l = length l.idxs - l.i
+invariant-loop-i l = take l.i (word_flags l.w) ≡ gathered (stretch l.bytes l.start l.n) (take l.i l.idxs)

@@ -6,59 +6,60 @@ use Rattle.masks.specs.Answer.{given}
 use Rattle.masks.specs.NextAndNot.{next_and_not_of}
 use Rattle.masks.proofs.CheckLaws.{is-given, is-refused}
 use Rattle.masks.proofs.NextAndNotLaws.{before-allowed, found-ahead, found_before, found_none, free-length, next-allowed}
+use Rattle.masks.proofs.RefusalLaws.{exit-is, number-ne0}
 use Rattle.masks.proofs.next_and_not.next_and_not.Goals as goal
 
-pub returns-then-refusal-ne0 : goal.returns-then-refusal-ne0
+pub returns-in_err-check_next : goal.returns-in_err-check_next
 unfolding next_and_not_of
-returns-then-refusal-ne0 c = is-refused _ _ _ _ c.next_failure-refusal.ensures c.if-refusal-ne0.true
+returns-in_err-check_next c = exit-is _ _ c.from_residual.ensures.1 ∙ is-refused _ _ _ _ c.in_err-check_next.ensures (number-ne0 _)
 
 pub zeros_ahead-ahead-requires : goal.zeros_ahead-ahead-requires
-zeros_ahead-ahead-requires c = next-allowed _ _ _ _ _ (sym c.next_failure-refusal.ensures ∙ c.if-refusal-ne0.false)
+zeros_ahead-ahead-requires c = next-allowed _ _ _ _ _ (sym c.in_ok-check_next.ensures)
 
 pub overflow_sub-length : goal.overflow_sub-length
 overflow_sub-length c =
-    let ok = next-allowed _ _ _ _ _ (sym c.next_failure-refusal.ensures ∙ c.if-refusal-ne0.false) in
+    let ok = next-allowed _ _ _ _ _ (sym c.in_ok-check_next.ensures) in
     ok.ordered
 
 pub returns-then-ahead-length : goal.returns-then-ahead-length
 unfolding next_and_not_of
 returns-then-ahead-length c =
-    let ok = next-allowed _ _ _ _ _ (sym c.next_failure-refusal.ensures ∙ c.if-refusal-ne0.false) in
+    let ok = next-allowed _ _ _ _ _ (sym c.in_ok-check_next.ensures) in
     ap given (found-ahead _ _ _ _ (free-length _ _ _ _ ok.beside) ok.ordered c.zeros_ahead-ahead.ensures _ _ c.if-ahead-length.true refl refl)
-    ∙ is-given _ _ _ _ c.next_failure-refusal.ensures c.if-refusal-ne0.false
+    ∙ is-given _ _ _ _ c.in_ok-check_next.ensures refl
 
 pub overflow_sub-length-2 : goal.overflow_sub-length-2
 overflow_sub-length-2 c =
-    let ok = next-allowed _ _ _ _ _ (sym c.next_failure-refusal.ensures ∙ c.if-refusal-ne0.false) in
+    let ok = next-allowed _ _ _ _ _ (sym c.in_ok-check_next.ensures) in
     ok.ordered
 
 pub windows_of-passed-requires : goal.windows_of-passed-requires
 windows_of-passed-requires c =
-    let ok = next-allowed _ _ _ _ _ (sym c.next_failure-refusal.ensures ∙ c.if-refusal-ne0.false) in
+    let ok = next-allowed _ _ _ _ _ (sym c.in_ok-check_next.ensures) in
     omega (arith, ok.short)
 
 pub zeros_ahead-before-requires : goal.zeros_ahead-before-requires
 zeros_ahead-before-requires c =
-    let ok = next-allowed _ _ _ _ _ (sym c.next_failure-refusal.ensures ∙ c.if-refusal-ne0.false) in
+    let ok = next-allowed _ _ _ _ _ (sym c.in_ok-check_next.ensures) in
     before-allowed _ _ _ ok
 
 pub returns-then-before-from : goal.returns-then-before-from
 unfolding next_and_not_of
 returns-then-before-from c =
-    let ok = next-allowed _ _ _ _ _ (sym c.next_failure-refusal.ensures ∙ c.if-refusal-ne0.false) in
+    let ok = next-allowed _ _ _ _ _ (sym c.in_ok-check_next.ensures) in
     ap given (found_before _ _ _ _ (free-length _ _ _ _ ok.beside) ok.ordered c.zeros_ahead-ahead.ensures _ _ c.if-ahead-length.false c.windows_of-passed.ensures
     c.zeros_ahead-before.ensures _ c.if-before-from.true refl)
-    ∙ is-given _ _ _ _ c.next_failure-refusal.ensures c.if-refusal-ne0.false
+    ∙ is-given _ _ _ _ c.in_ok-check_next.ensures refl
 
 pub windows_of-requires : goal.windows_of-requires
 windows_of-requires c =
-    let ok = next-allowed _ _ _ _ _ (sym c.next_failure-refusal.ensures ∙ c.if-refusal-ne0.false) in
+    let ok = next-allowed _ _ _ _ _ (sym c.in_ok-check_next.ensures) in
     omega (arith, ok.ordered, ok.short)
 
 pub returns : goal.returns
 unfolding next_and_not_of
 returns c =
-    let ok = next-allowed _ _ _ _ _ (sym c.next_failure-refusal.ensures ∙ c.if-refusal-ne0.false) in
+    let ok = next-allowed _ _ _ _ _ (sym c.in_ok-check_next.ensures) in
     ap given (found_none _ _ _ _ (free-length _ _ _ _ ok.beside) ok.ordered c.zeros_ahead-ahead.ensures _ _ c.if-ahead-length.false c.windows_of-passed.ensures
     c.zeros_ahead-before.ensures _ _ c.if-before-from.false c.windows_of.ensures refl)
-    ∙ is-given _ _ _ _ c.next_failure-refusal.ensures c.if-refusal-ne0.false
+    ∙ is-given _ _ _ _ c.in_ok-check_next.ensures refl

@@ -6,55 +6,28 @@ use Rattle.words.specs.Ends.{leading}
 use Rattle.masks.proofs.NextAndNotLaws.{free-length, passed-end, passed-more, passed-stop, word-most}
 use Rattle.masks.proofs.next_and_not.zeros_ahead.Goals as goal
 
-pub loop-at-init : goal.loop-at-init
-loop-at-init c = c.pass_blocks-at.ensures
-
-pub free_word-requires : goal.free_word-requires
-free_word-requires c =
-    let pre = c.requires in
-    record {
-      starts = pre.starts;
-      short = pre.short;
-      beside = pre.beside;
-      ordered = omega (arith, pre.inside, c.loop-at.invariant.inside);
-      inside = omega arith;
-    }
-
 pub overflow_add-at : goal.overflow_add-at
 overflow_add-at c =
-    let few = c.least-k.ensures in
+    let few = c.min-k.ensures in
     let inv = c.loop-at.invariant in
     let pre = c.requires in
-    omega (arith, few, pre.inside, pre.short, word-most c.least-k.result _ _ c.leading_in_word-same.ensures)
-
-pub overflow_sub-result : goal.overflow_sub-result
-overflow_sub-result c = omega (arith, c.loop-at.invariant.low)
+    omega (arith, few, pre.inside, pre.short, word-most c.min-k.result _ _ c.leading_in_word-same.ensures)
 
 pub returns-then-same-k : goal.returns-then-same-k
 returns-then-same-k c =
-    let few = c.least-k.ensures in
+    let few = c.min-k.ensures in
     let inv = c.loop-at.invariant in
     let pre = c.requires in
     passed-stop _ _ _ _ _ _ (free-length _ _ _ _ pre.beside) pre.inside inv (omega (arith, few)) _
     (c.leading_in_word-same.ensures ∙ ap (leading false) (c.free_word.ensures _ (omega (arith, few)) (omega (arith, few, pre.inside)))) c.if-same-k.true
 
-pub loop-at-smaller : goal.loop-at-smaller
-loop-at-smaller c =
-    let few = c.least-k.ensures in
-    let inv = c.loop-at.invariant in
-    let pre = c.requires in
-    omega (arith, few)
-
 pub loop-at-preserved : goal.loop-at-preserved
 loop-at-preserved c =
-    let few = c.least-k.ensures in
+    let few = c.min-k.ensures in
     let inv = c.loop-at.invariant in
     let pre = c.requires in
     passed-more _ _ _ _ _ _ (free-length _ _ _ _ pre.beside) pre.inside inv (omega (arith, few)) _
     (c.leading_in_word-same.ensures ∙ ap (leading false) (c.free_word.ensures _ (omega (arith, few)) (omega (arith, few, pre.inside)))) c.if-same-k.false
-
-pub overflow_sub-result-2 : goal.overflow_sub-result-2
-overflow_sub-result-2 c = c.loop-at.invariant.low
 
 pub returns : goal.returns
 returns c =

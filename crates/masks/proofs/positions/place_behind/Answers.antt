@@ -1,5 +1,5 @@
 -- One law for each of the three answers.
-use native.Mathlib.Omega.{arith}
+use mathlib.Core.Path.{refl}
 use Rattle.masks.proofs.PositionLaws.{place-few, place_none, place-last}
 use Rattle.masks.proofs.positions.place_behind.Goals as goal
 
@@ -9,8 +9,5 @@ returns-then-count-out c = λ old left p q. place-few _ _ _ old left p q c.if-co
 pub returns-then-count-eq0 : goal.returns-then-count-eq0
 returns-then-count-eq0 c = λ old left p q. place_none _ _ _ old left p q c.if-count-out.false c.if-count-eq0.true
 
-pub overflow_add-result : goal.overflow_add-result
-overflow_add-result c = omega (arith, c.position-last.ensures.1)
-
 pub returns : goal.returns
-returns c = λ old left p q. place-last _ _ _ old left p q _ c.if-count-out.false c.if-count-eq0.false c.position-last.ensures.0
+returns c = λ old left p q. place-last _ _ _ old left p q _ c.if-count-out.false c.if-count-eq0.false refl

@@ -1,15 +1,9 @@
 -- The invariant: the first i positions stand over the part. One more is the law `row_step`.
-use Prim.Native.Nat.{◌≤◌, ◌-◌}
 use mathlib.Core.Bool.{true}
 use mathlib.Core.Path.{◌≡◌}
-use lib.ListN.{length}
 use Rattle.words.specs.Flags.{copies, over}
 use Rattle.masks.specs.TrueIdx.{ones_from}
 use Rattle.masks.proofs.positions.write_row.Given as goal
 
 abbrev pub invariant-loop-i : goal.invariant-loop-i
-invariant-loop-i l =
-    (l.i ≤ length l.part) × ((length l.part ≡ length l.initial.part) × (l.part ≡ over l.initial.part (ones_from l.first (copies l.i true))))
-
-abbrev pub decreases-loop-i : goal.decreases-loop-i
-decreases-loop-i l = length l.part - l.i
+invariant-loop-i l = l.part ≡ over l.initial.part (ones_from l.first (copies l.i true))

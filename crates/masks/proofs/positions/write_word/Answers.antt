@@ -18,21 +18,15 @@ returns-then-zeros-ge64 c =
     let both = finished _ _ _ _ _ _ u (no_ones _ _ _ c.leading_in_word-zeros.ensures c.if-zeros-ge64.true) in
     record { count = both.0; positions = both.1 }
 
-pub overflow_sub-out : goal.overflow_sub-out
-overflow_sub-out c = c.loop-done.invariant.0.within
-
-pub overflow_add-at : goal.overflow_add-at
-overflow_add-at c = omega (arith, c.loop-done.invariant.1, c.requires.1, lead-within false _ _ c.leading_in_word-zeros.ensures)
-
 pub write_run-requires : goal.write_run-requires
 write_run-requires c =
     let u = c.loop-done.invariant.0 in (
-      omega (arith, u.within, c.least-n.ensures),
+      omega (arith, u.within, c.min-n.ensures),
       omega (
         arith,
         c.loop-done.invariant.1,
         c.requires.1,
-        c.least-n.ensures,
+        c.min-n.ensures,
         lead-within false _ _ c.leading_in_word-zeros.ensures,
         lead-within true _ _ c.leading_in_word-ones.ensures,
       ),
@@ -43,23 +37,9 @@ returns-then-n-ones c =
     let u = c.loop-done.invariant.0 in
     let v =
     turned _ _ _ _ _ _ _ _ _ _ _ u c.leading_in_word-zeros.ensures c.down-rest.ensures c.leading_in_word-ones.ensures
-    _ _ refl c.least-n.ensures c.write_run.ensures in
-    let both = full _ _ _ _ _ _ v (omega (arith, v.same_length, u.same_length, u.within, c.least-n.ensures, c.if-n-ones.true)) in
+    _ _ refl c.min-n.ensures c.write_run.ensures in
+    let both = full _ _ _ _ _ _ v (omega (arith, v.same_length, u.same_length, u.within, c.min-n.ensures, c.if-n-ones.true)) in
     record { count = both.0; positions = both.1 }
-
-pub overflow_add-at-in-loop-done : goal.overflow_add-at-in-loop-done
-overflow_add-at-in-loop-done c =
-    omega (arith, lead-within false _ _ c.leading_in_word-zeros.ensures, lead-within true _ _ c.leading_in_word-ones.ensures)
-
-pub overflow_add-at-in-loop-done-2 : goal.overflow_add-at-in-loop-done-2
-overflow_add-at-in-loop-done-2 c =
-    omega (
-      arith,
-      c.loop-done.invariant.1,
-      c.requires.1,
-      lead-within false _ _ c.leading_in_word-zeros.ensures,
-      lead-within true _ _ c.leading_in_word-ones.ensures,
-    )
 
 pub loop-done-smaller : goal.loop-done-smaller
 loop-done-smaller c =
@@ -74,7 +54,7 @@ pub loop-done-preserved : goal.loop-done-preserved
 loop-done-preserved c =
     let u = c.loop-done.invariant.0 in (
       turned _ _ _ _ _ _ _ _ _ _ _ u c.leading_in_word-zeros.ensures c.down-rest.ensures c.leading_in_word-ones.ensures
-          _ _ c.down-w.ensures c.least-n.ensures c.write_run.ensures,
+          _ _ c.down-w.ensures c.min-n.ensures c.write_run.ensures,
       omega (
         arith,
         c.loop-done.invariant.1,

@@ -2,15 +2,12 @@
 use mathlib.Core.Path.{sym, ap, ◌∙◌}
 use Rattle.masks.specs.Builder.{filling, appended}
 use Rattle.masks.proofs.AppendLaws.{append-none}
-use Rattle.masks.proofs.RepeatLaws.{no-repeats, one-repeat, room-once}
+use Rattle.masks.proofs.RepeatLaws.{no-repeats, one-repeat}
 use Rattle.masks.proofs.repeat.append_repeated.Goals as goal
 
 pub returns-then-repeats-eq0 : goal.returns-then-repeats-eq0
 returns-then-repeats-eq0 c =
     sym (append-none (filling _ _) c.well_formed.0.1.1.1.0.1 c.requires.1.low) ∙ ap (appended _) (no-repeats _ _ c.if-repeats-eq0.true)
-
-pub append_stretch-requires : goal.append_stretch-requires
-append_stretch-requires c = (c.requires.0, room-once _ _ _ _ c.if-repeats-eq1.true c.requires.1)
 
 pub returns-then-repeats-eq1 : goal.returns-then-repeats-eq1
 returns-then-repeats-eq1 c = c.append_stretch.ensures ∙ ap (appended _) (one-repeat _ _ c.if-repeats-eq1.true)

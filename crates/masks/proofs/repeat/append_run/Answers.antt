@@ -3,9 +3,7 @@ use mathlib.Core.Path.{ap, ◌∙◌}
 use native.Mathlib.Omega.{arith}
 use Rattle.words.proofs.Windows.{length-copies}
 use Rattle.masks.specs.Builder.{appended}
-use Rattle.masks.proofs.AppendLaws.{append-same}
 use Rattle.masks.proofs.InsideLaws.{front-padded, inside-padded}
-use Rattle.masks.proofs.RoomLaws.{room-same}
 use Rattle.masks.proofs.repeat.append_run.Goals as goal
 
 pub push_inside-requires : goal.push_inside-requires
@@ -14,9 +12,3 @@ push_inside-requires c = inside-padded _ _ _ _ _ _ c.requires c.if-b-n-lt64.true
 pub returns-then-b-n-lt64 : goal.returns-then-b-n-lt64
 returns-then-b-n-lt64 c =
     c.push_inside.ensures _ ∙ ap (appended _) (front-padded _ _ _ (length-copies _ _) (omega (arith, c.if-b-n-lt64.true)) c.constant_flags.ensures)
-
-pub append_copies-requires : goal.append_copies-requires
-append_copies-requires c = room-same _ _ _ _ c.copied.ensures c.requires
-
-pub returns : goal.returns
-returns c = append-same _ _ _ _ _ c.append_copies.ensures c.copied.ensures

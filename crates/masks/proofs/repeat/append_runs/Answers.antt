@@ -1,24 +1,16 @@
 -- The invariant: the first i flags are appended, each repeated. One more is the law `runs-step`, with the room that `runs-room` gives.
 use mathlib.Core.Path.{sym, ap, ◌∙◌}
-use native.Mathlib.Omega.{arith}
 use Rattle.masks.proofs.AppendLaws.{append-none}
-use Rattle.masks.proofs.RepeatLaws.{nothing_yet, runs-step, runs-room, runs-all}
-use Rattle.masks.proofs.RoomLaws.{size_after}
+use Rattle.masks.proofs.RepeatLaws.{nothing_yet, runs-step, runs-room}
 use Rattle.masks.specs.Builder.{filling, appended}
 use Rattle.masks.proofs.repeat.append_runs.Goals as goal
 
 pub loop-i-init : goal.loop-i-init
 loop-i-init c =
-    (omega arith, sym (append-none (filling _ _) c.well_formed.0.1.1.1.0.1 c.requires.1.low) ∙ ap (appended _) (nothing_yet _ _ _))
+    sym (append-none (filling _ _) c.well_formed.0.1.1.1.0.1 c.requires.1.low) ∙ ap (appended _) (nothing_yet _ _ _)
 
 pub append_run-grown-requires : goal.append_run-grown-requires
-append_run-grown-requires c = runs-room _ _ _ _ _ _ _ c.loop-i.invariant.1 c.loop-i-test.true c.requires.1
+append_run-grown-requires c = runs-room _ _ _ _ _ _ _ c.loop-i.invariant c.loop-i-test.true c.requires.1
 
 pub loop-i-preserved : goal.loop-i-preserved
-loop-i-preserved c = (omega arith, runs-step _ _ _ _ _ _ _ _ c.loop-i.invariant.1 c.flag_at.ensures c.append_run-grown.ensures)
-
-pub shape_of-buf : goal.shape_of-buf
-shape_of-buf c = size_after _ _ _ c.loop-i.invariant.1
-
-pub returns : goal.returns
-returns c = runs-all _ _ _ _ _ _ _ c.loop-i.invariant.1 c.loop-i.invariant.0 c.loop-i-test.false
+loop-i-preserved c = runs-step _ _ _ _ _ _ _ _ c.loop-i.invariant c.flag_at.ensures c.append_run-grown.ensures

@@ -1,5 +1,4 @@
 -- The invariant: the first i flags are appended, each repeated. One more is the law `runs-step`, with the room that `runs-room` gives.
-use Prim.Native.Nat.{◌-◌, ◌≤◌}
 use mathlib.Core.Path.{◌≡◌}
 use Rattle.words.specs.Loops.{stretch}
 use Rattle.masks.specs.Appends.{repeated}
@@ -8,7 +7,4 @@ use Rattle.masks.proofs.repeat.append_runs.Given as goal
 
 abbrev pub invariant-loop-i : goal.invariant-loop-i
 invariant-loop-i l =
-    (l.i ≤ l.n) × (filling l.grown l.buf ≡ appended (filling l.initial.grown l.initial.buf) (repeated l.repeats (stretch l.bytes l.start l.i)))
-
-abbrev pub decreases-loop-i : goal.decreases-loop-i
-decreases-loop-i l = l.n - l.i
+    filling l.grown l.buf ≡ appended (filling l.initial.grown l.initial.buf) (repeated l.repeats (stretch l.bytes l.start l.i))

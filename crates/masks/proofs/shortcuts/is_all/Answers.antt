@@ -2,10 +2,10 @@
 use Rattle.masks.specs.Mask.{zero_count}
 use Rattle.masks.proofs.shortcuts.is_all.Goals as goal
 
-pub returns-in-Known : goal.returns-in-Known
+pub returns-in-Some : goal.returns-in-Some
 unfolding zero_count
-returns-in-Known c = rw (c.in-Known.is, c.zeros_of_all.ensures)
+returns-in-Some c = rw (c.in-Some.is, c.zeros_of_all.ensures)
 
-pub returns-in-Unknown : goal.returns-in-Unknown
+pub returns-in-None : goal.returns-in-None
 unfolding zero_count
-returns-in-Unknown c = rw c.in-Unknown.is c.all_flags.ensures
+returns-in-None c = rw c.in-None.is c.all_flags.ensures

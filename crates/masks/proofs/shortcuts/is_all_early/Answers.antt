@@ -1,6 +1,6 @@
 -- As `is_all`; where the first word has another flag, the answer is no at once.
 use mathlib.Core.Path.{ap, sym, ◌∙◌}
-use mathlib.Core.Bool.{Bool}
+use mathlib.Core.Bool.{Bool, not}
 use mathlib.Core.List.{List}
 use lib.Dec.{eqb}
 use Rattle.masks.specs.Mask.{zero_count}
@@ -9,17 +9,17 @@ use Rattle.masks.specs.Workers.{zeros_of_all}
 use Rattle.masks.proofs.SpanLaws.{whole-stretch}
 use Rattle.masks.proofs.shortcuts.is_all_early.Goals as goal
 
-pub returns-in-Known : goal.returns-in-Known
+pub returns-in-Some : goal.returns-in-Some
 unfolding zero_count
-returns-in-Known c = rw (c.in-Known.is, c.zeros_of_all.ensures)
+returns-in-Some c = rw (c.in-Some.is, c.zeros_of_all.ensures)
 
-pub returns-then-other_early : goal.returns-then-other_early
+pub returns-else-not-other_early : goal.returns-else-not-other_early
 unfolding zero_count
-returns-then-other_early c = rw c.in-Unknown.is (sym (c.other_early.ensures c.if-other_early.true))
+returns-else-not-other_early c = rw c.in-None.is (ap not c.if-not-other_early.false ∙ sym (c.other_early.ensures c.if-not-other_early.false))
 
-pub returns-else-other_early : goal.returns-else-other_early
+pub returns-then-not-other_early : goal.returns-then-not-other_early
 unfolding zero_count
-returns-else-other_early c =
+returns-then-not-other_early c =
     let a = c.args in
-    rw c.in-Unknown.is
+    rw c.in-None.is
     (c.all_flags.ensures ∙ ap (λ (l : List Bool). eqb (zeros l) (zeros_of_all a.flag a.mask.length)) (whole-stretch _ _ _))

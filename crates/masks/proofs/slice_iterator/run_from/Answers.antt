@@ -3,12 +3,9 @@
 -- the span's end (`walk_end`).
 use mathlib.Core.Path.{refl}
 use native.Mathlib.Omega.{arith}
-use Rattle.masks.proofs.RunLaws.{walk_begins, walk-byte, walk-stop, walk-zero, walk-one, walk_end}
+use Rattle.masks.proofs.RunLaws.{walk-byte, walk-stop, walk-zero, walk-one, walk_end}
 use borrow.Author.Rules.{rules}
 use Rattle.masks.proofs.slice_iterator.run_from.Goals as goal
-
-pub bytes-init : goal.bytes-init
-bytes-init c = walk_begins _ _ _ c.requires.1.1.1
 
 pub bytes-preserved-then-all_ones : goal.bytes-preserved-then-all_ones
 bytes-preserved-then-all_ones c = walk-byte _ _ _ _ _ _ c.bytes.invariant _ _ c.all_ones.ensures c.if-all_ones.true refl
@@ -23,8 +20,8 @@ bits-preserved c =
     let inv = c.bits.invariant in
     (walk-one _ _ _ _ _ _ inv.0 _ _ _ (search rules) inv.1.0 (search rules) refl c.if-byte-bit-eq0.false, (omega arith, (omega arith, omega arith)))
 
-pub returns-then-at-length : goal.returns-then-at-length
-returns-then-at-length c = walk_end _ _ _ _ _ _ c.bytes.invariant c.if-at-length.true
+pub returns-then-at-span : goal.returns-then-at-span
+returns-then-at-span c = walk_end _ _ _ _ _ _ c.bytes.invariant c.if-at-span.true
 
 pub returns-then-ones-gt0 : goal.returns-then-ones-gt0
 returns-then-ones-gt0 c =

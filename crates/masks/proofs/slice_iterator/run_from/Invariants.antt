@@ -9,13 +9,13 @@ use Rattle.masks.proofs.slice_iterator.run_from.Given as goal
 
 abbrev pub invariant-bits : goal.invariant-bits
 invariant-bits l =
-    Walking (stretch l.bytes l.start l.length) l.length l.place l.first l.at × ((l.start + l.at ≡ 8 * (l.flag / 8) + l.bit) × ((l.initial.bit ≤ l.bit) × (l.bit ≤ l.stop)))
+    Walking (stretch l.span.bytes.now l.span.start l.span.length) l.span.length l.place l.first l.at × ((l.span.start + l.at ≡ 8 * (l.flag / 8) + l.bit) × ((l.initial.bit ≤ l.bit) × (l.bit ≤ l.stop)))
 
 abbrev pub decreases-bits : goal.decreases-bits
 decreases-bits l = l.stop - l.bit
 
 abbrev pub invariant-bytes : goal.invariant-bytes
-invariant-bytes l = Walking (stretch l.bytes l.start l.length) l.length l.place l.first l.at
+invariant-bytes l = Walking (stretch l.span.bytes.now l.span.start l.span.length) l.span.length l.place l.first l.at
 
 abbrev pub decreases-bytes : goal.decreases-bytes
-decreases-bytes l = l.length - l.at
+decreases-bytes l = l.span.length - l.at

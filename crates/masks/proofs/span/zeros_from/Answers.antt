@@ -8,15 +8,12 @@ use Rattle.masks.proofs.span.zeros_from.Goals as goal
 pub returns-then-same-k : goal.returns-then-same-k
 returns-then-same-k c =
     let a = c.args in
-    word-alike _ _ a.start a.length a.place _ _ _ (omega (arith, c.least-k.ensures)) (c.near_word.ensures _ (omega (arith, c.least-k.ensures)))
+    word-alike _ _ a.start a.length a.place _ _ _ (omega (arith, c.min-k.ensures)) (c.near_word.ensures _ (omega (arith, c.min-k.ensures)))
     c.leading_in_word-same.ensures c.if-same-k.true
 
 pub returns-then-left-le57 : goal.returns-then-left-le57
 returns-then-left-le57 c =
     let a = c.args in
-    let all : c.least-k.result ≡ a.length - a.place = omega (arith, c.least-k.ensures, c.if-left-le57.true) in
-    sym all ∙ word-all-alike _ _ a.start a.length a.place _ _ _ (omega (arith, all)) (c.near_word.ensures _ (omega (arith, c.least-k.ensures)))
+    let all : c.min-k.result ≡ a.length - a.place = omega (arith, c.min-k.ensures, c.if-left-le57.true) in
+    sym all ∙ word-all-alike _ _ a.start a.length a.place _ _ _ (omega (arith, all)) (c.near_word.ensures _ (omega (arith, c.min-k.ensures)))
     c.leading_in_word-same.ensures c.if-same-k.false
-
-pub returns : goal.returns
-returns c = c.leading_from.ensures

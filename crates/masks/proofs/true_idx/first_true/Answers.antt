@@ -2,10 +2,10 @@
 use Rattle.masks.specs.TrueIdx.{first_true}
 use Rattle.masks.proofs.true_idx.first_true.Goals as goal
 
-pub returns-in-Present : goal.returns-in-Present
+pub returns-in-Some : goal.returns-in-Some
 unfolding first_true
-returns-in-Present c = rw c.in-Present.is
+returns-in-Some c = rw c.in-Some.is
 
-pub returns-in-Absent : goal.returns-in-Absent
+pub returns-in-None : goal.returns-in-None
 unfolding first_true
-returns-in-Absent c = rw c.in-Absent.is
+returns-in-None c = rw c.in-None.is

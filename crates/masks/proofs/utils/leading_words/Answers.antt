@@ -1,18 +1,15 @@
 -- The invariant: the first i words are alike.
-use native.Mathlib.Omega.{arith}
+use mathlib.Core.Path.{refl}
 use Rattle.masks.proofs.PartLaws.{front-exit, front-step, front-all}
 use Rattle.masks.proofs.utils.leading_words.Goals as goal
 
-pub loop-i-init : goal.loop-i-init
-loop-i-init c = (omega arith, omega arith)
-
 pub returns-then-alike-lt64 : goal.returns-then-alike-lt64
 returns-then-alike-lt64 c =
-    front-exit _ _ _ _ _ _ _ _ c.loop-i-test.true c.loop-i.invariant.1 c.word_from.ensures (omega arith) c.leading_in_word-alike.ensures c.if-alike-lt64.true
+    front-exit _ _ _ _ _ _ _ _ c.loop-i-test.true c.loop-i.invariant c.word_from.ensures refl c.leading_in_word-alike.ensures c.if-alike-lt64.true
 
 pub loop-i-preserved : goal.loop-i-preserved
 loop-i-preserved c =
-    (omega arith, front-step _ _ _ c.args.n _ _ _ _ c.loop-i.invariant.1 c.word_from.ensures (omega arith) c.leading_in_word-alike.ensures c.if-alike-lt64.false)
+    front-step _ _ _ c.args.n _ _ _ _ c.loop-i.invariant c.word_from.ensures refl c.leading_in_word-alike.ensures c.if-alike-lt64.false
 
 pub returns : goal.returns
-returns c = front-all _ _ _ _ _ c.loop-i.invariant.1 c.loop-i.invariant.0 c.loop-i-test.false
+returns c = front-all _ _ _ _ _ c.loop-i.invariant c.loop-i.auto.i-end c.loop-i-test.false

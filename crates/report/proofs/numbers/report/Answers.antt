@@ -1,20 +1,32 @@
--- Too many bytes are refused (`too_long`); else they pass a mask's checks (`whole-accepted`), and the callees' numbers are the report's.
-use mathlib.Core.Path.{refl}
-use Rattle.report.proofs.NumberLaws.{numbers-given, too_long, whole-accepted}
+-- Of too many bytes there is no report (`too_long`); else they pass a mask's checks (`whole-accepted`), so that no call is refused, and the
+-- numbers of the calls are the report's.
+use Rattle.std.specs.Prelude.{is_ok}
+use mathlib.Core.Path.{refl, sym, ap, ◌∙◌}
+use Rattle.masks.specs.Answer.{answer, answer_back}
+use Rattle.masks.specs.Compare.{edges_of}
+use Rattle.masks.specs.Mask.{unset_bits_of}
+use Rattle.masks.specs.declared.bitmap.Recounted.{Recounted}
+use Rattle.masks.proofs.AnswerLaws.{given-value}
+use Rattle.report.proofs.NumberLaws.{numbers-given, ok-given, ok-given_back, too_long, whole-accepted}
 use Rattle.report.proofs.numbers.report.Goals as goal
 
 pub returns-then-bytes-gt65536 : goal.returns-then-bytes-gt65536
 returns-then-bytes-gt65536 c = too_long _ c.if-bytes-gt65536.true
 
-pub zeros_of-zeros-requires : goal.zeros_of-zeros-requires
-zeros_of-zeros-requires c = whole-accepted c.args.bytes.now _ c.if-bytes-gt65536.false refl
+pub unwrap-zeros-requires : goal.unwrap-zeros-requires
+unfolding unset_bits_of
+unwrap-zeros-requires c = ap is_ok (ok-given_back _ _ _ _ c.unset_bits.ensures (whole-accepted c.args.bytes.now _ c.if-bytes-gt65536.false refl))
 
-pub edges_of-edges-requires : goal.edges_of-edges-requires
-edges_of-edges-requires c = whole-accepted c.args.bytes.now _ c.if-bytes-gt65536.false refl
+pub unwrap-edges-requires : goal.unwrap-edges-requires
+unfolding edges_of
+unwrap-edges-requires c = ap is_ok (ok-given _ _ _ c.num_edges.ensures (whole-accepted c.args.bytes.now _ c.if-bytes-gt65536.false refl))
 
 pub runs_of-runs-requires : goal.runs_of-runs-requires
 runs_of-runs-requires c = whole-accepted c.args.bytes.now _ c.if-bytes-gt65536.false refl
 
 pub returns : goal.returns
+unfolding unset_bits_of edges_of
 returns c =
-    numbers-given c.args.bytes.now _ _ _ _ c.if-bytes-gt65536.false refl c.zeros_of-zeros.ensures c.edges_of-edges.ensures c.runs_of-runs.ensures
+    let zeros = ap (λ (r : Recounted). r.zeros) (given-value _ _ _ _ (ap answer_back (sym c.unwrap-zeros.ensures) ∙ c.unset_bits.ensures)) in
+    let edges = given-value _ _ _ _ (ap answer (sym c.unwrap-edges.ensures) ∙ c.num_edges.ensures) in
+    numbers-given c.args.bytes.now _ _ _ _ c.if-bytes-gt65536.false refl zeros edges c.runs_of-runs.ensures

@@ -37,13 +37,13 @@ pub overflow_add-result-2 : goal.overflow_add-result-2
 overflow_add-result-2 c =
     let a = c.args in
     let x = count-moved-all (flags_of a.bytes.now) _ _ a.start _ _ _ (omega arith) c.byte_word.ensures c.down-w.ensures c.ones_in_word-first.ensures (omega arith) in
-    let z = count-first-flags _ _ _ _ _ (rest-ends a.bytes.now a.start a.len _ _ c.least-n.ensures c.room.ensures) c.byte_word-2.ensures c.ones_below-last.ensures in
-    omega (arith, parts-fit a.start a.len _ _ _ _ _ c.if-len-k.false c.least-n.ensures (count-within _ _ _ _ x) (count-within _ _ _ _ c.ones_words-mid.ensures) (count-within _ _ _ _ z), c.ranges.len.fits)
+    let z = count-first-flags _ _ _ _ _ (rest-ends a.bytes.now a.start a.len _ _ c.min-n.ensures c.room.ensures) c.byte_word-2.ensures c.ones_below-last.ensures in
+    omega (arith, parts-fit a.start a.len _ _ _ _ _ c.if-len-k.false c.min-n.ensures (count-within _ _ _ _ x) (count-within _ _ _ _ c.ones_words-mid.ensures) (count-within _ _ _ _ z), c.ranges.len.fits)
 
 pub returns : goal.returns
 returns c =
     let a = c.args in
     let x = count-moved-all (flags_of a.bytes.now) _ _ a.start _ _ _ (omega arith) c.byte_word.ensures c.down-w.ensures c.ones_in_word-first.ensures (omega arith) in
-    let z = count-first-flags _ _ _ _ _ (rest-ends a.bytes.now a.start a.len _ _ c.least-n.ensures c.room.ensures) c.byte_word-2.ensures c.ones_below-last.ensures in
+    let z = count-first-flags _ _ _ _ _ (rest-ends a.bytes.now a.start a.len _ _ c.min-n.ensures c.room.ensures) c.byte_word-2.ensures c.ones_below-last.ensures in
     count-parts (flags_of a.bytes.now) _ _ _ _ _ _ _ _ _ _ _ x c.ones_words-mid.ensures z (omega arith) (omega arith) (omega arith)
-    (parts-sum a.start a.len _ _ c.if-len-k.false c.least-n.ensures)
+    (parts-sum a.start a.len _ _ c.if-len-k.false c.min-n.ensures)

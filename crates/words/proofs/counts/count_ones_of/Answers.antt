@@ -2,23 +2,24 @@
 use Rattle.words.proofs.Counting.{count-step, count_fits, count_most, count-short}
 use Rattle.words.proofs.Behind.{count-finish}
 use mathlib.Core.Path.{ap, ◌∙◌}
-use mathlib.Core.Path.{ap, ◌∙◌}
+use lib.ListN.{length}
 use native.Mathlib.Omega.{arith}
 use Rattle.words.specs.Flags.{count}
 use Rattle.words.proofs.Combining.{zip-later, length-zip}
-use Rattle.words.proofs.Counting.{count-step, count_fits}
-use Rattle.words.proofs.Ranges.{in-range}
 use Rattle.words.proofs.counts.count_ones_of.Goals as goal
 
 pub returns-then-len-le64 : goal.returns-then-len-le64
 returns-then-len-le64 c = count-short _ _ _ _ (length-zip _ _ _ _ _ _ _ _) c.if-len-le64.true c.triple_word.ensures c.ones_in_word.ensures
 
-pub each_count-ones-requires : goal.each_count-ones-requires
-each_count-ones-requires c = (in-range _ _ _ _ _ _ _ c.common_room-i.ensures.0, omega arith)
-
 pub loop-i-init : goal.loop-i-init
 loop-i-init c =
-    (omega arith, c.each_count-ones.ensures ∙ ap count (zip-later _ _ _ _ _ _ _ _ _ _ _ 0 _ (omega arith) (omega arith) (omega arith) (omega arith)))
+    let x = c.new-x.ensures in
+    let y = c.new-y.ensures in
+    let z = c.new-z.ensures in
+    let at = c.new-lanes.ensures in (
+      omega (arith, at.a.0, ap length x.source),
+      c.each-ones.ensures ∙ ap count (zip-later _ _ _ _ _ _ _ _ _ _ _ _ _ _ 0 _ (at.a.1 ∙ x.source) (omega (arith, at.a.2, x.start)) (at.b.1 ∙ y.source) (omega (arith, at.b.2, y.start)) (at.c.1 ∙ z.source) (omega (arith, at.c.2, z.start)) (omega arith)),
+    )
 
 pub overflow_add-ones : goal.overflow_add-ones
 overflow_add-ones c =
@@ -34,7 +35,7 @@ loop-i-preserved c = (omega arith, count-step _ _ _ _ _ c.loop-i.invariant.1 c.t
 -- what is returned
 total : goal.returns
 total c =
-    count-finish _ _ _ _ _ _ _ _ c.least-n.result
+    count-finish _ _ _ _ _ _ _ _ c.min-n.result
     (λ h. record { in_a = omega arith; in_b = omega arith; in_c = omega arith })
     c.loop-i.i _ _ c.loop-i.invariant.1 c.loop-i.invariant.0 c.loop-i-test.false (c.ones_behind.ensures ∙ rw c.past_end.ensures)
 

@@ -8,9 +8,9 @@ pub returns-then-flag : goal.returns-then-flag
 returns-then-flag c =
     let k = c.args.k in
     rw c.if-flag.true (leading-inverted k _ _ _ c.not_word.ensures
-    (c.least.ensures ∙ ap (λ (x : ℕ). min x k) c.front_zeros.ensures ∙ leading-take _ k _))
+    (c.min.ensures ∙ ap (λ (x : ℕ). min x k) c.front_zeros.ensures ∙ leading-take _ k _))
 
 pub returns-else-flag : goal.returns-else-flag
 returns-else-flag c =
     let k = c.args.k in
-    rw c.if-flag.false (c.least-else-flag.ensures ∙ ap (λ (x : ℕ). min x k) c.front_zeros-else-flag.ensures ∙ leading-take _ k _)
+    rw c.if-flag.false (c.min-else-flag.ensures ∙ ap (λ (x : ℕ). min x k) c.front_zeros-else-flag.ensures ∙ leading-take _ k _)

@@ -8,9 +8,6 @@ use Rattle.words.proofs.Writing.{write_step, write-end}
 use borrow.Author.Rules.{rules}
 use Rattle.words.proofs.loops.combine_long.Goals as goal
 
-pub loop-i-init : goal.loop-i-init
-loop-i-init c = (omega arith, (refl, λ F p. p))
-
 pub loop-i-preserved : goal.loop-i-preserved
 loop-i-preserved c =
     let inv = c.loop-i.invariant in
@@ -19,5 +16,5 @@ loop-i-preserved c =
 pub returns : goal.returns
 returns c =
     write-end _ _ _ _ _ _
-    (c.loop-i.invariant.1.1 _ (c.combine_whole-i.ensures.1.1 ∙ ap (over _) (zip-later _ _ _ _ _ _ _ _ _ _ _ 0 _ (omega arith) (omega arith) (omega arith) (omega arith))))
+    (c.loop-i.invariant.1.1 _ (c.combine_whole-done.ensures.1.1 ∙ ap (over _) (zip-later _ _ _ _ _ _ _ _ _ _ _ _ _ _ 0 _ refl (omega arith) refl (omega arith) refl (omega arith) (omega arith))))
     (length-flags _) (length-zip _ _ _ _ _ _ _ _) (λ l. omega arith) (omega arith)

@@ -1,5 +1,5 @@
 -- The invariant: where the loop began with the whole words over flags F, i words are over F. One more is `write_step`, the end `write-end`.
-use Prim.Native.Nat.{◌≤◌, ◌*◌, ◌-◌}
+use Prim.Native.Nat.{◌≤◌, ◌*◌}
 use mathlib.Core.Bool.{Bool}
 use mathlib.Core.List.{List}
 use mathlib.Core.Path.{◌≡◌}
@@ -10,8 +10,5 @@ use Rattle.words.proofs.loops.combine_long.Given as goal
 
 abbrev pub invariant-loop-i : goal.invariant-loop-i
 invariant-loop-i l =
-    (l.i ≤ l.n) × ((length l.out ≡ length l.initial.out) × ((F : List Bool) → flags_of l.initial.out ≡ over F (window (combined l.op l.a l.sa l.b l.sb l.c l.sc l.len) 0 (64 * l.initial.i))
-    → flags_of l.out ≡ over F (window (combined l.op l.a l.sa l.b l.sb l.c l.sc l.len) 0 (64 * l.i))))
-
-abbrev pub decreases-loop-i : goal.decreases-loop-i
-decreases-loop-i l = l.n - l.i
+    (l.i ≤ l.n) × ((length l.out ≡ length l.initial.out) × ((F : List Bool) → flags_of l.initial.out ≡ over F (window (combined l.op l.a.bytes.now l.a.start l.b.bytes.now l.b.start l.c.bytes.now l.c.start l.len) 0 (64 * l.initial.i))
+    → flags_of l.out ≡ over F (window (combined l.op l.a.bytes.now l.a.start l.b.bytes.now l.b.start l.c.bytes.now l.c.start l.len) 0 (64 * l.i))))

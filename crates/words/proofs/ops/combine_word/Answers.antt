@@ -29,6 +29,3 @@ returns-in-Xor c = rw c.in-Xor.is (c.xor_word.ensures ∙ sym (zip_two xor _ _ _
 
 pub returns-in-Not : goal.returns-in-Not
 returns-in-Not c = rw c.in-Not.is (c.not_word.ensures ∙ sym (zip_first not _ _ _ (same _ _) (same _ _)))
-
-pub returns-in-Select : goal.returns-in-Select
-returns-in-Select c = rw c.in-Select.is c.select_word.ensures

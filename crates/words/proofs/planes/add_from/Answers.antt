@@ -1,12 +1,9 @@
 -- The invariant: what the planes from i on become, with the carry, is what all become (`way_step`).
-use mathlib.Core.Path.{refl, ◌∙◌}
+use mathlib.Core.Path.{◌∙◌}
 use native.Mathlib.Omega.{arith}
 use lib.ListN.{length-set}
 use Rattle.words.proofs.PlaneLaws.{way_step, way_end}
 use Rattle.words.proofs.planes.add_from.Goals as goal
-
-pub loop-i-init : goal.loop-i-init
-loop-i-init c = (omega arith, c.requires.0, refl)
 
 pub loop-i-preserved : goal.loop-i-preserved
 loop-i-preserved c = (omega arith, simp length-set c.loop-i.invariant.1, way_step _ _ _ (omega arith) ∙ c.loop-i.invariant.2)

@@ -5,6 +5,3 @@ use Rattle.words.proofs.planes.column_by.Given as goal
 
 abbrev pub invariant-loop-i : goal.invariant-loop-i
 invariant-loop-i l = Down l.planes (l.s + l.c) l.sum l.i
-
-abbrev pub decreases-loop-i : goal.decreases-loop-i
-decreases-loop-i l = l.i

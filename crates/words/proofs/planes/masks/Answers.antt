@@ -1,7 +1,7 @@
 -- The invariant: the first c numbers are written (`masks-step`).
 use mathlib.Core.Path.{refl}
 use native.Mathlib.Omega.{arith}
-use Rattle.words.proofs.PlaneLaws.{masks-none, masks-step, masks-all}
+use Rattle.words.proofs.PlaneLaws.{masks-none, masks-step}
 use Rattle.words.proofs.planes.masks.Goals as goal
 
 pub loop-c-init : goal.loop-c-init
@@ -9,6 +9,3 @@ loop-c-init c = (omega arith, refl, masks-none _)
 
 pub loop-c-preserved : goal.loop-c-preserved
 loop-c-preserved c = masks-step _ _ _ c.loop-c-test.true c.loop-c.invariant.1 c.loop-c.invariant.2 c.mask_at.ensures
-
-pub returns : goal.returns
-returns c = masks-all _ _ c.loop-c-test.false c.loop-c.invariant

@@ -1,9 +1,6 @@
 -- The invariant: the numbers up to s + c are written (`half-more`).
-use Rattle.words.proofs.PlaneLaws.{half-none, half-more, half-all, mask_of}
+use Rattle.words.proofs.PlaneLaws.{half-more, mask_of}
 use Rattle.words.proofs.planes.spread_half.Goals as goal
-
-pub loop-c-init : goal.loop-c-init
-loop-c-init c = half-none _ _ _ c.requires.4 c.requires.5
 
 pub column_by-requires : goal.column_by-requires
 column_by-requires c =
@@ -15,6 +12,3 @@ pub loop-c-preserved : goal.loop-c-preserved
 loop-c-preserved c =
     half-more _ _ _ _ _ c.requires.3 c.loop-c-test.true
     c.loop-c.invariant.1 c.loop-c.invariant.2 c.column_by.ensures
-
-pub returns : goal.returns
-returns c = half-all _ _ _ _ c.loop-c-test.false c.loop-c.invariant

@@ -4,17 +4,15 @@ use Rattle.words.proofs.RowLaws.{rows_none, rows-most, seven_most, rows_step, ro
 use Rattle.words.proofs.rows.ones_rows.Goals as goal
 
 pub loop-i-init : goal.loop-i-init
-loop-i-init c = (omega arith, rows_none _ _ _)
+loop-i-init c = rows_none _ _ _
 
 pub overflow_add-ones : goal.overflow_add-ones
-overflow_add-ones c = omega (arith, rows-most _ _ _ _ _ c.loop-i.invariant.1, seven_most _ _ _ _ _ _ _ _ c.seven_ones-ones.ensures)
+overflow_add-ones c = omega (arith, rows-most _ _ _ _ _ c.loop-i.invariant, seven_most _ _ _ _ _ _ _ _ c.seven_ones-ones.ensures)
 
 pub loop-i-preserved : goal.loop-i-preserved
-loop-i-preserved c = (
-  omega arith,
-  rows_step _ _ _ _ _ _ _ _ _ _ _ _ _ _ _ _ _ _ _ _ c.loop-i.invariant.1 c.full_word-a.ensures c.full_word-b.ensures c.full_word-c.ensures c.full_word-d.ensures c.full_word-e.ensures c.full_word-f.ensures c.full_word-g.ensures c.seven_ones-ones.ensures
-      (omega arith) (omega arith) (omega arith) (omega arith) (omega arith) (omega arith) (omega arith),
-)
+loop-i-preserved c =
+    rows_step _ _ _ _ _ _ _ _ _ _ _ _ _ _ _ _ _ _ _ _ c.loop-i.invariant c.word-a.ensures c.word-b.ensures c.word-c.ensures c.word-d.ensures c.word-e.ensures c.word-f.ensures c.word-g.ensures c.seven_ones-ones.ensures
+    (omega arith) (omega arith) (omega arith) (omega arith) (omega arith) (omega arith) (omega arith)
 
 pub returns : goal.returns
-returns c = rows_all _ _ _ _ _ c.loop-i.invariant.1 c.loop-i.invariant.0 c.loop-i-test.false
+returns c = rows_all _ _ _ c.loop-i.i _ c.loop-i.invariant (omega arith) (omega arith)

@@ -1,12 +1,9 @@
 -- The invariant: `ones` counts the first i words of each row. A word more of each is `rows_step`; the rows in full are the stretch (`rows_all`).
-use Prim.Native.Nat.{◌≤◌, ◌*◌, ◌-◌}
+use Prim.Native.Nat.{◌*◌}
 use mathlib.Core.Path.{◌≡◌}
 use Rattle.words.specs.Flags.{flags_of}
 use Rattle.words.proofs.RowLaws.{rows_ones}
 use Rattle.words.proofs.rows.ones_rows.Given as goal
 
 abbrev pub invariant-loop-i : goal.invariant-loop-i
-invariant-loop-i l = (l.i ≤ l.m) × (l.ones ≡ rows_ones (flags_of l.bytes) (8 * l.p) l.m l.i)
-
-abbrev pub decreases-loop-i : goal.decreases-loop-i
-decreases-loop-i l = l.m - l.i
+invariant-loop-i l = l.ones ≡ rows_ones (flags_of l.words.bytes.now) (8 * l.words.at) l.m l.i

@@ -5,17 +5,15 @@ use Rattle.words.proofs.Counting.{count_none, count-step, count-within, count_wo
 use Rattle.words.proofs.rows.ones_single.Goals as goal
 
 pub loop-i-init : goal.loop-i-init
-loop-i-init c = (omega arith, count_none _ _)
+loop-i-init c = count_none _ _
 
 pub overflow_add-ones : goal.overflow_add-ones
-overflow_add-ones c = omega (arith, count-within _ _ _ _ c.loop-i.invariant.1, count_word _ _ c.ones_in_word-ones.ensures)
+overflow_add-ones c = omega (arith, count-within _ _ _ _ c.loop-i.invariant, count_word _ _ c.ones_in_word-ones.ensures)
 
 pub loop-i-preserved : goal.loop-i-preserved
-loop-i-preserved c = (
-  omega arith,
-  count-step _ _ _ _ _ c.loop-i.invariant.1
-      (span-word _ _ _ _ _ _ (omega arith) (omega arith) c.full_word.ensures) c.ones_in_word-ones.ensures,
-)
+loop-i-preserved c =
+    count-step _ _ _ _ _ c.loop-i.invariant
+    (span-word _ _ _ _ _ _ (omega arith) (omega arith) c.word.ensures) c.ones_in_word-ones.ensures
 
 pub returns : goal.returns
-returns c = count-all _ _ _ _ c.loop-i.invariant.1 (length-window _ _ _) c.loop-i.invariant.0 c.loop-i-test.false
+returns c = count-all _ c.loop-i.i _ _ c.loop-i.invariant (length-window _ _ _) (omega arith) (omega arith)

@@ -1,11 +1,8 @@
 -- The invariant: `ones` counts i words. One more is the law `count-step`; a count is at most the flags counted, so the sum fits.
-use Prim.Native.Nat.{◌≤◌, ◌*◌, ◌-◌}
+use Prim.Native.Nat.{◌*◌}
 use mathlib.Core.Path.{◌≡◌}
 use Rattle.words.specs.Flags.{flags_of, window, count}
 use Rattle.words.proofs.rows.ones_single.Given as goal
 
 abbrev pub invariant-loop-i : goal.invariant-loop-i
-invariant-loop-i l = (l.i ≤ l.n) × (l.ones ≡ count (window (window (flags_of l.bytes) (8 * l.p) (64 * l.n)) 0 (64 * l.i)))
-
-abbrev pub decreases-loop-i : goal.decreases-loop-i
-decreases-loop-i l = l.n - l.i
+invariant-loop-i l = l.ones ≡ count (window (window (flags_of l.words.bytes.now) (8 * l.words.at) (64 * l.words.n)) 0 (64 * l.i))

@@ -7,16 +7,14 @@ use Rattle.words.proofs.UniformLaws.{all_any, length_unlike, map-word}
 use Rattle.words.proofs.uniform.block_is.Goals as goal
 
 pub loop-i-init : goal.loop-i-init
-loop-i-init c = (omega arith, any_none _)
+loop-i-init c = any_none _
 
 pub loop-i-preserved : goal.loop-i-preserved
-loop-i-preserved c = (
-  omega arith,
-  any_step _ _ _ _ _ c.loop-i.invariant.1
-      (map-word _ _ _ _ _ _ _ _ (omega arith) (omega arith) c.full_word.ensures c.unlike.ensures) c.or_word-others.ensures,
-)
+loop-i-preserved c =
+    any_step _ _ _ _ _ c.loop-i.invariant
+    (map-word _ _ _ _ _ _ _ _ (omega arith) (omega arith) c.word.ensures c.unlike.ensures) c.or_word-others.ensures
 
 pub returns : goal.returns
 returns c =
-    ap not (c.is_set.ensures ∙ any-all _ _ _ _ c.loop-i.invariant.1 (length_unlike _ _ _ _) c.loop-i.invariant.0 c.loop-i-test.false)
+    ap not (c.is_set.ensures ∙ any-all _ c.loop-i.i _ _ c.loop-i.invariant (length_unlike _ _ _ _) (omega arith) (omega arith))
     ∙ all_any _ _

@@ -2,24 +2,18 @@
 -- (`all_more`).
 use mathlib.Core.Path.{sym, ◌∙◌}
 use native.Mathlib.Omega.{arith}
-use Rattle.words.proofs.UniformLaws.{all-empty, all-exit, all_more, all_words}
+use Rattle.words.proofs.UniformLaws.{all-empty, all-exit, all_more}
 use Rattle.words.proofs.uniform.words_are.Goals as goal
 
 pub loop-i-init : goal.loop-i-init
 loop-i-init c = (omega arith, all-empty _ _ _)
 
-pub block_is-requires : goal.block_is-requires
-block_is-requires c = omega arith
-
 pub returns-then-not-block_is : goal.returns-then-not-block_is
-returns-then-not-block_is c = all-exit _ _ _ _ _ _ _ c.block_is.ensures c.if-not-block_is.true (omega arith) (omega arith)
+returns-then-not-block_is c = all-exit _ _ _ _ _ _ _ (rw c.part-block.ensures.0 at c.block_is.ensures) c.if-not-block_is.true (omega arith) (omega arith)
 
 pub loop-i-preserved : goal.loop-i-preserved
 loop-i-preserved c = (
   omega arith,
   sym c.if-not-block_is.false
-      ∙ all_more _ _ _ _ _ _ _ _ c.loop-i.invariant.1 c.block_is.ensures (omega arith) (omega arith),
+      ∙ all_more _ _ _ _ _ _ _ _ c.loop-i.invariant.1 (rw c.part-block.ensures.0 at c.block_is.ensures) (omega arith) (omega arith),
 )
-
-pub returns : goal.returns
-returns c = all_words _ _ _ _ _ c.loop-i.invariant.1 c.loop-i.invariant.0 c.loop-i-test.false

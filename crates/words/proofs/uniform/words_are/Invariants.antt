@@ -8,7 +8,7 @@ use Rattle.words.specs.Uniform.{all_are}
 use Rattle.words.proofs.uniform.words_are.Given as goal
 
 abbrev pub invariant-loop-i : goal.invariant-loop-i
-invariant-loop-i l = (l.i ≤ l.n) × (true ≡ all_are l.flag (window (flags_of l.bytes) (8 * l.p) (64 * l.i)))
+invariant-loop-i l = (l.i ≤ l.n) × (true ≡ all_are l.flag (window (flags_of l.words.bytes.now) (8 * l.words.at) (64 * l.i)))
 
 abbrev pub decreases-loop-i : goal.decreases-loop-i
 decreases-loop-i l = l.n - l.i

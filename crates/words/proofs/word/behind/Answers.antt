@@ -1,10 +1,6 @@
 -- Below 64 the low flags and the shifted ones do not overlap (`behind-some`); from 64 on the first word is the whole window (`behind-all`).
-use Rattle.words.proofs.Loads.{low_divisor}
 use Rattle.words.proofs.Merging.{behind-some, behind-all}
 use Rattle.words.proofs.word.behind.Goals as goal
-
-pub nonzero_rem-result : goal.nonzero_rem-result
-nonzero_rem-result c = low_divisor 64 _ c.if-k-ge64.false
 
 pub returns-then-k-ge64 : goal.returns-then-k-ge64
 returns-then-k-ge64 c = behind-all 64 _ _ _ c.if-k-ge64.true

@@ -1,12 +1,9 @@
 -- From 64 on the word is all of the flag (`copies-past`); below, 2 to the n less one, or 0 less 0 (`copies-some`).
-use Rattle.words.proofs.Merging.{copies-past, copies-some, byte-shifted}
+use Rattle.words.proofs.Merging.{copies-past, copies-some}
 use Rattle.words.proofs.word.constant_flags.Goals as goal
 
 pub returns-then-n-ge64 : goal.returns-then-n-ge64
 returns-then-n-ge64 c = copies-past 64 _ _ _ c.if-n-ge64.true c.constant_word.ensures
-
-pub overflow_sub-result : goal.overflow_sub-result
-overflow_sub-result c = byte-shifted 64 _ c.args.flag c.if-n-ge64.false
 
 pub returns : goal.returns
 returns c = copies-some 64 _ c.args.flag c.if-n-ge64.false

@@ -1,9 +1,6 @@
 -- Below 64 the remainder by 2 ^ k keeps the k low bits (`low-some`); from 64 on all are kept (`low-all`).
-use Rattle.words.proofs.Loads.{low-all, low-some, low_divisor}
+use Rattle.words.proofs.Loads.{low-all, low-some}
 use Rattle.words.proofs.word.low_flags.Goals as goal
-
-pub nonzero_rem-result : goal.nonzero_rem-result
-nonzero_rem-result c = low_divisor 64 _ c.if-k-ge64.false
 
 pub returns-then-k-ge64 : goal.returns-then-k-ge64
 returns-then-k-ge64 c = low-all 64 _ _ c.if-k-ge64.true c.ranges.w.fits

@@ -1,4 +1,5 @@
 -- One law for each branch: no flag, all flags of the word, or the k low ones, shifted to the top of the word and counted there.
+use mathlib.Core.Path.{refl}
 use Rattle.words.proofs.NthLaws.{ones_none, ones-taken, ones-whole}
 use Rattle.words.proofs.word.ones_below.Goals as goal
 
@@ -9,4 +10,4 @@ pub returns-then-k-gt64 : goal.returns-then-k-gt64
 returns-then-k-gt64 c = ones-whole _ _ _ c.if-k-gt64.true c.ones_in_word.ensures
 
 pub returns : goal.returns
-returns c = ones-taken _ _ _ c.if-k-gt64.false c.wide32.ensures
+returns c = ones-taken _ _ _ c.if-k-gt64.false refl

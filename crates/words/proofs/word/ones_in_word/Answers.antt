@@ -1,7 +1,7 @@
 -- `ones-bits` at width 64.
-use mathlib.Core.Path.{sym, ◌∙◌}
+use mathlib.Core.Path.{sym}
 use Rattle.words.proofs.Counting.{ones-bits}
 use Rattle.words.proofs.word.ones_in_word.Goals as goal
 
 pub returns : goal.returns
-returns c = c.wide32.ensures ∙ sym (ones-bits 64 _ c.ranges.w.fits)
+returns c = sym (ones-bits 64 _ c.ranges.w.fits)

@@ -1,27 +1,34 @@
 -- One law for each answer: refused by the piece's checks, refused by check 7 where the recount is wrong, or given.
 use native.Mathlib.Omega.{arith}
-use Rattle.masks.proofs.MaskLaws.{piece-allowed, slice-refused, slice_wrong, slice-right}
+use Rattle.masks.proofs.MaskLaws.{cut-error, piece-allowed, slice-refused, slice_wrong, slice-right}
 use mathlib.Core.Path.{sym, ap, ◌∙◌}
 use Rattle.masks.specs.Answer.{given}
+use Rattle.masks.specs.Answer.{refused}
+use Rattle.masks.specs.Refusal.{number}
+use Rattle.masks.specs.declared.refusal.Refusal.{Refusal}
+use Rattle.masks.proofs.RefusalLaws.{back-err, back-exit, back-is, back-ok, failed-back, passed-back}
 use Rattle.masks.proofs.bitmap.Bitmap.slice.Goals as goal
 
-pub returns-then-refusal-ne0 : goal.returns-then-refusal-ne0
-returns-then-refusal-ne0 c = slice-refused _ _ _ _ _ c.piece_failure-refusal.ensures c.if-refusal-ne0.true
+pub returns-in_err-give_back : goal.returns-in_err-give_back
+returns-in_err-give_back c = back-is _ _ _ c.in_err-give_back.ensures _ c.from_residual.ensures.1 ∙ slice-refused _ _ _ _ _ c.check_piece.ensures (failed-back _ _ _ c.in_err-give_back.ensures)
 
 pub overflow_add-start : goal.overflow_add-start
 overflow_add-start c =
-    let a = piece-allowed _ _ _ _ (sym c.piece_failure-refusal.ensures ∙ c.if-refusal-ne0.false) in
+    let a = piece-allowed _ _ _ _ (sym c.check_piece.ensures ∙ (passed-back _ _ _ c.in_ok-give_back.ensures)) in
     omega (arith, a.starts, a.short, a.inside)
 
-pub cut_count-cut-requires : goal.cut_count-cut-requires
-cut_count-cut-requires c = piece-allowed _ _ _ _ (sym c.piece_failure-refusal.ensures ∙ c.if-refusal-ne0.false)
+pub cut_count-requires : goal.cut_count-requires
+cut_count-requires c = piece-allowed _ _ _ _ (sym c.check_piece.ensures ∙ passed-back _ _ _ c.in_ok-give_back.ensures)
 
-pub returns-in-Wrong : goal.returns-in-Wrong
-returns-in-Wrong c =
-    slice_wrong _ _ _ _ _ c.piece_failure-refusal.ensures c.if-refusal-ne0.false (sym c.in-Wrong.is ∙ c.cut_count-cut.ensures)
+pub returns-in_err-unset : goal.returns-in_err-unset
+returns-in_err-unset c =
+    let wrong = cut-error _ _ _ _ _ (sym c.cut_count.ensures ∙ (back-err _ _ _ c.in_err-unset.ensures).0) in
+    back-exit _ _ _ c.in_err-unset.ensures _ c.from_residual-in_err-unset.ensures.1
+    ∙ ap (λ (r : Refusal). refused (number r) c.args.self) wrong.1
+    ∙ slice_wrong _ _ _ _ _ c.check_piece.ensures (passed-back _ _ _ c.in_ok-give_back.ensures) wrong.0
 
-pub returns-in-Count : goal.returns-in-Count
-returns-in-Count c =
+pub returns : goal.returns
+returns c =
     ap given c.cut_mask.ensures
-    ∙ slice-right _ _ _ _ _ c.piece_failure-refusal.ensures _ c.if-refusal-ne0.false
-    (sym c.in-Count.is ∙ c.cut_count-cut.ensures)
+    ∙ slice-right _ _ _ _ _ c.check_piece.ensures _ (passed-back _ _ _ c.in_ok-give_back.ensures)
+    (sym (back-ok _ _ _ c.in_ok-unset.ensures) ∙ c.cut_count.ensures)

@@ -9,6 +9,7 @@ use Rattle.masks.proofs.CheckLaws.{refused-way, two-pieces, passed-left}
 use Rattle.masks.proofs.AppendLaws.{append-way, append-same}
 use Rattle.masks.proofs.InsideLaws.{constant-passed, front-padded, inside-padded}
 use Rattle.masks.proofs.RoomLaws.{room_of, room-same}
+use Rattle.masks.proofs.RefusalLaws.{passed-back, failed-back, back-is}
 use Rattle.masks.proofs.builder.BitmapBuilder.extend_constant.Goals as goal
 
 pub push_inside-requires : goal.push_inside-requires
@@ -23,20 +24,20 @@ returns-then-fits_inside c =
     (c.push_inside.ensures _ ∙ ap (appended _) (front-padded _ _ _ (length-copies _ _) (omega (arith, ok.0)) c.constant_flags.ensures)) in
     record { answer = both.0; bytes = both.1 }
 
-pub returns-then-refusal-ne0 : goal.returns-then-refusal-ne0
+pub returns-in_err-give_back : goal.returns-in_err-give_back
 unfolding constant_checks
-returns-then-refusal-ne0 c =
-    let both = refused-way _ _ _ _ (two-pieces _ _ _ _ _ c.earlier-refusal.ensures c.builder_failure.ensures c.limit_failure.ensures) _ _ c.if-refusal-ne0.true in
-    record { answer = both.0; bytes = both.1 }
+returns-in_err-give_back c =
+    let both = refused-way _ _ _ _ (two-pieces _ _ _ _ _ c.earlier.ensures c.check_builder.ensures c.check_limit.ensures) _ _ (failed-back _ _ _ c.in_err-give_back.ensures) in
+    record { answer = back-is _ _ _ c.in_err-give_back.ensures _ c.from_residual.ensures.1 ∙ both.0; bytes = both.1 }
 
 pub append_copies-requires : goal.append_copies-requires
 append_copies-requires c =
     room-same _ _ _ _ c.copied.ensures
-    (room_of _ _ _ (sym c.builder_failure.ensures ∙ passed-left _ _ (sym c.earlier-refusal.ensures ∙ c.if-refusal-ne0.false)))
+    (room_of _ _ _ (sym c.check_builder.ensures ∙ passed-left _ _ (sym c.earlier.ensures ∙ (passed-back _ _ _ c.in_ok-give_back.ensures))))
 
 pub returns : goal.returns
 unfolding constant_checks
 returns c =
-    let both = append-way _ _ _ _ _ _ _ _ (two-pieces _ _ _ _ _ c.earlier-refusal.ensures c.builder_failure.ensures c.limit_failure.ensures) c.if-refusal-ne0.false
+    let both = append-way _ _ _ _ _ _ _ _ (two-pieces _ _ _ _ _ c.earlier.ensures c.check_builder.ensures c.check_limit.ensures) (passed-back _ _ _ c.in_ok-give_back.ensures)
     (append-same _ _ _ _ _ c.append_copies.ensures c.copied.ensures) in
     record { answer = both.0; bytes = both.1 }

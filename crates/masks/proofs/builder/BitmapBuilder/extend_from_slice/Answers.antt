@@ -12,17 +12,18 @@ use Rattle.masks.proofs.InsideLaws.{front-padded, inside-padded}
 use Rattle.masks.proofs.PartLaws.{length-low}
 use Rattle.masks.proofs.RoomLaws.{grow-allowed, room-same}
 use Rattle.masks.proofs.SpanLaws.{whole-stretch}
+use Rattle.masks.proofs.RefusalLaws.{passed-back, failed-back, back-is}
 use Rattle.masks.proofs.builder.BitmapBuilder.extend_from_slice.Goals as goal
 
-pub returns-then-refusal-ne0 : goal.returns-then-refusal-ne0
+pub returns-in_err-give_back : goal.returns-in_err-give_back
 unfolding span_grow_checks
-returns-then-refusal-ne0 c =
-    let both = refused-way _ _ _ _ c.span_grow_failure-refusal.ensures _ _ c.if-refusal-ne0.true in
-    record { answer = both.0; bytes = both.1 }
+returns-in_err-give_back c =
+    let both = refused-way _ _ _ _ c.check_span_grow.ensures _ _ (failed-back _ _ _ c.in_err-give_back.ensures) in
+    record { answer = back-is _ _ _ c.in_err-give_back.ensures _ c.from_residual.ensures.1 ∙ both.0; bytes = both.1 }
 
 pub push_inside-requires : goal.push_inside-requires
 push_inside-requires c =
-    let room = (grow-allowed _ _ _ _ _ _ c.span_grow_failure-refusal.ensures c.if-refusal-ne0.false).1 in
+    let room = (grow-allowed _ _ _ _ _ _ c.check_span_grow.ensures (passed-back _ _ _ c.in_ok-give_back.ensures)).1 in
     let a = c.args in
     let few = few-inside a.self a.n _ c.stays_inside.ensures c.if-stays_inside.true in
     inside-padded _ _ _ _ _ _ room few.1 (length-low _ _ (omega (arith, few.0))) c.low_flags.ensures
@@ -33,18 +34,18 @@ returns-then-stays_inside c =
     let a = c.args in
     let few = (few-inside a.self a.n _ c.stays_inside.ensures c.if-stays_inside.true).0 in
     let most : a.n ≤ 64 = omega arith in
-    let both = append-way _ _ _ _ _ _ _ _ c.span_grow_failure-refusal.ensures c.if-refusal-ne0.false
+    let both = append-way _ _ _ _ _ _ _ _ c.check_span_grow.ensures (passed-back _ _ _ c.in_ok-give_back.ensures)
     (c.push_inside.ensures _ ∙ ap (appended _) (front-padded _ _ _ (length-low _ _ most) most c.low_flags.ensures ∙ c.near_word.ensures _ few)) in
     record { answer = both.0; bytes = both.1 }
 
 pub append_stretch-requires : goal.append_stretch-requires
 append_stretch-requires c =
-    let allowed = grow-allowed _ _ _ _ _ _ c.span_grow_failure-refusal.ensures c.if-refusal-ne0.false in
+    let allowed = grow-allowed _ _ _ _ _ _ c.check_span_grow.ensures (passed-back _ _ _ c.in_ok-give_back.ensures) in
     (omega (arith, allowed.0.starts, allowed.0.short), room-same _ _ _ _ c.copied.ensures allowed.1)
 
 pub returns : goal.returns
 unfolding span_grow_checks
 returns c =
-    let both = append-way _ _ _ _ _ _ _ _ c.span_grow_failure-refusal.ensures c.if-refusal-ne0.false
+    let both = append-way _ _ _ _ _ _ _ _ c.check_span_grow.ensures (passed-back _ _ _ c.in_ok-give_back.ensures)
     (append-same _ _ _ _ _ c.append_stretch.ensures c.copied.ensures ∙ ap (appended _) (whole-stretch _ _ _)) in
     record { answer = both.0; bytes = both.1 }

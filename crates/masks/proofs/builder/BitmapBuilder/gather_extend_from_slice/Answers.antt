@@ -5,30 +5,31 @@ use Rattle.masks.specs.Appends.{span_grow_checks, gather_checks}
 use Rattle.masks.proofs.CheckLaws.{refused-way, one-check, two-pieces, passed-left, passed-right, span-allowed}
 use Rattle.masks.proofs.AppendLaws.{append-way}
 use Rattle.masks.proofs.RoomLaws.{room_of}
+use Rattle.masks.proofs.RefusalLaws.{back-is, failed-back, passed-back}
 use Rattle.masks.proofs.builder.BitmapBuilder.gather_extend_from_slice.Goals as goal
 
-pub returns-then-refusal-ne0 : goal.returns-then-refusal-ne0
+pub returns-in_err-give_back : goal.returns-in_err-give_back
 unfolding gather_checks span_grow_checks
-returns-then-refusal-ne0 c =
+returns-in_err-give_back c =
     let both = refused-way _ _ _ _
-    (two-pieces _ _ _ _ _ c.earlier-refusal.ensures
-    (two-pieces _ _ _ _ _ c.earlier.ensures c.span_failure.ensures c.builder_failure.ensures)
-    (one-check _ _ _ _ c.failed.ensures c.all_below.ensures))
-    _ _ c.if-refusal-ne0.true in
-    record { answer = both.0; bytes = both.1 }
+    (two-pieces _ _ _ _ _ c.earlier-2.ensures
+    (two-pieces _ _ _ _ _ c.earlier.ensures c.check_span.ensures c.check_builder.ensures)
+    (one-check _ _ _ _ c.check.ensures c.all_below.ensures))
+    _ _ (failed-back _ _ _ c.in_err-give_back.ensures) in
+    record { answer = back-is _ _ _ c.in_err-give_back.ensures _ c.from_residual.ensures.1 ∙ both.0; bytes = both.1 }
 
 pub append_gathered-requires : goal.append_gathered-requires
 append_gathered-requires c =
-    let none = sym c.earlier.ensures ∙ passed-left _ _ (sym c.earlier-refusal.ensures ∙ c.if-refusal-ne0.false) in
-    let span = span-allowed _ _ _ (sym c.span_failure.ensures ∙ passed-left _ _ none) in
-    (omega (arith, span.starts, span.short), room_of _ _ _ (sym c.builder_failure.ensures ∙ passed-right _ _ none))
+    let none = sym c.earlier.ensures ∙ passed-left _ _ (sym c.earlier-2.ensures ∙ (passed-back _ _ _ c.in_ok-give_back.ensures)) in
+    let span = span-allowed _ _ _ (sym c.check_span.ensures ∙ passed-left _ _ none) in
+    (omega (arith, span.starts, span.short), room_of _ _ _ (sym c.check_builder.ensures ∙ passed-right _ _ none))
 
 pub returns : goal.returns
 unfolding gather_checks span_grow_checks
 returns c =
     let both = append-way _ _ _ _ _ _ _ _
-    (two-pieces _ _ _ _ _ c.earlier-refusal.ensures
-    (two-pieces _ _ _ _ _ c.earlier.ensures c.span_failure.ensures c.builder_failure.ensures)
-    (one-check _ _ _ _ c.failed.ensures c.all_below.ensures))
-    c.if-refusal-ne0.false c.append_gathered.ensures in
+    (two-pieces _ _ _ _ _ c.earlier-2.ensures
+    (two-pieces _ _ _ _ _ c.earlier.ensures c.check_span.ensures c.check_builder.ensures)
+    (one-check _ _ _ _ c.check.ensures c.all_below.ensures))
+    (passed-back _ _ _ c.in_ok-give_back.ensures) c.append_gathered.ensures in
     record { answer = both.0; bytes = both.1 }

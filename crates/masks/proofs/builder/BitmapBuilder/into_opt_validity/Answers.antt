@@ -3,30 +3,31 @@ use mathlib.Core.Path.{sym, ◌∙◌}
 use Rattle.masks.proofs.CheckLaws.{refused-way, given-way}
 use Rattle.masks.proofs.FreezeLaws.{same-checks, ones-fit, all_set, not-all-set}
 use Rattle.masks.proofs.RoomLaws.{room_of}
+use Rattle.masks.proofs.RefusalLaws.{passed-back, failed-back, back-is}
 use Rattle.masks.proofs.builder.BitmapBuilder.into_opt_validity.Goals as goal
 
-pub returns-then-refusal-ne0 : goal.returns-then-refusal-ne0
-returns-then-refusal-ne0 c =
-    let both = refused-way _ _ _ _ (same-checks _ _ _ c.builder_failure-refusal.ensures) _ _ c.if-refusal-ne0.true in
-    record { answer = both.0; bytes = both.1 }
+pub returns-in_err-give_back : goal.returns-in_err-give_back
+returns-in_err-give_back c =
+    let both = refused-way _ _ _ _ (same-checks _ _ _ c.check_builder.ensures) _ _ (failed-back _ _ _ c.in_err-give_back.ensures) in
+    record { answer = back-is _ _ _ c.in_err-give_back.ensures _ c.from_residual.ensures.1 ∙ both.0; bytes = both.1 }
 
 pub finish-requires : goal.finish-requires
-finish-requires c = room_of _ _ _ (sym c.builder_failure-refusal.ensures ∙ c.if-refusal-ne0.false)
+finish-requires c = room_of _ _ _ (sym c.check_builder.ensures ∙ (passed-back _ _ _ c.in_ok-give_back.ensures))
 
 pub all_ones-requires : goal.all_ones-requires
-all_ones-requires c = ones-fit _ _ _ (room_of _ _ _ (sym c.builder_failure-refusal.ensures ∙ c.if-refusal-ne0.false))
+all_ones-requires c = ones-fit _ _ _ (room_of _ _ _ (sym c.check_builder.ensures ∙ (passed-back _ _ _ c.in_ok-give_back.ensures)))
 
 pub returns-then-all_ones-self : goal.returns-then-all_ones-self
 returns-then-all_ones-self c =
-    let both = given-way _ _ _ _ (same-checks _ _ _ c.builder_failure-refusal.ensures) _ _ _ _ c.if-refusal-ne0.false (all_set c.args.self _ c.all_ones.ensures c.if-all_ones-self.true)
+    let both = given-way _ _ _ _ (same-checks _ _ _ c.check_builder.ensures) _ _ _ _ (passed-back _ _ _ c.in_ok-give_back.ensures) (all_set c.args.self _ c.all_ones.ensures c.if-all_ones-self.true)
     c.finish.ensures in
     record { answer = both.0; bytes = both.1 }
 
 pub frozen_mask-requires : goal.frozen_mask-requires
-frozen_mask-requires c = ones-fit _ _ _ (room_of _ _ _ (sym c.builder_failure-refusal.ensures ∙ c.if-refusal-ne0.false))
+frozen_mask-requires c = ones-fit _ _ _ (room_of _ _ _ (sym c.check_builder.ensures ∙ (passed-back _ _ _ c.in_ok-give_back.ensures)))
 
 pub returns : goal.returns
 returns c =
-    let both = given-way _ _ _ _ (same-checks _ _ _ c.builder_failure-refusal.ensures) _ _ _ _ c.if-refusal-ne0.false
+    let both = given-way _ _ _ _ (same-checks _ _ _ c.check_builder.ensures) _ _ _ _ (passed-back _ _ _ c.in_ok-give_back.ensures)
     (not-all-set c.args.self _ _ c.all_ones.ensures c.if-all_ones-self.false c.frozen_mask.ensures) c.finish.ensures in
     record { answer = both.0; bytes = both.1 }

@@ -4,22 +4,23 @@ use Rattle.masks.specs.Appends.{word_checks}
 use Rattle.masks.proofs.CheckLaws.{refused-way, two-pieces, passed-left, passed-right}
 use Rattle.masks.proofs.AppendLaws.{append-way}
 use Rattle.masks.proofs.RoomLaws.{room_of, word-allowed}
+use Rattle.masks.proofs.RefusalLaws.{passed-back, failed-back, back-is}
 use Rattle.masks.proofs.builder.BitmapBuilder.push_word_with_len_unchecked.Goals as goal
 
-pub returns-then-refusal-ne0 : goal.returns-then-refusal-ne0
+pub returns-in_err-give_back : goal.returns-in_err-give_back
 unfolding word_checks
-returns-then-refusal-ne0 c =
-    let both = refused-way _ _ _ _ (two-pieces _ _ _ _ _ c.earlier-refusal.ensures c.builder_failure.ensures c.word_failure.ensures) _ _ c.if-refusal-ne0.true in
-    record { answer = both.0; bytes = both.1 }
+returns-in_err-give_back c =
+    let both = refused-way _ _ _ _ (two-pieces _ _ _ _ _ c.earlier.ensures c.check_builder.ensures c.check_word.ensures) _ _ (failed-back _ _ _ c.in_err-give_back.ensures) in
+    record { answer = back-is _ _ _ c.in_err-give_back.ensures _ c.from_residual.ensures.1 ∙ both.0; bytes = both.1 }
 
 pub push_flags-requires : goal.push_flags-requires
 push_flags-requires c =
-    let none = sym c.earlier-refusal.ensures ∙ c.if-refusal-ne0.false in
-    (word-allowed _ _ (sym c.word_failure.ensures ∙ passed-right _ _ none), room_of _ _ _ (sym c.builder_failure.ensures ∙ passed-left _ _ none))
+    let none = sym c.earlier.ensures ∙ (passed-back _ _ _ c.in_ok-give_back.ensures) in
+    (word-allowed _ _ (sym c.check_word.ensures ∙ passed-right _ _ none), room_of _ _ _ (sym c.check_builder.ensures ∙ passed-left _ _ none))
 
 pub returns : goal.returns
 unfolding word_checks
 returns c =
-    let both = append-way _ _ _ _ _ _ _ _ (two-pieces _ _ _ _ _ c.earlier-refusal.ensures c.builder_failure.ensures c.word_failure.ensures) c.if-refusal-ne0.false
+    let both = append-way _ _ _ _ _ _ _ _ (two-pieces _ _ _ _ _ c.earlier.ensures c.check_builder.ensures c.check_word.ensures) (passed-back _ _ _ c.in_ok-give_back.ensures)
     c.push_flags.ensures in
     record { answer = both.0; bytes = both.1 }

@@ -7,36 +7,37 @@ use Rattle.masks.specs.Builder.{appended}
 use Rattle.masks.proofs.CheckLaws.{refused-way, two-pieces, passed-left, passed-right}
 use Rattle.masks.proofs.AppendLaws.{append-way}
 use Rattle.masks.proofs.RoomLaws.{room_of, inner-allowed}
+use Rattle.masks.proofs.RefusalLaws.{back-is, failed-back, passed-back}
 use Rattle.masks.proofs.builder.BitmapBuilder.subslice_extend_from_bitmap.Goals as goal
 
-pub returns-then-refusal-ne0 : goal.returns-then-refusal-ne0
+pub returns-in_err-give_back : goal.returns-in_err-give_back
 unfolding subslice_checks
-returns-then-refusal-ne0 c =
-    let both = refused-way _ _ _ _ (two-pieces _ _ _ _ _ c.earlier-refusal.ensures c.mask_failure.ensures
-    (two-pieces _ _ _ _ _ c.earlier.ensures c.inner_failure.ensures c.builder_failure.ensures)) _ _ c.if-refusal-ne0.true in
-    record { answer = both.0; bytes = both.1 }
+returns-in_err-give_back c =
+    let both = refused-way _ _ _ _ (two-pieces _ _ _ _ _ c.earlier-2.ensures c.check_mask.ensures
+    (two-pieces _ _ _ _ _ c.earlier.ensures c.check_inner.ensures c.check_builder.ensures)) _ _ (failed-back _ _ _ c.in_err-give_back.ensures) in
+    record { answer = back-is _ _ _ c.in_err-give_back.ensures _ c.from_residual.ensures.1 ∙ both.0; bytes = both.1 }
 
 pub overflow_add-mask : goal.overflow_add-mask
 overflow_add-mask c =
-    let none = sym c.earlier-refusal.ensures ∙ c.if-refusal-ne0.false in
+    let none = sym c.earlier-2.ensures ∙ (passed-back _ _ _ c.in_ok-give_back.ensures) in
     let rest = sym c.earlier.ensures ∙ passed-right _ _ none in
-    let ok = inner-allowed _ _ _ _ (sym c.mask_failure.ensures ∙ passed-left _ _ none) (sym c.inner_failure.ensures ∙ passed-left _ _ rest) in
+    let ok = inner-allowed _ _ _ _ (sym c.check_mask.ensures ∙ passed-left _ _ none) (sym c.check_inner.ensures ∙ passed-left _ _ rest) in
     omega (arith, ok.starts, ok.short, ok.inside)
 
 pub append_stretch-requires : goal.append_stretch-requires
 append_stretch-requires c =
-    let none = sym c.earlier-refusal.ensures ∙ c.if-refusal-ne0.false in
+    let none = sym c.earlier-2.ensures ∙ (passed-back _ _ _ c.in_ok-give_back.ensures) in
     let rest = sym c.earlier.ensures ∙ passed-right _ _ none in
-    let ok = inner-allowed _ _ _ _ (sym c.mask_failure.ensures ∙ passed-left _ _ none) (sym c.inner_failure.ensures ∙ passed-left _ _ rest) in
-    (omega (arith, ok.starts, ok.short, ok.inside), room_of _ _ _ (sym c.builder_failure.ensures ∙ passed-right _ _ rest))
+    let ok = inner-allowed _ _ _ _ (sym c.check_mask.ensures ∙ passed-left _ _ none) (sym c.check_inner.ensures ∙ passed-left _ _ rest) in
+    (omega (arith, ok.starts, ok.short, ok.inside), room_of _ _ _ (sym c.check_builder.ensures ∙ passed-right _ _ rest))
 
 pub returns : goal.returns
 unfolding subslice_checks
 returns c =
-    let none = sym c.earlier-refusal.ensures ∙ c.if-refusal-ne0.false in
+    let none = sym c.earlier-2.ensures ∙ (passed-back _ _ _ c.in_ok-give_back.ensures) in
     let rest = sym c.earlier.ensures ∙ passed-right _ _ none in
-    let ok = inner-allowed _ _ _ _ (sym c.mask_failure.ensures ∙ passed-left _ _ none) (sym c.inner_failure.ensures ∙ passed-left _ _ rest) in
-    let both = append-way _ _ _ _ _ _ _ _ (two-pieces _ _ _ _ _ c.earlier-refusal.ensures c.mask_failure.ensures
-    (two-pieces _ _ _ _ _ c.earlier.ensures c.inner_failure.ensures c.builder_failure.ensures)) c.if-refusal-ne0.false
+    let ok = inner-allowed _ _ _ _ (sym c.check_mask.ensures ∙ passed-left _ _ none) (sym c.check_inner.ensures ∙ passed-left _ _ rest) in
+    let both = append-way _ _ _ _ _ _ _ _ (two-pieces _ _ _ _ _ c.earlier-2.ensures c.check_mask.ensures
+    (two-pieces _ _ _ _ _ c.earlier.ensures c.check_inner.ensures c.check_builder.ensures)) (passed-back _ _ _ c.in_ok-give_back.ensures)
     (c.append_stretch.ensures ∙ ap (appended _) (sym (in_window _ _ _ _ _ ok.inside))) in
     record { answer = both.0; bytes = both.1 }

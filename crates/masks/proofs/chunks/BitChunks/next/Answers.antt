@@ -1,29 +1,29 @@
 -- The number of the cursor's checks decides; then the place, against the number of words: `no_word` or `a_word`.
 use mathlib.Core.Path.{sym, ap, ◌∙◌}
-use native.Mathlib.Omega.{arith}
 use Rattle.masks.specs.Answer.{given}
 use Rattle.masks.specs.Chunks.{next_chunk}
 use Rattle.masks.proofs.CheckLaws.{is-refused, is-given}
 use Rattle.masks.proofs.ChunkLaws.{a_word, no_word}
 use Rattle.masks.proofs.CursorLaws.{cursor-allowed}
 use borrow.Author.Rules.{rules}
+use Rattle.masks.proofs.RefusalLaws.{passed-back, failed-back, step-is}
 use Rattle.masks.proofs.chunks.BitChunks.next.Goals as goal
 
-pub returns-then-refusal-ne0 : goal.returns-then-refusal-ne0
+pub returns-in_err-give_back : goal.returns-in_err-give_back
 unfolding next_chunk
-returns-then-refusal-ne0 c = is-refused _ _ _ _ c.cursor_failure-refusal.ensures c.if-refusal-ne0.true
+returns-in_err-give_back c = step-is _ _ _ c.in_err-give_back.ensures _ c.from_residual.ensures.1 ∙ is-refused _ _ _ _ c.check_cursor.ensures (failed-back _ _ _ c.in_err-give_back.ensures)
 
 pub returns-then-self : goal.returns-then-self
 unfolding next_chunk
-returns-then-self c = ap given (no_word _ _ c.if-self.true) ∙ is-given _ _ _ _ c.cursor_failure-refusal.ensures c.if-refusal-ne0.false
+returns-then-self c = ap given (no_word _ _ c.if-self.true) ∙ is-given _ _ _ _ c.check_cursor.ensures (passed-back _ _ _ c.in_ok-give_back.ensures)
 
-pub chunk_word-requires : goal.chunk_word-requires
-chunk_word-requires c =
-    let span = cursor-allowed _ _ _ _ (sym c.cursor_failure-refusal.ensures ∙ c.if-refusal-ne0.false) in
-    (span.starts, omega (arith, span.inside))
+pub invariant_of-span : goal.invariant_of-span
+invariant_of-span c =
+    let a = cursor-allowed _ _ _ _ (sym c.check_cursor.ensures ∙ (passed-back _ _ _ c.in_ok-give_back.ensures)) in
+    record { starts = a.starts; short = a.short; inside = a.inside }
 
 pub returns : goal.returns
 unfolding next_chunk
 returns c =
-    ap given (a_word _ _ _ (search rules) c.if-self.false c.chunk_word.ensures)
-    ∙ is-given _ _ _ _ c.cursor_failure-refusal.ensures c.if-refusal-ne0.false
+    ap given (a_word _ _ _ (search rules) c.if-self.false c.word-word.ensures)
+    ∙ is-given _ _ _ _ c.check_cursor.ensures (passed-back _ _ _ c.in_ok-give_back.ensures)

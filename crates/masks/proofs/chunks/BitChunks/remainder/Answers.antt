@@ -7,15 +7,16 @@ use Rattle.masks.specs.Chunks.{chunks_remainder}
 use Rattle.masks.proofs.CheckLaws.{is-refused, is-given}
 use Rattle.masks.proofs.ChunkLaws.{remainder-value}
 use Rattle.masks.proofs.CursorLaws.{cursor-allowed}
+use Rattle.masks.proofs.RefusalLaws.{passed-back, failed-back, back-is}
 use Rattle.masks.proofs.chunks.BitChunks.remainder.Goals as goal
 
-pub returns-then-refusal-ne0 : goal.returns-then-refusal-ne0
+pub returns-in_err-give_back : goal.returns-in_err-give_back
 unfolding chunks_remainder
-returns-then-refusal-ne0 c = is-refused _ _ _ _ c.cursor_failure-refusal.ensures c.if-refusal-ne0.true
+returns-in_err-give_back c = back-is _ _ _ c.in_err-give_back.ensures _ c.from_residual.ensures.1 ∙ is-refused _ _ _ _ c.check_cursor.ensures (failed-back _ _ _ c.in_err-give_back.ensures)
 
 pub overflow_add-first : goal.overflow_add-first
 overflow_add-first c =
-    let span = cursor-allowed _ _ _ _ (sym c.cursor_failure-refusal.ensures ∙ c.if-refusal-ne0.false) in
+    let span = cursor-allowed _ _ _ _ (sym c.check_cursor.ensures ∙ (passed-back _ _ _ c.in_ok-give_back.ensures)) in
     omega (arith, span.starts, span.short)
 
 pub returns : goal.returns
@@ -23,4 +24,4 @@ unfolding chunks_remainder
 returns c =
     let me = c.args.self in
     ap (λ (x : ℕ). given (x, me.length % 64)) (remainder-value _ _ _ _ c.flags_word.ensures)
-    ∙ is-given _ _ _ _ c.cursor_failure-refusal.ensures c.if-refusal-ne0.false
+    ∙ is-given _ _ _ _ c.check_cursor.ensures (passed-back _ _ _ c.in_ok-give_back.ensures)

@@ -1,17 +1,19 @@
 -- Of no flags the cursor is all 0 (`is-empty`); else the number of the span's checks decides (`not-empty`).
+use mathlib.Core.Path.{refl, ◌∙◌}
 use Rattle.masks.specs.Iterator.{new_iter}
 use Rattle.masks.proofs.CheckLaws.{is-refused, is-given, is-empty, not-empty}
+use Rattle.masks.proofs.RefusalLaws.{exit-is, number-ne0}
 use Rattle.masks.proofs.iterator.BitmapIter.new.Goals as goal
 
 pub returns-then-length-eq0 : goal.returns-then-length-eq0
 unfolding new_iter
 returns-then-length-eq0 c = is-empty _ _ _ c.if-length-eq0.true
 
-pub returns-then-refusal-ne0 : goal.returns-then-refusal-ne0
+pub returns-in_err-check_span : goal.returns-in_err-check_span
 unfolding new_iter
-returns-then-refusal-ne0 c =
-    not-empty _ _ _ _ c.if-length-eq0.false (is-refused _ _ _ _ c.span_failure-refusal.ensures c.if-refusal-ne0.true)
+returns-in_err-check_span c =
+    exit-is _ _ c.from_residual.ensures.1 ∙ not-empty _ _ _ _ c.if-length-eq0.false (is-refused _ _ _ _ c.in_err-check_span.ensures (number-ne0 _))
 
 pub returns : goal.returns
 unfolding new_iter
-returns c = not-empty _ _ _ _ c.if-length-eq0.false (is-given _ _ _ _ c.span_failure-refusal.ensures c.if-refusal-ne0.false)
+returns c = not-empty _ _ _ _ c.if-length-eq0.false (is-given _ _ _ _ c.in_ok-check_span.ensures refl)

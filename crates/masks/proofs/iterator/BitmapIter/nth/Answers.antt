@@ -2,31 +2,34 @@
 use mathlib.Core.Path.{sym, ap, ◌∙◌}
 use native.Mathlib.Omega.{arith}
 use Rattle.masks.specs.Answer.{given}
+use Rattle.masks.specs.Cursor.{item, ended}
 use Rattle.masks.specs.Iterator.{nth_flag}
+use Rattle.masks.specs.declared.iterator.BitmapIter.{BitmapIter}
 use Rattle.masks.proofs.CheckLaws.{is-refused, is-given}
 use Rattle.masks.proofs.CursorLaws.{cursor-allowed}
 use Rattle.masks.proofs.IteratorLaws.{a-flag, no_flag}
+use Rattle.masks.proofs.RefusalLaws.{passed-back, failed-back, step-is}
 use Rattle.masks.proofs.iterator.BitmapIter.nth.Goals as goal
 
-pub returns-then-refusal-ne0 : goal.returns-then-refusal-ne0
+pub returns-in_err-give_back : goal.returns-in_err-give_back
 unfolding nth_flag
-returns-then-refusal-ne0 c = is-refused _ _ _ _ c.cursor_failure-refusal.ensures c.if-refusal-ne0.true
+returns-in_err-give_back c = step-is _ _ _ c.in_err-give_back.ensures _ c.from_residual.ensures.1 ∙ is-refused _ _ _ _ c.check_cursor.ensures (failed-back _ _ _ c.in_err-give_back.ensures)
 
 pub overflow_sub-self : goal.overflow_sub-self
-overflow_sub-self c = (cursor-allowed _ _ _ _ (sym c.cursor_failure-refusal.ensures ∙ c.if-refusal-ne0.false)).reached
+overflow_sub-self c = (cursor-allowed _ _ _ _ (sym c.check_cursor.ensures ∙ (passed-back _ _ _ c.in_ok-give_back.ensures))).reached
 
 pub returns-then-n-self : goal.returns-then-n-self
 unfolding nth_flag
 returns-then-n-self c =
-    let span = cursor-allowed _ _ _ _ (sym c.cursor_failure-refusal.ensures ∙ c.if-refusal-ne0.false) in
-    ap given (no_flag _ _ _ span.reached c.if-n-self.true) ∙ is-given _ _ _ _ c.cursor_failure-refusal.ensures c.if-refusal-ne0.false
+    let span = cursor-allowed _ _ _ _ (sym c.check_cursor.ensures ∙ (passed-back _ _ _ c.in_ok-give_back.ensures)) in
+    ap (λ (d : BitmapIter). given (ended d)) c.moved.ensures ∙ ap given (no_flag _ _ _ span.reached c.if-n-self.true) ∙ is-given _ _ _ _ c.check_cursor.ensures (passed-back _ _ _ c.in_ok-give_back.ensures)
 
 pub overflow_add-self : goal.overflow_add-self
 overflow_add-self c =
-    let span = cursor-allowed _ _ _ _ (sym c.cursor_failure-refusal.ensures ∙ c.if-refusal-ne0.false) in
+    let span = cursor-allowed _ _ _ _ (sym c.check_cursor.ensures ∙ (passed-back _ _ _ c.in_ok-give_back.ensures)) in
     omega (arith, span.starts, span.short)
 
 pub returns : goal.returns
 unfolding nth_flag
 returns c =
-    ap given (a-flag _ _ _ _ c.if-n-self.false c.flag_at-flag.ensures) ∙ is-given _ _ _ _ c.cursor_failure-refusal.ensures c.if-refusal-ne0.false
+    ap (λ (d : BitmapIter). given (item c.flag_at-flag.result d)) c.moved-2.ensures ∙ ap given (a-flag _ _ _ _ c.if-n-self.false c.flag_at-flag.ensures) ∙ is-given _ _ _ _ c.check_cursor.ensures (passed-back _ _ _ c.in_ok-give_back.ensures)

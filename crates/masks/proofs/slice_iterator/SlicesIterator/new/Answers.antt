@@ -1,12 +1,14 @@
 -- The number of the mask's checks decides: `is-refused` or `is-given`.
+use mathlib.Core.Path.{refl, ◌∙◌}
 use Rattle.masks.specs.SliceIterator.{new_slices}
 use Rattle.masks.proofs.CheckLaws.{is-refused, is-given}
+use Rattle.masks.proofs.RefusalLaws.{exit-is, number-ne0}
 use Rattle.masks.proofs.slice_iterator.SlicesIterator.new.Goals as goal
 
-pub returns-then-refusal-ne0 : goal.returns-then-refusal-ne0
+pub returns-in_err-check_mask : goal.returns-in_err-check_mask
 unfolding new_slices
-returns-then-refusal-ne0 c = is-refused _ _ _ _ c.mask_failure-refusal.ensures c.if-refusal-ne0.true
+returns-in_err-check_mask c = exit-is _ _ c.from_residual.ensures.1 ∙ is-refused _ _ _ _ c.in_err-check_mask.ensures (number-ne0 _)
 
 pub returns : goal.returns
 unfolding new_slices
-returns c = is-given _ _ _ _ c.mask_failure-refusal.ensures c.if-refusal-ne0.false
+returns c = is-given _ _ _ _ c.in_ok-check_mask.ensures refl

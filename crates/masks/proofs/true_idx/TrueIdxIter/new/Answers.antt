@@ -1,14 +1,15 @@
 -- The number of the checks decides: `is-refused` or `is-given`.
-use mathlib.Core.Path.{ap, ◌∙◌}
+use mathlib.Core.Path.{refl, ap, ◌∙◌}
 use Rattle.masks.specs.Answer.{given}
 use Rattle.masks.specs.TrueIdx.{new_true}
 use Rattle.masks.proofs.CheckLaws.{is-refused, is-given}
+use Rattle.masks.proofs.RefusalLaws.{exit-is, number-ne0}
 use Rattle.masks.proofs.true_idx.TrueIdxIter.new.Goals as goal
 
-pub returns-then-refusal-ne0 : goal.returns-then-refusal-ne0
+pub returns-in_err-check_new : goal.returns-in_err-check_new
 unfolding new_true
-returns-then-refusal-ne0 c = is-refused _ _ _ _ c.new_failure-refusal.ensures c.if-refusal-ne0.true
+returns-in_err-check_new c = exit-is _ _ c.from_residual.ensures.1 ∙ is-refused _ _ _ _ c.in_err-check_new.ensures (number-ne0 _)
 
 pub returns : goal.returns
 unfolding new_true
-returns c = ap given c.first_true.ensures ∙ is-given _ _ _ _ c.new_failure-refusal.ensures c.if-refusal-ne0.false
+returns c = ap given c.first_true.ensures ∙ is-given _ _ _ _ c.in_ok-check_new.ensures refl

@@ -1,32 +1,38 @@
 -- The number of the checks decides; behind the zeros from the place on the span ends (`no_one`) or a one stands (`a_one`).
 use mathlib.Core.Path.{sym, ap, ◌∙◌}
 use native.Mathlib.Omega.{arith}
+use Prim.Native.Nat.{◌+◌}
 use Rattle.masks.specs.Answer.{given}
+use Rattle.masks.specs.Cursor.{item, ended}
+use Rattle.masks.specs.declared.true_idx.TrueIdxIter.{TrueIdxIter}
 use Rattle.masks.specs.TrueIdx.{next_true}
 use Rattle.masks.proofs.CheckLaws.{is-refused, is-given}
 use Rattle.masks.proofs.TrueIdxLaws.{true-allowed, a_one, no_one, zeros_within}
+use Rattle.masks.proofs.RefusalLaws.{passed-back, failed-back, step-is}
 use Rattle.masks.proofs.true_idx.TrueIdxIter.next.Goals as goal
 
-pub returns-then-refusal-ne0 : goal.returns-then-refusal-ne0
+pub returns-in_err-give_back : goal.returns-in_err-give_back
 unfolding next_true
-returns-then-refusal-ne0 c = is-refused _ _ _ _ c.next_failure-refusal.ensures c.if-refusal-ne0.true
+returns-in_err-give_back c = step-is _ _ _ c.in_err-give_back.ensures _ c.from_residual.ensures.1 ∙ is-refused _ _ _ _ c.check_next.ensures (failed-back _ _ _ c.in_err-give_back.ensures)
 
 pub zeros_next-requires : goal.zeros_next-requires
 zeros_next-requires c =
-    let a = true-allowed _ _ (sym c.next_failure-refusal.ensures ∙ c.if-refusal-ne0.false) in
+    let a = true-allowed _ _ (sym c.check_next.ensures ∙ (passed-back _ _ _ c.in_ok-give_back.ensures)) in
     (a.starts, (a.short, a.reached))
 
 pub overflow_add-position : goal.overflow_add-position
 overflow_add-position c =
-    let a = true-allowed _ _ (sym c.next_failure-refusal.ensures ∙ c.if-refusal-ne0.false) in
+    let a = true-allowed _ _ (sym c.check_next.ensures ∙ (passed-back _ _ _ c.in_ok-give_back.ensures)) in
     omega (arith, a.short, a.reached, zeros_within _ _ _ c.zeros_next.ensures)
 
 pub returns-then-position-self : goal.returns-then-position-self
 unfolding next_true
 returns-then-position-self c =
-    ap given (no_one _ _ _ c.zeros_next.ensures c.if-position-self.true) ∙ is-given _ _ _ _ c.next_failure-refusal.ensures c.if-refusal-ne0.false
+    ap (λ (d : TrueIdxIter). given (ended d)) c.moved.ensures
+    ∙ ap given (no_one _ _ _ c.zeros_next.ensures c.if-position-self.true) ∙ is-given _ _ _ _ c.check_next.ensures (passed-back _ _ _ c.in_ok-give_back.ensures)
 
 pub returns : goal.returns
 unfolding next_true
 returns c =
-    ap given (a_one _ _ _ c.zeros_next.ensures c.if-position-self.false) ∙ is-given _ _ _ _ c.next_failure-refusal.ensures c.if-refusal-ne0.false
+    ap (λ (d : TrueIdxIter). given (item (c.args.self.place + c.zeros_next.result) d)) c.moved-2.ensures
+    ∙ ap given (a_one _ _ _ c.zeros_next.ensures c.if-position-self.false) ∙ is-given _ _ _ _ c.check_next.ensures (passed-back _ _ _ c.in_ok-give_back.ensures)

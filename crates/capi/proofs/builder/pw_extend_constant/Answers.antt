@@ -1,9 +1,0 @@
--- The encoding of what the call answers at the records that came in. Written by tests/export_proofs.py.
-use Rattle.capi.proofs.builder.pw_extend_constant.Goals as goal
-
-pub returns : goal.returns
-returns c =
-    record {
-      answer = rw (c.extend_constant.ensures.answer, c.builder_in.ensures) at c.pushed_out.ensures;
-      bytes = rw c.builder_in.ensures at c.extend_constant.ensures.bytes;
-    }

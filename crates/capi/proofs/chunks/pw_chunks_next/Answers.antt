@@ -1,5 +1,0 @@
--- The encoding of what the call answers at the records that came in. Written by tests/export_proofs.py.
-use Rattle.capi.proofs.chunks.pw_chunks_next.Goals as goal
-
-pub returns : goal.returns
-returns c = rw (c.next.ensures, c.chunks_in.ensures) at c.chunk_out.ensures

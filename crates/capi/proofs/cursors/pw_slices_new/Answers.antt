@@ -1,5 +1,0 @@
--- The encoding of what the call answers at the records that came in. Written by tests/export_proofs.py.
-use Rattle.capi.proofs.cursors.pw_slices_new.Goals as goal
-
-pub returns : goal.returns
-returns c = rw (c.new.ensures, c.mask_in.ensures) at c.new_slices_out.ensures

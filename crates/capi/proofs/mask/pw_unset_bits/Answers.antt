@@ -1,5 +1,0 @@
--- The encoding of what the call answers at the records that came in. Written by tests/export_proofs.py.
-use Rattle.capi.proofs.mask.pw_unset_bits.Goals as goal
-
-pub returns : goal.returns
-returns c = rw (c.unset_bits.ensures, c.mask_in.ensures) at c.counting_out.ensures

@@ -1,0 +1,29 @@
+-- A span that was made by its checks: what is asked of it is what the call answers. Assumes nothing.
+use mathlib.Core.Path.{◌≡◌, ap, ◌∙◌}
+use Prim.Native.Nat.{ℕ, zero, suc}
+use Rattle.std.proofs.Common.{Result, Err}
+use Rattle.std.specs.Result.{IsErrAnd}
+use Rattle.std.proofs.lemmas.Result.{err_from_is_err_and}
+use Rattle.masks.specs.Answer.{Answer, given, refused, decided}
+use Rattle.masks.specs.Lent.{lent_answer}
+use Rattle.masks.specs.Refusal.{number}
+use Rattle.masks.specs.declared.refusal.Refusal.{Refusal}
+use Rattle.masks.specs.declared.span.Lent.{Lent}
+
+-- the exit of a `?`
+pub lent-exit : (result : Result Lent Refusal) (e : Refusal) → IsErrAnd result (λ (y : Refusal). y ≡ e) → lent_answer result ≡ refused (number e) tt
+lent-exit result e h = let p = err_from_is_err_and result h in ap lent_answer (p.1 ∙ ap (λ (y : Refusal). Err y) p.2)
+
+-- where a check failed
+pub refused-alike : {S A B : Type 0} (n k : ℕ) (s : S) (x : A) (a : B) → ◌≡◌ {A = Answer S A} (refused k s) (decided n s x)
+    → ◌≡◌ {A = Answer S B} (refused k s) (decided n s a)
+unfolding decided
+refused-alike zero k s x a e = cc
+refused-alike {S} {A} {B} (suc n) k s x a e = let same : k ≡ suc n = cc in ap {B = Answer S B} (λ (m : ℕ). refused m s) same
+
+-- where none did: what is asked of the one part is what is asked of the other
+pub given-alike : {S A B : Type 0} (n : ℕ) (s : S) (x y : A) (f : A → B) (r : B) → ◌≡◌ {A = Answer S A} (given x) (decided n s y)
+    → r ≡ f x → ◌≡◌ {A = Answer S B} (given r) (decided n s (f y))
+unfolding decided
+given-alike zero s x y f r e p = let same : x ≡ y = cc in ap given (p ∙ ap f same)
+given-alike (suc n) s x y f r e p = cc

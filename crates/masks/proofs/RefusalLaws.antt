@@ -1,0 +1,144 @@
+-- What the exit of a `?` gives, what is known behind it, and that refusals stand in the order of their numbers. Assumes nothing.
+use Rattle.std.proofs.Common.{◌≡◌, refl, ℕ, zero, suc, ◌<◌, Bool, true, false, List, [], ◌∷◌, length, get_or, Result, Ok, Err}
+use Rattle.std.specs.Prelude.{◌&&◌, eqb}
+use Rattle.std.specs.Result.{IsErrAnd}
+use Rattle.std.proofs.lemmas.Result.{err_from_is_err_and}
+use Rattle.std.specs.Ordering.{ord_min}
+use mathlib.Core.Path.{sym, ap, ◌∙◌}
+use native.Mathlib.Omega.{arith}
+use borrow.Author.Tests.{eqb-true}
+use Rattle.masks.specs.Answer.{Answer, answer, answer_back, refused}
+use Rattle.masks.specs.Checks.{earlier, rank, place_in}
+use Rattle.masks.specs.Cursor.{answer_step}
+use Rattle.masks.specs.Refusal.{number, failure_of}
+use Rattle.masks.specs.Workers.{with_state}
+use Rattle.masks.specs.declared.cursor.Step.{Step as Stepped}
+use Rattle.masks.specs.declared.refusal.Refusal.{Refusal}
+use Rattle.masks.specs.declared.refusal.Refusal.TheVariants.{OverLimit, PastBytes, FalseCount, UnequalLists, ImpossibleBuilder}
+use Rattle.masks.specs.declared.refusal.Refusal.TheVariants.{UnequalLengths, Outside, WrongRecount, WrongAddress, ShortOutput}
+use Rattle.masks.specs.declared.refusal.Refused.{Refused}
+use Rattle.masks.specs.contracts.refusal.RefusalOrd.TheImpl.{cmp-value}
+
+-- ---- what holds of each refusal
+
+abbrev refusals : List Refusal
+refusals =
+    OverLimit
+    ∷ PastBytes
+    ∷ FalseCount
+    ∷ UnequalLists
+    ∷ ImpossibleBuilder
+    ∷ UnequalLengths
+    ∷ Outside
+    ∷ WrongRecount
+    ∷ WrongAddress
+    ∷ ShortOutput
+    ∷ []
+
+abbrev all : (Refusal → Bool) → List Refusal → Bool
+all p [] = true
+all p (x ∷ xs) = p x && all p xs
+
+left : (a b : Bool) → (a && b) ≡ true → a ≡ true
+left true b e = refl
+left false b e = e
+
+right : (a b : Bool) → (a && b) ≡ true → b ≡ true
+right true b e = e
+right false true e = refl
+right false false e = e
+
+at : (p : Refusal → Bool) (l : List Refusal) → all p l ≡ true → (k : ℕ) → k < length l → p (get_or l k OverLimit) ≡ true
+at p [] e k h = absurd (omega (arith, h))
+at p (x ∷ xs) e zero h = left (p x) (all p xs) e
+at p (x ∷ xs) e (suc k) h = at p xs (right (p x) (all p xs) e) k (omega (arith, h))
+
+of-each : (p : Refusal → Bool) → all p refusals ≡ true → (r : Refusal) → p r ≡ true
+of-each p e OverLimit = at p refusals e 0 (omega arith)
+of-each p e PastBytes = at p refusals e 1 (omega arith)
+of-each p e FalseCount = at p refusals e 2 (omega arith)
+of-each p e UnequalLists = at p refusals e 3 (omega arith)
+of-each p e ImpossibleBuilder = at p refusals e 4 (omega arith)
+of-each p e UnequalLengths = at p refusals e 5 (omega arith)
+of-each p e Outside = at p refusals e 6 (omega arith)
+of-each p e WrongRecount = at p refusals e 7 (omega arith)
+of-each p e WrongAddress = at p refusals e 8 (omega arith)
+of-each p e ShortOutput = at p refusals e 9 (omega arith)
+
+-- refusals are declared in the order of their numbers' ranks
+pub least-number : (x y : Refusal) → number (ord_min cmp-value.it x y) ≡ earlier (number x) (number y)
+unfolding earlier rank place_in
+least-number x y =
+    eqb-true _ _ (of-each (λ b. eqb (number (ord_min cmp-value.it x b)) (earlier (number x) (number b)))
+    (of-each (λ a. all (λ b. eqb (number (ord_min cmp-value.it a b)) (earlier (number a) (number b))) refusals) refl x) y)
+
+-- no refusal has the number 0, which says that nothing failed
+pub number-ne0 : (r : Refusal) → number r ≡ 0 → ⊥
+number-ne0 OverLimit e = omega arith
+number-ne0 PastBytes e = omega arith
+number-ne0 FalseCount e = omega arith
+number-ne0 UnequalLists e = omega arith
+number-ne0 ImpossibleBuilder e = omega arith
+number-ne0 UnequalLengths e = omega arith
+number-ne0 Outside e = omega arith
+number-ne0 WrongRecount e = omega arith
+number-ne0 WrongAddress e = omega arith
+number-ne0 ShortOutput e = omega arith
+
+-- ---- the exit of a `?`, where no record is given back
+
+-- the exit of a function that makes checks
+pub exit-number : (result : Result (Unit {0}) Refusal) (e : Refusal) → IsErrAnd result (λ (y : Refusal). y ≡ e) → failure_of result ≡ number e
+exit-number result e h = let p = err_from_is_err_and result h in ap failure_of p.1 ∙ ap number p.2
+
+-- ---- where the record that the call got is given back
+
+abbrev error-of : {S A : Type 0} → Refused S → Result A (Refused S) → Refused S
+error-of d (Ok a) = d
+error-of d (Err x) = x
+
+-- what an error of `give_back` is
+pub back-err : {S A : Type 0} (r : Result A Refusal) (s : S) (x : Refused S) → Err x ≡ with_state r s → (r ≡ Err x.refusal) × (x.state ≡ s)
+back-err (Ok a) s x e = cc
+back-err (Err k) s x e = let p = ap (error-of x) e in (ap (λ (y : Refused _). Err y.refusal) (sym p), ap (λ (y : Refused _). y.state) p)
+
+pub back-ok : {S A : Type 0} (r : Result A Refusal) (s : S) (a : A) → Ok a ≡ with_state r s → r ≡ Ok a
+back-ok (Ok b) s a e = cc
+back-ok (Err k) s a e = cc
+
+-- the checks have passed
+pub passed-back : {S : Type 0} (r : Result (Unit {0}) Refusal) (s : S) (u : Unit {0}) → Ok u ≡ with_state r s → failure_of r ≡ 0
+passed-back r s u e = ap failure_of (back-ok r s u e)
+
+-- they have not: the number is not 0
+pub failed-back : {S : Type 0} (r : Result (Unit {0}) Refusal) (s : S) (x : Refused S) → Err x ≡ with_state r s → failure_of r ≡ 0 → ⊥
+failed-back r s x e h = number-ne0 x.refusal (sym (ap failure_of (back-err r s x e).0) ∙ h)
+
+-- what the call answers there
+pub exit-is : {A : Type 0} (result : Result A Refusal) (e : Refusal) → IsErrAnd result (λ (y : Refusal). y ≡ e) → answer result ≡ refused (number e) tt
+exit-is result e h = let p = err_from_is_err_and result h in ap answer (p.1 ∙ ap (λ (y : Refusal). Err y) p.2)
+
+same-refused : {S A : Type 0} (r : Result (Unit {0}) Refusal) (s : S) (x : Refused S) → Err x ≡ with_state r s
+    → ◌≡◌ {A = Answer S A} (refused (number x.refusal) x.state) (refused (failure_of r) s)
+same-refused r s x e =
+    let p = back-err r s x e in
+    ap (refused (number x.refusal)) p.1 ∙ ap (λ (n : ℕ). refused n s) (sym (ap failure_of p.0))
+
+pub back-is : {S A : Type 0} (r : Result (Unit {0}) Refusal) (s : S) (x : Refused S) → Err x ≡ with_state r s
+    → (result : Result A (Refused S)) → IsErrAnd result (λ (y : Refused S). y ≡ x) → answer_back result ≡ refused (failure_of r) s
+back-is r s x e result h =
+    let p = err_from_is_err_and result h in
+    ap answer_back (p.1 ∙ ap (λ (y : Refused _). Err y) p.2) ∙ same-refused r s x e
+
+pub step-is : {S A : Type 0} (r : Result (Unit {0}) Refusal) (s : S) (x : Refused S) → Err x ≡ with_state r s
+    → (result : Result (Stepped A S) (Refused S)) → IsErrAnd result (λ (y : Refused S). y ≡ x) → answer_step result ≡ refused (failure_of r) s
+step-is r s x e result h =
+    let p = err_from_is_err_and result h in
+    ap answer_step (p.1 ∙ ap (λ (y : Refused _). Err y) p.2) ∙ same-refused r s x e
+
+-- of a call whose checks give a value too
+pub back-exit : {S T A : Type 0} (r : Result T Refusal) (s : S) (x : Refused S) → Err x ≡ with_state r s
+    → (result : Result A (Refused S)) → IsErrAnd result (λ (y : Refused S). y ≡ x) → answer_back result ≡ refused (number x.refusal) s
+back-exit r s x e result h =
+    let p = err_from_is_err_and result h in
+    ap answer_back (p.1 ∙ ap (λ (y : Refused _). Err y) p.2) ∙ ap (refused (number x.refusal)) (back-err r s x e).1

@@ -1,9 +1,0 @@
--- The mask's checks, then that of the index: `two-pieces` and `one-check`.
-use mathlib.Core.Path.{refl}
-use Rattle.masks.proofs.CheckLaws.{two-pieces, one-check}
-use Rattle.masks.proofs.at_index.inside_failure.Goals as goal
-
-pub returns : goal.returns
-returns c =
-    two-pieces _ _ _ _ _ c.earlier.ensures c.mask_failure.ensures
-    (one-check _ _ _ _ c.failed.ensures refl)

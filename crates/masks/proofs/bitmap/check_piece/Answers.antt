@@ -1,0 +1,13 @@
+-- The mask's checks, then the four of the piece, in order: `two-pieces`, `check-before` and `one-check`.
+use Rattle.masks.specs.Mask.{piece_checks}
+use Rattle.masks.proofs.CheckLaws.{two-pieces, check-before, one-check}
+use Rattle.masks.proofs.bitmap.check_piece.Goals as goal
+
+pub returns : goal.returns
+unfolding piece_checks
+returns c =
+    two-pieces _ _ _ _ _ c.earlier-3.ensures c.check_mask.ensures
+    (check-before _ _ _ _ _ _ _ c.earlier-piece.ensures c.check-near.ensures c.within_limit-2.ensures
+    (check-before _ _ _ _ _ _ _ c.earlier-2.ensures c.check-short.ensures c.within_limit.ensures
+    (check-before _ _ _ _ _ _ _ c.earlier.ensures c.check-starts.ensures c.sum_at_most-2.ensures
+    (one-check _ _ _ _ c.check-inside.ensures c.sum_at_most.ensures))))

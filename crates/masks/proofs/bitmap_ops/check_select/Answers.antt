@@ -1,0 +1,15 @@
+-- The checks of three masks, of two lengths and of the output, in order: `two-pieces` and `check-before`.
+use mathlib.Core.Path.{refl}
+use Rattle.masks.specs.Combine.{select_checks}
+use Rattle.masks.proofs.CheckLaws.{two-pieces, check-before}
+use Rattle.masks.proofs.bitmap_ops.check_select.Goals as goal
+
+pub returns : goal.returns
+unfolding select_checks
+returns c =
+    two-pieces _ _ _ _ _ c.earlier-3.ensures c.check_mask-2.ensures
+    (two-pieces _ _ _ _ _ c.earlier-2.ensures c.check_mask-3.ensures
+    (two-pieces _ _ _ _ _ c.earlier-masks.ensures c.check_mask.ensures
+    (check-before _ _ _ _ _ _ _ c.earlier-lengths.ensures c.check-second.ensures refl
+    (check-before _ _ _ _ _ _ _ c.earlier.ensures c.check-third.ensures refl
+    c.check_output-room.ensures))))

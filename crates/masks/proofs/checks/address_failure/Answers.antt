@@ -1,9 +1,0 @@
--- `one-check` at number 8.
-use Rattle.masks.specs.Checks.{address_checks}
-use mathlib.Core.Path.{refl}
-use Rattle.masks.proofs.CheckLaws.{one-check}
-use Rattle.masks.proofs.checks.address_failure.Goals as goal
-
-pub returns : goal.returns
-unfolding address_checks
-returns c = one-check _ _ _ _ c.failed.ensures refl

@@ -1,0 +1,8 @@
+-- `one-check`, and `output-test`: the comparison in words is the one in bytes.
+use Rattle.masks.specs.Checks.{output_checks}
+use Rattle.masks.proofs.CheckLaws.{one-check, output-test}
+use Rattle.masks.proofs.checks.check_output.Goals as goal
+
+pub returns : goal.returns
+unfolding output_checks
+returns c = one-check _ _ _ _ c.check.ensures (output-test c.args.n c.args.size)

@@ -1,0 +1,6 @@
+-- The earlier of the two (`two-pieces`).
+use Rattle.masks.proofs.CheckLaws.{two-pieces}
+use Rattle.masks.proofs.checks.check_span_grow.Goals as goal
+
+pub returns : goal.returns
+returns c = two-pieces _ _ _ _ _ c.earlier.ensures c.check_span.ensures c.check_builder.ensures

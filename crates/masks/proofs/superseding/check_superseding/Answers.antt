@@ -1,0 +1,16 @@
+-- Serials that differ pass check 14 (`apart`); equal ones leave it to `eq` (`compared`, `not-compared`).
+use mathlib.Core.Path.{◌∙◌}
+use Rattle.masks.proofs.SupersedingLaws.{apart, compared, not-compared}
+use Rattle.masks.proofs.RefusalLaws.{exit-number}
+use Rattle.masks.proofs.superseding.check_superseding.Goals as goal
+
+pub returns-then-first-second : goal.returns-then-first-second
+returns-then-first-second c =
+    apart _ _ _ _ _ _ _ c.if-first-second.true c.earlier.ensures c.check_mask.ensures c.check_mask-then-first-second.ensures
+
+pub returns-in_err-same : goal.returns-in_err-same
+returns-in_err-same c =
+    exit-number _ _ c.from_residual.ensures.1 ∙ not-compared _ _ _ _ _ c.in_err-same.ensures
+
+pub returns : goal.returns
+returns c = compared _ _ _ _ _ _ c.if-first-second.false c.in_ok-same.ensures c.check.ensures

@@ -1,0 +1,38 @@
+-- As `count_zeros`: of no flags 0 (`is-empty`); else the number of the checks decides (`not-empty`), and either call ensures the count.
+use mathlib.Core.Path.{refl, sym, ap, ◌∙◌}
+use native.Mathlib.Omega.{arith}
+use Rattle.masks.specs.Answer.{given}
+use Rattle.masks.specs.Utils.{span_count}
+use Rattle.masks.proofs.CheckLaws.{is-refused, is-given, is-empty, not-empty}
+use Rattle.masks.proofs.SplitLaws.{aligned-allowed}
+use Rattle.masks.proofs.RefusalLaws.{exit-is, number-ne0}
+use Rattle.masks.proofs.utils.run_flags.Goals as goal
+
+pub returns-then-length-eq0 : goal.returns-then-length-eq0
+unfolding span_count
+returns-then-length-eq0 g c = is-empty _ _ _ c.if-length-eq0.true
+
+pub returns-in_err-check_aligned : goal.returns-in_err-check_aligned
+unfolding span_count
+returns-in_err-check_aligned g c =
+    exit-is _ _ c.from_residual.ensures.1 ∙ not-empty _ _ _ _ c.if-length-eq0.false (is-refused _ _ _ _ c.in_err-check_aligned.ensures (number-ne0 _))
+
+pub overflow_add-start : goal.overflow_add-start
+overflow_add-start g c =
+    let a = aligned-allowed _ _ _ _ (sym c.in_ok-check_aligned.ensures) in omega (arith, a.0, a.1.0)
+
+pub returns-then-start-length-le64 : goal.returns-then-start-length-le64
+unfolding span_count
+returns-then-start-length-le64 g c =
+    not-empty _ _ _ _ c.if-length-eq0.false (ap given c.short_run.ensures ∙ is-given _ _ _ _ c.in_ok-check_aligned.ensures refl)
+
+pub long_run-requires : goal.long_run-requires
+long_run-requires g c =
+    let a = aligned-allowed _ _ _ _ (sym c.in_ok-check_aligned.ensures) in
+    (omega (arith, a.0), a.1)
+
+pub returns : goal.returns
+unfolding span_count
+returns g c =
+    not-empty _ _ _ _ c.if-length-eq0.false
+    (ap given c.long_run.ensures ∙ is-given _ _ _ _ c.in_ok-check_aligned.ensures refl)

@@ -1,8 +1,0 @@
--- All flags are in the one word that is loaded (`near-flags`).
-use mathlib.Core.Path.{ap, ◌∙◌}
-use Rattle.words.specs.Ends.{trailing}
-use Rattle.masks.proofs.PartLaws.{near-flags}
-use Rattle.masks.proofs.utils.short_trailing.Goals as goal
-
-pub returns : goal.returns
-returns c = c.trailing_in_word.ensures ∙ ap (trailing _) (near-flags _ _ _ _ _ c.requires c.byte_word.ensures c.down.ensures)

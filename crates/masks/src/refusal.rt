@@ -1,0 +1,120 @@
+// Why a call refuses, and how the checks of a call are put together.
+ghost use Rattle.std.specs.Prelude.{◌≡◌, cond};
+ghost use Rattle.masks.specs.Checks.{earlier as earlier_of};
+ghost use Rattle.masks.specs.Refusal.{failure_of, number};
+ghost use Rattle.masks.specs.Workers.{with_state};
+
+use std::error::Error;
+use std::fmt;
+
+// The checks that a call can fail, in the order in which they decide: of several that fail the first one here is the answer. Each is a
+// question of document 01, with its number, answered no; 14 is one of paper 02.
+#[derive(Clone, Copy, PartialEq, Eq, PartialOrd, Ord, Debug)]
+pub enum Refusal {
+    // 1: is each start and length, and each sum of them, at most the flag limit?
+    OverLimit,
+    // 2: is start + length at most 8 * the bytes lent?
+    PastBytes,
+    // 3: is a known zero count that of the flags?
+    FalseCount,
+    // 14: have two masks of one serial the same flags?
+    UnequalLists,
+    // 4: is the builder one that calls leave, over a buffer that holds its finished words?
+    ImpossibleBuilder,
+    // 5: are the masks combined equal in length?
+    UnequalLengths,
+    // 6: does the piece, the place, each index lie inside?
+    Outside,
+    // 7: where `slice` recounts, can the known count be right?
+    WrongRecount,
+    // 8: is the address remainder at most 7?
+    WrongAddress,
+    // 9: does the output, or the builder's buffer, hold the result?
+    ShortOutput,
+}
+
+// The number by which documents and the C interface name a refusal.
+impl From<Refusal> for u8 {
+    ghost from_gives = { λ r n. n ≡ number r };
+
+    fn from(refusal: Refusal) -> u8 {
+        match refusal {
+            Refusal::OverLimit => 1,
+            Refusal::PastBytes => 2,
+            Refusal::FalseCount => 3,
+            Refusal::UnequalLists => 14,
+            Refusal::ImpossibleBuilder => 4,
+            Refusal::UnequalLengths => 5,
+            Refusal::Outside => 6,
+            Refusal::WrongRecount => 7,
+            Refusal::WrongAddress => 8,
+            Refusal::ShortOutput => 9,
+        }
+    }
+}
+
+impl fmt::Display for Refusal {
+    fn fmt<W: fmt::Write>(&self, f: &mut fmt::Formatter<W>) -> fmt::Result {
+        match self {
+            Refusal::OverLimit => write!(f, "1: a start or a length is over the flag limit"),
+            Refusal::PastBytes => write!(f, "2: the flags end past the bytes lent"),
+            Refusal::FalseCount => write!(f, "3: the known zero count is not that of the flags"),
+            Refusal::UnequalLists => write!(f, "14: masks of one serial have unequal flags"),
+            Refusal::ImpossibleBuilder => write!(
+                f,
+                "4: no calls leave such a builder over its buffer"
+            ),
+            Refusal::UnequalLengths => write!(f, "5: the masks are of unequal lengths"),
+            Refusal::Outside => write!(f, "6: a piece, a place or an index lies outside"),
+            Refusal::WrongRecount => write!(
+                f,
+                "7: the known zero count does not fit the zeros cut off"
+            ),
+            Refusal::WrongAddress => write!(f, "8: the address remainder is over 7"),
+            Refusal::ShortOutput => write!(f, "9: the output is too short for the result"),
+        }
+    }
+}
+
+impl Error for Refusal {}
+
+// A refusal, and the record that the call got.
+#[derive(Clone, Copy, PartialEq, Eq, Debug)]
+pub struct Refused<S> {
+    pub refusal: Refusal,
+    pub state: S,
+}
+
+impl<S> fmt::Display for Refused<S> {
+    fn fmt<W: fmt::Write>(&self, f: &mut fmt::Formatter<W>) -> fmt::Result {
+        write!(f, "{}", self.refusal)
+    }
+}
+
+// Returns the refusal of two checks that comes first in their order.
+pub fn earlier(a: Result<(), Refusal>, b: Result<(), Refusal>) -> Result<(), Refusal>
+    ensures { failure_of result ≡ earlier_of (failure_of a) (failure_of b) }
+{
+    match (a, b) {
+        (Err(x), Err(y)) => Err(x.min(y)),
+        (Err(x), Ok(())) => Err(x),
+        (Ok(()), b) => b,
+    }
+}
+
+// Refuses for this reason unless the check holds.
+pub(crate) fn check(refusal: Refusal, holds: bool) -> Result<(), Refusal>
+    ensures { failure_of result ≡ cond holds 0 (number refusal) }
+{
+    if holds { Ok(()) } else { Err(refusal) }
+}
+
+// Gives the record back that the call got, beside a refusal.
+pub(crate) fn give_back<T, S: Copy>(answer: Result<T, Refusal>, state: S) -> Result<T, Refused<S>>
+    ensures { result ≡ with_state answer state }
+{
+    match answer {
+        Ok(value) => Ok(value),
+        Err(refusal) => Err(Refused { refusal, state }),
+    }
+}

@@ -1,0 +1,238 @@
+// The calls, in groups of those that are lent the same.
+
+#[derive(Clone, Copy, Debug, PartialEq, Eq)]
+pub enum Call {
+    Word(WordCall),
+    Flags(FlagsCall),
+    Operation(OperationCall),
+    Load(LoadCall),
+    Zip(ZipCall),
+    Span(SpanCall),
+    Count(CountCall),
+    Chunks(ChunksCall),
+    Mask(MaskCall),
+    Pair(PairCall),
+    Superseding(SupersedingCall),
+    Cursor(CursorCall),
+    Bits(BitsCall),
+    Store(StoreCall),
+    Combine,
+    Builder(BuilderCall),
+    NewZeroed,
+    Extend(ExtendCall),
+    Merge(MergeCall),
+    Select(SelectCall),
+    Gather(GatherCall),
+    List(ListCall),
+    Minutes(MinutesCall),
+    Search(SearchCall),
+}
+
+// On words alone.
+#[derive(Clone, Copy, Debug, PartialEq, Eq)]
+pub enum WordCall {
+    MergeReversed,
+    NthSetBitU32,
+    NthSetBitU64,
+    LowFlags,
+    Down,
+    Up,
+    Behind,
+    ConstantWord,
+}
+
+// On words alone, with a flag or a number of flags.
+#[derive(Clone, Copy, Debug, PartialEq, Eq)]
+pub enum FlagsCall {
+    ConstantFlags,
+    OnesInWord,
+    OnesBelow,
+    NoneFrom,
+    LeadingInWord,
+    TrailingInWord,
+    CombineWord,
+}
+
+// The operations on words.
+#[derive(Clone, Copy, Debug, PartialEq, Eq)]
+pub enum OperationCall {
+    And,
+    AndNot,
+    Or,
+    OrNot,
+    Xor,
+    Not,
+    Select,
+}
+
+// Of words, reading x.
+#[derive(Clone, Copy, Debug, PartialEq, Eq)]
+pub enum LoadCall {
+    LoadPaddedLeU64,
+    ByteWord,
+    WordFrom,
+    FlagAt,
+    CountOnes,
+}
+
+// Of words, reading x, y and z.
+#[derive(Clone, Copy, Debug, PartialEq, Eq)]
+pub enum ZipCall {
+    Equal,
+    CountOnesOf,
+    AnySet,
+}
+
+// On a span of x.
+#[derive(Clone, Copy, Debug, PartialEq, Eq)]
+pub enum SpanCall {
+    Aligned,
+    SplitAtUnchecked,
+    GetU32,
+    NthSetBitIdx,
+    NthSetBitIdxRev,
+}
+
+// Counts of a span of x.
+#[derive(Clone, Copy, Debug, PartialEq, Eq)]
+pub enum CountCall {
+    CountZeros,
+    LeadingZeros,
+    LeadingOnes,
+    TrailingZeros,
+    TrailingOnes,
+}
+
+// The chunks of x.
+#[derive(Clone, Copy, Debug, PartialEq, Eq)]
+pub enum ChunksCall {
+    New,
+    NewExact,
+    Next,
+    Remainder,
+}
+
+// Makers of builders and masks, and a mask over x.
+#[derive(Clone, Copy, Debug, PartialEq, Eq)]
+pub enum MaskCall {
+    NewBuilder,
+    New,
+    TryNew,
+    Slice,
+    UnsetBits,
+    NumEdges,
+}
+
+// Two masks, over x and y.
+#[derive(Clone, Copy, Debug, PartialEq, Eq)]
+pub enum PairCall {
+    Eq,
+    NumIntersectionsWith,
+    AndNotAt,
+    MayReassign,
+}
+
+// Which of two masks supersedes the other.
+#[derive(Clone, Copy, Debug, PartialEq, Eq)]
+pub enum SupersedingCall {
+    Part,
+    Mask,
+    Bytes,
+}
+
+// The cursors over a mask's runs and ones.
+#[derive(Clone, Copy, Debug, PartialEq, Eq)]
+pub enum CursorCall {
+    NewSlices,
+    NextSlice,
+    NewTrueIdx,
+    NextTrueIdx,
+}
+
+// The cursor over flags.
+#[derive(Clone, Copy, Debug, PartialEq, Eq)]
+pub enum BitsCall {
+    New,
+    Next,
+    Nth,
+    TakeLeadingOnes,
+    TakeLeadingZeros,
+}
+
+// Of words, writing o.
+#[derive(Clone, Copy, Debug, PartialEq, Eq)]
+pub enum StoreCall {
+    StoreLeU64,
+    StoreAt,
+    StoreWhole,
+    CopySpan,
+    CopyCount,
+    Fill,
+    FillWhole,
+}
+
+// The builder, whose buffer is o.
+#[derive(Clone, Copy, Debug, PartialEq, Eq)]
+pub enum BuilderCall {
+    Push,
+    PushMut,
+    PushWord,
+    ExtendConstant,
+    Freeze,
+    IntoOptValidity,
+}
+
+// Appends that read x.
+#[derive(Clone, Copy, Debug, PartialEq, Eq)]
+pub enum ExtendCall {
+    FromSlice,
+    EachRepeated,
+    FromBitmap,
+}
+
+// Combinations of two masks.
+#[derive(Clone, Copy, Debug, PartialEq, Eq)]
+pub enum MergeCall {
+    And,
+    AndNot,
+    Or,
+    OrNot,
+    Xor,
+}
+
+// Combinations that take one mask, or choose.
+#[derive(Clone, Copy, Debug, PartialEq, Eq)]
+pub enum SelectCall {
+    Not,
+    Select,
+    SelectConstant,
+}
+
+// Appends that read x at the indices i.
+#[derive(Clone, Copy, Debug, PartialEq, Eq)]
+pub enum GatherCall {
+    FromSlice,
+    OptFromSlice,
+}
+
+// What writes i.
+#[derive(Clone, Copy, Debug, PartialEq, Eq)]
+pub enum ListCall {
+    NextChunk,
+    Counts,
+}
+
+// The window of minutes, whose arrays are o.
+#[derive(Clone, Copy, Debug, PartialEq, Eq)]
+pub enum MinutesCall {
+    New,
+    PushMinute,
+    PushMinutes,
+}
+
+// Searches over two masks.
+#[derive(Clone, Copy, Debug, PartialEq, Eq)]
+pub enum SearchCall {
+    NextAndNot,
+    Offer,
+}

@@ -1,0 +1,95 @@
+// The bytes and the numbers of i: what is done alike with both.
+use crate::answer::Answer;
+use crate::fault::Fault;
+use crate::items::Items;
+use crate::last::Last;
+use crate::pieces;
+use crate::sums::Checksum;
+use std::alloc::{AllocError, Global};
+
+pub(crate) trait Element: Copy + PartialEq {
+    // At most this many are lent.
+    const ROOM: usize;
+
+    // Reads a list of them, None if it has more than the room.
+    fn read(
+        alloc: Global,
+        text: &[u8],
+        answer: &Answer,
+        room: usize,
+    ) -> Result<Option<Vec<Self>>, Fault>
+    where
+        Self: Sized;
+
+    fn mix(sum: Checksum, all: &[Self]) -> Checksum
+    where
+        Self: Sized;
+}
+
+impl Element for u8 {
+    const ROOM: usize = 524352;
+
+    fn read(
+        alloc: Global,
+        text: &[u8],
+        _answer: &Answer,
+        room: usize,
+    ) -> Result<Option<Vec<u8>>, Fault> {
+        pieces::bytes(alloc, text, room)
+    }
+
+    fn mix(sum: Checksum, all: &[u8]) -> Checksum {
+        sum.bytes(all)
+    }
+}
+
+impl Element for u32 {
+    const ROOM: usize = 4096;
+
+    fn read(
+        alloc: Global,
+        text: &[u8],
+        answer: &Answer,
+        room: usize,
+    ) -> Result<Option<Vec<u32>>, Fault> {
+        let items = Items::read(alloc, text, answer)?;
+        pieces::numbers(alloc, items.all(), room)
+    }
+
+    fn mix(sum: Checksum, all: &[u32]) -> Checksum {
+        sum.numbers(all)
+    }
+}
+
+// What a line lends.
+pub(crate) fn lent<T: Element>(alloc: Global, text: &[u8], last: &Last) -> Result<Vec<T>, Fault> {
+    T::read(alloc, text, &last.answer, T::ROOM)?.ok_or(Fault::Malformed)
+}
+
+pub(crate) fn refill<T: Copy>(to: &mut Vec<T>, from: &[T]) -> Result<(), AllocError> {
+    to.clear();
+    to.extend_from_slice(from)
+}
+
+// Whether an output, which was `before`, holds what its line says: `same`, `#` and a checksum, or a list.
+pub(crate) fn holds<T: Element>(
+    alloc: Global,
+    text: &[u8],
+    before: &[T],
+    out: &[T],
+    answer: &Answer,
+) -> Result<bool, Fault> {
+    match text {
+        b"same" => Ok(before == out),
+        [b's', ..] => Err(Fault::Malformed),
+        [b'#', ..] => {
+            let items = Items::read(alloc, text, answer)?;
+            let sum = items.sum().ok_or(Fault::Malformed)?;
+            Ok(T::mix(Checksum::new(), out).value() == sum)
+        }
+        _ => match T::read(alloc, text, answer, out.len())? {
+            Some(list) => Ok(list.as_slice() == out),
+            None => Ok(false),
+        },
+    }
+}

@@ -1,0 +1,29 @@
+// What ends a line early.
+use std::alloc::{AllocError, AllocFailed};
+use std::io;
+
+#[derive(Debug, Drop)]
+pub enum Fault {
+    // The line means nothing: it is counted, and the next one is read.
+    Malformed,
+    // Memory, a read or a write failed: the program ends.
+    Failed(io::Error),
+}
+
+impl From<io::Error> for Fault {
+    fn from(e: io::Error) -> Fault {
+        Fault::Failed(e)
+    }
+}
+
+impl From<AllocError> for Fault {
+    fn from(e: AllocError) -> Fault {
+        Fault::Failed(io::Error::from(e))
+    }
+}
+
+impl<T: Drop> From<AllocFailed<T>> for Fault {
+    fn from(e: AllocFailed<T>) -> Fault {
+        Fault::Failed(io::Error::from(AllocError::from(e)))
+    }
+}

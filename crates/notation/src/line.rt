@@ -1,0 +1,33 @@
+// A line: what it lends, a request, or nothing. docs/REQUESTS.md says what it means.
+use crate::fault::Fault;
+use crate::lent::Letter;
+
+#[derive(Clone, Copy)]
+pub enum Line<'a> {
+    // A comment, or empty.
+    Nothing,
+    // The pieces that are lent.
+    Lends(Letter, &'a [u8]),
+    Request(&'a [u8]),
+    // A request on the output as the last call left it.
+    GoesOn(&'a [u8]),
+}
+
+impl<'a> Line<'a> {
+    pub fn read(text: &'a [u8]) -> Result<Line<'a>, Fault> {
+        match text {
+            [] | [b'#', ..] => Ok(Line::Nothing),
+            [letter] => Line::lettered(*letter, &[]),
+            [letter, b' ', rest @ ..] => Line::lettered(*letter, rest),
+            _ => Ok(Line::Request(text)),
+        }
+    }
+
+    fn lettered(letter: u8, rest: &'a [u8]) -> Result<Line<'a>, Fault> {
+        if letter == b'+' {
+            return Ok(Line::GoesOn(rest));
+        }
+        let letter = Letter::of(letter).ok_or(Fault::Malformed)?;
+        Ok(Line::Lends(letter, rest))
+    }
+}

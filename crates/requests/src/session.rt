@@ -1,0 +1,86 @@
+// What is kept from one line to the next, and what a line does.
+use crate::calls;
+use notation::fault::Fault;
+use notation::last::Last;
+use notation::lent::Lent;
+use notation::line::Line;
+use notation::outcome;
+use notation::outcome::{Outcome, RANGE, Ran};
+use notation::reading::Reading;
+use notation::tally::Tally;
+use std::alloc::Global;
+use std::io;
+
+#[derive(Drop)]
+pub(crate) struct Session {
+    alloc: Global,
+    lent: Lent,
+    last: Last,
+    tally: Tally,
+}
+
+impl Session {
+    pub(crate) fn new(alloc: Global) -> Session {
+        Session {
+            alloc,
+            lent: Lent::new(alloc),
+            last: Last::new(alloc),
+            tally: Tally::new(),
+        }
+    }
+
+    // Takes a line, and counts how it came out.
+    pub(crate) fn line(&mut self, rt: &impl Print, text: Result<&[u8], Fault>) -> io::Result<()> {
+        self.tally.count_line();
+        match self.take(text) {
+            Ok(None) => Ok(()),
+            Ok(Some(outcome)) => self.tally.count(rt, outcome, &self.last.answer),
+            Err(Fault::Malformed) => self.tally.count_malformed(rt),
+            Err(Fault::Failed(e)) => Err(e),
+        }
+    }
+
+    pub(crate) fn print(&self, rt: &impl Print) -> io::Result<()> {
+        self.tally.print(rt)
+    }
+
+    // What a line lends is kept. Returns how its request came out, if it has one.
+    fn take(&mut self, text: Result<&[u8], Fault>) -> Result<Option<Outcome>, Fault> {
+        match Line::read(text?)? {
+            Line::Nothing => Ok(None),
+            Line::Lends(letter, pieces) => {
+                self.lent.take(self.alloc, letter, pieces, &self.last)?;
+                Ok(None)
+            }
+            Line::Request(request) => Ok(Some(self.request(request)?)),
+            Line::GoesOn(request) => {
+                self.lent.go_on(&self.last)?;
+                Ok(Some(self.request(request)?))
+            }
+        }
+    }
+
+    fn request(&mut self, text: &[u8]) -> Result<Outcome, Fault> {
+        let reading = Reading::read(self.alloc, text, &self.last.answer)?;
+        let ran = self.make(&reading)?;
+        outcome::compare(self.alloc, &reading, ran, &self.lent, &self.last)
+    }
+
+    // Makes a call for each choice of a range.
+    fn make(&mut self, reading: &Reading) -> Result<Ran, Fault> {
+        let output = reading.named.output;
+        let sizes = self.lent.sizes();
+        let mut ran = Ran::new();
+        for t in 0..RANGE {
+            let Some(arguments) = reading.choice(t, sizes) else {
+                break;
+            };
+            self.last.restore(output, &self.lent)?;
+            let parts = self.lent.parts(arguments.sizes);
+            let answer = calls::answer(reading.named.call, &arguments, parts, &mut self.last);
+            self.last.answer = answer;
+            ran.take(output, &self.last);
+        }
+        Ok(ran)
+    }
+}

@@ -1,0 +1,14 @@
+-- By the laws of the answer at any width.
+use Rattle.std.proofs.Common.{arith}
+use Rattle.words.proofs.Counting.{ones-bits}
+use Rattle.words.proofs.NthLaws.{found, missing}
+use Rattle.words.proofs.nth.nth_set_bit.Goals as goal
+
+pub descend-requires : goal.descend-requires
+descend-requires g c = (c.requires.0, omega (arith, ones-bits g.row.WIDTH _ c.requires.1))
+
+pub returns-then-n-ones : goal.returns-then-n-ones
+returns-then-n-ones g c = found _ _ _ _ c.requires.1 c.if-n-ones.true c.descend.ensures
+
+pub returns-else-n-ones : goal.returns-else-n-ones
+returns-else-n-ones g c = missing _ _ _ c.requires.1 c.if-n-ones.false

@@ -1,0 +1,25 @@
+// What the combinations take of each operand: lent bytes and the flag from which on they are read. Calls with one operand (`copy`,
+// `count_ones`, `copy_count`, `all_are`, `differs_early`, `word_from`, `flag_at`) take the two as parameters: their callers have a slice
+// and a number that they reckon with, and would make a `Flags` for one call only.
+ghost use Rattle.std.specs.Prelude.{◌≡◌, ◌*◌, ◌+◌, ◌^◌, ◌<◌};
+ghost use Rattle.words.specs.Flags.{word_flags, flags_of, window};
+
+use crate::word::word_at;
+
+// The flags of `bytes` from flag `start` on. It goes by reference: by value each function that hands it on copies it, and 40 flags took
+// 1.04 to 1.12 of the instructions. The operands of a call have one lifetime, so that one may stand for two.
+#[derive(Clone, Copy)]
+pub struct Flags<'a> {
+    pub bytes: &'a [u8],
+    pub start: usize,
+}
+
+impl Flags<'_> {
+    // Returns word i of them, with zeros past the end of the bytes.
+    pub(crate) fn word(&self, i: usize) -> u64
+        requires { 64 * i < 2 ^ 64 }
+        ensures { word_flags result ≡ window (flags_of self.now.bytes.now) (self.now.start + 64 * i) 64 }
+    {
+        word_at(self.bytes, self.start / 8 + 8 * i, self.start % 8)
+    }
+}
