@@ -122,7 +122,9 @@ def types_only(text):
         if what in ("mod", "struct", "enum", "trait", "type", "const"):
             kept.append(text[start:end])
         elif what == "ghost use":
-            ghosts.append(text[start:end])
+            # laws of the repository are named by `impl` blocks alone, which are cut away
+            if not re.search(r"\bRattle\.(?!core\b|std\b)\w+\.proofs\.", text[start:end]):
+                ghosts.append(text[start:end])
         elif what == "use":
             imports += imported(text[start:end])
         elif what == "impl":

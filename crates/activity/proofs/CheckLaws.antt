@@ -1,12 +1,11 @@
 -- The test of a record: its folds, and what it says fact by fact. Assumes nothing.
-use Rattle.std.proofs.Common.{◌≡◌, ◌∙◌, ◌-◌, ◌≤◌, ◌==◌, ◌&&◌, ◌∷◌, [], ℕ, zero, suc, Bool, true, false, List, refl, sym}
-use Rattle.std.proofs.Common.{ap, ap₂, arith, eqb, fold, length, take, drop, replicate, length-take, length-drop}
-use Rattle.std.proofs.lemmas.Bool.{and_parts, and_from, eqb-true}
-use Rattle.std.proofs.lemmas.Bool.Decides.{nat_tests}
+use Rattle.std.proofs.Common.{◌≡◌, ◌∙◌, ◌-◌, ◌≤◌, ◌==◌, ◌&&◌, ◌∷◌, [], ℕ, zero, suc, Bool, true, false, List, refl, sym, ap, ap₂, arith}
+use Rattle.std.proofs.Common.{eqb, fold, length, take, drop, replicate, length-take, length-drop, eq-eqb}
 use Rattle.std.proofs.Math.Bool.{and_assoc, and-true}
 use Rattle.std.proofs.Math.Seq.{take_all}
+use Rattle.std.proofs.lemmas.Bool.{and_parts, and_from, eqb-true}
+use Rattle.std.proofs.lemmas.Bool.Decides.{nat_tests}
 use Rattle.std.specs.List.{zip}
-use borrow.Author.Tests.{eq-eqb}
 use Rattle.words.specs.Columns.{column_counts}
 use Rattle.activity.specs.Checks.{width_fits, place_fits, inside_fits, numbers_fit, all_zero, same_numbers, words_fit, left_by_minutes}
 use Rattle.activity.specs.Workers.{Good}

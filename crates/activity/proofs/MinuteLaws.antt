@@ -4,14 +4,14 @@ use Rattle.std.proofs.Common.{◌≡◌, refl, sym, ap, ◌∙◌, subst, Bool, 
 use Rattle.std.proofs.Common.{◌+◌, ◌-◌, ◌%◌, ◌≤◌, ◌<◌, min, mod-lt, mod-eq_of_lt, zero-add, add-one, arith, length, take, drop, get_or}
 use Rattle.std.proofs.Common.{set, replicate, length-set, length-append, length-take, length-drop, drop_of_length-le, take-append-drop}
 use Rattle.std.proofs.Common.{take-suc-set, drop-set-lt, drop-cons, drop-drop, take-take, length-take-le}
-use Rattle.std.proofs.Math.Nat.{zero-mod, mod_self, mod-add-mod}
 use Rattle.std.proofs.Math.ListN.{length-replicate}
+use Rattle.std.proofs.Math.Nat.{zero-mod, mod_self, mod-add-mod}
 use Rattle.std.proofs.Math.Seq.{take-set-lt, drop-append-le, drop-nil}
+use Rattle.std.proofs.lemmas.Bool.{cases_lt}
 use Rattle.words.specs.Flags.{count}
 use Rattle.words.specs.Columns.{column, columns_from, column_counts}
 use Rattle.words.proofs.ColumnLaws.{column-append, columns-alike}
 use Rattle.words.proofs.Counting.{count-append}
-use Rattle.words.proofs.Windows.{lt-or-le}
 use Rattle.activity.specs.Minutes.{placed, left_by, last_of, pushes}
 use Rattle.activity.specs.Window.{Answer, zeros, holding, no_minute, minute_on, accepted, refused, push_of}
 use Rattle.activity.specs.Workers.{Good}
@@ -59,7 +59,7 @@ module _ (words : List ℕ) (p f w m : ℕ) (inside : p < w) (long : w ≤ lengt
       (drop_of_length-le (take (p + 1) (set words p m)) {i = p + 1} (omega (arith, length-take (p + 1) (set words p m)))))
       (λ (l : w ≤ p + 1).
       let e : p + 1 ≡ w = omega arith in ap (λ (n : ℕ). in_order (set words p m) ((p + 1) % w) n) e ∙ order-round e)
-      (lt-or-le (p + 1) w)
+      (cases_lt (p + 1) w)
 
   -- as many words as places: the oldest goes
   full-order : in_order (set words p m) ((p + 1) % w) w ≡ drop (suc p) (take w words) ++ (take p words ++ (m ∷ []))
@@ -74,7 +74,7 @@ module _ (words : List ℕ) (p f w m : ℕ) (inside : p < w) (long : w ≤ lengt
       order-round e
       ∙ ap (λ (t : List ℕ). t ++ (take p words ++ (m ∷ [])))
       (sym (drop_of_length-le (take w words) {i = suc p} (omega (arith, length-take w words)))))
-      (lt-or-le (p + 1) w)
+      (cases_lt (p + 1) w)
 
   last-fill : p + 1 ≤ w → last_of w (take p words ++ (m ∷ [])) ≡ take p words ++ (m ∷ [])
   last-fill h =
@@ -113,7 +113,7 @@ module _ (words : List ℕ) (p f w m : ℕ) (inside : p < w) (long : w ≤ lengt
       let k : min (f + 1) w ≡ w = omega arith in
       ap (λ (n : ℕ). in_order (set words p m) ((p + 1) % w) n) k ∙ full-order ∙ sym last-full
       ∙ ap (λ (n : ℕ). last_of w (in_order words p n ++ (m ∷ []))) (sym e))
-      (lt-or-le f w)
+      (cases_lt f w)
 
 -- the last of the last and one more
 pub last-last : (w : ℕ) (done : List ℕ) (m : ℕ) → last_of w (last_of w done ++ (m ∷ [])) ≡ last_of w (done ++ (m ∷ []))

@@ -2,11 +2,12 @@
 use Rattle.std.proofs.Common.{◌≡◌, refl, sym, ap, ap₂, ◌∙◌, Bool, true, cond, List, [], ◌∷◌, ◌++◌, ⊎_elim, ℕ, zero, suc, ◌+◌, ◌-◌, ◌%◌}
 use Rattle.std.proofs.Common.{◌≤◌, ◌<◌, min, mod-eq_of_lt, zero-add, arith, length, take, drop, set, replicate, length-append}
 use Rattle.std.proofs.Common.{length-drop, take-append-drop, length-take-le}
-use Rattle.std.proofs.Math.Nat.{add-mod_left}
 use Rattle.std.proofs.Math.ListN.{length-replicate}
+use Rattle.std.proofs.Math.Nat.{add-mod_left}
 use Rattle.std.proofs.Math.Seq.{sets, sets-eq}
+use Rattle.std.proofs.lemmas.List.{drop-replicate}
+use Rattle.std.proofs.lemmas.Bool.{cases_lt}
 use Rattle.words.specs.Columns.{column_counts}
-use Rattle.words.proofs.Windows.{lt-or-le}
 use Rattle.activity.specs.Checks.{width_fits, left_by_minutes}
 use Rattle.activity.specs.Minutes.{placed, left_by, last_of, pushes, Words, Run, Statements}
 use Rattle.activity.specs.Window.{Answer, zeros, no_minute, accepted, refused, uncounted, new_of, counts_of}
@@ -36,7 +37,7 @@ place-le : (a : ActivityWindow) → Good a → a.place ≤ a.fill
 place-le a g = ⊎_elim
     (λ (l : a.fill < a.width). let e : a.place ≡ a.fill = g.behind l in omega arith)
     (λ (l : a.width ≤ a.fill). omega (arith, g.inside))
-    (lt-or-le a.fill a.width)
+    (cases_lt a.fill a.width)
 
 left-counts : (w : ℕ) (minutes : List ℕ) → After w minutes → (left_by w minutes).counts ≡ column_counts (last_of w minutes)
 left-counts w minutes at =
@@ -91,11 +92,6 @@ first_round w j h = ap (λ (n : ℕ). n % w) (zero-add j) ∙ mod-eq_of_lt h
 second-round : (w j : ℕ) → j < w → (w + j) % w ≡ j
 second-round w j h = add-mod_left w j ∙ mod-eq_of_lt h
 
-drop-zeros : (n k : ℕ) → drop {A = ℕ} n (replicate k 0) ≡ replicate (k - n) 0
-drop-zeros zero k = let e : k ≡ k - 0 = omega arith in ap (λ (x : ℕ). replicate x 0) e
-drop-zeros (suc n) zero = let e : 0 ≡ 0 - suc n = omega arith in ap (λ (x : ℕ). replicate x 0) e
-drop-zeros (suc n) (suc k) = let e : k - n ≡ suc k - suc n = omega arith in drop-zeros n k ∙ ap (λ (x : ℕ). replicate x 0) e
-
 module _ (a : ActivityWindow) (long : length a.words ≡ 256) (fit : Words a.words) (g : Good a) where
   length-kept : length (take a.fill a.words) ≡ a.fill
   length-kept = length-take-le a.fill a.words (omega (arith, g.within, g.most))
@@ -110,7 +106,7 @@ module _ (a : ActivityWindow) (long : length a.words ≡ 256) (fit : Words a.wor
       (omega (arith, length-kept, g.within))
       (omega (arith, length-replicate {A = ℕ} 256 0, g.most))
       ∙ ap (λ (l : List ℕ). take a.fill a.words ++ l)
-      (drop-zeros (length (take a.fill a.words)) 256 ∙ ap (λ (x : ℕ). replicate x 0) n
+      (drop-replicate (length (take a.fill a.words)) 256 0 ∙ ap (λ (x : ℕ). replicate x 0) n
       ∙ sym (zero-words (drop a.fill a.words) g.unused))
       ∙ take-append-drop a.fill a.words
 
@@ -156,7 +152,7 @@ module _ (a : ActivityWindow) (long : length a.words ≡ 256) (fit : Words a.wor
       }
 
   a-run : Run a
-  a-run = ⊎_elim (λ (h : a.fill < a.width). few h) (λ (h : a.width ≤ a.fill). full h) (lt-or-le a.fill a.width)
+  a-run = ⊎_elim (λ (h : a.fill < a.width). few h) (λ (h : a.width ≤ a.fill). full h) (cases_lt a.fill a.width)
 
 pub statements : Statements
 statements =

@@ -1,12 +1,11 @@
 -- One minute more: the words behind the kept ones stay zero, and the counts that are exchanged are those of the new words.
 -- Assumes nothing.
-use Rattle.std.proofs.Common.{◌≡◌, sym, ap, ◌∙◌, true, List, ◌++◌, ⊎_elim, ℕ, ◌+◌, ◌%◌, ◌≤◌, ◌<◌, min, arith}
-use Rattle.std.proofs.Common.{length, take, drop, get_or, set, length-set, take-append-drop, drop-set-lt, get_or-set_same}
-use Rattle.std.proofs.Common.{get_or-set_other}
+use Rattle.std.proofs.Common.{◌≡◌, sym, ap, ◌∙◌, true, List, ◌++◌, ⊎_elim, ℕ, ◌+◌, ◌%◌, ◌≤◌, ◌<◌, min, arith, length, take, drop, get_or}
+use Rattle.std.proofs.Common.{set, length-set, take-append-drop, drop-set-lt, get_or-set_same, get_or-set_other}
+use Rattle.std.proofs.lemmas.Bool.{cases_lt}
 use Rattle.words.specs.Flags.{count}
 use Rattle.words.specs.Columns.{column, column_counts}
 use Rattle.words.proofs.ColumnLaws.{column-le, column-set, digit-counted, digit-small, at-columns, columns-are, columns-padded}
-use Rattle.words.proofs.Windows.{lt-or-le}
 use Rattle.activity.specs.Checks.{all_zero}
 use Rattle.activity.specs.Window.{minute_on}
 use Rattle.activity.specs.Workers.{Good, Holds, Exchanged}
@@ -51,7 +50,7 @@ module _ (a : ActivityWindow) (g : Good a) (long : length a.words ≡ 256) where
   place_kept = ⊎_elim
       (λ (h : a.fill < a.width). let e : a.place ≡ a.fill = g.behind h in omega (arith, g.inside))
       (λ (h : a.width ≤ a.fill). omega (arith, g.inside))
-      (lt-or-le a.fill a.width)
+      (cases_lt a.fill a.width)
 
   module _ (w : ℕ) where
     pub still-zero : all_zero (drop (min (a.fill + 1) a.width) (set a.words a.place w)) ≡ true

@@ -113,17 +113,16 @@ fn moved(count: u32, plus: u32, minus: u32) -> u32
 
 // Returns the counts with the flags of one word taken off and those of another added.
 #[tactic(auto, using(crate::proofs::WindowLaws::exchanging), unfolding(crate::specs::Workers::Holds, crate::specs::Workers::Exchanged))]
-fn exchange(counts: [u32; 64], old: u64, new: u64) -> [u32; 64]
+fn exchange(mut counts: [u32; 64], old: u64, new: u64) -> [u32; 64]
     requires { Holds counts old }
     ensures { (length result ≡ 64) × Exchanged counts old new result 64 }
 {
-    let mut out = [0; 64];
-    for c in 0..64 {
+    for (c, count) in counts.iter_mut().enumerate() {
         let plus = flag_digit(new, c);
         let minus = flag_digit(old, c);
-        out[c] = moved(counts[c], plus, minus);
+        *count = moved(*count, plus, minus);
     }
-    out
+    counts
 }
 
 // Returns the window one minute on. Where not all places are taken the word at the place is zero, so the oldest word's flags are

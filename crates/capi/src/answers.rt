@@ -1,5 +1,6 @@
 // The records in which answers cross to C and Rust. `refusal` is 0, or the number of the refusing check. On refusal a record is
-// the very one that the call got, where it got one of that kind and gives it back; every other field is 0.
+// the very one that the call got, where it got one of that kind and gives it back; every other field is 0. A number for a refusal and a
+// flag beside a value stand here, and in the parameters of the exports, since C has neither `Result` nor `Option`.
 ghost use Rattle.std.specs.Prelude.{◌≡◌};
 ghost use Rattle.masks.specs.Answer.{answer, answer_back};
 ghost use Rattle.capi.specs.Answers.{as_flag, as_mask, as_number};

@@ -13,7 +13,7 @@ use masks::bitmap::{Bitmap, Recounted};
 use masks::compare::{eq, num_edges, num_intersections_with};
 use masks::refusal::Refused;
 
-// `came` is the record that the export got.
+// `came` is the record that the export got: what stands beside the result, so that this and the next are no `From`.
 #[tactic(auto, unfolding(crate::specs::Answers::as_same_mask))]
 fn sliced_out(came: Mask, r: Result<Bitmap, Refused<Bitmap>>) -> MaskAnswer
     ensures { result ≡ as_same_mask came (answer_back r) }

@@ -161,6 +161,6 @@ pub extern "C" fn pw_get_u32(bytes: &[u8], start: usize, length: usize, index: u
     ensures { result ≡ as_number (window_at bytes.now start length index) }
 {
     get_u32(bytes, start, length, index)
-        .map(|w| w as usize)
+        .map(|w| w as usize) // `usize` has no `From` of a u32
         .into()
 }

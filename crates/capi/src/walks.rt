@@ -31,7 +31,7 @@ pub(crate) trait Walk: Copy {
         ensures { result ≡ standing self };
 }
 
-// What a cursor gives, as `value` and `count` of a step.
+// What a cursor gives, as `value` and `count` of a step: by `as`, since a u64 has no `From` of a `usize`.
 pub(crate) trait Item: Copy {
     ghost valued: { Self → ℕ };
 
@@ -41,7 +41,7 @@ pub(crate) trait Item: Copy {
         ensures { result ≡ (valued self, counted self) };
 }
 
-// A cursor in one line, for the four below.
+// A cursor in one line, for the four below, each of which names its own record's definition.
 fn cursor_of(start: usize, length: usize, place: usize, masked: u8) -> Cursor
     ensures { result ≡ cursor_of start length place masked }
 {

@@ -1,6 +1,8 @@
 -- `offer` by the search `next_and_not`: the number of windows that the search gives is the one in the paper's words, and at most
 -- ceil(length / 32) + 1. Assumes nothing.
 use Rattle.std.specs.Prelude.{Option, Some, None}
+use Rattle.std.proofs.lemmas.Bool.{cases_lt}
+use Rattle.std.proofs.lemmas.Option.{none-some, same_Some}
 use mathlib.Core.Path.{◌≡◌, refl, sym, ap, ap₂, ◌∙◌, subst}
 use mathlib.Core.Bool.{Bool, true}
 use mathlib.Core.List.{List, [], ◌∷◌, ◌++◌, append-nil}
@@ -10,18 +12,24 @@ use native.Mathlib.Omega.{arith}
 use lib.Dec.{leb}
 use lib.ListN.{length, length-append}
 use borrow.Author.Tests.{lt-ltb, le-ltb, le-leb, lt-leb}
+use Rattle.std.specs.Result.{IsErrAnd}
+use Rattle.std.proofs.lemmas.Result.{err_from_is_err_and}
+use Rattle.std.proofs.Common.{Result, Err}
+use Rattle.masks.specs.Refusal.{number as number_of}
+use Rattle.dispatch.specs.declared.offer.NoOffer.{NoOffer}
+use Rattle.dispatch.specs.Offer.{offer_answer}
 use Rattle.masks.specs.declared.next_and_not.Found.{Found}
 use Rattle.masks.specs.Answer.{given, refused, decided}
 use Rattle.masks.specs.Checks.{check, earlier, first_failed, limit}
 use Rattle.masks.specs.Mask.{mask_checks}
 use Rattle.masks.specs.NextAndNot.{free_flags, going_round, next_and_not_of, next_checks, next_set, other_checks, windows_of}
-use Rattle.masks.specs.Workers.{Searchable}
 use Rattle.masks.specs.Search.{nth_from}
 use Rattle.masks.specs.declared.bitmap.Bitmap.{Bitmap}
 use Rattle.masks.proofs.AnswerLaws.{given-number, given-value, refused-failed, refused-number}
 use Rattle.masks.proofs.CheckLaws.{earlier-none, failed-append, is-given, is-refused, one-check}
+use Rattle.masks.specs.Workers.{Searchable}
 use Rattle.masks.proofs.NextAndNotLaws.{free-length, next-allowed}
-use Rattle.masks.proofs.NextPlain.{lt-or-le, none-some, some-ahead, some-before, some_same}
+use Rattle.masks.proofs.NextPlain.{some-ahead, some-before}
 use Rattle.dispatch.specs.declared.offer.Offering.{Offering}
 use Rattle.dispatch.specs.Offer.{beginning, in_order, most_windows, moved_to, next_truck, offer_checks, offered_of, offering, offer_of, or_else, up_to, windows_read}
 
@@ -35,7 +43,7 @@ beginning-length (suc most) from end h = ⊎_elim
     (λ (b : from < end).
     rw (lt-ltb from end b) (let ih = beginning-length most (from + 32) end (omega arith) in omega (arith, ih)))
     (λ (b : end ≤ from). rw (le-ltb from end b) (omega arith))
-    (lt-or-le from end)
+    (cases_lt from end)
 
 -- the one that holds a truck from the first one on
 up_to_there : (most from end t : ℕ) (more : List ℕ) → end - from ≤ 32 * most → from ≤ t → t < end
@@ -48,7 +56,7 @@ up_to_there (suc most) from end t more h a b = ⊎_elim
     (λ (n : from + 32 ≤ t).
     rw (lt-ltb from end (omega arith), le-leb from t a, le-ltb t (from + 32) n)
     (let ih = up_to_there most (from + 32) end t more (omega arith) n b in omega (arith, ih)))
-    (lt-or-le t (from + 32))
+    (cases_lt t (from + 32))
 
 -- none of those that begin after it
 up_to_past : (most from end t : ℕ) (more : List ℕ) → t < from → up_to t (beginning most from end ++ more) ≡ length (beginning most from end) + up_to t more
@@ -58,7 +66,7 @@ up_to_past (suc most) from end t more h = ⊎_elim
     (λ (b : from < end).
     rw (lt-ltb from end b, lt-leb from t h) (let ih = up_to_past most (from + 32) end t more (omega arith) in omega (arith, ih)))
     (λ (b : end ≤ from). rw (le-ltb from end b) (omega arith))
-    (lt-or-le from end)
+    (cases_lt from end)
 
 -- ---- the number that the search gives
 
@@ -123,8 +131,8 @@ module _ (n cursor : ℕ) (inside : cursor ≤ n) where
 
     inside-here : (A B : Option ℕ) (t : ℕ) → nth_from l 0 cursor ≡ A → nth_from l 0 0 ≡ B → (going_round n cursor A B).position ≡ Some t → t < n
     unfolding going_round
-    inside-here (Some p) B t e f g = omega (arith, (some-ahead l cursor p e).1, some_same p t g)
-    inside-here None (Some p) t e f g = omega (arith, (some-ahead l 0 p f).1, some_same p t g)
+    inside-here (Some p) B t e f g = omega (arith, (some-ahead l cursor p e).1, same_Some p t g)
+    inside-here None (Some p) t e f g = omega (arith, (some-ahead l 0 p f).1, same_Some p t g)
     inside-here None None t e f g = absurd (none-some t g)
 
     -- a truck that is found is one of them
@@ -212,3 +220,10 @@ module _ (p_bytes : List ℕ) (R : Option Bitmap) (r : Bitmap) (r_bytes : List �
 pub no-mask-way : (p_bytes : List ℕ) (R : Option Bitmap) (r_bytes : List ℕ) (cursor : ℕ) → R ≡ None → given (offered cursor None 0) ≡ offer_of None p_bytes R r_bytes cursor
 unfolding offer_of offer_checks offered_of first_failed decided
 no-mask-way p_bytes R r_bytes cursor gone = ap (λ (o : Option Bitmap). offer_of None p_bytes o r_bytes cursor) (sym gone)
+
+-- the exit of a `?` gives the refusal and the cursor
+pub offer-exit : (result : Result Offering NoOffer) (x : NoOffer) → IsErrAnd result (λ (y : NoOffer). y ≡ x) → (cursor : ℕ) → x.cursor ≡ cursor
+    → offer_answer result ≡ refused (number_of x.refusal) cursor
+offer-exit result x h cursor e =
+    let p = err_from_is_err_and result h in
+    ap offer_answer (p.1 ∙ ap (λ (y : NoOffer). Err y) p.2) ∙ ap (refused (number_of x.refusal)) e

@@ -1,15 +1,16 @@
 -- The trucks around a cursor: those from it on, then those before it. A call offers the first of them, and around the cursor that it
 -- leaves are the others and then this one. Assumes nothing.
+use Rattle.std.proofs.lemmas.Bool.{cases_lt}
 use mathlib.Core.Path.{◌≡◌, refl, sym, ap, ap₂, ◌∙◌}
 use mathlib.Core.Bool.{Bool, true, false, cond, ◌&&◌}
-use mathlib.Core.List.{List, [], ◌∷◌, ◌++◌, append-nil, append_assoc}
+use mathlib.Core.List.{List, [], ◌∷◌, ◌++◌, append-nil, append_assoc, append-eq-nil_iff, cons-ne-nil}
 use mathlib.Core.Logic.{⊎_elim}
 use Prim.Native.Nat.{ℕ, zero, suc, ◌+◌, ◌-◌, ◌≤◌, ◌<◌}
 use native.Mathlib.Omega.{arith}
 use lib.Dec.{eqb, ltb}
 use lib.ListN.{length, length-append}
 use borrow.Author.Tests.{eq-eqb, ne_eqb, lt-ltb, le-ltb}
-use Rattle.masks.proofs.NextPlain.{head_of, lt-or-le, ones}
+use Rattle.masks.proofs.NextPlain.{head_of, ones}
 use Rattle.dispatch.specs.Offer.{or_else}
 use Rattle.dispatch.specs.Rounds.{many_below, times}
 
@@ -39,9 +40,6 @@ pub record Starts (f : ℕ → Bool) (a m t : ℕ) (rest : List ℕ) : Type 0 wh
   pub is_set : f t ≡ true
   pub before : ones f a (t - a) ≡ []
   pub after : rest ≡ ones f (t + 1) (a + m - (t + 1))
-
-no_item : (t : ℕ) (rest : List ℕ) → [] ≡ t ∷ rest → ⊥
-no_item t rest e = let z : ◌≡◌ {A = ℕ} 0 (suc (length rest)) = ap length e in omega arith
 
 first-item : (u t : ℕ) (us rest : List ℕ) → u ∷ us ≡ t ∷ rest → (u ≡ t) × (us ≡ rest)
 first-item u t us rest e = (cc, cc)
@@ -77,13 +75,13 @@ starts-here f a m t rest false h ih e =
 
 starts : (f : ℕ → Bool) (a m t : ℕ) (rest : List ℕ) → ones f a m ≡ t ∷ rest → Starts f a m t rest
 unfolding ones
-starts f a zero t rest e = absurd (no_item t rest e)
+starts f a zero t rest e = absurd (cons-ne-nil t rest (sym e))
 starts f a (suc m) t rest e = starts-here f a m t rest (f a) refl (λ g. starts f (suc a) m t rest g) e
 
 -- a range with none
 empty-here : (f : ℕ → Bool) (a m : ℕ) (x : Bool) → f a ≡ x → cond x (a ∷ ones f (suc a) m) (ones f (suc a) m) ≡ []
     → (f a ≡ false) × (ones f (suc a) m ≡ [])
-empty-here f a m true h e = absurd (no_item a (ones f (suc a) m) (sym e))
+empty-here f a m true h e = absurd (cons-ne-nil a (ones f (suc a) m) e)
 empty-here f a m false h e = (h, e)
 
 pub none-set : (f : ℕ → Bool) (a m : ℕ) → ones f a m ≡ [] → (j : ℕ) → a ≤ j → j < a + m → f j ≡ false
@@ -93,7 +91,7 @@ none-set f a (suc m) e j p q =
     let both = empty-here f a m (f a) refl e in ⊎_elim
     (λ (h : a < j). none-set f (suc a) m both.1 j (omega arith) (omega arith))
     (λ (h : j ≤ a). let z : j ≡ a = omega arith in ap f z ∙ both.0)
-    (lt-or-le a j)
+    (cases_lt a j)
 
 -- ---- around a cursor
 
@@ -183,16 +181,12 @@ turn_by f n c t rest h (u ∷ us) g e =
 pub turn : (f : ℕ → Bool) (n c t : ℕ) (rest : List ℕ) → c ≤ n → around f n c ≡ t ∷ rest → Turned f n c t rest
 turn f n c t rest h e = turn_by f n c t rest h (ones f c (n - c)) refl e
 
-both-empty : (X Y : List ℕ) → X ++ Y ≡ [] → (X ≡ []) × (Y ≡ [])
-both-empty [] Y e = (refl, e)
-both-empty (t ∷ X) Y e = absurd (no_item t (X ++ Y) (sym e))
-
 pub none_around : (f : ℕ → Bool) (n c : ℕ) → c ≤ n → around f n c ≡ [] → (j : ℕ) → j < n → f j ≡ false
 none_around f n c h e j q =
-    let both = both-empty (ones f c (n - c)) (ones f 0 c) e in ⊎_elim
+    let both : (ones f c (n - c) ≡ []) × (ones f 0 c ≡ []) = append-eq-nil_iff.0 e in ⊎_elim
     (λ (b : j < c). none-set f 0 c both.1 j (omega arith) (omega arith))
     (λ (b : c ≤ j). none-set f c (n - c) both.0 j b (omega arith))
-    (lt-or-le j c)
+    (cases_lt j c)
 
 -- ---- how many, and how often
 
@@ -254,7 +248,7 @@ times-in f a (suc m) t p q = ⊎_elim
     let z : a ≡ t = omega arith in
     ap (λ (x : ℕ). times t (cond (f x) (x ∷ ones f (suc x) m) (ones f (suc x) m))) z
     ∙ once-here t (f t) (ones f (suc t) m) (times-low f (suc t) m t (omega arith)))
-    (lt-or-le a t)
+    (cases_lt a t)
 
 -- each truck below n that f has, once
 pub around_times : (f : ℕ → Bool) (n c t : ℕ) → c ≤ n → times t (around f n c) ≡ cond (ltb t n && f t) 1 0
@@ -266,8 +260,8 @@ around_times f n c t h = times-append t (ones f c (n - c)) (ones f 0 c) ∙ ⊎_
     (λ (d : c ≤ t).
     ap₂ (λ (x y : ℕ). x + y) (times-in f c (n - c) t d (omega arith)) (times-high f 0 c t (omega arith))
     ∙ (let z : cond (f t) 1 0 + 0 ≡ cond (f t) 1 0 = omega arith in z) ∙ ap (λ (x : Bool). cond (x && f t) 1 0) (sym (lt-ltb t n b)))
-    (lt-or-le t c))
+    (cases_lt t c))
     (λ (b : n ≤ t).
     ap₂ (λ (x y : ℕ). x + y) (times-high f c (n - c) t (omega arith)) (times-high f 0 c t (omega arith))
     ∙ ap (λ (x : Bool). cond (x && f t) 1 0) (sym (le-ltb t n b)))
-    (lt-or-le t n)
+    (cases_lt t n)

@@ -1,7 +1,10 @@
 -- What `offer` means for trucks: `right` of one call, `round` of as many calls as there are trucks that may be reassigned. Assumes nothing.
 use Rattle.std.specs.Prelude.{Option, Some}
+use Rattle.std.proofs.lemmas.Option.{none-some, same_Some}
+use Rattle.std.proofs.lemmas.Bool.{true≢false}
+use Rattle.std.proofs.lemmas.List.{take-append-le}
 use mathlib.Core.Path.{◌≡◌, refl, sym, ap, ap₂, ◌∙◌, subst}
-use mathlib.Core.Bool.{Bool, true, false}
+use mathlib.Core.Bool.{Bool, false}
 use mathlib.Core.List.{List, [], ◌∷◌, ◌++◌}
 use Prim.Native.Nat.{ℕ, zero, suc, ◌+◌, ◌-◌, ◌≤◌}
 use native.Mathlib.Omega.{arith}
@@ -10,26 +13,16 @@ use lib.Seq.{take_all}
 use Rattle.masks.specs.Answer.{Answer, given}
 use Rattle.masks.specs.Checks.{first_failed}
 use Rattle.masks.specs.NextAndNot.{free_flags}
-use Rattle.masks.specs.Workers.{Searchable}
 use Rattle.masks.specs.declared.bitmap.Bitmap.{Bitmap}
 use Rattle.masks.proofs.CheckLaws.{is-given}
+use Rattle.masks.specs.Workers.{Searchable}
 use Rattle.masks.proofs.NextAndNotLaws.{elsewhere-accepted, free-length, next-allowed}
-use Rattle.masks.proofs.NextPlain.{first-listed, free-flag, head_of, none-some, ones, ones-same, some_same}
+use Rattle.masks.proofs.NextPlain.{first-listed, free-flag, head_of, ones, ones-same}
 use Rattle.dispatch.specs.Dispatch.{reassignable}
 use Rattle.dispatch.specs.declared.offer.Offering.{Offering}
 use Rattle.dispatch.specs.Offer.{moved_to, next_truck, offer_checks, offered_of, offering, offer_of, or_else}
 use Rattle.dispatch.specs.Rounds.{Accepted, ARound, cursor_of, First, many_below, may, offers, OneCall, Right, times, truck_in, trucks_of}
 use Rattle.dispatch.proofs.RoundLaws.{around, around_first, around_many, around_times, none_around, turn}
-
--- ---- lists
-
-take-front : (k : ℕ) (a b : List ℕ) → k ≤ length a → take k (a ++ b) ≡ take k a
-take-front zero a b h = refl
-take-front (suc k) [] b h = absurd (omega arith)
-take-front (suc k) (t ∷ a) b h = ap (λ (l : List ℕ). t ∷ l) (take-front k a b (omega arith))
-
-set-clear : (x : Bool) → x ≡ true → x ≡ false → ⊥
-set-clear x e f = let t : true ≡ false = sym e ∙ f in let z : ◌≡◌ {A = ℕ} 0 1 = cc t in omega arith
 
 -- ---- one call
 
@@ -48,9 +41,9 @@ module _ (f : ℕ → Bool) (n c : ℕ) (inside : c ≤ n) (o : Offering) (moved
       let there : First f n c t = record { below = T.below; allowed = T.is_set; ahead = T.ahead; behind = T.behind; least = T.least } in
       record {
         none_then = λ h. absurd (none-some t (sym h ∙ e));
-        then-none = λ h. absurd (set-clear (f t) T.is_set (h t T.below));
+        then-none = λ h. absurd (true≢false (sym T.is_set ∙ h t T.below));
         stays = λ h. moved ∙ ap (λ (u : Option ℕ). moved_to u c) h;
-        first = λ u h. subst (λ (x : ℕ). First f n c x) (some_same t u (sym e ∙ h)) there;
+        first = λ u h. subst (λ (x : ℕ). First f n c x) (same_Some t u (sym e ∙ h)) there;
         moves = λ u h. moved ∙ ap (λ (x : Option ℕ). moved_to x c) h;
       }
 
@@ -113,7 +106,7 @@ module _ (p : Bitmap) (p_bytes : List ℕ) (R : Option Bitmap) (r_bytes : List �
       let room : k ≤ length (around (may p p_bytes R r_bytes) p.length (t + 1)) = omega (arith, ap length T.turned, length-append rest (t ∷ [])) in
       let more = ih (t + 1) (elsewhere-accepted p p_bytes R r_bytes cursor (t + 1) e (omega (arith, T.below))) room in
       ap₂ (λ (a b : List ℕ). a ++ b) here
-      (ap (offers call k) next ∙ more ∙ ap (take k) T.turned ∙ take-front k rest (t ∷ []) (omega arith))
+      (ap (offers call k) next ∙ more ∙ ap (take k) T.turned ∙ take-append-le k rest (t ∷ []) (omega arith))
 
   offers-first : (k cursor : ℕ) → Accepted p p_bytes R r_bytes cursor → k ≤ length (around (may p p_bytes R r_bytes) p.length cursor)
       → offers call k cursor ≡ take k (around (may p p_bytes R r_bytes) p.length cursor)

@@ -14,7 +14,8 @@ pub struct Offering {
     pub windows: usize,
 }
 
-// The refusal of a check, and the cursor as it came.
+// The refusal of a check, and the cursor as it came. Not masks' `Refused`: of the types of masks this crate names only those that
+// combinations and searches take or give.
 #[derive(Clone, Copy, PartialEq, Eq, Debug)]
 pub struct NoOffer {
     pub refusal: Refusal,
@@ -51,16 +52,14 @@ fn offer_next(
         offer_of (Some permission) permission_bytes.now revocation revocation_bytes.now cursor }
     ensures bound { windows_in result ≤ most_windows (Some permission) }
 {
-    let found = match next_and_not(
+    let found = next_and_not(
         permission,
         permission_bytes,
         revocation,
         revocation_bytes,
         cursor,
-    ) {
-        Ok(found) => found,
-        Err(refusal) => return Err(NoOffer { refusal, cursor }),
-    };
+    )
+    .map_err(|refusal| NoOffer { refusal, cursor })?;
     match found.position {
         Some(truck) => {
             let next = truck + 1;
@@ -90,9 +89,7 @@ fn offer_none(
 {
     if let Some(m) = revocation {
         let search = next_and_not(m, revocation_bytes, None, permission_bytes, 0);
-        if let Err(refusal) = search {
-            return Err(NoOffer { refusal, cursor });
-        }
+        search.map_err(|refusal| NoOffer { refusal, cursor })?;
     }
     Ok(Offering {
         truck: None,

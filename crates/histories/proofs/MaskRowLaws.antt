@@ -1,7 +1,8 @@
 -- The rows of masks are lawful: `slice`, `unset_bits` and the eight combinations. Assumes nothing.
 use Rattle.std.specs.Prelude.{Some}
+use Rattle.std.proofs.lemmas.List.{length-map}
 use mathlib.Core.Path.{◌≡◌, refl, sym, ap₂, ◌∙◌, subst}
-use mathlib.Core.Bool.{Bool, true, false, cond, xor as exclusive}
+use mathlib.Core.Bool.{Bool, true, false, cond, xor as exclusive, not}
 use mathlib.Core.List.{List, [], ◌∷◌, ◌++◌, zip_with}
 use Prim.Native.Nat.{ℕ, zero, suc, ◌+◌, ◌*◌, ◌/◌, ◌≤◌}
 use native.Mathlib.Omega.{arith}
@@ -24,7 +25,7 @@ use Rattle.masks.specs.declared.bitmap.Bitmap.{Bitmap}
 use Rattle.masks.proofs.AnswerLaws.{given-number, given-value, refused-state}
 use Rattle.masks.proofs.CheckLaws.{both_left, both_right, first-allowed, rest-allowed}
 use Rattle.masks.proofs.CombineLaws.{pair_lengths, select_lengths}
-use Rattle.masks.proofs.LengthLaws.{length-not, length-zip2, length-zip3, output-allowed}
+use Rattle.masks.proofs.LengthLaws.{length-zip2, length-zip3, output-allowed}
 use Rattle.masks.proofs.MaskLaws.{mask-allowed, mask-truthful, piece-allowed}
 use Rattle.masks.proofs.PairPlain.{each-length, flags-length, pair-truthful}
 use Rattle.masks.proofs.SliceTruth.{none_true, result-true, slice-accepted, slice-flags, slice-true}
@@ -233,7 +234,7 @@ unfolding not_checks
 not_writable x out e =
     let a = x.mask in
     let a_b = x.bytes in
-    let long = length-not (mask_flags a a_b) ∙ length-window (flags_of a_b) a.start a.length in
+    let long = length-map (mask_flags a a_b) not ∙ length-window (flags_of a_b) a.start a.length in
     record {
       long = long;
       short = (mask-allowed a a_b (both_left (mask_checks a a_b) (output_checks a.length (length out)) e)).short;

@@ -1,10 +1,12 @@
 -- The reference list's own words say what the definitions of the contracts say: spans, masks, pieces and, where the append is
 -- accepted, what it adds. Assumes nothing.
+use Rattle.std.proofs.lemmas.Bool.{and_parts}
 use mathlib.Core.Path.{◌≡◌, refl, sym, ap, ap₂, ◌∙◌}
 use mathlib.Core.Bool.{Bool, true, false, cond, ◌&&◌}
 use mathlib.Core.List.{List, [], ◌∷◌, ◌++◌, flat_map, map, zip, zip_with}
 use Prim.Native.Nat.{ℕ, zero, suc, ◌+◌, ◌/◌, ◌^◌, ◌≤◌}
 use native.Mathlib.Nat.{div-one}
+use native.Mathlib.Numerals.{add-one}
 use native.Mathlib.Omega.{arith}
 use lib.Dec.{leb, ltb}
 use lib.ListN.{length, replicate, take}
@@ -14,6 +16,7 @@ use Rattle.words.specs.Flags.{bit_at, bits, copies, flag_at, flags_of, window, w
 use Rattle.words.specs.Loops.{stretch}
 use Rattle.words.specs.Ops.{zip3}
 use Rattle.words.proofs.Bits.{bits-take}
+use Rattle.words.proofs.Combining.{else-clear}
 use Rattle.words.proofs.Plain.{at-flags, at-stretch, window-part}
 use Rattle.words.proofs.Windows.{at-window, length-window}
 use Rattle.masks.specs.Appends.{Append, push_flag, extend_constant, push_word, extend_slice}
@@ -25,7 +28,7 @@ use Rattle.masks.specs.Checks.{Check, check, first_failed, within_limit}
 use Rattle.masks.specs.Mask.{mask_checks, mask_flags}
 use Rattle.masks.specs.declared.bitmap.Bitmap.{Bitmap}
 use Rattle.masks.specs.declared.builder.BitmapBuilder.{BitmapBuilder}
-use Rattle.masks.proofs.CheckLaws.{and_left, and_right, both_left, both_right, check-allowed, rest-allowed}
+use Rattle.masks.proofs.CheckLaws.{both_left, both_right, check-allowed, rest-allowed}
 use Rattle.masks.proofs.RoomLaws.{word-allowed}
 use Rattle.histories.specs.ReferenceList.{added, flags_in, up_from, piece, selected, span_flags}
 
@@ -46,13 +49,12 @@ mask-piece m bytes offset n h =
 
 -- ---- words, copies, repeats
 
-next_bit : (w k : ℕ) → w / 2 ^ k / 2 ≡ w / 2 ^ suc k
-next_bit w k = let e : k + 1 ≡ suc k = omega arith in shr-shr w k 1 ∙ ap (λ (x : ℕ). w / 2 ^ x) e
-
 bits-from : (d w k : ℕ) → bits d (w / 2 ^ k) ≡ map (bit_at w) (up_from k d)
 unfolding bits
 bits-from zero w k = refl
-bits-from (suc d) w k = ap (λ (t : List Bool). bit_at w k ∷ t) (ap (bits d) (next_bit w k) ∙ bits-from d w (suc k))
+bits-from (suc d) w k =
+    ap (λ (t : List Bool). bit_at w k ∷ t)
+    (ap (bits d) (shr-shr w k 1 ∙ ap (λ (x : ℕ). w / 2 ^ x) (add-one k)) ∙ bits-from d w (suc k))
 
 word_flags_lem : (w n : ℕ) → n ≤ 64 → map (bit_at w) (up_from 0 n) ≡ take n (word_flags w)
 word_flags_lem w n h = sym (bits-from n w 0) ∙ ap (bits n) (div-one w) ∙ sym (bits-take 64 n w h)
@@ -74,12 +76,8 @@ strict_same : (bytes : List ℕ) (start n : ℕ) (idxs : List ℕ) → all_below
 unfolding gathered all_below
 strict_same bytes start n [] e = refl
 strict_same bytes start n (i ∷ idxs) e =
-    ap₂ (λ (x : Bool) (t : List Bool). x ∷ t) (sym (at-stretch bytes start n i (ltb-true i n (and_left (ltb i n) (all_below n idxs) e))))
-    (strict_same bytes start n idxs (and_right (ltb i n) (all_below n idxs) e))
-
-when-both : (t x : Bool) → cond t x false ≡ (t && x)
-when-both true x = refl
-when-both false x = refl
+    ap₂ (λ (x : Bool) (t : List Bool). x ∷ t) (sym (at-stretch bytes start n i (ltb-true i n (and_parts _ _ e).0)))
+    (strict_same bytes start n idxs (and_parts _ _ e).1)
 
 optional-same : (bytes : List ℕ) (start n : ℕ) (idxs : List ℕ)
     → map (λ (i : ℕ). cond (ltb i n) (flag_at bytes (start + i)) false) idxs ≡ gathered (stretch bytes start n) idxs
@@ -87,7 +85,7 @@ unfolding gathered
 optional-same bytes start n [] = refl
 optional-same bytes start n (i ∷ idxs) =
     ap₂ (λ (x : Bool) (t : List Bool). x ∷ t)
-    (when-both (ltb i n) (flag_at bytes (start + i)) ∙ ap (λ (x : Bool). ltb i n && x) (sym (at-flags bytes (start + i)))
+    (sym (else-clear (ltb i n) (flag_at bytes (start + i))) ∙ ap (λ (x : Bool). ltb i n && x) (sym (at-flags bytes (start + i)))
     ∙ sym (at-window (flags_of bytes) start n i))
     (optional-same bytes start n idxs)
 

@@ -1,8 +1,9 @@
 -- What holds through a call that makes a mask from masks, from what is owed for its row; and what serves every row that writes flags
 -- behind a list of checks. Assumes nothing.
 use Rattle.std.specs.Prelude.{Option}
+use Rattle.std.proofs.lemmas.Bool.{false≢true}
 use mathlib.Core.Path.{◌≡◌, refl, sym, ap, ap₂, ◌∙◌, subst}
-use mathlib.Core.Bool.{Bool, true, false, cond}
+use mathlib.Core.Bool.{Bool, true, cond}
 use mathlib.Core.List.{List}
 use Prim.Native.Nat.{ℕ, zero, suc, ◌+◌, ◌*◌, ◌/◌, ◌≤◌}
 use native.Mathlib.Omega.{arith}
@@ -25,9 +26,6 @@ use Rattle.histories.specs.Owed.{Lawful, LawfulKeeps, LawfulWrites, Stands, lent
 use Rattle.histories.specs.Rows.{Argument, own, other, Keeps, RowCall, Tuple, Writes, each, keep, write}
 use Rattle.histories.proofs.HistoryLaws.{Holds}
 use Rattle.histories.proofs.ReferenceLaws.{mask-flags}
-
-pub not-accepted : {A : Type 0} → false ≡ true → A
-not-accepted e = absurd (let z : ◌≡◌ {A = ℕ} 0 1 = cc in omega arith)
 
 -- ---- the masks that a call is given
 
@@ -68,14 +66,14 @@ module _ (m : Bitmap) (bytes : List ℕ) (l : List Bool) (s : Stands m bytes l) 
   kept-flags : (r : Keeps) → LawfulKeeps r → (x : Answer Bitmap Bitmap) → r.answer m bytes ≡ x → (after_kept bytes x).accepted ≡ true
       → state_flags (after_kept bytes x).state ≡ r.flags l
   kept-flags r w (given g) e t = (kept-holds r w (given g) e).flags
-  kept-flags r w (refused k g) e t = not-accepted t
+  kept-flags r w (refused k g) e t = absurd (false≢true t)
 
   written-flags : (r : Writes) (a : Tuple Argument r.masks) → LawfulWrites r
       → (x : Answer (Unit {0}) Bitmap) → written_answer m bytes r a ≡ x
       → let o = after_written m bytes (written_bytes m bytes r a) x in
       o.accepted ≡ true → state_flags o.state ≡ written_flags l r a
   written-flags r a w (given g) e t = (written-holds r a w (given g) e).flags
-  written-flags r a w (refused k u) e t = not-accepted t
+  written-flags r a w (refused k u) e t = absurd (false≢true t)
 
   pub row-flags : (c : RowCall) → Lawful c → (step_row m bytes c).accepted ≡ true → state_flags (step_row m bytes c).state ≡ row_flags l c
   row-flags (keep r) w t = kept-flags r w (r.answer m bytes) refl t

@@ -1,4 +1,5 @@
 -- The runs of every list of flags are a run list, and of every run list there is exactly one list of flags. Assumes nothing.
+use Rattle.std.proofs.lemmas.Bool.{and_parts}
 use mathlib.Core.Path.{◌≡◌, refl, sym, ap, ◌∙◌, subst}
 use mathlib.Core.Bool.{Bool, true, false}
 use mathlib.Core.List.{List, [], ◌∷◌, ◌++◌, append-nil}
@@ -6,12 +7,12 @@ use Prim.Native.Nat.{ℕ, zero, suc, ◌+◌, ◌-◌, ◌≤◌, ◌<◌}
 use native.Mathlib.Omega.{arith}
 use lib.Dec.{eqb}
 use lib.ListN.{length, length-append}
-use borrow.Author.Tests.{eq-eqb, ne_eqb, eqb-true, eqb-false, le-leb, leb-true, lt-ltb, ltb-true}
+use borrow.Author.Tests.{eq-eqb, eqb-true, eqb-false, le-leb, leb-true, lt-ltb, ltb-true}
 use Rattle.words.specs.Flags.{copies}
 use Rattle.words.proofs.Windows.{length-copies}
 use Rattle.masks.specs.SliceIterator.{run_of, runs_from, with_one}
 use Rattle.masks.specs.declared.slice_iterator.Run.{Run}
-use Rattle.masks.proofs.CheckLaws.{and_left, and_right}
+use Rattle.masks.proofs.RunsPlain.{stands-off}
 use Rattle.histories.specs.RunLists.{HasRuns, RunList, every_run, is_apart, is_clear, is_inside, is_long}
 
 -- ---- run lists, run by run
@@ -45,10 +46,10 @@ unfolding every_run is_apart
 tested n p [] f a b c = no_more
 tested n p (r ∷ rs) f a b c =
     then-run {p = p} {r = r} f
-    (long-run r (and_left (is_long r) (every_run is_long rs) a)) (inside-run n r (and_left (is_inside n r) (every_run (is_inside n) rs) c))
-    (tested n (suc (r.start + r.length)) rs (clear_first r rs (and_left (is_clear r rs) (is_apart rs) b))
-    (and_right (is_long r) (every_run is_long rs) a) (and_right (is_clear r rs) (is_apart rs) b)
-    (and_right (is_inside n r) (every_run (is_inside n) rs) c))
+    (long-run r (and_parts _ _ a).0) (inside-run n r (and_parts _ _ c).0)
+    (tested n (suc (r.start + r.length)) rs (clear_first r rs (and_parts _ _ b).0)
+    (and_parts _ _ a).1 (and_parts _ _ b).1
+    (and_parts _ _ c).1)
 
 any-first : (rs : List Run) → FirstAt 0 rs
 any-first [] = tt
@@ -91,15 +92,11 @@ joins : (k : ℕ) (r : Run) (rs : List Run) → r.start ≡ suc k → with_one k
 unfolding with_one
 joins k r rs h = rw (eq-eqb r.start (suc k) h)
 
-apart_from : (k : ℕ) (r : Run) (rs : List Run) → (r.start ≡ suc k → ⊥) → with_one k (r ∷ rs) ≡ run_of k 1 ∷ (r ∷ rs)
-unfolding with_one
-apart_from k r rs h = rw (ne_eqb r.start (suc k) h)
-
 -- with a flag between it is a run of its own
 single : {n : ℕ} (k p : ℕ) {rs : List Run} → suc k < p → RunsIn n p rs → with_one k rs ≡ run_of k 1 ∷ rs
 unfolding with_one
 single k p h no_more = refl
-single k p h (then-run {r = r} {more = more} a b d e) = apart_from k r more (λ (z : r.start ≡ suc k). omega arith)
+single k p h (then-run {r = r} {more = more} a b d e) = stands-off k r more (λ (z : r.start ≡ suc k). omega arith)
 
 off : (s k : ℕ) → suc k ≤ s → (s ≡ suc k → ⊥) → suc (k + 1) ≤ s
 off s k a h = omega arith
@@ -113,7 +110,7 @@ one-joined {n} k r more true q a b d e =
     (subst (λ (x : ℕ). RunsIn n x more) g e))
 one-joined {n} k r more false q a b d e =
     let apart = eqb-false r.start (suc k) q in
-    rw (apart_from k r more apart)
+    rw (stands-off k r more apart)
     (then-run {p = k} {r = run_of k 1} (omega arith) (omega arith) (omega arith)
     (then-run {p = suc (k + 1)} {r = r} (off r.start k a apart) b d e))
 
@@ -177,7 +174,7 @@ one-laid : (n k : ℕ) (r : Run) (more : List Run) (t : Bool) → eqb r.start (s
     → laid_out k n (with_one k (r ∷ more)) ≡ true ∷ laid_out (suc k) n (r ∷ more)
 one-laid n k r more true q =
     let s : r.start ≡ suc k = eqb-true r.start (suc k) q in ap (laid_out k n) (joins k r more s) ∙ longer-first n k r more s
-one-laid n k r more false q = ap (laid_out k n) (apart_from k r more (eqb-false r.start (suc k) q)) ∙ one-first n k (r ∷ more)
+one-laid n k r more false q = ap (laid_out k n) (stands-off k r more (eqb-false r.start (suc k) q)) ∙ one-first n k (r ∷ more)
 
 with-one : (n k : ℕ) (rs : List Run) → laid_out k n (with_one k rs) ≡ true ∷ laid_out (suc k) n rs
 unfolding with_one

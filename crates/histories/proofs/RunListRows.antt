@@ -1,6 +1,7 @@
 -- The table of lists of runs, computed: no list of flags has a run list that breaks a condition, by going through all lists of its
 -- length. Assumes nothing.
-use mathlib.Core.Path.{◌≡◌, refl, ap, ◌∙◌}
+use Rattle.std.proofs.lemmas.Bool.{or_parts, true≢false}
+use mathlib.Core.Path.{◌≡◌, refl, ap, ◌∙◌, sym}
 use mathlib.Core.Bool.{Bool, true, false, ◌&&◌, ◌||◌}
 use mathlib.Core.List.{List, [], ◌∷◌}
 use Prim.Native.Nat.{ℕ, zero, suc}
@@ -10,7 +11,6 @@ use lib.ListN.{length}
 use borrow.Author.Tests.{eq-eqb}
 use Rattle.masks.specs.SliceIterator.{runs_from, with_one}
 use Rattle.masks.specs.declared.slice_iterator.Run.{Run}
-use Rattle.masks.proofs.SpanLaws.{not-both}
 use Rattle.histories.specs.RunLists.{HasRuns, every_run, gap_calls, is_apart, is_inside, is_long, saving_from}
 use Rattle.histories.specs.RunListRows.{NoRunList, RunListRows}
 
@@ -21,14 +21,6 @@ unfoldable some_pass : ℕ → (List Bool → Bool) → Bool
 some_pass zero test = test []
 some_pass (suc n) test = some_pass n (λ (l : List Bool). test (false ∷ l)) || some_pass n (λ (l : List Bool). test (true ∷ l))
 
-or_left : (x y : Bool) → (x || y) ≡ false → x ≡ false
-or_left true y e = e
-or_left false y e = refl
-
-or_right : (x y : Bool) → (x || y) ≡ false → y ≡ false
-or_right true y e = absurd (not-both refl e)
-or_right false y e = e
-
 none_pass : (n : ℕ) (test : List Bool → Bool) (l : List Bool) → length l ≡ n → some_pass n test ≡ false → test l ≡ false
 unfolding some_pass
 none_pass zero test [] h e = e
@@ -36,10 +28,10 @@ none_pass zero test (x ∷ l) h e = absurd (omega arith)
 none_pass (suc n) test [] h e = absurd (omega arith)
 none_pass (suc n) test (false ∷ l) h e =
     none_pass n (λ (t : List Bool). test (false ∷ t)) l (omega arith)
-    (or_left (some_pass n (λ (t : List Bool). test (false ∷ t))) (some_pass n (λ (t : List Bool). test (true ∷ t))) e)
+    (or_parts _ _ e).0
 none_pass (suc n) test (true ∷ l) h e =
     none_pass n (λ (t : List Bool). test (true ∷ t)) l (omega arith)
-    (or_right (some_pass n (λ (t : List Bool). test (false ∷ t))) (some_pass n (λ (t : List Bool). test (true ∷ t))) e)
+    (or_parts _ _ e).1
 
 -- ---- lists of runs, compared
 
@@ -57,8 +49,8 @@ same_self (r ∷ rs) = rw (eq-eqb r.start r.start refl, eq-eqb r.length r.length
 no-list : (n : ℕ) (rs : List Run) → some_pass n (λ (l : List Bool). same_runs (runs_from 0 l) rs) ≡ false
     → (l : List Bool) → HasRuns n rs l → ⊥
 no-list n rs e l h =
-    not-both (ap (λ (t : List Run). same_runs t rs) h.runs ∙ same_self rs)
-    (none_pass n (λ (t : List Bool). same_runs (runs_from 0 t) rs) l h.long e)
+    true≢false (sym (ap (λ (t : List Run). same_runs t rs) h.runs ∙ same_self rs)
+    ∙ none_pass n (λ (t : List Bool). same_runs (runs_from 0 t) rs) l h.long e)
 
 broken : {n : ℕ} {rs : List Run} {x y z : Bool} → every_run is_long rs ≡ x → is_apart rs ≡ y → every_run (is_inside n) rs ≡ z
     → some_pass n (λ (l : List Bool). same_runs (runs_from 0 l) rs) ≡ false → NoRunList n rs x y z

@@ -1,6 +1,7 @@
 -- The theorem on run lists: a list of flags and its runs determine each other, and saving the runs, call by call, comes to the flags.
 -- Assumes nothing.
-use Rattle.std.specs.Prelude.{Some, None}
+use Rattle.std.specs.Prelude.{Some}
+use Rattle.std.proofs.lemmas.Bool.{and_parts}
 use mathlib.Core.Path.{◌≡◌, refl, sym, ap, ◌∙◌, subst}
 use mathlib.Core.Bool.{Bool, true, false, cond, ◌&&◌}
 use mathlib.Core.List.{List, [], ◌∷◌, ◌++◌, append_assoc, append-nil, map}
@@ -8,13 +9,13 @@ use Prim.Native.Nat.{ℕ, zero, suc, ◌+◌, ◌-◌, ◌≤◌, ◌<◌}
 use native.Mathlib.Omega.{arith}
 use lib.Dec.{eqb}
 use lib.ListN.{length}
-use borrow.Author.Tests.{eqb-true, le-leb}
+use borrow.Author.Tests.{eqb-true}
 use Rattle.words.specs.Flags.{copies, flags_of}
 use Rattle.words.proofs.Windows.{length-copies, length-window}
 use Rattle.masks.specs.Answer.{decided, kept}
-use Rattle.masks.specs.Appends.{constant_checks, grow_checks}
+use Rattle.masks.specs.Appends.{constant_checks}
 use Rattle.masks.specs.Builder.{Filling, appended, filling, new_builder}
-use Rattle.masks.specs.Checks.{check, earlier, first_failed, limit, span_checks, within_limit}
+use Rattle.masks.specs.Checks.{check, first_failed, limit, span_checks}
 use Rattle.masks.specs.Freeze.{freeze_checks, frozen_mask, frozen_over}
 use Rattle.masks.specs.Frozen.{frozen_size}
 use Rattle.masks.specs.Mask.{count_valid, mask_checks, mask_flags}
@@ -22,10 +23,10 @@ use Rattle.masks.specs.Listing.{runs_left}
 use Rattle.masks.specs.SliceIterator.{new_slices, runs_from, slices_at}
 use Rattle.masks.specs.Workers.{Room}
 use Rattle.masks.specs.declared.bitmap.Bitmap.{Bitmap}
-use Rattle.masks.specs.declared.builder.BitmapBuilder.{BitmapBuilder}
 use Rattle.masks.specs.declared.slice_iterator.Run.{Run}
 use Rattle.masks.proofs.Accepted.{builder-accepted}
-use Rattle.masks.proofs.CheckLaws.{and_left, both_left, is-given, passed-before, span-allowed}
+use Rattle.masks.proofs.InsideLaws.{constant-passed}
+use Rattle.masks.proofs.CheckLaws.{both_left, is-given, span-allowed}
 use Rattle.masks.proofs.CursorLaws.{over-mask}
 use Rattle.masks.proofs.FreezeLaws.{same-checks}
 use Rattle.masks.proofs.MaskLaws.{mask-sound}
@@ -46,12 +47,6 @@ use Rattle.histories.proofs.RunListLaws.{copies-none, laid-has, laid_same, laid_
 
 -- ---- one call
 
-constant-accepted : (b : BitmapBuilder) (j size : ℕ) → Room b j size → 0 ≡ first_failed (constant_checks b size j)
-unfolding constant_checks first_failed earlier
-constant-accepted b j size r =
-    passed-before (grow_checks b j size) (within_limit j ∷ []) 0 0 (builder-accepted b j size r) refl
-    (rw (le-leb j limit (omega (arith, r.short))))
-
 appends : (f g : Filling) (k : ℕ) → 0 ≡ k
     → after_append (kept k g.bytes f.bytes) (decided k f.builder g.builder) ≡ outcome (building g) true
 unfolding kept decided
@@ -63,7 +58,7 @@ constant-step : (f : Filling) (j : ℕ) (x : Bool) → Room f.builder j (length 
     → step library_call (building f) (constant j x) ≡ outcome (building (appended f (copies j x))) true
 constant-step f j x r =
     appends f (appended f (copies j x)) (first_failed (constant_checks f.builder (length f.bytes) j))
-    (constant-accepted f.builder j (length f.bytes) r)
+    (constant-passed f.builder j (length f.bytes) r)
 
 -- ---- all calls
 
@@ -127,7 +122,7 @@ gap_ends leaves f l k end m cs all h r more = go (eqb k end && leaves end) refl
         (subst (λ (t : List Bool). Ready f t m) (sym (ap (λ (t : List Bool). l ++ t) None ∙ append-nil l)) r)
 
     go : (t : Bool) → (eqb k end && leaves end) ≡ t → Ends f (cond t [] (constant (end - k) false ∷ []) ++ cs) all
-    go true e = more f (left_out (eqb-true k end (and_left (eqb k end) (leaves end) e)))
+    go true e = more f (left_out (eqb-true k end (and_parts _ _ e).0))
     go false e = constant-ends f l (end - k) m false cs all h r more
 
 -- gap by gap and run by run, and once for the rest

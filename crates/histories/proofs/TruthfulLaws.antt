@@ -1,5 +1,6 @@
 -- Each other mask that an accepted call takes has no count or a true one: of appends by the checks of the mask, of calls that make a
 -- mask from masks by what is owed for their rows. Assumes nothing.
+use Rattle.std.proofs.lemmas.Bool.{false≢true}
 use mathlib.Core.Path.{◌≡◌, refl}
 use mathlib.Core.Bool.{true}
 use mathlib.Core.List.{List, ◌++◌}
@@ -22,7 +23,6 @@ use Rattle.histories.specs.History.{State, waiting, building, masked, no_mask, a
 use Rattle.histories.specs.History.{step, step_row, written_answer, written_bytes}
 use Rattle.histories.specs.Owed.{Honest, Lawful, LawfulWrites}
 use Rattle.histories.specs.Rows.{Argument, own, other, Every, RowCall, Tuple, Writes, each, keep, write}
-use Rattle.histories.proofs.RowLaws.{not-accepted}
 
 -- ---- rows
 
@@ -38,7 +38,7 @@ module _ (m : Bitmap) (bytes : List ℕ) where
   written-truthful : (r : Writes) (a : Tuple Argument r.masks) → LawfulWrites r → (x : Answer (Unit {0}) Bitmap)
       → written_answer m bytes r a ≡ x → (after_written m bytes (written_bytes m bytes r a) x).accepted ≡ true → Every TruthfulAt r.masks a
   written-truthful r a w (given g) e t = truthful-all r.masks a (w.honest (each (lent_at m bytes) r.masks a) g e)
-  written-truthful r a w (refused k s) e t = not-accepted t
+  written-truthful r a w (refused k s) e t = absurd (false≢true t)
 
   row-truthful : (c : RowCall) → Lawful c → (step_row m bytes c).accepted ≡ true → TruthfulRow c
   row-truthful (keep r) w t = tt
@@ -49,7 +49,7 @@ module _ (m : Bitmap) (bytes : List ℕ) where
 append-passed : (k : ℕ) (b g : BitmapBuilder) (bytes : List ℕ) → (after_append bytes (decided k b g)).accepted ≡ true → k ≡ 0
 unfolding decided
 append-passed zero b g bytes t = refl
-append-passed (suc k) b g bytes t = not-accepted t
+append-passed (suc k) b g bytes t = absurd (false≢true t)
 
 piece-truthful : (m : Bitmap) (its : List ℕ) (offset n : ℕ) (b : BitmapBuilder) (buf : List ℕ)
     → first_failed (subslice_checks b buf m its offset n) ≡ 0 → Truthful m its
@@ -74,13 +74,13 @@ append-truthful (extend_opt_gather bytes start n idxs) b buf t = tt
 pub step-truthful : {Code : Type 0} (call_of : Code → RowCall) → ((c : Code) → Lawful (call_of c)) → (s : State) (c : Call Code)
     → (step call_of s c).accepted ≡ true → TruthfulCall call_of c
 step-truthful call_of w s (try_new bytes start n) t = tt
-step-truthful call_of w waiting (append a) t = not-accepted t
+step-truthful call_of w waiting (append a) t = absurd (false≢true t)
 step-truthful call_of w (building f) (append a) t = append-truthful a f.builder f.bytes t
-step-truthful call_of w (masked m bytes) (append a) t = not-accepted t
-step-truthful call_of w no_mask (append a) t = not-accepted t
+step-truthful call_of w (masked m bytes) (append a) t = absurd (false≢true t)
+step-truthful call_of w no_mask (append a) t = absurd (false≢true t)
 step-truthful call_of w s freeze t = tt
 step-truthful call_of w s into_opt_validity t = tt
-step-truthful call_of w waiting (make c) t = not-accepted t
-step-truthful call_of w (building f) (make c) t = not-accepted t
+step-truthful call_of w waiting (make c) t = absurd (false≢true t)
+step-truthful call_of w (building f) (make c) t = absurd (false≢true t)
 step-truthful call_of w (masked m bytes) (make c) t = row-truthful m bytes (call_of c) (w c) t
-step-truthful call_of w no_mask (make c) t = not-accepted t
+step-truthful call_of w no_mask (make c) t = absurd (false≢true t)

@@ -1,6 +1,7 @@
 -- `and_not_at` of two masks gives the flag at the index of what `and_not` makes of them; where one is absent it gives the other's
 -- flag, or its inverse; where both are it gives true. Assumes nothing.
 use Rattle.std.specs.Prelude.{Some, None}
+use Rattle.std.proofs.Math.Bool.{and-true}
 use mathlib.Core.Path.{◌≡◌, refl, sym, ap, ◌∙◌, subst}
 use mathlib.Core.Bool.{Bool, true, false, not, ◌&&◌}
 use mathlib.Core.List.{List, [], ◌∷◌, ◌++◌}
@@ -70,10 +71,6 @@ module _ (a : Bitmap) (a_bytes : List ℕ) (b : Bitmap) (b_bytes : List ℕ) (i 
       flag-of-and-not ∙ ap (λ (l : List Bool). given (get_or l i false)) (sym (written-flags AndNot a a_bytes b b_bytes out e))
 
 -- ---- an absent mask
-
-and-true : (x : Bool) → (x && true) ≡ x
-and-true true = refl
-and-true false = refl
 
 pub no_second : (a : Bitmap) (a_bytes b_bytes : List ℕ) (i : ℕ)
     → and_not_at_of (Some a) a_bytes None b_bytes i

@@ -15,7 +15,7 @@ use Rattle.words.proofs.Counting.{count-append}
 use Rattle.words.proofs.Plain.{window-part}
 use Rattle.words.proofs.Windows.{window-all, window-cut, bits-window}
 use Rattle.masks.specs.Answer.{Answer, given, refused, decided, kept}
-use Rattle.masks.specs.Appends.{append_answer, append_bytes, change_answer, push_flag}
+use Rattle.masks.specs.Appends.{append_answer, change_answer, push_flag}
 use Rattle.masks.specs.Builder.{Filling, filling, builder_under, rebuilt, in_progress, appended, none_from, possible, builder_checks}
 use Rattle.masks.specs.Frozen.{packed, over_from}
 use Rattle.masks.specs.declared.builder.BitmapBuilder.{BitmapBuilder}
@@ -222,23 +222,10 @@ pub append-way : (r m : ℕ) (s b : BitmapBuilder) (old out : List ℕ) (f : Fil
 append-way r m s b old out f l e h p =
     given-way r m s old e b (appended f l).builder out (appended f l).bytes h (ap (λ (x : Filling). x.builder) p) (ap (λ (x : Filling). x.bytes) p)
 
--- the same answer as a number and the record that is left: 0 where the record was given
-abbrev changed : {S : Type 0} → Answer S S → Answer S S
-changed (given b) = given b
-changed (refused n b) = decided n b b
-
-changed-decided : {S : Type 0} (m : ℕ) (s b : S) → changed (decided m s b) ≡ decided m s b
-unfolding decided
-changed-decided zero s b = refl
-changed-decided (suc m) s b = refl
-
+-- a record that was given: the same answer as a number and the record that is left
 pub change-done : {S : Type 0} (b : S) (r : Answer S S) → given b ≡ r → decided 0 b b ≡ r
 unfolding decided
 change-done b r e = e
-
--- the number of a refusal is never 0
-pub change-refused : {S : Type 0} (n m : ℕ) (b s a : S) → refused n b ≡ decided m s a → decided n b b ≡ decided m s a
-change-refused n m b s a e = ap changed e ∙ changed-decided m s a
 
 -- a record that is left as it was
 pub refused-kept : {S : Type 0} (n m : ℕ) (b s a : S) → refused n b ≡ decided m s a → decided n s s ≡ decided m s a
@@ -272,14 +259,6 @@ module _ (b own : BitmapBuilder) (x : Bool) (bytes : List ℕ) (serial n word on
       → change_answer 0 (renewed b c) ≡ append_answer (push_flag x) (rebuilt b n word ones) bytes
   renewed_done c e = change-done (renewed b c) _ (ap (renewal b) e ∙ renewed_push)
 
-  pub renewed_refused : (k : ℕ) (c : BitmapBuilder) → refused k c ≡ append_answer (push_flag x) own bytes
-      → change_answer k (renewed b c) ≡ append_answer (push_flag x) (rebuilt b n word ones) bytes
-  renewed_refused k c e = change-refused k _ (renewed b c) _ _ (ap (renewal b) e ∙ renewed_push)
-
-  pub renewed_bytes : (out : List ℕ) → out ≡ append_bytes (push_flag x) own bytes → out ≡ append_bytes (push_flag x) (rebuilt b n word ones) bytes
-  unfolding appended in_progress builder_checks possible
-  renewed_bytes out e = e ∙ ap (λ (c : BitmapBuilder). append_bytes (push_flag x) (renewed b c) bytes) made
-
 pub take-copies : (k n : ℕ) (x : Bool) → k ≤ n → take k (copies n x) ≡ copies k x
 unfolding copies
 take-copies zero n x h = refl
@@ -287,10 +266,6 @@ take-copies (suc k) zero x h = absurd (omega arith)
 take-copies (suc k) (suc n) x h = ap (λ (t : List Bool). x ∷ t) (take-copies k n x (omega arith))
 
 -- the first flags of a word of one flag
--- appending to a record that is equal
-pub append-same : (a b : BitmapBuilder) (bytes : List ℕ) (g : Filling) (l : List Bool) → g ≡ appended (filling a bytes) l → a ≡ b → g ≡ appended (filling b bytes) l
-append-same a b bytes g l p e = p ∙ ap (λ (x : BitmapBuilder). appended (filling x bytes) l) e
-
 pub constant-front : (k w : ℕ) (x : Bool) → k ≤ 64 → bits 64 w ≡ copies 64 x → take k (bits 64 w) ≡ copies k x
 constant-front k w x h e = ap (take k) e ∙ take-copies k 64 x h
 

@@ -1,4 +1,5 @@
 -- What each append appends, flag by flag: the statement of `specs/AppendPlain.antt`. Assumes nothing.
+use Rattle.std.proofs.lemmas.Bool.{cases_lt, and_parts}
 use mathlib.Core.Path.{◌≡◌, refl, sym, ap, ap₂, ◌∙◌, subst}
 use mathlib.Core.Bool.{Bool, true, false, cond, ◌&&◌}
 use mathlib.Core.List.{List, [], ◌∷◌, ◌++◌}
@@ -14,7 +15,7 @@ use borrow.Author.Tests.{ltb-true, lt-ltb, le-ltb}
 use Rattle.words.specs.Flags.{bit_at, bits, copies, flag_at, flags_of, window}
 use Rattle.words.specs.Loops.{stretch}
 use Rattle.words.proofs.Plain.{at_bits, at-flags, at-stretch}
-use Rattle.words.proofs.Windows.{lt-or-le, length-window, length-copies, at_copies, at_in, at_take, at-window}
+use Rattle.words.proofs.Windows.{length-window, length-copies, at_copies, at_in, at_take, at-window}
 use Rattle.masks.specs.Answer.{given}
 use Rattle.masks.specs.AppendPlain.{new_count, new_flag, builder_flag, AppendsPlainly, AppendPlain}
 use Rattle.masks.specs.Appends.{Append, push_flag, extend_constant, push_word, extend_slice, extend_repeated, extend_bitmap, extend_gather, extend_opt_gather}
@@ -26,7 +27,7 @@ use Rattle.masks.specs.Mask.{mask_checks, mask_flags}
 use Rattle.masks.specs.Workers.{Room}
 use Rattle.masks.specs.declared.builder.BitmapBuilder.{BitmapBuilder}
 use Rattle.masks.proofs.AnswerLaws.{given-number, given-value}
-use Rattle.masks.proofs.CheckLaws.{and_left, and_right, both_left, both_right, check-allowed, is-new}
+use Rattle.masks.proofs.CheckLaws.{both_left, both_right, check-allowed, is-new}
 use Rattle.masks.proofs.GatherLaws.{length-gathered}
 use Rattle.masks.proofs.PartLaws.{length-low}
 use Rattle.masks.proofs.RepeatLaws.{length-repeated}
@@ -62,7 +63,7 @@ at-repeated k (x ∷ l) j h = ⊎_elim
     ∙ get_or-append-add (copies k x) (repeated k l) (j - k) false
     ∙ at-repeated k l (j - k) rest
     ∙ sym (ap (λ (n : ℕ). get_or (x ∷ l) n false) next))
-    (lt-or-le j k)
+    (cases_lt j k)
 
 turn_inside : (j n k : ℕ) → j < n * k → j / k < n
 turn_inside j n k h = (div-lt_iff_lt-mul (positive k n j h)).1 h
@@ -70,8 +71,8 @@ turn_inside j n k h = (div-lt_iff_lt-mul (positive k n j h)).1 h
 below_at : (n : ℕ) (idxs : List ℕ) (j : ℕ) → all_below n idxs ≡ true → j < length idxs → get_or idxs j 0 < n
 unfolding all_below
 below_at n [] j e h = absurd (omega arith)
-below_at n (i ∷ idxs) zero e h = ltb-true i n (and_left (ltb i n) (all_below n idxs) e)
-below_at n (i ∷ idxs) (suc j) e h = below_at n idxs j (and_right (ltb i n) (all_below n idxs) e) (omega arith)
+below_at n (i ∷ idxs) zero e h = ltb-true i n (and_parts _ _ e).0
+below_at n (i ∷ idxs) (suc j) e h = below_at n idxs j (and_parts _ _ e).1 (omega arith)
 
 -- flag i of a span, 0 at or past its length
 padded : (bytes : List ℕ) (start n i : ℕ) → get_or (stretch bytes start n) i false ≡ cond (ltb i n) (flag_at bytes (start + i)) false
@@ -101,7 +102,7 @@ at-builder b buf j h =
     ∙ ap (λ (t : Bool). t && get_or (bits 64 b.word) (j % 64) false) (lt-ltb (j % 64) (b.length % 64) few)
     ∙ at_bits 64 b.word (j % 64) (omega arith)
     ∙ sym (ap (λ (t : Bool). cond t (flag_at buf j) (bit_at b.word (j % 64))) (le-ltb j (64 * (b.length / 64)) q)))
-    (lt-or-le j (64 * (b.length / 64)))
+    (cases_lt j (64 * (b.length / 64)))
 
 -- ---- what an accepted call appends
 

@@ -1,4 +1,5 @@
 -- A window of a span as a number, at any width, and a span cut in two. Assumes nothing.
+use Rattle.std.proofs.lemmas.Bool.{cases_lt}
 use mathlib.Core.Path.{◌≡◌, sym, ap, ap₂, ◌∙◌}
 use mathlib.Core.Bool.{Bool, false, ◌&&◌}
 use mathlib.Core.List.{List, [], ◌∷◌, ◌++◌}
@@ -13,7 +14,7 @@ use borrow.Author.Tests.{leb-true, lt-ltb, le-ltb}
 use Rattle.words.specs.Flags.{bits, flags_of, window, word_of}
 use Rattle.words.specs.Loops.{stretch}
 use Rattle.words.proofs.Bits.{bits-zero, word_of_bits, word_of_lt}
-use Rattle.words.proofs.Windows.{lt-or-le, ltb-sub, length-window, window-add, window-all, window-past, window-ext, at-window, bits-window, word_of_padded}
+use Rattle.words.proofs.Windows.{ltb-sub, length-window, window-add, window-all, window-past, window-ext, at-window, bits-window, word_of_padded}
 use Rattle.masks.specs.Bitmask.{split_checks, window_word}
 use Rattle.masks.specs.Checks.{check, within_limit, first_failed, limit, span_checks}
 use Rattle.masks.proofs.CheckLaws.{check-allowed, both_left, both_right}
@@ -24,7 +25,7 @@ ltb-min : (d j m : ℕ) → j < d → ltb j (min d m) ≡ ltb j m
 ltb-min d j m h = ⊎_elim
     (λ (k : j < m). lt-ltb j (min d m) (omega arith) ∙ sym (lt-ltb j m k))
     (λ (k : m ≤ j). le-ltb j (min d m) (omega arith) ∙ sym (le-ltb j m k))
-    (lt-or-le j m)
+    (cases_lt j m)
 
 -- of the flags in range, with zeros behind them
 padded : (l : List Bool) (start n index d : ℕ) → window (window l start n) index d ≡ window (window l (start + index) (min d (n - index))) 0 d

@@ -1,17 +1,18 @@
 -- The checks of a call, put together from pieces, and what is known where all have passed. Assumes nothing.
+use Rattle.std.proofs.lemmas.Bool.{cases_lt, and_parts}
 use mathlib.Core.Path.{◌≡◌, refl, sym, ap, ap₂, ◌∙◌, subst}
 use mathlib.Core.Bool.{Bool, true, false, cond, ◌&&◌}
 use mathlib.Core.List.{List, [], ◌∷◌, ◌++◌}
-use Prim.Native.Nat.{ℕ, zero, suc, ◌+◌, ◌-◌, ◌*◌, ◌/◌, ◌%◌, ◌≤◌, ◌<◌}
+use Prim.Native.Nat.{ℕ, zero, suc, ◌+◌, ◌*◌, ◌/◌, ◌%◌, ◌≤◌, ◌<◌}
 use native.Mathlib.Omega.{arith}
 use lib.Dec.{leb, eqb}
+use Rattle.std.specs.Prelude.{min}
 use borrow.Author.Tests.{le-leb, lt-leb, leb-true, eq-eqb, ne_eqb}
-use Rattle.words.proofs.Windows.{lt-or-le}
 use Rattle.masks.specs.Answer.{given, refused, decided, kept, unless_empty}
 use Rattle.masks.specs.Builder.{none_from, possible}
 use Rattle.masks.specs.declared.builder.BitmapBuilder.{BitmapBuilder}
 use Rattle.masks.specs.Checks.{Check, check, rank, place_in, earlier, failure, first_failed, limit, within_limit, span_checks, address_checks}
-use mathlib.Core.Logic.{◌⊎◌, inl, inr, ⊎_elim}
+use mathlib.Core.Logic.{⊎_elim}
 
 -- ---- a choice by a test, where the test is known
 
@@ -32,7 +33,7 @@ pub by-test : {A : Type 0} (P : A → Type 0) (a b : ℕ) (x y : A) → (a ≤ b
 by-test P a b x y p q = ⊎_elim
     (λ (h : b < a). subst P (when-gt a b x y h) (q h))
     (λ (h : a ≤ b). subst P (when-le a b x y h) (p h))
-    (lt-or-le b a)
+    (cases_lt b a)
 
 -- ---- pieces are put together
 
@@ -58,11 +59,6 @@ first-least zero b p q h = absurd (p refl)
 first-least (suc a) zero p q h = absurd (q refl)
 first-least (suc a) (suc b) p q h = first_one a b h
 
-pub second-least : (a b : ℕ) → (a ≡ 0 → ⊥) → (b ≡ 0 → ⊥) → rank b < rank a → earlier a b ≡ b
-second-least zero b p q h = absurd (p refl)
-second-least (suc a) zero p q h = absurd (q refl)
-second-least (suc a) (suc b) p q h = second-one a b h
-
 -- the first of least rank among three, either way round
 pub earlier-assoc : (a b c : ℕ) → earlier (earlier a b) c ≡ earlier a (earlier b c)
 earlier-assoc zero b c = ap (λ (x : ℕ). earlier x c) (none-earlier b) ∙ sym (none-earlier (earlier b c))
@@ -72,12 +68,12 @@ earlier-assoc (suc a) (suc b) (suc c) = ⊎_elim
     (λ (h : rank (suc b) < rank (suc a)). ap (λ (x : ℕ). earlier x (suc c)) (second-one a b h) ∙ ⊎_elim
     (λ (k : rank (suc c) < rank (suc b)). second-one b c k ∙ sym (ap (earlier (suc a)) (second-one b c k) ∙ second-one a c (omega arith)))
     (λ (k : rank (suc b) ≤ rank (suc c)). first_one b c k ∙ sym (ap (earlier (suc a)) (first_one b c k) ∙ second-one a b h))
-    (lt-or-le (rank (suc c)) (rank (suc b))))
+    (cases_lt (rank (suc c)) (rank (suc b))))
     (λ (h : rank (suc a) ≤ rank (suc b)). ap (λ (x : ℕ). earlier x (suc c)) (first_one a b h) ∙ ⊎_elim
     (λ (k : rank (suc c) < rank (suc b)). sym (ap (earlier (suc a)) (second-one b c k)))
     (λ (k : rank (suc b) ≤ rank (suc c)). first_one a c (omega arith) ∙ sym (ap (earlier (suc a)) (first_one b c k) ∙ first_one a b h))
-    (lt-or-le (rank (suc c)) (rank (suc b))))
-    (lt-or-le (rank (suc b)) (rank (suc a)))
+    (cases_lt (rank (suc c)) (rank (suc b))))
+    (cases_lt (rank (suc b)) (rank (suc a)))
 
 -- the number of two pieces in a row
 pub failed-append : (a b : List Check) → first_failed (a ++ b) ≡ earlier (first_failed a) (first_failed b)
@@ -192,22 +188,6 @@ both_left A B e = passed-left (first_failed A) (first_failed B) (sym (failed-app
 pub both_right : (A B : List Check) → first_failed (A ++ B) ≡ 0 → first_failed B ≡ 0
 both_right A B e = passed-right (first_failed A) (first_failed B) (sym (failed-append A B) ∙ e)
 
--- start + n, taken in bytes
-pub sum-in-bytes : (start n size : ℕ) → leb ((start + n + 7) / 8) size ≡ leb (start + n) (8 * size)
-sum-in-bytes start n size = ⊎_elim
-    (λ (h : 8 * size < start + n). lt-leb ((start + n + 7) / 8) size (omega arith) ∙ sym (lt-leb (start + n) (8 * size) h))
-    (λ (h : start + n ≤ 8 * size). le-leb ((start + n + 7) / 8) size (omega arith) ∙ sym (le-leb (start + n) (8 * size) h))
-    (lt-or-le (8 * size) (start + n))
-
-pub sum-test : (a b c : ℕ) → a ≤ c → leb b (c - a) ≡ leb (a + b) c
-sum-test a b c h = ⊎_elim
-    (λ (k : c < a + b). lt-leb b (c - a) (omega arith) ∙ sym (lt-leb (a + b) c k))
-    (λ (k : a + b ≤ c). le-leb b (c - a) (omega arith) ∙ sym (le-leb (a + b) c k))
-    (lt-or-le c (a + b))
-
-pub sum_over : (a b c : ℕ) → c < a → false ≡ leb (a + b) c
-sum_over a b c h = sym (lt-leb (a + b) c (omega arith))
-
 -- checks that have passed before others
 pub passed-before : (A B : List Check) (r n : ℕ) → n ≡ first_failed A → n ≡ 0 → r ≡ first_failed B → r ≡ first_failed (A ++ B)
 passed-before A B r n p z q = q ∙ sym (none-earlier (first_failed B)) ∙ ap (λ (x : ℕ). earlier x (first_failed B)) (sym z ∙ p) ∙ sym (failed-append A B)
@@ -237,14 +217,6 @@ last-given cs n k t s a p z e = last-decided cs n k t true s a p z e
 abbrev pub before : ℕ → List Check → Bool
 before k [] = true
 before k (c ∷ cs) = leb (rank c.number) (rank k) && before k cs
-
-pub and_left : (x y : Bool) → (x && y) ≡ true → x ≡ true
-and_left true y e = refl
-and_left false y e = e
-
-pub and_right : (x y : Bool) → (x && y) ≡ true → y ≡ true
-and_right true y e = e
-and_right false y e = absurd (let z : ◌≡◌ {A = ℕ} 0 1 = cc e in omega arith)
 
 -- the code's tests of three parts: the value of the first two, then the third
 pub both-tested : (v r x y : Bool) → r ≡ x → r ≡ true → v ≡ y → (x && y) ≡ v
@@ -294,12 +266,11 @@ pub span-over : (start n size : ℕ) → (leb start limit && leb n limit) ≡ fa
 unfolding first_failed span_checks
 span-over start n size h = over-number (leb start limit) (leb n limit) (leb (start + n) (8 * size)) h
 
-earlier-ranked : (a b k : ℕ) → (a ≡ 0 → ⊥) ⊎ (a ≡ 0) → (b ≡ 0 → ⊥) ⊎ (b ≡ 0) → ((a ≡ 0 → ⊥) → rank a ≤ k) → ((b ≡ 0 → ⊥) → rank b ≤ k) → (earlier a b ≡ 0 → ⊥)
-    → rank (earlier a b) ≤ k
+earlier-ranked : (a b k : ℕ) → ((a ≡ 0 → ⊥) → rank a ≤ k) → ((b ≡ 0 → ⊥) → rank b ≤ k) → (earlier a b ≡ 0 → ⊥) → rank (earlier a b) ≤ k
 unfolding earlier
-earlier-ranked zero b k p q h i n = i n
-earlier-ranked (suc a) zero k p q h i n = h n
-earlier-ranked (suc a) (suc b) k p q h i n =
+earlier-ranked zero b k h i n = i n
+earlier-ranked (suc a) zero k h i n = h n
+earlier-ranked (suc a) (suc b) k h i n =
     by-test (λ (x : ℕ). rank x ≤ k) (rank (suc a)) (rank (suc b)) (suc a) (suc b) (λ _. h (λ e. omega arith)) (λ _. i (λ e. omega arith))
 
 failure-ranked : (c : Check) (k : ℕ) → rank c.number ≤ k → (failure c ≡ 0 → ⊥) → rank (failure c) ≤ k
@@ -309,17 +280,13 @@ failure-ranked c k h n = go c.holds n
     go true m = absurd (m refl)
     go false m = h
 
-zero_or : (n : ℕ) → (n ≡ 0 → ⊥) ⊎ (n ≡ 0)
-zero_or zero = inr refl
-zero_or (suc n) = inl (λ e. omega arith)
-
 pub failed-ranked : (cs : List Check) (k : ℕ) → before k cs ≡ true → (first_failed cs ≡ 0 → ⊥) → rank (first_failed cs) ≤ rank k
 unfolding first_failed
 failed-ranked [] k e n = absurd (n refl)
 failed-ranked (c ∷ cs) k e n =
-    earlier-ranked (failure c) (first_failed cs) (rank k) (zero_or (failure c)) (zero_or (first_failed cs))
-    (failure-ranked c (rank k) (leb-true (rank c.number) (rank k) (and_left (leb (rank c.number) (rank k)) (before k cs) e)))
-    (failed-ranked cs k (and_right (leb (rank c.number) (rank k)) (before k cs) e)) n
+    earlier-ranked (failure c) (first_failed cs) (rank k)
+    (failure-ranked c (rank k) (leb-true (rank c.number) (rank k) (and_parts _ _ e).0))
+    (failed-ranked cs k (and_parts _ _ e).1) n
 
 -- the number of the checks that are put first, where one of them failed: the last one need not be made
 pub first-number : (cs : List Check) (n k : ℕ) (t : Bool) → before (suc k) cs ≡ true → n ≡ first_failed cs → (n ≡ 0 → ⊥)
@@ -343,10 +310,10 @@ pub words-test : (n size : ℕ) → leb ((n + 63) / 64) (size / 8) ≡ leb (8 * 
 words-test n size = ⊎_elim
     (λ (h : size < 8 * ((n + 63) / 64)). lt-leb ((n + 63) / 64) (size / 8) (omega arith) ∙ sym (lt-leb (8 * ((n + 63) / 64)) size h))
     (λ (h : 8 * ((n + 63) / 64) ≤ size). le-leb ((n + 63) / 64) (size / 8) (omega arith) ∙ sym (le-leb (8 * ((n + 63) / 64)) size h))
-    (lt-or-le size (8 * ((n + 63) / 64)))
+    (cases_lt size (8 * ((n + 63) / 64)))
 
-pub output-test : (n size : ℕ) → leb (n / 64 + (n % 64 + 63) / 64) (size / 8) ≡ leb (8 * ((n + 63) / 64)) size
-output-test n size = let e : n / 64 + (n % 64 + 63) / 64 ≡ (n + 63) / 64 = omega arith in ap (λ (x : ℕ). leb x (size / 8)) e ∙ words-test n size
+pub output-test : (n size k : ℕ) → k ≡ n / 64 + min 1 (n % 64) → leb k (size / 8) ≡ leb (8 * ((n + 63) / 64)) size
+output-test n size k d = let e : k ≡ (n + 63) / 64 = omega arith in ap (λ (x : ℕ). leb x (size / 8)) e ∙ words-test n size
 
 -- ---- the two promises of a call that may write: its answer and its bytes
 
@@ -356,12 +323,3 @@ module _ {S A B : Type 0} (r m : ℕ) (s : S) (old : B) (e : r ≡ m) where
 
   pub given-way : (a a' : A) (out new : B) → r ≡ 0 → a ≡ a' → out ≡ new → (given a ≡ decided m s a') × (out ≡ kept m new old)
   given-way a a' out new h p q = (ap given p ∙ is-given r m s a' e h, q ∙ is-new r m new old e h)
-
--- a choice by a check's test: where its number came out, and where it did not
-pub choice-failed : (t : Bool) (k n x : ℕ) → k ≡ cond t 0 n → (k ≡ 0 → ⊥) → k ≡ cond t x n
-choice-failed true k n x e h = absurd (h e)
-choice-failed false k n x e h = e
-
-pub choice-passed : (t : Bool) (n x y : ℕ) → 0 ≡ cond t 0 (suc n) → x ≡ cond t x y
-choice-passed true n x y e = refl
-choice-passed false n x y e = absurd (omega (arith, e))

@@ -15,10 +15,6 @@ use Rattle.masks.specs.Chunks.{chunks_at, chunk_word, chunk_step, remainder_word
 use Rattle.masks.specs.Cursor.{item, ended}
 use Rattle.masks.specs.declared.chunks.BitChunks.{BitChunks}
 
--- a word that begins at a byte
-pub whole-bytes : (l : List Bool) (start k r : ℕ) → start % 8 ≡ 0 → bits 64 r ≡ window l (8 * (start / 8 + 8 * k)) 64 → bits 64 r ≡ window l (start + 64 * k) 64
-whole-bytes l start k r z p = let e : 8 * (start / 8 + 8 * k) ≡ start + 64 * k = omega arith in p ∙ ap (λ (x : ℕ). window l x 64) e
-
 -- two words, the second eight bytes further, merged inside their first byte
 pub inside-byte : (l : List Bool) (start k c n r : ℕ) → bits 64 c ≡ window l (8 * (start / 8 + 8 * k)) 64 → bits 64 n ≡ window l (8 * (start / 8 + 8 * k + 8)) 64
     → bits 64 r ≡ merged (bits 64 c) (bits 64 n) (start % 8) → bits 64 r ≡ window l (start + 64 * k) 64

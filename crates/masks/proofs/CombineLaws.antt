@@ -1,5 +1,6 @@
 -- The combinations: what is written, by flags and by bytes, and what the counts say. Assumes nothing.
 use Rattle.std.specs.Prelude.{Option, Some, None}
+use Rattle.std.proofs.Math.Nat.{max-zero}
 use mathlib.Core.Path.{◌≡◌, refl, sym, ap, ap₂, ◌∙◌}
 use mathlib.Core.Logic.{◌⊎◌, inl, inr}
 use mathlib.Core.Bool.{Bool, true, false, not, cond, ◌&&◌, ◌||◌}
@@ -169,16 +170,13 @@ module _ (op : Op) (a : Bitmap) (a_bytes : List ℕ) (b : Bitmap) (b_bytes out :
 
 -- ---- the largest serial
 
-max_none : (x : ℕ) → max x 0 ≡ x
-max_none x = omega arith
-
 pub one-serial : (a : Bitmap) → a.serial ≡ largest_serial (a ∷ [])
 unfolding largest_serial
-one-serial a = sym (max_none a.serial)
+one-serial a = sym (max-zero a.serial)
 
 pub two-serials : (a b : Bitmap) (s : ℕ) → s ≡ max a.serial b.serial → s ≡ largest_serial (a ∷ b ∷ [])
 unfolding largest_serial
-two-serials a b s e = e ∙ ap (max a.serial) (sym (max_none b.serial))
+two-serials a b s e = e ∙ ap (max a.serial) (sym (max-zero b.serial))
 
 pub three-serials : (a b c : Bitmap) (s t : ℕ) → t ≡ max b.serial c.serial → s ≡ max a.serial t → s ≡ largest_serial (a ∷ b ∷ c ∷ [])
 unfolding largest_serial

@@ -3,12 +3,12 @@ use Rattle.std.specs.Prelude.{Option, Some, None}
 use mathlib.Core.Path.{◌≡◌, refl, sym, ap, ◌∙◌, subst}
 use mathlib.Core.Bool.{Bool, true, false, cond, not}
 use mathlib.Core.List.{List, [], ◌∷◌, ◌++◌}
-use Prim.Native.Nat.{ℕ, zero, suc, ◌+◌, ◌-◌, ◌/◌, ◌≤◌, ◌<◌}
+use Prim.Native.Nat.{ℕ, suc, ◌+◌, ◌-◌, ◌/◌, ◌≤◌, ◌<◌}
 use native.Mathlib.Omega.{arith}
 use lib.Dec.{leb, ltb}
 use lib.ListN.{length, get_or, take, drop, length-take, length-drop}
 use lib.Seq.{get_or-drop}
-use borrow.Author.Tests.{leb-true, ltb-true, ltb-false, lt-ltb, le-ltb}
+use borrow.Author.Tests.{leb-true, ltb-true, ltb-false}
 use Rattle.words.specs.Ends.{leading}
 use Rattle.words.specs.Flags.{flag_at, flags_of}
 use Rattle.words.specs.Loops.{stretch}
@@ -33,6 +33,8 @@ use Rattle.masks.specs.declared.slice_iterator.SlicesIterator.{SlicesIterator}
 use Rattle.masks.specs.declared.true_idx.TrueIdxIter.{TrueIdxIter}
 use Rattle.masks.proofs.AnswerLaws.{given-number, given-value}
 use Rattle.masks.proofs.CheckLaws.{both_right, check-allowed}
+use Rattle.masks.proofs.PositionLaws.{behind-few, behind-many, behind-none}
+use Rattle.masks.proofs.RunsPlain.{leading-in}
 
 -- ---- a step that is chosen by a test
 
@@ -75,17 +77,7 @@ chunk-places c bytes d =
           (ltb-false c.place (c.length / 64) r.0, r.1);
     }
 
--- the first flags of a list are alike, and the one behind them is not
-first_alike : (x : Bool) (l : List Bool) (j : ℕ) → j < leading x l → get_or l j false ≡ x
-unfolding leading
-first_alike x [] j h = absurd (omega arith)
-first_alike true (true ∷ l) zero h = refl
-first_alike true (true ∷ l) (suc j) h = first_alike true l j (omega arith)
-first_alike true (false ∷ l) j h = absurd (omega arith)
-first_alike false (true ∷ l) j h = absurd (omega arith)
-first_alike false (false ∷ l) zero h = refl
-first_alike false (false ∷ l) (suc j) h = first_alike false l j (omega arith)
-
+-- behind the first flags of a list, which are alike, one is not
 then-other : (x : Bool) (l : List Bool) → leading x l < length l → get_or l (leading x l) false ≡ not x
 unfolding leading
 then-other x [] h = absurd (omega arith)
@@ -107,7 +99,7 @@ module _ (x : Bool) (bytes : List ℕ) (start n place : ℕ) where
   rest_at j h = get_or-drop place (stretch bytes start n) j false ∙ at-stretch bytes start n (place + j) h
 
   taken-alike : (j : ℕ) → j < leading x (rest_of bytes start n place) → flag_at bytes (start + (place + j)) ≡ x
-  taken-alike j h = sym (rest_at j (omega (arith, leading_le x (rest_of bytes start n place), rest-long))) ∙ first_alike x (rest_of bytes start n place) j h
+  taken-alike j h = sym (rest_at j (omega (arith, leading_le x (rest_of bytes start n place), rest-long))) ∙ leading-in x (rest_of bytes start n place) j h
 
   taken-stops : place + leading x (rest_of bytes start n place) < n → flag_at bytes (start + (place + leading x (rest_of bytes start n place))) ≡ not x
   taken-stops h = sym (rest_at (leading x (rest_of bytes start n place)) h) ∙ then-other x (rest_of bytes start n place) (omega (arith, rest-long))
@@ -199,18 +191,6 @@ positions-given c bytes room n d e =
     let r : ◌≡◌ {A = ℕ × TrueIdxIter} (n, d) (many, next) = given-value (first_failed (true_checks c (length bytes))) c (n, d) (many, next) e in
     (ap (λ (p : ℕ × TrueIdxIter). p.0) r, ap (λ (p : ℕ × TrueIdxIter). p.1) r)
 
-behind-given : (c : TrueIdxIter) (left : List ℕ) (k : ℕ) → k < length left → place_behind c left (suc k) ≡ get_or left k 0 + 1
-unfolding place_behind
-behind-given c left k h = rw (lt-ltb k (length left) h)
-
-behind-all : (c : TrueIdxIter) (left : List ℕ) (k : ℕ) → length left ≤ k → place_behind c left (suc k) ≡ c.length
-unfolding place_behind
-behind-all c left k h = rw (le-ltb k (length left) h)
-
-behind-none : (c : TrueIdxIter) (left : List ℕ) → place_behind c left 0 ≡ c.place
-unfolding place_behind
-behind-none c left = refl
-
 one-places : (c : TrueIdxIter) (bytes : List ℕ) (d : TrueIdxIter) → OnePlaces c bytes d
 unfolding next_true
 one-places c bytes d =
@@ -226,11 +206,11 @@ one-places c bytes d =
       all-given = λ n k e h.
           let r = positions-given c bytes (suc k) n d e in
           let many : length (take (suc k) left) ≡ suc k = length-take (suc k) left ∙ omega arith in
-          (r.0 ∙ many, r.1 ∙ ap (true_moved c) (behind-given c left k h));
+          (r.0 ∙ many, r.1 ∙ ap (true_moved c) (behind-many c left k h));
       fewer = λ n k e h.
           let r = positions-given c bytes (suc k) n d e in
           let many : length (take (suc k) left) ≡ length left = length-take (suc k) left ∙ omega arith in
-          (r.0 ∙ many, r.1 ∙ ap (true_moved c) (behind-all c left k h));
+          (r.0 ∙ many, r.1 ∙ ap (true_moved c) (behind-few c left k h));
     }
 
 pub cursors_plainly : CursorsPlainly

@@ -1,4 +1,6 @@
 -- Long extensions: whole words written to the buffer, and a list appended in three parts. Assumes nothing.
+use Rattle.std.proofs.lemmas.Bool.{and_parts}
+use Rattle.std.proofs.lemmas.List.{nil_from_length}
 use mathlib.Core.Path.{◌≡◌, refl, sym, ap, ap₂, ◌∙◌}
 use mathlib.Core.Bool.{Bool, true, false, ◌&&◌}
 use Rattle.std.specs.Int.{from_bool}
@@ -18,15 +20,10 @@ use Rattle.masks.specs.Builder.{Filling, filling, rebuilt, in_progress, appended
 use Rattle.masks.specs.Frozen.{packed, over_from}
 use Rattle.masks.specs.declared.builder.BitmapBuilder.{BitmapBuilder}
 use Rattle.masks.proofs.AppendLaws.{Parts, appended-grown, append-then, length-progress}
-use Rattle.masks.proofs.CheckLaws.{and_left, and_right}
 use Rattle.masks.proofs.FrozenLaws.{Small, written-bytes}
 use Rattle.masks.proofs.PartLaws.{length-low}
 
 -- ---- whole words
-
-no-flags : (l : List Bool) → length l ≡ 0 → l ≡ []
-no-flags [] e = refl
-no-flags (x ∷ l) e = absurd (omega arith)
 
 no_word : word_of [] ≡ 0
 unfolding word_of
@@ -44,7 +41,7 @@ whole-written bytes out at q l e small small' put =
 pub append-whole : (b : BitmapBuilder) (bytes out : List ℕ) (q c : ℕ) (l : List Bool) → b.length % 64 ≡ 0 → length l ≡ 64 * q → c ≡ count l → Small bytes → Small out
     → flags_of out ≡ over_at (flags_of bytes) (8 * (8 * (b.length / 64))) (whole_words l) → filling (rebuilt b (b.length + 64 * q) 0 (b.ones + c)) out ≡ appended (filling b bytes) l
 append-whole b bytes out q c l h e ones small small' put =
-    let none : in_progress b ≡ [] = no-flags (in_progress b) (length-progress b ∙ h) in
+    let none : in_progress b ≡ [] = nil_from_length (in_progress b) (length-progress b ∙ h) in
     let p : Parts (filling b bytes) l q l [] = record { row = ap (λ (t : List Bool). t ++ l) none ∙ sym (append-nil l); whole = e; less = zero-lt-suc 63 } in
     sym (appended-grown (filling b bytes) l q l [] p
     ∙ ap₂ (λ (x y : ℕ). filling (rebuilt b (b.length + x) y (b.ones + count l)) (over_from bytes (8 * (b.length / 64)) (packed (8 * q) l))) e no_word
@@ -102,8 +99,8 @@ window-three l k a m c n x y e ex ey =
 -- what the test of the short path says: n flags are few, and the word in progress has room for them
 pub few-inside : (b : BitmapBuilder) (n : ℕ) (t : Bool) → t ≡ (leb n 57 && ltb (b.length % 64 + n) 64) → t ≡ true → (n ≤ 57) × (b.length % 64 + n < 64)
 few-inside b n t e h = (
-  leb-true n 57 (and_left (leb n 57) (ltb (b.length % 64 + n) 64) (sym e ∙ h)),
-  ltb-true (b.length % 64 + n) 64 (and_right (leb n 57) (ltb (b.length % 64 + n) 64) (sym e ∙ h)),
+  leb-true n 57 (and_parts _ _ (sym e ∙ h)).0,
+  ltb-true (b.length % 64 + n) 64 (and_parts _ _ (sym e ∙ h)).1,
 )
 
 -- the first flags of a word that was read from a flag on

@@ -8,7 +8,7 @@ use native.Mathlib.Omega.{arith}
 use lib.Dec.{ltb}
 use Rattle.std.specs.List.{list_all}
 use lib.ListN.{length, take, get_or, length-append}
-use lib.Seq.{take-suc, take_all, take-take, take-append-add}
+use lib.Seq.{take-suc, take-take, take-append-add}
 use borrow.Author.Tests.{lt-ltb, le-ltb}
 use Rattle.words.specs.Flags.{bits, copies, window}
 use Rattle.words.proofs.Bits.{length-bits}
@@ -71,11 +71,6 @@ pub word-step : (l : List Bool) (a : List ℕ) (w v r i at : ℕ) (x : Bool) →
 word-step l a w v r i at x inv h few ea ex ev er =
     next-flag w v r i x (omega arith) ev er
     ∙ ap₂ (λ (s : List Bool) (t : Bool). s ++ (t ∷ [])) inv (ex ∙ ap (λ (n : ℕ). get_or l n false) ea) ∙ sym (gathered_next l a i h)
-
-pub word-all : (l : List Bool) (a : List ℕ) (w i : ℕ) → take i (bits 64 w) ≡ gathered l (take i a) → i ≤ length a → length a ≤ i → take (length a) (bits 64 w) ≡ gathered l a
-word-all l a w i inv h k =
-    let e : i ≡ length a = omega arith in
-    ap (λ (n : ℕ). take n (bits 64 w)) (sym e) ∙ inv ∙ ap (gathered l) (take_all i a k)
 
 -- ---- word by word: appending what is left gives what appending all of them gives
 

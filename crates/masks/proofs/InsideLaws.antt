@@ -1,8 +1,9 @@
--- Flags for which the word in progress has room: what it takes to join them to it, and the test that a constant has room. Assumes nothing.
+-- Flags for which the word in progress has room: what it takes to join them to it, and that a constant with room passes its
+-- checks. Assumes nothing.
 use mathlib.Core.Path.{◌≡◌, refl, sym, ap, ◌∙◌}
-use mathlib.Core.Bool.{Bool, true, false, not}
+use mathlib.Core.Bool.{Bool, true, not}
 use mathlib.Core.List.{List, [], ◌∷◌}
-use Prim.Native.Nat.{ℕ, ◌+◌, ◌-◌, ◌*◌, ◌/◌, ◌%◌, ◌≤◌, ◌<◌}
+use Prim.Native.Nat.{ℕ, ◌+◌, ◌%◌, ◌≤◌, ◌<◌}
 use native.Mathlib.Omega.{arith}
 use lib.Dec.{leb}
 use lib.ListN.{length, take, drop}
@@ -15,9 +16,10 @@ use Rattle.masks.specs.Builder.{none_from, builder_checks}
 use Rattle.masks.specs.Checks.{first_failed, limit, within_limit}
 use Rattle.masks.specs.Workers.{Inside, Room}
 use Rattle.masks.specs.declared.builder.BitmapBuilder.{BitmapBuilder}
+use Rattle.masks.proofs.Accepted.{builder-accepted}
 use Rattle.masks.proofs.AppendLaws.{word_back}
 use Rattle.masks.proofs.CheckLaws.{none-earlier, one-check, two-pieces}
-use Rattle.masks.proofs.RoomLaws.{in-limit, none-behind, word-decides}
+use Rattle.masks.proofs.RoomLaws.{none-behind}
 
 -- ---- a word that is a list of k flags with zeros behind it
 
@@ -33,25 +35,12 @@ inside-padded b l k v m size r h e p =
     let short : b.length + m ≤ limit = r.short in
     record { short = omega arith; room = h; low = r.low; few = none-padded l k v e (omega arith) p }
 
--- ---- the checks of a constant, and the tests that stand for them
+-- ---- the checks of a constant
 
--- a builder with room passes its checks, and those of a constant
-pub room-passed : (b : BitmapBuilder) (n size : ℕ) → Room b n size → 0 ≡ first_failed (builder_checks b (b.length + n) size)
-room-passed b n size r =
-    let holds : 8 * ((b.length + n + 63) / 64) ≤ size = r.holds in
-    in-limit b n size 0 (le-leb (b.length + n) limit r.short) (word-decides b (b.length + n) size (omega arith) (omega arith) true 0 r.few refl (sym r.low))
-
+-- a builder with room passes those of a constant too
 pub constant-passed : (b : BitmapBuilder) (n size : ℕ) → Room b n size → 0 ≡ first_failed (constant_checks b size n)
 unfolding constant_checks
 constant-passed b n size r =
     let short : b.length + n ≤ limit = r.short in
-    two-pieces 0 0 0 (builder_checks b (b.length + n) size) (within_limit n ∷ []) (sym (none-earlier 0)) (room-passed b n size r)
+    two-pieces 0 0 0 (builder_checks b (b.length + n) size) (within_limit n ∷ []) (sym (none-earlier 0)) (builder-accepted b n size r)
     (one-check 0 1 true (leb n limit) refl (sym (le-leb n limit (omega arith))))
-
-pub never : {A : Type 0} → false ≡ true → A
-never e = absurd (let z : ◌≡◌ {A = ℕ} 0 1 = cc e in omega arith)
-
--- the tests of a call that stays in the word in progress: one more word than there are whole ones is in the buffer, and in the limit
-pub room-inside : (b : BitmapBuilder) (n size : ℕ) → n ≤ 63 - b.length % 64 → none_from b.word (b.length % 64) ≡ true → b.ones ≤ 64 * (b.length / 64)
-    → b.length / 64 < size / 8 → b.length / 64 < limit / 64 → (b.length % 64 + n < 64) × Room b n size
-room-inside b n size h low few in_buffer in_limit = (omega arith, record { short = omega arith; low = low; few = few; holds = omega arith })

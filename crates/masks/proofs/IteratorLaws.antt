@@ -1,11 +1,10 @@
 -- The flags of a span one by one, and how many alike stand next: word by word. Assumes nothing.
 use mathlib.Core.Path.{◌≡◌, refl, sym, ap, ap₂, ◌∙◌}
-use mathlib.Core.Bool.{Bool, true, false, cond, ◌&&◌}
+use mathlib.Core.Bool.{Bool, false}
 use mathlib.Core.List.{List, ◌++◌}
 use Prim.Native.Nat.{ℕ, ◌+◌, ◌-◌, ◌≤◌, ◌<◌, min}
 use native.Mathlib.Nat.{add-zero}
 use native.Mathlib.Omega.{arith}
-use lib.Dec.{ltb}
 use lib.ListN.{length, take, drop, get_or, length-drop, take-append-drop}
 use lib.Seq.{drop-drop}
 use borrow.Author.Tests.{lt-ltb, le-ltb}
@@ -13,9 +12,9 @@ use Rattle.words.specs.Ends.{leading}
 use Rattle.words.specs.Flags.{bits, flags_of, window}
 use Rattle.words.proofs.EndLaws.{leading_le, leading-some, leading-all}
 use Rattle.words.proofs.Plain.{window-part}
-use Rattle.words.proofs.Windows.{length-window, window-cut, in_window, at_in, at-window}
+use Rattle.words.proofs.Windows.{length-window, window-cut, in_window, at_in}
 use Rattle.masks.specs.Cursor.{item, ended}
-use Rattle.masks.specs.Iterator.{iter_flags, moved_to, flag_step, leading_from}
+use Rattle.masks.specs.Iterator.{moved_to, flag_step, leading_from}
 use Rattle.masks.specs.declared.iterator.BitmapIter.{BitmapIter}
 
 -- ---- the two answers of a cursor
@@ -31,29 +30,6 @@ a-flag bytes c k x h e =
 pub no_flag : (bytes : List ℕ) (c : BitmapIter) (k : ℕ) → c.place ≤ c.length → c.length - c.place ≤ k → ended (moved_to c c.length) ≡ flag_step bytes c k
 unfolding flag_step
 no_flag bytes c k p h = rw (le-ltb (c.place + k) c.length (omega arith))
-
--- ---- what `nth` says of the flags: x is flag k from the cursor's place on, and none that there is no flag
-
-taken_step : (t : Bool) (x y : Bool) (c d e : BitmapIter) → item x c ≡ cond t (item y d) (ended e) → x ≡ y
-taken_step true x y c d e p = cc
-taken_step false x y c d e p = absurd (let z : ◌≡◌ {A = ℕ} 0 1 = cc in omega arith)
-
-ended-step : (t : Bool) (y : Bool) (c d e : BitmapIter) → ended c ≡ cond t (item y d) (ended e) → t ≡ false
-ended-step true y c d e p = absurd (let z : ◌≡◌ {A = ℕ} 0 1 = cc in omega arith)
-ended-step false y c d e p = refl
-
-pub flag-taken : (bytes : List ℕ) (c d : BitmapIter) (k : ℕ) (x : Bool) → item x d ≡ flag_step bytes c k → x ≡ get_or (iter_flags c bytes) (c.place + k) false
-unfolding flag_step
-flag-taken bytes c d k x e =
-    taken_step (ltb (c.place + k) c.length) x (get_or (iter_flags c bytes) (c.place + k) false) d
-    (moved_to c (c.place + k + 1)) (moved_to c c.length) e
-
-pub flag-ended : (bytes : List ℕ) (c d : BitmapIter) (k : ℕ) → ended d ≡ flag_step bytes c k → false ≡ get_or (iter_flags c bytes) (c.place + k) false
-unfolding flag_step
-flag-ended bytes c d k e =
-    sym (at-window (flags_of bytes) c.start c.length (c.place + k)
-    ∙ ap (λ (t : Bool). t && get_or (flags_of bytes) (c.start + (c.place + k)) false)
-    (ended-step (ltb (c.place + k) c.length) (get_or (iter_flags c bytes) (c.place + k) false) d (moved_to c (c.place + k + 1)) (moved_to c c.length) e))
 
 -- ---- how many alike
 

@@ -1,7 +1,7 @@
 -- Lengths of lists that are made flag by flag, and what check 9 gives. Assumes nothing.
 use mathlib.Core.Path.{◌≡◌, refl, ap}
-use mathlib.Core.Bool.{Bool, not}
-use mathlib.Core.List.{List, [], ◌∷◌, map, zip_with}
+use mathlib.Core.Bool.{Bool}
+use mathlib.Core.List.{List, [], ◌∷◌, zip_with}
 use Prim.Native.Nat.{ℕ, suc, ◌+◌, ◌*◌, ◌/◌, ◌≤◌}
 use native.Mathlib.Omega.{arith}
 use lib.Dec.{leb}
@@ -23,10 +23,6 @@ unfolding zip_with
 length-zip2 f [] b p = refl
 length-zip2 f (x ∷ a) [] p = absurd (omega arith)
 length-zip2 f (x ∷ a) (y ∷ b) p = ap suc (length-zip2 f a b (omega arith))
-
-pub length-not : (a : List Bool) → length (map not a) ≡ length a
-length-not [] = refl
-length-not (x ∷ a) = ap suc (length-not a)
 
 pub output-allowed : (n size : ℕ) → first_failed (output_checks n size) ≡ 0 → 8 * ((n + 63) / 64) ≤ size
 unfolding output_checks

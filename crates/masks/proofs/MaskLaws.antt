@@ -1,4 +1,5 @@
 -- The mask's checks, its count, and the count of a slice. Assumes nothing.
+use Rattle.std.proofs.lemmas.Bool.{cases_lt}
 use Rattle.masks.specs.declared.refusal.Refusal.{Refusal}
 use Rattle.masks.specs.declared.refusal.Refusal.TheVariants.{WrongRecount}
 use Rattle.std.specs.Prelude.{Option, Some, None, Result, Ok, Err}
@@ -7,9 +8,10 @@ use mathlib.Core.Bool.{Bool, true, false, cond, ◌&&◌}
 use mathlib.Core.List.{List, [], ◌∷◌}
 use Prim.Native.Nat.{ℕ, ◌+◌, ◌-◌, ◌/◌, ◌≤◌, ◌<◌, max}
 use native.Mathlib.Omega.{arith}
+use mathlib.Core.Logic.{⊎_elim}
 use lib.Dec.{eqb, leb}
 use lib.ListN.{length, drop, take}
-use borrow.Author.Tests.{le-leb, lt-leb, leb-true, eq-eqb, eqb-true, eqb-false, ne_eqb}
+use borrow.Author.Tests.{le-leb, lt-leb, leb-true, eq-eqb, eqb-true, ne_eqb}
 use Rattle.words.specs.Loops.{stretch}
 use Rattle.words.proofs.Loads.{whole-stretch}
 use Rattle.masks.specs.Answer.{given, refused}
@@ -32,14 +34,6 @@ mask-allowed m bytes e = span-allowed m.start m.length (length bytes) (both_left
 count-true : (u : Option ℕ) (l : List Bool) → count_is u (zeros l) ≡ true → TrueCount u l
 count-true (Some z) l e = eqb-true z (zeros l) e
 count-true None l e = tt
-
--- a count that is compared from the other side, with a number that it equals
-pub count-told : (z n v : ℕ) (r : Bool) → z ≡ v → r ≡ eqb n v → r ≡ eqb z n
-count-told z n v r e p = p ∙ ap (eqb n) (sym e) ∙ go (eqb n z) refl
-  where
-    go : (t : Bool) → eqb n z ≡ t → t ≡ eqb z n
-    go true h = sym (eq-eqb z n (sym (eqb-true n z h)))
-    go false h = sym (ne_eqb z n (λ s. eqb-false n z h (sym s)))
 
 -- a known count, compared with the zeros of the flags in the whole of the bytes
 pub known-valid : (u : Option ℕ) (z : ℕ) (bytes : List ℕ) (start n : ℕ) (r : Bool) → u ≡ Some z
@@ -64,7 +58,7 @@ mask-sound m bytes e =
     let a = mask-allowed m bytes e in
     record { starts = a.starts; short = a.short; inside = a.inside; counts = mask-truthful m bytes e }
 
-pub piece-allowed : (m : Bitmap) (bytes : List ℕ) (offset n : ℕ) → first_failed (piece_checks m bytes offset n) ≡ 0 → PieceAllowed m offset n
+pub piece-allowed : (m : Bitmap) (bytes : List ℕ) (offset n : ℕ) → first_failed (piece_checks m bytes offset n) ≡ 0 → PieceAllowed m (length bytes) offset n
 unfolding piece_checks
 piece-allowed m bytes offset n e =
     let rest : List Check = within_limit offset ∷ within_limit n ∷ within_limit (m.start + offset) ∷ check 6 (leb (offset + n) m.length) ∷ [] in
@@ -72,7 +66,7 @@ piece-allowed m bytes offset n e =
     let six = rest-allowed (within_limit (m.start + offset)) (check 6 (leb (offset + n) m.length) ∷ [])
     (rest-allowed (within_limit n) (within_limit (m.start + offset) ∷ check 6 (leb (offset + n) m.length) ∷ [])
     (rest-allowed (within_limit offset) (within_limit n ∷ within_limit (m.start + offset) ∷ check 6 (leb (offset + n) m.length) ∷ []) (both_right (mask_checks m bytes) rest e))) in
-    record { starts = a.starts; short = a.short; inside = leb-true (offset + n) m.length (check-allowed 5 (leb (offset + n) m.length) six) }
+    record { starts = a.starts; short = a.short; lent = a.inside; inside = leb-true (offset + n) m.length (check-allowed 5 (leb (offset + n) m.length) six) }
 
 -- ---- the count of a slice
 
@@ -84,9 +78,13 @@ pub recounts-all : (old n z : ℕ) → (z ≡ 0 → ⊥) → z ≡ old → false
 unfolding recounts
 recounts-all old n z h e = rw (ne_eqb z 0 h, eq-eqb z old e)
 
-pub recounts-by : (old n z p : ℕ) → (z ≡ 0 → ⊥) → (z ≡ old → ⊥) → p ≡ max (old / 5) 32 → leb old (n + p) ≡ recounts old n z
+leb-less : (old n p : ℕ) → leb (old - n) p ≡ leb old (n + p)
+leb-less old n p = ⊎_elim (λ (h : p < old - n). lt-leb (old - n) p h ∙ sym (lt-leb old (n + p) (omega arith)))
+    (λ (h : old - n ≤ p). le-leb (old - n) p h ∙ sym (le-leb old (n + p) (omega arith))) (cases_lt p (old - n))
+
+pub recounts-by : (old n z p : ℕ) → (z ≡ 0 → ⊥) → (z ≡ old → ⊥) → p ≡ max (old / 5) 32 → leb (old - n) p ≡ recounts old n z
 unfolding recounts
-recounts-by old n z p h k e = rw (ne_eqb z 0 h, ne_eqb z old k, e)
+recounts-by old n z p h k e = leb-less old n p ∙ rw (ne_eqb z 0 h, ne_eqb z old k, e)
 
 -- recounted, kept, and not known
 pub cut-known : (old n cut x z : ℕ) (u : Option ℕ) (r : Result (Option ℕ) Refusal) → u ≡ Some z → recounts old n z ≡ true → r ≡ recounted_of z x n → x ≡ cut → r ≡ cut_of old n cut u

@@ -1,6 +1,7 @@
 -- The next flag that is set in one mask and not in another: the checks, the words and blocks that are read, and the ways out.
 -- Assumes nothing.
 use Rattle.std.specs.Prelude.{Option, Some, None}
+use Rattle.std.proofs.Math.Bool.{and_self}
 use mathlib.Core.Path.{◌≡◌, refl, sym, ap, ap₂, ◌∙◌, subst}
 use mathlib.Core.Bool.{Bool, true, false, cond, ◌&&◌}
 use mathlib.Core.List.{List, [], ◌∷◌, ◌++◌, zip_with}
@@ -20,7 +21,7 @@ use Rattle.words.proofs.Combining.{length-zip, zip-part, zip-self, zip-starts, z
 use Rattle.words.proofs.EndLaws.{leading-all, leading_le, leading-take}
 use Rattle.words.proofs.Plain.{window-part}
 use Rattle.words.proofs.Windows.{at_take, in_window, length-window, window-cut, window-ext}
-use Rattle.masks.specs.Checks.{check, earlier, first_failed, limit}
+use Rattle.masks.specs.Checks.{check, earlier, first_failed}
 use Rattle.masks.specs.Combine.{And, AndNot, pair_flags, shortcut}
 use Rattle.masks.specs.Iterator.{leading_from}
 use Rattle.masks.specs.Mask.{mask_checks}
@@ -104,16 +105,9 @@ before-allowed a S from s = record { starts = s.starts; short = s.short; beside 
 
 -- ---- the flags
 
-and_self : (x : Bool) → (x && x) ≡ x
-and_self true = refl
-and_self false = refl
-
 -- a second mask that an arm has
 beside-here : (n : ℕ) (S : Option Bitmap) (b : Bitmap) → S ≡ Some b → Beside n S → Beside n (Some b)
 beside-here n S b e h = subst (λ (o : Option Bitmap). Beside n o) e h
-
-pub second-starts : (n : ℕ) (S : Option Bitmap) (b : Bitmap) → S ≡ Some b → Beside n S → b.start ≤ limit
-second-starts n S b e h = (beside-here n S b e h).0
 
 module _ (a : Bitmap) (a_bytes : List ℕ) (b : Bitmap) (b_bytes : List ℕ) (same : a.length ≡ b.length) where
   each : List Bool
@@ -206,9 +200,6 @@ none-set (false ∷ m) e = let ih : length m ≤ leading false m = none-set m e 
 -- of k flags of a word at most k lead
 pub word-most : (k w r : ℕ) → r ≡ leading false (take k (bits 64 w)) → r ≤ k
 word-most k w r e = omega (arith, leading_le false (take k (bits 64 w)), length-take k (bits 64 w))
-
-pub passed_none : (l : List Bool) (end from : ℕ) → from ≤ end → PassedTo l end from from
-passed_none l end from h = record { low = omega arith; inside = h; same = refl }
 
 -- `end` flags of n, and k of them from `at` on
 module _ (Z : List Bool) (n end from at k : ℕ) (long : length Z ≡ n) (reach : end ≤ n) (p : PassedTo (take end Z) end from at) (fits : at + k ≤ end) where

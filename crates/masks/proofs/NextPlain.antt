@@ -1,8 +1,11 @@
 -- Where the next set flag is, going round once: the positions of set flags from a place on and then those before it, of which the
 -- first is given; and what an accepted `next_and_not` says of its masks. Assumes nothing.
 use Rattle.std.specs.Prelude.{Option, Some, None, slice_get}
+use Rattle.std.proofs.lemmas.Bool.{cases_lt}
+use Rattle.std.proofs.lemmas.Option.{none-some, same_Some}
+use Rattle.std.proofs.Math.Bool.{and-true}
 use mathlib.Core.Path.{◌≡◌, refl, sym, ap, ap₂, ◌∙◌}
-use mathlib.Core.Bool.{Bool, true, false, cond, ◌&&◌}
+use mathlib.Core.Bool.{Bool, true, false, cond}
 use mathlib.Core.List.{List, [], ◌∷◌}
 use mathlib.Core.Logic.{⊎_elim}
 use Prim.Native.Nat.{ℕ, zero, suc, ◌+◌, ◌-◌, ◌≤◌, ◌<◌}
@@ -14,7 +17,6 @@ use Rattle.words.specs.Flags.{count}
 use Rattle.words.specs.Nth.{nth_place}
 use Rattle.words.proofs.Counting.{count-append}
 use Rattle.words.proofs.NthLaws.{nth-low, nth-lt}
-pub use Rattle.words.proofs.Windows.{lt-or-le}
 use Rattle.masks.specs.Search.{nth_from}
 use Rattle.masks.specs.AtIndex.{and_not_flag, flag_or}
 use Rattle.masks.specs.Mask.{mask_flags}
@@ -26,28 +28,22 @@ use Rattle.masks.proofs.PairPlain.{at-and-not}
 use Rattle.masks.proofs.SearchCursor.{forward-nth}
 use Rattle.masks.proofs.SearchPlain.{forward-none, forward-some}
 
-pub some_same : (p t : ℕ) → Some p ≡ Some t → p ≡ t
-some_same p t e = cc
-
-pub none-some : (t : ℕ) → None ≡ Some t → ⊥
-none-some t e = let z : ◌≡◌ {A = ℕ} 0 1 = cc in omega arith
-
 -- a position that is given lies at or after the place, in the list
 pub some-ahead : (l : List Bool) (from p : ℕ) → nth_from l 0 from ≡ Some p → (from ≤ p) × (p < length l)
 some-ahead l from p e = ⊎_elim
     (λ (h : 0 < count (drop from l)).
     let f = forward-some l 0 from h in
-    let same : f.0 ≡ p = some_same f.0 p (sym f.1.0 ∙ e) in
+    let same : f.0 ≡ p = same_Some f.0 p (sym f.1.0 ∙ e) in
     (omega (arith, f.1.1.after), omega (arith, f.1.1.inside)))
     (λ (h : count (drop from l) ≤ 0). absurd (none-some p (sym (forward-none l 0 from h) ∙ e)))
-    (lt-or-le 0 (count (drop from l)))
+    (cases_lt 0 (count (drop from l)))
 
 -- where none is given no flag is set from there on
 pub none-counted : (l : List Bool) (from : ℕ) → nth_from l 0 from ≡ None → count (drop from l) ≡ 0
 none-counted l from e = ⊎_elim
     (λ (h : 0 < count (drop from l)). absurd (none-some (forward-some l 0 from h).0 (sym e ∙ (forward-some l 0 from h).1.0)))
     (λ (h : count (drop from l) ≤ 0). omega arith)
-    (lt-or-le 0 (count (drop from l)))
+    (cases_lt 0 (count (drop from l)))
 
 -- and then the first of all lies before it
 pub some-before : (l : List Bool) (from p : ℕ) → nth_from l 0 from ≡ None → nth_from l 0 0 ≡ Some p → p < from
@@ -61,9 +57,9 @@ some-before l from p e f =
     let there : nth_place l 0 ≡ nth_place (take from l) 0 =
     ap (λ (t : List Bool). nth_place t 0) (sym (take-append-drop from l)) ∙ nth-low (take from l) (drop from l) 0 front in
     let at : Some (0 + nth_place l 0) ≡ Some p = sym (rw (lt-ltb 0 (count l) h)) ∙ f in
-    omega (arith, some_same (0 + nth_place l 0) p at, there, nth-lt (take from l) 0 front, length-take from l))
+    omega (arith, same_Some (0 + nth_place l 0) p at, there, nth-lt (take from l) 0 front, length-take from l))
     (λ (h : count l ≤ 0). absurd (none-some p (sym (forward-none l 0 0 h) ∙ f)))
-    (lt-or-le 0 (count l))
+    (cases_lt 0 (count l))
 
 -- ---- positions of set flags, from a place on
 
@@ -122,10 +118,6 @@ first-listed l from =
     ∙ ap (ones (λ (t : ℕ). get_or l t false) from) (length-drop from l))
 
 -- ---- the flags that a search goes by, of masks that have passed their checks
-
-and-true : (x : Bool) → (x && true) ≡ x
-and-true true = refl
-and-true false = refl
 
 -- each is that of `and_not` at its index
 pub free-flag : (a : Bitmap) (a_bytes : List ℕ) (S : Option Bitmap) (b_bytes : List ℕ) (i : ℕ) → Beside a.length S → i < a.length

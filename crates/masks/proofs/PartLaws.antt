@@ -33,29 +33,16 @@ count-three A B C a b c p q r = omega (arith, count-append A (B ++ C), count-app
 -- ---- flags alike at the front of three parts
 
 module _ (x : Bool) (A B C : List Bool) where
-  pub front-first : (a n : ℕ) → a ≡ leading x A → length A ≡ n → a < n → a ≡ leading x (A ++ (B ++ C))
-  front-first a n e l h = e ∙ sym (leading-some x A (B ++ C) (omega arith))
-
   pub front-middle : (a n b m : ℕ) → a ≡ leading x A → length A ≡ n → n ≤ a → b ≡ leading x B → length B ≡ m → b < m → n + b ≡ leading x (A ++ (B ++ C))
   front-middle a n b m e l h f k i =
       let one : leading x (A ++ (B ++ C)) ≡ length A + leading x (B ++ C) = leading-all x A (B ++ C) (omega arith) in
       let two : leading x (B ++ C) ≡ leading x B = leading-some x B C (omega arith) in
       omega arith
 
-  pub front-last : (a n b m c : ℕ) → a ≡ leading x A → length A ≡ n → n ≤ a → b ≡ leading x B → length B ≡ m → m ≤ b → c ≡ leading x C
-      → n + m + c ≡ leading x (A ++ (B ++ C))
-  front-last a n b m c e l h f k i g =
-      let one : leading x (A ++ (B ++ C)) ≡ length A + leading x (B ++ C) = leading-all x A (B ++ C) (omega arith) in
-      let two : leading x (B ++ C) ≡ length B + leading x C = leading-all x B C (omega arith) in
-      omega arith
-
   -- ---- and at their end
 
   end-one : trailing x (A ++ (B ++ C)) ≡ trailing x ((A ++ B) ++ C)
   end-one = ap (trailing x) (sym (append_assoc A B C))
-
-  pub end-first : (c n : ℕ) → c ≡ trailing x C → length C ≡ n → c < n → c ≡ trailing x (A ++ (B ++ C))
-  end-first c n e l h = e ∙ sym (end-one ∙ trailing-some x (A ++ B) C (omega arith))
 
   pub end-middle : (c n b m : ℕ) → c ≡ trailing x C → length C ≡ n → n ≤ c → b ≡ trailing x B → length B ≡ m → b < m
       → n + b ≡ trailing x (A ++ (B ++ C))
@@ -64,22 +51,12 @@ module _ (x : Bool) (A B C : List Bool) where
       let two : trailing x (A ++ B) ≡ trailing x B = trailing-some x A B (omega arith) in
       omega arith
 
-  pub end-last : (c n b m a : ℕ) → c ≡ trailing x C → length C ≡ n → n ≤ c → b ≡ trailing x B → length B ≡ m → m ≤ b → a ≡ trailing x A
-      → n + m + a ≡ trailing x (A ++ (B ++ C))
-  end-last c n b m a e l h f k i g =
-      let one : trailing x (A ++ (B ++ C)) ≡ length C + trailing x (A ++ B) = end-one ∙ trailing-all x (A ++ B) C (omega arith) in
-      let two : trailing x (A ++ B) ≡ length B + trailing x A = trailing-all x A B (omega arith) in
-      omega arith
-
 -- ---- whole words: i of them are alike, and the next is read
 
 whole_word : (w : ℕ) → take 64 (bits 64 w) ≡ bits 64 w
 whole_word w = take_all 64 (bits 64 w) (omega (arith, length-bits 64 w))
 
 module _ (x : Bool) (l : List Bool) (s n : ℕ) where
-  pub front-none : 64 * 0 ≤ leading x (window l s (64 * 0))
-  front-none = omega arith
-
   -- the words up to i, the word i, the rest
   front_cut : (i : ℕ) → i < n → window l s (64 * n) ≡ window l s (64 * i) ++ (window l (s + 64 * i) 64 ++ window l (s + 64 * i + 64) (64 * n - (64 * i + 64)))
   front_cut i h =
@@ -171,13 +148,6 @@ zeros-most l n c e p = omega (arith, count-not l)
 pub zeros-none : (bytes : List ℕ) (start n : ℕ) → n ≡ 0 → zeros (window (flags_of bytes) start n) ≡ 0
 unfolding zeros
 zeros-none bytes start n e = omega (arith, count-not (window (flags_of bytes) start n), length-window (flags_of bytes) start n)
-
--- at most a word of flags is alike in a word
-pub front-most : (x : Bool) (k w r : ℕ) → r ≡ leading x (take k (bits 64 w)) → r ≤ 64
-front-most x k w r e = omega (arith, leading_le x (take k (bits 64 w)), length-take k (bits 64 w), length-bits 64 w)
-
-pub end-most : (x : Bool) (k w r : ℕ) → r ≡ trailing x (take k (bits 64 w)) → r ≤ 64
-end-most x k w r e = omega (arith, trailing_le x (take k (bits 64 w)), length-take k (bits 64 w), length-bits 64 w)
 
 -- all flags are x just where the zeros are as many as they would then be
 pub all-zeros : (x : Bool) (l : List Bool) (n : ℕ) (t : Bool) → length l ≡ n → t ≡ all_are x l → t ≡ eqb (zeros l) (zeros_of_all x n)

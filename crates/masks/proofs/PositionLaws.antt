@@ -1,4 +1,5 @@
 -- Positions of ones written over an output, and the cursor behind them. Assumes nothing.
+use Rattle.std.proofs.lemmas.Bool.{cases_lt}
 use mathlib.Core.Path.{◌≡◌, refl, sym, ap, ap₂, ◌∙◌}
 use mathlib.Core.Bool.{Bool, true, false}
 use mathlib.Core.List.{List, [], ◌∷◌, ◌++◌}
@@ -10,12 +11,12 @@ use borrow.Author.Tests.{lt-ltb, le-ltb}
 use lib.Seq.{length-take-le}
 use Rattle.words.specs.Flags.{copies, over}
 use Rattle.words.specs.Loops.{stretch}
-use Rattle.words.proofs.Windows.{length_over, lt-or-le, over-append, over_enough, over-more, over_none, set-over}
+use Rattle.words.proofs.Windows.{length_over, over-append, over_enough, over_none, set-over}
 use Rattle.masks.specs.Frozen.{over_from}
 use Rattle.masks.specs.Positions.{place_behind, left_of}
 use Rattle.masks.specs.TrueIdx.{ones_from, ones_left, true_moved}
 use Rattle.masks.specs.declared.true_idx.TrueIdxIter.{TrueIdxIter}
-use Rattle.masks.proofs.FrozenLaws.{over_from-none}
+use Rattle.masks.proofs.FrozenLaws.{length-over_from, over_from-more, over_from-none}
 use Rattle.masks.proofs.TrueIdxLaws.{with-mask}
 use Rattle.masks.proofs.TrueIdxPlain.{unmasked}
 
@@ -110,22 +111,6 @@ pub from_front : (l m : List ℕ) → over_from l 0 m ≡ over l m
 unfolding over_from
 from_front l m = refl
 
-over-on : (l a m : List ℕ) → over_from (over l a) (length a) m ≡ over l (a ++ m)
-unfolding over_from
-over-on l a m = over-more l a m
-
-pub over_from-on : (l : List ℕ) (n : ℕ) (a m : List ℕ) → over_from (over_from l n a) (n + length a) m ≡ over_from l n (a ++ m)
-over_from-on l zero a m =
-    let e : 0 + length a ≡ length a = omega arith in
-    ap (λ (t : List ℕ). over_from t (0 + length a) m) (from_front l a) ∙ ap (λ (x : ℕ). over_from (over l a) x m) e ∙ over-on l a m
-    ∙ sym (from_front l (a ++ m))
-over_from-on [] (suc n) a m =
-    ap (λ (t : List ℕ). over_from t (suc n + length a) m) (none_before (suc n) a) ∙ none_before (suc n + length a) m ∙ sym (none_before (suc n) (a ++ m))
-over_from-on (x ∷ l) (suc n) a m =
-    let e : suc n + length a ≡ suc (n + length a) = omega arith in
-    ap (λ (t : List ℕ). over_from t (suc n + length a) m) (one-before x l n a) ∙ ap (λ (k : ℕ). over_from (x ∷ over_from l n a) k m) e
-    ∙ one-before x (over_from l n a) (n + length a) m ∙ ap (λ (t : List ℕ). x ∷ t) (over_from-on l n a m) ∙ sym (one-before x l n (a ++ m))
-
 pub over_from_enough : (l : List ℕ) (n : ℕ) (a b : List ℕ) → length l ≤ n + length a → over_from l n (a ++ b) ≡ over_from l n a
 unfolding over_from
 over_from_enough l n a b h = ap (λ (t : List ℕ). take n l ++ t) (over_enough (drop n l) a b (omega (arith, length-drop n l)))
@@ -134,11 +119,6 @@ pub over_from-past : (l : List ℕ) (n : ℕ) (m : List ℕ) → length l ≤ n 
 over_from-past [] n m h = none_before n m
 over_from-past (x ∷ l) zero m h = absurd (omega arith)
 over_from-past (x ∷ l) (suc n) m h = one-before x l n m ∙ ap (λ (t : List ℕ). x ∷ t) (over_from-past l n m (omega arith))
-
-pub length-over_from : (l : List ℕ) (n : ℕ) (m : List ℕ) → length (over_from l n m) ≡ length l
-length-over_from [] n m = ap length (none_before n m)
-length-over_from (x ∷ l) zero m = ap length (from_front (x ∷ l) m) ∙ length_over (x ∷ l) m
-length-over_from (x ∷ l) (suc n) m = ap length (one-before x l n m) ∙ ap suc (length-over_from l n m)
 
 -- a run that is cut where the output ends
 pub run-cut : (l : List ℕ) (n q ones k : ℕ) → n ≤ length l → k ≡ min ones (length l - n)
@@ -150,7 +130,7 @@ run-cut l n q ones k h e = ⊎_elim
     sym (ap (λ (x : ℕ). over_from l n (ones_from q (copies x true))) (sym both) ∙ ap (over_from l n) (row-add q k (ones - k))
     ∙ over_from_enough l n (ones_from q (copies k true)) rest (omega (arith, length-row q k))))
     (λ (all : ones ≤ k). let same : k ≡ ones = omega arith in ap (λ (x : ℕ). over_from l n (ones_from q (copies x true))) same)
-    (lt-or-le k ones)
+    (cases_lt k ones)
 
 -- ---- an output under way: what is left, written from the count on, gives what all, written from the first count on, gives
 
@@ -176,11 +156,11 @@ module _ (out₀ : List ℕ) (done : ℕ) (all out : List ℕ) (count : ℕ) whe
             ⊎_elim
             (λ (fits : count + length a < length out).
             let last : r ≡ count + length a = omega arith in
-            ap (λ (t : List ℕ). over_from t r b) p ∙ ap (λ (x : ℕ). over_from (over_from out count a) x b) last ∙ over_from-on out count a b
+            ap (λ (t : List ℕ). over_from t r b) p ∙ ap (λ (x : ℕ). over_from (over_from out count a) x b) last ∙ over_from-more out count a b
             ∙ ap (over_from out count) (sym e) ∙ u.same_out)
             (λ (full : length out ≤ count + length a).
             over_from-past out' r b (omega arith) ∙ p ∙ sym (over_from_enough out count a b full) ∙ ap (over_from out count) (sym e) ∙ u.same_out)
-            (lt-or-le (count + length a) (length out));
+            (cases_lt (count + length a) (length out));
         same_count = omega (arith, u.same_count, u.same_length);
       }
 

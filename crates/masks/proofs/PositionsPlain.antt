@@ -1,11 +1,11 @@
 -- The plain reading of many positions at once: what as many calls of `next` give, and the cursor that they leave. Assumes nothing.
+use Rattle.std.proofs.lemmas.Bool.{cases_lt}
 use mathlib.Core.Path.{◌≡◌, refl, sym, ap, ◌∙◌}
 use mathlib.Core.List.{List, [], ◌∷◌}
 use mathlib.Core.Logic.{⊎_elim}
 use Prim.Native.Nat.{ℕ, zero, suc, ◌+◌, ◌≤◌, ◌<◌}
 use native.Mathlib.Omega.{arith}
 use lib.ListN.{length, take}
-use Rattle.words.proofs.Windows.{lt-or-le}
 use Rattle.masks.specs.Listing.{listing, after_calls}
 use Rattle.masks.specs.Positions.{left_of, place_behind}
 use Rattle.masks.specs.TrueIdx.{true_moved}
@@ -13,10 +13,6 @@ use Rattle.masks.specs.declared.true_idx.TrueIdxIter.{TrueIdxIter}
 use Rattle.masks.proofs.Listing.{an_item, the_end, behind-item, behind-end}
 use Rattle.masks.proofs.PositionLaws.{behind-many, behind-few, behind-none}
 use Rattle.masks.proofs.TrueIdxPlain.{NextOne, one-next, none-next, next_one, IsAccepted, accepted-at, answer-of}
-
-none-taken : (k : ℕ) → take {A = ℕ} k [] ≡ []
-none-taken zero = refl
-none-taken (suc k) = refl
 
 no-calls : (bytes : List ℕ) (c : TrueIdxIter) → listing (answer-of bytes) 0 c ≡ []
 unfolding listing
@@ -44,7 +40,7 @@ one_more c d p left zero e f = behind-many c (p ∷ left) 0 (omega arith) ∙ sy
 one_more c d p left (suc k) e f = ⊎_elim
     (λ (h : k < length left). behind-many c (p ∷ left) (suc k) (omega arith) ∙ sym (behind-many d left k h))
     (λ (h : length left ≤ k). behind-few c (p ∷ left) (suc k) (omega arith) ∙ sym f ∙ sym (behind-few d left k h))
-    (lt-or-le k (length left))
+    (cases_lt k (length left))
 
 -- a cursor at the length stays there
 at_the_end : (bytes : List ℕ) (k : ℕ) (c : TrueIdxIter) → IsAccepted bytes c → c.place ≡ c.length → after_calls (answer-of bytes) k c ≡ c

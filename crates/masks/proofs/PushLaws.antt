@@ -1,4 +1,5 @@
 -- Flags of a word appended: within the word in progress, and over its end. Assumes nothing.
+use Rattle.std.proofs.lemmas.Bool.{cases_lt}
 use mathlib.Core.Path.{◌≡◌, refl, sym, ap, ap₂, ◌∙◌}
 use mathlib.Core.Bool.{Bool, true, false, ◌||◌}
 use mathlib.Core.List.{List, [], ◌++◌, zip_with}
@@ -11,7 +12,7 @@ use Rattle.words.specs.Flags.{bits, copies, count, flags_of, over_at, window, wo
 use Rattle.words.proofs.Loads.{from_end}
 use Rattle.words.proofs.Merging.{or-behind}
 use Rattle.words.proofs.Plain.{window-part}
-use Rattle.words.proofs.Windows.{lt-or-le, window-all, window-drop, window-ext, at_in, word_value}
+use Rattle.words.proofs.Windows.{window-all, window-drop, window-ext, at_in, word_value}
 use Rattle.masks.specs.Builder.{Filling, filling, rebuilt, in_progress, appended, none_from}
 use Rattle.masks.specs.Frozen.{packed, over_from}
 use Rattle.masks.specs.Workers.{Inside}
@@ -43,7 +44,7 @@ window-padded p t n = window-ext (p ++ window t 0 n) (p ++ t) 0 0 n (λ j h. ⊎
     ap (λ (x : ℕ). get_or (p ++ window t 0 n) x false) e ∙ get_or-append-add p (window t 0 n) (j - length p) false
     ∙ at_in t 0 n (j - length p) (omega arith) ∙ ap (λ (x : ℕ). get_or t x false) z
     ∙ sym (ap (λ (x : ℕ). get_or (p ++ t) x false) e ∙ get_or-append-add p t (j - length p) false))
-    (lt-or-le (0 + j) (length p)))
+    (cases_lt (0 + j) (length p)))
 
 -- ---- the word with the new flags
 

@@ -1,17 +1,19 @@
 -- What the exit of a `?` gives, what is known behind it, and that refusals stand in the order of their numbers. Assumes nothing.
-use Rattle.std.proofs.Common.{◌≡◌, refl, ℕ, zero, suc, ◌<◌, Bool, true, false, List, [], ◌∷◌, length, get_or, Result, Ok, Err}
+use Rattle.std.proofs.Common.{◌≡◌, refl, ℕ, zero, suc, ◌<◌, Bool, true, List, [], ◌∷◌, length, get_or, Result, Ok, Err}
 use Rattle.std.specs.Prelude.{◌&&◌, eqb}
 use Rattle.std.specs.Result.{IsErrAnd}
 use Rattle.std.proofs.lemmas.Result.{err_from_is_err_and}
 use Rattle.std.specs.Ordering.{ord_min}
+use Rattle.std.proofs.lemmas.Bool.{and_parts}
 use mathlib.Core.Path.{sym, ap, ◌∙◌}
 use native.Mathlib.Omega.{arith}
 use borrow.Author.Tests.{eqb-true}
-use Rattle.masks.specs.Answer.{Answer, answer, answer_back, refused}
-use Rattle.masks.specs.Checks.{earlier, rank, place_in}
-use Rattle.masks.specs.Cursor.{answer_step}
-use Rattle.masks.specs.Refusal.{number, failure_of}
+use Rattle.masks.specs.Answer.{Answer, answer, answer_back, decided, refused}
 use Rattle.masks.specs.Workers.{with_state}
+use Rattle.masks.proofs.CheckLaws.{is-refused}
+use Rattle.masks.specs.Checks.{earlier, rank, place_in}
+use Rattle.masks.specs.Cursor.{answer_step, Step}
+use Rattle.masks.specs.Refusal.{number, failure_of}
 use Rattle.masks.specs.declared.cursor.Step.{Step as Stepped}
 use Rattle.masks.specs.declared.refusal.Refusal.{Refusal}
 use Rattle.masks.specs.declared.refusal.Refusal.TheVariants.{OverLimit, PastBytes, FalseCount, UnequalLists, ImpossibleBuilder}
@@ -39,19 +41,10 @@ abbrev all : (Refusal → Bool) → List Refusal → Bool
 all p [] = true
 all p (x ∷ xs) = p x && all p xs
 
-left : (a b : Bool) → (a && b) ≡ true → a ≡ true
-left true b e = refl
-left false b e = e
-
-right : (a b : Bool) → (a && b) ≡ true → b ≡ true
-right true b e = e
-right false true e = refl
-right false false e = e
-
 at : (p : Refusal → Bool) (l : List Refusal) → all p l ≡ true → (k : ℕ) → k < length l → p (get_or l k OverLimit) ≡ true
 at p [] e k h = absurd (omega (arith, h))
-at p (x ∷ xs) e zero h = left (p x) (all p xs) e
-at p (x ∷ xs) e (suc k) h = at p xs (right (p x) (all p xs) e) k (omega (arith, h))
+at p (x ∷ xs) e zero h = (and_parts _ _ e).0
+at p (x ∷ xs) e (suc k) h = at p xs (and_parts _ _ e).1 k (omega (arith, h))
 
 of-each : (p : Refusal → Bool) → all p refusals ≡ true → (r : Refusal) → p r ≡ true
 of-each p e OverLimit = at p refusals e 0 (omega arith)
@@ -142,3 +135,19 @@ pub back-exit : {S T A : Type 0} (r : Result T Refusal) (s : S) (x : Refused S) 
 back-exit r s x e result h =
     let p = err_from_is_err_and result h in
     ap answer_back (p.1 ∙ ap (λ (y : Refused _). Err y) p.2) ∙ ap (refused (number x.refusal)) (back-err r s x e).1
+
+-- ---- the exit of a `?` is what the checks decide
+
+pub exit-refused : {A : Type 0} (result : Result A Refusal) (e : Refusal) → IsErrAnd result (λ (y : Refusal). y ≡ e)
+    → (m : ℕ) → number e ≡ m → (a : A) → answer result ≡ decided m tt a
+exit-refused result e h m p a = exit-is result e h ∙ is-refused (number e) m tt a p (number-ne0 e)
+
+pub back-refused : {S A : Type 0} (r : Result (Unit {0}) Refusal) (s : S) (x : Refused S) → Err x ≡ with_state r s
+    → (result : Result A (Refused S)) → IsErrAnd result (λ (y : Refused S). y ≡ x)
+    → (m : ℕ) → failure_of r ≡ m → (a : A) → answer_back result ≡ decided m s a
+back-refused r s x e result h m p a = back-is r s x e result h ∙ is-refused (failure_of r) m s a p (failed-back r s x e)
+
+pub step-refused : {S A : Type 0} (r : Result (Unit {0}) Refusal) (s : S) (x : Refused S) → Err x ≡ with_state r s
+    → (result : Result (Stepped A S) (Refused S)) → IsErrAnd result (λ (y : Refused S). y ≡ x)
+    → (m : ℕ) → failure_of r ≡ m → (a : Step S A) → answer_step result ≡ decided m s a
+step-refused r s x e result h m p a = step-is r s x e result h ∙ is-refused (failure_of r) m s a p (failed-back r s x e)

@@ -1,5 +1,6 @@
 -- Each call refuses by the numbers listed for it alone, and a refusal changes nothing. Assumes nothing.
 use Rattle.std.specs.Prelude.{Some, None}
+use Rattle.std.proofs.lemmas.Bool.{and_parts, or_left, or_right}
 use mathlib.Core.Path.{◌≡◌, refl, sym, ap, ◌∙◌, subst}
 use mathlib.Core.Bool.{Bool, true, false, cond, ◌||◌}
 use mathlib.Core.List.{List, [], ◌∷◌, ◌++◌}
@@ -10,7 +11,7 @@ use lib.Dec.{leb, eqb}
 use lib.ListN.{length}
 use borrow.Author.Tests.{eq-eqb, eqb-true}
 use Rattle.masks.proofs.AnswerLaws.{refused-number, refused-state, refused-failed}
-use Rattle.masks.proofs.CheckLaws.{and_left, and_right, is-kept}
+use Rattle.masks.proofs.CheckLaws.{is-kept}
 use Rattle.masks.proofs.SliceTruth.{slice-number}
 use Rattle.masks.specs.Aligned.{aligned_checks, aligned_of}
 use Rattle.masks.specs.Answer.{Answer, given, refused, checked, kept, unless_empty}
@@ -43,14 +44,6 @@ use Rattle.masks.specs.declared.builder.BitmapBuilder.{BitmapBuilder}
 use Rattle.masks.specs.declared.superseding.Part.{Part}
 
 -- ---- the number of a list of checks is 0 or one of theirs
-
-or_left : (x y : Bool) → x ≡ true → (x || y) ≡ true
-or_left true y e = refl
-or_left false y e = absurd (let z : ◌≡◌ {A = ℕ} 0 1 = cc e in omega arith)
-
-or_right : (x y : Bool) → y ≡ true → (x || y) ≡ true
-or_right true y e = refl
-or_right false y e = e
 
 earlier-either : (a b : ℕ) → (earlier a b ≡ a) ⊎ (earlier a b ≡ b)
 unfolding earlier
@@ -89,10 +82,10 @@ failed-among (c ∷ cs) = ⊎_elim
 among-all : (k : ℕ) (ms ns : List ℕ) → all_among ms ns ≡ true → among k ms ≡ true → among k ns ≡ true
 unfolding among all_among
 among-all k [] ns a e = absurd (let z : ◌≡◌ {A = ℕ} 0 1 = cc e in omega arith)
-among-all k (m ∷ ms) ns a e = go (eqb k m) refl e (among-all k ms ns (and_right (among m ns) (all_among ms ns) a))
+among-all k (m ∷ ms) ns a e = go (eqb k m) refl e (among-all k ms ns (and_parts _ _ a).1)
   where
     go : (t : Bool) → eqb k m ≡ t → (t || among k ms) ≡ true → (among k ms ≡ true → among k ns ≡ true) → among k ns ≡ true
-    go true p q rest = ap (λ (x : ℕ). among x ns) (eqb-true k m p) ∙ and_left (among m ns) (all_among ms ns) a
+    go true p q rest = ap (λ (x : ℕ). among x ns) (eqb-true k m p) ∙ (and_parts _ _ a).0
     go false p q rest = rest q
 
 -- ---- a call with these checks

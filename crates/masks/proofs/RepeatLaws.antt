@@ -1,12 +1,12 @@
 -- Flags repeated in turn, and their number taken exactly. Assumes nothing.
-use mathlib.Core.Path.{◌≡◌, refl, sym, ap, ◌∙◌, subst}
+use Rattle.std.proofs.lemmas.Bool.{cases_lt}
+use mathlib.Core.Path.{◌≡◌, refl, sym, ap, ◌∙◌}
 use mathlib.Core.Bool.{Bool, false}
 use mathlib.Core.List.{List, [], ◌∷◌, ◌++◌, append_assoc, append-nil}
 use mathlib.Core.Logic.{⊎_elim}
 use Prim.Native.Nat.{ℕ, suc, ◌+◌, ◌-◌, ◌*◌, ◌^◌, ◌≤◌, ◌<◌, min}
-use native.Mathlib.Nat.{zero-mul, suc-mul, mul-one, mul-le-mul_right}
+use native.Mathlib.Nat.{zero-mul, suc-mul, mul-le-mul_right}
 use native.Mathlib.Omega.{arith}
-use Rattle.words.proofs.Windows.{lt-or-le}
 use lib.ListN.{length, get_or, length-append}
 use borrow.Author.Tests.{lt-leb}
 use Rattle.words.specs.Flags.{copies, window}
@@ -49,9 +49,6 @@ no-repeats k l e = sym (ap (λ (x : ℕ). repeated x l) e ∙ repeated-none l)
 pub one-repeat : (k : ℕ) (l : List Bool) → k ≡ 1 → l ≡ repeated k l
 one-repeat k l e = sym (ap (λ (x : ℕ). repeated x l) e ∙ repeated-once l)
 
-pub room-once : (b : BitmapBuilder) (n k size : ℕ) → k ≡ 1 → Room b (n * k) size → Room b n size
-room-once b n k size e r = subst (λ (x : ℕ). Room b x size) (ap (λ (x : ℕ). n * x) e ∙ mul-one n) r
-
 pub nothing_yet : (k : ℕ) (l : List Bool) (s : ℕ) → [] ≡ repeated k (window l s 0)
 unfolding repeated window
 nothing_yet k l s = refl
@@ -75,9 +72,6 @@ runs-room f g l s i n k e h r =
     let long : length (repeated k (window l s i)) ≡ i * k = length-repeated k (window l s i) ∙ ap (λ (x : ℕ). x * k) (length-window l s i) in
     room_after f g (repeated k (window l s i)) (n * k) k e (omega (arith, suc-mul i k)) r
 
-pub runs-all : (f g : Filling) (l : List Bool) (s i n k : ℕ) → g ≡ appended f (repeated k (window l s i)) → i ≤ n → n ≤ i → g ≡ appended f (repeated k (window l s n))
-runs-all f g l s i n k e h q = let z : i ≡ n = omega arith in e ∙ ap (λ (x : ℕ). appended f (repeated k (window l s x))) z
-
 -- ---- the product, or the largest number if it does not fit: over the limit check 1 decides
 
 too_long_lem : (b : BitmapBuilder) (n size : ℕ) → limit < n → 1 ≡ first_failed (grow_checks b n size)
@@ -87,4 +81,4 @@ pub exact-product : (b : BitmapBuilder) (r p size c : ℕ) → r ≡ min p (2 ^ 
 exact-product b r p size c e h = h ∙ ⊎_elim
     (λ (q : 2 ^ 64 - 1 < p). sym (too_long_lem b r size (omega arith)) ∙ too_long_lem b p size (omega arith))
     (λ (q : p ≤ 2 ^ 64 - 1). let same : r ≡ p = omega arith in ap (λ (x : ℕ). first_failed (grow_checks b x size)) same)
-    (lt-or-le (2 ^ 64 - 1) p)
+    (cases_lt (2 ^ 64 - 1) p)

@@ -1,4 +1,6 @@
 -- Builders with room for what is appended: what the checks give, and what is left of it after an appending. Assumes nothing.
+use Rattle.std.proofs.lemmas.Bool.{and_parts}
+use Rattle.std.proofs.Math.Bool.{and-false, and-true}
 use mathlib.Core.Path.{◌≡◌, refl, sym, ap, ap₂, ◌∙◌, subst}
 use mathlib.Core.Bool.{Bool, true, false, cond, not, ◌&&◌}
 use mathlib.Core.List.{List, [], ◌∷◌, ◌++◌, append_assoc}
@@ -23,19 +25,11 @@ use Rattle.masks.specs.Workers.{Room}
 use Rattle.masks.specs.declared.bitmap.Bitmap.{Bitmap}
 use Rattle.masks.specs.declared.builder.BitmapBuilder.{BitmapBuilder}
 use Rattle.masks.proofs.AppendLaws.{Parts, grown, appended-grown, parts-of, parts-long, progress-of, word_back, length-progress}
-use Rattle.masks.proofs.CheckLaws.{one-check, earlier-none, none-earlier, first-least, and_left, and_right, first-allowed, rest-allowed, both_left, both_right, SpanAllowed, span-allowed}
+use Rattle.masks.proofs.CheckLaws.{one-check, earlier-none, none-earlier, first-least, first-allowed, rest-allowed, both_left, both_right, SpanAllowed, span-allowed}
 use Rattle.masks.proofs.OrderLaws.{leads, led}
 use Rattle.masks.proofs.FrozenLaws.{flags-packed, length-over_from, flags-over_from}
 
 -- ---- the number of a builder's checks, by the tests that decide it
-
-and_none : (t : Bool) → (t && (false && false)) ≡ false
-and_none true = refl
-and_none false = refl
-
-and-all : (t : Bool) → (t && (true && true)) ≡ t
-and-all true = refl
-and-all false = refl
 
 -- check 1 is put before those of a builder and its buffer
 limit-leads : (p : Bool) (n size : ℕ) → leads 1 (check 4 p ∷ output_checks n size) ≡ true
@@ -80,7 +74,7 @@ module _ (b : BitmapBuilder) (n size : ℕ) (holds : (n + 63) / 64 ≤ size / 8)
   pub ones_over : 64 * (b.length / 64) < b.ones → 4 ≡ first_failed (check 4 (possible b size) ∷ output_checks n size)
   unfolding possible
   ones_over h = impossible (possible b size) n size (ap (λ (t : Bool). none_from b.word (b.length % 64) && (t && leb (8 * (b.length / 64)) size))
-      (lt-leb b.ones (64 * (b.length / 64)) h) ∙ and_none (none_from b.word (b.length % 64)))
+      (lt-leb b.ones (64 * (b.length / 64)) h) ∙ and-false (none_from b.word (b.length % 64)))
 
   pub word-decides : (t : Bool) (r : ℕ) → b.ones ≤ 64 * (b.length / 64) → r ≡ cond t 0 4 → t ≡ none_from b.word (b.length % 64)
       → r ≡ first_failed (check 4 (possible b size) ∷ output_checks n size)
@@ -88,7 +82,7 @@ module _ (b : BitmapBuilder) (n size : ℕ) (holds : (n + 63) / 64 ≤ size / 8)
   word-decides t r few e h =
       let enough : 8 * (b.length / 64) ≤ size = omega arith in
       let fits : 8 * ((n + 63) / 64) ≤ size = omega arith in
-      e ∙ ap (λ (x : Bool). cond x 0 4) (h ∙ sym (and-all (none_from b.word (b.length % 64))))
+      e ∙ ap (λ (x : Bool). cond x 0 4) (h ∙ sym (and-true (none_from b.word (b.length % 64))))
       ∙ sym (earlier-none (cond (none_from b.word (b.length % 64) && (true && true)) 0 4))
       ∙ ap₂ (λ (x y : Bool). earlier (cond (none_from b.word (b.length % 64) && (x && y)) 0 4) 0)
       (sym (le-leb b.ones (64 * (b.length / 64)) few)) (sym (le-leb (8 * (b.length / 64)) size enough))
@@ -104,11 +98,11 @@ room_of b n size e =
     let three = rest-allowed (within_limit (b.length + n)) (check 4 (possible b size) ∷ output_checks (b.length + n) size) two in
     let four = rest-allowed (check 4 (possible b size)) (output_checks (b.length + n) size) three in
     let poss = first-allowed 3 (possible b size) (output_checks (b.length + n) size) three in
-    let rest = and_right (none_from b.word (b.length % 64)) (leb b.ones (64 * (b.length / 64)) && leb (8 * (b.length / 64)) size) poss in
+    let rest = (and_parts _ _ poss).1 in
     record {
       short = leb-true (b.length + n) limit (first-allowed 0 (leb (b.length + n) limit) (check 4 (possible b size) ∷ output_checks (b.length + n) size) two);
-      low = and_left (none_from b.word (b.length % 64)) (leb b.ones (64 * (b.length / 64)) && leb (8 * (b.length / 64)) size) poss;
-      few = leb-true b.ones (64 * (b.length / 64)) (and_left (leb b.ones (64 * (b.length / 64))) (leb (8 * (b.length / 64)) size) rest);
+      low = (and_parts _ _ poss).0;
+      few = leb-true b.ones (64 * (b.length / 64)) (and_parts _ _ rest).0;
       holds = leb-true (8 * ((b.length + n + 63) / 64)) size (first-allowed 8 (leb (8 * ((b.length + n + 63) / 64)) size) [] four);
     }
 
@@ -118,10 +112,6 @@ pub word-stored : (b : BitmapBuilder) (k size : ℕ) (out new old : List Bool) �
 word-stored b k size out new old r h e =
     let holds : 8 * ((b.length + k + 63) / 64) ≤ size = r.holds in
     had-room (8 * (b.length / 64)) size out new old e (omega arith)
-
--- the same of a record that is equal
-pub room-same : (a b : BitmapBuilder) (n size : ℕ) → a ≡ b → Room b n size → Room a n size
-room-same a b n size e r = subst (λ (x : BitmapBuilder). Room x n size) (sym e) r
 
 -- of a span that is appended
 pub grow-allowed : (start n bytes size r : ℕ) (b : BitmapBuilder) → r ≡ first_failed (span_checks start n bytes ++ builder_checks b (b.length + n) size) → r ≡ 0
@@ -133,7 +123,7 @@ grow-allowed start n bytes size r b e z = (
 
 pub word-allowed : (w k : ℕ) → first_failed (within_limit k ∷ check 6 (leb k 64 && none_from w k) ∷ []) ≡ 0 → k ≤ 64
 word-allowed w k e =
-    leb-true k 64 (and_left (leb k 64) (none_from w k) (first-allowed 5 (leb k 64 && none_from w k) [] (rest-allowed (within_limit k) (check 6 (leb k 64 && none_from w k) ∷ []) e)))
+    leb-true k 64 (and_parts _ _ (first-allowed 5 (leb k 64 && none_from w k) [] (rest-allowed (within_limit k) (check 6 (leb k 64 && none_from w k) ∷ []) e))).0
 
 pub room-less : (b : BitmapBuilder) (m n size : ℕ) → m ≤ n → Room b n size → Room b m size
 room-less b m n size h r =
@@ -260,6 +250,7 @@ pub record InnerAllowed (m : Bitmap) (bytes : List ℕ) (start n : ℕ) : Type 0
   pub starts : m.start ≤ limit
   pub short : m.length ≤ limit
   pub inside : start + n ≤ m.length
+  pub lent : m.start + m.length ≤ 8 * length bytes
 
 pub inner-allowed : (m : Bitmap) (bytes : List ℕ) (start n : ℕ) → first_failed (mask_checks m bytes) ≡ 0 → first_failed (inner_checks start n m.length) ≡ 0
     → InnerAllowed m bytes start n
@@ -268,4 +259,4 @@ inner-allowed m bytes start n e p =
     let span = span-allowed m.start m.length (length bytes) (both_left (span_checks m.start m.length (length bytes)) (check 3 (count_valid m bytes) ∷ []) e) in
     let two = rest-allowed (within_limit start) (within_limit n ∷ check 6 (leb (start + n) m.length) ∷ []) p in
     let three = rest-allowed (within_limit n) (check 6 (leb (start + n) m.length) ∷ []) two in
-    record { starts = span.starts; short = span.short; inside = leb-true (start + n) m.length (first-allowed 5 (leb (start + n) m.length) [] three) }
+    record { starts = span.starts; short = span.short; inside = leb-true (start + n) m.length (first-allowed 5 (leb (start + n) m.length) [] three); lent = span.inside }

@@ -1,4 +1,5 @@
 -- What a cursor over runs of ones gives, and the first run from a place on, byte by byte and bit by bit. Assumes nothing.
+use Rattle.std.proofs.lemmas.Bool.{cases_lt, and_parts}
 use mathlib.Core.Path.{◌≡◌, refl, sym, ap, ap₂, subst, ◌∙◌}
 use mathlib.Core.Bool.{Bool, true, false, ◌&&◌}
 use mathlib.Core.List.{List, [], ◌∷◌}
@@ -15,14 +16,13 @@ use Rattle.words.specs.Loops.{stretch}
 use Rattle.words.proofs.Bits.{length-bits}
 use Rattle.words.proofs.EndLaws.{leading_le}
 use Rattle.words.proofs.Plain.{at_bits, at-flags}
-use Rattle.words.proofs.Windows.{lt-or-le, length-window, in_window, as-window}
+use Rattle.words.proofs.Windows.{length-window, in_window, as-window}
 use Rattle.masks.specs.Cursor.{item, ended}
 use Rattle.masks.specs.Iterator.{leading_from}
 use Rattle.masks.specs.SliceIterator.{slices_moved, run_of, run_start, slice_step}
 use Rattle.masks.specs.Workers.{first_run}
 use Rattle.masks.specs.declared.slice_iterator.Run.{Run}
 use Rattle.masks.specs.declared.slice_iterator.SlicesIterator.{SlicesIterator}
-use Rattle.masks.proofs.CheckLaws.{and_left, and_right}
 use Rattle.masks.proofs.IteratorLaws.{Alike, alike-none, alike-done, at-end, some_alike, every-alike}
 
 -- ---- the two answers of a cursor
@@ -152,9 +152,6 @@ pub record Walking (l : List Bool) (size place first at : ℕ) : Type 0 where
   pub zeros : Alike l false size place first
   pub ones : Alike l true size first at
 
-pub walk_begins : (l : List Bool) (size place : ℕ) → place ≤ size → Walking l size place place place
-walk_begins l size place h = record { zeros = alike-none l false size place h; ones = alike-none l true size place h }
-
 -- the run that begins at `first`, where no zero stands, is the first from `place` on
 run-here : (l : List Bool) (size place first n : ℕ) → Alike l false size place first → leading_from false l first ≡ 0 → n ≡ leading_from true l first
     → run_of first n ≡ first_run l place
@@ -188,7 +185,7 @@ module _ (bytes : List ℕ) (start size place first at : ℕ) (w : Walking (stre
   ended-first h = ⊎_elim
       (λ (some : first < at). one-first (stretch bytes start size) first (omega (arith, w.ones.sum)))
       (λ (none : at ≤ first). at-end (stretch bytes start size) false first (omega (arith, length-window (flags_of bytes) start size)))
-      (lt-or-le first at)
+      (cases_lt first at)
 
   pub walk_end : size ≤ at → run_of first (at - first) ≡ first_run (stretch bytes start size) place
   walk_end h = run-here (stretch bytes start size) size place first (at - first) w.zeros (ended-first h) (alike-done (flags_of bytes) true start size first at w.ones h)
@@ -196,10 +193,10 @@ module _ (bytes : List ℕ) (start size place first at : ℕ) (w : Walking (stre
   pub walk-byte : (t : Bool) (byte : ℕ) → t ≡ (eqb ((start + at) % 8) 0 && (eqb byte 255 && leb 8 (size - at))) → t ≡ true
       → byte ≡ get_or bytes ((start + at) / 8) 0 → Walking (stretch bytes start size) size place first (at + 8)
   walk-byte t byte e h f =
-      let whole : eqb ((start + at) % 8) 0 ≡ true = and_left (eqb ((start + at) % 8) 0) (eqb byte 255 && leb 8 (size - at)) (sym e ∙ h) in
-      let rest : (eqb byte 255 && leb 8 (size - at)) ≡ true = and_right (eqb ((start + at) % 8) 0) (eqb byte 255 && leb 8 (size - at)) (sym e ∙ h) in
-      let full : get_or bytes ((start + at) / 8) 0 ≡ 255 = sym f ∙ eqb-true byte 255 (and_left (eqb byte 255) (leb 8 (size - at)) rest) in
-      let room : 8 ≤ size - at = leb-true 8 (size - at) (and_right (eqb byte 255) (leb 8 (size - at)) rest) in
+      let whole : eqb ((start + at) % 8) 0 ≡ true = (and_parts _ _ (sym e ∙ h)).0 in
+      let rest : (eqb byte 255 && leb 8 (size - at)) ≡ true = (and_parts _ _ (sym e ∙ h)).1 in
+      let full : get_or bytes ((start + at) / 8) 0 ≡ 255 = sym f ∙ eqb-true byte 255 (and_parts _ _ rest).0 in
+      let room : 8 ≤ size - at = leb-true 8 (size - at) (and_parts _ _ rest).1 in
       ones-on 8 (omega arith) (sym (ap (leading true) (whole-byte bytes (start + at) (eqb-true ((start + at) % 8) 0 whole) full) ∙ eight_ones))
 
   -- the flag at `at` is bit `bit` of byte i

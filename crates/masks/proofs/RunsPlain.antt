@@ -1,4 +1,6 @@
 -- The plain reading of a cursor over runs: it lists all runs of its flags, one by one, and what a run is. Assumes nothing.
+use Rattle.std.proofs.lemmas.Bool.{cases_lt}
+use Rattle.std.proofs.Math.ListN.{get_or-eq_default}
 use mathlib.Core.Path.{◌≡◌, refl, sym, ap, ◌∙◌}
 use mathlib.Core.Bool.{Bool, true, false, cond}
 use mathlib.Core.List.{List, [], ◌∷◌}
@@ -12,7 +14,6 @@ use lib.Seq.{drop-drop, get_or-drop}
 use borrow.Author.Tests.{eq-eqb, ne_eqb, lt-ltb, le-ltb}
 use Rattle.words.specs.Ends.{leading}
 use Rattle.words.proofs.EndLaws.{leading_le}
-use Rattle.words.proofs.Windows.{lt-or-le}
 use Rattle.masks.specs.Iterator.{leading_from}
 use Rattle.masks.specs.Listing.{runs_left, listed}
 use Rattle.masks.specs.SliceIterator.{run_of, run_start, slice_step, with_one, runs_from}
@@ -25,7 +26,7 @@ joins : (k n : ℕ) (rs : List Run) → with_one k (run_of (suc k) n ∷ rs) ≡
 unfolding with_one
 joins k n rs = rw (eq-eqb (suc k) (suc k) refl)
 
-stands-off : (k : ℕ) (r : Run) (rs : List Run) → (r.start ≡ suc k → ⊥) → with_one k (r ∷ rs) ≡ run_of k 1 ∷ (r ∷ rs)
+pub stands-off : (k : ℕ) (r : Run) (rs : List Run) → (r.start ≡ suc k → ⊥) → with_one k (r ∷ rs) ≡ run_of k 1 ∷ (r ∷ rs)
 unfolding with_one
 stands-off k r rs h = rw (ne_eqb r.start (suc k) h)
 
@@ -120,7 +121,7 @@ next-lists c l e =
     ∙ ⊎_elim
     (λ (h : s < c.length). rw (lt-ltb s c.length h) (a-run-first l c.place (omega arith)))
     (λ (h : c.length ≤ s). rw (le-ltb s c.length h) (none_left l s (omega arith)))
-    (lt-or-le s c.length)
+    (cases_lt s c.length)
 
 -- ---- what a run is
 
@@ -133,7 +134,7 @@ pub record FirstRun (l : List Bool) (place : ℕ) (r : Run) : Type 0 where
   pub ones : (j : ℕ) → r.start ≤ j → j < r.start + r.length → get_or l j false ≡ true
   pub stops : get_or l (r.start + r.length) false ≡ false
 
-leading-in : (x : Bool) (l : List Bool) (j : ℕ) → j < leading x l → get_or l j false ≡ x
+pub leading-in : (x : Bool) (l : List Bool) (j : ℕ) → j < leading x l → get_or l j false ≡ x
 unfolding leading
 leading-in x [] j h = absurd (omega arith)
 leading-in true (true ∷ l) zero h = refl
@@ -154,11 +155,6 @@ unfolding leading_from
 from_place x l place j a b =
     let e : j ≡ place + (j - place) = omega arith in
     ap (λ (i : ℕ). get_or l i false) e ∙ sym (get_or-drop place l (j - place) false) ∙ leading-in x (drop place l) (j - place) (omega arith)
-
-past_end : (l : List Bool) (j : ℕ) → length l ≤ j → get_or l j false ≡ false
-past_end [] j h = refl
-past_end (x ∷ l) zero h = absurd (omega arith)
-past_end (x ∷ l) (suc j) h = past_end l j (omega arith)
 
 ones-inside : (l : List Bool) (s : ℕ) → s ≤ length l → s + leading_from true l s ≤ length l
 unfolding leading_from
@@ -195,5 +191,5 @@ first_run_lem l place h = record {
 pub no_ones : (l : List Bool) (place : ℕ) → length l ≤ run_start l place → (j : ℕ) → place ≤ j → get_or l j false ≡ false
 no_ones l place h j a = ⊎_elim
     (λ (b : j < run_start l place). zeros-first l place j a b)
-    (λ (b : run_start l place ≤ j). past_end l j (omega arith))
-    (lt-or-le j (run_start l place))
+    (λ (b : run_start l place ≤ j). get_or-eq_default l false (omega arith))
+    (cases_lt j (run_start l place))

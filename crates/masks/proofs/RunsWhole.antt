@@ -1,5 +1,6 @@
 -- The runs of a list, all together: from place 0 a cursor lists, until it gives none, all runs, each maximal, rising, and every
 -- one lies in one of them. Assumes nothing.
+use Rattle.std.proofs.lemmas.Bool.{cases_lt, true≢false}
 use mathlib.Core.Path.{◌≡◌, refl, sym, ap, ◌∙◌, subst}
 use mathlib.Core.Bool.{Bool, true, false}
 use mathlib.Core.List.{List, ◌∷◌, Memᴰ}
@@ -11,7 +12,7 @@ use lib.Seq.{drop-cons}
 use borrow.Author.Tests.{lt-ltb, le-ltb}
 use Rattle.words.specs.Flags.{flags_of}
 use Rattle.words.specs.Loops.{stretch}
-use Rattle.words.proofs.Windows.{lt-or-le, length-window}
+use Rattle.words.proofs.Windows.{length-window}
 use Rattle.masks.specs.Answer.{Answer, given}
 use Rattle.masks.specs.Checks.{first_failed, span_checks}
 use Rattle.masks.specs.Cursor.{Step, item, ended, cursor_checks}
@@ -25,7 +26,6 @@ use Rattle.masks.specs.declared.slice_iterator.SlicesIterator.{SlicesIterator}
 use Rattle.masks.proofs.CheckLaws.{is-given}
 use Rattle.masks.proofs.CursorLaws.{over-mask}
 use Rattle.masks.proofs.Listing.{Moves, gives, ends, lists, place-again}
-use Rattle.masks.proofs.SpanLaws.{not-both}
 use Rattle.masks.proofs.RunsPlain.{FirstRun, first_run_lem, no_ones, next-lists, none_left, behind, a-run-first}
 
 -- ---- all of them, and maximal
@@ -40,7 +40,7 @@ over_zero l p e = ⊎_elim
     (λ (h : p < length l).
     ap (runs_from p) (drop-cons l p false h ∙ ap (λ (x : Bool). x ∷ drop (suc p) l) e) ∙ zero-first p (drop (suc p) l))
     (λ (h : length l ≤ p). none_left l p h ∙ sym (none_left l (suc p) (omega arith)))
-    (lt-or-le p (length l))
+    (cases_lt p (length l))
 
 -- no run is cut at p: the flag before it is a zero, or there is none
 abbrev Uncut : List Bool → ℕ → Type 0
@@ -54,7 +54,7 @@ maximal l p r cut f = record {
   begins = λ (j : ℕ) (e : suc j ≡ r.start). ⊎_elim
       (λ (h : j < p). cut j (omega (arith, f.after)))
       (λ (h : p ≤ j). f.zeros j h (omega arith))
-      (lt-or-le j p);
+      (cases_lt j p);
   stops = f.stops;
 }
 
@@ -72,7 +72,7 @@ all_left (suc k) l p h cut =
     subst (AllRuns l p) (sym (behind l p ∙ a-run-first l p b ∙ ap (λ (t : List Run). r ∷ t) (over_zero l (s + n) f.stops)))
     (run_at f.after f.zeros (maximal l p r cut f) below))
     (λ (b : length l ≤ s). subst (AllRuns l p) (sym (behind l p ∙ none_left l s b)) (no_run (no_ones l p b)))
-    (lt-or-le s (length l))
+    (cases_lt s (length l))
 
 from_first : (l : List Bool) → runs_left l 0 ≡ runs_from 0 l
 unfolding runs_left
@@ -84,23 +84,23 @@ all_runs l = subst (AllRuns l 0) (from_first l) (all_left (suc (length l)) l 0 (
 behind-stop : (l : List Bool) (s j : ℕ) → s ≤ j → get_or l s false ≡ false → get_or l j false ≡ true → suc s ≤ j
 behind-stop l s j h z e = ⊎_elim
     (λ (b : s < j). b)
-    (λ (b : j ≤ s). let i : j ≡ s = omega arith in absurd (not-both e (ap (λ (x : ℕ). get_or l x false) i ∙ z)))
-    (lt-or-le s j)
+    (λ (b : j ≤ s). let i : j ≡ s = omega arith in absurd (true≢false (sym e ∙ ap (λ (x : ℕ). get_or l x false) i ∙ z)))
+    (cases_lt s j)
 
 -- every one lies in a run
 pub in-a-run : {l : List Bool} {p : ℕ} {rs : List Run} → AllRuns l p rs → (j : ℕ) → p ≤ j → get_or l j false ≡ true
     → (r : Run) × (Memᴰ r rs × ((r.start ≤ j) × (j < r.start + r.length)))
-in-a-run (no_run z) j h e = absurd (not-both e (z j h))
+in-a-run (no_run z) j h e = absurd (true≢false (sym e ∙ z j h))
 in-a-run {l} {p} (run_at {r = r} {more = more} low z m rest) j h e = ⊎_elim
-    (λ (b : j < r.start). absurd (not-both e (z j h b)))
+    (λ (b : j < r.start). absurd (true≢false (sym e ∙ z j h b)))
     (λ (b : r.start ≤ j). ⊎_elim
     (λ (d : j < r.start + r.length). (r, (Memᴰ.head refl, (b, d))))
     (λ (d : r.start + r.length ≤ j).
     let beyond : suc (r.start + r.length) ≤ j = behind-stop l (r.start + r.length) j d m.stops e in
     let found = in-a-run rest j beyond e in
     (found.0, (Memᴰ.tail found.1.0, found.1.1)))
-    (lt-or-le j (r.start + r.length)))
-    (lt-or-le j r.start)
+    (cases_lt j (r.start + r.length)))
+    (cases_lt j r.start)
 
 -- ---- call by call
 
@@ -152,7 +152,7 @@ module _ (bytes : List ℕ) (c : SlicesIterator) (ok : IsAccepted bytes c) where
       (accepted-at bytes c (s + n) ok (omega (arith, f.inside))) (omega (arith, f.inside, f.after, f.some))
       (next-lists c l size ∙ ap (listed l) (to-run s n refl refl h)))
       (λ (h : c.length ≤ s). ends (slices_moved c c.length) (stepped ∙ ap given (to_end h)) (next-lists c l size ∙ ap (listed l) (to_end h)))
-      (lt-or-le s c.length)
+      (cases_lt s c.length)
 
 -- A cursor that `next` accepts lists, until it gives none, just the runs from its place on.
 pub lists-runs : (bytes : List ℕ) (c : SlicesIterator) → first_failed (run_checks c bytes) ≡ 0 → (k : ℕ) → c.length - c.place < k

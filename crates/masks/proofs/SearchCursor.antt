@@ -1,6 +1,8 @@
 -- The searches agree with the cursor over ones: forward, the n-th position that the cursor gives; down from an end, the n-th
 -- from the last of the positions below it. Assumes nothing.
-use Rattle.std.specs.Prelude.{Some, None, slice_get}
+use Rattle.std.specs.Prelude.{Some, slice_get}
+use Rattle.std.proofs.lemmas.Bool.{cases_lt}
+use Rattle.std.proofs.lemmas.Option.{slice_get_past}
 use mathlib.Core.Path.{◌≡◌, refl, sym, ap, ◌∙◌}
 use mathlib.Core.Bool.{Bool, true, false}
 use mathlib.Core.List.{List, [], ◌∷◌, ◌++◌, reverse, reverse-cons}
@@ -11,7 +13,6 @@ use lib.ListN.{length, take, drop, length-reverse}
 use borrow.Author.Tests.{lt-ltb}
 use Rattle.words.specs.Flags.{count}
 use Rattle.words.specs.Nth.{nth_place}
-use Rattle.words.proofs.Windows.{lt-or-le}
 use Rattle.masks.specs.Checks.{first_failed}
 use Rattle.masks.specs.Listing.{listing}
 use Rattle.masks.specs.Search.{nth_from, nth_back}
@@ -21,11 +22,6 @@ use Rattle.masks.proofs.SearchPlain.{forward-none, backward-none}
 use Rattle.masks.proofs.TrueIdxPlain.{lists-ones}
 
 -- ---- element n of a list
-
-past-list : (xs : List ℕ) (n : ℕ) → length xs ≤ n → slice_get xs n ≡ None
-past-list [] n h = refl
-past-list (x ∷ xs) zero h = absurd (omega arith)
-past-list (x ∷ xs) (suc n) h = past-list xs n (omega arith)
 
 in-first : (xs ys : List ℕ) (n : ℕ) → n < length xs → slice_get (xs ++ ys) n ≡ slice_get xs n
 in-first [] ys n h = absurd (omega arith)
@@ -47,7 +43,7 @@ from_last (x ∷ xs) n h = ap (λ (t : List ℕ). slice_get t n) (reverse-cons x
     (λ (b : length xs ≤ n).
     let e : 0 ≡ suc (length xs) - 1 - n = omega arith in
     just_behind (reverse xs) x n (omega (arith, length-reverse xs)) ∙ ap (slice_get (x ∷ xs)) e)
-    (lt-or-le n (length xs))
+    (cases_lt n (length xs))
 
 -- ---- element n of the positions of ones
 
@@ -72,8 +68,8 @@ unfolding nth_from ones_left
 forward-nth l n from = ⊎_elim
     (λ (h : n < count (drop from l)). rw (lt-ltb n (count (drop from l)) h) (sym (the_nth from (drop from l) n h)))
     (λ (h : count (drop from l) ≤ n).
-    forward-none l n from h ∙ sym (past-list (ones_from from (drop from l)) n (omega (arith, how-many from (drop from l)))))
-    (lt-or-le n (count (drop from l)))
+    forward-none l n from h ∙ sym (slice_get_past (ones_from from (drop from l)) n (omega (arith, how-many from (drop from l)))))
+    (cases_lt n (count (drop from l)))
 
 -- so it is the n-th item of the cursor at that place
 pub forward-item : (bytes : List ℕ) (c : TrueIdxIter) → first_failed (true_checks c (length bytes)) ≡ 0 → (n k : ℕ) → c.length - c.place < k
@@ -93,5 +89,5 @@ backward-nth l n end =
     let e : 0 + nth_place m (count m - 1 - n) ≡ nth_place m (count m - 1 - n) = omega arith in
     rw (lt-ltb n (count m) h)
     (sym (from_last ps n (omega arith) ∙ ap (λ (x : ℕ). slice_get ps (x - 1 - n)) long ∙ the_nth 0 m (count m - 1 - n) few ∙ ap Some e)))
-    (λ (h : count m ≤ n). backward-none l n end h ∙ sym (past-list (reverse ps) n (omega (arith, length-reverse ps))))
-    (lt-or-le n (count m))
+    (λ (h : count m ≤ n). backward-none l n end h ∙ sym (slice_get_past (reverse ps) n (omega (arith, length-reverse ps))))
+    (cases_lt n (count m))

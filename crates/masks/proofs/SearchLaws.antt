@@ -1,5 +1,6 @@
 -- Searches for the n-th set flag by windows of d flags: found in a window, passed over, at the end. Assumes nothing.
 use Rattle.std.specs.Prelude.{Some, None, Ok, Err}
+use Rattle.std.proofs.lemmas.Bool.{cases_lt}
 use mathlib.Core.Path.{◌≡◌, sym, ap, ap₂, ◌∙◌, subst}
 use mathlib.Core.Bool.{Bool, cond}
 use mathlib.Core.List.{List, [], ◌++◌}
@@ -18,7 +19,7 @@ use Rattle.words.proofs.Bits.{length-bits}
 use Rattle.words.proofs.Counting.{count-append, count-le, count-padded}
 use Rattle.words.proofs.NthLaws.{nth-low, nth-high, nth-lt}
 use Rattle.words.proofs.Plain.{count-empty, nth-found, nth-missing, missing-nth}
-use Rattle.words.proofs.Windows.{lt-or-le, length-window, window-add, window-all, window-cut, window-drop}
+use Rattle.words.proofs.Windows.{length-window, window-add, window-all, window-cut, window-drop}
 use Rattle.masks.specs.Bitmask.{window_word}
 use Rattle.masks.specs.Search.{nth_from, nth_back}
 use Rattle.masks.proofs.BitmaskLaws.{window-flags}
@@ -72,7 +73,7 @@ module _ (l : List Bool) (at d : ℕ) where
       (ap Some (ap (λ (x : ℕ). at + x) (place_behind n h k) ∙ e)))
       (λ (k : count (drop (at + d) l) ≤ n - count (window l at d)).
       rw (le-ltb n (count (drop at l)) (omega (arith, count-on)), le-ltb (n - count (window l at d)) (count (drop (at + d) l)) k))
-      (lt-or-le (n - count (window l at d)) (count (drop (at + d) l)))
+      (cases_lt (n - count (window l at d)) (count (drop (at + d) l)))
 
 pub from_end : (l : List Bool) (n at : ℕ) → length l ≤ at → None ≡ nth_from l n at
 unfolding nth_from
@@ -123,7 +124,7 @@ module _ (l : List Bool) (s e d : ℕ) (low : s ≤ e) (inside : e ≤ length l)
       ∙ nth-low (take s l) (drop s (take e l)) (count (take e l) - 1 - n) (omega arith) ∙ ap (nth_place (take s l)) i)))
       (λ (k : count (take e l) ≤ n).
       rw (le-ltb n (count (take e l)) k, le-ltb (n - count (window (take e l) s d)) (count (take s l)) (omega arith)))
-      (lt-or-le n (count (take e l)))
+      (cases_lt n (count (take e l)))
 
 pub back_end : (l : List Bool) (n : ℕ) → None ≡ nth_back l n 0
 unfolding nth_back
@@ -137,7 +138,7 @@ back-most l n end m e = ⊎_elim
     (λ (h : length l ≤ end).
     let z : take m l ≡ take end l = take_all m l (omega arith) ∙ sym (take_all end l h) in
     ap (λ (t : List Bool). cond (ltb n (count t)) (Some (nth_place t (count t - 1 - n))) None) z)
-    (lt-or-le end (length l))
+    (cases_lt end (length l))
 
 -- ---- what a window says
 
@@ -159,7 +160,7 @@ seen-there l n i e = ⊎_elim
     (λ (h : count l ≤ n).
     let a : nth_one l n ≡ Err (count l) = nth-missing l n h in
     let z : ◌≡◌ {A = ℕ} 0 1 = cc in absurd (omega arith))
-    (lt-or-le n (count l))
+    (cases_lt n (count l))
 
 pub seen-only : (l : List Bool) (n k : ℕ) → nth_one l n ≡ Err k → IsOnly l n k
 seen-only l n k e = let told : (k ≡ count l) × (count l ≤ n) = missing-nth l n k e in record { few = told.1; number = told.0 }
@@ -171,7 +172,7 @@ ask_least d w n m p = ⊎_elim
     (λ (h : d ≤ n).
     nth-missing (bits d w) m (omega (arith, count-le (bits d w), length-bits d w))
     ∙ sym (nth-missing (bits d w) n (omega (arith, count-le (bits d w), length-bits d w))))
-    (lt-or-le n d)
+    (cases_lt n d)
 
 -- ---- the turns of the two loops, over the flags of a span
 
@@ -197,11 +198,6 @@ turn_last l m start size n at k e h z = turn_end l start size (n - k) (at + 32) 
 pub enough : (bytes : List ℕ) (start size at left w ones : ℕ) → count (bits 32 (window_word bytes start size at)) ≤ left
     → w ≡ window_word bytes start size at → ones ≡ count (bits 32 w) → left < ones → ⊥
 enough bytes start size at left w ones few e p h = omega (arith, p ∙ ap (λ (x : ℕ). count (bits 32 x)) e)
-
--- too few set flags in the window before an end, said of the end alone
-pub few-there : (bytes : List ℕ) (start e s left w ones : ℕ) → s ≡ e - 32 → w ≡ window_word bytes start e s → ones ≡ count (bits 32 w) → ones ≤ left
-    → count (bits 32 (window_word bytes start e (e - 32))) ≤ left
-few-there bytes start e s left w ones i p q h = omega (arith, q ∙ ap (λ (x : ℕ). count (bits 32 x)) (p ∙ ap (window_word bytes start e) i))
 
 -- a shorter span has the first flags of a longer one
 span-take : (l : List Bool) (start n e : ℕ) → e ≤ n → window l start e ≡ take e (window l start n)

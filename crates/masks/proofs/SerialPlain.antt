@@ -1,5 +1,6 @@
 -- The serial of every record that a call gives: `specs/SerialPlain.antt`. Assumes nothing.
 use Rattle.std.specs.Prelude.{Some, None}
+use Rattle.std.proofs.lemmas.Bool.{cases_lt}
 use mathlib.Core.Path.{◌≡◌, refl, sym, ap, ◌∙◌, subst}
 use mathlib.Core.Bool.{Bool, true, false, cond}
 use mathlib.Core.List.{List, [], ◌∷◌}
@@ -8,7 +9,6 @@ use Prim.Native.Nat.{ℕ, ◌≤◌, ◌<◌, max}
 use native.Mathlib.Omega.{arith}
 use lib.Dec.{eqb}
 use lib.ListN.{length}
-use Rattle.words.proofs.Windows.{lt-or-le}
 use Rattle.masks.specs.declared.bitmap.Recounted.{Recounted}
 use Rattle.masks.specs.Answer.{given, checked}
 use Rattle.masks.specs.Appends.{Append, append_answer, append_checks, append_flags}
@@ -52,7 +52,7 @@ largest_two : (a b : Bitmap) → Largest (largest_serial (a ∷ b ∷ [])) (a.se
 unfolding largest_serial
 largest_two a b = (
   (omega arith, (omega arith, tt)),
-  ⊎_elim (λ (h : a.serial < b.serial). inr (inl (omega arith))) (λ (h : b.serial ≤ a.serial). inl (omega arith)) (lt-or-le a.serial b.serial),
+  ⊎_elim (λ (h : a.serial < b.serial). inr (inl (omega arith))) (λ (h : b.serial ≤ a.serial). inl (omega arith)) (cases_lt a.serial b.serial),
 )
 
 largest_three : (a b c : Bitmap) → Largest (largest_serial (a ∷ b ∷ c ∷ [])) (a.serial ∷ b.serial ∷ c.serial ∷ [])
@@ -61,9 +61,9 @@ largest_three a b c = (
   (omega arith, (omega arith, (omega arith, tt))),
   ⊎_elim
       (λ (h : a.serial < max b.serial c.serial).
-      inr (⊎_elim (λ (k : b.serial < c.serial). inr (inl (omega arith))) (λ (k : c.serial ≤ b.serial). inl (omega arith)) (lt-or-le b.serial c.serial)))
+      inr (⊎_elim (λ (k : b.serial < c.serial). inr (inl (omega arith))) (λ (k : c.serial ≤ b.serial). inl (omega arith)) (cases_lt b.serial c.serial)))
       (λ (h : max b.serial c.serial ≤ a.serial). inl (omega arith))
-      (lt-or-le a.serial (max b.serial c.serial)),
+      (cases_lt a.serial (max b.serial c.serial)),
 )
 
 pub serials_plainly : SerialsPlainly

@@ -1,6 +1,6 @@
 -- Words of a span as numbers. Assumes nothing.
-use mathlib.Core.Path.{◌≡◌, refl, ap, ◌∙◌}
-use mathlib.Core.Bool.{Bool, true, false}
+use mathlib.Core.Path.{◌≡◌, ap, ◌∙◌}
+use mathlib.Core.Bool.{Bool}
 use mathlib.Core.List.{List}
 use Prim.Native.Nat.{ℕ, ◌^◌, ◌≤◌, ◌<◌}
 use native.Mathlib.Omega.{arith}
@@ -19,11 +19,3 @@ low_value l bit k w r b h p q =
 pub near-value : (l : List Bool) (bit k w r : ℕ) → r < 2 ^ 64 → k ≤ 64 → take k (bits 64 w) ≡ window l bit k → bits 64 r ≡ window (take k (bits 64 w)) 0 64
     → r ≡ word_of (window l bit k)
 near-value l bit k w r b h p q = word_value 64 (window l bit k) r b (omega (arith, length-window l bit k)) (q ∙ ap (λ (t : List Bool). window t 0 64) p)
-
--- a flag is not both
-pub not-both : {x : Bool} → x ≡ true → x ≡ false → ⊥
-not-both a b = let n : ◌≡◌ {A = ℕ} 0 1 = cc in omega arith
-
--- where a test says no, nothing is owed
-pub said-no : {A : Type 0} → false ≡ true → A
-said-no e = absurd (not-both e refl)

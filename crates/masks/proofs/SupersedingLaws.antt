@@ -12,7 +12,7 @@ use Rattle.masks.specs.Answer.{given, refused}
 use Rattle.masks.specs.Checks.{Check, check, earlier, first_failed, rank, place_in, span_checks}
 use Rattle.masks.specs.Compare.{eq_of}
 use Rattle.masks.specs.Mask.{mask_checks, mask_flags}
-use Rattle.masks.specs.Superseding.{agree, bytes_of, part_of, superseding_checks, superseding_of, winning, within}
+use Rattle.masks.specs.Superseding.{agree, part_of, superseding_checks, superseding_of, winning}
 use Rattle.masks.specs.declared.bitmap.Bitmap.{Bitmap}
 use Rattle.masks.specs.declared.superseding.Part.{Part}
 use Rattle.masks.proofs.AnswerLaws.{given-number, given-value, refused-failed, refused-number}
@@ -122,18 +122,3 @@ second-inside a a_bytes b b_bytes p e s = subst (λ (t : Bool). p.to ≤ length 
 pub first-inside : (a : Bitmap) (a_bytes : List ℕ) (b : Bitmap) (b_bytes : List ℕ) (p : Part) → given p ≡ superseding_of a a_bytes b b_bytes → p.second ≡ false
     → p.to ≤ length a_bytes
 first-inside a a_bytes b b_bytes p e s = subst (λ (t : Bool). p.to ≤ length (cond t b_bytes a_bytes)) s (given_inside a a_bytes b b_bytes p e).ends
-
--- the bytes of a part of the second slice, and of the first
-pub second-bytes : (a : Bitmap) (a_bytes : List ℕ) (b : Bitmap) (b_bytes : List ℕ) (p : Part) → given p ≡ superseding_of a a_bytes b b_bytes → p.second ≡ true
-    → within p.from p.to b_bytes ≡ bytes_of (superseding_of a a_bytes b b_bytes) a_bytes b_bytes
-second-bytes a a_bytes b b_bytes p e s =
-    ap (λ (t : Bool). within p.from p.to (cond t b_bytes a_bytes)) (sym s) ∙ ap (λ r. bytes_of r a_bytes b_bytes) e
-
-pub first-bytes : (a : Bitmap) (a_bytes : List ℕ) (b : Bitmap) (b_bytes : List ℕ) (p : Part) → given p ≡ superseding_of a a_bytes b b_bytes → p.second ≡ false
-    → within p.from p.to a_bytes ≡ bytes_of (superseding_of a a_bytes b b_bytes) a_bytes b_bytes
-first-bytes a a_bytes b b_bytes p e s =
-    ap (λ (t : Bool). within p.from p.to (cond t b_bytes a_bytes)) (sym s) ∙ ap (λ r. bytes_of r a_bytes b_bytes) e
-
-pub no-bytes-of : (a : Bitmap) (a_bytes : List ℕ) (b : Bitmap) (b_bytes : List ℕ) (k : ℕ) → refused k tt ≡ superseding_of a a_bytes b b_bytes
-    → within 0 0 a_bytes ≡ bytes_of (superseding_of a a_bytes b b_bytes) a_bytes b_bytes
-no-bytes-of a a_bytes b b_bytes k e = ap (λ r. bytes_of r a_bytes b_bytes) e

@@ -1,4 +1,5 @@
 -- What superseding means: `specs/SupersedingPlain.antt`. Assumes nothing.
+use Rattle.std.proofs.lemmas.Bool.{true≢false}
 use mathlib.Core.Path.{◌≡◌, refl, sym, ap, ◌∙◌, subst}
 use mathlib.Core.Bool.{Bool, true, false, cond, not, ◌&&◌, ◌||◌}
 use mathlib.Core.List.{List, [], ◌∷◌, ◌++◌}
@@ -96,9 +97,6 @@ not_agreed true true e = absurd (let z : ◌≡◌ {A = ℕ} 0 1 = cc e in omega
 not_agreed true false e = (refl, refl)
 not_agreed false y e = absurd (let z : ◌≡◌ {A = ℕ} 0 1 = cc e in omega arith)
 
-not-both : (x : Bool) → x ≡ false → x ≡ true → ⊥
-not-both x e h = let z : ◌≡◌ {A = ℕ} 0 1 = cc in omega arith
-
 module _ (a : Bitmap) (a_bytes : List ℕ) (b : Bitmap) (b_bytes : List ℕ) where
   abbrev masks : List Check
   masks = mask_checks a a_bytes ++ mask_checks b b_bytes
@@ -167,7 +165,7 @@ module _ (a : Bitmap) (a_bytes : List ℕ) (b : Bitmap) (b_bytes : List ℕ) whe
       let passed = masks-passed (first_failed masks) refl number in
       let told = not_agreed (eqb a.serial b.serial) same (disagree (agree a a_bytes b b_bytes) refl passed number) in (
         (both_left (mask_checks a a_bytes) (mask_checks b b_bytes) passed, both_right (mask_checks a a_bytes) (mask_checks b b_bytes) passed),
-        (eqb-true a.serial b.serial told.0, λ l. not-both same told.1 (equal-same (mask_flags a a_bytes) (mask_flags b b_bytes) l)),
+        (eqb-true a.serial b.serial told.0, λ l. true≢false (sym (equal-same (mask_flags a a_bytes) (mask_flags b b_bytes) l) ∙ told.1)),
       )
 
   supersedes : Supersedes a a_bytes b b_bytes

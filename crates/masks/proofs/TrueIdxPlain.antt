@@ -1,5 +1,6 @@
 -- The plain reading of a cursor over ones: its calls list all positions of ones, rising; with no mask every position. Assumes nothing.
 use Rattle.std.specs.Prelude.{Option, Some, None, slice_get}
+use Rattle.std.proofs.lemmas.Bool.{cases_lt}
 use mathlib.Core.Path.{◌≡◌, refl, sym, ap, ◌∙◌, subst}
 use mathlib.Core.Bool.{Bool, true, false, cond}
 use mathlib.Core.List.{List, [], ◌∷◌, ◌++◌}
@@ -13,7 +14,6 @@ use borrow.Author.Tests.{eqb-true, lt-ltb}
 use Rattle.words.specs.Flags.{copies, count}
 use Rattle.words.specs.Nth.{nth_place}
 use Rattle.words.proofs.Plain.{nth_inside}
-use Rattle.words.proofs.Windows.{lt-or-le}
 use Rattle.masks.specs.declared.bitmap.Bitmap.{Bitmap}
 use Rattle.masks.specs.Answer.{Answer, given}
 use Rattle.masks.specs.Checks.{Check, check, earlier, first_failed, span_checks, within_limit}
@@ -65,12 +65,12 @@ zero-before : {l : List Bool} {p : ℕ} {is : List ℕ} → get_or l p false ≡
 zero-before {l} {p} e (no_one z) = no_one (λ (j : ℕ) (h : p ≤ j). ⊎_elim
     (λ (b : j < suc p). let same : j ≡ p = omega arith in ap (λ (x : ℕ). get_or l x false) same ∙ e)
     (λ (b : suc p ≤ j). z j b)
-    (lt-or-le j (suc p)))
+    (cases_lt j (suc p)))
 zero-before {l} {p} e (one_at {i = i} low z one more) = one_at {p = p} {i = i} (omega arith)
     (λ (j : ℕ) (h : p ≤ j) (k : j < i). ⊎_elim
     (λ (b : j < suc p). let same : j ≡ p = omega arith in ap (λ (x : ℕ). get_or l x false) same ∙ e)
     (λ (b : suc p ≤ j). z j b k)
-    (lt-or-le j (suc p)))
+    (cases_lt j (suc p)))
     one more
 
 ones-from : (k : ℕ) (l : List Bool) (p : ℕ) → length l - p < k → AllOnes l p (ones_left l p)
@@ -79,7 +79,7 @@ ones-from (suc k) l p h = ⊎_elim
     (λ (b : p < length l). by_flag (get_or l p false) refl b (ones-from k l (suc p) (omega arith)))
     (λ (b : length l ≤ p).
     subst (AllOnes l p) (sym (past_ones l p b)) (no_one (λ (j : ℕ) (i : p ≤ j). get_or-eq_default l false (omega arith))))
-    (lt-or-le p (length l))
+    (cases_lt p (length l))
   where
     by_flag : (x : Bool) → get_or l p false ≡ x → p < length l → AllOnes l (suc p) (ones_left l (suc p)) → AllOnes l p (ones_left l p)
     by_flag true e b more =
@@ -192,7 +192,7 @@ module _ (bytes : List ℕ) (c : TrueIdxIter) (ok : IsAccepted bytes c) where
       one-next p (omega arith) (omega arith) (to_item p (found l c.place h)) (accepted-at c (length bytes) (p + 1) ok (omega arith))
       (found_left l c.place h ∙ ap (λ (t : List Bool). p ∷ ones_left t (p + 1)) (sym (same_flags_lem c bytes (p + 1)))))
       (λ (h : count (drop c.place l) ≤ 0). none-next (to_end (forward-none l 0 c.place h)) (none_left l c.place (omega arith)))
-      (lt-or-le 0 (count (drop c.place l)))
+      (cases_lt 0 (count (drop c.place l)))
 
 moves : (bytes : List ℕ) (c : TrueIdxIter) → IsAccepted bytes c → Moves (answer-of bytes) (left-of bytes) (IsAccepted bytes) far-of c
 moves bytes c ok = go (next_one bytes c ok)

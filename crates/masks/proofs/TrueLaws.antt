@@ -1,5 +1,6 @@
 -- Where the counts are true a shortcut is never seen: the flags written are the operation on the arguments' flags. Assumes nothing.
 use Rattle.std.specs.Prelude.{Option, Some, None}
+use Rattle.std.proofs.Math.Bool.{and-false, or-true}
 use mathlib.Core.Path.{◌≡◌, refl, sym, ap, ap₂, ◌∙◌}
 use mathlib.Core.Bool.{Bool, true, false, cond, ◌&&◌, ◌||◌, xor}
 use mathlib.Core.List.{List, [], ◌∷◌}
@@ -58,14 +59,6 @@ zip-second-constant f y w h zero [] e = refl
 zip-second-constant f y w h zero (x ∷ l) e = absurd (omega arith)
 zip-second-constant f y w h (suc n) [] e = absurd (omega arith)
 zip-second-constant f y w h (suc n) (x ∷ l) e = ap₂ (λ (b : Bool) (t : List Bool). b ∷ t) (h x) (zip-second-constant f y w h n l (omega arith))
-
-and-false : (x : Bool) → (x && false) ≡ false
-and-false true = refl
-and-false false = refl
-
-or-true : (x : Bool) → (x || true) ≡ true
-or-true true = refl
-or-true false = refl
 
 -- both lists constant
 zip_constants : (f : Bool → Bool → Bool → Bool) (x y : Bool) (n : ℕ) → zip3 f (copies n x) (copies n y) (copies n y) ≡ copies n (f x y y)

@@ -3,12 +3,13 @@
 use Rattle.masks.specs.declared.refusal.Refusal.{Refusal}
 use Rattle.masks.specs.declared.refusal.Refused.{Refused}
 use Rattle.masks.specs.declared.refusal.Refusal.TheVariants.{WrongRecount}
-use Rattle.std.specs.Prelude.{◌≡◌, ℕ, ◌+◌, ◌-◌, ◌*◌, ◌/◌, ◌%◌, ◌≤◌, ◌<◌, Bool, true, false, cond, ◌&&◌, ◌||◌, List, ◌++◌, eqb, leb, take, Option, Some, None, Result, Ok, Err}
+use Rattle.std.specs.Prelude.{◌≡◌, refl, ℕ, ◌+◌, ◌-◌, ◌*◌, ◌/◌, ◌%◌, ◌≤◌, ◌<◌, Bool, true, false, cond, ◌&&◌, ◌||◌, List, ◌++◌, eqb, leb, take, Option, Some, None, Result, Ok, Err}
 use Rattle.words.specs.Flags.{bits, count, word_flags}
 use Rattle.words.specs.Loops.{stretch}
 use Rattle.masks.specs.Bitmask.{window_word}
 use Rattle.masks.specs.Builder.{none_from}
 use Rattle.masks.specs.Checks.{limit}
+use Rattle.masks.specs.Utils.{zeros}
 use Rattle.masks.specs.Iterator.{leading_from}
 use Rattle.masks.specs.Mask.{recount_valid, sliced_count, zero_count}
 use Rattle.masks.specs.Search.{nth_from, nth_back}
@@ -33,6 +34,10 @@ suffix_flags s = take s.suffix_len (word_flags s.suffix)
 unfoldable pub split_flags : List ℕ → AlignedBitmapSlice → List Bool
 split_flags bytes s = prefix_flags s ++ (bulk_flags bytes s ++ suffix_flags s)
 
+pub parts-in-row : (bytes : List ℕ) (s : AlignedBitmapSlice) → split_flags bytes s ≡ prefix_flags s ++ (bulk_flags bytes s ++ suffix_flags s)
+unfolding split_flags
+parts-in-row bytes s = refl
+
 -- a split of a span within the flag limit: what the counts over its parts ask
 pub record Bounded (s : AlignedBitmapSlice) : Type 0 where
   pub prefix_fits : s.prefix_len ≤ 64
@@ -43,10 +48,15 @@ pub record Bounded (s : AlignedBitmapSlice) : Type 0 where
 -- ---- `bitmap`: a slice and its count
 
 -- what is known of a piece whose checks 1, 2, 3 and 6 have passed
-pub record PieceAllowed (m : Bitmap) (offset n : ℕ) : Type 0 where
+pub record PieceAllowed (m : Bitmap) (size offset n : ℕ) : Type 0 where
   pub starts : m.start ≤ limit
   pub short : m.length ≤ limit
+  pub lent : m.start + m.length ≤ 8 * size
   pub inside : offset + n ≤ m.length
+
+-- the zeros of a span before a piece of it and behind it
+abbrev pub outside : List ℕ → ℕ → ℕ → ℕ → ℕ → ℕ
+outside bytes start whole offset n = zeros (stretch bytes start offset) + zeros (stretch bytes (start + offset + n) (whole - (offset + n)))
 
 -- a recount: z less the zeros cut off, of n flags
 unfoldable pub recounted_of : ℕ → ℕ → ℕ → Result (Option ℕ) Refusal

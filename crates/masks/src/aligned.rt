@@ -42,7 +42,13 @@ impl AlignedBitmapSlice {
             });
         }
         check_aligned(start, length, bytes.len(), address)?;
-        Ok(split(bytes, start, length, address))
+        let span = Addressed {
+            bytes,
+            start,
+            length,
+            address,
+        };
+        Ok(span.split())
     }
 }
 
@@ -57,58 +63,72 @@ pub(crate) fn check_aligned(
     earlier(check_span(start, length, size), check_address(address))
 }
 
-// Returns the offset in bytes from the span's first byte to its first whole word.
-fn bulk_offset(start: usize, address: usize) -> usize
-    requires { (start ≤ 2 * limit) × (address ≤ 7) }
-    ensures { result ≡ bulk_offset start address }
-{
-    let to_aligned = (8 - (address + start / 8) % 8) % 8;
-    if start % 8 <= 8 * to_aligned {
-        to_aligned
-    } else {
-        to_aligned + 8
-    }
+// A span whose numbers can be added up, and the address of its first byte modulo 8.
+#[derive(Clone, Copy)]
+pub(crate) struct Addressed<'a> {
+    pub bytes: &'a [u8],
+    pub start: usize,
+    pub length: usize,
+    pub address: usize,
+    ghost starts: { start ≤ 2 * limit },
+    ghost short: { length ≤ limit },
+    ghost low: { address ≤ 7 },
 }
 
-fn prefix_length(start: usize, length: usize, address: usize) -> usize
-    requires { (start ≤ 2 * limit) × ((length ≤ limit) × (address ≤ 7)) }
-    ensures { result ≡ prefix_length start length address }
-{
-    if start % 8 + length <= 64 {
-        length
-    } else {
-        8 * bulk_offset(start, address) - start % 8
+impl Addressed<'_> {
+    // Returns the offset in bytes from the span's first byte to its first whole word.
+    fn bulk_offset(&self) -> usize
+        ensures { result ≡ bulk_offset self.now.start self.now.address }
+    {
+        let to_aligned = (8 - (self.address + self.start / 8) % 8) % 8;
+        if self.start % 8 <= 8 * to_aligned {
+            to_aligned
+        } else {
+            to_aligned + 8
+        }
     }
-}
 
-fn bulk_start(start: usize, length: usize, address: usize) -> usize
-    requires { (start ≤ 2 * limit) × ((length ≤ limit) × (address ≤ 7)) }
-    ensures { result ≡ bulk_start_of start length address }
-{
-    if start % 8 + length <= 64 {
-        0
-    } else {
-        start / 8 + bulk_offset(start, address)
+    fn prefix_length(&self) -> usize
+        ensures { result ≡ prefix_length self.now.start self.now.length self.now.address }
+    {
+        if self.start % 8 + self.length <= 64 {
+            self.length
+        } else {
+            8 * self.bulk_offset() - self.start % 8
+        }
     }
-}
 
-pub(crate) fn split(bytes: &[u8], start: usize, length: usize, address: usize) -> AlignedBitmapSlice
-    requires { (start ≤ 2 * limit) × ((length ≤ limit) × (address ≤ 7)) }
-    ensures { result ≡ aligned_split bytes.now start length address }
-{
-    let prefix_len = prefix_length(start, length, address);
-    let bulk_start = bulk_start(start, length, address);
-    let rest = length - prefix_len;
-    let bulk_len = rest / 64;
-    let suffix_len = rest % 64;
-    let prefix = flags_word(bytes, start, prefix_len);
-    let suffix = flags_word(bytes, start + length - suffix_len, suffix_len);
-    AlignedBitmapSlice {
-        prefix,
-        prefix_len,
-        bulk_start,
-        bulk_len,
-        suffix,
-        suffix_len,
+    fn bulk_start(&self) -> usize
+        ensures { result ≡ bulk_start_of self.now.start self.now.length self.now.address }
+    {
+        if self.start % 8 + self.length <= 64 {
+            0
+        } else {
+            self.start / 8 + self.bulk_offset()
+        }
+    }
+
+    pub(crate) fn split(&self) -> AlignedBitmapSlice
+        ensures { result ≡ aligned_split self.now.bytes.now self.now.start self.now.length self.now.address }
+    {
+        let prefix_len = self.prefix_length();
+        let bulk_start = self.bulk_start();
+        let rest = self.length - prefix_len;
+        let bulk_len = rest / 64;
+        let suffix_len = rest % 64;
+        let prefix = flags_word(self.bytes, self.start, prefix_len);
+        let suffix = flags_word(
+            self.bytes,
+            self.start + self.length - suffix_len,
+            suffix_len,
+        );
+        AlignedBitmapSlice {
+            prefix,
+            prefix_len,
+            bulk_start,
+            bulk_len,
+            suffix,
+            suffix_len,
+        }
     }
 }

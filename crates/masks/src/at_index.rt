@@ -82,11 +82,8 @@ fn check_inside(mask: Bitmap, bytes: &[u8], index: usize) -> Result<(), Refusal>
 fn check_lengths(first: Option<Bitmap>, second: Option<Bitmap>) -> Result<(), Refusal>
     ensures { failure_of result ≡ first_failed (length_checks first second) }
 {
-    match first {
-        Some(a) => match second {
-            Some(b) => check(Refusal::UnequalLengths, a.length == b.length),
-            None => Ok(()),
-        },
-        None => Ok(()),
+    match (first, second) {
+        (Some(a), Some(b)) => check(Refusal::UnequalLengths, a.length == b.length),
+        _ => Ok(()),
     }
 }

@@ -1,18 +1,19 @@
-// The mask: its record, and the calls that make one, cut it and count it. Its bytes are lent beside it.
-ghost use Rattle.std.specs.Prelude.{◌≡◌, ◌+◌, ◌-◌, ◌/◌, ◌≤◌, max, length};
+// The mask: its record, and the calls that make one, cut it and count it. Its bytes are lent beside it, as document 01 has it: a mask and
+// its bytes are two parameters, and become a `Lent` where its checks have passed.
+ghost use Rattle.std.specs.Prelude.{◌≡◌, ◌+◌, ◌-◌, ◌/◌, ◌≤◌, max, length as list_length};
 ghost use Rattle.masks.specs.Answer.{answer, answer_back};
 ghost use Rattle.masks.specs.Refusal.{failure_of};
 ghost use Rattle.masks.specs.Checks.{first_failed, limit};
 ghost use Rattle.masks.specs.Utils.{zeros};
-ghost use Rattle.masks.specs.Mask.{cut_zeros, empty_mask, kept_count, piece_checks, recounts as recounts_of};
-ghost use Rattle.masks.specs.Mask.{new_zeroed_bytes, new_zeroed_of, slice_of, try_new_of, uncounted, unset_bits_of, zero_count};
+ghost use Rattle.masks.specs.Mask.{empty_mask, kept_count, piece_checks, recounts as recounts_of};
+ghost use Rattle.masks.specs.Mask.{new_zeroed_bytes, new_zeroed_of, slice_of, try_new_of, uncounted, unset_bits_of};
 ghost use Rattle.masks.specs.Mask.{cut_mask, mask_of, mask_under, with_count};
-ghost use Rattle.masks.specs.Workers.{cut_of, recounted_of, PieceAllowed};
+ghost use Rattle.masks.specs.Workers.{cut_of, outside, recounted_of, PieceAllowed};
 
 use crate::checks::{check_mask, check_output, check_span, sum_at_most, within_limit};
 use crate::frozen::fill_frozen;
 use crate::refusal::{Refusal, Refused, check, earlier, give_back};
-use crate::utils::zeros_at;
+use crate::span::Lent;
 
 // A mask: a span of its bytes, its zero count where it is known, and the serial of the revocation list that it was drawn up under. The
 // Rust's `Bitmap` with a serial.
@@ -67,7 +68,17 @@ impl Bitmap {
         ensures { answer_back result ≡ unset_bits_of self bytes.now }
     {
         give_back(check_mask(self, bytes), self)?;
-        let zeros = zero_count(self, bytes);
+        let zeros = match self.unset {
+            Some(zeros) => zeros,
+            None => {
+                let span = Lent {
+                    bytes,
+                    start: self.start,
+                    length: self.length,
+                };
+                span.zeros()
+            }
+        };
         Ok(Recounted {
             mask: with_count(self, Some(zeros)),
             zeros,
@@ -113,14 +124,19 @@ fn mask_of(start: usize, length: usize, unset: Option<usize>) -> Bitmap
 pub(crate) fn cut_mask(mask: Bitmap, start: usize, length: usize, unset: Option<usize>) -> Bitmap
     ensures { result ≡ cut_mask mask start length unset }
 {
-    mask_under(mask.serial, start, length, unset)
+    Bitmap {
+        start,
+        length,
+        unset,
+        ..mask
+    }
 }
 
 // The same mask with another count.
 fn with_count(mask: Bitmap, unset: Option<usize>) -> Bitmap
     ensures { result ≡ with_count mask unset }
 {
-    cut_mask(mask, mask.start, mask.length, unset)
+    Bitmap { unset, ..mask }
 }
 
 // Returns the zero count of a result that was not counted: 0 if it has no flags, else unknown.
@@ -128,18 +144,6 @@ pub(crate) fn not_counted(length: usize) -> Option<usize>
     ensures { result ≡ uncounted length }
 {
     if length == 0 { Some(0) } else { None }
-}
-
-// Returns the known zero count, or counts the zeros.
-pub(crate) fn zero_count(mask: Bitmap, bytes: &[u8]) -> usize
-    requires { (mask.start ≤ limit) × (mask.length ≤ limit) }
-    ensures { result ≡ zero_count mask bytes.now }
-{
-    let unset = mask.unset;
-    match unset {
-        Some(zeros) => zeros,
-        None => zeros_at(bytes, mask.start, mask.length, 0),
-    }
 }
 
 fn check_piece(mask: Bitmap, bytes: &[u8], offset: usize, length: usize) -> Result<(), Refusal>
@@ -158,7 +162,6 @@ fn check_piece(mask: Bitmap, bytes: &[u8], offset: usize, length: usize) -> Resu
 
 // Returns whether slicing `old` flags to n recounts the known zeros.
 fn recounts(old: usize, n: usize, zeros: usize) -> bool
-    requires { (old ≤ limit) × (n ≤ limit) }
     ensures { result ≡ recounts_of old n zeros }
 {
     if zeros == 0 {
@@ -167,38 +170,47 @@ fn recounts(old: usize, n: usize, zeros: usize) -> bool
     if zeros == old {
         return false;
     }
-    old <= n + (old / 5).max(32)
+    old.saturating_sub(n) <= (old / 5).max(32)
 }
 
-// Counts the zeros before and after a slice.
-fn cut_zeros(mask: Bitmap, bytes: &[u8], offset: usize, length: usize) -> usize
-    requires { PieceAllowed mask offset length }
-    ensures { result ≡ cut_zeros mask bytes.now offset length }
-{
-    let end = offset + length;
-    let before = zeros_at(bytes, mask.start, offset, 0);
-    let behind = zeros_at(bytes, mask.start + offset + length, mask.length - end, 0);
-    before + behind
+impl Lent<'_> {
+    // Counts the zeros before and after a slice.
+    fn zeros_cut(&self, offset: usize, n: usize) -> usize
+        requires { offset + n ≤ self.now.length }
+        ensures { result ≡ outside self.now.bytes.now self.now.start self.now.length offset n }
+    {
+        let end = offset + n;
+        let before = Lent {
+            bytes: self.bytes,
+            start: self.start,
+            length: offset,
+        };
+        let behind = Lent {
+            bytes: self.bytes,
+            start: self.start + offset + n,
+            length: self.length - end,
+        };
+        before.zeros() + behind.zeros()
+    }
 }
 
-// Returns the zero count of a slice.
-fn cut_count(
-    mask: Bitmap,
-    bytes: &[u8],
-    offset: usize,
-    length: usize,
-) -> Result<Option<usize>, Refusal>
-    requires { PieceAllowed mask offset length }
-    ensures { result ≡ cut_of mask.length length (cut_zeros mask bytes.now offset length) mask.unset }
+// Returns the zero count of a slice. A span is made of the mask only where the count is made anew.
+fn cut_count(mask: Bitmap, bytes: &[u8], offset: usize, n: usize) -> Result<Option<usize>, Refusal>
+    requires { PieceAllowed mask (list_length bytes.now) offset n }
+    ensures { result ≡ cut_of mask.length n (outside bytes.now mask.start mask.length offset n) mask.unset }
 {
-    let unset = mask.unset;
-    match unset {
+    match mask.unset {
         None => Ok(None),
         Some(zeros) => {
-            if recounts(mask.length, length, zeros) {
-                recount(zeros, cut_zeros(mask, bytes, offset, length), length)
+            if recounts(mask.length, n, zeros) {
+                let span = Lent {
+                    bytes,
+                    start: mask.start,
+                    length: mask.length,
+                };
+                recount(zeros, span.zeros_cut(offset, n), n)
             } else {
-                Ok(kept_count(zeros, mask.length, length))
+                Ok(kept_count(zeros, mask.length, n))
             }
         }
     }

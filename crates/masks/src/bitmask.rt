@@ -93,7 +93,8 @@ pub fn nth_set_bit_idx_rev(
     Ok(span.search_back(n, end.min(span.length)))
 }
 
-// Loads the 32 flags starting at flag 8 * at + k. The eight bytes are in range, so there is one load and no test.
+// Loads the 32 flags starting at flag 8 * at + k. The eight bytes are in range, so there is one load and no test. The conversions of this
+// module are `as`: `usize` has no `From` of a u32 and a u32 none of a u64, and each number is proved to fit.
 fn word_window(bytes: &[u8], at: usize, k: usize) -> u32
     requires { (at + 8 ≤ list_length bytes.now) × (k ≤ 32) }
     ensures { result ≡ word_of (stretch bytes.now (8 * at + k) 32) }
@@ -180,7 +181,7 @@ impl Lent<'_> {
         }
     }
 
-    // Searches the last window of the span.
+    // Searches the last window of the span. Forward the window gives the place, backward (`search_first`) a number of ones to turn.
     fn search_last(self, n: usize, from: usize) -> Option<usize>
         requires { (from ≤ self.length + 32) × (self.length ≤ from + 32) }
         ensures { result ≡ nth_from (stretch self.entry.bytes.now self.entry.start self.entry.length) n from }
@@ -257,14 +258,13 @@ fn nth_in_window(w: u32, n: usize) -> Result<usize, usize>
     ensures { result ≡ nth_one (bits 32 w) n }
 {
     let number = n.min(32);
-    let found = nth_set_bit_u32(w, number as u32);
-    match found {
-        Ok(i) => Ok(i as usize),
-        Err(ones) => Err(ones as usize),
-    }
+    nth_set_bit_u32(w, number as u32)
+        .map(|i| i as usize)
+        .map_err(|ones| ones as usize)
 }
 
-// How many flags of a window are set: what the word answers where it is asked for a flag that no word has.
+// How many flags of a window are set: what the word answers where it is asked for a flag that no word has. Its body is that of the next
+// function, whose promise does not meet this one: one for both would promise by cases what each call needs alone.
 fn ones_in_window(w: u32) -> usize
     ensures { result ≡ count (bits 32 w) }
 {

@@ -112,19 +112,16 @@ fn builder_under(serial: u32, length: usize, word: u64, ones: usize) -> BitmapBu
     }
 }
 
-// Copies the record field by field. A record that goes to a function outside the call's body is copied in the arm that calls it, so
-// that the usual arm keeps its own in registers.
-pub(crate) fn copied(b: BitmapBuilder) -> BitmapBuilder
-    ensures { result ≡ b }
-{
-    grown(b, b.length, b.word, b.ones)
-}
-
 // The same builder with another length, word and ones, under its serial.
 pub(crate) fn grown(b: BitmapBuilder, length: usize, word: u64, ones: usize) -> BitmapBuilder
     ensures { result ≡ rebuilt b length word ones }
 {
-    builder_under(b.serial, length, word, ones)
+    BitmapBuilder {
+        length,
+        word,
+        ones,
+        ..b
+    }
 }
 
 // Appends the k flags of a word, for which the word in progress has room: no byte is written, and no flag has to be cut off.

@@ -1,12 +1,12 @@
 // The checks that the calls share. Those that crates above masks put their own checks together from are public.
-ghost use Rattle.std.specs.Prelude.{◌≡◌, cond, ◌&&◌, [], ◌∷◌, ◌++◌, ◌+◌, ◌*◌, ◌≤◌, eqb, leb, length};
-ghost use Rattle.words.specs.Loops.{stretch};
+ghost use Rattle.std.specs.Prelude.{◌≡◌, cond, ◌&&◌, [], ◌∷◌, ◌++◌, ◌+◌, ◌*◌, ◌≤◌, eqb, leb};
 ghost use Rattle.masks.specs.Refusal.{failure_of};
 ghost use Rattle.masks.specs.Checks.{first_failed, limit, check, within_limit, span_checks, address_checks, output_checks};
 ghost use Rattle.masks.specs.Mask.{count_valid, mask_checks};
+ghost use Rattle.masks.specs.Utils.{zeros};
+ghost use Rattle.words.specs.Loops.{stretch};
 ghost use Rattle.masks.specs.Appends.{inner_checks};
 ghost use Rattle.masks.specs.Builder.{possible, builder_checks, none_from};
-ghost use Rattle.masks.specs.Utils.{zeros};
 
 use crate::bitmap::Bitmap;
 use crate::builder::BitmapBuilder;
@@ -20,14 +20,6 @@ pub(crate) fn within_limit(n: usize) -> bool
     n <= Bitmap::LIMIT
 }
 
-// Returns whether start + length is at most 8 * size.
-fn in_bytes(start: usize, length: usize, size: usize) -> bool
-    requires { (start ≤ limit) × (length ≤ limit) }
-    ensures { result ≡ leb (start + length) (8 * size) }
-{
-    (start + length + 7) / 8 <= size
-}
-
 // Checks 1 and 2 of a span over so many bytes. Numbers of any size: those over the limit get 1 before they are added.
 pub fn check_span(start: usize, length: usize, size: usize) -> Result<(), Refusal>
     ensures { failure_of result ≡ first_failed (span_checks start length size) }
@@ -35,7 +27,8 @@ pub fn check_span(start: usize, length: usize, size: usize) -> Result<(), Refusa
     // `&`: one branch for both, in every check of a mask.
     let short = within_limit(start) & within_limit(length);
     if short {
-        return check(Refusal::PastBytes, in_bytes(start, length, size));
+        let end = (start + length).div_ceil(8);
+        return check(Refusal::PastBytes, end <= size);
     }
     Err(Refusal::OverLimit)
 }
@@ -46,7 +39,8 @@ pub(crate) fn check_address(address: usize) -> Result<(), Refusal>
     check(Refusal::WrongAddress, address <= 7)
 }
 
-// Is z the number of zeros of a span: its flags are counted, save where all of them are to be ones, or zeros.
+// Is z the number of zeros of a span: its flags are counted, save where all of them are to be ones, or zeros. It takes the span by its
+// parts, in registers, as `zeros_at` does, and `count_valid` below takes the mask's.
 fn count_is(z: usize, bytes: &[u8], start: usize, length: usize) -> bool
     requires { (start ≤ limit) × (length ≤ limit) }
     ensures { result ≡ eqb z (zeros (stretch bytes.now start length)) }
@@ -92,10 +86,7 @@ pub(crate) fn sum_at_most(a: usize, b: usize, c: usize) -> bool
 pub fn check_output(n: usize, size: usize) -> Result<(), Refusal>
     ensures { failure_of result ≡ first_failed (output_checks n size) }
 {
-    check(
-        Refusal::ShortOutput,
-        n / 64 + (n % 64 + 63) / 64 <= size / 8,
-    )
+    check(Refusal::ShortOutput, n.div_ceil(64) <= size / 8)
 }
 
 // Returns whether calls can have produced this builder over a buffer of `size` bytes (check 4).
@@ -112,7 +103,7 @@ fn check_room(b: BitmapBuilder, n: usize, size: usize) -> Result<(), Refusal>
     requires { (n ≤ limit) × (b.length ≤ n) }
     ensures { failure_of result ≡ first_failed (check 4 (possible b size) ∷ output_checks n size) }
 {
-    if size / 8 < (n + 63) / 64 {
+    if size / 8 < n.div_ceil(64) {
         return check_small(b, size);
     }
     if 64 * (b.length / 64) < b.ones {

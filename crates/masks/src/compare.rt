@@ -1,13 +1,13 @@
 // What is asked of one mask or of two: equality, edges and common ones.
-ghost use Rattle.std.specs.Prelude.{◌≡◌, ◌≤◌};
+ghost use Rattle.std.specs.Prelude.{◌≡◌};
 ghost use Rattle.words.specs.Loops.{stretch};
 ghost use Rattle.masks.specs.Answer.{answer};
-ghost use Rattle.masks.specs.Checks.{limit};
 ghost use Rattle.masks.specs.Compare.{common_of, edges, edges_of, eq_of};
 
 use crate::bitmap::Bitmap;
 use crate::checks::check_mask;
 use crate::refusal::{Refusal, check, earlier};
+use crate::span::Lent;
 use words::counts::{count_ones_of, equal};
 use words::flags::Flags;
 use words::ops::Op;
@@ -29,20 +29,24 @@ pub fn eq(lhs: Bitmap, left: &[u8], rhs: Bitmap, right: &[u8]) -> Result<bool, R
     Ok(n == rhs.length && equal(&a, &b, n))
 }
 
-// Counts the edges of n flags: the ones of the flags xor the flags shifted by one.
-fn edges_at(bytes: &[u8], start: usize, n: usize) -> usize
-    requires { start ≤ limit }
-    ensures { result ≡ edges (stretch bytes.now start n) }
-{
-    if n <= 1 {
-        return 0;
+impl Lent<'_> {
+    // Counts the edges: the ones of the flags xor the flags shifted by one.
+    fn edges(&self) -> usize
+        ensures { result ≡ edges (stretch self.now.bytes.now self.now.start self.now.length) }
+    {
+        if self.length <= 1 {
+            return 0;
+        }
+        let own = Flags {
+            bytes: self.bytes,
+            start: self.start,
+        };
+        let next = Flags {
+            bytes: self.bytes,
+            start: self.start + 1,
+        };
+        count_ones_of(Op::Xor, &own, &next, &next, self.length - 1)
     }
-    let own = Flags { bytes, start };
-    let next = Flags {
-        bytes,
-        start: start + 1,
-    };
-    count_ones_of(Op::Xor, &own, &next, &next, n - 1)
 }
 
 // Counts the flags that differ from the flag after them.
@@ -50,7 +54,12 @@ pub fn num_edges(mask: Bitmap, bytes: &[u8]) -> Result<usize, Refusal>
     ensures { answer result ≡ edges_of mask bytes.now }
 {
     check_mask(mask, bytes)?;
-    Ok(edges_at(bytes, mask.start, mask.length))
+    let span = Lent {
+        bytes,
+        start: mask.start,
+        length: mask.length,
+    };
+    Ok(span.edges())
 }
 
 // Counts the flags that are set in both masks.

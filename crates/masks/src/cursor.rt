@@ -7,7 +7,7 @@ ghost use Rattle.masks.specs.Cursor.{cursor_checks};
 use crate::checks::check_span;
 use crate::refusal::{Refusal, check, earlier};
 
-// The cursors' own structs stay three, as the port names them, and `moved` is a method of each: one generic `moved` would ask for a
+// The cursors' own structs stay four, as the Rust names them, and `moved` is a method of three: one generic `moved` would ask for a
 // trait that each implements by that line, `Self { place, ..self }`.
 //
 // What a cursor gives: an item and the cursor just past it, or none and where the cursor then stands.

@@ -1,18 +1,19 @@
-// Long extensions of a builder: up to a full word, then whole words written straight to the buffer, then the rest.
+// Long extensions of a builder: up to a full word, then whole words written straight to the buffer, then the rest. The workers ask for
+// `Room`, a fact of the builder, the flags to append and the buffer. It is no field of a struct, since the number to append is another
+// one at each call; a builder and its buffer stay two parameters, as document 01 lends them.
 ghost use Rattle.std.specs.Prelude.{true, ◌&&◌, ◌≡◌, ◌+◌, ◌-◌, ◌*◌, ◌%◌, ◌≤◌, ◌<◌, leb, ltb, length, take};
 ghost use Rattle.words.specs.Flags.{copies, digit, word_flags};
 ghost use Rattle.words.specs.Loops.{stretch};
 ghost use Rattle.masks.specs.Answer.{answer_back};
 ghost use Rattle.masks.specs.Appends.{append_answer, append_bytes, extend_constant, extend_slice, extend_bitmap};
 ghost use Rattle.masks.specs.Builder.{filling, appended};
-ghost use Rattle.masks.specs.Checks.{limit};
 ghost use Rattle.masks.specs.Workers.{Room};
 
 use crate::bitmap::Bitmap;
-use crate::builder::{BitmapBuilder, copied, grown, push_flags, push_inside};
+use crate::builder::{BitmapBuilder, grown, push_flags, push_inside};
 use crate::checks::{check_builder, check_inner, check_limit, check_mask, check_span_grow};
 use crate::refusal::{Refused, earlier, give_back};
-use crate::span::near_word;
+use crate::span::{Lent, near_word};
 use words::counts::{copy_count, none_from};
 use words::loops::fill_whole;
 use words::ops::or_word;
@@ -41,7 +42,7 @@ impl BitmapBuilder {
             earlier(check_builder(self, n, buf.len()), check_limit(n)),
             self,
         )?;
-        Ok(append_copies(copied(self), buf, n, flag))
+        Ok(append_copies(self, buf, n, flag))
     }
 
     // Appends a span.
@@ -62,7 +63,12 @@ impl BitmapBuilder {
         if stays_inside(self, n) {
             return Ok(push_inside(self, low_flags(near_word(bytes, start), n), n));
         }
-        Ok(append_stretch(copied(self), buf, &bytes[0..], start, n))
+        let span = Lent {
+            bytes,
+            start,
+            length: n,
+        };
+        Ok(append_stretch(self, buf, &span))
     }
 
     // Appends a piece of a mask.
@@ -87,7 +93,12 @@ impl BitmapBuilder {
             ),
             self,
         )?;
-        Ok(append_stretch(self, buf, bytes, mask.start + start, n))
+        let span = Lent {
+            bytes,
+            start: mask.start + start,
+            length: n,
+        };
+        Ok(append_stretch(self, buf, &span))
     }
 }
 
@@ -166,16 +177,16 @@ fn fill_words(b: BitmapBuilder, buf: &mut [u8], whole: usize, flag: bool) -> Bit
 
 // Appends flags of a span: up to a full word, whole words, and a last word, which is read on its own so that each word of the loop has
 // a byte after it.
-pub(crate) fn append_stretch(
-    b: BitmapBuilder,
-    buf: &mut [u8],
-    bytes: &[u8],
-    start: usize,
-    n: usize,
-) -> BitmapBuilder
-    requires { (start + n ≤ 2 * limit) × Room b n (length buf.old) }
-    ensures { filling result buf.new ≡ appended (filling b buf.old) (stretch bytes.now start n) }
+pub(crate) fn append_stretch(b: BitmapBuilder, buf: &mut [u8], span: &Lent) -> BitmapBuilder
+    requires { Room b span.now.length (length buf.old) }
+    ensures { filling result buf.new ≡ appended (filling b buf.old)
+        (stretch span.now.bytes.now span.now.start span.now.length) }
 {
+    let Lent {
+        bytes,
+        start,
+        length: n,
+    } = *span;
     let first = word_from(bytes, start);
     if n <= 64 {
         return push_flags(b, buf, first, n);

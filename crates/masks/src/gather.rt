@@ -5,12 +5,12 @@ ghost use Rattle.words.specs.Loops.{stretch};
 ghost use Rattle.masks.specs.Answer.{answer_back};
 ghost use Rattle.masks.specs.Appends.{append_answer, append_bytes, extend_gather, extend_opt_gather, gathered, all_below};
 ghost use Rattle.masks.specs.Builder.{filling, appended};
-ghost use Rattle.masks.specs.Checks.{limit};
 ghost use Rattle.masks.specs.Workers.{Room};
 
 use crate::builder::{BitmapBuilder, push_flags};
 use crate::checks::{check_builder, check_span};
 use crate::refusal::{Refusal, Refused, check, earlier, give_back};
+use crate::span::Lent;
 use words::word::{behind, constant_word, flag_at};
 
 impl BitmapBuilder {
@@ -36,7 +36,12 @@ impl BitmapBuilder {
             ),
             self,
         )?;
-        Ok(append_gathered(self, buf, bytes, start, n, idxs))
+        let span = Lent {
+            bytes,
+            start,
+            length: n,
+        };
+        Ok(append_gathered(self, buf, &span, idxs))
     }
 
     // Appends the flag at each index, or 0 if the index is not below the span's length.
@@ -58,11 +63,16 @@ impl BitmapBuilder {
             ),
             self,
         )?;
-        Ok(append_gathered(self, buf, bytes, start, n, idxs))
+        let span = Lent {
+            bytes,
+            start,
+            length: n,
+        };
+        Ok(append_gathered(self, buf, &span, idxs))
     }
 }
 
-// Returns whether all indices are below n.
+// Returns whether all indices are below n. `as`, here and below, since `usize` has no `From` of a u32.
 fn all_below(idxs: &[u32], n: usize) -> bool
     ensures { result ≡ all_below n idxs.now }
 {
@@ -70,44 +80,34 @@ fn all_below(idxs: &[u32], n: usize) -> bool
 }
 
 // Returns the flag at an index of a span, or 0 if the index is not below its length.
-fn span_flag(bytes: &[u8], start: usize, n: usize, at: usize) -> bool
-    requires { start + n ≤ 2 * limit }
-    ensures { result ≡ get_or (stretch bytes.now start n) at false }
+fn span_flag(span: &Lent, at: usize) -> bool
+    ensures { result ≡ get_or (stretch span.now.bytes.now span.now.start span.now.length) at false }
 {
-    if at < n {
-        flag_at(bytes, start + at)
-    } else {
-        false
-    }
+    at < span.length && flag_at(span.bytes, span.start + at)
 }
 
 // Gathers the flags at up to 64 indices into a word.
-fn gather_word(bytes: &[u8], start: usize, n: usize, idxs: &[u32]) -> u64
-    requires { (start + n ≤ 2 * limit) × (length idxs.now ≤ 64) }
-    ensures { take (length idxs.now) (word_flags result) ≡ gathered (stretch bytes.now start n) idxs.now }
+fn gather_word(span: &Lent, idxs: &[u32]) -> u64
+    requires { length idxs.now ≤ 64 }
+    ensures { take (length idxs.now) (word_flags result)
+        ≡ gathered (stretch span.now.bytes.now span.now.start span.now.length) idxs.now }
 {
     let mut w: u64 = 0;
     for (i, x) in idxs.iter().enumerate() {
-        let flag = span_flag(bytes, start, n, *x as usize);
+        let flag = span_flag(span, *x as usize);
         w = behind(w, i, constant_word(flag));
     }
     w
 }
 
-fn append_gathered(
-    b: BitmapBuilder,
-    buf: &mut [u8],
-    bytes: &[u8],
-    start: usize,
-    n: usize,
-    idxs: &[u32],
-) -> BitmapBuilder
-    requires { (start + n ≤ 2 * limit) × Room b (length idxs.now) (length buf.old) }
-    ensures { filling result buf.new ≡ appended (filling b buf.old) (gathered (stretch bytes.now start n) idxs.now) }
+fn append_gathered(b: BitmapBuilder, buf: &mut [u8], span: &Lent, idxs: &[u32]) -> BitmapBuilder
+    requires { Room b (length idxs.now) (length buf.old) }
+    ensures { filling result buf.new ≡ appended (filling b buf.old)
+        (gathered (stretch span.now.bytes.now span.now.start span.now.length) idxs.now) }
 {
     let mut grown = b;
     for part in idxs.chunks(64) {
-        let word = gather_word(bytes, start, n, part);
+        let word = gather_word(span, part);
         grown = push_flags(grown, buf, word, part.len());
     }
     grown

@@ -1,7 +1,7 @@
 // Permission masks over lent bytes: spans, the mask's record, and what is asked of them. A mask has one flag for each truck.
 //
-// Every call answers on every input: it makes document 01's checks (checks.rt) in their order and gives back the number of the
-// first that fails, with the state it got. Nothing is written before the last check has passed.
+// Every call answers on every input: it makes document 01's checks (checks.rt) in their order and gives the refusal of the first that
+// fails, with the record that it got where it got one. Nothing is written before the last check has passed.
 #![tactic(auto)]
 
 pub mod aligned;
@@ -19,6 +19,7 @@ mod frozen;
 mod gather;
 pub mod iterator;
 pub mod next_and_not;
+mod parts;
 mod positions;
 pub mod refusal;
 mod repeat;

@@ -73,7 +73,7 @@ fn windows_of(n: usize) -> usize
     requires { n ≤ 4194304 }
     ensures { result ≡ windows_of n }
 {
-    (n + 31) / 32
+    n.div_ceil(32)
 }
 
 // Of each mask that is there, of two that they are of one length, and of the place.
@@ -102,7 +102,9 @@ fn check_next(
     }
 }
 
-// Is a flag set in the first mask and not in the second among n from `at` on.
+// Is a flag set in the first mask and not in the second among n from `at` on. This and the three below take both masks and their bytes
+// one by one: as methods of a struct of the four a search of 40 flags took 1.04 times the instructions, `offer` with known counts 1.06
+// times.
 fn any_free(
     first: Bitmap,
     first_bytes: &[u8],

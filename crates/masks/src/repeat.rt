@@ -6,13 +6,14 @@ ghost use Rattle.masks.specs.Answer.{answer_back};
 ghost use Rattle.masks.specs.Refusal.{failure_of};
 ghost use Rattle.masks.specs.Appends.{append_answer, append_bytes, extend_repeated, grow_checks, repeated};
 ghost use Rattle.masks.specs.Builder.{filling, appended};
-ghost use Rattle.masks.specs.Checks.{first_failed, limit};
+ghost use Rattle.masks.specs.Checks.{first_failed};
 ghost use Rattle.masks.specs.Workers.{Room};
 
-use crate::builder::{BitmapBuilder, copied, push_inside};
+use crate::builder::{BitmapBuilder, push_inside};
 use crate::checks::{check_builder, check_span};
 use crate::extend::{append_copies, append_stretch};
 use crate::refusal::{Refusal, Refused, earlier, give_back};
+use crate::span::Lent;
 use words::word::{constant_flags, flag_at};
 
 impl BitmapBuilder {
@@ -35,7 +36,12 @@ impl BitmapBuilder {
             ),
             self,
         )?;
-        Ok(append_repeated(self, buf, bytes, start, n, repeats))
+        let span = Lent {
+            bytes,
+            start,
+            length: n,
+        };
+        Ok(append_repeated(self, buf, &span, repeats))
     }
 }
 
@@ -46,24 +52,18 @@ fn check_product(b: BitmapBuilder, n: usize, repeats: usize, size: usize) -> Res
     check_builder(b, n.saturating_mul(repeats), size)
 }
 
-fn append_repeated(
-    b: BitmapBuilder,
-    buf: &mut [u8],
-    bytes: &[u8],
-    start: usize,
-    n: usize,
-    repeats: usize,
-) -> BitmapBuilder
-    requires { (start + n ≤ 2 * limit) × Room b (n * repeats) (length buf.old) }
-    ensures { filling result buf.new ≡ appended (filling b buf.old) (repeated repeats (stretch bytes.now start n)) }
+fn append_repeated(b: BitmapBuilder, buf: &mut [u8], span: &Lent, repeats: usize) -> BitmapBuilder
+    requires { Room b (span.now.length * repeats) (length buf.old) }
+    ensures { filling result buf.new ≡ appended (filling b buf.old)
+        (repeated repeats (stretch span.now.bytes.now span.now.start span.now.length)) }
 {
     if repeats == 0 {
         return b;
     }
     if repeats == 1 {
-        return append_stretch(b, buf, bytes, start, n);
+        return append_stretch(b, buf, span);
     }
-    append_runs(b, buf, bytes, start, n, repeats)
+    append_runs(b, buf, span, repeats)
 }
 
 // Copies of one flag: mostly few, for which the word in progress has room.
@@ -74,24 +74,19 @@ fn append_run(b: BitmapBuilder, buf: &mut [u8], n: usize, flag: bool) -> BitmapB
     if b.length % 64 + n < 64 {
         return push_inside(b, constant_flags(flag, n), n);
     }
-    append_copies(copied(b), buf, n, flag)
+    append_copies(b, buf, n, flag)
 }
 
-// Appends each flag `repeats` times, a run at a time.
-fn append_runs(
-    b: BitmapBuilder,
-    buf: &mut [u8],
-    bytes: &[u8],
-    start: usize,
-    n: usize,
-    repeats: usize,
-) -> BitmapBuilder
-    requires { (start + n ≤ 2 * limit) × Room b (n * repeats) (length buf.old) }
-    ensures { filling result buf.new ≡ appended (filling b buf.old) (repeated repeats (stretch bytes.now start n)) }
+// Appends each flag `repeats` times, a run at a time. A range: flags are bits, and there is no slice of them.
+fn append_runs(b: BitmapBuilder, buf: &mut [u8], span: &Lent, repeats: usize) -> BitmapBuilder
+    requires { Room b (span.now.length * repeats) (length buf.old) }
+    ensures { filling result buf.new ≡ appended (filling b buf.old)
+        (repeated repeats (stretch span.now.bytes.now span.now.start span.now.length)) }
 {
     let mut grown = b;
-    for i in 0..n {
-        grown = append_run(grown, buf, repeats, flag_at(bytes, start + i));
+    for i in 0..span.length {
+        let flag = flag_at(span.bytes, span.start + i);
+        grown = append_run(grown, buf, repeats, flag);
     }
     grown
 }

@@ -21,7 +21,7 @@ pub struct SlicesIterator {
     pub place: usize,
 }
 
-// Ones that stand side by side: where in the mask the first one is, and how many they are.
+// Ones that stand side by side: where in the mask the first one is, and how many they are. Not a `Span`, whose start is a bit of the bytes.
 #[derive(Clone, Copy, PartialEq, Eq, Debug)]
 pub struct Run {
     pub start: usize,
@@ -29,7 +29,7 @@ pub struct Run {
 }
 
 // Returns whether a whole byte, entered at its first bit and ending inside the span, is all ones. Written with `&&` the walk over all runs
-// took 1.02 of the instructions where half the flags are set, and 1.07 where all are.
+// took 1.02 times the instructions where half the flags are set, and 1.07 times where all are.
 fn all_ones(byte: u8, bit: usize, left: usize) -> bool
     ensures { result ≡ (eqb bit 0 && (eqb byte 255 && leb 8 left)) }
 {
@@ -41,7 +41,8 @@ fn all_ones(byte: u8, bit: usize, left: usize) -> bool
 }
 
 // Finds the first run of ones from `place` on: over bytes and, inside them, over bits, both left at the run's end. Passes over a byte
-// of ones at once, and over a zero before the run. Where there is no run it is empty, at the length.
+// of ones at once, and over a zero before the run. Where there is no run it is empty, at the length. The two loops are the walk of document
+// 01, a named form.
 fn run_from(span: Lent, place: usize) -> Run
     requires { place ≤ span.length }
     ensures { result ≡ first_run (stretch span.entry.bytes.now span.entry.start span.entry.length) place }

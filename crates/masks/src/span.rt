@@ -10,13 +10,13 @@ use crate::refusal::Refusal;
 use words::ends::leading_in_word;
 use words::word::{byte_word, down, low_flags, word_from};
 
-// A span of lent bytes that has passed checks 1 and 2.
+// A span of lent bytes that has passed checks 1 and 2, or a piece of the flags of one.
 #[derive(Clone, Copy)]
 pub(crate) struct Lent<'a> {
     pub bytes: &'a [u8],
     pub start: usize,
     pub length: usize,
-    ghost starts: { start ≤ limit },
+    ghost ends: { start + length ≤ 2 * limit },
     ghost short: { length ≤ limit },
     ghost inside: { start + length ≤ 8 * list_length bytes.now },
 }
@@ -45,9 +45,9 @@ pub(crate) fn flags_word(bytes: &[u8], bit: usize, k: usize) -> u64
     low_flags(word_from(bytes, bit), k)
 }
 
-// Counts the flags equal to `flag` that start at `place`. Reads the first word here, since the run is usually short. This and the two
-// functions below take a span by its three parts, in registers: as methods of `Lent`, which goes to a function outside the body through
-// memory, the next one of a random mask took 1.04 of the instructions, `take_leading` of 40 zeros 1.07 and with no mask `next` 1.08.
+// Counts the flags equal to `flag` that start at `place`. Reads the first word here, since the run is usually short. This, `zeros_from` and
+// `leading_by_words` take a span by its three parts, in registers: as methods of `Lent`, which goes to a function outside the body through
+// memory, the next one of a random mask took 1.04 times the instructions and `take_leading` of 40 zeros 1.07 times.
 pub(crate) fn leading_from(
     flag: bool,
     bytes: &[u8],
@@ -91,7 +91,7 @@ pub(crate) fn near_word(bytes: &[u8], bit: usize) -> u64
     down(byte_word(bytes, bit / 8), bit % 8)
 }
 
-// Does the work of `leading_from` word by word, up to the first word with a different flag.
+// Does the work of `leading_from` word by word, up to the first word with a different flag. A range of places: there is no slice of words.
 fn leading_by_words(flag: bool, bytes: &[u8], start: usize, length: usize, place: usize) -> usize
     requires { (start ≤ limit) × ((length ≤ limit) × (place ≤ length)) }
     ensures { result ≡ leading_from flag (stretch bytes.now start length) place }

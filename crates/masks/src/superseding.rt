@@ -12,7 +12,7 @@ use crate::compare::eq;
 use crate::refusal::{Refusal, check, earlier};
 
 // The winner: whether it is the second mask, the part of its slice that holds it, from byte `from` to before byte `to`, and its record
-// over that part.
+// over that part. `second` is an answer of paper 02, no mark of another field.
 #[derive(Clone, Copy, PartialEq, Eq, Debug)]
 pub struct Part {
     pub second: bool,
@@ -44,7 +44,7 @@ fn part_of(second: bool, mask: Bitmap) -> Part
 {
     let from = mask.start / 8;
     let end = mask.start + mask.length;
-    let to = (end + 7) / 8;
+    let to = end.div_ceil(8);
     let start = mask.start % 8;
     let unset = mask.unset;
     let fitted = cut_mask(mask, start, mask.length, unset);

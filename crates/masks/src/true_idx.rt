@@ -13,7 +13,8 @@ use crate::cursor::{Step, check_cursor};
 use crate::refusal::{Refusal, Refused, check, earlier, give_back};
 use crate::span::zeros_from;
 
-// A cursor over the flags of a mask or, where there is none, over positions alone. The Rust's `TrueIdxIter`.
+// A cursor over the flags of a mask or, where there is none, over positions alone. The Rust's `TrueIdxIter`. `masked` stands for an
+// `Option` of the mask: document 01's cursor holds no mask, and C gets it.
 #[derive(Clone, Copy, PartialEq, Eq, Debug)]
 pub struct TrueIdxIter {
     pub start: usize,
@@ -78,7 +79,8 @@ pub(crate) fn check_next(cursor: TrueIdxIter, size: usize) -> Result<(), Refusal
     )
 }
 
-// Counts the zeros before the next one.
+// Counts the zeros before the next one. By the cursor's fields, as `zeros_from` is: over a `Lent` `next` with no mask took 1.08 times the
+// instructions.
 fn zeros_next(cursor: TrueIdxIter, bytes: &[u8]) -> usize
     requires { (cursor.start ≤ limit) × ((cursor.length ≤ limit) × (cursor.place ≤ cursor.length)) }
     ensures { result ≡ leading_from false (true_flags cursor bytes.now) cursor.place }

@@ -1,10 +1,10 @@
 // What a call answers.
-ghost use Rattle.std.specs.Prelude.{◌≤◌, length};
+ghost use Rattle.std.specs.Prelude.{◌≡◌, [], IfOk};
+ghost use Rattle.notation.specs.declared.answer.Token.TheVariants.{Number};
+ghost use Rattle.notation.specs.Answer.{tokens_of, number_alone, with_token};
 
+use std::alloc::{AllocError, Global};
 use std::fmt;
-
-// An answer has at most so many tokens.
-const MOST: usize = 8;
 
 #[derive(Clone, Copy, Debug, PartialEq, Eq)]
 pub enum Token {
@@ -16,26 +16,34 @@ pub enum Token {
 }
 
 impl From<u64> for Token {
+    ghost from_gives = { λ n t. t ≡ Number n };
+
     fn from(n: u64) -> Token {
         Token::Number(n)
     }
 }
 
 impl From<u32> for Token {
+    ghost from_gives = { λ n t. t ≡ Number n };
+
     fn from(n: u32) -> Token {
         Token::Number(u64::from(n))
     }
 }
 
 impl From<u8> for Token {
+    ghost from_gives = { λ n t. t ≡ Number n };
+
     fn from(n: u8) -> Token {
         Token::Number(u64::from(n))
     }
 }
 
 impl From<usize> for Token {
+    ghost from_gives = { λ n t. t ≡ Number n };
+
     fn from(n: usize) -> Token {
-        Token::Number(n as u64)
+        Token::Number(n as u64) // a u64 has no `From` of a `usize`
     }
 }
 
@@ -55,48 +63,42 @@ impl fmt::Display for Token {
     }
 }
 
-// At most eight tokens.
-#[derive(Clone, Copy, Debug)]
+// The tokens of an answer: 0 or the refusing number, and what the call gives behind it.
+#[derive(Drop)]
 pub struct Answer {
-    tokens: [Token; MOST],
-    len: usize,
-    ghost fits: { len ≤ 8 },
+    pub(crate) tokens: Vec<Token>,
 }
 
 impl Answer {
     // No token: there was no call.
-    pub(crate) fn none() -> Answer {
+    pub(crate) fn none(alloc: Global) -> Answer
+        ensures { tokens_of result ≡ [] }
+    {
         Answer {
-            tokens: [Token::Missing; MOST],
-            len: 0,
+            tokens: Vec::new(alloc),
         }
     }
 
     // 0 or the refusing number; what the call gives comes behind it.
-    pub fn new(number: u8) -> Answer {
-        Answer::none().and(number)
-    }
-
-    // The answer with one token more, if there is room for it.
-    pub fn and(self, token: impl Into<Token> + Drop) -> Answer {
-        let mut tokens = self.tokens;
-        let len = self.len;
-        match tokens.get_mut(len) {
-            Some(place) => {
-                *place = token.into();
-                Answer {
-                    tokens,
-                    len: len + 1,
-                }
-            }
-            None => self,
-        }
-    }
-
-    pub fn as_slice(&self) -> &[Token]
-        ensures { length result.now ≤ 8 }
+    pub fn new(alloc: Global, number: u8) -> Result<Answer, AllocError>
+        ensures { IfOk result (λ a. tokens_of a ≡ number_alone number) }
     {
-        &self.tokens[..self.len]
+        Answer::none(alloc).and(Token::from(number))
+    }
+
+    // The answer with one token more.
+    pub fn and(self, token: Token) -> Result<Answer, AllocError>
+        ensures { IfOk result (λ a. tokens_of a ≡ with_token (tokens_of self) token) }
+    {
+        let Answer { mut tokens } = self;
+        tokens.push(token)?;
+        Ok(Answer { tokens })
+    }
+
+    pub(crate) fn as_slice(&self) -> &[Token]
+        ensures { result.now ≡ tokens_of self.now }
+    {
+        self.tokens.as_slice()
     }
 }
 

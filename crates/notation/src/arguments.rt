@@ -1,5 +1,8 @@
 // The arguments of one call: numbers, how many bytes and numbers are lent, and the serials of the records among them.
-use crate::item::Kind;
+ghost use Rattle.std.specs.Prelude.{◌≡◌, ◌%◌, ◌^◌};
+ghost use Rattle.notation.specs.Arguments.{count_at, number_at, low_at, flag_at, serial_at};
+
+use crate::item::Role;
 use crate::lent::Sizes;
 
 // At most this many arguments has a call.
@@ -30,13 +33,12 @@ impl Arguments {
         }
     }
 
-    // Gives argument k a value: a size is at most what is lent.
-    pub(crate) fn put(&mut self, k: usize, kind: Kind, value: u64) {
-        match kind {
-            Kind::Size(letter) => self.sizes.limit(letter, value),
-            Kind::Serial(serial) => self.put_serial(serial, value),
-            Kind::Unknown => self.put_number(k, None),
-            _ => self.put_number(k, Some(value)),
+    // Gives argument k a value, None if it is not known: a size is at most what is lent.
+    pub(crate) fn put(&mut self, k: usize, role: Role, value: Option<u64>) {
+        match (role, value) {
+            (Role::Size(letter), Some(most)) => self.sizes.limit(letter, most),
+            (Role::Serial(serial), Some(n)) => self.put_serial(serial, n),
+            _ => self.put_number(k, value),
         }
     }
 
@@ -46,6 +48,7 @@ impl Arguments {
         }
     }
 
+    // The conversions here are `as`: a variant's number, to `usize`, which has no `From` of a u64, and to the low 32 bits.
     fn put_serial(&mut self, serial: Serial, value: u64) {
         if let Some(place) = self.serials.get_mut(serial as usize) {
             *place = low(value);
@@ -53,31 +56,45 @@ impl Arguments {
     }
 
     // Argument i as a zero count, None if it is not known.
-    pub fn count(&self, i: usize) -> Option<usize> {
+    pub fn count(&self, i: usize) -> Option<usize>
+        ensures { result ≡ count_at self.now i }
+    {
         self.numbers.get(i)?.map(|n| n as usize)
     }
 
-    pub fn word(&self, i: usize) -> u64 {
+    pub fn word(&self, i: usize) -> u64
+        ensures { result ≡ number_at self.now i }
+    {
         self.numbers.get(i).copied().flatten().unwrap_or(0)
     }
 
-    pub fn size(&self, i: usize) -> usize {
+    pub fn size(&self, i: usize) -> usize
+        ensures { result ≡ number_at self.now i }
+    {
         self.word(i) as usize
     }
 
-    pub fn low(&self, i: usize) -> u32 {
+    pub fn low(&self, i: usize) -> u32
+        ensures { result ≡ low_at self.now i }
+    {
         low(self.word(i))
     }
 
-    pub fn flag(&self, i: usize) -> bool {
+    pub fn flag(&self, i: usize) -> bool
+        ensures { result ≡ flag_at self.now i }
+    {
         self.word(i) != 0
     }
 
-    pub fn serial(&self, serial: Serial) -> u32 {
+    pub fn serial(&self, serial: Serial) -> u32
+        ensures { result ≡ serial_at self.now serial }
+    {
         self.serials.get(serial as usize).copied().unwrap_or(0)
     }
 }
 
-fn low(n: u64) -> u32 {
+fn low(n: u64) -> u32
+    ensures { result ≡ n % 2 ^ 32 }
+{
     (n & 0xffff_ffff) as u32
 }

@@ -1,4 +1,6 @@
 // The bytes and the numbers of i: what is done alike with both.
+ghost use Rattle.std.specs.Prelude.{◌≡◌, OnOk};
+
 use crate::answer::Answer;
 use crate::fault::Fault;
 use crate::items::Items;
@@ -53,7 +55,7 @@ impl Element for u32 {
         room: usize,
     ) -> Result<Option<Vec<u32>>, Fault> {
         let items = Items::read(alloc, text, answer)?;
-        pieces::numbers(alloc, items.all(), room)
+        pieces::numbers(alloc, &items, room)
     }
 
     fn mix(sum: Checksum, all: &[u32]) -> Checksum {
@@ -66,7 +68,9 @@ pub(crate) fn lent<T: Element>(alloc: Global, text: &[u8], last: &Last) -> Resul
     T::read(alloc, text, &last.answer, T::ROOM)?.ok_or(Fault::Malformed)
 }
 
-pub(crate) fn refill<T: Copy>(to: &mut Vec<T>, from: &[T]) -> Result<(), AllocError> {
+pub(crate) fn refill<T: Copy>(to: &mut Vec<T>, from: &[T]) -> Result<(), AllocError>
+    ensures { OnOk result (to.new.items ≡ from.now) }
+{
     to.clear();
     to.extend_from_slice(from)
 }

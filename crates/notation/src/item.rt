@@ -1,93 +1,142 @@
-// One item of a line: a number, a range, a number and how often, a size, a serial, `?`, `-`, `_`, or `#` and a number.
+// One item of a line: numbers with what they are for, a number and how often, `?`, `-`, `_`, or `#` and a number.
+ghost use Rattle.std.specs.Prelude.{◌≡◌};
+ghost use Rattle.notation.specs.Items.{is_plain};
+
+use crate::answer::Token;
 use crate::arguments::Serial;
 use crate::lent::Letter;
 use crate::text;
 
+// What a number is: an argument, how much of a letter is lent, or a serial.
 #[derive(Clone, Copy, Debug, PartialEq, Eq)]
-pub(crate) enum Kind {
-    // A number, or the first of some that follow one another.
-    Number,
-    // `?`.
-    Unknown,
-    // `-`.
-    Missing,
-    // A number several times.
-    Times,
-    // `#` and a number.
-    Calls,
-    // `_`.
-    Any,
+pub(crate) enum Role {
+    Argument,
     Size(Letter),
     Serial(Serial),
 }
 
-impl Kind {
-    // Whether it says what a call is lent, and is no argument.
-    pub(crate) fn is_size(self) -> bool {
-        matches!(self, Kind::Size(_) | Kind::Serial(_))
-    }
-
-    fn of_letter(letter: u8) -> Option<Kind> {
+impl Role {
+    fn of_letter(letter: u8) -> Option<Role> {
         match letter {
-            b's' => Some(Kind::Serial(Serial::First)),
-            b't' => Some(Kind::Serial(Serial::Second)),
-            b'u' => Some(Kind::Serial(Serial::Third)),
-            _ => Some(Kind::Size(Letter::of(letter)?)),
+            b's' => Some(Role::Serial(Serial::First)),
+            b't' => Some(Role::Serial(Serial::Second)),
+            b'u' => Some(Role::Serial(Serial::Third)),
+            _ => Some(Role::Size(Letter::of(letter)?)),
         }
     }
 }
 
-// Its first number, and how many it stands for.
 #[derive(Clone, Copy, Debug, PartialEq, Eq)]
-pub(crate) struct Item {
-    pub(crate) kind: Kind,
-    pub(crate) first: u64,
-    pub(crate) count: u64,
+pub(crate) enum Item {
+    // `N`, or `A..B`: the first of `count` numbers that follow one another.
+    Numbers { role: Role, first: u64, count: u64 },
+    // `N*K`.
+    Times { number: u64, times: u64 },
+    // `#N`.
+    Calls(u64),
+    // `?`.
+    Unknown,
+    // `-`.
+    Missing,
+    // `_`.
+    Any,
+}
+
+impl From<Token> for Item {
+    fn from(token: Token) -> Item {
+        match token {
+            Token::Number(n) => Item::single(Role::Argument, n),
+            Token::Unknown => Item::Unknown,
+            Token::Missing => Item::Missing,
+        }
+    }
 }
 
 impl Item {
-    pub(crate) fn single(kind: Kind, first: u64) -> Item {
-        Item {
-            kind,
+    fn single(role: Role, first: u64) -> Item {
+        Item::Numbers {
+            role,
             first,
             count: 1,
         }
     }
 
-    // A number has the kind given, that of a size before it in the same token.
-    pub(crate) fn read(text: &[u8], kind: Kind) -> Option<Item> {
+    // A number has the role given, that of a size before it in the same token.
+    pub(crate) fn read(text: &[u8], role: Role) -> Option<Item> {
         match text {
-            b"?" => Some(Item::single(Kind::Unknown, 0)),
-            b"-" => Some(Item::single(Kind::Missing, 0)),
-            b"_" => Some(Item::single(Kind::Any, 0)),
-            [b'#', digits @ ..] => Some(Item::single(Kind::Calls, text::number(digits)?)),
-            [letter, b':', numbers @ ..] => Item::numbers(numbers, Kind::of_letter(*letter)?),
-            _ => Item::numbers(text, kind),
+            b"?" => Some(Item::Unknown),
+            b"-" => Some(Item::Missing),
+            b"_" => Some(Item::Any),
+            [b'#', digits @ ..] => Some(Item::Calls(text::number(digits)?)),
+            [letter, b':', numbers @ ..] => Item::numbers(numbers, Role::of_letter(*letter)?),
+            _ => Item::numbers(text, role),
         }
     }
 
     // `A..B`, `N*K` or one number.
-    fn numbers(text: &[u8], kind: Kind) -> Option<Item> {
+    fn numbers(text: &[u8], role: Role) -> Option<Item> {
         if let Some((from, end)) = text::split_once(text, b'.') {
-            return Item::range(kind, from, end);
+            return Item::range(role, from, end);
         }
-        if let Some((n, times)) = text::split_once(text, b'*') {
-            return Some(Item {
-                kind: Kind::Times,
-                first: text::number(n)?,
-                count: text::number(times)?,
+        if let Some((number, times)) = text::split_once(text, b'*') {
+            return Some(Item::Times {
+                number: text::number(number)?,
+                times: text::number(times)?,
             });
         }
-        Some(Item::single(kind, text::number(text)?))
+        Some(Item::single(role, text::number(text)?))
     }
 
     // `end` begins with the second dot. A range has at least one number.
-    fn range(kind: Kind, from: &[u8], end: &[u8]) -> Option<Item> {
+    fn range(role: Role, from: &[u8], end: &[u8]) -> Option<Item> {
         let first = text::number(from)?;
         let end = text::number(end.strip_prefix(b".")?)?;
         match end.checked_sub(first) {
             None | Some(0) => None,
-            Some(count) => Some(Item { kind, first, count }),
+            Some(count) => Some(Item::Numbers { role, first, count }),
         }
+    }
+
+    pub(crate) fn role(self) -> Role {
+        match self {
+            Item::Numbers { role, .. } => role,
+            _ => Role::Argument,
+        }
+    }
+
+    // Whether it is an argument, and says nothing of a size or a serial.
+    pub(crate) fn is_argument(self) -> bool
+        ensures { result ≡ is_plain self }
+    {
+        match self {
+            Item::Numbers { role, .. } => matches!(role, Role::Argument),
+            _ => true,
+        }
+    }
+
+    // How many values it stands for.
+    pub(crate) fn count(self) -> u64 {
+        match self {
+            Item::Numbers { count, .. } => count,
+            Item::Times { times, .. } => times,
+            _ => 1,
+        }
+    }
+
+    // Value n of it as an argument, None if it is not known.
+    pub(crate) fn value(self, n: u64) -> Option<u64> {
+        match self {
+            Item::Numbers { first, .. } => Some(first.wrapping_add(n)),
+            Item::Times { number, .. } => Some(number.wrapping_add(n)),
+            Item::Calls(calls) => Some(calls),
+            Item::Missing | Item::Any => Some(0),
+            Item::Unknown => None,
+        }
+    }
+
+    // Whether it says what a token is, or is `_` for a number.
+    pub(crate) fn says(self, token: Token) -> bool {
+        let number = matches!(token, Token::Number(_));
+        self == Item::from(token) || (self == Item::Any && number)
     }
 }

@@ -1,168 +1,181 @@
 // The arguments and the answer of a request, and other lists of items.
-use crate::answer::{Answer, Token};
+ghost use Rattle.std.specs.Prelude.{◌≡◌, is_some};
+ghost use Rattle.notation.specs.Items.{is_argument, plain_of};
+
+use crate::answer::Answer;
 use crate::fault::Fault;
-use crate::item::{Item, Kind};
+use crate::item::{Item, Role};
 use crate::text;
 use std::alloc::Global;
 
 // At most this many items are in a line.
 const MOST: usize = 1024;
 
-// A token of the arguments: its first item, how many values its items have, and whether it is a size or a serial.
-#[derive(Clone, Copy, Debug)]
+// A token of the arguments: its items, with commas between them in the line.
+#[derive(Drop)]
 pub(crate) struct Choice {
-    pub(crate) first: usize,
-    pub(crate) values: u64,
-    pub(crate) size: bool,
+    items: Vec<Item>,
 }
 
-// All items in a row, the tokens of the arguments, and which item begins the answer, if there is one.
+impl Choice {
+    pub(crate) fn items(&self) -> &[Item] {
+        self.items.as_slice()
+    }
+
+    // How many values its items have.
+    pub(crate) fn values(&self) -> u64 {
+        self.items
+            .iter()
+            .fold(0u64, |n, item| n.wrapping_add(item.count()))
+    }
+
+    // Value n of its items, and what it is.
+    pub(crate) fn value(&self, n: u64) -> (Role, Option<u64>) {
+        let mut left = n;
+        for item in self.items.iter() {
+            let count = item.count();
+            if left < count {
+                return (item.role(), item.value(left));
+            }
+            left -= count;
+        }
+        (Role::Argument, Some(0))
+    }
+
+    // Whether it is an argument, and not a size or a serial: its last item says so.
+    fn is_argument(&self) -> bool
+        ensures { result ≡ is_argument self.now }
+    {
+        match self.items.last() {
+            Some(item) => item.is_argument(),
+            None => true,
+        }
+    }
+}
+
+// The tokens of the arguments, and the items of the answer, if there is one.
 #[derive(Drop)]
 pub(crate) struct Items {
-    all: Vec<Item>,
     choices: Vec<Choice>,
-    answer: Option<usize>,
+    answer: Option<Vec<Item>>,
 }
 
 impl Items {
     // `last` is what `@` stands for.
     pub(crate) fn read(alloc: Global, text: &[u8], last: &Answer) -> Result<Items, Fault> {
         let mut items = Items {
-            all: Vec::new(alloc),
             choices: Vec::new(alloc),
             answer: None,
         };
         if !text.is_empty() {
             for token in text.split(|b| *b == b' ') {
-                items.token(token, last)?;
+                items.token(alloc, token, last)?;
             }
         }
+        if MOST < items.len() {
+            return Err(Fault::Malformed);
+        }
         Ok(items)
-    }
-
-    pub(crate) fn all(&self) -> &[Item] {
-        self.all.as_slice()
     }
 
     pub(crate) fn choices(&self) -> &[Choice] {
         self.choices.as_slice()
     }
 
-    pub(crate) fn answer(&self) -> Option<&[Item]> {
-        self.all.as_slice().get(self.answer?..)
+    pub(crate) fn answer(&self) -> Option<&[Item]>
+        ensures { is_some result ≡ is_some self.now.answer }
+    {
+        Some(self.answer.as_ref()?.as_slice())
+    }
+
+    // How many items there are, those of the answer too.
+    fn len(&self) -> usize {
+        let told = self.answer().map_or(0, |items| items.len());
+        self.choices
+            .iter()
+            .fold(told, |n, choice| n.saturating_add(choice.items.len()))
     }
 
     // How many arguments there are, sizes and serials left out.
-    pub(crate) fn plain(&self) -> usize {
-        self.choices.iter().filter(|choice| !choice.size).count()
+    pub(crate) fn plain(&self) -> usize
+        ensures { result ≡ plain_of self.now }
+    {
+        self.choices
+            .iter()
+            .filter(|choice| choice.is_argument())
+            .count()
     }
 
     // Whether an argument has more than one value.
     pub(crate) fn is_ranged(&self) -> bool {
-        self.choices.iter().any(|choice| 1 < choice.values)
+        self.choices.iter().any(|choice| 1 < choice.values())
     }
 
     // The number of an item `#N` that is alone.
     pub(crate) fn sum(&self) -> Option<u64> {
-        match self.all.as_slice() {
-            [item] if item.kind == Kind::Calls => Some(item.first),
+        match (self.choices.as_slice(), &self.answer) {
+            ([choice], None) => match choice.items() {
+                [Item::Calls(sum)] => Some(*sum),
+                _ => None,
+            },
             _ => None,
         }
     }
 
-    fn token(&mut self, token: &[u8], last: &Answer) -> Result<(), Fault> {
+    fn token(&mut self, alloc: Global, token: &[u8], last: &Answer) -> Result<(), Fault> {
         match token {
-            b"=" => self.equals(),
+            b"=" => self.equals(alloc),
             [b'=', ..] => Err(Fault::Malformed),
-            [b'@', many @ ..] => self.from_last(many, last),
-            _ => self.several(token),
+            [b'@', many @ ..] => self.from_last(alloc, many, last),
+            _ => self.several(alloc, token),
         }
     }
 
-    fn equals(&mut self) -> Result<(), Fault> {
+    fn equals(&mut self, alloc: Global) -> Result<(), Fault> {
         if self.answer.is_some() {
             return Err(Fault::Malformed);
         }
-        self.answer = Some(self.all.len());
+        self.answer = Some(Vec::new(alloc));
         Ok(())
     }
 
-    // The last tokens of an answer, each a token of its own.
-    fn from_last(&mut self, many: &[u8], last: &Answer) -> Result<(), Fault> {
+    // The last tokens of an answer, each a token of its own. `as` between `usize` and u64: neither has a `From` of the other.
+    fn from_last(&mut self, alloc: Global, many: &[u8], last: &Answer) -> Result<(), Fault> {
         let many = text::number(many).ok_or(Fault::Malformed)?;
         let tokens = last.as_slice();
         let from = (tokens.len() as u64)
             .checked_sub(many)
             .ok_or(Fault::Malformed)?;
         for token in tokens.iter().skip(from as usize) {
-            let first = self.all.len();
-            self.push(Item::from(*token))?;
-            self.close(first, false)?;
+            self.push(Vec::from_slice(alloc, &[Item::from(*token)])?)?;
         }
         Ok(())
     }
 
     // The items of a token, with commas between them. A number after a size is a size too.
-    fn several(&mut self, token: &[u8]) -> Result<(), Fault> {
-        let first = self.all.len();
-        let mut kind = Kind::Number;
+    fn several(&mut self, alloc: Global, token: &[u8]) -> Result<(), Fault> {
+        let mut items = Vec::new(alloc);
+        let mut role = Role::Argument;
         for part in token.split(|b| *b == b',') {
-            let item = Item::read(part, kind).ok_or(Fault::Malformed)?;
-            self.push(item)?;
-            kind = if item.kind.is_size() {
-                item.kind
-            } else {
-                Kind::Number
-            };
+            let item = Item::read(part, role).ok_or(Fault::Malformed)?;
+            items.push(item)?;
+            role = item.role();
         }
-        self.close(first, kind.is_size())
+        self.push(items)
     }
 
-    fn push(&mut self, item: Item) -> Result<(), Fault> {
-        if MOST <= self.all.len() {
-            return Err(Fault::Malformed);
-        }
-        self.all.push(item)?;
-        Ok(())
-    }
-
-    // The end of a token that began at an item. Sizes come after the arguments, of which none is `_`.
-    fn close(&mut self, first: usize, size: bool) -> Result<(), Fault> {
-        if self.answer.is_some() {
+    // Takes the items of a token. Sizes come after the arguments, of which none is `_`.
+    fn push(&mut self, items: Vec<Item>) -> Result<(), Fault> {
+        if let Some(answer) = &mut self.answer {
+            answer.extend_from_slice(items.as_slice())?;
             return Ok(());
         }
-        let items = self.all.as_slice().get(first..).unwrap_or(&[]);
-        let any = items.iter().any(|item| item.kind == Kind::Any);
-        let after_size = self.choices.last().is_some_and(|choice| choice.size);
-        if any || (after_size && !size) {
+        let choice = Choice { items };
+        let after_size = self.choices.last().is_some_and(|last| !last.is_argument());
+        if choice.items().contains(&Item::Any) || (after_size && choice.is_argument()) {
             return Err(Fault::Malformed);
         }
-        let values = items
-            .iter()
-            .fold(0u64, |n, item| n.wrapping_add(item.count));
-        self.choices.push(Choice {
-            first,
-            values,
-            size,
-        })?;
+        self.choices.push(choice)?;
         Ok(())
-    }
-}
-
-impl From<Token> for Item {
-    fn from(token: Token) -> Item {
-        match token {
-            Token::Number(n) => Item::single(Kind::Number, n),
-            Token::Unknown => Item::single(Kind::Unknown, 0),
-            Token::Missing => Item::single(Kind::Missing, 0),
-        }
-    }
-}
-
-impl Item {
-    // Whether it says what a token is, or is `_` for a number.
-    pub(crate) fn says(self, token: Token) -> bool {
-        let number = matches!(token, Token::Number(_));
-        self == Item::from(token) || (self.kind == Kind::Any && number)
     }
 }

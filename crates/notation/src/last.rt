@@ -1,4 +1,8 @@
 // What the last call gave: its answer, and the bytes and the numbers of the last one that has them as output.
+ghost use Rattle.std.specs.Prelude.{◌≡◌, [], take, OnOk};
+ghost use Rattle.notation.specs.Answer.{tokens_of};
+ghost use Rattle.notation.specs.Last.{bytes_before, numbers_before};
+
 use crate::answer::Answer;
 use crate::element::refill;
 use crate::lent::Lent;
@@ -8,38 +12,42 @@ use std::alloc::{AllocError, Global};
 #[derive(Drop)]
 pub struct Last {
     pub answer: Answer,
-    pub(crate) bytes: Vec<u8>,
-    pub(crate) numbers: Vec<u32>,
+    pub bytes: Vec<u8>,
+    pub numbers: Vec<u32>,
 }
 
 impl Last {
     // Before the first call.
-    pub fn new(alloc: Global) -> Last {
+    pub fn new(alloc: Global) -> Last
+        ensures answer { tokens_of result.answer ≡ [] }
+        ensures bytes { result.bytes.items ≡ [] }
+        ensures numbers { result.numbers.items ≡ [] }
+    {
         Last {
-            answer: Answer::none(),
+            answer: Answer::none(alloc),
             bytes: Vec::new(alloc),
             numbers: Vec::new(alloc),
         }
     }
 
     // Before a call its output is as the lines say.
-    pub fn restore(&mut self, output: Output, lent: &Lent) -> Result<(), AllocError> {
+    pub fn restore(&mut self, output: Output, lent: &Lent) -> Result<(), AllocError>
+        ensures answer { self.new.answer ≡ self.old.answer }
+        ensures bytes { OnOk result (self.new.bytes.items ≡ bytes_before output self.old.bytes.items lent.now.o.items) }
+        ensures numbers { OnOk result (self.new.numbers.items ≡ numbers_before output self.old.numbers.items lent.now.i.items) }
+    {
         match output {
             Output::Bytes => refill(&mut self.bytes, lent.o.as_slice()),
             Output::Numbers => refill(&mut self.numbers, lent.i.as_slice()),
             Output::Nothing => Ok(()),
         }
     }
+}
 
-    // The first n bytes of the output, or all.
-    pub fn first_bytes(&mut self, n: usize) -> &mut [u8] {
-        let n = n.min(self.bytes.len());
-        self.bytes.slice_mut(..n)
-    }
-
-    // The first n numbers, or all.
-    pub fn first_numbers(&mut self, n: usize) -> &mut [u32] {
-        let n = n.min(self.numbers.len());
-        self.numbers.slice_mut(..n)
-    }
+// The first n of an output, or all. What is written is the caller's: the contract says what is lent.
+pub fn first_mut<T>(output: &mut Vec<T>, n: usize) -> &mut [T]
+    ensures { result.now ≡ take n output.old.items }
+{
+    let n = n.min(output.len());
+    output.slice_mut(..n)
 }

@@ -1,4 +1,8 @@
 // What is lent to the calls: the bytes x, y, z and o, and the numbers i.
+ghost use Rattle.std.specs.Prelude.{◌≡◌, [], take, OnOk, OnErr, IfOk, true};
+ghost use Rattle.notation.specs.Lent.{sizes_of, KeptBut, is_again, IsLeft};
+ghost use Rattle.notation.specs.Line.{letter_of};
+
 use crate::element;
 use crate::fault::Fault;
 use crate::last::Last;
@@ -15,7 +19,9 @@ pub enum Letter {
 }
 
 impl Letter {
-    pub(crate) fn of(letter: u8) -> Option<Letter> {
+    pub(crate) fn of(letter: u8) -> Option<Letter>
+        ensures { result ≡ letter_of letter }
+    {
         match letter {
             b'x' => Some(Letter::X),
             b'y' => Some(Letter::Y),
@@ -27,51 +33,51 @@ impl Letter {
     }
 }
 
-// How many of each are lent.
+// One for each letter: of bytes for x, y, z and o, of numbers for i.
 #[derive(Clone, Copy, Debug)]
-pub struct Sizes {
-    pub x: usize,
-    pub y: usize,
-    pub z: usize,
-    pub o: usize,
-    pub i: usize,
+pub struct ByLetter<B, N> {
+    pub x: B,
+    pub y: B,
+    pub z: B,
+    pub o: B,
+    pub i: N,
 }
 
-impl Sizes {
-    // At most so many of this letter.
-    pub(crate) fn limit(&mut self, letter: Letter, most: u64) {
-        let most = most as usize;
+// How many of each are lent.
+pub type Sizes = ByLetter<usize, usize>;
+
+impl ByLetter<usize, usize> {
+    fn get_mut(&mut self, letter: Letter) -> &mut usize {
         match letter {
-            Letter::X => self.x = self.x.min(most),
-            Letter::Y => self.y = self.y.min(most),
-            Letter::Z => self.z = self.z.min(most),
-            Letter::O => self.o = self.o.min(most),
-            Letter::I => self.i = self.i.min(most),
+            Letter::X => &mut self.x,
+            Letter::Y => &mut self.y,
+            Letter::Z => &mut self.z,
+            Letter::O => &mut self.o,
+            Letter::I => &mut self.i,
         }
+    }
+
+    // At most so many of this letter. `as`: `usize` has no `From` of a u64.
+    pub(crate) fn limit(&mut self, letter: Letter, most: u64) {
+        let size = self.get_mut(letter);
+        *size = (*size).min(most as usize);
     }
 }
 
 // What the lines so far lend.
-#[derive(Drop)]
-pub struct Lent {
-    pub(crate) x: Vec<u8>,
-    pub(crate) y: Vec<u8>,
-    pub(crate) z: Vec<u8>,
-    pub(crate) o: Vec<u8>,
-    pub(crate) i: Vec<u32>,
-}
+pub type Lent = ByLetter<Vec<u8>, Vec<u32>>;
 
 // What a call reads of it.
-#[derive(Clone, Copy)]
-pub struct Parts<'a> {
-    pub x: &'a [u8],
-    pub y: &'a [u8],
-    pub z: &'a [u8],
-    pub i: &'a [u32],
-}
+pub type Parts<'a> = ByLetter<&'a [u8], &'a [u32]>;
 
-impl Lent {
-    pub fn new(alloc: Global) -> Lent {
+impl ByLetter<Vec<u8>, Vec<u32>> {
+    pub fn new(alloc: Global) -> Lent
+        ensures x { result.x.items ≡ [] }
+        ensures y { result.y.items ≡ [] }
+        ensures z { result.z.items ≡ [] }
+        ensures o { result.o.items ≡ [] }
+        ensures i { result.i.items ≡ [] }
+    {
         Lent {
             x: Vec::new(alloc),
             y: Vec::new(alloc),
@@ -81,14 +87,18 @@ impl Lent {
         }
     }
 
-    // Takes what a line lends. A malformed one changes nothing.
+    // Takes what a line lends. A malformed one changes nothing. What pieces stand for is not in the contract, only `@`.
     pub fn take(
         &mut self,
         alloc: Global,
         letter: Letter,
         text: &[u8],
         last: &Last,
-    ) -> Result<(), Fault> {
+    ) -> Result<(), Fault>
+        ensures others { KeptBut letter self.old self.new }
+        ensures malformed { OnErr result (self.new ≡ self.old) }
+        ensures again { is_again text.now ≡ true → OnOk result (IsLeft letter self.new last.now.bytes.items) }
+    {
         match letter {
             Letter::X => self.x = bytes(alloc, text, last)?,
             Letter::Y => self.y = bytes(alloc, text, last)?,
@@ -100,11 +110,16 @@ impl Lent {
     }
 
     // The output goes on as the last call left it.
-    pub fn go_on(&mut self, last: &Last) -> Result<(), AllocError> {
+    pub fn go_on(&mut self, last: &Last) -> Result<(), AllocError>
+        ensures output { OnOk result (self.new.o.items ≡ last.now.bytes.items) }
+        ensures inputs { self.new ≡ record self.old { o = self.new.o } }
+    {
         element::refill(&mut self.o, last.bytes.as_slice())
     }
 
-    pub fn sizes(&self) -> Sizes {
+    pub fn sizes(&self) -> Sizes
+        ensures { result ≡ sizes_of self.now }
+    {
         Sizes {
             x: self.x.len(),
             y: self.y.len(),
@@ -115,18 +130,27 @@ impl Lent {
     }
 
     // The first bytes and numbers of each letter.
-    pub fn parts(&self, sizes: Sizes) -> Parts<'_> {
+    pub fn parts(&self, sizes: Sizes) -> Parts<'_>
+        ensures x { result.x.now ≡ take sizes.x self.now.x.items }
+        ensures y { result.y.now ≡ take sizes.y self.now.y.items }
+        ensures z { result.z.now ≡ take sizes.z self.now.z.items }
+        ensures o { result.o.now ≡ take sizes.o self.now.o.items }
+        ensures i { result.i.now ≡ take sizes.i self.now.i.items }
+    {
         Parts {
             x: first(self.x.as_slice(), sizes.x),
             y: first(self.y.as_slice(), sizes.y),
             z: first(self.z.as_slice(), sizes.z),
+            o: first(self.o.as_slice(), sizes.o),
             i: first(self.i.as_slice(), sizes.i),
         }
     }
 }
 
 // Pieces, or `@` for what the last call left.
-fn bytes(alloc: Global, text: &[u8], last: &Last) -> Result<Vec<u8>, Fault> {
+fn bytes(alloc: Global, text: &[u8], last: &Last) -> Result<Vec<u8>, Fault>
+    ensures { is_again text.now ≡ true → IfOk result (λ v. v.items ≡ last.now.bytes.items) }
+{
     match text {
         [b'@', ..] => Ok(Vec::from_slice(alloc, last.bytes.as_slice())?),
         _ => element::lent(alloc, text, last),
@@ -134,6 +158,8 @@ fn bytes(alloc: Global, text: &[u8], last: &Last) -> Result<Vec<u8>, Fault> {
 }
 
 // The first n, or all.
-fn first<T>(items: &[T], n: usize) -> &[T] {
+fn first<T>(items: &[T], n: usize) -> &[T]
+    ensures { result.now ≡ take n items.now }
+{
     items.get(..n).unwrap_or(items)
 }

@@ -20,4 +20,6 @@ mod pieces;
 pub mod reading;
 pub mod sums;
 pub mod tally;
+#[cfg(test)]
+mod tests;
 mod text;

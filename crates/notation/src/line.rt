@@ -1,4 +1,8 @@
 // A line: what it lends, a request, or nothing. docs/REQUESTS.md says what it means.
+ghost use Rattle.std.specs.Prelude.{◌≡◌, IfErr};
+ghost use Rattle.notation.specs.declared.fault.Fault.TheVariants.{Malformed};
+ghost use Rattle.notation.specs.Line.{said_by, said_of, lettered, letter_of};
+
 use crate::fault::Fault;
 use crate::lent::Letter;
 
@@ -14,7 +18,10 @@ pub enum Line<'a> {
 }
 
 impl<'a> Line<'a> {
-    pub fn read(text: &'a [u8]) -> Result<Line<'a>, Fault> {
+    pub fn read(text: &'a [u8]) -> Result<Line<'a>, Fault>
+        ensures said { said_of result ≡ said_by text.now }
+        ensures malformed { IfErr result (λ e. e ≡ Malformed) }
+    {
         match text {
             [] | [b'#', ..] => Ok(Line::Nothing),
             [letter] => Line::lettered(*letter, &[]),
@@ -23,7 +30,10 @@ impl<'a> Line<'a> {
         }
     }
 
-    fn lettered(letter: u8, rest: &'a [u8]) -> Result<Line<'a>, Fault> {
+    fn lettered(letter: u8, rest: &'a [u8]) -> Result<Line<'a>, Fault>
+        ensures said { said_of result ≡ lettered letter rest.now }
+        ensures malformed { IfErr result (λ e. e ≡ Malformed) }
+    {
         if letter == b'+' {
             return Ok(Line::GoesOn(rest));
         }

@@ -1,5 +1,6 @@
 // A reader taken apart into lines.
-ghost use Rattle.std.specs.Prelude.{◌<◌, IfOk, length};
+ghost use Rattle.std.specs.Prelude.{◌≡◌, ◌<◌, [], IfOk, OnOk, take, vec_len, length, true, false, if◌then◌else◌};
+ghost use Rattle.notation.specs.Lines.{ends, begun};
 
 use crate::fault::Fault;
 use std::alloc::Global;
@@ -26,11 +27,15 @@ pub struct Lines<R: Read + Drop> {
     source: BufReader<R>,
     // The line in progress, or the one that the last step ended: at most LINE bytes, so that a longer one shows.
     line: Vec<u8>,
+    // Has the last step ended the line: a state beside it, for the line stays until the next step.
     ended: bool,
 }
 
 impl<R: Read + Drop> Lines<R> {
-    pub fn new(alloc: Global, source: R) -> io::Result<Lines<R>> {
+    pub fn new(alloc: Global, source: R) -> io::Result<Lines<R>>
+        ensures line { IfOk result (λ lines. lines.line.items ≡ []) }
+        ensures ended { IfOk result (λ lines. lines.ended ≡ false) }
+    {
         Ok(Lines {
             source: BufReader::with_capacity(alloc, WINDOW, source)?,
             line: Vec::new(alloc),
@@ -38,8 +43,11 @@ impl<R: Read + Drop> Lines<R> {
         })
     }
 
-    // Goes on to the end of what is read, or of a line.
-    pub fn step(&mut self) -> io::Result<Step> {
+    // Goes on to the end of what is read, or of a line. Which bytes the reader gives is not in the contract, only what stays.
+    pub fn step(&mut self) -> io::Result<Step>
+        ensures ended { IfOk result (λ step. self.new.ended ≡ ends step) }
+        ensures kept { OnOk result (take (length (begun self.old)) self.new.line.items ≡ begun self.old) }
+    {
         if self.ended {
             self.line.clear();
             self.ended = false;
@@ -54,7 +62,10 @@ impl<R: Read + Drop> Lines<R> {
     }
 
     // Takes what is read, up to a line feed.
-    fn take(&mut self) -> io::Result<Step> {
+    fn take(&mut self) -> io::Result<Step>
+        ensures ended { IfOk result (λ step. self.new.ended ≡ (if ends step then true else self.old.ended)) }
+        ensures kept { OnOk result (take (vec_len self.old.line) self.new.line.items ≡ self.old.line.items) }
+    {
         let read = self.source.buffer();
         let feed = read.iter().position(|b| *b == b'\n');
         let size = feed.unwrap_or(read.len());

@@ -136,6 +136,11 @@ pub(crate) static NAMES: [Named; CALLS] = names![
     "offer" 9 Nothing Call::Search(SearchCall::Offer);
 ];
 
+// The name at a place.
+pub(crate) fn name(place: usize) -> &'static str {
+    NAMES.get(place).map_or("", |named| named.name)
+}
+
 // The place of a name.
 pub(crate) fn place(name: &[u8]) -> Option<usize> {
     NAMES.iter().position(|named| named.name.as_bytes() == name)

@@ -1,8 +1,12 @@
 // How a request came out: what its calls gave, compared with its line.
-use crate::answer::Answer;
+ghost use Rattle.std.specs.Prelude.{◌≡◌, IfOk, Ok, is_some, false};
+ghost use Rattle.notation.specs.declared.outcome.Verdict.TheVariants.{Made};
+ghost use Rattle.notation.specs.Outcome.{none_made, taken};
+
+use crate::answer::{Answer, Token};
 use crate::element::holds;
 use crate::fault::Fault;
-use crate::item::{Item, Kind};
+use crate::item::Item;
 use crate::last::Last;
 use crate::lent::Lent;
 use crate::names::Output;
@@ -21,9 +25,10 @@ pub(crate) enum Verdict {
     Made,
 }
 
-// The place of the call's name, and how many calls were made.
+// The call's name and its place, and how many calls were made.
 #[derive(Clone, Copy, Debug)]
 pub struct Outcome {
+    pub name: &'static str,
     pub(crate) place: usize,
     pub(crate) calls: u64,
     pub(crate) verdict: Verdict,
@@ -38,7 +43,9 @@ pub struct Ran {
 
 impl Ran {
     // Before the first call.
-    pub fn new() -> Ran {
+    pub fn new() -> Ran
+        ensures { result ≡ none_made }
+    {
         Ran {
             calls: 0,
             sum: Checksum::new(),
@@ -46,7 +53,9 @@ impl Ran {
     }
 
     // Takes in a call: its answer, and its output.
-    pub fn take(&mut self, output: Output, last: &Last) {
+    pub fn take(&mut self, output: Output, last: &Last)
+        ensures { self.new ≡ taken output last.now self.old }
+    {
         let sum = self.sum.answer(&last.answer);
         self.sum = match output {
             Output::Bytes => sum.bytes(last.bytes.as_slice()),
@@ -57,14 +66,19 @@ impl Ran {
     }
 }
 
-// Compares what was made with the line.
+// Compares what was made with the line. Of the verdict the contract says when there is nothing to compare, and no more.
 pub fn compare(
     alloc: Global,
     reading: &Reading,
     ran: Ran,
     lent: &Lent,
     last: &Last,
-) -> Result<Outcome, Fault> {
+) -> Result<Outcome, Fault>
+    ensures name { IfOk result (λ o. o.name ≡ reading.now.named.name) }
+    ensures place { IfOk result (λ o. o.place ≡ reading.now.place) }
+    ensures calls { IfOk result (λ o. o.calls ≡ ran.calls) }
+    ensures made { is_some reading.now.items.answer ≡ false → IfOk result (λ o. o.verdict ≡ Made) }
+{
     let told = answer_verdict(reading, ran, &last.answer)?;
     let held = match reading.compared() {
         Output::Bytes => holds(
@@ -84,6 +98,7 @@ pub fn compare(
         Output::Nothing => true,
     };
     Ok(Outcome {
+        name: reading.named.name,
         place: reading.place,
         calls: ran.calls,
         verdict: if held { told } else { Verdict::Differs },
@@ -91,7 +106,9 @@ pub fn compare(
 }
 
 // The answer alone.
-fn answer_verdict(reading: &Reading, ran: Ran, answer: &Answer) -> Result<Verdict, Fault> {
+fn answer_verdict(reading: &Reading, ran: Ran, answer: &Answer) -> Result<Verdict, Fault>
+    ensures { is_some reading.now.items.answer ≡ false → result ≡ Ok Made }
+{
     let same = match reading.items.answer() {
         None => return Ok(Verdict::Made),
         Some(told) if reading.items.is_ranged() => is_sum(told, ran)?,
@@ -107,8 +124,8 @@ fn answer_verdict(reading: &Reading, ran: Ran, answer: &Answer) -> Result<Verdic
 // The answer of a range: `#`, the number of calls, and the checksum.
 fn is_sum(told: &[Item], ran: Ran) -> Result<bool, Fault> {
     match told {
-        [calls, sum] if calls.kind == Kind::Calls => {
-            Ok(calls.first == ran.calls && sum.first == ran.sum.value())
+        [Item::Calls(calls), sum] => {
+            Ok(*calls == ran.calls && *sum == Item::from(Token::Number(ran.sum.value())))
         }
         _ => Err(Fault::Malformed),
     }

@@ -1,6 +1,8 @@
-// Lists of bytes and of numbers, written in pieces. A list that is well formed and has more than the room is None.
+// Lists of bytes and of numbers, written in pieces. A well-formed list that has more than the room is None, but for one of `*` whose bytes
+// had no room, which is malformed.
 use crate::fault::Fault;
-use crate::item::{Item, Kind};
+use crate::item::{Item, Role};
+use crate::items::Items;
 use crate::text;
 use std::alloc::{AllocError, Global};
 
@@ -9,7 +11,8 @@ const BYTES_TIMES: u64 = 100000000;
 
 const NUMBER_TIMES: u64 = 1 << 24;
 
-// A list with room for so many, and whether all that came had room.
+// A list with room for so many, and whether all that came had room. `fits` is a state: what comes behind is still read where they had not,
+// since a malformed item refuses the line before the room does.
 #[derive(Drop)]
 struct Bounded<T> {
     list: Vec<T>,
@@ -89,7 +92,8 @@ fn byte_of(pair: &[u8]) -> Option<u8> {
     }
 }
 
-// How often bytes stand that stand N times, besides the first time: N is decimal and at least 1.
+// How often bytes stand that stand N times, besides the first time: N is decimal and at least 1. The conversions here are `as`: to `usize`,
+// which has no `From` of a u64, and to the low 32 bits.
 fn more_times(digits: &[u8]) -> Option<usize> {
     let mut times: u64 = 0;
     for b in digits {
@@ -102,16 +106,34 @@ fn more_times(digits: &[u8]) -> Option<usize> {
 // Of the item `N` the number, of `N*K` the number K times. Of a number the low 32 bits count.
 pub(crate) fn numbers(
     alloc: Global,
-    items: &[Item],
+    items: &Items,
     room: usize,
 ) -> Result<Option<Vec<u32>>, Fault> {
+    if items.answer().is_some() {
+        return Err(Fault::Malformed);
+    }
     let mut numbers = Bounded::new(alloc, room);
-    for item in items {
-        if item.kind != Kind::Number && item.kind != Kind::Times {
-            return Err(Fault::Malformed);
+    for choice in items.choices() {
+        for item in choice.items() {
+            numbers.read_item(*item)?;
         }
-        let n = (item.first & 0xffff_ffff) as u32;
-        numbers.append(&[n], (item.count % NUMBER_TIMES) as usize)?;
     }
     Ok(numbers.finish())
+}
+
+impl Bounded<u32> {
+    fn read_item(&mut self, item: Item) -> Result<(), Fault> {
+        let (number, times) = match item {
+            Item::Numbers {
+                role: Role::Argument,
+                first,
+                count,
+            } => (first, count),
+            Item::Times { number, times } => (number, times),
+            _ => return Err(Fault::Malformed),
+        };
+        let n = (number & 0xffff_ffff) as u32;
+        self.append(&[n], (times % NUMBER_TIMES) as usize)?;
+        Ok(())
+    }
 }

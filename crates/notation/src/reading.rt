@@ -1,4 +1,8 @@
 // A request's line, taken apart.
+ghost use Rattle.std.specs.Prelude.{◌≡◌, IfOk, IsSome, is_some, false};
+ghost use Rattle.notation.specs.Items.{plain_of};
+ghost use Rattle.notation.specs.declared.names.Output.TheVariants.{Nothing};
+
 use crate::answer::Answer;
 use crate::arguments::Arguments;
 use crate::fault::Fault;
@@ -18,8 +22,10 @@ pub struct Reading<'a> {
 }
 
 impl<'a> Reading<'a> {
-    // `last` is the answer of the last call.
-    pub fn read(alloc: Global, line: &'a [u8], last: &Answer) -> Result<Reading<'a>, Fault> {
+    // `last` is the answer of the last call. Of the parsing the contract says the number of arguments alone: the rest is not proved.
+    pub fn read(alloc: Global, line: &'a [u8], last: &Answer) -> Result<Reading<'a>, Fault>
+        ensures { IfOk result (λ r. plain_of r.items ≡ r.named.arguments) }
+    {
         let bar = line.iter().position(|b| *b == b'|');
         let (head, after) = cut(line, bar);
         let (name, rest) = text::split_once(head, b' ').unwrap_or((head, &[]));
@@ -40,7 +46,9 @@ impl<'a> Reading<'a> {
     }
 
     // The output that is compared: that of a single call with an answer. A range has it in its checksum.
-    pub(crate) fn compared(&self) -> Output {
+    pub(crate) fn compared(&self) -> Output
+        ensures { is_some self.now.items.answer ≡ false → result ≡ Nothing }
+    {
         if self.items.answer().is_some() && !self.items.is_ranged() {
             self.named.output
         } else {
@@ -48,8 +56,10 @@ impl<'a> Reading<'a> {
         }
     }
 
-    // The arguments of call t of the request, None after its last one.
-    pub fn choice(&self, t: u64, sizes: Sizes) -> Option<Arguments> {
+    // The arguments of call t of the request, None after its last one. The contract says that there is a first one, and no more.
+    pub fn choice(&self, t: u64, sizes: Sizes) -> Option<Arguments>
+        ensures { t ≡ 0 → IsSome result }
+    {
         self.items.choice(t, sizes)
     }
 }

@@ -1,21 +1,27 @@
 // How many requests of each call were made, how many calls they are, and how many requests differ; and what is printed.
-use crate::answer::Answer;
-use crate::names::{CALLS, NAMES};
-use crate::outcome::{Outcome, Verdict};
-use std::{fmt, io};
+ghost use Rattle.std.specs.Prelude.{◌≡◌, slice_get};
+ghost use Rattle.notation.specs.Tally.{begun, line_counted, malformed_counted, wrong_counted, shows};
+ghost use Rattle.notation.specs.Tally.{added, row_added, request_added, counted, is_printed};
 
-// At most this many lines are printed.
+use crate::names;
+use crate::names::CALLS;
+use crate::outcome::{Outcome, Verdict};
+use std::{array, fmt};
+
+// At most this many wrong lines are printed.
 const SHOWN: u64 = 20;
 
-#[derive(Clone, Copy, Debug)]
-struct Count {
+#[derive(Clone, Copy, Debug, Default)]
+pub(crate) struct Count {
     requests: u64,
     calls: u64,
     differing: u64,
 }
 
 impl Count {
-    fn add(&mut self, calls: u64, verdict: Verdict) {
+    fn add(&mut self, calls: u64, verdict: Verdict)
+        ensures { self.new ≡ added self.old calls verdict }
+    {
         self.requests = self.requests.saturating_add(1);
         self.calls = self.calls.saturating_add(calls);
         if verdict == Verdict::Differs {
@@ -35,29 +41,32 @@ impl fmt::Display for Count {
     }
 }
 
-const NONE: Count = Count {
-    requests: 0,
-    calls: 0,
-    differing: 0,
-};
+// A call's name, and its requests.
+#[derive(Clone, Copy, Debug)]
+pub(crate) struct Row {
+    name: &'static str,
+    count: Count,
+}
 
-// The requests of each call, by the place of its name, and of all; those with no answer; the lines so far, the malformed ones, and those
-// that differ or are malformed.
+// A row for each call, in the order of the names; the requests of all; those with no answer; the lines so far, the malformed ones, and
+// those that differ or are malformed.
 #[derive(Drop)]
 pub struct Tally {
-    calls: [Count; CALLS],
-    total: Count,
-    made: u64,
-    lines: u64,
-    malformed: u64,
-    wrong: u64,
+    pub(crate) rows: [Row; CALLS],
+    pub(crate) total: Count,
+    pub(crate) made: u64,
+    pub(crate) lines: u64,
+    pub(crate) malformed: u64,
+    pub(crate) wrong: u64,
 }
 
 impl Tally {
-    pub fn new() -> Tally {
+    pub fn new() -> Tally
+        ensures { result ≡ begun result }
+    {
         Tally {
-            calls: [NONE; CALLS],
-            total: NONE,
+            rows: rows(),
+            total: Count::default(),
             made: 0,
             lines: 0,
             malformed: 0,
@@ -65,55 +74,86 @@ impl Tally {
         }
     }
 
-    pub fn count_line(&mut self) {
+    // Counts a line. Returns its number.
+    pub fn count_line(&mut self) -> u64
+        ensures after { self.new ≡ line_counted self.old }
+        ensures number { result ≡ self.new.lines }
+    {
         self.lines = self.lines.saturating_add(1);
+        self.lines
     }
 
-    // Whether a line that is wrong is among the first, which are printed.
-    fn shows(&mut self) -> bool {
+    // Counts a malformed line. Returns whether it is to be printed.
+    pub fn count_malformed(&mut self) -> bool
+        ensures after { self.new ≡ malformed_counted self.old }
+        ensures printed { result ≡ shows self.old }
+    {
+        self.malformed = self.malformed.saturating_add(1);
+        self.count_wrong()
+    }
+
+    // Counts a request. Returns whether it is to be printed: it differs, and is among the first lines that are wrong.
+    pub fn count(&mut self, outcome: Outcome) -> bool
+        ensures after { self.new ≡ counted self.old outcome }
+        ensures printed { result ≡ is_printed self.old outcome.verdict }
+    {
+        self.add(outcome);
+        match outcome.verdict {
+            Verdict::Same => false,
+            Verdict::Differs => self.count_wrong(),
+            Verdict::Made => {
+                self.made = self.made.saturating_add(1);
+                false
+            }
+        }
+    }
+
+    // Counts a request in its row and in the total.
+    fn add(&mut self, outcome: Outcome)
+        ensures { self.new ≡ request_added self.old outcome }
+    {
+        self.total.add(outcome.calls, outcome.verdict);
+        add_row(&mut self.rows, outcome);
+    }
+
+    // Counts a line that is wrong. Returns whether it is among the first, which are printed.
+    fn count_wrong(&mut self) -> bool
+        ensures after { self.new ≡ wrong_counted self.old }
+        ensures printed { result ≡ shows self.old }
+    {
         let shows = self.wrong < SHOWN;
         self.wrong = self.wrong.saturating_add(1);
         shows
     }
+}
 
-    // Counts a malformed line.
-    pub fn count_malformed(&mut self, rt: &impl Print) -> io::Result<()> {
-        self.malformed = self.malformed.saturating_add(1);
-        if self.shows() {
-            let line = self.lines;
-            println!(rt; "line {line} is malformed")?;
-        }
-        Ok(())
+// A row for each name, with no request. Not `NAMES.map(..)`: its check needs more than 4 GiB of memory.
+fn rows() -> [Row; CALLS] {
+    array::from_fn(|place| Row {
+        name: names::name(place),
+        count: Count::default(),
+    })
+}
+
+// Counts a request in the row of its call. By an index: what a slice holds after a write through its `get_mut` has no clause in std.
+fn add_row(rows: &mut [Row], outcome: Outcome)
+    ensures { rows.new ≡ row_added rows.old (slice_get rows.old outcome.place) outcome }
+{
+    let place = outcome.place;
+    if place < rows.len() {
+        let mut row = rows[place];
+        row.count.add(outcome.calls, outcome.verdict);
+        rows[place] = row;
     }
+}
 
-    // Counts a request. One that differs is printed with what its last call gave.
-    pub fn count(&mut self, rt: &impl Print, outcome: Outcome, gave: &Answer) -> io::Result<()> {
-        let Outcome {
-            place,
-            calls,
-            verdict,
-        } = outcome;
-        self.total.add(calls, verdict);
-        if let Some(count) = self.calls.get_mut(place) {
-            count.add(calls, verdict);
-        }
-        if verdict == Verdict::Made {
-            self.made = self.made.saturating_add(1);
-        }
-        if verdict == Verdict::Differs && self.shows() {
-            let line = self.lines;
-            let name = NAMES.get(place).map_or("", |named| named.name);
-            println!(rt; "line {line} differs: {name} gave{gave}")?;
-        }
-        Ok(())
-    }
-
-    // A line for each call that was requested, and the totals.
-    pub fn print(&self, rt: &impl Print) -> io::Result<()> {
-        for (named, count) in NAMES.iter().zip(&self.calls) {
+// A line for each call that was requested, and the totals.
+impl fmt::Display for Tally {
+    fn fmt<W: fmt::Write>(&self, f: &mut fmt::Formatter<W>) -> fmt::Result {
+        for row in &self.rows {
+            let Row { name, count } = *row;
             if 0 < count.requests {
-                let name = named.name;
-                println!(rt; "{name}: {count}")?;
+                writeln!(f, "{name}: {count}")?;
             }
         }
         let Tally {
@@ -122,8 +162,8 @@ impl Tally {
             malformed,
             ..
         } = self;
-        println!(rt; "total: {total}")?;
-        println!(rt; "requests with no answer: {made}")?;
-        println!(rt; "malformed lines: {malformed}")
+        writeln!(f, "total: {total}")?;
+        writeln!(f, "requests with no answer: {made}")?;
+        write!(f, "malformed lines: {malformed}")
     }
 }

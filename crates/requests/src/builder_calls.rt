@@ -3,64 +3,80 @@ ghost use Rattle.std.specs.Prelude.{◌≡◌};
 ghost use Rattle.masks.specs.Appends.{change_answer, append_answer, append_bytes, push_flag};
 ghost use Rattle.masks.specs.Refusal.{failure_of};
 
-use crate::tell::Tell;
+use crate::tell::{Tell, Told};
 use crate::{tell, values};
 use masks::builder::BitmapBuilder;
 use masks::refusal::Refusal;
 use notation::answer::Answer;
 use notation::arguments::{Arguments, Serial};
 use notation::call::{BuilderCall, ExtendCall, GatherCall};
+use std::alloc::Global;
 
-pub(crate) fn answer(call: BuilderCall, a: &Arguments, buf: &mut [u8]) -> Answer {
+pub(crate) fn answer(alloc: Global, call: BuilderCall, a: &Arguments, buf: &mut [u8]) -> Told {
     let b = values::builder(a);
     match call {
-        BuilderCall::Push => tell::answer_back(b.push(buf, a.flag(3))),
-        BuilderCall::PushMut => left(push_lent(b, buf, a.flag(3))),
+        BuilderCall::Push => tell::answer_back(alloc, b.push(buf, a.flag(3))),
+        BuilderCall::PushMut => left(alloc, push_lent(b, buf, a.flag(3))),
         BuilderCall::PushWord => {
-            tell::answer_back(b.push_word_with_len_unchecked(buf, a.word(3), a.size(4)))
+            tell::answer_back(
+                alloc,
+                b.push_word_with_len_unchecked(buf, a.word(3), a.size(4)),
+            )
         }
-        BuilderCall::ExtendConstant => tell::answer_back(b.extend_constant(
-            buf,
-            a.size(3),
-            a.flag(4),
-        )),
-        BuilderCall::Freeze => tell::answer_back(b.freeze(buf)),
-        BuilderCall::IntoOptValidity => tell::answer_back(b.into_opt_validity(buf)),
+        BuilderCall::ExtendConstant => tell::answer_back(
+            alloc,
+            b.extend_constant(buf, a.size(3), a.flag(4)),
+        ),
+        BuilderCall::Freeze => tell::answer_back(alloc, b.freeze(buf)),
+        BuilderCall::IntoOptValidity => tell::answer_back(alloc, b.into_opt_validity(buf)),
     }
 }
 
 // Appends that read x.
-pub(crate) fn extending(call: ExtendCall, a: &Arguments, x: &[u8], buf: &mut [u8]) -> Answer {
+pub(crate) fn extending(
+    alloc: Global,
+    call: ExtendCall,
+    a: &Arguments,
+    x: &[u8],
+    buf: &mut [u8],
+) -> Told {
     let b = values::builder(a);
     let start = a.size(3);
     let n = a.size(4);
-    tell::answer_back(match call {
-        ExtendCall::FromSlice => b.extend_from_slice(buf, x, start, n),
-        ExtendCall::EachRepeated => {
-            b.extend_each_repeated_from_slice_unchecked(buf, x, start, n, a.size(5))
-        }
-        ExtendCall::FromBitmap => {
-            let mask = values::mask(a, 3, Serial::Second);
-            b.subslice_extend_from_bitmap(buf, mask, x, a.size(6), a.size(7))
-        }
-    })
+    tell::answer_back(
+        alloc,
+        match call {
+            ExtendCall::FromSlice => b.extend_from_slice(buf, x, start, n),
+            ExtendCall::EachRepeated => {
+                b.extend_each_repeated_from_slice_unchecked(buf, x, start, n, a.size(5))
+            }
+            ExtendCall::FromBitmap => {
+                let mask = values::mask(a, 3, Serial::Second);
+                b.subslice_extend_from_bitmap(buf, mask, x, a.size(6), a.size(7))
+            }
+        },
+    )
 }
 
 // Appends that read x at indices.
 pub(crate) fn gathering(
+    alloc: Global,
     call: GatherCall,
     a: &Arguments,
     x: &[u8],
     idxs: &[u32],
     buf: &mut [u8],
-) -> Answer {
+) -> Told {
     let b = values::builder(a);
     let start = a.size(3);
     let n = a.size(4);
-    tell::answer_back(match call {
-        GatherCall::FromSlice => b.gather_extend_from_slice(buf, x, start, n, idxs),
-        GatherCall::OptFromSlice => b.opt_gather_extend_from_slice(buf, x, start, n, idxs),
-    })
+    tell::answer_back(
+        alloc,
+        match call {
+            GatherCall::FromSlice => b.gather_extend_from_slice(buf, x, start, n, idxs),
+            GatherCall::OptFromSlice => b.opt_gather_extend_from_slice(buf, x, start, n, idxs),
+        },
+    )
 }
 
 // The record that push_mut left, and its answer.
@@ -83,9 +99,9 @@ fn push_lent(b: BitmapBuilder, buf: &mut [u8], flag: bool) -> Lent
     }
 }
 
-fn left(r: Lent) -> Answer {
+fn left(alloc: Global, r: Lent) -> Told {
     match r.answer {
-        Ok(()) => r.builder.tell(Answer::new(0)),
-        Err(refusal) => r.builder.tell(Answer::new(refusal.into())),
+        Ok(()) => tell::given(alloc, r.builder),
+        Err(refusal) => r.builder.tell(Answer::new(alloc, refusal.into())?),
     }
 }

@@ -1,46 +1,56 @@
-// Makes a call: each group of calls is lent what it reads and writes.
+// Makes a call: each group of calls is lent what it reads and writes. A `match` on the call stands in each of these modules: each arm names
+// another function, mostly of other parameters and another answer, and a table of those alike would hold function pointers.
+use crate::tell::Told;
 use crate::{builder_calls, cursor_calls, mask_calls, minute_calls, span_calls, words_calls};
-use notation::answer::Answer;
 use notation::arguments::Arguments;
 use notation::call::{Call, ListCall};
+use notation::last;
 use notation::last::Last;
 use notation::lent::Parts;
+use std::alloc::Global;
 
-pub(crate) fn answer(call: Call, a: &Arguments, lent: Parts<'_>, last: &mut Last) -> Answer {
-    let Parts { x, y, z, i } = lent;
-    let out = a.sizes.o;
+pub(crate) fn answer(
+    alloc: Global,
+    call: Call,
+    a: &Arguments,
+    lent: Parts<'_>,
+    last: &mut Last,
+) -> Told {
+    let Parts { x, y, z, i, .. } = lent;
+    let out = last::first_mut(&mut last.bytes, a.sizes.o);
+    let numbers = last::first_mut(&mut last.numbers, a.sizes.i);
     match call {
-        Call::Word(call) => words_calls::plain(call, a),
-        Call::Flags(call) => words_calls::counting(call, a),
-        Call::Operation(call) => words_calls::operation(call, a),
-        Call::Load(call) => words_calls::reading(call, a, x),
-        Call::Zip(call) => words_calls::comparing(call, a, x, y, z),
-        Call::Span(call) => span_calls::answer(call, a, x),
-        Call::Count(call) => span_calls::counting(call, a, x),
-        Call::Chunks(call) => span_calls::chunks(call, a, x),
-        Call::Mask(call) => mask_calls::answer(call, a, x),
-        Call::Pair(call) => mask_calls::comparing(call, a, x, y),
-        Call::Superseding(call) => mask_calls::choosing(call, a, x, y),
-        Call::Cursor(call) => cursor_calls::answer(call, a, x),
-        Call::Bits(call) => cursor_calls::flags(call, a, x),
-        Call::Search(call) => mask_calls::searching(call, a, x, y),
-        Call::Store(call) => words_calls::writing(call, a, x, last.first_bytes(out)),
-        Call::Combine => words_calls::combining(a, x, y, z, last.first_bytes(out)),
-        Call::Builder(call) => builder_calls::answer(call, a, last.first_bytes(out)),
-        Call::NewZeroed => mask_calls::zeroed(a, last.first_bytes(out)),
-        Call::Extend(call) => builder_calls::extending(call, a, x, last.first_bytes(out)),
-        Call::Merge(call) => mask_calls::combining(call, a, x, y, last.first_bytes(out)),
-        Call::Select(call) => mask_calls::selecting(call, a, x, y, z, last.first_bytes(out)),
-        Call::Gather(call) => builder_calls::gathering(call, a, x, i, last.first_bytes(out)),
-        Call::Minutes(call) => minute_calls::answer(call, a, last.first_bytes(out)),
-        Call::List(call) => listing(call, a, x, last.first_numbers(a.sizes.i)),
+        Call::Word(call) => words_calls::plain(alloc, call, a),
+        Call::Flags(call) => words_calls::counting(alloc, call, a),
+        Call::Operation(call) => words_calls::operation(alloc, call, a),
+        Call::Load(call) => words_calls::reading(alloc, call, a, x),
+        Call::Zip(call) => words_calls::comparing(alloc, call, a, x, y, z),
+        Call::Span(call) => span_calls::answer(alloc, call, a, x),
+        Call::Count(call) => span_calls::counting(alloc, call, a, x),
+        Call::Chunks(call) => span_calls::chunks(alloc, call, a, x),
+        Call::Mask(call) => mask_calls::answer(alloc, call, a, x),
+        Call::Pair(call) => mask_calls::comparing(alloc, call, a, x, y),
+        Call::Superseding(call) => mask_calls::choosing(alloc, call, a, x, y),
+        Call::Cursor(call) => cursor_calls::answer(alloc, call, a, x),
+        Call::Bits(call) => cursor_calls::flags(alloc, call, a, x),
+        Call::Search(call) => mask_calls::searching(alloc, call, a, x, y),
+        Call::Store(call) => words_calls::writing(alloc, call, a, x, out),
+        Call::Combine => words_calls::combining(alloc, a, x, y, z, out),
+        Call::Builder(call) => builder_calls::answer(alloc, call, a, out),
+        Call::NewZeroed => mask_calls::zeroed(alloc, a, out),
+        Call::Extend(call) => builder_calls::extending(alloc, call, a, x, out),
+        Call::Merge(call) => mask_calls::combining(alloc, call, a, x, y, out),
+        Call::Select(call) => mask_calls::selecting(alloc, call, a, x, y, z, out),
+        Call::Gather(call) => builder_calls::gathering(alloc, call, a, x, i, out),
+        Call::Minutes(call) => minute_calls::answer(alloc, call, a, out),
+        Call::List(call) => listing(alloc, call, a, x, numbers),
     }
 }
 
 // The calls that write numbers.
-fn listing(call: ListCall, a: &Arguments, x: &[u8], numbers: &mut [u32]) -> Answer {
+fn listing(alloc: Global, call: ListCall, a: &Arguments, x: &[u8], numbers: &mut [u32]) -> Told {
     match call {
-        ListCall::NextChunk => cursor_calls::chunk(a, x, numbers),
-        ListCall::Counts => minute_calls::counts(a, x, numbers),
+        ListCall::NextChunk => cursor_calls::chunk(alloc, a, x, numbers),
+        ListCall::Counts => minute_calls::counts(alloc, a, x, numbers),
     }
 }

@@ -1,27 +1,27 @@
 // The calls of the mask: makers, slices, combinations, comparisons.
-use crate::tell::Tell;
+use crate::tell::Told;
 use crate::{tell, values};
 use dispatch::dispatch::may_reassign;
-use dispatch::offer::{NoOffer, Offering, offer};
+use dispatch::offer::offer;
 use masks::at_index::and_not_at;
 use masks::bitmap::Bitmap;
 use masks::builder::BitmapBuilder;
 use masks::next_and_not::next_and_not;
 use masks::{bitmap_ops, compare, superseding};
-use notation::answer::Answer;
 use notation::arguments::{Arguments, Serial};
 use notation::call::{MaskCall, MergeCall, PairCall, SearchCall, SelectCall, SupersedingCall};
 use notation::sums::Checksum;
+use std::alloc::Global;
 
-pub(crate) fn answer(call: MaskCall, a: &Arguments, x: &[u8]) -> Answer {
+pub(crate) fn answer(alloc: Global, call: MaskCall, a: &Arguments, x: &[u8]) -> Told {
     let m = first(a);
     match call {
-        MaskCall::NewBuilder => BitmapBuilder::new().tell(Answer::new(0)),
-        MaskCall::New => Bitmap::new().tell(Answer::new(0)),
-        MaskCall::TryNew => tell::answer(Bitmap::try_new(x, a.size(0), a.size(1))),
-        MaskCall::Slice => tell::answer_back(m.slice(x, a.size(3), a.size(4))),
-        MaskCall::UnsetBits => tell::answer_back(m.unset_bits(x)),
-        MaskCall::NumEdges => tell::answer(compare::num_edges(m, x)),
+        MaskCall::NewBuilder => tell::given(alloc, BitmapBuilder::new()),
+        MaskCall::New => tell::given(alloc, Bitmap::new()),
+        MaskCall::TryNew => tell::answer(alloc, Bitmap::try_new(x, a.size(0), a.size(1))),
+        MaskCall::Slice => tell::answer_back(alloc, m.slice(x, a.size(3), a.size(4))),
+        MaskCall::UnsetBits => tell::answer_back(alloc, m.unset_bits(x)),
+        MaskCall::NumEdges => tell::answer(alloc, compare::num_edges(m, x)),
     }
 }
 
@@ -33,103 +33,119 @@ fn second(a: &Arguments) -> Bitmap {
     values::mask(a, 3, Serial::Second)
 }
 
-pub(crate) fn zeroed(a: &Arguments, out: &mut [u8]) -> Answer {
-    tell::answer(Bitmap::new_zeroed(a.size(0), out))
+pub(crate) fn zeroed(alloc: Global, a: &Arguments, out: &mut [u8]) -> Told {
+    tell::answer(alloc, Bitmap::new_zeroed(a.size(0), out))
 }
 
-pub(crate) fn comparing(call: PairCall, a: &Arguments, x: &[u8], y: &[u8]) -> Answer {
+pub(crate) fn comparing(alloc: Global, call: PairCall, a: &Arguments, x: &[u8], y: &[u8]) -> Told {
     let one = values::optional(a, 0, Serial::First);
     let other = values::optional(a, 4, Serial::Second);
     let index = a.size(8);
     match call {
-        PairCall::Eq => tell::answer(compare::eq(first(a), x, second(a), y)),
+        PairCall::Eq => tell::answer(alloc, compare::eq(first(a), x, second(a), y)),
         PairCall::NumIntersectionsWith => {
-            tell::answer(compare::num_intersections_with(first(a), x, second(a), y))
+            tell::answer(
+                alloc,
+                compare::num_intersections_with(first(a), x, second(a), y),
+            )
         }
-        PairCall::AndNotAt => tell::answer(and_not_at(one, x, other, y, index)),
-        PairCall::MayReassign => tell::answer(may_reassign(one, x, other, y, index)),
+        PairCall::AndNotAt => tell::answer(alloc, and_not_at(one, x, other, y, index)),
+        PairCall::MayReassign => tell::answer(alloc, may_reassign(one, x, other, y, index)),
     }
 }
 
 // The bytes are answered by their number and their checksum.
 pub(crate) fn choosing<'a>(
+    alloc: Global,
     call: SupersedingCall,
     a: &Arguments,
     x: &'a [u8],
     y: &'a [u8],
-) -> Answer {
+) -> Told {
     let one = first(a);
     let other = second(a);
     match call {
-        SupersedingCall::Part => tell::answer(superseding::superseding_part(one, x, other, y)),
-        SupersedingCall::Mask => tell::answer(superseding::superseding(one, x, other, y)),
-        SupersedingCall::Bytes => lent_part(superseding::superseding_bytes(one, x, other, y)),
+        SupersedingCall::Part => tell::answer(
+            alloc,
+            superseding::superseding_part(one, x, other, y),
+        ),
+        SupersedingCall::Mask => tell::answer(alloc, superseding::superseding(one, x, other, y)),
+        SupersedingCall::Bytes => lent_part(
+            alloc,
+            superseding::superseding_bytes(one, x, other, y),
+        ),
     }
 }
 
-fn lent_part(part: &[u8]) -> Answer {
+fn lent_part(alloc: Global, part: &[u8]) -> Told {
     let sum = Checksum::new().bytes(part);
-    Answer::new(0).and(part.len()).and(sum.value())
+    tell::given(alloc, (part.len(), sum.value()))
 }
 
-pub(crate) fn searching(call: SearchCall, a: &Arguments, x: &[u8], y: &[u8]) -> Answer {
+pub(crate) fn searching(
+    alloc: Global,
+    call: SearchCall,
+    a: &Arguments,
+    x: &[u8],
+    y: &[u8],
+) -> Told {
     match call {
         SearchCall::NextAndNot => {
             let other = values::optional(a, 3, Serial::Second);
-            tell::answer(next_and_not(first(a), x, other, y, a.size(7)))
+            tell::answer(alloc, next_and_not(first(a), x, other, y, a.size(7)))
         }
         SearchCall::Offer => {
             let one = values::optional(a, 0, Serial::First);
             let other = values::optional(a, 4, Serial::Second);
-            offered(offer(one, x, other, y, a.size(8)))
+            tell::offered(alloc, offer(one, x, other, y, a.size(8)))
         }
     }
 }
 
 pub(crate) fn combining(
+    alloc: Global,
     call: MergeCall,
     a: &Arguments,
     x: &[u8],
     y: &[u8],
     out: &mut [u8],
-) -> Answer {
+) -> Told {
     let lhs = first(a);
     let rhs = second(a);
-    tell::answer(match call {
-        MergeCall::And => bitmap_ops::and(lhs, x, rhs, y, out),
-        MergeCall::AndNot => bitmap_ops::and_not(lhs, x, rhs, y, out),
-        MergeCall::Or => bitmap_ops::or(lhs, x, rhs, y, out),
-        MergeCall::OrNot => bitmap_ops::or_not(lhs, x, rhs, y, out),
-        MergeCall::Xor => bitmap_ops::xor(lhs, x, rhs, y, out),
-    })
+    tell::answer(
+        alloc,
+        match call {
+            MergeCall::And => bitmap_ops::and(lhs, x, rhs, y, out),
+            MergeCall::AndNot => bitmap_ops::and_not(lhs, x, rhs, y, out),
+            MergeCall::Or => bitmap_ops::or(lhs, x, rhs, y, out),
+            MergeCall::OrNot => bitmap_ops::or_not(lhs, x, rhs, y, out),
+            MergeCall::Xor => bitmap_ops::xor(lhs, x, rhs, y, out),
+        },
+    )
 }
 
 pub(crate) fn selecting(
+    alloc: Global,
     call: SelectCall,
     a: &Arguments,
     x: &[u8],
     y: &[u8],
     z: &[u8],
     out: &mut [u8],
-) -> Answer {
+) -> Told {
     let one = first(a);
     let other = second(a);
-    tell::answer(match call {
-        SelectCall::Not => bitmap_ops::not(one, x, out),
-        SelectCall::Select => {
-            let third = values::mask(a, 6, Serial::Third);
-            bitmap_ops::select(one, x, other, y, third, z, out)
-        }
-        SelectCall::SelectConstant => {
-            bitmap_ops::select_constant(one, x, other, y, a.flag(6), out)
-        }
-    })
-}
-
-// A refused offer has the round's cursor, and no other record.
-fn offered(r: Result<Offering, NoOffer>) -> Answer {
-    match r {
-        Ok(offering) => offering.tell(Answer::new(0)),
-        Err(none) => Answer::new(none.refusal.into()).and(none.cursor),
-    }
+    tell::answer(
+        alloc,
+        match call {
+            SelectCall::Not => bitmap_ops::not(one, x, out),
+            SelectCall::Select => {
+                let third = values::mask(a, 6, Serial::Third);
+                bitmap_ops::select(one, x, other, y, third, z, out)
+            }
+            SelectCall::SelectConstant => {
+                bitmap_ops::select_constant(one, x, other, y, a.flag(6), out)
+            }
+        },
+    )
 }

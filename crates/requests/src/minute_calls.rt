@@ -2,68 +2,67 @@
 //
 // The arrays of a window lie in bytes, little-endian: its 256 words, then its 64 counts, 2,304 bytes. Its place, its fill and its width
 // are the first three arguments, and stand last in an answer.
+use crate::tell::{Tell, Told};
 use activity::window::ActivityWindow;
 use notation::answer::Answer;
 use notation::arguments::Arguments;
 use notation::call::MinutesCall;
+use std::alloc::Global;
 use words::word;
 
 // Where the counts begin.
 const COUNTS: usize = 2048;
 
 // Calls that write a window.
-pub(crate) fn answer(call: MinutesCall, a: &Arguments, out: &mut [u8]) -> Answer {
+pub(crate) fn answer(alloc: Global, call: MinutesCall, a: &Arguments, out: &mut [u8]) -> Told {
     match call {
-        MinutesCall::New => made(a.size(0), out),
-        MinutesCall::PushMinute => minutes(a, 1, out),
-        MinutesCall::PushMinutes => minutes(a, a.word(5) % 65536, out),
+        MinutesCall::New => made(alloc, a.size(0), out),
+        MinutesCall::PushMinute => minutes(alloc, a, 1, out),
+        MinutesCall::PushMinutes => minutes(alloc, a, a.word(5) % 65536, out),
     }
 }
 
 // The counts of the window whose arrays are x, as numbers.
-pub(crate) fn counts(a: &Arguments, x: &[u8], numbers: &mut [u32]) -> Answer {
-    let (number, counts) = match window(a, x).counts() {
+pub(crate) fn counts(alloc: Global, a: &Arguments, x: &[u8], numbers: &mut [u32]) -> Told {
+    let (number, counts) = match window_of(a, x).counts() {
         Ok(counts) => (0, counts),
         Err(refused) => (u8::from(refused), [0; 64]),
     };
     for (number, count) in numbers.iter_mut().zip(counts) {
         *number = count;
     }
-    Answer::new(number)
+    Answer::new(alloc, number)
 }
 
 // A new window. Where it is refused, one of zeros is written.
-fn made(width: usize, out: &mut [u8]) -> Answer {
+fn made(alloc: Global, width: usize, out: &mut [u8]) -> Told {
     match ActivityWindow::new(width) {
-        Ok(window) => left(0, window, out),
-        Err(refused) => {
-            let none = ActivityWindow {
-                words: [0; 256],
-                counts: [0; 64],
-                place: 0,
-                fill: 0,
-                width: 0,
-            };
-            left(u8::from(refused), none, out)
-        }
+        Ok(window) => left(alloc, 0, window, out),
+        Err(refused) => left(alloc, refused.into(), window(&[], 0, 0, 0), out),
     }
 }
 
-// A run of minutes: each word is a step more than the one before it. After a refusal no minute is pushed.
-fn minutes(a: &Arguments, many: u64, out: &mut [u8]) -> Answer {
+// A run of minutes, so many: each word is a step more than the one before it. After a refusal no minute is pushed.
+fn minutes(alloc: Global, a: &Arguments, many: u64, out: &mut [u8]) -> Told {
     let mut word = a.word(3);
-    let mut now = window(a, out);
+    let mut now = window_of(a, out);
     for _ in 0..many {
         match now.push_minute(word) {
             Ok(next) => now = next,
-            Err(refused) => return left(u8::from(refused), now, out),
+            Err(refused) => return left(alloc, refused.into(), now, out),
         }
         word = word.wrapping_add(a.word(4));
     }
-    left(0, now, out)
+    left(alloc, 0, now, out)
 }
 
-fn window(a: &Arguments, bytes: &[u8]) -> ActivityWindow {
+// The window whose arrays are these bytes.
+fn window_of(a: &Arguments, bytes: &[u8]) -> ActivityWindow {
+    window(bytes, a.size(0), a.size(1), a.size(2))
+}
+
+// Past the bytes its arrays are zeros.
+fn window(bytes: &[u8], place: usize, fill: usize, width: usize) -> ActivityWindow {
     let mut words = [0; 256];
     for (word, part) in words.iter_mut().zip(bytes.chunks(8)) {
         *word = word::load_padded_le_u64(part);
@@ -71,19 +70,19 @@ fn window(a: &Arguments, bytes: &[u8]) -> ActivityWindow {
     let mut counts = [0; 64];
     let rest = bytes.get(COUNTS..).unwrap_or(&[]);
     for (count, part) in counts.iter_mut().zip(rest.chunks(4)) {
-        *count = (word::load_padded_le_u64(part) & 0xffff_ffff) as u32;
+        *count = (word::load_padded_le_u64(part) & 0xffff_ffff) as u32; // 32 bits of a word, which has no `From`
     }
     ActivityWindow {
         words,
         counts,
-        place: a.size(0),
-        fill: a.size(1),
-        width: a.size(2),
+        place,
+        fill,
+        width,
     }
 }
 
 // The arrays of a window that a call gave are written.
-fn left(number: u8, window: ActivityWindow, out: &mut [u8]) -> Answer {
+fn left(alloc: Global, number: u8, window: ActivityWindow, out: &mut [u8]) -> Told {
     for (part, word) in out.chunks_mut(8).zip(window.words) {
         word::store_le_u64(part, word);
     }
@@ -92,8 +91,5 @@ fn left(number: u8, window: ActivityWindow, out: &mut [u8]) -> Answer {
     for (part, count) in rest.chunks_mut(4).zip(window.counts) {
         word::store_le_u64(part, u64::from(count));
     }
-    Answer::new(number)
-        .and(window.place)
-        .and(window.fill)
-        .and(window.width)
+    (window.place, window.fill, window.width).tell(Answer::new(alloc, number)?)
 }

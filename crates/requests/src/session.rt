@@ -31,17 +31,35 @@ impl Session {
 
     // Takes a line, and counts how it came out.
     pub(crate) fn line(&mut self, rt: &impl Print, text: Result<&[u8], Fault>) -> io::Result<()> {
-        self.tally.count_line();
+        let line = self.tally.count_line();
         match self.take(text) {
             Ok(None) => Ok(()),
-            Ok(Some(outcome)) => self.tally.count(rt, outcome, &self.last.answer),
-            Err(Fault::Malformed) => self.tally.count_malformed(rt),
+            Ok(Some(outcome)) => self.count(rt, line, outcome),
+            Err(Fault::Malformed) => self.count_malformed(rt, line),
             Err(Fault::Failed(e)) => Err(e),
         }
     }
 
+    // A request that differs is printed with what its last call gave.
+    fn count(&mut self, rt: &impl Print, line: u64, outcome: Outcome) -> io::Result<()> {
+        if self.tally.count(outcome) {
+            let name = outcome.name;
+            let gave = &self.last.answer;
+            println!(rt; "line {line} differs: {name} gave{gave}")?;
+        }
+        Ok(())
+    }
+
+    fn count_malformed(&mut self, rt: &impl Print, line: u64) -> io::Result<()> {
+        if self.tally.count_malformed() {
+            println!(rt; "line {line} is malformed")?;
+        }
+        Ok(())
+    }
+
     pub(crate) fn print(&self, rt: &impl Print) -> io::Result<()> {
-        self.tally.print(rt)
+        let tally = &self.tally;
+        println!(rt; "{tally}")
     }
 
     // What a line lends is kept. Returns how its request came out, if it has one.
@@ -77,8 +95,8 @@ impl Session {
             };
             self.last.restore(output, &self.lent)?;
             let parts = self.lent.parts(arguments.sizes);
-            let answer = calls::answer(reading.named.call, &arguments, parts, &mut self.last);
-            self.last.answer = answer;
+            let call = reading.named.call;
+            self.last.answer = calls::answer(self.alloc, call, &arguments, parts, &mut self.last)?;
             ran.take(output, &self.last);
         }
         Ok(ran)

@@ -13,55 +13,61 @@ use masks::slice_iterator::{Run, SlicesIterator};
 use masks::superseding::Part;
 use masks::true_idx::TrueIdxIter;
 use notation::answer::{Answer, Token};
+use std::alloc::{AllocError, Global};
+
+// An answer, unless there is no memory for it.
+pub(crate) type Told = Result<Answer, AllocError>;
 
 pub(crate) trait Tell: Copy {
     // Puts its tokens behind those of the answer.
-    fn tell(self, answer: Answer) -> Answer;
+    fn tell(self, answer: Answer) -> Told;
+}
+
+// What a call gives that does not refuse.
+pub(crate) fn given<T: Tell>(alloc: Global, value: T) -> Told {
+    value.tell(Answer::new(alloc, 0)?)
 }
 
 // What a call gives, or the number of its refusal.
-pub(crate) fn answer<T: Tell>(r: Result<T, Refusal>) -> Answer {
+pub(crate) fn answer<T: Tell>(alloc: Global, r: Result<T, Refusal>) -> Told {
     match r {
-        Ok(value) => value.tell(Answer::new(0)),
-        Err(refusal) => Answer::new(refusal.into()),
+        Ok(value) => given(alloc, value),
+        Err(refusal) => Answer::new(alloc, refusal.into()),
     }
 }
 
 // The same of a call whose refusal gives the record back that it got.
-pub(crate) fn answer_back<T: Tell, S: Tell>(r: Result<T, Refused<S>>) -> Answer {
+pub(crate) fn answer_back<T: Tell, S: Tell>(alloc: Global, r: Result<T, Refused<S>>) -> Told {
     match r {
-        Ok(value) => value.tell(Answer::new(0)),
-        Err(refused) => refused.state.tell(Answer::new(refused.refusal.into())),
+        Ok(value) => given(alloc, value),
+        Err(refused) => refused
+            .state
+            .tell(Answer::new(alloc, refused.refusal.into())?),
     }
 }
 
-impl Tell for bool {
-    fn tell(self, answer: Answer) -> Answer {
-        answer.and(self)
-    }
-}
+// A value of one token.
+pub(crate) trait Single: Copy + Drop + Into<Token> {}
 
-impl Tell for u32 {
-    fn tell(self, answer: Answer) -> Answer {
-        answer.and(self)
-    }
-}
+impl Single for bool {}
 
-impl Tell for u64 {
-    fn tell(self, answer: Answer) -> Answer {
-        answer.and(self)
-    }
-}
+impl Single for u32 {}
 
-impl Tell for usize {
-    fn tell(self, answer: Answer) -> Answer {
-        answer.and(self)
+impl Single for u64 {}
+
+impl Single for usize {}
+
+impl Single for Token {}
+
+impl<T: Single> Tell for T {
+    fn tell(self, answer: Answer) -> Told {
+        answer.and(self.into())
     }
 }
 
 // Nothing is `-`.
 impl<T: Tell> Tell for Option<T> {
-    fn tell(self, answer: Answer) -> Answer {
+    fn tell(self, answer: Answer) -> Told {
         match self {
             Some(value) => value.tell(answer),
             None => answer.and(Token::Missing),
@@ -70,105 +76,118 @@ impl<T: Tell> Tell for Option<T> {
 }
 
 impl<A: Tell, B: Tell> Tell for (A, B) {
-    fn tell(self, answer: Answer) -> Answer {
+    fn tell(self, answer: Answer) -> Told {
         let (first, second) = self;
-        second.tell(first.tell(answer))
+        second.tell(first.tell(answer)?)
+    }
+}
+
+impl<A: Tell, B: Tell, C: Tell> Tell for (A, B, C) {
+    fn tell(self, answer: Answer) -> Told {
+        let (first, second, third) = self;
+        third.tell(second.tell(first.tell(answer)?)?)
     }
 }
 
 // The item, and the cursor behind it.
 impl<T: Tell, C: Tell> Tell for Step<T, C> {
-    fn tell(self, answer: Answer) -> Answer {
-        self.cursor.tell(self.item.tell(answer))
+    fn tell(self, answer: Answer) -> Told {
+        (self.item, self.cursor).tell(answer)
     }
 }
 
 impl Tell for Span {
-    fn tell(self, answer: Answer) -> Answer {
-        answer.and(self.start).and(self.length)
+    fn tell(self, answer: Answer) -> Told {
+        (self.start, self.length).tell(answer)
     }
 }
 
 impl Tell for Run {
-    fn tell(self, answer: Answer) -> Answer {
-        answer.and(self.start).and(self.length)
+    fn tell(self, answer: Answer) -> Told {
+        (self.start, self.length).tell(answer)
     }
 }
 
 impl Tell for AlignedBitmapSlice {
-    fn tell(self, answer: Answer) -> Answer {
-        let first = answer.and(self.prefix).and(self.prefix_len);
-        let middle = first.and(self.bulk_start).and(self.bulk_len);
-        middle.and(self.suffix).and(self.suffix_len)
+    fn tell(self, answer: Answer) -> Told {
+        let prefix = (self.prefix, self.prefix_len);
+        let bulk = (self.bulk_start, self.bulk_len);
+        (prefix, bulk, (self.suffix, self.suffix_len)).tell(answer)
     }
 }
 
 impl Tell for SlicesIterator {
-    fn tell(self, answer: Answer) -> Answer {
-        answer.and(self.start).and(self.length).and(self.place)
+    fn tell(self, answer: Answer) -> Told {
+        (self.start, self.length, self.place).tell(answer)
     }
 }
 
 impl Tell for BitmapIter {
-    fn tell(self, answer: Answer) -> Answer {
-        answer.and(self.start).and(self.length).and(self.place)
+    fn tell(self, answer: Answer) -> Told {
+        (self.start, self.length, self.place).tell(answer)
     }
 }
 
 impl Tell for BitChunks {
-    fn tell(self, answer: Answer) -> Answer {
-        answer.and(self.start).and(self.length).and(self.place)
+    fn tell(self, answer: Answer) -> Told {
+        (self.start, self.length, self.place).tell(answer)
     }
 }
 
 impl Tell for TrueIdxIter {
-    fn tell(self, answer: Answer) -> Answer {
-        let span = answer.and(self.start).and(self.length);
-        span.and(self.place).and(self.masked)
+    fn tell(self, answer: Answer) -> Told {
+        let span = (self.start, self.length);
+        (span, self.place, self.masked).tell(answer)
     }
 }
 
 // The serial first, then the span, then the zero count, `?` where it is not known.
 impl Tell for Bitmap {
-    fn tell(self, answer: Answer) -> Answer {
-        let span = answer.and(self.serial).and(self.start).and(self.length);
-        match self.unset {
-            Some(zeros) => span.and(zeros),
-            None => span.and(Token::Unknown),
-        }
+    fn tell(self, answer: Answer) -> Told {
+        let zeros = match self.unset {
+            Some(zeros) => Token::from(zeros),
+            None => Token::Unknown,
+        };
+        (self.serial, (self.start, self.length), zeros).tell(answer)
     }
 }
 
 // The serial first.
 impl Tell for BitmapBuilder {
-    fn tell(self, answer: Answer) -> Answer {
-        let flags = answer.and(self.serial).and(self.length);
-        flags.and(self.word).and(self.ones)
+    fn tell(self, answer: Answer) -> Told {
+        (self.serial, self.length, (self.word, self.ones)).tell(answer)
     }
 }
 
 impl Tell for Recounted {
-    fn tell(self, answer: Answer) -> Answer {
-        self.mask.tell(answer.and(self.zeros))
+    fn tell(self, answer: Answer) -> Told {
+        (self.zeros, self.mask).tell(answer)
     }
 }
 
 // Which of two masks, the part of its slice, and its record over that part.
 impl Tell for Part {
-    fn tell(self, answer: Answer) -> Answer {
-        self.mask
-            .tell(answer.and(self.second).and(self.from).and(self.to))
+    fn tell(self, answer: Answer) -> Told {
+        (self.second, (self.from, self.to), self.mask).tell(answer)
     }
 }
 
 impl Tell for Found {
-    fn tell(self, answer: Answer) -> Answer {
-        self.position.tell(answer).and(self.windows)
+    fn tell(self, answer: Answer) -> Told {
+        (self.position, self.windows).tell(answer)
     }
 }
 
 impl Tell for Offering {
-    fn tell(self, answer: Answer) -> Answer {
-        self.truck.tell(answer).and(self.cursor).and(self.windows)
+    fn tell(self, answer: Answer) -> Told {
+        (self.truck, self.cursor, self.windows).tell(answer)
+    }
+}
+
+// A refused offer has the round's cursor, and no other record.
+pub(crate) fn offered(alloc: Global, r: Result<Offering, NoOffer>) -> Told {
+    match r {
+        Ok(offering) => given(alloc, offering),
+        Err(none) => none.cursor.tell(Answer::new(alloc, none.refusal.into())?),
     }
 }

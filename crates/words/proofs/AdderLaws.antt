@@ -1,17 +1,14 @@
--- Words added eight at a time, by full adders in each column, and a word added from plane k on. Assumes nothing.
-use mathlib.Core.Path.{◌≡◌, refl, sym, ap, ap₂, ◌∙◌}
-use mathlib.Core.Bool.{Bool, true, false, xor, ◌&&◌, ◌||◌}
-use mathlib.Core.List.{List, [], ◌∷◌}
-use Prim.Native.Nat.{ℕ, zero, suc, ◌+◌, ◌*◌, ◌^◌, ◌≤◌, ◌<◌}
-use native.Mathlib.Omega.{arith}
-use lib.Bits.{bit_and, bit_or, bit_xor}
-use lib.ListN.{length, drop, get_or, set, length-set}
-use lib.Seq.{get_or-set_other}
-use Rattle.words.specs.Flags.{digit}
-use Rattle.words.specs.Columns.{digit_of}
-use Rattle.words.specs.Planes.{planes_at, added_from, Added, up_to, FourMore, Totals}
-use Rattle.words.proofs.ColumnLaws.{flag, flag-and, flag_or, flag-xor}
-use Rattle.words.proofs.PlaneLaws.{adds, carry_of, doubled, none-on, length-added, up_one, up_le}
+-- Words added eight at a time, by full adders in each column. Assumes nothing.
+use Rattle.std.proofs.Common.{◌≡◌, refl, sym, ap, ap₂, ◌∙◌, Bool, true, false, ◌&&◌, ◌||◌, List, [], ◌∷◌, ◌++◌, append-nil, ℕ, zero, suc}
+use Rattle.std.proofs.Common.{◌+◌, ◌*◌, ◌^◌, ◌≤◌, ◌<◌, arith, bit_and, bit_or, bit_xor, length, take, drop, get_or, set, length-set}
+use Rattle.std.proofs.Common.{length-drop, take_all, drop_of_length-le, take-append-drop, get_or-set_other}
+use Rattle.std.proofs.Math.Bool.{xor}
+use Rattle.words.specs.Flags.{digit, count}
+use Rattle.words.specs.Columns.{column, digit_of}
+use Rattle.words.specs.Planes.{planes_at, added, Added, FourMore, Grown}
+use Rattle.words.proofs.ColumnLaws.{flag, flag-and, flag_or, flag-xor, column-append}
+use Rattle.words.proofs.Counting.{count-append}
+use Rattle.words.proofs.PlaneLaws.{added_from, adds, carry_of, doubled, none-on, length-added}
 
 -- ---- three words at once
 
@@ -39,23 +36,16 @@ full-adds x y z c p =
     ap₂ (λ (s t : Bool). digit s + 2 * digit t) e f ∙ full (flag x c) (flag y c) (flag z c)
 
 -- four words by three full adders
-pub four-more : (rows : List ℕ) (at p q a1 a2 b1 b2 c1 c2 : ℕ) → at + 4 ≤ length rows
-    → Added p (get_or rows at 0) (get_or rows (at + 1) 0) a1 a2 → Added a1 (get_or rows (at + 2) 0) (get_or rows (at + 3) 0) b1 b2
-    → Added q a2 b2 c1 c2
-    → FourMore rows at p q b1 c1 c2
-unfolding Added FourMore
-four-more rows at p q a1 a2 b1 b2 c1 c2 h f g k c d =
-    let e2 : at + 1 + 1 ≡ at + 2 = omega arith in
-    let e3 : at + 2 + 1 ≡ at + 3 = omega arith in
-    let e4 : at + 3 + 1 ≡ at + 4 = omega arith in
-    let u1 : up_to rows (at + 1) c ≡ up_to rows at c + digit_of (get_or rows at 0) c = up_one rows at c (omega arith) in
-    let u2 : up_to rows (at + 2) c ≡ up_to rows (at + 1) c + digit_of (get_or rows (at + 1) 0) c =
-    ap (λ (x : ℕ). up_to rows x c) (sym e2) ∙ up_one rows (at + 1) c (omega arith) in
-    let u3 : up_to rows (at + 3) c ≡ up_to rows (at + 2) c + digit_of (get_or rows (at + 2) 0) c =
-    ap (λ (x : ℕ). up_to rows x c) (sym e3) ∙ up_one rows (at + 2) c (omega arith) in
-    let u4 : up_to rows (at + 4) c ≡ up_to rows (at + 3) c + digit_of (get_or rows (at + 3) 0) c =
-    ap (λ (x : ℕ). up_to rows x c) (sym e4) ∙ up_one rows (at + 3) c (omega arith) in
-    omega (arith, f c d, g c d, k c d)
+pub four-more : (ws : List ℕ) (p q a1 a2 b1 b2 c1 c2 : ℕ) → length ws ≡ 4
+    → Added p (get_or ws 0 0) (get_or ws 1 0) a1 a2 → Added a1 (get_or ws 2 0) (get_or ws 3 0) b1 b2 → Added q a2 b2 c1 c2
+    → FourMore ws p q b1 c1 c2
+unfolding Added FourMore column count
+four-more [] p q a1 a2 b1 b2 c1 c2 h f g k c d = absurd (omega arith)
+four-more (w ∷ []) p q a1 a2 b1 b2 c1 c2 h f g k c d = absurd (omega arith)
+four-more (w ∷ x ∷ []) p q a1 a2 b1 b2 c1 c2 h f g k c d = absurd (omega arith)
+four-more (w ∷ x ∷ y ∷ []) p q a1 a2 b1 b2 c1 c2 h f g k c d = absurd (omega arith)
+four-more (w ∷ x ∷ y ∷ z ∷ []) p q a1 a2 b1 b2 c1 c2 h f g k c d = omega (arith, f c d, g c d, k c d)
+four-more (w ∷ x ∷ y ∷ z ∷ u ∷ ws) p q a1 a2 b1 b2 c1 c2 h f g k c d = absurd (omega arith)
 
 -- ---- from plane k on
 
@@ -84,23 +74,21 @@ replaced (p ∷ ps) (suc i) x c h =
     omega (arith, replaced ps i x c (omega arith), doubled i (digit_of (get_or ps i 0) c), doubled i (digit_of x c))
 
 -- eight words: two fours and a full adder, and what is left goes to plane 3
-module _ (rows ps new : List ℕ) (at a1 a2 a4 b1 b2 b4 d1 d2 : ℕ)
-    (pre : Totals rows ps at × (at + 8 ≤ length rows) × (at + 8 < 512))
-    (f : FourMore rows at (get_or ps 0 0) (get_or ps 1 0) a1 a2 a4) (g : FourMore rows (at + 4) a1 a2 b1 b2 b4)
+module _ (ps ws second new : List ℕ) (a1 a2 a4 b1 b2 b4 d1 d2 : ℕ) (nine : length ps ≡ 9)
+    (f : FourMore (take 4 ws) (get_or ps 0 0) (get_or ps 1 0) a1 a2 a4) (m : second ≡ drop 4 ws) (g : FourMore second a1 a2 b1 b2 b4)
     (k : Added (get_or ps 2 0) a4 b4 d1 d2) where
   abbrev stored : List ℕ
   stored = set (set (set ps 0 b1) 1 b2) 2 d1
 
   module _ (e : new ≡ added_from 3 stored d2) where
     long : length stored ≡ 9
-    long = simp length-set pre.0.nine
+    long = simp length-set nine
 
-    eight_sum : (c : ℕ) → c < 64 → planes_at new c ≡ up_to rows (at + 8) c
+    eight_sum : (c : ℕ) → c < 64 → planes_at ps c + count (column ws c) < 2 ^ length ps
+        → planes_at new c ≡ planes_at ps c + count (column ws c)
     unfolding FourMore Added
-    eight_sum c p =
-        let n : length ps ≡ 9 = pre.0.nine in
-        let s : planes_at ps c ≡ up_to rows at c = pre.0.sums c p in
-        let n1 : length (set ps 0 b1) ≡ 9 = length-set ps 0 b1 ∙ n in
+    eight_sum c p room =
+        let n1 : length (set ps 0 b1) ≡ 9 = length-set ps 0 b1 ∙ nine in
         let n2 : length (set (set ps 0 b1) 1 b2) ≡ 9 = length-set (set ps 0 b1) 1 b2 ∙ n1 in
         let o1 : get_or (set ps 0 b1) 1 0 ≡ get_or ps 1 0 = get_or-set_other ps 0 1 b1 0 (λ q. omega arith) in
         let o2 : get_or (set (set ps 0 b1) 1 b2) 2 0 ≡ get_or ps 2 0 =
@@ -111,14 +99,28 @@ module _ (rows ps new : List ℕ) (at a1 a2 a4 b1 b2 b4 d1 d2 : ℕ)
         ap (λ (x : ℕ). planes_at (set (set ps 0 b1) 1 b2) c + 2 * digit_of x c) (sym o1) ∙ replaced (set ps 0 b1) 1 b2 c (omega arith) in
         let r2 : planes_at stored c + 4 * digit_of (get_or ps 2 0) c ≡ planes_at (set (set ps 0 b1) 1 b2) c + 4 * digit_of d1 c =
         ap (λ (x : ℕ). planes_at stored c + 4 * digit_of x c) (sym o2) ∙ replaced (set (set ps 0 b1) 1 b2) 2 d1 c (omega arith) in
-        let e8 : up_to rows (at + 4 + 4) c ≡ up_to rows (at + 8) c =
-        let z : at + 4 + 4 ≡ at + 8 = omega arith in ap (λ (x : ℕ). up_to rows x c) z in
-        let t : planes_at stored c + 8 * digit_of d2 c ≡ up_to rows (at + 8) c = omega (arith, f c p, g c p, k c p) in
-        let h : planes_at (added_from 3 stored d2) c + 2 ^ length stored * digit_of (carry_of (drop 3 stored) d2) c ≡ up_to rows (at + 8) c =
+        let both : count (column ws c) ≡ count (column (take 4 ws) c) + count (column second c) =
+        ap (λ (l : List ℕ). count (column l c)) (sym (take-append-drop 4 ws) ∙ ap (λ (l : List ℕ). take 4 ws ++ l) (sym m))
+        ∙ ap count (column-append (take 4 ws) second c) ∙ count-append (column (take 4 ws) c) (column second c) in
+        let t : planes_at stored c + 8 * digit_of d2 c ≡ planes_at ps c + count (column ws c) = omega (arith, f c p, g c p, k c p) in
+        let h : planes_at (added_from 3 stored d2) c + 2 ^ length stored * digit_of (carry_of (drop 3 stored) d2) c
+        ≡ planes_at ps c + count (column ws c) =
         adds-from 3 stored d2 c p (omega (arith, long)) ∙ t in
+        let few : planes_at ps c + count (column ws c) < 2 ^ length stored =
+        rw long (rw nine at room) in
         ap (λ (l : List ℕ). planes_at l c) e
-        ∙ none-on (planes_at (added_from 3 stored d2) c) (2 ^ length stored) (flag (carry_of (drop 3 stored) d2) c) (up_to rows (at + 8) c) h
-        (rw long (omega (arith, up_le rows (at + 8) c)))
+        ∙ none-on (planes_at (added_from 3 stored d2) c) (2 ^ length stored) (flag (carry_of (drop 3 stored) d2) c)
+        (planes_at ps c + count (column ws c)) h few
 
-    pub totals_eight : Totals rows new (at + 8)
-    totals_eight = record { nine = ap length e ∙ length_from 3 stored d2 ∙ long; sums = eight_sum }
+    pub eight_grown : Grown ps ws new
+    eight_grown = record { alike = ap length e ∙ length_from 3 stored d2 ∙ long ∙ sym nine; sums = eight_sum }
+
+-- the planes from k on, as they were lent and came back
+pub added_part : (ps part : List ℕ) (k n w : ℕ) → length ps ≡ k + n → part ≡ added (take n (drop k ps)) w
+    → take k ps ++ (part ++ drop n (drop k ps)) ≡ added_from k ps w
+unfolding added_from
+added_part ps part k n w h e =
+    let long : length (drop k ps) ≤ n = omega (arith, length-drop k ps) in
+    ap (λ (l : List ℕ). take k ps ++ l)
+    (ap (λ (l : List ℕ). part ++ l) (drop_of_length-le (drop k ps) long) ∙ append-nil part ∙ e
+    ∙ ap (λ (l : List ℕ). added l w) (take_all n (drop k ps) long))

@@ -1,32 +1,17 @@
 -- Whether a flag of a list is set, and whether two lists are the same: word by word, with an end at the first that has one.
 -- Assumes nothing.
-use mathlib.Core.Path.{◌≡◌, refl, sym, ap, ap₂, ◌∙◌}
-use mathlib.Core.Bool.{Bool, true, false, not, xor, ◌&&◌, ◌||◌}
-use mathlib.Core.List.{List, [], ◌∷◌, ◌++◌, zip_with}
-use mathlib.Core.Logic.{◌⊎◌, inl, inr, ⊎_elim}
-use Prim.Native.Nat.{ℕ, zero, suc, ◌+◌, ◌-◌, ◌*◌, ◌^◌, ◌≤◌, ◌<◌}
-use native.Mathlib.Omega.{arith}
-use lib.Dec.{eqb, ltb}
-use lib.ListN.{length, drop, length-drop}
-use borrow.Author.Tests.{eq-eqb, ne_eqb, lt-ltb, le-ltb, ltb-true, ltb-false}
+use Rattle.std.proofs.Common.{◌≡◌, refl, sym, ap, ap₂, ◌∙◌, Bool, true, false, not, ◌&&◌, ◌||◌, List, [], ◌∷◌, ◌++◌, ◌⊎◌, inl, inr}
+use Rattle.std.proofs.Common.{⊎_elim, ℕ, zero, suc, ◌+◌, ◌-◌, ◌*◌, ◌^◌, ◌≤◌, ◌<◌, arith, eqb, ltb, length, drop, length-drop, eq-eqb}
+use Rattle.std.proofs.Common.{ne_eqb, lt-ltb, le-ltb, ltb-true, ltb-false}
+use Rattle.std.proofs.Math.Bool.{xor, and-true, and-false}
+use mathlib.Core.List.{zip_with}
+use Rattle.std.proofs.lemmas.Bool.{cases_lt}
 use Rattle.words.specs.Flags.{bits, copies, count, digit, word_of, window}
 use Rattle.words.specs.Ops.{zip3}
 use Rattle.words.specs.Counts.{any_set, same_flags}
 use Rattle.words.proofs.Bits.{length-bits, bits-zero, word_of_bits}
 use Rattle.words.proofs.Counting.{count_add, count-inside, count-padded, count-behind}
-use Rattle.words.proofs.Windows.{lt-or-le, window-add, window-drop, window-all}
-
--- where a test says no, nothing is owed
-pub unsaid : {A : Type 0} → false ≡ true → A
-unsaid e = absurd (let z : ◌≡◌ {A = ℕ} 0 1 = cc e in omega arith)
-
-pub and-true : (x : Bool) → (x && true) ≡ x
-and-true true = refl
-and-true false = refl
-
-pub and-false : (x : Bool) → (x && false) ≡ false
-and-false true = refl
-and-false false = refl
+use Rattle.words.proofs.Windows.{window-add, window-drop, window-all}
 
 pub any_append : (a b : List Bool) → any_set (a ++ b) ≡ (any_set a || any_set b)
 unfolding any_set
@@ -94,7 +79,7 @@ pub word-any : (d w : ℕ) → w < 2 ^ d → not (eqb w 0) ≡ any_set (bits d w
 word-any d w h = ⊎_elim
     (λ (p : 0 < w). ap not (ne_eqb w 0 (λ e. omega arith)) ∙ sym (some (any_set (bits d w)) refl p))
     (λ (p : w ≤ 0). let e : w ≡ 0 = omega arith in ap not (eq-eqb w 0 e) ∙ sym (ap (λ (x : ℕ). any_set (bits d x)) e ∙ zero-none d))
-    (lt-or-le 0 w)
+    (cases_lt 0 w)
   where
     some : (t : Bool) → any_set (bits d w) ≡ t → 0 < w → t ≡ true
     some true e p = refl
@@ -146,7 +131,7 @@ any-more Z m n k t inv p e h =
 -- a list of m flags with none set among the first n, whose flags behind n are one flag, over and over
 pub any_behind : (Z : List Bool) (m n : ℕ) (x t : Bool) → 0 ≡ count (window Z 0 n) → length Z ≡ m
     → t ≡ (ltb n m && x) → (n < m → window Z n (m - n) ≡ copies (m - n) x) → t ≡ any_set Z
-any_behind Z m n x t p e q h = q ∙ go x refl (lt-or-le n m) ∙ sym (any-count Z)
+any_behind Z m n x t p e q h = q ∙ go x refl (cases_lt n m) ∙ sym (any-count Z)
   where
     all : 0 + (m - n) * digit x ≡ count Z
     all = count-behind Z m n 0 ((m - n) * digit x) x p e refl h

@@ -1,11 +1,5 @@
 -- Three stretches combined, of which n words were read, behind which all three have ended or the length has. Assumes nothing.
-use mathlib.Core.Path.{◌≡◌, ap, ◌∙◌}
-use mathlib.Core.Bool.{Bool, false, ◌&&◌}
-use mathlib.Core.List.{List}
-use Prim.Native.Nat.{ℕ, ◌+◌, ◌-◌, ◌*◌, ◌≤◌, ◌<◌}
-use native.Mathlib.Omega.{arith}
-use lib.Dec.{ltb}
-use lib.ListN.{length}
+use Rattle.std.proofs.Common.{◌≡◌, ap, ◌∙◌, Bool, false, ◌&&◌, List, ℕ, ◌+◌, ◌-◌, ◌*◌, ◌≤◌, ◌<◌, arith, ltb, length}
 use Rattle.words.specs.Flags.{copies, count, digit, flags_of, window}
 use Rattle.words.specs.Ops.{zip3}
 use Rattle.words.specs.Counts.{any_set}

@@ -1,18 +1,14 @@
 -- The bits of a number as a list, at any width: cut in two, shifted, combined, and back to the number. Assumes nothing.
-use mathlib.Core.Path.{◌≡◌, refl, sym, ap, ap₂, ◌∙◌}
-use mathlib.Core.Bool.{Bool, true, false, not, ◌&&◌, ◌||◌, xor}
-use mathlib.Core.List.{List, [], ◌∷◌, ◌++◌, map, zip_with}
-use Prim.Native.Nat.{ℕ, zero, suc, ◌+◌, ◌-◌, ◌*◌, ◌/◌, ◌%◌, ◌^◌, ◌≤◌, ◌<◌, min, max}
-use native.Mathlib.Nat.{suc-add, zero-add, add-zero, pow-suc, mod-lt, zero-lt-suc, div-add-mod', zero-min}
-use native.Mathlib.Nat.{min-zero, zero-max, max-zero, suc-min-suc, suc-max-suc, div-one, mul_assoc}
-use native.Mathlib.Numerals.{one-add, add-one}
-use native.Mathlib.Omega.{arith}
-use lib.Arith.{digits_div, digits_mod, digits_lt, lt-one}
-use lib.Pow.{pow_pos, shr-shr, shl-shr, high, split, shr_lt}
-use lib.Bits.{block_half, block_odd, bit_and, bit_or, bit_xor, differ, and_step, or_step, xor_step, or_shifted_r}
-use lib.Dec.{eqb}
-use lib.ListN.{length, take}
-use lib.Seq.{take_at}
+use Rattle.std.proofs.Common.{◌≡◌, refl, sym, ap, ap₂, ◌∙◌, Bool, true, false, not, ◌&&◌, ◌||◌, List, [], ◌∷◌, ◌++◌, map, ℕ, zero, suc}
+use Rattle.std.proofs.Common.{◌+◌, ◌-◌, ◌*◌, ◌/◌, ◌%◌, ◌^◌, ◌≤◌, ◌<◌, min, max, suc-add, zero-add, add-zero, pow-suc, mod-lt, zero-lt-suc}
+use Rattle.std.proofs.Common.{div-add-mod', div-one, mul_assoc, one-add, add-one, arith, pow_pos, shr-shr, shr_lt, bit_and, bit_or}
+use Rattle.std.proofs.Common.{bit_xor, eqb, length, take, take_at}
+use Rattle.std.proofs.Math.Arith.{digits_div, digits_mod, digits_lt, lt-one}
+use Rattle.std.proofs.Math.Bool.{xor}
+use Rattle.std.proofs.Math.Nat.{zero-min, min-zero, zero-max, max-zero, suc-min-suc, suc-max-suc}
+use Rattle.std.proofs.Math.Pow.{shl-shr, high, split}
+use Rattle.std.specs.Int.Bits.{block_half, block_odd, differ, and_step, or_step, xor_step, or_shifted_r}
+use mathlib.Core.List.{zip_with}
 use Rattle.words.specs.Flags.{is_one, digit, bits, word_of, copies}
 
 pub length-bits : (d n : ℕ) → length (bits d n) ≡ d

@@ -1,12 +1,8 @@
 -- The flags of bytes: joined, cut, written over, and that bytes with the same flags are the same. Assumes nothing.
-use mathlib.Core.Path.{◌≡◌, refl, sym, ap, ap₂, ◌∙◌}
-use mathlib.Core.Bool.{Bool}
-use mathlib.Core.List.{List, [], ◌∷◌, ◌++◌, append_assoc, append-nil}
-use Prim.Native.Nat.{ℕ, zero, suc, ◌+◌, ◌-◌, ◌*◌, ◌≤◌, ◌<◌}
-use native.Mathlib.Nat.{le_of_eq}
-use native.Mathlib.Omega.{arith}
-use lib.ListN.{length, take, drop, get_or, length-append, length-drop, take-append-drop, drop_of_length-le}
-use lib.Seq.{take-append-add, drop-append-add, take-nil, drop-nil, length-take-le, take-suc, take_all, take-append_seam, drop-append_seam}
+use Rattle.std.proofs.Common.{◌≡◌, refl, sym, ap, ap₂, ◌∙◌, Bool, List, [], ◌∷◌, ◌++◌, append_assoc, append-nil, ℕ, zero, suc, ◌+◌, ◌-◌}
+use Rattle.std.proofs.Common.{◌*◌, ◌≤◌, ◌<◌, le_of_eq, arith, length, take, drop, get_or, length-append, length-drop, take-append-drop}
+use Rattle.std.proofs.Common.{drop_of_length-le, length-take-le, take-suc, take_all}
+use Rattle.std.proofs.Math.Seq.{take-append-add, drop-append-add, take-nil, drop-nil, take-append_seam, drop-append_seam}
 use Rattle.words.specs.Flags.{bits, flags_of, over, over_at}
 use Rattle.words.proofs.Bits.{length-bits, bits-inj}
 use Rattle.words.proofs.Windows.{over_none, over-append, over-left}

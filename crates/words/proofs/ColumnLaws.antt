@@ -1,19 +1,15 @@
 -- Words as rows of flags: a flag of an operation on words, columns of parts and of changed rows, counts of all columns. Assumes nothing.
-use mathlib.Core.Path.{◌≡◌, refl, sym, ap, ◌∙◌}
-use mathlib.Core.Bool.{Bool, false, xor, ◌&&◌, ◌||◌}
-use mathlib.Core.List.{List, [], ◌∷◌, ◌++◌, zip_with}
-use mathlib.Core.Logic.{⊎_elim}
-use Prim.Native.Nat.{ℕ, zero, suc, ◌+◌, ◌≤◌, ◌<◌}
-use native.Mathlib.Nat.{zero-add}
-use native.Mathlib.Omega.{arith}
-use lib.Bits.{bit_and, bit_or, bit_xor}
-use lib.ListN.{length, take, get_or, set, replicate, get_or-eq_default}
-use lib.Seq.{ext_get_or}
+use Rattle.std.proofs.Common.{◌≡◌, refl, sym, ap, ◌∙◌, Bool, false, ◌&&◌, ◌||◌, List, [], ◌∷◌, ◌++◌, ⊎_elim, ℕ, zero, suc, ◌+◌, ◌≤◌, ◌<◌}
+use Rattle.std.proofs.Common.{zero-add, arith, bit_and, bit_or, bit_xor, length, get_or, set, replicate, ext_get_or}
+use Rattle.std.proofs.Math.Bool.{xor}
+use Rattle.std.proofs.Math.ListN.{get_or-eq_default}
+use mathlib.Core.List.{zip_with}
+use Rattle.std.proofs.lemmas.Bool.{cases_lt}
 use Rattle.words.specs.Flags.{digit, bits, word_flags, count}
 use Rattle.words.specs.Columns.{digit_of, column, columns_from, column_counts}
 use Rattle.words.proofs.Bits.{length-bits, bits-and, bits-or, bits-xor, bits-zero, digit_lt}
 use Rattle.words.proofs.Counting.{count-append, count-le}
-use Rattle.words.proofs.Windows.{lt-or-le, at_copies}
+use Rattle.words.proofs.Windows.{at_copies}
 
 -- ---- a flag of a word
 
@@ -57,7 +53,7 @@ pub zero-digit : (c : ℕ) → digit_of 0 c ≡ 0
 zero-digit c = ⊎_elim
     (λ (p : c < 64). ap (λ (l : List Bool). digit (get_or l c false)) (bits-zero 64) ∙ ap digit (at_copies 64 false c p))
     (λ (h : 64 ≤ c). sym (no_digit 0 c h))
-    (lt-or-le c 64)
+    (cases_lt c 64)
 
 -- ---- a column
 
@@ -65,19 +61,6 @@ pub length-column : (rows : List ℕ) (c : ℕ) → length (column rows c) ≡ l
 unfolding column
 length-column [] c = refl
 length-column (w ∷ rows) c = ap suc (length-column rows c)
-
-pub at-column : (rows : List ℕ) (c i : ℕ) → i < length rows → get_or (column rows c) i false ≡ flag (get_or rows i 0) c
-unfolding column
-at-column [] c i h = absurd (omega arith)
-at-column (w ∷ rows) c zero h = refl
-at-column (w ∷ rows) c (suc i) h = at-column rows c i (omega arith)
-
-pub column-take : (n : ℕ) (rows : List ℕ) (c : ℕ) → column (take n rows) c ≡ take n (column rows c)
-unfolding column
-column-take zero [] c = refl
-column-take zero (w ∷ rows) c = refl
-column-take (suc n) [] c = refl
-column-take (suc n) (w ∷ rows) c = ap (λ (l : List Bool). flag w c ∷ l) (column-take n rows c)
 
 pub column-append : (a b : List ℕ) (c : ℕ) → column (a ++ b) c ≡ column a c ++ column b c
 unfolding column

@@ -1,13 +1,9 @@
 -- Three lists combined flag by flag: by the flag, in parts, and word by word. One law for every operation. Assumes nothing.
-use mathlib.Core.Path.{◌≡◌, refl, sym, ap, ap₂, ◌∙◌}
-use mathlib.Core.Bool.{Bool, true, false, not, cond, ◌&&◌, ◌||◌}
-use mathlib.Core.List.{List, [], ◌∷◌, map, zip_with}
-use Prim.Native.Nat.{ℕ, zero, suc, ◌+◌, ◌-◌, ◌*◌, ◌≤◌, ◌<◌, zero-le}
-use native.Mathlib.Nat.{add-zero}
-use native.Mathlib.Omega.{arith}
-use lib.ListN.{length, take, get_or, get_or-eq_default}
-use lib.Dec.{ltb, leb-suc-suc}
-use borrow.Author.Tests.{lt-ltb, le-ltb}
+use Rattle.std.proofs.Common.{◌≡◌, refl, sym, ap, ap₂, ◌∙◌, Bool, true, false, not, cond, ◌&&◌, ◌||◌, List, [], ◌∷◌, map, ℕ, zero, suc}
+use Rattle.std.proofs.Common.{◌+◌, ◌-◌, ◌*◌, ◌≤◌, ◌<◌, zero-le, add-zero, arith, length, take, get_or, ltb, lt-ltb, le-ltb}
+use Rattle.std.proofs.Math.Dec.{leb-suc-suc}
+use Rattle.std.proofs.Math.ListN.{get_or-eq_default}
+use mathlib.Core.List.{zip_with}
 use Rattle.words.specs.Flags.{bits, copies, flags_of, window}
 use Rattle.words.specs.Loops.{stretch}
 use Rattle.words.specs.Ops.{zip3}

@@ -1,17 +1,12 @@
 -- How many flags of a list are set: of lists joined, padded, inverted, and word by word. Assumes nothing.
-use mathlib.Core.Path.{◌≡◌, refl, sym, ap, ap₂, ◌∙◌}
-use mathlib.Core.Bool.{Bool, true, false, not}
-use mathlib.Core.List.{List, [], ◌∷◌, ◌++◌, map}
-use mathlib.Core.Logic.{⊎_elim}
-use Prim.Native.Nat.{ℕ, zero, suc, ◌+◌, ◌-◌, ◌*◌, ◌/◌, ◌%◌, ◌^◌, ◌≤◌, ◌<◌}
-use native.Mathlib.Nat.{zero-add, mod-lt, zero-lt-suc}
-use native.Mathlib.Omega.{arith}
-use lib.Arith.{lt-one}
-use lib.Count.{ones, ones_step}
-use lib.ListN.{length, take, length-take}
+use Rattle.std.proofs.Common.{◌≡◌, refl, sym, ap, ap₂, ◌∙◌, Bool, true, false, not, List, [], ◌∷◌, ◌++◌, map, ⊎_elim, ℕ, zero, suc, ◌+◌}
+use Rattle.std.proofs.Common.{◌-◌, ◌*◌, ◌/◌, ◌%◌, ◌^◌, ◌≤◌, ◌<◌, zero-add, mod-lt, zero-lt-suc, arith, length, take, length-take}
+use Rattle.std.proofs.Math.Arith.{lt-one}
+use Rattle.std.specs.Int.Count.{ones, ones_step}
+use Rattle.std.proofs.lemmas.Bool.{cases_lt}
 use Rattle.words.specs.Flags.{bits, copies, count, digit, window}
 use Rattle.words.proofs.Bits.{length-bits, digit-is_one, half_lt}
-use Rattle.words.proofs.Windows.{length-window, window-add, window-all, window-past, in_window, lt-or-le}
+use Rattle.words.proofs.Windows.{length-window, window-add, window-all, window-past, in_window}
 
 -- the processor's count of a number's ones is the count of its flags
 pub ones-bits : (d n : ℕ) → n < 2 ^ d → count (bits d n) ≡ ones n
@@ -29,9 +24,6 @@ unfolding count
 count-le [] = omega arith
 count-le (true ∷ l) = let h : count l ≤ length l = count-le l in omega arith
 count-le (false ∷ l) = let h : count l ≤ length l = count-le l in omega arith
-
-pub ones-le : (d n : ℕ) → n < 2 ^ d → ones n ≤ d
-ones-le d n h = omega (arith, ones-bits d n h, count-le (bits d n), length-bits d n)
 
 -- of n copies
 pub count-copies : (n : ℕ) (x : Bool) → count (copies n x) ≡ n * digit x
@@ -135,7 +127,7 @@ low-within k w r c p q =
     let a : count (window (take k (bits 64 w)) 0 64) ≡ count (take k (bits 64 w)) = count-padded (take k (bits 64 w)) 64 (omega (arith, length-take k (bits 64 w))) in
     omega (arith, count-le (take k (bits 64 w)), length-take k (bits 64 w)))
     (λ (h : 64 ≤ k). omega (arith, count-le (window (take k (bits 64 w)) 0 64), length-window (take k (bits 64 w)) 0 64))
-    (lt-or-le k 64)
+    (cases_lt k 64)
 
 -- at most a word
 pub count-short : (l : List Bool) (len w c : ℕ) → length l ≡ len → len ≤ 64 → bits 64 w ≡ window l 0 64 → c ≡ count (bits 64 w) → c ≡ count l
@@ -156,4 +148,4 @@ count-behind l m n c d x p e q h = ⊎_elim
     let b : d ≡ 0 = q ∙ ap (λ (i : ℕ). i * digit x) none ∙ omega arith in
     let a : count (window l 0 n) ≡ count l = count-padded l n (omega arith) in
     omega arith)
-    (lt-or-le n m)
+    (cases_lt n m)

@@ -1,18 +1,14 @@
 -- How many flags at either end are alike: in lists joined, cut, inverted and shifted, and in a number's bits. Assumes nothing.
-use mathlib.Core.Path.{◌≡◌, refl, sym, ap, ap₂, ◌∙◌}
-use mathlib.Core.Bool.{Bool, true, false, not}
-use mathlib.Core.List.{List, [], ◌∷◌, ◌++◌, map, reverse, reverse-cons, reverse-append, reverse-reverse}
-use mathlib.Core.Logic.{⊎_elim}
-use Prim.Native.Nat.{ℕ, zero, suc, ◌+◌, ◌-◌, ◌*◌, ◌/◌, ◌%◌, ◌^◌, ◌≤◌, ◌<◌, min}
-use lib.Pow.{pow_pos}
-use native.Mathlib.Omega.{arith}
-use lib.Count.{count_trailing_zeros, count_leading_zeros, under}
-use lib.ListN.{length, take, length-reverse}
-use lib.Seq.{take_all}
+use Rattle.std.proofs.Common.{◌≡◌, refl, sym, ap, ap₂, ◌∙◌, Bool, true, false, not, List, [], ◌∷◌, ◌++◌, map, reverse, ⊎_elim, ℕ, zero}
+use Rattle.std.proofs.Common.{suc, ◌+◌, ◌-◌, ◌*◌, ◌/◌, ◌%◌, ◌^◌, ◌≤◌, ◌<◌, min, pow_pos, arith, length, take, take_all}
+use Rattle.std.proofs.Math.ListN.{length-reverse}
+use mathlib.Core.List.{reverse-cons}
+use Rattle.std.proofs.lemmas.List.{reverse-append, reverse-reverse, take-map}
+use Rattle.std.specs.Int.Count.{count_trailing_zeros, count_leading_zeros, under}
+use Rattle.std.proofs.lemmas.Bool.{cases_lt}
 use Rattle.words.specs.Flags.{is_one, bits, copies}
 use Rattle.words.specs.Ends.{leading, trailing}
 use Rattle.words.proofs.Bits.{length-bits, bits-zero, bits-inj, bits-mod, bits-shl, bits-take, half_lt}
-use Rattle.words.proofs.Windows.{lt-or-le}
 
 -- ---- at the front
 
@@ -95,7 +91,7 @@ trailing-last : (x : Bool) (a b : List Bool) → min (trailing x (a ++ b)) (leng
 trailing-last x a b = ⊎_elim
     (λ (h : trailing x b < length b). omega (arith, trailing-some x a b h))
     (λ (h : length b ≤ trailing x b). omega (arith, trailing-all x a b h, trailing_le x b))
-    (lt-or-le (trailing x b) (length b))
+    (cases_lt (trailing x b) (length b))
 
 copies-snoc : (n : ℕ) (x : Bool) → copies n x ++ (x ∷ []) ≡ copies (suc n) x
 unfolding copies
@@ -174,7 +170,7 @@ end-bits (suc d) (suc n) b =
     let e : trailing false (bits (suc d) (suc n)) ≡ length (bits d (suc n / 2)) + trailing false (is_one (suc n % 2) ∷ []) =
     ap (trailing false) (bits-cons d (suc n)) ∙ trailing-all false (is_one (suc n % 2) ∷ []) (bits d (suc n / 2)) h in
     omega (arith, trailing_le false (bits d (suc n / 2))))
-    (lt-or-le (trailing false (bits d (suc n / 2))) (length (bits d (suc n / 2))))
+    (cases_lt (trailing false (bits d (suc n / 2))) (length (bits d (suc n / 2))))
 
 -- ---- of the first k flags of a word
 
@@ -182,7 +178,7 @@ take-least : (d k w : ℕ) → take (min k d) (bits d w) ≡ take k (bits d w)
 take-least d k w = ⊎_elim
     (λ (h : k < d). let e : min k d ≡ k = omega arith in ap (λ (n : ℕ). take n (bits d w)) e)
     (λ (h : d ≤ k). take_all (min k d) (bits d w) (omega (arith, length-bits d w)) ∙ sym (take_all k (bits d w) (omega (arith, length-bits d w))))
-    (lt-or-le k d)
+    (cases_lt k d)
 
 -- zeros are shifted in below them, and the zeros at the end counted, at most n
 pub trailing-shifted : (d k n v r c : ℕ) → n ≡ min k d → (n ≡ 0 → ⊥) → r ≡ v * 2 ^ (d - n) % 2 ^ d → c ≡ trailing false (bits d r)
@@ -199,15 +195,10 @@ unfolding trailing leading
 take_none x zero l e = refl
 take_none x (suc k) l e = absurd (omega arith)
 
-map-take : (f : Bool → Bool) (k : ℕ) (l : List Bool) → map f (take k l) ≡ take k (map f l)
-map-take f zero l = refl
-map-take f (suc k) [] = refl
-map-take f (suc k) (x ∷ l) = ap (λ (t : List Bool). f x ∷ t) (map-take f k l)
-
 pub leading-inverted : (k v w r : ℕ) → bits 64 v ≡ map not (bits 64 w) → r ≡ leading false (take k (bits 64 v)) → r ≡ leading true (take k (bits 64 w))
 leading-inverted k v w r e p =
-    p ∙ ap (λ (l : List Bool). leading false (take k l)) e ∙ ap (leading false) (sym (map-take not k (bits 64 w))) ∙ leading-not (take k (bits 64 w))
+    p ∙ ap (λ (l : List Bool). leading false (take k l)) e ∙ ap (leading false) (take-map not k (bits 64 w)) ∙ leading-not (take k (bits 64 w))
 
 pub trailing-inverted : (k v w r : ℕ) → bits 64 v ≡ map not (bits 64 w) → r ≡ trailing false (take k (bits 64 v)) → r ≡ trailing true (take k (bits 64 w))
 trailing-inverted k v w r e p =
-    p ∙ ap (λ (l : List Bool). trailing false (take k l)) e ∙ ap (trailing false) (sym (map-take not k (bits 64 w))) ∙ trailing-not (take k (bits 64 w))
+    p ∙ ap (λ (l : List Bool). trailing false (take k l)) e ∙ ap (trailing false) (take-map not k (bits 64 w)) ∙ trailing-not (take k (bits 64 w))

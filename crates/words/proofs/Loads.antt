@@ -1,22 +1,14 @@
 -- Loads and stores of words: byte by byte, whole in range, from any bit, and two loads that overlap. Assumes nothing.
-use mathlib.Core.Path.{◌≡◌, refl, sym, ap, ap₂, ◌∙◌, subst}
-use mathlib.Core.Bool.{Bool, false, cond, ◌&&◌}
-use mathlib.Core.List.{List, [], ◌∷◌, ◌++◌}
-use mathlib.Core.Logic.{⊎_elim}
-use Prim.Native.Nat.{ℕ, zero, suc, ◌+◌, ◌-◌, ◌*◌, ◌/◌, ◌%◌, ◌^◌, ◌≤◌, ◌<◌}
-use native.Mathlib.Nat.{le_of_lt, mod-lt, one-mul}
-use native.Mathlib.Numerals.{add-one}
-use native.Mathlib.Omega.{arith}
-use lib.ListN.{length, take, drop, get_or, set, length-append, length-drop, get_or-eq_default}
-use lib.Dec.{lit<, leb, ltb}
-use lib.Seq.{drop_at, take_all, length-take-le, get_or-take}
-use lib.Pow.{shl_exact, pow_pos}
-use lib.Bits.{bit_or}
-use borrow.Author.Tests.{lt-ltb, le-ltb, le-leb, lt-leb}
+use Rattle.std.proofs.Common.{◌≡◌, refl, sym, ap, ap₂, ◌∙◌, subst, Bool, false, cond, ◌&&◌, List, [], ◌∷◌, ◌++◌, ⊎_elim, ℕ, zero, suc}
+use Rattle.std.proofs.Common.{◌+◌, ◌-◌, ◌*◌, ◌/◌, ◌%◌, ◌^◌, ◌≤◌, ◌<◌, le_of_lt, mod-lt, one-mul, add-one, arith, length, take, drop}
+use Rattle.std.proofs.Common.{get_or, set, length-append, length-drop, lit<, leb, ltb, drop_at, take_all, length-take-le, get_or-take}
+use Rattle.std.proofs.Common.{shl_exact, pow_pos, bit_or, lt-ltb, le-ltb, le-leb}
+use Rattle.std.proofs.Math.ListN.{get_or-eq_default}
+use Rattle.std.proofs.lemmas.Bool.{cases_lt}
 use Rattle.words.specs.Flags.{bits, word_of, flags_of, window, over, over_at}
 use Rattle.words.proofs.Bits.{length-bits, bits-add, bits-take, bits-zero, bits-mod, word_of_bits, or-append}
 use Rattle.words.proofs.Bytes.{flags-append, flags-take, flags-drop, flags-one, flags-more, flags-over, length-flags, over-part}
-use Rattle.words.proofs.Windows.{lt-or-le, window-cut, window-drop, window-past, window-ext}
+use Rattle.words.proofs.Windows.{window-cut, window-drop, window-past, window-ext}
 use Rattle.words.proofs.Windows.{at-window, in_window, bits-window, over_none, over_enough, set-over}
 
 -- ---- byte by byte
@@ -138,9 +130,6 @@ low-all d k w h b =
     ap (bits d) (sym (word_of_bits d w b)) ∙ bits-window d (bits d w)
     ∙ ap (λ (l : List Bool). window l 0 d) (sym (take_all k (bits d w) (subst (λ (x : ℕ). x ≤ k) (sym (length-bits d w)) h)))
 
-pub low_divisor : (d k : ℕ) → k < d → 0 < 1 * 2 ^ k % 2 ^ d
-low_divisor d k h = subst (λ (x : ℕ). 0 < x) (sym (shl_exact 1 k d (lit< tt) (omega arith) ∙ one-mul (2 ^ k))) (pow_pos k)
-
 pub bits-more : (d m x : ℕ) → x < 2 ^ d → bits m x ≡ window (bits d x) 0 m
 bits-more d m x h = ap (bits m) (sym (word_of_bits d x h)) ∙ bits-window m (bits d x)
 
@@ -167,7 +156,7 @@ from_end l p k bit x r h e q u =
     (λ (q : k + j < 64). ap (λ (t : Bool). t && get_or l (bit + j) false) (lt-ltb (k + j) 64 q))
     (λ (q : 64 ≤ k + j). ap (λ (t : Bool). t && get_or l (bit + j) false) (le-ltb (k + j) 64 q)
     ∙ sym (get_or-eq_default l false (omega arith)))
-    (lt-or-le (k + j) 64))
+    (cases_lt (k + j) 64))
 
 -- the same of bytes: nothing is left of them, fewer than eight, or the last eight
 pub at-past : (bs : List ℕ) (at s : ℕ) → length bs ≤ at → bits 64 0 ≡ window (flags_of bs) (8 * at + s) 64
@@ -188,16 +177,7 @@ byte_last bs at x r h k b p u = from_end (flags_of bs) (8 * (length bs - 8)) (8 
 pub byte_past : (bs : List ℕ) (at : ℕ) → length bs ≤ at → bits 64 0 ≡ window (flags_of bs) (8 * at) 64
 byte_past bs at h = bits-zero 64 ∙ sym (window-past (flags_of bs) (8 * at) 64 (omega (arith, length-flags bs)))
 
-pub at-bit : (l : List Bool) (bit r : ℕ) → bits 64 r ≡ window l (8 * (bit / 8) + bit % 8) 64 → bits 64 r ≡ window l bit 64
-at-bit l bit r p = let e : 8 * (bit / 8) + bit % 8 ≡ bit = omega arith in p ∙ ap (λ (x : ℕ). window l x 64) e
-
 -- ---- a store where there is room for all eight bytes, or none
-
-pub no_room : (at n : ℕ) (new old : List Bool) → n < at + 8 → old ≡ cond (leb (at + 8) n) new old
-no_room at n new old h = ap (λ (t : Bool). cond t new old) (sym (lt-leb (at + 8) n h))
-
-pub with-room : (at n : ℕ) (out new old : List Bool) → at + 8 ≤ n → out ≡ new → out ≡ cond (leb (at + 8) n) new old
-with-room at n out new old h e = e ∙ ap (λ (t : Bool). cond t new old) (sym (le-leb (at + 8) n h))
 
 -- what a caller who knows of the room learns
 pub had-room : (at n : ℕ) (out new old : List Bool) → out ≡ cond (leb (at + 8) n) new old → at + 8 ≤ n → out ≡ new

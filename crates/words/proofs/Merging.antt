@@ -1,17 +1,14 @@
 -- Two words shifted together: two loads that overlap, `merge_reversed`, and one word behind the other. Assumes nothing.
-use mathlib.Core.Path.{◌≡◌, refl, sym, ap, ap₂, ◌∙◌, subst}
-use mathlib.Core.Bool.{Bool, true, false, ◌&&◌, ◌||◌}
-use mathlib.Core.List.{List, [], ◌∷◌, ◌++◌, zip_with, append_assoc}
-use Prim.Native.Nat.{ℕ, zero, suc, ◌+◌, ◌-◌, ◌*◌, ◌/◌, ◌%◌, ◌^◌, ◌≤◌, ◌<◌, zero-le}
-use native.Mathlib.Nat.{add_comm, le_of_lt, sub-add_cancel, mod-eq_of_lt, mod-lt, one-mul, zero-lt-suc}
-use native.Mathlib.Omega.{arith}
-use lib.ListN.{length, take, drop, get_or, length-append, length-take, get_or-append}
-use lib.Dec.{lit<, ltb}
-use lib.Seq.{take_at, drop_at, take_all, length-take-le, take-append_seam, take-append-add, get_or-take}
-use mir.Val.{bool_byte}
-use lib.Pow.{shl_exact, pow_pos, shr_lt}
-use lib.Bits.{bit_or}
-use borrow.Author.Tests.{lt-ltb, le-ltb}
+use Rattle.std.proofs.Common.{◌≡◌, refl, sym, ap, ap₂, ◌∙◌, subst, Bool, true, false, ◌&&◌, ◌||◌, List, [], ◌∷◌, ◌++◌, append_assoc, ℕ}
+use Rattle.std.proofs.Common.{zero, suc, ◌+◌, ◌-◌, ◌*◌, ◌/◌, ◌%◌, ◌^◌, ◌≤◌, ◌<◌, zero-le, add_comm, le_of_lt, sub-add_cancel}
+use Rattle.std.proofs.Common.{mod-eq_of_lt, mod-lt, one-mul, zero-lt-suc, arith, length, take, drop, get_or, length-append, length-take}
+use Rattle.std.proofs.Common.{lit<, ltb, take_at, drop_at, take_all, length-take-le, get_or-take, shl_exact, pow_pos, shr_lt, bit_or}
+use Rattle.std.proofs.Common.{lt-ltb, le-ltb}
+use Rattle.std.proofs.Math.ListN.{get_or-append}
+use Rattle.std.proofs.Math.Seq.{take-append_seam, take-append-add}
+use mathlib.Core.List.{zip_with}
+use Rattle.std.specs.Int.{from_bool}
+use Rattle.std.proofs.Math.Bool.{or-false}
 use Rattle.words.specs.Flags.{bits, copies, window}
 use Rattle.words.specs.Merge.{merged}
 use Rattle.words.proofs.Bits.{length-bits, bits-add, bits-take, bits-zero, bits-ones, bits-mod, bits-shl, bits-or, bits-join}
@@ -24,10 +21,6 @@ zip-append f [] b [] d e = refl
 zip-append f [] b (y ∷ c) d e = absurd (omega arith)
 zip-append f (x ∷ a) b [] d e = absurd (omega arith)
 zip-append f (x ∷ a) b (y ∷ c) d e = ap (λ (t : List Bool). f x y ∷ t) (zip-append f a b c d (omega arith))
-
-or-false : (x : Bool) → (x || false) ≡ x
-or-false true = refl
-or-false false = refl
 
 or-part : (t x : Bool) → ((t && x) || x) ≡ x
 or-part true true = refl
@@ -159,11 +152,7 @@ up-past d k b h = bits-zero d ∙ as-window (copies d false) (copies k false ++ 
 one_shifted : (d n : ℕ) → n < d → 1 * 2 ^ n % 2 ^ d ≡ 2 ^ n
 one_shifted d n h = shl_exact 1 n d (lit< tt) (omega arith) ∙ one-mul (2 ^ n)
 
-pub byte-shifted : (d n : ℕ) (x : Bool) → n < d → bool_byte x ≤ bool_byte x * 2 ^ n % 2 ^ d
-byte-shifted d n false h = omega arith
-byte-shifted d n true h = subst (λ (y : ℕ). 1 ≤ y) (sym (one_shifted d n h)) (pow_pos n)
-
-pub copies-some : (d n : ℕ) (x : Bool) → n < d → bits d (bool_byte x * 2 ^ n % 2 ^ d - bool_byte x) ≡ window (copies n x) 0 d
+pub copies-some : (d n : ℕ) (x : Bool) → n < d → bits d (from_bool x * 2 ^ n % 2 ^ d - from_bool x) ≡ window (copies n x) 0 d
 copies-some d n false h =
     let z : 0 * 2 ^ n ≡ 0 = omega arith in
     let e : 0 * 2 ^ n % 2 ^ d - 0 ≡ 0 = ap (λ (x : ℕ). x % 2 ^ d - 0) z ∙ ap (λ (x : ℕ). x - 0) (mod-eq_of_lt (pow_pos d)) in

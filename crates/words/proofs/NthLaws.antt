@@ -1,23 +1,14 @@
 -- The set flag number n, in a list cut in two and in a word whose low half is counted. Assumes nothing.
 use Rattle.std.specs.Prelude.{Ok, Err}
-use mathlib.Core.Path.{◌≡◌, refl, sym, ap, ap₂, ◌∙◌, subst}
-use mathlib.Core.Bool.{Bool, true, false, cond}
-use mathlib.Core.List.{List, [], ◌∷◌, ◌++◌}
-use mathlib.Core.Logic.{⊎_elim}
-use Prim.Native.Nat.{ℕ, zero, suc, ◌+◌, ◌-◌, ◌*◌, ◌/◌, ◌%◌, ◌^◌, ◌≤◌, ◌<◌}
-use native.Mathlib.Nat.{mod-lt, add-sub_of_le, sub-add_cancel, div-one}
-use native.Mathlib.Omega.{arith}
-use lib.Dec.{ltb}
-use lib.Pow.{pow_pos}
-use lib.Count.{ones}
-use lib.ListN.{length, take}
-use lib.Seq.{take_all}
+use Rattle.std.proofs.Common.{◌≡◌, refl, sym, ap, ap₂, ◌∙◌, subst, Bool, true, false, cond, List, [], ◌∷◌, ◌++◌, ⊎_elim, ℕ, zero, suc}
+use Rattle.std.proofs.Common.{◌+◌, ◌-◌, ◌*◌, ◌/◌, ◌%◌, ◌^◌, ◌≤◌, ◌<◌, mod-lt, add-sub_of_le, sub-add_cancel, div-one, arith, ltb, pow_pos}
+use Rattle.std.proofs.Common.{length, take, take_all, lt-ltb, le-ltb}
+use Rattle.std.specs.Int.Count.{ones}
+use Rattle.std.proofs.lemmas.Bool.{cases_lt}
 use Rattle.words.specs.Flags.{bits, copies, count}
-use borrow.Author.Tests.{lt-ltb, le-ltb}
 use Rattle.words.specs.Nth.{nth_one, nth_place}
 use Rattle.words.proofs.Bits.{bits-add, bits-mod, bits-shl, bits-take, length-bits}
 use Rattle.words.proofs.Counting.{ones-bits, count-append, count-copies}
-use Rattle.words.proofs.Windows.{lt-or-le}
 
 -- in two lists in a row
 pub nth-low : (a b : List Bool) (n : ℕ) → n < count a → nth_place (a ++ b) n ≡ nth_place a n
@@ -87,7 +78,7 @@ pub behind-ones : (n k r : ℕ) → r ≡ cond (ltb n k) 0 k → r ≤ n
 behind-ones n k r e = ⊎_elim
     (λ (h : n < k). let z : r ≡ 0 = rw (lt-ltb n k h) at e in omega arith)
     (λ (h : k ≤ n). let z : r ≡ k = rw (le-ltb n k h) at e in omega arith)
-    (lt-or-le n k)
+    (cases_lt n k)
 
 module _ (d h w n k s o : ℕ) (l : h ≤ d - h) (e : k ≡ count (bits h w)) (es : s ≡ cond (ltb n k) 0 h) (eo : o ≡ cond (ltb n k) 0 k) (inside : n < count (bits d w)) where
   whole : (x : ℕ) → x ≡ 0 → w / 2 ^ x ≡ w
@@ -106,7 +97,7 @@ module _ (d h w n k s o : ℕ) (l : h ≤ d - h) (e : k ≡ count (bits h w)) (e
       let zs : s ≡ h = rw (le-ltb n k q) at es in
       let zo : o ≡ k = rw (le-ltb n k q) at eo in
       rw zs (omega (arith, count_cut d h w (omega arith))))
-      (lt-or-le n k)
+      (cases_lt n k)
 
   pub half_place : (r : ℕ) → r ≡ nth_place (bits (d - h) (w / 2 ^ s)) (n - o) → s + r ≡ nth_place (bits d w) n
   half_place r p = ⊎_elim
@@ -122,7 +113,7 @@ module _ (d h w n k s o : ℕ) (l : h ≤ d - h) (e : k ≡ count (bits h w)) (e
       let zo : o ≡ k = rw (le-ltb n k q) at eo in
       ap (λ (x : ℕ). x + r) zs
       ∙ place-high d h w n k r (omega arith) e q (p ∙ ap₂ (λ (x y : ℕ). nth_place (bits (d - h) (w / 2 ^ x)) (n - y)) zs zo))
-      (lt-or-le n k)
+      (cases_lt n k)
 
 pub place-lt : (d w n : ℕ) → n < count (bits d w) → nth_place (bits d w) n < d
 place-lt d w n h = subst (λ (x : ℕ). nth_place (bits d w) n < x) (length-bits d w) (nth-lt (bits d w) n h)

@@ -3,17 +3,14 @@
 --
 -- `digit`, `bit_at`, `flag_at` and `op_of` are read as they stand. Of a list l, flag j is `get_or l j false`: false from its end on.
 use Rattle.std.specs.Prelude.{Ok, Err}
-use mathlib.Core.Path.{◌≡◌, refl, sym, ap, ◌∙◌}
-use mathlib.Core.Bool.{Bool, true, false, xor}
-use mathlib.Core.List.{List, [], ◌∷◌, ◌++◌}
-use mathlib.Core.Logic.{⊎_elim}
-use Prim.Native.Nat.{ℕ, zero, suc, ◌+◌, ◌-◌, ◌*◌, ◌/◌, ◌%◌, ◌^◌, ◌≤◌, ◌<◌, min}
-use native.Mathlib.Nat.{zero-add, zero-div, div-one, mod-lt, zero-lt-suc}
-use native.Mathlib.Omega.{arith}
-use lib.ListN.{length, take, drop, get_or, length-append, length-take, length-drop, get_or-eq_default, get_or-append}
-use lib.Seq.{get_or-take, get_or-drop, get_or-append-add, length-take-le}
-use lib.Dec.{eqb}
-use borrow.Author.Tests.{lt-ltb, le-ltb}
+use Rattle.std.proofs.Common.{◌≡◌, refl, sym, ap, ◌∙◌, Bool, true, false, List, [], ◌∷◌, ◌++◌, ⊎_elim, ℕ, zero, suc, ◌+◌, ◌-◌, ◌*◌, ◌/◌}
+use Rattle.std.proofs.Common.{◌%◌, ◌^◌, ◌≤◌, ◌<◌, min, zero-add, div-one, mod-lt, zero-lt-suc, arith, length, take, drop, get_or}
+use Rattle.std.proofs.Common.{length-append, length-take, length-drop, get_or-take, get_or-drop, get_or-append-add, length-take-le, eqb}
+use Rattle.std.proofs.Common.{lt-ltb, le-ltb}
+use Rattle.std.proofs.Math.Bool.{xor}
+use Rattle.std.proofs.Math.ListN.{get_or-eq_default, get_or-append}
+use Rattle.std.proofs.Math.Nat.{zero-div}
+use Rattle.std.proofs.lemmas.Bool.{cases_lt}
 use Rattle.words.specs.Flags.{is_one, digit, bit_at, flag_at, bits, word_of, flags_of, copies, count, window, over, over_at}
 use Rattle.words.specs.Counts.{any_set, same_flags}
 use Rattle.words.specs.Loops.{stretch, combined, whole_words}
@@ -29,7 +26,7 @@ use Rattle.words.proofs.Combining.{at-zip-in}
 use Rattle.words.proofs.Counting.{count-append}
 use Rattle.words.proofs.NthLaws.{nth-lt}
 use Rattle.words.proofs.UniformLaws.{all_none, all_cons}
-use Rattle.words.proofs.Windows.{lt-or-le, length-window, window-all, window-cut, at_in, bits-window, length_over, over_at-past}
+use Rattle.words.proofs.Windows.{length-window, window-all, window-cut, at_in, bits-window, length_over, over_at-past}
 
 -- ---- numbers and bytes
 
@@ -56,7 +53,7 @@ at-flags (b ∷ bytes) j = ⊎_elim
     let r : j % 8 ≡ (j - 8) % 8 = omega arith in
     rw (q, r)
     (ap (λ (x : ℕ). get_or (bits 8 b ++ flags_of bytes) x false) e ∙ get_or-append-add (bits 8 b) (flags_of bytes) (j - 8) false ∙ at-flags bytes (j - 8)))
-    (lt-or-le j 8)
+    (cases_lt j 8)
 
 -- So a flag can be read from its byte alone.
 pub read-flag : (bytes : List ℕ) (j b : ℕ) → b ≡ get_or bytes (j / 8) 0 → eqb (b / 2 ^ (j % 8) % 2) 1 ≡ get_or (flags_of bytes) j false
@@ -119,7 +116,7 @@ at-whole l j = ⊎_elim
     (λ (h : j < 64 * ((length l + 63) / 64)). at_in l 0 (64 * ((length l + 63) / 64)) j h ∙ ap (λ (x : ℕ). get_or l x false) (zero-add j))
     (λ (h : 64 * ((length l + 63) / 64) ≤ j).
     get_or-eq_default (whole_words l) false (omega (arith, length_whole l)) ∙ sym (get_or-eq_default l false (omega arith)))
-    (lt-or-le j (64 * ((length l + 63) / 64)))
+    (cases_lt j (64 * ((length l + 63) / 64)))
 
 -- ---- writing
 
@@ -150,7 +147,7 @@ unfolding over_at
 over_at-before l n m j h = ⊎_elim
     (λ (k : j < length l). get_or-append (take n l) (over (drop n l) m) false j (omega (arith, length-take n l)) ∙ get_or-take n l j false h)
     (λ (k : length l ≤ j). get_or-eq_default (over_at l n m) false (omega (arith, length-over_at l n m)) ∙ sym (get_or-eq_default l false k))
-    (lt-or-le j (length l))
+    (cases_lt j (length l))
 
 -- from n on what is written over the rest of l:
 over_at-rest : (l : List Bool) (n : ℕ) (m : List Bool) (j : ℕ) → n ≤ length l → get_or (over_at l n m) (n + j) false ≡ get_or (over (drop n l) m) j false
@@ -168,7 +165,7 @@ pub over_at-behind : (l : List Bool) (n : ℕ) (m : List Bool) (j : ℕ) → len
 over_at-behind l n m j h = ⊎_elim
     (λ (k : n < length l). over_at-rest l n m j (omega arith) ∙ at-behind (drop n l) m j false h ∙ get_or-drop n l j false)
     (λ (k : length l ≤ n). ap (λ (t : List Bool). get_or t (n + j) false) (sym (over_at-past l n m k)))
-    (lt-or-le n (length l))
+    (cases_lt n (length l))
 
 -- ---- two words read as one
 
@@ -253,7 +250,7 @@ pub missing-nth : (l : List Bool) (n k : ℕ) → nth_one l n ≡ Err k → (k �
 missing-nth l n k e = ⊎_elim
     (λ (h : n < count l). absurd (let f : nth_one l n ≡ Ok (nth_place l n) = nth-found l n h in let z : ◌≡◌ {A = ℕ} 0 1 = cc in omega arith))
     (λ (h : count l ≤ n). let f : nth_one l n ≡ Err (count l) = nth-missing l n h in let p : k ≡ count l = cc in (p, h))
-    (lt-or-le n (count l))
+    (cases_lt n (count l))
 
 -- ---- is a flag set, and are two lists the same
 

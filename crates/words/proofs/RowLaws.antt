@@ -1,21 +1,13 @@
 -- Words added flag by flag, seven rows of words counted side by side, and the parts of a stretch that is counted. Assumes nothing.
-use mathlib.Core.Path.{◌≡◌, refl, sym, ap, ap₂, ◌∙◌}
-use mathlib.Core.Bool.{Bool, true, false}
-use mathlib.Core.List.{List, [], ◌∷◌}
-use Prim.Native.Nat.{ℕ, suc, ◌+◌, ◌-◌, ◌*◌, ◌/◌, ◌%◌, ◌≤◌, ◌<◌}
-use native.Mathlib.Omega.{arith}
-use lib.Dec.{leb}
-use borrow.Author.Tests.{leb-true}
-use Rattle.words.specs.Kernels.{WholeWords}
-use lib.ListN.{length, take, drop, get_or}
-use lib.Seq.{take_all}
-use mathlib.Core.Logic.{⊎_elim}
-use Rattle.words.specs.Flags.{bits, count, digit, flags_of, window}
+use Rattle.std.proofs.Common.{◌≡◌, refl, sym, ap, ◌∙◌, Bool, false, List, [], ◌∷◌, ℕ, suc, ◌+◌, ◌-◌, ◌*◌, ◌≤◌, ◌<◌}
+use Rattle.std.proofs.Common.{arith, length, take, get_or, take_all, ⊎_elim}
+use Rattle.std.proofs.lemmas.Bool.{cases_lt}
+use Rattle.words.specs.Flags.{bits, count, digit, window}
 use Rattle.words.specs.Planes.{Added}
 use Rattle.words.proofs.Bits.{length-bits}
 use Rattle.words.proofs.Counting.{count_add, count-le, count_none, count_past, count-within, count_word}
-use Rattle.words.proofs.Loads.{moved-flags, whole_part}
-use Rattle.words.proofs.Windows.{in_window, lt-or-le, window-cut}
+use Rattle.words.proofs.Loads.{moved-flags}
+use Rattle.words.proofs.Windows.{in_window, window-cut}
 
 -- ---- words added flag by flag
 
@@ -144,7 +136,7 @@ count-first-flags l bit k w c h p e = ⊎_elim
     (λ (j : k ≤ 64).
     let z : bit + 0 ≡ bit = omega arith in
     e ∙ ap count (ap (take k) p ∙ window-cut l bit 64 0 k (omega arith)) ∙ ap (λ (x : ℕ). count (window l x k)) z)
-    (lt-or-le 64 k)
+    (cases_lt 64 k)
 
 -- of a word moved down by k flags
 pub count-moved : (l : List Bool) (at k n b x r c : ℕ) → k + n ≤ 64 → bits 64 x ≡ window l at 64 → bits 64 r ≡ window (bits 64 x) k 64 → c ≡ count (take n (bits 64 r)) → at + k ≡ b
@@ -161,13 +153,3 @@ count-moved-all l at k b x r c h p q e f =
     let past : count (window (bits 64 x) 64 k) ≡ 0 = count_past (bits 64 x) 64 k (omega (arith, length-bits 64 x)) in
     let all : count (bits 64 r) ≡ count (window (bits 64 x) k 64) = ap count q in
     omega arith
-
--- ---- whole words
-
-pub all_whole : (size start len r : ℕ) → start % 8 + len % 64 ≡ 0 → r ≡ (size - start / 8) / 8 → leb (len / 64) r ≡ true → WholeWords size start len
-all_whole size start len r e f h = let k : len / 64 ≤ r = leb-true (len / 64) r h in record { at_byte = omega arith; no_rest = omega arith; inside = omega arith }
-
--- ---- `&bytes[0..]` is all bytes
-
-pub lent-count : (bytes : List ℕ) (p q n m c : ℕ) → c ≡ count (window (flags_of (take (length bytes - 0) (drop 0 bytes))) q m) → q ≡ p → m ≡ n → c ≡ count (window (flags_of bytes) p n)
-lent-count bytes p q n m c e a b = e ∙ ap (λ (l : List ℕ). count (window (flags_of l) q m)) (whole_part bytes) ∙ ap₂ (λ (x y : ℕ). count (window (flags_of bytes) x y)) a b

@@ -1,22 +1,21 @@
 -- Whether all flags of a list are one flag: by the flag, in lists joined, word by word, and by the flags unlike it. Assumes nothing.
-use mathlib.Core.Path.{◌≡◌, refl, sym, ap, ap₂, ◌∙◌}
-use mathlib.Core.Bool.{Bool, true, false, not, xor, ◌&&◌, ◌||◌}
-use mathlib.Core.Logic.{⊎_elim}
-use mathlib.Core.List.{List, [], ◌∷◌, ◌++◌, map}
-use Prim.Native.Nat.{ℕ, zero, suc, ◌+◌, ◌-◌, ◌*◌, ◌/◌, ◌%◌, ◌≤◌, ◌<◌, min}
-use native.Mathlib.Omega.{arith}
-use lib.Dec.{eqb, leb, ltb}
-use lib.Seq.{take_all}
-use lib.ListN.{length, take, get_or, length-take, length-map}
-use borrow.Author.Tests.{eq-eqb, ne_eqb, eqb-true, eqb-false, le-leb, lt-leb, not-true}
+use Rattle.std.proofs.Common.{◌≡◌, refl, sym, ap, ap₂, ◌∙◌, Bool, true, false, not, ◌&&◌, ◌||◌, ⊎_elim, List, [], ◌∷◌, ◌++◌, map, ℕ, zero}
+use Rattle.std.proofs.Common.{suc, ◌+◌, ◌-◌, ◌*◌, ◌/◌, ◌%◌, ◌≤◌, ◌<◌, min, arith, eqb, leb, ltb, take_all, length, take}
+use Rattle.std.proofs.Common.{length-take, eq-eqb, ne_eqb, eqb-true, le-leb}
+use Rattle.std.proofs.Math.Bool.{xor, and-false, or-false, not-not, and_assoc}
+use Rattle.std.proofs.Math.ListN.{length-map}
+use Rattle.std.proofs.lemmas.Bool.{eqb-false, lt-leb, not-true}
+use Rattle.std.proofs.lemmas.List.{take-map, get_or-map}
+use Rattle.std.proofs.Common.{true≢false}
+use Rattle.std.proofs.lemmas.Bool.{cases_lt}
 use Rattle.words.specs.Flags.{bits, count, digit, flags_of, window}
 use Rattle.words.specs.Counts.{any_set}
 use Rattle.words.specs.Uniform.{all_are, differs_early}
-use Rattle.words.proofs.AnyFlag.{and-false, any-add, any-copies, any-padded, unsaid}
+use Rattle.words.proofs.AnyFlag.{any-add, any-copies, any-padded}
 use Rattle.words.proofs.Bits.{length-bits}
 use Rattle.words.proofs.Counting.{count-le, span-word}
 use Rattle.words.proofs.Loads.{near-flags}
-use Rattle.words.proofs.Windows.{lt-or-le, in_window, length-window, window-add, window-cut, window-past}
+use Rattle.words.proofs.Windows.{in_window, length-window, window-add, window-cut, window-past}
 
 -- ---- by the flag
 
@@ -51,23 +50,11 @@ unfolding xor
 zero_xor true = refl
 zero_xor false = refl
 
-or-false : (x : Bool) → (x || false) ≡ x
-or-false true = refl
-or-false false = refl
-
-not-not : (x : Bool) → not (not x) ≡ x
-not-not true = refl
-not-not false = refl
-
-and_again : (x y z : Bool) → (x && (y && z)) ≡ ((x && y) && z)
-and_again true y z = refl
-and_again false y z = refl
-
 pub all_append : (x : Bool) (a b : List Bool) → all_are x (a ++ b) ≡ (all_are x a && all_are x b)
 all_append x [] b = sym (ap (λ (t : Bool). t && all_are x b) (all_none x))
 all_append x (y ∷ a) b =
     all_cons x y (a ++ b) ∙ ap (λ (t : Bool). not (xor x y) && t) (all_append x a b)
-    ∙ and_again (not (xor x y)) (all_are x a) (all_are x b) ∙ ap (λ (t : Bool). t && all_are x b) (sym (all_cons x y a))
+    ∙ sym (and_assoc (not (xor x y)) (all_are x a) (all_are x b)) ∙ ap (λ (t : Bool). t && all_are x b) (sym (all_cons x y a))
 
 -- no flag is unlike it
 pub all_any : (x : Bool) (l : List Bool) → not (any_set (map (xor x) l)) ≡ all_are x l
@@ -94,11 +81,6 @@ unlike_zero x w e = each (bits 64 w) ∙ ap (λ (y : Bool). map (xor y) (bits 64
     each [] = refl
     each (y ∷ l) = ap₂ (λ (z : Bool) (t : List Bool). z ∷ t) (zero_xor y) (each l)
 
-take-map : (f : Bool → Bool) (k : ℕ) (l : List Bool) → take k (map f l) ≡ map f (take k l)
-take-map f zero l = refl
-take-map f (suc k) [] = refl
-take-map f (suc k) (x ∷ l) = ap (λ (t : List Bool). f x ∷ t) (take-map f k l)
-
 -- the low flags of a word
 pub all-low : (x : Bool) (k w u r : ℕ) (t : Bool) → bits 64 u ≡ map (xor x) (bits 64 w) → bits 64 r ≡ window (take k (bits 64 u)) 0 64 → t ≡ any_set (bits 64 r)
     → not t ≡ all_are x (take k (bits 64 w))
@@ -109,15 +91,10 @@ all-low x k w u r t p q e =
 
 -- ---- windows
 
-at_map : (f : Bool → Bool) (l : List Bool) (k : ℕ) → k < length l → get_or (map f l) k false ≡ f (get_or l k false)
-at_map f [] k h = absurd (omega arith)
-at_map f (x ∷ l) zero h = refl
-at_map f (x ∷ l) (suc k) h = at_map f l k (omega arith)
-
 window-map : (f : Bool → Bool) (l : List Bool) (k n : ℕ) → k + n ≤ length l → window (map f l) k n ≡ map f (window l k n)
 unfolding window
 window-map f l k zero h = refl
-window-map f l k (suc n) h = ap₂ (λ (x : Bool) (t : List Bool). x ∷ t) (at_map f l k (omega arith)) (window-map f l (suc k) n (omega arith))
+window-map f l k (suc n) h = ap₂ (λ (x : Bool) (t : List Bool). x ∷ t) (get_or-map f l k false false (omega arith)) (window-map f l (suc k) n (omega arith))
 
 all-cut : (x : Bool) (l : List Bool) (k n a b : ℕ) → n ≡ a + b → all_are x (window l k n) ≡ (all_are x (window l k a) && all_are x (window l (k + a) b))
 all-cut x l k n a b e = ap (λ (m : ℕ). all_are x (window l k m)) e ∙ ap (all_are x) (window-add l k a b) ∙ all_append x (window l k a) (window l (k + a) b)
@@ -125,10 +102,6 @@ all-cut x l k n a b e = ap (λ (m : ℕ). all_are x (window l k m)) e ∙ ap (al
 pub all-empty : (x : Bool) (l : List Bool) (p : ℕ) → true ≡ all_are x (window l p (64 * 0))
 unfolding window
 all-empty x l p = sym (all_none x)
-
--- all words
-pub all_words : (x : Bool) (l : List Bool) (p i n : ℕ) → true ≡ all_are x (window l p (64 * i)) → i ≤ n → n ≤ i → true ≡ all_are x (window l p (64 * n))
-all_words x l p i n e h k = let same : 64 * i ≡ 64 * n = omega arith in e ∙ ap (λ (m : ℕ). all_are x (window l p m)) same
 
 -- a part with another flag: the whole has it
 pub all-exit : (x : Bool) (l : List Bool) (p n k m : ℕ) (t : Bool) → t ≡ all_are x (window l k m) → t ≡ false → p ≤ k → k + m ≤ p + n → false ≡ all_are x (window l p n)
@@ -172,7 +145,7 @@ any-inside l s n e h = ⊎_elim
     ∙ ap (λ (t : List Bool). any_set (window l s (64 - s)) || any_set t) (window-past l (s + (64 - s)) (min n 64 - (64 - s)) (omega arith))
     ∙ ap (λ (t : Bool). any_set (window l s (64 - s)) || t) (any-copies (min n 64 - (64 - s)) false ∙ and-false (ltb 0 (min n 64 - (64 - s))))
     ∙ or-false (any_set (window l s (64 - s))) ∙ ap (λ (y : ℕ). any_set (window l s y)) b)
-    (lt-or-le n (64 - s))
+    (cases_lt n (64 - s))
   where
     first : 64 - s ≤ n → take n (window l s 64) ≡ window l s (min n 64)
     first p = ⊎_elim
@@ -183,7 +156,7 @@ any-inside l s n e h = ⊎_elim
         (λ (q : 64 ≤ n).
         let b : 64 ≡ min n 64 = omega arith in
         take_all n (window l s 64) (omega (arith, length-window l s 64)) ∙ ap (window l s) b)
-        (lt-or-le n 64)
+        (cases_lt n 64)
 
 -- a flag unlike x among the first flags of the eight bytes in which a stretch begins
 pub differs : (x : Bool) (l : List Bool) (start n w u v r : ℕ) (t : Bool) → bits 64 w ≡ window l (8 * (start / 8)) 64 → bits 64 u ≡ map (xor x) (bits 64 w)
@@ -220,7 +193,7 @@ early-other x bytes start n t e said = go (leb (start / 8 + 8) (length bytes)) (
 
     go : (b : Bool) → true ≡ (b && not (all_are x first)) → all_are x (window (flags_of bytes) start n) ≡ false
     go true p = sym (all-exit x (flags_of bytes) start n start (min n (64 - start % 8)) (all_are x first) refl (not-true (all_are x first) (sym p)) (omega arith) (omega arith))
-    go false p = unsaid (sym p)
+    go false p = absurd (true≢false p)
 
 -- ---- word by word
 

@@ -1,33 +1,21 @@
 -- The laws of `window` and `over`: none has a condition on the length of the list that is read. Assumes nothing.
-use mathlib.Core.Path.{◌≡◌, refl, sym, ap, ap₂, ◌∙◌}
-use mathlib.Core.Bool.{Bool, true, false, ◌&&◌}
-use mathlib.Core.List.{List, [], ◌∷◌, ◌++◌}
-use mathlib.Core.Logic.{◌⊎◌, inl, inr, ⊎_elim}
-use Prim.Native.Nat.{ℕ, zero, suc, ◌+◌, ◌-◌, ◌^◌, ◌≤◌, ◌<◌, zero-le}
-use native.Mathlib.Nat.{add-zero, zero-add, add-suc, suc-add, lt_of_lt_of_le}
-use native.Mathlib.Omega.{arith}
-use lib.ListN.{length, take, drop, get_or, set, length-take, get_or-eq_default}
-use lib.Dec.{ltb, leb-suc-suc}
-use lib.Seq.{get_or-drop, get_or-take, take_at, drop_at}
-use lib.Pow.{pow_mono}
-use lib.Arith.{digits_div, digits_mod}
-use borrow.Author.Tests.{lt-ltb, le-ltb, ltb-true, ltb-false}
+use Rattle.std.proofs.Common.{◌≡◌, refl, sym, ap, ap₂, ◌∙◌, Bool, false, ◌&&◌, List, [], ◌∷◌, ◌++◌, ⊎_elim, ℕ, zero}
+use Rattle.std.proofs.Common.{suc, ◌+◌, ◌-◌, ◌^◌, ◌≤◌, ◌<◌, zero-le, add-zero, zero-add, add-suc, suc-add, lt_of_lt_of_le, arith, length}
+use Rattle.std.proofs.Common.{take, drop, get_or, set, length-take, ltb, get_or-drop, get_or-take, take_at, drop_at, pow_mono, lt-ltb}
+use Rattle.std.proofs.Common.{le-ltb}
+use Rattle.std.proofs.Math.Arith.{digits_div, digits_mod}
+use Rattle.std.proofs.Math.Dec.{leb-suc-suc}
+use Rattle.std.proofs.Math.ListN.{get_or-eq_default}
+pub use Rattle.std.proofs.lemmas.Bool.{cases_lt as lt-or-le}
+use Rattle.std.proofs.lemmas.Bool.{cases_lt}
 use Rattle.words.specs.Flags.{is_one, bits, word_of, copies, window, over, over_at}
 use Rattle.words.proofs.Bits.{bits-zero, digit_lt, is_one-digit, word_of_bits, word_of_lt}
-
--- the two cases of a comparison
-pub lt-or-le : (a b : ℕ) → (a < b) ⊎ (b ≤ a)
-lt-or-le a b = go (ltb a b) refl
-  where
-    go : (t : Bool) → ltb a b ≡ t → (a < b) ⊎ (b ≤ a)
-    go true e = inl (ltb-true a b e)
-    go false e = inr (ltb-false a b e)
 
 pub ltb-sub : (j m f : ℕ) → ltb j (m - f) ≡ ltb (f + j) m
 ltb-sub j m f = ⊎_elim
     (λ (h : f + j < m). lt-ltb j (m - f) (omega arith) ∙ sym (lt-ltb (f + j) m h))
     (λ (h : m ≤ f + j). le-ltb j (m - f) (omega arith) ∙ sym (le-ltb (f + j) m h))
-    (lt-or-le (f + j) m)
+    (cases_lt (f + j) m)
 
 pub length-window : (l : List Bool) (k n : ℕ) → length (window l k n) ≡ n
 unfolding window
@@ -105,7 +93,7 @@ pub at_take : (n : ℕ) (l : List Bool) (j : ℕ) → get_or (take n l) j false 
 at_take n l j = ⊎_elim
     (λ (h : j < n). rw (lt-ltb j n h) (get_or-take n l j false h))
     (λ (h : n ≤ j). rw (le-ltb j n h) (get_or-eq_default (take n l) false (omega (arith, length-take n l))))
-    (lt-or-le j n)
+    (cases_lt j n)
 
 -- windows with the same flags are equal
 pub window-ext : (a b : List Bool) (k h n : ℕ) → ((j : ℕ) → j < n → get_or a (k + j) false ≡ get_or b (h + j) false) → window a k n ≡ window b h n

@@ -1,6 +1,6 @@
 -- The rows of `specs/WordRows.antt`, all at once and by computation. Assumes nothing.
-use mathlib.Core.Path.{refl}
-use mathlib.Core.Bool.{xor}
+use Rattle.std.proofs.Common.{refl}
+use Rattle.std.proofs.Math.Bool.{xor}
 use Rattle.words.specs.Counts.{any_set, same_flags}
 use Rattle.words.specs.Flags.{bits, copies, count, flags_of, over, over_at, window}
 use Rattle.words.specs.Loops.{whole_words}

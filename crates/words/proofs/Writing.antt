@@ -1,15 +1,11 @@
 -- Loops that write a word a turn: F is the output's flags at first, G what is written over them, zeros past its end. Assumes nothing.
-use mathlib.Core.Path.{◌≡◌, sym, ap, ap₂, ◌∙◌}
-use mathlib.Core.Bool.{Bool, false}
-use mathlib.Core.List.{List}
-use mathlib.Core.Logic.{⊎_elim}
-use Prim.Native.Nat.{ℕ, ◌+◌, ◌-◌, ◌*◌, ◌/◌, ◌%◌, ◌≤◌, ◌<◌}
-use native.Mathlib.Omega.{arith}
-use lib.ListN.{length, take, get_or, get_or-eq_default}
-use borrow.Author.Tests.{lt-ltb, le-ltb}
+use Rattle.std.proofs.Common.{◌≡◌, sym, ap, ap₂, ◌∙◌, Bool, false, List, ⊎_elim, ℕ, ◌+◌, ◌-◌, ◌*◌, ◌/◌, ◌%◌, ◌≤◌, ◌<◌, arith, length}
+use Rattle.std.proofs.Common.{take, get_or, lt-ltb, le-ltb}
+use Rattle.std.proofs.Math.ListN.{get_or-eq_default}
+use Rattle.std.proofs.lemmas.Bool.{cases_lt}
 use Rattle.words.specs.Flags.{bits, copies, flags_of, window, over, over_at}
 use Rattle.words.specs.Loops.{whole_words}
-use Rattle.words.proofs.Windows.{lt-or-le, length-copies, at_copies, length-window, window-add, window-all, window-ext, at_take, over_none, over-more, over_enough}
+use Rattle.words.proofs.Windows.{length-copies, at_copies, length-window, window-add, window-all, window-ext, at_take, over_none, over-more, over_enough}
 
 pub write-none : (F G : List Bool) → F ≡ over F (window G 0 0)
 unfolding window
@@ -59,7 +55,7 @@ write-end F G len m i out p l_f l_g full h =
     p ∙ sym (over_enough F (window G 0 (64 * i)) (window G (0 + 64 * i) (64 * ((len + 63) / 64) - 64 * i)) (omega (arith, length-window G 0 (64 * i))))
     ∙ ap (over F) (sym (window-add G 0 (64 * i) (64 * ((len + 63) / 64) - 64 * i)) ∙ ap (window G 0) e))
     (λ (l : (len + 63) / 64 ≤ i). let e : i ≡ (len + 63) / 64 = omega arith in p ∙ ap (λ (x : ℕ). over F (window G 0 (64 * x))) e)
-    (lt-or-le i ((len + 63) / 64))
+    (cases_lt i ((len + 63) / 64))
     ∙ ap (λ (n : ℕ). over F (window G 0 (64 * ((n + 63) / 64)))) (sym l_g)
 
 -- the last, cut word of copies
@@ -71,7 +67,7 @@ copies-cut len x k w r h q p = p ∙ ap (λ (t : List Bool). window (take (len -
     ∙ ⊎_elim
     (λ (l : j < len - k). rw (lt-ltb j (len - k) l) (at_copies 64 x j b ∙ sym (at_copies len x (k + j) (omega arith))))
     (λ (l : len - k ≤ j). rw (le-ltb j (len - k) l) (sym (get_or-eq_default (copies len x) false (omega (arith, length-copies len x)))))
-    (lt-or-le j (len - k)))
+    (cases_lt j (len - k)))
 
 -- at most a word
 pub write-once : (G : List Bool) (len w : ℕ) (out out' : List ℕ) → length G ≡ len → 0 < len → len ≤ 64 → bits 64 w ≡ window G 0 64 → flags_of out' ≡ over (flags_of out) (bits 64 w)

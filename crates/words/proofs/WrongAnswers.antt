@@ -2,13 +2,7 @@
 --
 -- Two answers differ if their codes, lists of numbers, differ: whatever a code is, equal answers have equal codes.
 use Rattle.std.specs.Prelude.{Result, Ok, Err}
-use Prim.Native.Nat.{ℕ}
-use mathlib.Core.Path.{◌≡◌, refl, sym, ap, ◌∙◌}
-use mathlib.Core.Bool.{Bool, true, false, ◌&&◌}
-use mathlib.Core.List.{List, [], ◌∷◌, map}
-use native.Mathlib.Omega.{arith}
-use lib.Dec.{eqb}
-use borrow.Author.Tests.{eq-eqb}
+use Rattle.std.proofs.Common.{ℕ, ◌≡◌, refl, sym, ap, ◌∙◌, Bool, true, false, ◌&&◌, List, [], ◌∷◌, map, arith, eqb, eq-eqb}
 use Rattle.words.specs.Flags.{bits, count, digit, flags_of, window}
 use Rattle.words.specs.Merge.{merged}
 use Rattle.words.specs.Nth.{nth_one, nth_place}

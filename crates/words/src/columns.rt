@@ -2,16 +2,14 @@
 ghost use Rattle.std.specs.Prelude.{◌≡◌, take};
 ghost use Rattle.words.specs.Columns.{column_counts, digit_of};
 
-use crate::planes::{add_eights, add_rest, digit_at, spread};
+use crate::planes::{digit_at, spread, totals};
 
 // Returns for each flag how many of the first 511 words have it set: nine planes hold no larger number.
 pub fn column_counts(words: &[u64]) -> [u32; 64]
     ensures { result ≡ column_counts (take 511 words.now) }
 {
     let n = usize::min(511, words.len());
-    let mut planes: [u64; 9] = [0; 9];
-    let done = add_eights(&mut planes, words, n);
-    add_rest(&mut planes, words, done, n);
+    let planes = totals(&words[..n]);
     spread(&planes)
 }
 

@@ -12,12 +12,12 @@ use crate::kernels::{Count, Join, copy_words, each};
 use crate::lanes::{Aligned, Lane, Lanes, Shifted};
 use crate::loops::{copy, room, triple_word, words_for};
 use crate::ops::Op;
-use crate::rows::{ones_many, ones_single, ones_words};
+use crate::rows::Countable;
 use crate::word::{byte_word, down, ones_below, ones_in_word};
 
 // How many flags of a stretch are set. Whole words from a byte on, all in range, are counted with no look for partial ones. What is
 // rare is outside this body and gets a slice or a record of its own, so that the slice given here stays in registers. The choice
-// stands here and in `ones_words`: through that function, with two callers, 1000 flags take 30 instructions more.
+// stands here and in `ones` of `rows`: through that function, with two callers, 1000 flags take 30 instructions more.
 pub fn count_ones(bytes: &[u8], start: usize, len: usize) -> usize
     ensures { result ≡ count (stretch bytes.now start len) }
 {
@@ -25,11 +25,15 @@ pub fn count_ones(bytes: &[u8], start: usize, len: usize) -> usize
         let at = start / 8;
         let n = len / 64;
         if n < 128 {
-            let few = Aligned { bytes, at, n };
-            return ones_single(&few);
+            let few = Countable {
+                words: Aligned { bytes, at, n },
+            };
+            return few.ones_single();
         }
-        let many = Aligned { bytes, at, n };
-        return ones_many(&many);
+        let many = Countable {
+            words: Aligned { bytes, at, n },
+        };
+        return many.ones_many();
     }
     count_mixed(&bytes[0..], start, len)
 }
@@ -53,8 +57,10 @@ fn count_mixed(bytes: &[u8], start: usize, len: usize) -> usize
     let q = start / 8 + 8;
     let n = ((len - k) / 64).min(room(bytes.len(), q));
     let first = ones_in_word(w);
-    let words = Aligned { bytes, at: q, n };
-    let mid = ones_words(&words);
+    let words = Countable {
+        words: Aligned { bytes, at: q, n },
+    };
+    let mid = words.ones();
     let rest = len - k - 64 * n;
     let last = ones_below(byte_word(bytes, q + 8 * n), rest);
     first + mid + last
@@ -99,6 +105,7 @@ fn reach(x: usize, y: usize, z: usize) -> usize
 fn past_end(op: Op) -> bool
     ensures { result ≡ op_of op false false false }
 {
+    // a `match`: each arm names the flag of one operation
     match op {
         Op::And => false,
         Op::AndNot => false,
@@ -156,6 +163,7 @@ pub fn count_ones_of<'a>(op: Op, a: &Flags<'a>, b: &Flags<'a>, c: &Flags<'a>, le
     let z = Shifted::new(*c);
     let lanes = Lanes::new(len / 64, x, y, z);
     let mut ones = each::<Count, Shifted, Shifted, Shifted>(op, &lanes, &mut []);
+    // a range: i is the place of a word in three stretches, which have no slice of words
     for i in lanes.n..n {
         ones += ones_in_word(triple_word(op, a, b, c, len, i));
     }
@@ -163,13 +171,13 @@ pub fn count_ones_of<'a>(op: Op, a: &Flags<'a>, b: &Flags<'a>, c: &Flags<'a>, le
 }
 
 // Returns whether any flag of three lanes combined is set. Tests 64 words at a time and stops at the first block with one.
-// The last block is shorter: over a range in steps of 64, k would be reckoned all the same.
 fn any_whole<A: Lane, B: Lane, C: Lane>(op: Op, lanes: &Lanes<A, B, C>) -> bool
     ensures { result ≡ any_set (combined op (A.source lanes.now.a) (A.start lanes.now.a) (B.source lanes.now.b) (B.start lanes.now.b)
         (C.source lanes.now.c) (C.start lanes.now.c) (64 * lanes.now.n)) }
 {
     let n = lanes.n;
     let mut i = 0;
+    // a `while`: the last block is shorter, and what is asked is how far the blocks have come
     while i < n {
         let k = (n - i).min(64);
         let block = lanes.part(i, k);
@@ -198,6 +206,7 @@ pub fn any_set<'a>(op: Op, a: &Flags<'a>, b: &Flags<'a>, c: &Flags<'a>, len: usi
     if any_whole(op, &lanes) {
         return true;
     }
+    // a range: i is the place of a word in three stretches, which have no slice of words
     for i in lanes.n..n {
         if is_set(triple_word(op, a, b, c, len, i)) {
             return true;

@@ -5,7 +5,7 @@ ghost use Rattle.words.specs.Ends.{leading, trailing};
 
 use crate::ops::not_word;
 
-// Counts the trailing zero bits of a word, which are its first flags.
+// Counts the trailing zero bits of a word, which are its first flags. To usize, here and below: there is no From; a number up to 64 fits.
 fn front_zeros(w: u64) -> usize
     ensures { result ≡ leading false (word_flags w) }
 {

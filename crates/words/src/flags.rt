@@ -7,7 +7,7 @@ ghost use Rattle.words.specs.Flags.{word_flags, flags_of, window};
 use crate::word::word_at;
 
 // The flags of `bytes` from flag `start` on. It goes by reference: by value each function that hands it on copies it, and 40 flags took
-// 1.04 to 1.12 of the instructions. The operands of a call have one lifetime, so that one may stand for two.
+// 1.04 to 1.12 times the instructions. The operands of a call have one lifetime, so that one may stand for two.
 #[derive(Clone, Copy)]
 pub struct Flags<'a> {
     pub bytes: &'a [u8],

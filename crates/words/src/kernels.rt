@@ -35,11 +35,13 @@ pub(crate) struct Combine;
 impl Kernel for Combine {
     type Out = ();
 
+    // That n words fit is asked at each loop that writes: the output is a slice of the caller's, and no type has it with its n.
     ghost takes = { λ n out. 8 * n ≤ length out };
 
     ghost gives = { λ flags old new _. flags_of new ≡ over (flags_of old) flags };
 
     fn run<O: Operation, A: Lane, B: Lane, C: Lane>(lanes: &Lanes<A, B, C>, out: &mut [u8]) {
+        // a range: i is the place of a word in three lanes and in the output, which have no slices of words
         for i in 0..lanes.n {
             let w = lanes.word::<O>(i);
             put_word(out, 8 * i, w);
@@ -62,6 +64,7 @@ impl Kernel for Count {
         _out: &mut [u8],
     ) -> usize {
         let mut ones: usize = 0;
+        // a range: i is the place of a word in three lanes, which have no slices of words
         for i in 0..lanes.n {
             ones += ones_in_word(lanes.word::<O>(i));
         }
@@ -84,6 +87,7 @@ impl Kernel for Join {
         _out: &mut [u8],
     ) -> u64 {
         let mut all: u64 = 0;
+        // a range: i is the place of a word in three lanes, which have no slices of words
         for i in 0..lanes.n {
             all = or_word(all, lanes.word::<O>(i));
         }
@@ -101,6 +105,7 @@ pub(crate) fn each<K: Kernel, A: Lane, B: Lane, C: Lane>(
     ensures { K.gives (combined op (A.source lanes.now.a) (A.start lanes.now.a) (B.source lanes.now.b) (B.start lanes.now.b)
         (C.source lanes.now.c) (C.start lanes.now.c) (64 * lanes.now.n)) out.old out.new result }
 {
+    // a `match`: each arm names another type, and this is the one dispatch for all kernels
     match op {
         Op::And => K::run::<And, A, B, C>(lanes, out),
         Op::AndNot => K::run::<AndNot, A, B, C>(lanes, out),
@@ -119,6 +124,7 @@ pub(crate) fn copy_words<L: Lane>(lane: &L, n: usize, out: &mut [u8]) -> usize
     ensures flags { flags_of out.new ≡ over (flags_of out.old) (window (flags_of (L.source lane.now)) (L.start lane.now) (64 * n)) }
 {
     let mut ones: usize = 0;
+    // a range: i is the place of a word in the lane and in the output, which have no slices of words
     for i in 0..n {
         let w = lane.word(i);
         put_word(out, 8 * i, w);
@@ -133,6 +139,7 @@ pub(crate) fn fill_words(flag: bool, n: usize, out: &mut [u8])
     ensures { flags_of out.new ≡ over (flags_of out.old) (copies (64 * n) flag) }
 {
     let w = constant_word(flag);
+    // a range: no clause says what a slice ends as after `chunks_exact_mut`
     for i in 0..n {
         put_word(out, 8 * i, w);
     }

@@ -21,7 +21,7 @@ pub(crate) fn room(size: usize, at: usize) -> usize
 pub(crate) fn words_for(len: usize) -> usize
     ensures { result ≡ (len + 63) / 64 }
 {
-    len / 64 + (len % 64 + 63) / 64
+    len.div_ceil(64)
 }
 
 // Returns word i of a combination of three stretches, with zeros past their end.
@@ -78,8 +78,9 @@ fn combine_long<'a>(op: Op, a: &Flags<'a>, b: &Flags<'a>, c: &Flags<'a>, len: us
     ensures { flags_of out.new ≡ over (flags_of out.old) (whole_words
         (combined op a.now.bytes.now a.now.start b.now.bytes.now b.now.start c.now.bytes.now c.now.start len)) }
 {
-    let n = words_for(len).min((out.len() + 7) / 8);
+    let n = words_for(len).min(out.len().div_ceil(8));
     let done = combine_whole(op, a, b, c, len, out);
+    // a range: i is the place of a word in three stretches and in the output, which have no slices of words
     for i in done..n {
         store_at(out, 8 * i, triple_word(op, a, b, c, len, i));
     }

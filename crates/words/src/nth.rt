@@ -32,7 +32,8 @@ fn nth_set_bit<const WIDTH: u32>(w: u64, n: u64) -> Result<u32, u32>
     ensures { result ≡ nth_one (bits WIDTH w) n }
 {
     let ones = w.count_ones();
-    if n < ones as u64 {
+    if n < u64::from(ones) {
+        // to u32: there is no From; n is below 64
         Ok(descend(w, n as u32, WIDTH))
     } else {
         Err(ones)
@@ -50,5 +51,5 @@ pub fn nth_set_bit_u64(w: u64, n: u64) -> Result<u32, u32>
 pub fn nth_set_bit_u32(w: u32, n: u32) -> Result<u32, u32>
     ensures { result ≡ nth_one (bits 32 w) n }
 {
-    nth_set_bit::<32>(w as u64, n as u64)
+    nth_set_bit::<32>(u64::from(w), u64::from(n))
 }

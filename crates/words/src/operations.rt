@@ -30,6 +30,7 @@ pub(crate) struct Not;
 
 pub(crate) struct Select;
 
+// Seven impls that differ in a name: a macro of the repository may write no impl, and a const parameter is no enum.
 impl Operation for And {
     ghost op = { And };
 

@@ -64,6 +64,7 @@ pub fn select_word(x: u64, y: u64, z: u64) -> u64
 pub fn combine_word(op: Op, x: u64, y: u64, z: u64) -> u64
     ensures { word_flags result ≡ zip3 (op_of op) (word_flags x) (word_flags y) (word_flags z) }
 {
+    // a `match`: each arm names another function, and this is the one dispatch of an operation on words
     match op {
         Op::And => and_word(x, y),
         Op::AndNot => and_not_word(x, y),

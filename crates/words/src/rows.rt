@@ -21,57 +21,69 @@ fn seven_ones(a: u64, b: u64, c: u64, d: u64, e: u64, f: u64, g: u64) -> usize
     ones + 2 * twos + 4 * fours
 }
 
-// The ones of the first 7 * m words, as seven rows side by side: each row is read in order, so the loop is vectorised.
-fn ones_rows(words: &Aligned, m: usize) -> usize
-    requires { (7 * m ≤ words.now.n) × (448 * m < 2 ^ 64) }
-    ensures { result ≡ count (window (flags_of words.now.bytes.now) (8 * words.now.at) (448 * m)) }
-{
-    let mut ones: usize = 0;
-    for i in 0..m {
-        let a = words.word(i);
-        let b = words.word(i + m);
-        let c = words.word(i + 2 * m);
-        let d = words.word(i + 3 * m);
-        let e = words.word(i + 4 * m);
-        let f = words.word(i + 5 * m);
-        let g = words.word(i + 6 * m);
-        ones += seven_ones(a, b, c, d, e, f, g);
-    }
-    ones
+// Words in range that are so few that the number of their flags fits.
+#[derive(Clone, Copy)]
+pub(crate) struct Countable<'a> {
+    pub(crate) words: Aligned<'a>,
+    ghost few: { 64 * words.n < 2 ^ 64 },
 }
 
-// The ones of words, one by one.
-pub(crate) fn ones_single(words: &Aligned) -> usize
-    requires { 64 * words.now.n < 2 ^ 64 }
-    ensures { result ≡ count (window (flags_of words.now.bytes.now) (8 * words.now.at) (64 * words.now.n)) }
-{
-    let mut ones: usize = 0;
-    for i in 0..words.n {
-        ones += ones_in_word(words.word(i));
+impl Countable<'_> {
+    // The ones of the first 7 * m words, as seven rows side by side: each row is read in order, so the loop is vectorised.
+    fn ones_rows(&self, m: usize) -> usize
+        requires { 7 * m ≤ self.now.words.n }
+        ensures { result ≡ count (window (flags_of self.now.words.bytes.now) (8 * self.now.words.at) (448 * m)) }
+    {
+        let words = &self.words;
+        let mut ones: usize = 0;
+        // a range: i is the place in seven rows, and there is no slice of words
+        for i in 0..m {
+            let a = words.word(i);
+            let b = words.word(i + m);
+            let c = words.word(i + 2 * m);
+            let d = words.word(i + 3 * m);
+            let e = words.word(i + 4 * m);
+            let f = words.word(i + 5 * m);
+            let g = words.word(i + 6 * m);
+            ones += seven_ones(a, b, c, d, e, f, g);
+        }
+        ones
     }
-    ones
-}
 
-// The ones of many words: seven rows of them and what is left.
-pub(crate) fn ones_many(words: &Aligned) -> usize
-    requires { 64 * words.now.n < 2 ^ 64 }
-    ensures { result ≡ count (window (flags_of words.now.bytes.now) (8 * words.now.at) (64 * words.now.n)) }
-{
-    let m = words.n / 7;
-    let rows = ones_rows(words, m);
-    let behind = words.part(7 * m, words.n - 7 * m);
-    let rest = ones_single(&behind);
-    rows + rest
-}
-
-// The ones of words. Many get a record of their own, so that the one given here stays in registers.
-pub(crate) fn ones_words(words: &Aligned) -> usize
-    requires { 64 * words.now.n < 2 ^ 64 }
-    ensures { result ≡ count (window (flags_of words.now.bytes.now) (8 * words.now.at) (64 * words.now.n)) }
-{
-    if words.n < 128 {
-        return ones_single(words);
+    // The ones of the words, one by one.
+    pub(crate) fn ones_single(&self) -> usize
+        ensures { result ≡ count (window (flags_of self.now.words.bytes.now) (8 * self.now.words.at) (64 * self.now.words.n)) }
+    {
+        let mut ones: usize = 0;
+        // a range: what is lent are bytes, and there is no slice of words
+        for i in 0..self.words.n {
+            ones += ones_in_word(self.words.word(i));
+        }
+        ones
     }
-    let many = *words;
-    ones_many(&many)
+
+    // The ones of many words: seven rows of them and what is left.
+    pub(crate) fn ones_many(&self) -> usize
+        ensures { result ≡ count (window (flags_of self.now.words.bytes.now) (8 * self.now.words.at) (64 * self.now.words.n)) }
+    {
+        let n = self.words.n;
+        let m = n / 7;
+        let rows = self.ones_rows(m);
+        let behind = Countable {
+            words: self.words.part(7 * m, n - 7 * m),
+        };
+        let rest = behind.ones_single();
+        rows + rest
+    }
+
+    // The ones of the words. Many get a record of their own, so that the one given here stays in registers.
+    pub(crate) fn ones(&self) -> usize
+        ensures { result ≡ count (window (flags_of self.now.words.bytes.now) (8 * self.now.words.at) (64 * self.now.words.n)) }
+    {
+        if self.words.n < 128 {
+            return self.ones_single();
+        }
+        let many = *self;
+        many.ones_many()
+    }
 }

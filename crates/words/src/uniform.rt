@@ -32,19 +32,20 @@ fn block_is(flag: bool, words: &Aligned) -> bool
     ensures { result ≡ all_are flag (window (flags_of words.now.bytes.now) (8 * words.now.at) (64 * words.now.n)) }
 {
     let mut others: u64 = 0;
+    // a range: what is lent are bytes, and there is no slice of words
     for i in 0..words.n {
         others = or_word(others, unlike(flag, words.word(i)));
     }
     !is_set(others)
 }
 
-// The same block by block, with an end at the first that has another flag. The last block is shorter: over a range in steps of 64, k
-// would be reckoned all the same.
+// The same block by block, with an end at the first that has another flag.
 fn words_are(flag: bool, words: &Aligned) -> bool
     ensures { result ≡ all_are flag (window (flags_of words.now.bytes.now) (8 * words.now.at) (64 * words.now.n)) }
 {
     let n = words.n;
     let mut i = 0;
+    // a `while`: the last block is shorter, and what is asked is how far the blocks have come
     while i < n {
         let k = (n - i).min(64);
         let block = words.part(i, k);

@@ -9,7 +9,7 @@ fn join(part: &[u8]) -> u64
 {
     let mut w: u64 = 0;
     for (i, b) in part.iter().enumerate() {
-        w |= (*b as u64) << (8 * i);
+        w |= u64::from(*b) << (8 * i);
     }
     w
 }
@@ -20,6 +20,7 @@ fn split(out: &mut [u8], w: u64)
     ensures { flags_of out.new ≡ over (flags_of out.old) (word_flags w) }
 {
     for (i, b) in out.iter_mut().enumerate() {
+        // to u8: there is no From; a byte fits
         *b = ((w >> (8 * i)) % 256) as u8;
     }
 }
@@ -70,7 +71,8 @@ pub fn store_whole(out: &mut [u8], at: usize, w: u64)
     put_word(out, at, w);
 }
 
-// Loads the eight bytes at `at`, which are in range.
+// Loads the eight bytes at `at`, which are in range. That they are is asked three times, by no type: a place and bytes are what an index
+// takes, and a struct of the two would be made for each load.
 fn eight_bytes(bytes: &[u8], at: usize) -> u64
     requires { at + 8 ≤ length bytes.now }
     ensures { word_flags result ≡ window (flags_of bytes.now) (8 * at) 64 }
@@ -168,7 +170,7 @@ pub fn flag_at(bytes: &[u8], bit: usize) -> bool
     ensures { result ≡ get_or (flags_of bytes.now) bit false }
 {
     let at = bit / 8;
-    at < bytes.len() && (bytes[at] as u64 >> (bit % 8)) % 2 == 1
+    at < bytes.len() && (u64::from(bytes[at]) >> (bit % 8)) % 2 == 1
 }
 
 // Keeps the k low flags of w and clears the others.
@@ -199,7 +201,7 @@ pub fn constant_flags(flag: bool, n: usize) -> u64
     if n >= 64 {
         return constant_word(flag);
     }
-    let one = flag as u64;
+    let one = u64::from(flag);
     (one << n) - one
 }
 
@@ -207,6 +209,7 @@ pub fn constant_flags(flag: bool, n: usize) -> u64
 pub fn ones_in_word(w: u64) -> usize
     ensures { result ≡ count (word_flags w) }
 {
+    // to usize: there is no From; a number up to 64 fits
     w.count_ones() as usize
 }
 
@@ -220,5 +223,6 @@ pub fn ones_below(w: u64, k: usize) -> usize
     if 64 < k {
         return ones_in_word(w);
     }
+    // to usize: there is no From; a number up to 64 fits
     (w << (64 - k)).count_ones() as usize
 }

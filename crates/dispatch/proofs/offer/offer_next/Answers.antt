@@ -1,27 +1,41 @@
 -- What the search finds is what is offered (`found-way`, `found-bound`); a refusal is passed on.
-use Rattle.std.specs.Prelude.{ℕ, Option}
-use mathlib.Core.Path.{sym, ap, ◌∙◌}
-use native.Mathlib.Omega.{arith}
-use Rattle.masks.specs.Answer.{given}
-use Rattle.dispatch.proofs.OfferLaws.{found-bound, found_inside, found-way, offered, refused-way}
+use Rattle.std.proofs.Common.{arith, ℕ, Option, Ok, Err, sym, ap, ◌≡◌, ◌∙◌, rules}
+use Rattle.masks.specs.Answer.{answer, given}
+use Rattle.dispatch.proofs.OfferLaws.{found-bound, found_inside, found-way, offer-exit, offered, refused-way}
 use Rattle.dispatch.proofs.offer.offer_next.Goals as goal
 
-pub returns-in-Err-clause-answer : goal.returns-in-Err-clause-answer
-returns-in-Err-clause-answer c = refused-way _ _ _ _ _ _ c.in-Err.ensures
+pub returns-in_err-found-clause-answer : goal.returns-in_err-found-clause-answer
+returns-in_err-found-clause-answer c =
+    let e : c.next_and_not.result ≡ Err c.in_err-found.field-0.0.refusal = search rules in
+    let k : c.in_err-found.field-0.0.cursor ≡ c.args.cursor = search rules in
+    offer-exit _ _ c.from_residual.ensures.1 _ k ∙ refused-way _ _ _ _ _ _ (sym (ap answer e) ∙ c.next_and_not.ensures)
 
 pub overflow_add-next : goal.overflow_add-next
-overflow_add-next c = omega (arith, found_inside _ _ _ _ _ _ c.in-Ok.ensures _ c.in-Some.is)
+overflow_add-next c =
+    let e : c.next_and_not.result ≡ Ok c.in_ok-found.found = search rules in
+    let found = sym (ap answer e) ∙ c.next_and_not.ensures in
+    omega (arith, found_inside _ _ _ _ _ _ found _ c.in-Some.is)
 
 pub returns-in-Some-clause-answer : goal.returns-in-Some-clause-answer
 returns-in-Some-clause-answer c =
-    ap (λ (t : Option ℕ). given (offered c.args.cursor t c.in-Ok.found.windows)) (sym c.in-Some.is) ∙ found-way _ _ _ _ _ _ c.in-Ok.ensures
+    let e : c.next_and_not.result ≡ Ok c.in_ok-found.found = search rules in
+    let found = sym (ap answer e) ∙ c.next_and_not.ensures in
+    ap (λ (t : Option ℕ). given (offered c.args.cursor t c.in_ok-found.found.windows)) (sym c.in-Some.is) ∙ found-way _ _ _ _ _ _ found
 
 pub returns-in-Some-clause-bound : goal.returns-in-Some-clause-bound
-returns-in-Some-clause-bound c = found-bound _ _ _ _ _ _ c.in-Ok.ensures
+returns-in-Some-clause-bound c =
+    let e : c.next_and_not.result ≡ Ok c.in_ok-found.found = search rules in
+    let found = sym (ap answer e) ∙ c.next_and_not.ensures in
+    found-bound _ _ _ _ _ _ found
 
 pub returns-in-None-clause-answer : goal.returns-in-None-clause-answer
 returns-in-None-clause-answer c =
-    ap (λ (t : Option ℕ). given (offered c.args.cursor t c.in-Ok.found.windows)) (sym c.in-None.is) ∙ found-way _ _ _ _ _ _ c.in-Ok.ensures
+    let e : c.next_and_not.result ≡ Ok c.in_ok-found.found = search rules in
+    let found = sym (ap answer e) ∙ c.next_and_not.ensures in
+    ap (λ (t : Option ℕ). given (offered c.args.cursor t c.in_ok-found.found.windows)) (sym c.in-None.is) ∙ found-way _ _ _ _ _ _ found
 
 pub returns-in-None-clause-bound : goal.returns-in-None-clause-bound
-returns-in-None-clause-bound c = found-bound _ _ _ _ _ _ c.in-Ok.ensures
+returns-in-None-clause-bound c =
+    let e : c.next_and_not.result ≡ Ok c.in_ok-found.found = search rules in
+    let found = sym (ap answer e) ∙ c.next_and_not.ensures in
+    found-bound _ _ _ _ _ _ found

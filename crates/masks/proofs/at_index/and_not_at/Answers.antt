@@ -4,13 +4,13 @@ use mathlib.Core.Bool.{Bool, not, ◌&&◌}
 use Rattle.masks.specs.Answer.{given}
 use Rattle.masks.specs.AtIndex.{and_not_at_of, and_not_flag}
 use Rattle.masks.proofs.AtIndexLaws.{passed-masks}
-use Rattle.masks.proofs.CheckLaws.{is-given, is-refused}
-use Rattle.masks.proofs.RefusalLaws.{exit-is, number-ne0}
+use Rattle.masks.proofs.CheckLaws.{is-given}
+use Rattle.masks.proofs.RefusalLaws.{exit-refused}
 use Rattle.masks.proofs.at_index.and_not_at.Goals as goal
 
 pub returns-in_err-check_and_not_at : goal.returns-in_err-check_and_not_at
 unfolding and_not_at_of
-returns-in_err-check_and_not_at c = exit-is _ _ c.from_residual.ensures.1 ∙ is-refused _ _ _ _ c.in_err-check_and_not_at.ensures (number-ne0 _)
+returns-in_err-check_and_not_at c = exit-refused _ _ c.from_residual.ensures.1 _ c.in_err-check_and_not_at.ensures _
 
 pub flag_or-own-requires : goal.flag_or-own-requires
 flag_or-own-requires c = (passed-masks _ _ _ _ _ (sym c.in_ok-check_and_not_at.ensures)).0

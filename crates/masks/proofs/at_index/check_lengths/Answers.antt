@@ -5,14 +5,14 @@ use Rattle.masks.specs.Checks.{first_failed}
 use Rattle.masks.proofs.CheckLaws.{one-check}
 use Rattle.masks.proofs.at_index.check_lengths.Goals as goal
 
-pub returns-in-Some-second : goal.returns-in-Some-second
+pub returns-in-Some-Some : goal.returns-in-Some-Some
 unfolding length_checks
-returns-in-Some-second c = rw (c.in-Some.is, c.in-Some-second.is) (one-check _ _ _ _ c.check.ensures refl)
+returns-in-Some-Some c = rw (c.in-Some-Some.is-0, c.in-Some-Some.is-1) (one-check _ _ _ _ c.check.ensures refl)
 
-pub returns-in-None-second : goal.returns-in-None-second
+pub returns-in_default : goal.returns-in_default
 unfolding length_checks first_failed
-returns-in-None-second c = rw (c.in-Some.is, c.in-None-second.is)
+returns-in_default c = rw (c.in_default.is-0, c.in_default.is-1)
 
-pub returns-in-None : goal.returns-in-None
+pub returns-in_default-2 : goal.returns-in_default-2
 unfolding length_checks first_failed
-returns-in-None c = rw c.in-None.is
+returns-in_default-2 c = rw c.in_default.is-0

@@ -1,8 +1,17 @@
 -- By the mask's count: unknown (`cut-unknown`), recounted (`cut-known`) or kept (`cut-kept`).
 use Rattle.masks.proofs.MaskLaws.{cut-known}
+use Rattle.std.proofs.Common.{arith}
 use mathlib.Core.Path.{sym, ◌∙◌}
 use Rattle.masks.proofs.bitmap.cut_count.Goals as goal
 
 pub returns-then-recounts : goal.returns-then-recounts
 returns-then-recounts c =
-    cut-known _ _ _ _ _ _ _ c.in-Some.is (sym c.recounts.ensures ∙ c.if-recounts.true) c.recount.ensures c.cut_zeros.ensures
+    cut-known _ _ _ _ _ _ _ c.in-Some.is (sym c.recounts.ensures ∙ c.if-recounts.true) c.recount.ensures c.zeros_cut.ensures
+
+pub invariant_of-span : goal.invariant_of-span
+invariant_of-span c =
+    let a = c.requires in
+    record { ends = omega (arith, a.starts, a.short); short = a.short; inside = a.lent }
+
+pub zeros_cut-requires : goal.zeros_cut-requires
+zeros_cut-requires c = c.requires.inside

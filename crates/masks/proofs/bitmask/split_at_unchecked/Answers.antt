@@ -1,15 +1,15 @@
 -- The number of the checks decides; where all have passed, sum and difference fit (`split-allowed`).
-use mathlib.Core.Path.{refl, sym, ◌∙◌}
+use mathlib.Core.Path.{refl, sym}
 use native.Mathlib.Omega.{arith}
 use Rattle.masks.specs.Bitmask.{split_at}
 use Rattle.masks.proofs.BitmaskLaws.{split-allowed}
-use Rattle.masks.proofs.CheckLaws.{is-refused, is-given}
-use Rattle.masks.proofs.RefusalLaws.{exit-is, number-ne0}
+use Rattle.masks.proofs.CheckLaws.{is-given}
+use Rattle.masks.proofs.RefusalLaws.{exit-refused}
 use Rattle.masks.proofs.bitmask.split_at_unchecked.Goals as goal
 
 pub returns-in_err-check_split : goal.returns-in_err-check_split
 unfolding split_at
-returns-in_err-check_split c = exit-is _ _ c.from_residual.ensures.1 ∙ is-refused _ _ _ _ c.in_err-check_split.ensures (number-ne0 _)
+returns-in_err-check_split c = exit-refused _ _ c.from_residual.ensures.1 _ c.in_err-check_split.ensures _
 
 pub overflow_add-second : goal.overflow_add-second
 overflow_add-second c = omega (arith, (split-allowed _ _ _ _ (sym c.in_ok-check_split.ensures)).starts)

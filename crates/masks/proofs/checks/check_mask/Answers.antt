@@ -1,5 +1,5 @@
 -- The checks of the span, and where they have passed that of the count, which comes after them: `first-number`, `passed-before`.
-use mathlib.Core.Path.{refl, sym, ◌∙◌}
+use Rattle.std.proofs.Common.{refl, sym, ◌∙◌}
 use Rattle.masks.specs.Checks.{rank, place_in, span_checks}
 use Rattle.masks.specs.Mask.{mask_checks}
 use Rattle.masks.proofs.CheckLaws.{first-number, one-check, passed-before, span-allowed}
@@ -12,7 +12,9 @@ returns-in_err-check_span c =
     exit-number _ _ c.from_residual.ensures.1 ∙ first-number _ _ 2 _ refl c.in_err-check_span.ensures (number-ne0 _)
 
 pub count_valid-requires : goal.count_valid-requires
-count_valid-requires c = let a = span-allowed _ _ _ (sym c.in_ok-check_span.ensures) in (a.starts, a.short)
+count_valid-requires c =
+    let a = span-allowed _ _ _ (sym c.in_ok-check_span.ensures) in
+    (a.starts, a.short)
 
 pub returns : goal.returns
 unfolding mask_checks

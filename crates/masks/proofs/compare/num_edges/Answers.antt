@@ -1,19 +1,22 @@
--- The number of the mask's checks decides; where all have passed the start is within the limit (`mask-allowed`), as `edges_at` asks.
+-- The number of the mask's checks decides; where all have passed the start is within the limit (`mask-allowed`), as a span asks.
 use mathlib.Core.Path.{refl, sym, ap, ◌∙◌}
+use Rattle.std.proofs.Common.{arith}
 use Rattle.masks.specs.Answer.{given}
 use Rattle.masks.specs.Compare.{edges_of}
-use Rattle.masks.proofs.CheckLaws.{is-refused, is-given}
+use Rattle.masks.proofs.CheckLaws.{is-given}
 use Rattle.masks.proofs.MaskLaws.{mask-allowed}
-use Rattle.masks.proofs.RefusalLaws.{exit-is, number-ne0}
+use Rattle.masks.proofs.RefusalLaws.{exit-refused}
 use Rattle.masks.proofs.compare.num_edges.Goals as goal
 
 pub returns-in_err-check_mask : goal.returns-in_err-check_mask
 unfolding edges_of
-returns-in_err-check_mask c = exit-is _ _ c.from_residual.ensures.1 ∙ is-refused _ _ _ _ c.in_err-check_mask.ensures (number-ne0 _)
+returns-in_err-check_mask c = exit-refused _ _ c.from_residual.ensures.1 _ c.in_err-check_mask.ensures _
 
-pub edges_at-requires : goal.edges_at-requires
-edges_at-requires c = (mask-allowed _ _ (sym c.in_ok-check_mask.ensures)).starts
+pub invariant_of-span : goal.invariant_of-span
+invariant_of-span c =
+    let a = mask-allowed _ _ (sym c.in_ok-check_mask.ensures) in
+    record { ends = omega (arith, a.starts, a.short); short = a.short; inside = a.inside }
 
 pub returns : goal.returns
 unfolding edges_of
-returns c = ap given c.edges_at.ensures ∙ is-given _ _ _ _ c.in_ok-check_mask.ensures refl
+returns c = ap given c.edges.ensures ∙ is-given _ _ _ _ c.in_ok-check_mask.ensures refl

@@ -16,17 +16,17 @@ pub copy_words-copied-requires : goal.copy_words-copied-requires
 copy_words-copied-requires c =
     let low : c.to_whole-head.result ≤ 64 = omega arith in
     let long = length-then _ _ _ _ c.push_flags-started.ensures (length-low _ _ low) in
-    (omega (arith, long), room-then _ _ _ _ _ _ c.push_flags-started.ensures (length-low _ _ low) c.requires.1 (omega arith))
+    (omega (arith, long), room-then _ _ _ _ _ _ c.push_flags-started.ensures (length-low _ _ low) c.requires (omega arith))
 
 pub push_flags-requires-2 : goal.push_flags-requires-2
 push_flags-requires-2 c =
     let low : c.to_whole-head.result ≤ 64 = omega arith in
-    let room = room-then _ _ _ _ _ (c.args.n - c.to_whole-head.result) c.push_flags-started.ensures (length-low _ _ low) c.requires.1 (omega arith) in
+    let room = room-then _ _ _ _ _ (c.args.span.now.length - c.to_whole-head.result) c.push_flags-started.ensures (length-low _ _ low) c.requires (omega arith) in
     (omega arith, room-then _ _ _ _ _ _ c.copy_words-copied.ensures (length-window _ _ _) room (omega arith))
 
 pub returns : goal.returns
 returns c =
-    let n = c.args.n in
+    let n = c.args.span.now.length in
     append-three _ _ _ _ _ _ _ _ (c.push_flags-started.ensures
     ∙ ap (appended _) (stretch-front _ _ c.to_whole-head.result _ (omega arith) c.word_from-first.ensures)) c.copy_words-copied.ensures
     (c.push_flags-2.ensures ∙ ap (appended _) (stretch-front _ _ (n - c.to_whole-head.result - 64 * ((n - c.to_whole-head.result - 1) / 64)) _ (omega arith) c.word_from-last.ensures))

@@ -9,7 +9,7 @@ pub loop-part-init : goal.loop-part-init
 loop-part-init c = record {
   parts = search rules;
   left = search rules;
-  none = append-none (filling _ _) (search rules) c.requires.1.low;
+  none = append-none (filling _ _) (search rules) c.requires.low;
   room = search rules;
 }
 

@@ -11,8 +11,8 @@ use Rattle.masks.proofs.gather.append_gathered.Given as goal
 abbrev pub invariant-loop-part : goal.invariant-loop-part
 invariant-loop-part l = record {
   parts : chunks_size l.part-iterator ≡ 64;
-  left : appended (filling l.grown l.buf) (gathered (stretch l.bytes l.start l.n) (chunks_rest l.part-iterator))
-      ≡ appended (filling l.initial.grown l.initial.buf) (gathered (stretch l.bytes l.start l.n) l.idxs);
+  left : appended (filling l.grown l.buf) (gathered (stretch l.span.bytes.now l.span.start l.span.length) (chunks_rest l.part-iterator))
+      ≡ appended (filling l.initial.grown l.initial.buf) (gathered (stretch l.span.bytes.now l.span.start l.span.length) l.idxs);
   none : appended (filling l.grown l.buf) [] ≡ filling l.grown l.buf;
   room : Room l.grown (length (chunks_rest l.part-iterator)) (length l.buf);
 }

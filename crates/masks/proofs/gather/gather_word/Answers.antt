@@ -8,5 +8,5 @@ loop-i-init c = gathered_none _ c.args.idxs.now
 
 pub loop-i-preserved : goal.loop-i-preserved
 loop-i-preserved c =
-    word-step _ _ _ _ _ _ _ _ c.loop-i.invariant c.loop-i-test.true c.requires.1 refl
+    word-step _ _ _ _ _ _ _ _ c.loop-i.invariant c.loop-i-test.true c.requires refl
     c.span_flag-flag.ensures c.constant_word.ensures c.behind-w.ensures

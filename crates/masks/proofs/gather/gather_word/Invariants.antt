@@ -7,4 +7,4 @@ use Rattle.masks.specs.Appends.{gathered}
 use Rattle.masks.proofs.gather.gather_word.Given as goal
 
 abbrev pub invariant-loop-i : goal.invariant-loop-i
-invariant-loop-i l = take l.i (word_flags l.w) ≡ gathered (stretch l.bytes l.start l.n) (take l.i l.idxs)
+invariant-loop-i l = take l.i (word_flags l.w) ≡ gathered (stretch l.span.bytes.now l.span.start l.span.length) (take l.i l.idxs)

@@ -1,9 +1,11 @@
 -- Inside the span its flag is one of the bytes (`flag-inside`); past it there is none (`flag-past`).
+use Rattle.std.proofs.Common.{◌∙◌}
+use Rattle.std.proofs.Common.{le-ltb}
 use Rattle.masks.proofs.GatherLaws.{flag-inside, flag-past}
 use Rattle.masks.proofs.gather.span_flag.Goals as goal
 
-pub returns-then-at-n : goal.returns-then-at-n
-returns-then-at-n c = flag-inside _ _ _ _ _ c.if-at-n.true c.flag_at.ensures
+pub returns-then-at-span : goal.returns-then-at-span
+returns-then-at-span c = flag-inside _ _ _ _ _ c.if-at-span.true c.flag_at.ensures
 
-pub returns-else-at-n : goal.returns-else-at-n
-returns-else-at-n c = flag-past _ _ _ _ c.if-at-n.false
+pub returns-else-at-span : goal.returns-else-at-span
+returns-else-at-span c = le-ltb _ _ c.if-at-span.false ∙ flag-past _ _ _ _ c.if-at-span.false

@@ -7,7 +7,7 @@ use Rattle.masks.proofs.positions.write_positions.Goals as goal
 pub invariant_of-span : goal.invariant_of-span
 invariant_of-span c =
     let a = masked-allowed _ _ c.if-cursor.true c.requires in
-    record { starts = a.starts; short = a.short; inside = a.inside }
+    record { ends = omega (arith, a.starts, a.short); short = a.short; inside = a.inside }
 
 pub write_words-requires : goal.write_words-requires
 write_words-requires c = (masked-allowed _ _ c.if-cursor.true c.requires).reached

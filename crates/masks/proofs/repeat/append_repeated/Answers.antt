@@ -7,7 +7,7 @@ use Rattle.masks.proofs.repeat.append_repeated.Goals as goal
 
 pub returns-then-repeats-eq0 : goal.returns-then-repeats-eq0
 returns-then-repeats-eq0 c =
-    sym (append-none (filling _ _) c.well_formed.0.1.1.1.0.1 c.requires.1.low) ∙ ap (appended _) (no-repeats _ _ c.if-repeats-eq0.true)
+    sym (append-none (filling _ _) c.well_formed.0.1.1.1.0.1 c.requires.low) ∙ ap (appended _) (no-repeats _ _ c.if-repeats-eq0.true)
 
 pub returns-then-repeats-eq1 : goal.returns-then-repeats-eq1
 returns-then-repeats-eq1 c = c.append_stretch.ensures ∙ ap (appended _) (one-repeat _ _ c.if-repeats-eq1.true)

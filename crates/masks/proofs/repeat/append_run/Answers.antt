@@ -1,4 +1,4 @@
--- Few copies by `front-padded`, more by the worker, of a record that is equal (`append-same`).
+-- Few copies by `front-padded`, more by the worker.
 use mathlib.Core.Path.{ap, ◌∙◌}
 use native.Mathlib.Omega.{arith}
 use Rattle.words.proofs.Windows.{length-copies}

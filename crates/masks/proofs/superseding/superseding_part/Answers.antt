@@ -1,14 +1,13 @@
 -- The number of the checks decides; where all have passed the larger serial wins: `second_wins` or `first_wins`.
-use mathlib.Core.Path.{refl, sym, ◌∙◌}
+use mathlib.Core.Path.{refl, sym}
 use Rattle.masks.specs.Superseding.{superseding_of}
-use Rattle.masks.proofs.CheckLaws.{is-refused}
 use Rattle.masks.proofs.SupersedingLaws.{first-allowed-mask, first_wins, second-allowed-mask, second_wins}
-use Rattle.masks.proofs.RefusalLaws.{exit-is, number-ne0}
+use Rattle.masks.proofs.RefusalLaws.{exit-refused}
 use Rattle.masks.proofs.superseding.superseding_part.Goals as goal
 
 pub returns-in_err-check_superseding : goal.returns-in_err-check_superseding
 unfolding superseding_of
-returns-in_err-check_superseding c = exit-is _ _ c.from_residual.ensures.1 ∙ is-refused _ _ _ _ c.in_err-check_superseding.ensures (number-ne0 _)
+returns-in_err-check_superseding c = exit-refused _ _ c.from_residual.ensures.1 _ c.in_err-check_superseding.ensures _
 
 pub part_of-requires : goal.part_of-requires
 part_of-requires c =

@@ -1,9 +1,10 @@
 -- The flags of the split are the span's (`split-number`).
-use Rattle.masks.proofs.SplitLaws.{split-bounded, split-number}
+use Rattle.std.proofs.Common.{ap, ◌∙◌}
+use Rattle.masks.specs.Workers.{split_flags}
+use Rattle.masks.proofs.SplitLaws.{split-number}
 use Rattle.masks.proofs.utils.long_run.Goals as goal
 
-pub in_split-requires : goal.in_split-requires
-in_split-requires g c = rw c.split-s.ensures (split-bounded _ _ _ _ c.requires.0 c.requires.1.0)
-
 pub returns : goal.returns
-returns g c = split-number (g.E.End.run c.args.flag) _ _ _ _ _ _ c.split-s.ensures c.in_split.ensures
+returns g c =
+    let run = g.E.End.run c.args.flag in
+    split-number run _ _ _ _ _ _ c.new.ensures.parts (c.run.ensures ∙ ap (λ b. run (split_flags b c.new.result.parts)) c.new.ensures.bytes)

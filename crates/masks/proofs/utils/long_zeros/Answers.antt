@@ -1,16 +1,18 @@
 -- The ones of the split are the span's (`split-count`), and its zeros are the other flags (`zeros-rest`).
-use native.Mathlib.Omega.{arith}
+use Rattle.std.proofs.Common.{arith, ap, ◌∙◌}
 use Rattle.words.proofs.Windows.{length-window}
+use Rattle.words.specs.Flags.{count}
+use Rattle.masks.specs.Workers.{split_flags}
 use Rattle.masks.proofs.PartLaws.{ones-most, zeros-rest}
-use Rattle.masks.proofs.SplitLaws.{split-bounded, split-count}
+use Rattle.masks.proofs.SplitLaws.{split-count}
 use Rattle.masks.proofs.utils.long_zeros.Goals as goal
-
-pub ones_of-ones-requires : goal.ones_of-ones-requires
-ones_of-ones-requires c = rw c.split-s.ensures (split-bounded _ _ _ _ c.requires.0 c.requires.1.0)
 
 pub overflow_sub-result : goal.overflow_sub-result
 overflow_sub-result c =
-    omega (arith, ones-most _ _ _ (length-window _ _ _) (split-count _ _ _ _ _ _ c.split-s.ensures c.ones_of-ones.ensures))
+    let e = c.ones.ensures ∙ ap (λ b. count (split_flags b c.new.result.parts)) c.new.ensures.bytes in
+    omega (arith, ones-most _ _ _ (length-window _ _ _) (split-count _ _ _ _ _ _ c.new.ensures.parts e))
 
 pub returns : goal.returns
-returns c = zeros-rest _ _ _ (length-window _ _ _) (split-count _ _ _ _ _ _ c.split-s.ensures c.ones_of-ones.ensures)
+returns c =
+    let e = c.ones.ensures ∙ ap (λ b. count (split_flags b c.new.result.parts)) c.new.ensures.bytes in
+    zeros-rest _ _ _ (length-window _ _ _) (split-count _ _ _ _ _ _ c.new.ensures.parts e)

@@ -26,10 +26,10 @@ unfolding span_count
 returns-then-start-length-le64 g c =
     not-empty _ _ _ _ c.if-length-eq0.false (ap given c.short_run.ensures ∙ is-given _ _ _ _ c.in_ok-check_aligned.ensures refl)
 
-pub long_run-requires : goal.long_run-requires
-long_run-requires g c =
+pub invariant_of-span : goal.invariant_of-span
+invariant_of-span g c =
     let a = aligned-allowed _ _ _ _ (sym c.in_ok-check_aligned.ensures) in
-    (omega (arith, a.0), a.1)
+    record { starts = a.0; short = a.1.0; low = a.1.1 }
 
 pub returns : goal.returns
 unfolding span_count

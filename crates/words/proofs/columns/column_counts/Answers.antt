@@ -1,10 +1,9 @@
--- `counted`: the numbers of planes that have the counts of all words.
-use native.Mathlib.Omega.{arith}
-use Rattle.words.proofs.PlaneLaws.{totals_none, counted}
+-- `counted_first`: the numbers of planes that have the sums of the first words.
+use Rattle.std.proofs.Common.{◌≡◌, length, rules}
+use Rattle.words.proofs.PlaneLaws.{counted_first}
 use Rattle.words.proofs.columns.column_counts.Goals as goal
 
-pub add_eights-done-requires : goal.add_eights-done-requires
-add_eights-done-requires c = (totals_none _, omega arith, omega arith)
-
 pub returns : goal.returns
-returns c = search counted
+returns c =
+    let long : length c.spread.result ≡ 64 = search rules in
+    counted_first _ _ _ _ _ c.min-n.ensures c.totals-planes.ensures long c.spread.ensures

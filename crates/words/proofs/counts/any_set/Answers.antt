@@ -1,7 +1,5 @@
 -- The invariant: no flag of the first i words is set. One that is ends the search (`any-exit`); behind n words all are alike (`any-finish`).
-use mathlib.Core.Path.{ap, sym, ◌∙◌}
-use lib.ListN.{length}
-use native.Mathlib.Omega.{arith}
+use Rattle.std.proofs.Common.{ap, sym, ◌∙◌, length, arith}
 use Rattle.words.specs.Counts.{any_set}
 use Rattle.words.proofs.AnyFlag.{any-short, any-exit, any-more, any-zero}
 use Rattle.words.proofs.Behind.{any-finish}

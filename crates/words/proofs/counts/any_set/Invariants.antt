@@ -1,6 +1,5 @@
 -- The invariant: no flag of the first i words is set. One that is ends the search (`any-exit`); behind n words all are alike (`any-finish`).
-use Prim.Native.Nat.{◌≤◌, ◌*◌}
-use mathlib.Core.Path.{◌≡◌}
+use Rattle.std.proofs.Common.{◌≤◌, ◌*◌, ◌≡◌}
 use Rattle.words.specs.Flags.{window, count}
 use Rattle.words.specs.Loops.{combined}
 use Rattle.words.proofs.counts.any_set.Given as goal

@@ -1,10 +1,6 @@
 -- At most a word by `count-moved`; else in three parts, whose counts `count-parts` adds. Each is at most its part's length, so the sums fit.
-use mathlib.Core.Path.{◌≡◌}
-use native.Mathlib.Omega.{arith}
+use Rattle.std.proofs.Common.{◌≡◌, arith, ℕ, ◌+◌, ◌-◌, ◌*◌, ◌/◌, ◌%◌, ◌≤◌, ◌<◌, min, List, length}
 use Rattle.words.proofs.Bytes.{length-flags}
-use Prim.Native.Nat.{ℕ, ◌+◌, ◌-◌, ◌*◌, ◌/◌, ◌%◌, ◌≤◌, ◌<◌, min}
-use mathlib.Core.List.{List}
-use lib.ListN.{length}
 use Rattle.words.specs.Flags.{flags_of}
 use Rattle.words.proofs.Counting.{count-parts, count-within}
 use Rattle.words.proofs.RowLaws.{count-first-flags, count-moved, count-moved-all}
@@ -31,19 +27,19 @@ pub overflow_add-result : goal.overflow_add-result
 overflow_add-result c =
     let a = c.args in
     let x = count-moved-all (flags_of a.bytes.now) _ _ a.start _ _ _ (omega arith) c.byte_word.ensures c.down-w.ensures c.ones_in_word-first.ensures (omega arith) in
-    omega (arith, count-within _ _ _ _ x, count-within _ _ _ _ c.ones_words-mid.ensures)
+    omega (arith, count-within _ _ _ _ x, count-within _ _ _ _ c.ones-mid.ensures)
 
 pub overflow_add-result-2 : goal.overflow_add-result-2
 overflow_add-result-2 c =
     let a = c.args in
     let x = count-moved-all (flags_of a.bytes.now) _ _ a.start _ _ _ (omega arith) c.byte_word.ensures c.down-w.ensures c.ones_in_word-first.ensures (omega arith) in
     let z = count-first-flags _ _ _ _ _ (rest-ends a.bytes.now a.start a.len _ _ c.min-n.ensures c.room.ensures) c.byte_word-2.ensures c.ones_below-last.ensures in
-    omega (arith, parts-fit a.start a.len _ _ _ _ _ c.if-len-k.false c.min-n.ensures (count-within _ _ _ _ x) (count-within _ _ _ _ c.ones_words-mid.ensures) (count-within _ _ _ _ z), c.ranges.len.fits)
+    omega (arith, parts-fit a.start a.len _ _ _ _ _ c.if-len-k.false c.min-n.ensures (count-within _ _ _ _ x) (count-within _ _ _ _ c.ones-mid.ensures) (count-within _ _ _ _ z), c.ranges.len.fits)
 
 pub returns : goal.returns
 returns c =
     let a = c.args in
     let x = count-moved-all (flags_of a.bytes.now) _ _ a.start _ _ _ (omega arith) c.byte_word.ensures c.down-w.ensures c.ones_in_word-first.ensures (omega arith) in
     let z = count-first-flags _ _ _ _ _ (rest-ends a.bytes.now a.start a.len _ _ c.min-n.ensures c.room.ensures) c.byte_word-2.ensures c.ones_below-last.ensures in
-    count-parts (flags_of a.bytes.now) _ _ _ _ _ _ _ _ _ _ _ x c.ones_words-mid.ensures z (omega arith) (omega arith) (omega arith)
+    count-parts (flags_of a.bytes.now) _ _ _ _ _ _ _ _ _ _ _ x c.ones-mid.ensures z (omega arith) (omega arith) (omega arith)
     (parts-sum a.start a.len _ _ c.if-len-k.false c.min-n.ensures)

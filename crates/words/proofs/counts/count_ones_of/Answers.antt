@@ -1,9 +1,7 @@
 -- Whole words first, then word by word to the end of the bytes or of the length, then what is left behind them.
 use Rattle.words.proofs.Counting.{count-step, count_fits, count_most, count-short}
 use Rattle.words.proofs.Behind.{count-finish}
-use mathlib.Core.Path.{ap, ◌∙◌}
-use lib.ListN.{length}
-use native.Mathlib.Omega.{arith}
+use Rattle.std.proofs.Common.{ap, ◌∙◌, length, arith}
 use Rattle.words.specs.Flags.{count}
 use Rattle.words.proofs.Combining.{zip-later, length-zip}
 use Rattle.words.proofs.counts.count_ones_of.Goals as goal

@@ -1,7 +1,5 @@
 -- Whole words first, then word by word to the end of the bytes or of the length, then what is left behind them.
-use mathlib.Core.Path.{◌≡◌}
-use Prim.Native.Nat.{◌≤◌, ◌*◌}
-use mathlib.Core.Path.{◌≡◌}
+use Rattle.std.proofs.Common.{◌≡◌, ◌≤◌, ◌*◌}
 use Rattle.words.specs.Flags.{window, count}
 use Rattle.words.specs.Loops.{combined}
 use Rattle.words.proofs.counts.count_ones_of.Given as goal

@@ -1,6 +1,5 @@
 -- `same-any`: lists of one length are the same just where no flag of their `xor` is set.
-use mathlib.Core.Bool.{not}
-use mathlib.Core.Path.{ap, sym, ◌∙◌}
+use Rattle.std.proofs.Common.{not, ap, sym, ◌∙◌}
 use Rattle.words.proofs.AnyFlag.{same-any}
 use Rattle.words.proofs.Windows.{length-window}
 use Rattle.words.proofs.counts.equal.Goals as goal

@@ -1,7 +1,5 @@
 -- `any-drop`: a window that reaches the word's end has a flag set just where the rest from k on has.
-use mathlib.Core.Path.{ap, ◌∙◌}
-use mathlib.Core.Bool.{not}
-use native.Mathlib.Omega.{arith}
+use Rattle.std.proofs.Common.{ap, ◌∙◌, not, arith}
 use Rattle.words.specs.Counts.{any_set}
 use Rattle.words.proofs.AnyFlag.{any-drop}
 use Rattle.words.proofs.Bits.{length-bits}

@@ -1,6 +1,6 @@
 -- In each arm the operation is known, and its value of three zeros is computed.
-use mathlib.Core.Bool.{xor}
-use mathlib.Core.Path.{refl}
+use Rattle.std.proofs.Common.{refl}
+use Rattle.std.proofs.Math.Bool.{xor}
 use Rattle.words.proofs.counts.past_end.Goals as goal
 
 pub returns-in-Xor : goal.returns-in-Xor

@@ -1,6 +1,5 @@
 -- `leading-take`: the least of the word's count and k is that of the first k flags; ones are the zeros of the inverted word (`leading-inverted`).
-use mathlib.Core.Path.{ap, ◌∙◌}
-use Prim.Native.Nat.{ℕ, min}
+use Rattle.std.proofs.Common.{ap, ◌∙◌, ℕ, min}
 use Rattle.words.proofs.EndLaws.{leading-take, leading-inverted}
 use Rattle.words.proofs.ends.leading_in_word.Goals as goal
 

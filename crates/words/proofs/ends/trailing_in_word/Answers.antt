@@ -1,5 +1,5 @@
 -- The first k flags are shifted to the top, zeros below them (`trailing-shifted`); ones are the zeros of the inverted word (`trailing-inverted`).
-use mathlib.Core.Path.{refl, sym, ◌∙◌}
+use Rattle.std.proofs.Common.{refl, sym, ◌∙◌}
 use Rattle.words.proofs.EndLaws.{trailing-shifted, trailing-inverted, take_none}
 use Rattle.words.proofs.ends.trailing_in_word.Goals as goal
 

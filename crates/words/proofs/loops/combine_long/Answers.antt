@@ -1,11 +1,9 @@
 -- The invariant: where the loop began with the whole words over flags F, i words are over F. One more is `write_step`, the end `write-end`.
-use mathlib.Core.Path.{refl, ap, ◌∙◌}
-use native.Mathlib.Omega.{arith}
+use Rattle.std.proofs.Common.{refl, ap, ◌∙◌, arith, rules}
 use Rattle.words.specs.Flags.{over}
 use Rattle.words.proofs.Bytes.{length-flags}
 use Rattle.words.proofs.Combining.{zip-later, length-zip}
 use Rattle.words.proofs.Writing.{write_step, write-end}
-use borrow.Author.Rules.{rules}
 use Rattle.words.proofs.loops.combine_long.Goals as goal
 
 pub loop-i-preserved : goal.loop-i-preserved

@@ -1,9 +1,5 @@
 -- The invariant: where the loop began with the whole words over flags F, i words are over F. One more is `write_step`, the end `write-end`.
-use Prim.Native.Nat.{◌≤◌, ◌*◌}
-use mathlib.Core.Bool.{Bool}
-use mathlib.Core.List.{List}
-use mathlib.Core.Path.{◌≡◌}
-use lib.ListN.{length}
+use Rattle.std.proofs.Common.{◌≤◌, ◌*◌, Bool, List, ◌≡◌, length}
 use Rattle.words.specs.Flags.{flags_of, over, window}
 use Rattle.words.specs.Loops.{combined}
 use Rattle.words.proofs.loops.combine_long.Given as goal

@@ -1,8 +1,7 @@
 -- A list joined by `or` with itself is that list: `zip-self`.
 use Rattle.words.specs.Flags.{flags_of, over}
 use Rattle.words.specs.Loops.{stretch, whole_words}
-use mathlib.Core.Bool.{Bool, true, false, ◌||◌}
-use mathlib.Core.Path.{◌≡◌, refl, ap, ◌∙◌}
+use Rattle.std.proofs.Common.{Bool, true, false, ◌||◌, ◌≡◌, refl, ap, ◌∙◌}
 use Rattle.words.proofs.Combining.{zip-self}
 use Rattle.words.proofs.loops.copy.Goals as goal
 

@@ -1,6 +1,5 @@
 -- Behind the whole words at most one more is stored (`write_step`); then the output is full or has all flags (`write-end`).
-use mathlib.Core.Path.{ap, ◌∙◌}
-use native.Mathlib.Omega.{arith}
+use Rattle.std.proofs.Common.{ap, ◌∙◌, arith}
 use Rattle.words.specs.Flags.{over}
 use Rattle.words.proofs.Bytes.{length-flags}
 use Rattle.words.proofs.Windows.{copies-window, length-copies}

@@ -1,8 +1,6 @@
 -- In each arm the operation is known, and reads the first list, the first two, or all three.
-use mathlib.Core.Path.{◌≡◌, sym, ◌∙◌}
-use mathlib.Core.Bool.{not, xor, ◌&&◌, ◌||◌}
-use Prim.Native.Nat.{ℕ}
-use lib.ListN.{length}
+use Rattle.std.proofs.Common.{◌≡◌, sym, ◌∙◌, not, ◌&&◌, ◌||◌, ℕ, length}
+use Rattle.std.proofs.Math.Bool.{xor}
 use Rattle.words.specs.Flags.{bits}
 use Rattle.words.specs.Ops.{and_not, or_not}
 use Rattle.words.proofs.Bits.{length-bits}

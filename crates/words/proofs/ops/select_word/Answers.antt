@@ -1,5 +1,5 @@
 -- `bits-or`, `bits-and` and `bits-not` give the flags of the parts, and `select-flags` says that they are the choice, flag by flag.
-use mathlib.Core.Path.{sym, ◌∙◌}
+use Rattle.std.proofs.Common.{sym, ◌∙◌}
 use Rattle.words.proofs.Bits.{bits-and, bits-or, bits-not, length-bits}
 use Rattle.words.proofs.Combining.{select-flags}
 use Rattle.words.proofs.ops.select_word.Goals as goal

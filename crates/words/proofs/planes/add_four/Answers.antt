@@ -3,6 +3,4 @@ use Rattle.words.proofs.AdderLaws.{four-more}
 use Rattle.words.proofs.planes.add_four.Goals as goal
 
 pub returns : goal.returns
-returns c =
-    four-more _ _ _ _ _ _ _ _ _ _ c.requires
-    c.full_add-a.ensures c.full_add-b.ensures c.full_add-c.ensures
+returns c = four-more _ _ _ _ _ _ _ _ _ c.requires c.full_add-a.ensures c.full_add-b.ensures c.full_add-c.ensures

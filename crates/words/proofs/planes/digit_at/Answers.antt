@@ -1,6 +1,6 @@
 -- `digit_shift`: bit c of w.
-use native.Mathlib.Omega.{arith}
-use Rattle.words.proofs.PlaneLaws.{digit_shift}
+use Rattle.std.proofs.Common.{arith}
+use Rattle.words.proofs.PlaneReads.{digit_shift}
 use Rattle.words.proofs.planes.digit_at.Goals as goal
 
 pub returns : goal.returns

@@ -1,10 +1,9 @@
--- Two halves: after the first 32 numbers are written, after the second all.
-use mathlib.Core.Path.{refl}
-use native.Mathlib.Omega.{arith}
-use Rattle.words.proofs.PlaneLaws.{wrote_none}
+-- Two halves (`wrote_halves`).
+use Rattle.std.proofs.Common.{◌≡◌, length, refl, rules}
+use Rattle.words.proofs.PlaneLaws.{wrote_halves}
 use Rattle.words.proofs.planes.spread.Goals as goal
 
-pub spread_half-requires : goal.spread_half-requires
-spread_half-requires c =
-    let made = c.masks-tests.ensures in
-    (c.requires, made.0, made.1, omega arith, refl, wrote_none _ _)
+pub returns : goal.returns
+returns c =
+    let long : length c.spread_half.new.out ≡ 32 = search rules in
+    wrote_halves _ _ _ _ long refl c.spread_half.ensures c.spread_half-2.ensures

@@ -1,14 +1,15 @@
--- The invariant: the numbers up to s + c are written (`half-more`).
-use Rattle.words.proofs.PlaneLaws.{half-more, mask_of}
+-- The invariant: the first c numbers are written (`wrote_step`).
+use Rattle.std.proofs.Common.{arith}
+use Rattle.words.proofs.PlaneLaws.{wrote_none, wrote_step}
+use Rattle.words.proofs.PlaneReads.{mask_of}
 use Rattle.words.proofs.planes.spread_half.Goals as goal
+
+pub loop-c-init : goal.loop-c-init
+loop-c-init c = wrote_none _ _ _
 
 pub column_by-requires : goal.column_by-requires
 column_by-requires c =
-    let pre = c.requires in
-    let taken = c.loop-c-test.true in
-    (pre.0, pre.3, taken, mask_of _ _ pre.2 taken)
+    (c.requires.2, omega arith, mask_of _ _ c.requires.1 (omega arith))
 
 pub loop-c-preserved : goal.loop-c-preserved
-loop-c-preserved c =
-    half-more _ _ _ _ _ c.requires.3 c.loop-c-test.true
-    c.loop-c.invariant.1 c.loop-c.invariant.2 c.column_by.ensures
+loop-c-preserved c = wrote_step _ _ _ _ _ (omega arith) c.loop-c.invariant c.column_by.ensures

@@ -1,5 +1,5 @@
 -- Four full adders; each count is at most 64, so the sums fit.
-use native.Mathlib.Omega.{arith}
+use Rattle.std.proofs.Common.{arith}
 use Rattle.words.proofs.Counting.{count_word}
 use Rattle.words.proofs.RowLaws.{seven_sum}
 use Rattle.words.proofs.rows.seven_ones.Goals as goal

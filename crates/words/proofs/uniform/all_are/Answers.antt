@@ -1,8 +1,6 @@
 -- What fits the first load is read by it (`near-are`). Else three parts: one with another flag ends it (`all-exit`), and the last decides
 -- where the others have none (`all_more`).
-use mathlib.Core.Path.{refl, sym, ◌∙◌}
-use Prim.Native.Nat.{◌-◌, ◌%◌}
-use native.Mathlib.Omega.{arith}
+use Rattle.std.proofs.Common.{refl, sym, ◌∙◌, ◌-◌, ◌%◌, arith}
 use Rattle.words.proofs.UniformLaws.{all-exit, all_more, first-are, near-are}
 use Rattle.words.proofs.uniform.all_are.Goals as goal
 

@@ -1,7 +1,5 @@
 -- The invariant: a flag of `others` is set just where one of the first i words is unlike `flag`. One more word is the law `any_step`.
-use mathlib.Core.Path.{ap, ◌∙◌}
-use mathlib.Core.Bool.{not}
-use native.Mathlib.Omega.{arith}
+use Rattle.std.proofs.Common.{ap, ◌∙◌, not, arith}
 use Rattle.words.proofs.AnyFlag.{any_none, any_step, any-all}
 use Rattle.words.proofs.UniformLaws.{all_any, length_unlike, map-word}
 use Rattle.words.proofs.uniform.block_is.Goals as goal

@@ -1,8 +1,6 @@
 -- The invariant: a flag of `others` is set just where one of the first i words is unlike `flag`. One more word is the law `any_step`.
-use Prim.Native.Nat.{◌*◌}
-use mathlib.Core.Path.{◌≡◌}
-use mathlib.Core.Bool.{xor}
-use mathlib.Core.List.{map}
+use Rattle.std.proofs.Common.{◌*◌, ◌≡◌, map}
+use Rattle.std.proofs.Math.Bool.{xor}
 use Rattle.words.specs.Flags.{flags_of, window, bits}
 use Rattle.words.specs.Counts.{any_set}
 use Rattle.words.proofs.uniform.block_is.Given as goal

@@ -1,5 +1,5 @@
 -- Too few bytes: no (`too_few`). Else the flags of the first load decide (`differs`).
-use native.Mathlib.Omega.{arith}
+use Rattle.std.proofs.Common.{arith}
 use Rattle.words.proofs.UniformLaws.{differs, enough, too_few}
 use Rattle.words.proofs.uniform.differs_early.Goals as goal
 

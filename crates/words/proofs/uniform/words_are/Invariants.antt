@@ -1,8 +1,6 @@
 -- The invariant: all flags of the first i words are `flag`. A block with another ends the loop (`all-exit`), one without is passed over
 -- (`all_more`).
-use mathlib.Core.Path.{◌≡◌}
-use mathlib.Core.Bool.{true}
-use Prim.Native.Nat.{◌≤◌, ◌*◌, ◌-◌}
+use Rattle.std.proofs.Common.{◌≡◌, true, ◌≤◌, ◌*◌, ◌-◌}
 use Rattle.words.specs.Flags.{flags_of, window}
 use Rattle.words.specs.Uniform.{all_are}
 use Rattle.words.proofs.uniform.words_are.Given as goal

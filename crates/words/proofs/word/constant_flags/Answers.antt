@@ -6,4 +6,4 @@ pub returns-then-n-ge64 : goal.returns-then-n-ge64
 returns-then-n-ge64 c = copies-past 64 _ _ _ c.if-n-ge64.true c.constant_word.ensures
 
 pub returns : goal.returns
-returns c = copies-some 64 _ c.args.flag c.if-n-ge64.false
+returns c = rw c.from-one.ensures (copies-some 64 _ c.args.flag c.if-n-ge64.false)

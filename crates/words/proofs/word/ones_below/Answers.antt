@@ -1,5 +1,5 @@
 -- One law for each branch: no flag, all flags of the word, or the k low ones, shifted to the top of the word and counted there.
-use mathlib.Core.Path.{refl}
+use Rattle.std.proofs.Common.{refl}
 use Rattle.words.proofs.NthLaws.{ones_none, ones-taken, ones-whole}
 use Rattle.words.proofs.word.ones_below.Goals as goal
 

@@ -1,5 +1,5 @@
 -- `ones-bits` at width 64.
-use mathlib.Core.Path.{sym}
+use Rattle.std.proofs.Common.{sym}
 use Rattle.words.proofs.Counting.{ones-bits}
 use Rattle.words.proofs.word.ones_in_word.Goals as goal
 

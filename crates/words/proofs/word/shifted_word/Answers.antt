@@ -1,6 +1,6 @@
 -- `shifted`: two windows of one list, eight flags apart, joined by `or`; they agree where they overlap.
 use Rattle.words.proofs.Merging.{shifted}
-use borrow.Author.Rules.{rules}
+use Rattle.std.proofs.Common.{rules}
 use Rattle.words.proofs.word.shifted_word.Goals as goal
 
 pub returns : goal.returns

@@ -1,5 +1,5 @@
 -- Inside the output the rest from `at` on is lent (`over-from`); past its end there is nothing to write over (`over_at-past`).
-use native.Mathlib.Omega.{arith}
+use Rattle.std.proofs.Common.{arith}
 use Rattle.words.proofs.Bytes.{over-from, length-flags}
 use Rattle.words.proofs.Windows.{over_at-past}
 use Rattle.words.proofs.word.store_at.Goals as goal

@@ -1,5 +1,5 @@
 -- With eight bytes or more the first eight are lent, and `over-part` says the same of the whole; with fewer it is what `split` ensures.
-use native.Mathlib.Omega.{arith}
+use Rattle.std.proofs.Common.{arith}
 use Rattle.words.proofs.Bits.{length-bits}
 use Rattle.words.proofs.Bytes.{over-part}
 use Rattle.words.proofs.word.store_le_u64.Goals as goal

@@ -16,8 +16,10 @@ unfolding aligned_of
 returns-in_err-check_aligned c =
     exit-is _ _ c.from_residual.ensures.1 ∙ not-empty _ _ _ _ c.if-length-eq0.false (is-refused _ _ _ _ c.in_err-check_aligned.ensures (number-ne0 _))
 
-pub split-requires : goal.split-requires
-split-requires c = aligned-allowed _ _ _ _ (sym c.in_ok-check_aligned.ensures)
+pub invariant_of-span : goal.invariant_of-span
+invariant_of-span c =
+    let a = aligned-allowed _ _ _ _ (sym c.in_ok-check_aligned.ensures) in
+    record { starts = a.0; short = a.1.0; low = a.1.1 }
 
 pub returns : goal.returns
 unfolding aligned_of

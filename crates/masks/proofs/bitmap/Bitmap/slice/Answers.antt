@@ -4,6 +4,7 @@ use Rattle.masks.proofs.MaskLaws.{cut-error, piece-allowed, slice-refused, slice
 use mathlib.Core.Path.{sym, ap, ◌∙◌}
 use Rattle.masks.specs.Answer.{given}
 use Rattle.masks.specs.Answer.{refused}
+use Rattle.masks.specs.Mask.{cut_zeros}
 use Rattle.masks.specs.Refusal.{number}
 use Rattle.masks.specs.declared.refusal.Refusal.{Refusal}
 use Rattle.masks.proofs.RefusalLaws.{back-err, back-exit, back-is, back-ok, failed-back, passed-back}
@@ -21,6 +22,7 @@ pub cut_count-requires : goal.cut_count-requires
 cut_count-requires c = piece-allowed _ _ _ _ (sym c.check_piece.ensures ∙ passed-back _ _ _ c.in_ok-give_back.ensures)
 
 pub returns-in_err-unset : goal.returns-in_err-unset
+unfolding cut_zeros
 returns-in_err-unset c =
     let wrong = cut-error _ _ _ _ _ (sym c.cut_count.ensures ∙ (back-err _ _ _ c.in_err-unset.ensures).0) in
     back-exit _ _ _ c.in_err-unset.ensures _ c.from_residual-in_err-unset.ensures.1
@@ -28,6 +30,7 @@ returns-in_err-unset c =
     ∙ slice_wrong _ _ _ _ _ c.check_piece.ensures (passed-back _ _ _ c.in_ok-give_back.ensures) wrong.0
 
 pub returns : goal.returns
+unfolding cut_zeros
 returns c =
     ap given c.cut_mask.ensures
     ∙ slice-right _ _ _ _ _ c.check_piece.ensures _ (passed-back _ _ _ c.in_ok-give_back.ensures)

@@ -1,25 +1,33 @@
 -- The number of the mask's checks decides; where all have passed, the span is within the limit (`mask-allowed`), as `zero_count` asks.
+use Rattle.std.proofs.Common.{arith, ◌≡◌, ℕ, Option}
 use mathlib.Core.Path.{sym, ap, ◌∙◌}
 use Rattle.masks.specs.declared.bitmap.Bitmap.{Bitmap}
 use Rattle.masks.specs.Answer.{given}
-use Rattle.masks.specs.Mask.{unset_bits_of}
-use Rattle.masks.proofs.CheckLaws.{is-given, is-refused}
-use Rattle.masks.proofs.RefusalLaws.{back-is, failed-back, passed-back}
+use Rattle.masks.specs.Mask.{count_or, mask_flags, unset_bits_of, zero_count}
+use Rattle.masks.specs.Utils.{zeros}
+use Rattle.masks.proofs.CheckLaws.{is-given}
+use Rattle.masks.proofs.RefusalLaws.{back-refused, passed-back}
 use Rattle.masks.proofs.MaskLaws.{mask-allowed}
+use Rattle.masks.proofs.bitmap.Bitmap.unset_bits.Goals.{in-Some, in-None}
 use Rattle.masks.proofs.bitmap.Bitmap.unset_bits.Goals as goal
 
 pub returns-in_err-give_back : goal.returns-in_err-give_back
 unfolding unset_bits_of
 returns-in_err-give_back c =
-    back-is _ _ _ c.in_err-give_back.ensures _ c.from_residual.ensures.1
-    ∙ is-refused _ _ _ _ c.check_mask.ensures (failed-back _ _ _ c.in_err-give_back.ensures)
+    back-refused _ _ _ c.in_err-give_back.ensures _ c.from_residual.ensures.1 _ c.check_mask.ensures _
 
-pub zero_count-zeros-requires : goal.zero_count-zeros-requires
-zero_count-zeros-requires c =
-    let a = mask-allowed _ _ (sym c.check_mask.ensures ∙ passed-back _ _ _ c.in_ok-give_back.ensures) in (a.starts, a.short)
+pub invariant_of-span : goal.invariant_of-span
+invariant_of-span c =
+    let a = mask-allowed _ _ (sym c.check_mask.ensures ∙ passed-back _ _ _ c.in_ok-give_back.ensures) in
+    record { ends = omega (arith, a.starts, a.short); short = a.short; inside = a.inside }
 
 pub returns : goal.returns
-unfolding unset_bits_of
+unfolding unset_bits_of zero_count
 returns c =
-    ap (λ (m : Bitmap). given (record { mask = m; zeros = c.zero_count-zeros.result })) c.with_count.ensures
-    ∙ rw c.zero_count-zeros.ensures (is-given _ _ _ _ c.check_mask.ensures (passed-back _ _ _ c.in_ok-give_back.ensures))
+    let all = zeros (mask_flags c.args.self c.args.bytes.now) in
+    let known : c.match-self.zeros ≡ count_or c.args.self.unset all = elim c.match-self.branch [
+      | in-Some w ↦ w.zeros-is ∙ sym (ap (λ (u : Option ℕ). count_or u all) w.in-Some.is)
+      | in-None w ↦ w.zeros-is ∙ w.zeros-zeros.ensures ∙ sym (ap (λ (u : Option ℕ). count_or u all) w.in-None.is)
+    ] in
+    ap (λ (m : Bitmap). given (record { mask = m; zeros = c.match-self.zeros })) c.with_count.ensures
+    ∙ rw known (is-given _ _ _ _ c.check_mask.ensures (passed-back _ _ _ c.in_ok-give_back.ensures))

@@ -6,9 +6,9 @@ use Rattle.words.proofs.Windows.{length-copies}
 use Rattle.masks.specs.Appends.{constant_checks}
 use Rattle.masks.specs.Builder.{appended}
 use Rattle.masks.proofs.CheckLaws.{refused-way, two-pieces, passed-left}
-use Rattle.masks.proofs.AppendLaws.{append-way, append-same}
+use Rattle.masks.proofs.AppendLaws.{append-way}
 use Rattle.masks.proofs.InsideLaws.{constant-passed, front-padded, inside-padded}
-use Rattle.masks.proofs.RoomLaws.{room_of, room-same}
+use Rattle.masks.proofs.RoomLaws.{room_of}
 use Rattle.masks.proofs.RefusalLaws.{passed-back, failed-back, back-is}
 use Rattle.masks.proofs.builder.BitmapBuilder.extend_constant.Goals as goal
 
@@ -32,12 +32,11 @@ returns-in_err-give_back c =
 
 pub append_copies-requires : goal.append_copies-requires
 append_copies-requires c =
-    room-same _ _ _ _ c.copied.ensures
-    (room_of _ _ _ (sym c.check_builder.ensures ∙ passed-left _ _ (sym c.earlier.ensures ∙ (passed-back _ _ _ c.in_ok-give_back.ensures))))
+    room_of _ _ _ (sym c.check_builder.ensures ∙ passed-left _ _ (sym c.earlier.ensures ∙ (passed-back _ _ _ c.in_ok-give_back.ensures)))
 
 pub returns : goal.returns
 unfolding constant_checks
 returns c =
     let both = append-way _ _ _ _ _ _ _ _ (two-pieces _ _ _ _ _ c.earlier.ensures c.check_builder.ensures c.check_limit.ensures) (passed-back _ _ _ c.in_ok-give_back.ensures)
-    (append-same _ _ _ _ _ c.append_copies.ensures c.copied.ensures) in
+    c.append_copies.ensures in
     record { answer = both.0; bytes = both.1 }

@@ -6,12 +6,11 @@ use native.Mathlib.Omega.{arith}
 use Rattle.masks.specs.Appends.{span_grow_checks}
 use Rattle.masks.specs.Builder.{appended}
 use Rattle.masks.proofs.CheckLaws.{refused-way}
-use Rattle.masks.proofs.AppendLaws.{append-way, append-same}
+use Rattle.masks.proofs.AppendLaws.{append-way}
 use Rattle.masks.proofs.ExtendLaws.{few-inside}
 use Rattle.masks.proofs.InsideLaws.{front-padded, inside-padded}
 use Rattle.masks.proofs.PartLaws.{length-low}
-use Rattle.masks.proofs.RoomLaws.{grow-allowed, room-same}
-use Rattle.masks.proofs.SpanLaws.{whole-stretch}
+use Rattle.masks.proofs.RoomLaws.{grow-allowed}
 use Rattle.masks.proofs.RefusalLaws.{passed-back, failed-back, back-is}
 use Rattle.masks.proofs.builder.BitmapBuilder.extend_from_slice.Goals as goal
 
@@ -38,14 +37,19 @@ returns-then-stays_inside c =
     (c.push_inside.ensures _ ∙ ap (appended _) (front-padded _ _ _ (length-low _ _ most) most c.low_flags.ensures ∙ c.near_word.ensures _ few)) in
     record { answer = both.0; bytes = both.1 }
 
+pub invariant_of-span : goal.invariant_of-span
+invariant_of-span c =
+    let span = (grow-allowed _ _ _ _ _ _ c.check_span_grow.ensures (passed-back _ _ _ c.in_ok-give_back.ensures)).0 in
+    record { ends = omega (arith, span.starts, span.short); short = span.short; inside = span.inside }
+
 pub append_stretch-requires : goal.append_stretch-requires
 append_stretch-requires c =
     let allowed = grow-allowed _ _ _ _ _ _ c.check_span_grow.ensures (passed-back _ _ _ c.in_ok-give_back.ensures) in
-    (omega (arith, allowed.0.starts, allowed.0.short), room-same _ _ _ _ c.copied.ensures allowed.1)
+    allowed.1
 
 pub returns : goal.returns
 unfolding span_grow_checks
 returns c =
     let both = append-way _ _ _ _ _ _ _ _ c.check_span_grow.ensures (passed-back _ _ _ c.in_ok-give_back.ensures)
-    (append-same _ _ _ _ _ c.append_stretch.ensures c.copied.ensures ∙ ap (appended _) (whole-stretch _ _ _)) in
+    c.append_stretch.ensures in
     record { answer = both.0; bytes = both.1 }

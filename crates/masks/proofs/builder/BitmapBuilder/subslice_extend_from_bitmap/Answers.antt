@@ -17,19 +17,26 @@ returns-in_err-give_back c =
     (two-pieces _ _ _ _ _ c.earlier.ensures c.check_inner.ensures c.check_builder.ensures)) _ _ (failed-back _ _ _ c.in_err-give_back.ensures) in
     record { answer = back-is _ _ _ c.in_err-give_back.ensures _ c.from_residual.ensures.1 ∙ both.0; bytes = both.1 }
 
-pub overflow_add-mask : goal.overflow_add-mask
-overflow_add-mask c =
+pub overflow_add-span : goal.overflow_add-span
+overflow_add-span c =
     let none = sym c.earlier-2.ensures ∙ (passed-back _ _ _ c.in_ok-give_back.ensures) in
     let rest = sym c.earlier.ensures ∙ passed-right _ _ none in
     let ok = inner-allowed _ _ _ _ (sym c.check_mask.ensures ∙ passed-left _ _ none) (sym c.check_inner.ensures ∙ passed-left _ _ rest) in
     omega (arith, ok.starts, ok.short, ok.inside)
+
+pub invariant_of-span : goal.invariant_of-span
+invariant_of-span c =
+    let none = sym c.earlier-2.ensures ∙ (passed-back _ _ _ c.in_ok-give_back.ensures) in
+    let rest = sym c.earlier.ensures ∙ passed-right _ _ none in
+    let ok = inner-allowed _ _ _ _ (sym c.check_mask.ensures ∙ passed-left _ _ none) (sym c.check_inner.ensures ∙ passed-left _ _ rest) in
+    record { ends = omega (arith, ok.starts, ok.short, ok.inside); short = omega (arith, ok.short, ok.inside); inside = omega (arith, ok.lent, ok.inside) }
 
 pub append_stretch-requires : goal.append_stretch-requires
 append_stretch-requires c =
     let none = sym c.earlier-2.ensures ∙ (passed-back _ _ _ c.in_ok-give_back.ensures) in
     let rest = sym c.earlier.ensures ∙ passed-right _ _ none in
     let ok = inner-allowed _ _ _ _ (sym c.check_mask.ensures ∙ passed-left _ _ none) (sym c.check_inner.ensures ∙ passed-left _ _ rest) in
-    (omega (arith, ok.starts, ok.short, ok.inside), room_of _ _ _ (sym c.check_builder.ensures ∙ passed-right _ _ rest))
+    room_of _ _ _ (sym c.check_builder.ensures ∙ passed-right _ _ rest)
 
 pub returns : goal.returns
 unfolding subslice_checks

@@ -2,16 +2,17 @@
 use mathlib.Core.Path.{sym, ap, ◌∙◌}
 use Rattle.masks.specs.Answer.{given}
 use Rattle.masks.specs.Chunks.{next_chunk}
-use Rattle.masks.proofs.CheckLaws.{is-refused, is-given}
+use Rattle.std.proofs.Common.{arith}
+use Rattle.masks.proofs.CheckLaws.{is-given}
 use Rattle.masks.proofs.ChunkLaws.{a_word, no_word}
 use Rattle.masks.proofs.CursorLaws.{cursor-allowed}
 use borrow.Author.Rules.{rules}
-use Rattle.masks.proofs.RefusalLaws.{passed-back, failed-back, step-is}
+use Rattle.masks.proofs.RefusalLaws.{passed-back, step-refused}
 use Rattle.masks.proofs.chunks.BitChunks.next.Goals as goal
 
 pub returns-in_err-give_back : goal.returns-in_err-give_back
 unfolding next_chunk
-returns-in_err-give_back c = step-is _ _ _ c.in_err-give_back.ensures _ c.from_residual.ensures.1 ∙ is-refused _ _ _ _ c.check_cursor.ensures (failed-back _ _ _ c.in_err-give_back.ensures)
+returns-in_err-give_back c = step-refused _ _ _ c.in_err-give_back.ensures _ c.from_residual.ensures.1 _ c.check_cursor.ensures _
 
 pub returns-then-self : goal.returns-then-self
 unfolding next_chunk
@@ -20,7 +21,7 @@ returns-then-self c = ap given (no_word _ _ c.if-self.true) ∙ is-given _ _ _ _
 pub invariant_of-span : goal.invariant_of-span
 invariant_of-span c =
     let a = cursor-allowed _ _ _ _ (sym c.check_cursor.ensures ∙ (passed-back _ _ _ c.in_ok-give_back.ensures)) in
-    record { starts = a.starts; short = a.short; inside = a.inside }
+    record { ends = omega (arith, a.starts, a.short); short = a.short; inside = a.inside }
 
 pub returns : goal.returns
 unfolding next_chunk

@@ -4,15 +4,15 @@ use native.Mathlib.Omega.{arith}
 use Prim.Native.Nat.{ℕ, ◌%◌}
 use Rattle.masks.specs.Answer.{given}
 use Rattle.masks.specs.Chunks.{chunks_remainder}
-use Rattle.masks.proofs.CheckLaws.{is-refused, is-given}
+use Rattle.masks.proofs.CheckLaws.{is-given}
 use Rattle.masks.proofs.ChunkLaws.{remainder-value}
 use Rattle.masks.proofs.CursorLaws.{cursor-allowed}
-use Rattle.masks.proofs.RefusalLaws.{passed-back, failed-back, back-is}
+use Rattle.masks.proofs.RefusalLaws.{back-refused, passed-back}
 use Rattle.masks.proofs.chunks.BitChunks.remainder.Goals as goal
 
 pub returns-in_err-give_back : goal.returns-in_err-give_back
 unfolding chunks_remainder
-returns-in_err-give_back c = back-is _ _ _ c.in_err-give_back.ensures _ c.from_residual.ensures.1 ∙ is-refused _ _ _ _ c.check_cursor.ensures (failed-back _ _ _ c.in_err-give_back.ensures)
+returns-in_err-give_back c = back-refused _ _ _ c.in_err-give_back.ensures _ c.from_residual.ensures.1 _ c.check_cursor.ensures _
 
 pub overflow_add-first : goal.overflow_add-first
 overflow_add-first c =

@@ -5,15 +5,15 @@ use Rattle.masks.specs.Answer.{given}
 use Rattle.masks.specs.Cursor.{item, ended}
 use Rattle.masks.specs.Iterator.{nth_flag}
 use Rattle.masks.specs.declared.iterator.BitmapIter.{BitmapIter}
-use Rattle.masks.proofs.CheckLaws.{is-refused, is-given}
+use Rattle.masks.proofs.CheckLaws.{is-given}
 use Rattle.masks.proofs.CursorLaws.{cursor-allowed}
 use Rattle.masks.proofs.IteratorLaws.{a-flag, no_flag}
-use Rattle.masks.proofs.RefusalLaws.{passed-back, failed-back, step-is}
+use Rattle.masks.proofs.RefusalLaws.{passed-back, step-refused}
 use Rattle.masks.proofs.iterator.BitmapIter.nth.Goals as goal
 
 pub returns-in_err-give_back : goal.returns-in_err-give_back
 unfolding nth_flag
-returns-in_err-give_back c = step-is _ _ _ c.in_err-give_back.ensures _ c.from_residual.ensures.1 ∙ is-refused _ _ _ _ c.check_cursor.ensures (failed-back _ _ _ c.in_err-give_back.ensures)
+returns-in_err-give_back c = step-refused _ _ _ c.in_err-give_back.ensures _ c.from_residual.ensures.1 _ c.check_cursor.ensures _
 
 pub overflow_sub-self : goal.overflow_sub-self
 overflow_sub-self c = (cursor-allowed _ _ _ _ (sym c.check_cursor.ensures ∙ (passed-back _ _ _ c.in_ok-give_back.ensures))).reached

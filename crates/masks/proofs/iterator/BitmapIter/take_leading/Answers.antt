@@ -5,15 +5,15 @@ use native.Mathlib.Omega.{arith}
 use Rattle.masks.specs.Answer.{given}
 use Rattle.masks.specs.declared.iterator.BitmapIter.{BitmapIter}
 use Rattle.masks.specs.Iterator.{take_leading, moved_to}
-use Rattle.masks.proofs.CheckLaws.{is-refused, is-given}
+use Rattle.masks.proofs.CheckLaws.{is-given}
 use Rattle.masks.proofs.CursorLaws.{cursor-allowed}
 use Rattle.masks.proofs.IteratorLaws.{alike-inside}
-use Rattle.masks.proofs.RefusalLaws.{passed-back, failed-back, back-is}
+use Rattle.masks.proofs.RefusalLaws.{back-refused, passed-back}
 use Rattle.masks.proofs.iterator.BitmapIter.take_leading.Goals as goal
 
 pub returns-in_err-give_back : goal.returns-in_err-give_back
 unfolding take_leading
-returns-in_err-give_back c = back-is _ _ _ c.in_err-give_back.ensures _ c.from_residual.ensures.1 ∙ is-refused _ _ _ _ c.check_cursor.ensures (failed-back _ _ _ c.in_err-give_back.ensures)
+returns-in_err-give_back c = back-refused _ _ _ c.in_err-give_back.ensures _ c.from_residual.ensures.1 _ c.check_cursor.ensures _
 
 pub leading_from-taken-requires : goal.leading_from-taken-requires
 leading_from-taken-requires c =

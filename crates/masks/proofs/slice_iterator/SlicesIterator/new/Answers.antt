@@ -1,13 +1,13 @@
 -- The number of the mask's checks decides: `is-refused` or `is-given`.
-use mathlib.Core.Path.{refl, ◌∙◌}
+use mathlib.Core.Path.{refl}
 use Rattle.masks.specs.SliceIterator.{new_slices}
-use Rattle.masks.proofs.CheckLaws.{is-refused, is-given}
-use Rattle.masks.proofs.RefusalLaws.{exit-is, number-ne0}
+use Rattle.masks.proofs.CheckLaws.{is-given}
+use Rattle.masks.proofs.RefusalLaws.{exit-refused}
 use Rattle.masks.proofs.slice_iterator.SlicesIterator.new.Goals as goal
 
 pub returns-in_err-check_mask : goal.returns-in_err-check_mask
 unfolding new_slices
-returns-in_err-check_mask c = exit-is _ _ c.from_residual.ensures.1 ∙ is-refused _ _ _ _ c.in_err-check_mask.ensures (number-ne0 _)
+returns-in_err-check_mask c = exit-refused _ _ c.from_residual.ensures.1 _ c.in_err-check_mask.ensures _
 
 pub returns : goal.returns
 unfolding new_slices

@@ -6,21 +6,21 @@ use Rattle.masks.specs.Answer.{given}
 use Rattle.masks.specs.Cursor.{item, ended}
 use Rattle.masks.specs.declared.slice_iterator.SlicesIterator.{SlicesIterator}
 use Rattle.masks.specs.SliceIterator.{next_slice}
-use Rattle.masks.proofs.CheckLaws.{is-refused, is-given}
+use Rattle.masks.proofs.CheckLaws.{is-given}
 use Rattle.masks.proofs.CursorLaws.{cursor-allowed}
 use Rattle.masks.proofs.IteratorLaws.{alike-inside}
 use Rattle.masks.proofs.RunLaws.{a-run, no_run, run_inside}
-use Rattle.masks.proofs.RefusalLaws.{passed-back, failed-back, step-is}
+use Rattle.masks.proofs.RefusalLaws.{passed-back, step-refused}
 use Rattle.masks.proofs.slice_iterator.SlicesIterator.next.Goals as goal
 
 pub returns-in_err-give_back : goal.returns-in_err-give_back
 unfolding next_slice
-returns-in_err-give_back c = step-is _ _ _ c.in_err-give_back.ensures _ c.from_residual.ensures.1 ∙ is-refused _ _ _ _ c.check_cursor.ensures (failed-back _ _ _ c.in_err-give_back.ensures)
+returns-in_err-give_back c = step-refused _ _ _ c.in_err-give_back.ensures _ c.from_residual.ensures.1 _ c.check_cursor.ensures _
 
 pub invariant_of-span : goal.invariant_of-span
 invariant_of-span c =
     let a = cursor-allowed _ _ _ _ (sym c.check_cursor.ensures ∙ (passed-back _ _ _ c.in_ok-give_back.ensures)) in
-    record { starts = a.starts; short = a.short; inside = a.inside }
+    record { ends = omega (arith, a.starts, a.short); short = a.short; inside = a.inside }
 
 pub zeros_from-requires : goal.zeros_from-requires
 zeros_from-requires c =

@@ -1,5 +1,6 @@
 -- The number of the span's checks decides: `is-refused` or `is-given`; where all have passed the facts hold (`span-allowed`).
 use mathlib.Core.Path.{refl, sym, ◌∙◌}
+use Rattle.std.proofs.Common.{arith}
 use Rattle.masks.proofs.CheckLaws.{is-refused, is-given, span-allowed}
 use Rattle.masks.proofs.LentLaws.{lent-exit}
 use Rattle.masks.proofs.RefusalLaws.{number-ne0}
@@ -11,7 +12,7 @@ returns-in_err-check_span c = lent-exit _ _ c.from_residual.ensures.1 ∙ is-ref
 pub invariant_of-result : goal.invariant_of-result
 invariant_of-result c =
     let a = span-allowed _ _ _ (sym c.in_ok-check_span.ensures) in
-    record { starts = a.starts; short = a.short; inside = a.inside }
+    record { ends = omega (arith, a.starts, a.short); short = a.short; inside = a.inside }
 
 pub returns : goal.returns
 returns c = is-given _ _ _ _ c.in_ok-check_span.ensures refl

@@ -1,4 +1,4 @@
--- A start at a byte is one load (`whole-bytes`); inside a byte two neighbouring words are merged (`inside-byte`).
+-- A start at a byte is one load; inside a byte two neighbouring words are merged (`inside-byte`).
 use Rattle.masks.proofs.ChunkLaws.{inside-byte}
 use Rattle.masks.proofs.span.Lent.word.Goals as goal
 

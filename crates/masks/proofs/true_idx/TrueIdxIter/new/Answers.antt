@@ -2,13 +2,13 @@
 use mathlib.Core.Path.{refl, ap, ◌∙◌}
 use Rattle.masks.specs.Answer.{given}
 use Rattle.masks.specs.TrueIdx.{new_true}
-use Rattle.masks.proofs.CheckLaws.{is-refused, is-given}
-use Rattle.masks.proofs.RefusalLaws.{exit-is, number-ne0}
+use Rattle.masks.proofs.CheckLaws.{is-given}
+use Rattle.masks.proofs.RefusalLaws.{exit-refused}
 use Rattle.masks.proofs.true_idx.TrueIdxIter.new.Goals as goal
 
 pub returns-in_err-check_new : goal.returns-in_err-check_new
 unfolding new_true
-returns-in_err-check_new c = exit-is _ _ c.from_residual.ensures.1 ∙ is-refused _ _ _ _ c.in_err-check_new.ensures (number-ne0 _)
+returns-in_err-check_new c = exit-refused _ _ c.from_residual.ensures.1 _ c.in_err-check_new.ensures _
 
 pub returns : goal.returns
 unfolding new_true

@@ -6,14 +6,14 @@ use Rattle.masks.specs.Answer.{given}
 use Rattle.masks.specs.Cursor.{item, ended}
 use Rattle.masks.specs.declared.true_idx.TrueIdxIter.{TrueIdxIter}
 use Rattle.masks.specs.TrueIdx.{next_true}
-use Rattle.masks.proofs.CheckLaws.{is-refused, is-given}
+use Rattle.masks.proofs.CheckLaws.{is-given}
 use Rattle.masks.proofs.TrueIdxLaws.{true-allowed, a_one, no_one, zeros_within}
-use Rattle.masks.proofs.RefusalLaws.{passed-back, failed-back, step-is}
+use Rattle.masks.proofs.RefusalLaws.{passed-back, step-refused}
 use Rattle.masks.proofs.true_idx.TrueIdxIter.next.Goals as goal
 
 pub returns-in_err-give_back : goal.returns-in_err-give_back
 unfolding next_true
-returns-in_err-give_back c = step-is _ _ _ c.in_err-give_back.ensures _ c.from_residual.ensures.1 ∙ is-refused _ _ _ _ c.check_next.ensures (failed-back _ _ _ c.in_err-give_back.ensures)
+returns-in_err-give_back c = step-refused _ _ _ c.in_err-give_back.ensures _ c.from_residual.ensures.1 _ c.check_next.ensures _
 
 pub zeros_next-requires : goal.zeros_next-requires
 zeros_next-requires c =

@@ -1,0 +1,19 @@
+-- The sum of what the two calls ensure; zeros are at most the flags counted (`zeros-most`), so it fits.
+use Rattle.words.proofs.Windows.{length-window}
+use Rattle.masks.proofs.PartLaws.{zeros-most}
+use mathlib.Core.Path.{ap₂}
+use Prim.Native.Nat.{ℕ, ◌+◌}
+use native.Mathlib.Omega.{arith}
+use Rattle.masks.proofs.span.Lent.zeros_cut.Goals as goal
+
+pub overflow_add-result : goal.overflow_add-result
+overflow_add-result c =
+    omega (
+      arith,
+      zeros-most _ _ _ (length-window _ _ _) c.zeros.ensures,
+      zeros-most _ _ _ (length-window _ _ _) c.zeros-2.ensures,
+      c.requires,
+    )
+
+pub returns : goal.returns
+returns c = ap₂ (λ (x y : ℕ). x + y) c.zeros.ensures c.zeros-2.ensures

@@ -1,8 +1,0 @@
--- The invariant: the words from word i on are alike.
-use Prim.Native.Nat.{◌≤◌, ◌*◌, ◌-◌, ◌+◌}
-use Rattle.words.specs.Ends.{trailing}
-use Rattle.words.specs.Loops.{stretch}
-use Rattle.masks.proofs.utils.trailing_words.Given as goal
-
-abbrev pub invariant-loop-i : goal.invariant-loop-i
-invariant-loop-i l = 64 * (l.n - l.i) ≤ trailing l.flag (stretch l.bytes (8 * l.at + 64 * l.i) (64 * (l.n - l.i)))

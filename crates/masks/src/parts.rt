@@ -1,0 +1,207 @@
+// The three parts of a span, and how many flags alike stand at either end of them.
+ghost use Rattle.std.specs.Prelude.{◌≡◌, ℕ, Bool, List, ◌++◌, ◌+◌, ◌*◌, ◌/◌, ◌≤◌, ◌<◌, length, take};
+ghost use Rattle.std.proofs.Common.{sym, ap, ◌∙◌, append_assoc};
+ghost use Rattle.words.specs.Ends.{leading, trailing};
+ghost use Rattle.words.specs.Flags.{count, word_flags};
+ghost use Rattle.words.proofs.EndLaws.{leading_le, leading-some, leading-all, trailing_le, trailing-some, trailing-all};
+ghost use Rattle.masks.specs.Aligned.{aligned_split};
+ghost use Rattle.masks.specs.Checks.{limit};
+ghost use Rattle.masks.specs.Workers.{bulk_flags, prefix_flags, split_flags, suffix_flags, parts-in-row};
+ghost use Rattle.masks.specs.declared.aligned.AlignedBitmapSlice.{AlignedBitmapSlice};
+
+use crate::aligned::{Addressed, AlignedBitmapSlice};
+use words::counts::count_ones;
+use words::ends::{leading_in_word, trailing_in_word};
+use words::word::{low_flags, ones_in_word, word_from};
+
+// The three parts of a span's split, over its bytes.
+#[derive(Clone, Copy)]
+pub(crate) struct Split<'a> {
+    bytes: &'a [u8],
+    parts: AlignedBitmapSlice,
+    ghost prefix_fits: { parts.prefix_len ≤ 64 },
+    ghost suffix_fits: { parts.suffix_len ≤ 64 },
+    ghost bulk_starts: { parts.bulk_start ≤ limit },
+    ghost bulk_fits: { parts.bulk_len ≤ limit / 64 },
+}
+
+impl<'a> Split<'a> {
+    pub(crate) fn new(span: &Addressed<'a>) -> Self
+        ensures bytes { result.bytes.now ≡ span.now.bytes.now }
+        ensures parts { result.parts ≡ aligned_split span.now.bytes.now span.now.start span.now.length span.now.address }
+    {
+        Split {
+            bytes: span.bytes,
+            parts: span.split(),
+        }
+    }
+
+    // Counts the ones in the three parts.
+    pub(crate) fn ones(&self) -> usize
+        ensures { result ≡ count (split_flags self.now.bytes.now self.now.parts) }
+    {
+        let s = self.parts;
+        let first = ones_in_word(low_flags(s.prefix, s.prefix_len));
+        let middle = count_ones(self.bytes, 8 * s.bulk_start, 64 * s.bulk_len);
+        let last = ones_in_word(low_flags(s.suffix, s.suffix_len));
+        first + middle + last
+    }
+
+    // Counts the flags equal to `flag` at an end: part by part, the next where all of one are alike.
+    pub(crate) fn run<E: End>(&self, flag: bool) -> usize
+        ensures { result ≡ E.run flag (split_flags self.now.bytes.now self.now.parts) }
+    {
+        let (word, k) = E::near(self);
+        let first = E::in_word(flag, word, k);
+        if first < k {
+            return first;
+        }
+        let bulk = 64 * self.parts.bulk_len;
+        let middle = E::in_bulk(flag, self);
+        if middle < bulk {
+            return k + middle;
+        }
+        let (other, j) = E::far(self);
+        k + bulk + E::in_word(flag, other, j)
+    }
+}
+
+// An end of a span, from which flags alike are counted.
+pub(crate) trait End {
+    // How many flags x stand at this end.
+    ghost run: { Bool → List Bool → ℕ };
+
+    // Three parts in a row, the one at this end first.
+    ghost row: { List Bool → List Bool → List Bool → List Bool };
+
+    // The flags of a split's word at this end, and of that at the other.
+    ghost near_flags: { AlignedBitmapSlice → List Bool };
+
+    ghost far_flags: { AlignedBitmapSlice → List Bool };
+
+    // Of the first k flags of a word.
+    fn in_word(flag: bool, word: u64, k: usize) -> usize
+        ensures { result ≡ run flag (take k (word_flags word)) };
+
+    // Of the whole words between the two.
+    fn in_bulk(flag: bool, split: &Split) -> usize
+        ensures { result ≡ run flag (bulk_flags split.now.bytes.now split.now.parts) };
+
+    // The word at this end, and how many flags of it are the span's.
+    fn near(split: &Split) -> (u64, usize)
+        ensures { (result.1 ≤ 64) × (take result.1 (word_flags result.0) ≡ near_flags split.now.parts) };
+
+    // The one at the other end.
+    fn far(split: &Split) -> (u64, usize)
+        ensures { (result.1 ≤ 64) × (take result.1 (word_flags result.0) ≡ far_flags split.now.parts) };
+
+    ghost in_row: { (bytes : List ℕ) (s : AlignedBitmapSlice)
+        → split_flags bytes s ≡ row (near_flags s) (bulk_flags bytes s) (far_flags s) };
+
+    // A part that is not all alike ends the run, and a whole one is counted with what stands behind it.
+    ghost at_first: { (x : Bool) (A B C : List Bool) → run x A < length A → run x (row A B C) ≡ run x A };
+
+    ghost at_second: { (x : Bool) (A B C : List Bool) → length A ≤ run x A → run x B < length B
+        → run x (row A B C) ≡ length A + run x B };
+
+    ghost at_third: { (x : Bool) (A B C : List Bool) → length A ≤ run x A → length B ≤ run x B
+        → run x (row A B C) ≡ length A + (length B + run x C) };
+
+    ghost at_most: { (x : Bool) (A : List Bool) → run x A ≤ length A };
+}
+
+pub(crate) struct Front {}
+
+pub(crate) struct Back {}
+
+impl End for Front {
+    ghost run = { leading };
+
+    ghost row = { λ A B C. A ++ (B ++ C) };
+
+    ghost near_flags = { prefix_flags };
+
+    ghost far_flags = { suffix_flags };
+
+    fn in_word(flag: bool, word: u64, k: usize) -> usize {
+        leading_in_word(flag, word, k)
+    }
+
+    fn in_bulk(flag: bool, split: &Split) -> usize {
+        let n = split.parts.bulk_len;
+        // a range: words lie at any byte, and there is no slice of them
+        for i in 0..n {
+            let bit = 8 * split.parts.bulk_start + 64 * i;
+            let alike = leading_in_word(flag, word_from(split.bytes, bit), 64);
+            if alike < 64 {
+                return 64 * i + alike;
+            }
+        }
+        64 * n
+    }
+
+    fn near(split: &Split) -> (u64, usize) {
+        (split.parts.prefix, split.parts.prefix_len)
+    }
+
+    fn far(split: &Split) -> (u64, usize) {
+        (split.parts.suffix, split.parts.suffix_len)
+    }
+
+    ghost in_row = { parts-in-row };
+
+    ghost at_first = { λ x A B C h. leading-some x A (B ++ C) h };
+
+    ghost at_second = { λ x A B C h k. leading-all x A (B ++ C) h ∙ ap (λ n. length A + n) (leading-some x B C k) };
+
+    ghost at_third = { λ x A B C h k. leading-all x A (B ++ C) h ∙ ap (λ n. length A + n) (leading-all x B C k) };
+
+    ghost at_most = { leading_le };
+}
+
+impl End for Back {
+    ghost run = { trailing };
+
+    ghost row = { λ A B C. C ++ (B ++ A) };
+
+    ghost near_flags = { suffix_flags };
+
+    ghost far_flags = { prefix_flags };
+
+    fn in_word(flag: bool, word: u64, k: usize) -> usize {
+        trailing_in_word(flag, word, k)
+    }
+
+    fn in_bulk(flag: bool, split: &Split) -> usize {
+        let n = split.parts.bulk_len;
+        // a range, as above
+        for i in (0..n).rev() {
+            let bit = 8 * split.parts.bulk_start + 64 * i;
+            let alike = trailing_in_word(flag, word_from(split.bytes, bit), 64);
+            if alike < 64 {
+                return 64 * (n - 1 - i) + alike;
+            }
+        }
+        64 * n
+    }
+
+    fn near(split: &Split) -> (u64, usize) {
+        (split.parts.suffix, split.parts.suffix_len)
+    }
+
+    fn far(split: &Split) -> (u64, usize) {
+        (split.parts.prefix, split.parts.prefix_len)
+    }
+
+    ghost in_row = { parts-in-row };
+
+    ghost at_first = { λ x A B C h. ap (trailing x) (sym (append_assoc C B A)) ∙ trailing-some x (C ++ B) A h };
+
+    ghost at_second = { λ x A B C h k. ap (trailing x) (sym (append_assoc C B A)) ∙ trailing-all x (C ++ B) A h
+        ∙ ap (λ n. length A + n) (trailing-some x C B k) };
+
+    ghost at_third = { λ x A B C h k. ap (trailing x) (sym (append_assoc C B A)) ∙ trailing-all x (C ++ B) A h
+        ∙ ap (λ n. length A + n) (trailing-all x C B k) };
+
+    ghost at_most = { trailing_le };
+}

@@ -1,0 +1,17 @@
+-- The tokens of an answer. Assumes nothing.
+use Rattle.std.specs.Prelude.{ℕ, List, [], ◌∷◌, ◌++◌}
+use Rattle.notation.specs.declared.answer.Token.{Token}
+use Rattle.notation.specs.declared.answer.Token.TheVariants.{Number}
+use Rattle.notation.specs.declared.answer.Answer.{Answer}
+
+-- the tokens of an answer, in their order
+abbrev pub tokens_of : Answer → List Token
+tokens_of a = a.tokens.items
+
+-- 0 or the refusing number, and nothing behind it
+abbrev pub number_alone : ℕ → List Token
+number_alone n = Number n ∷ []
+
+-- one token more behind the others
+abbrev pub with_token : List Token → Token → List Token
+with_token tokens t = tokens ++ t ∷ []

@@ -1,0 +1,11 @@
+-- What the contracts of this crate mean, from docs/REQUESTS.md. `Answer` is read first.
+pub mod Answer
+pub mod Arguments
+pub mod Items
+pub mod Last
+pub mod Lent
+pub mod Line
+pub mod Lines
+pub mod Outcome
+pub mod Sums
+pub mod Tally

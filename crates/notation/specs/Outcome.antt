@@ -1,0 +1,27 @@
+-- What was made of a request. Assumes nothing.
+use Rattle.std.specs.Prelude.{ℕ, ◌+◌, ◌-◌, ◌^◌, min}
+use Rattle.notation.specs.Answer.{tokens_of}
+use Rattle.notation.specs.Sums.{first_sum, answer_mixed, bytes_mixed, numbers_mixed}
+use Rattle.notation.specs.declared.last.Last.{Last}
+use Rattle.notation.specs.declared.names.Output.{Output}
+use Rattle.notation.specs.declared.names.Output.TheVariants.{Nothing, Bytes, Numbers}
+use Rattle.notation.specs.declared.outcome.Ran.{Ran}
+use Rattle.notation.specs.declared.sums.Checksum.{Checksum}
+
+-- one more, as far as 64 bits go
+abbrev pub one_more : ℕ → ℕ
+one_more n = min (n + 1) (2 ^ 64 - 1)
+
+-- no call yet
+abbrev pub none_made : Ran
+none_made = record { calls = 0; sum = first_sum }
+
+-- of an output all of it is taken in
+abbrev pub output_mixed : Output → Checksum → Last → Checksum
+output_mixed Bytes h last = bytes_mixed h last.bytes.items
+output_mixed Numbers h last = numbers_mixed h last.numbers.items
+output_mixed Nothing h last = h
+
+-- a call more: its answer, and its output
+abbrev pub taken : Output → Last → Ran → Ran
+taken output last r = record { calls = one_more r.calls; sum = output_mixed output (answer_mixed r.sum (tokens_of last.answer)) last }

@@ -1,0 +1,56 @@
+// Calls that need memory, each once where there is enough: no clause says that they succeed.
+use crate::answer::{Answer, Token};
+use crate::last::Last;
+use crate::lent::{Lent, Letter};
+use crate::lines::{Lines, Step};
+use crate::names::Output;
+use crate::outcome;
+use crate::outcome::{Ran, Verdict};
+use crate::reading::Reading;
+use std::io;
+
+#[test]
+fn answers_grow(rt: HostRuntime) -> io::Result<()> {
+    let answer = Answer::new(rt.alloc(), 14)?.and(Token::Unknown)?;
+    let wanted = [Token::Number(14), Token::Unknown];
+    assert_eq!(rt; answer.as_slice(), wanted.as_slice());
+    Ok(())
+}
+
+#[test]
+fn lines_are_read(rt: HostRuntime) -> io::Result<()> {
+    let text: &[u8] = b"x 00\nfill";
+    let mut lines = Lines::new(rt.alloc(), text)?;
+    let mut step = Step::Part;
+    for _ in 0..8 {
+        if step == Step::Part {
+            step = lines.step()?;
+        }
+    }
+    assert_eq!(rt; step, Step::Line);
+    Ok(())
+}
+
+#[test]
+fn requests_are_compared(rt: HostRuntime) -> io::Result<()> {
+    let alloc = rt.alloc();
+    let mut last = Last::new(alloc);
+    let mut lent = Lent::new(alloc);
+    let taken = lent.take(alloc, Letter::O, b"00*8", &last).is_ok();
+    assert!(rt; taken);
+    last.restore(Output::Bytes, &lent)?;
+    lent.go_on(&last)?;
+    assert_eq!(rt; lent.sizes().o, 8);
+    let request = b"fill 0 8 = 0 | 00*8";
+    let Ok(reading) = Reading::read(alloc, request, &last.answer) else {
+        return Err(io::Error::from(io::ErrorKind::InvalidData));
+    };
+    let mut ran = Ran::new();
+    last.answer = Answer::new(alloc, 0)?;
+    ran.take(Output::Bytes, &last);
+    match outcome::compare(alloc, &reading, ran, &lent, &last) {
+        Ok(outcome) => assert_eq!(rt; outcome.verdict, Verdict::Same),
+        Err(_) => return Err(io::Error::from(io::ErrorKind::InvalidData)),
+    }
+    Ok(())
+}

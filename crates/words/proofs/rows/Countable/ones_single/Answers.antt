@@ -1,0 +1,19 @@
+-- The invariant: `ones` counts i words. One more is the law `count-step`; a count is at most the flags counted, so the sum fits.
+use Rattle.words.proofs.Windows.{length-window}
+use Rattle.std.proofs.Common.{arith}
+use Rattle.words.proofs.Counting.{count_none, count-step, count-within, count_word, count-all, span-word}
+use Rattle.words.proofs.rows.Countable.ones_single.Goals as goal
+
+pub loop-i-init : goal.loop-i-init
+loop-i-init c = count_none _ _
+
+pub overflow_add-ones : goal.overflow_add-ones
+overflow_add-ones c = omega (arith, count-within _ _ _ _ c.loop-i.invariant, count_word _ _ c.ones_in_word-ones.ensures)
+
+pub loop-i-preserved : goal.loop-i-preserved
+loop-i-preserved c =
+    count-step _ _ _ _ _ c.loop-i.invariant
+    (span-word _ _ _ _ _ _ (omega arith) (omega arith) c.word.ensures) c.ones_in_word-ones.ensures
+
+pub returns : goal.returns
+returns c = count-all _ c.loop-i.i _ _ c.loop-i.invariant (length-window _ _ _) (omega arith) (omega arith)
