@@ -129,7 +129,7 @@ impl End for Front {
 
     fn in_bulk(flag: bool, split: &Split) -> usize {
         let n = split.parts.bulk_len;
-        // a range: words lie at any byte, and there is no slice of them
+        // a range: that the words lie in the bytes is no field of a split, so there is no slice of them
         for i in 0..n {
             let bit = 8 * split.parts.bulk_start + 64 * i;
             let alike = leading_in_word(flag, word_from(split.bytes, bit), 64);

@@ -43,7 +43,7 @@ pub fn report(bytes: &[u8]) -> Option<Numbers>
     })
 }
 
-// Counts the runs by calling the cursor until it has none left. A `loop`: a `while let` would name a run that nothing here reads.
+// Counts the runs by calling the cursor until it has none left.
 fn runs_of(mask: Bitmap, bytes: &[u8]) -> usize
     requires { first_failed (mask_checks mask bytes.now) ≡ 0 }
     ensures { result ≡ length (runs_from 0 (mask_flags mask bytes.now)) }

@@ -177,7 +177,7 @@ fn any_whole<A: Lane, B: Lane, C: Lane>(op: Op, lanes: &Lanes<A, B, C>) -> bool
 {
     let n = lanes.n;
     let mut i = 0;
-    // a `while`: the last block is shorter, and what is asked is how far the blocks have come
+    // block by block, the last of which is shorter
     while i < n {
         let k = (n - i).min(64);
         let block = lanes.part(i, k);

@@ -45,7 +45,7 @@ fn words_are(flag: bool, words: &Aligned) -> bool
 {
     let n = words.n;
     let mut i = 0;
-    // a `while`: the last block is shorter, and what is asked is how far the blocks have come
+    // block by block, the last of which is shorter
     while i < n {
         let k = (n - i).min(64);
         let block = words.part(i, k);
