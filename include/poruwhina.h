@@ -8,8 +8,9 @@
  * freed, and there is no state between calls: a record goes in and comes back by value, and any numbers in it are allowed. A builder and
  * a cursor go in as their numbers, which are quicker to hand from call to call than a record. Each call tests its arguments and answers
  * in `refusal` 0, or one of the numbers listed for it; it has then written nothing. Where several tests fail, the answer is the one that
- * stands first in 1, 2, 3, 14, 4, 5, 6, 7, 8, 9; the calls on a window of minutes have 16 alone. On refusal a record in the answer is the
- * very one that the call got, where it got one of that kind and gives it back; every other field is 0.
+ * stands first in 1, 2, 3, 14, 4, 5, 6, 7, 8, 9; the calls on a window of minutes have 16 alone. On refusal what the call got and gives
+ * back stands in the answer as it came: a mask, a builder, a cursor's place, the cursor of an offer, a window's numbers. Every other
+ * field is then 0.
  *
  * Each call that takes a mask counts the zeros of one whose count is known again, and refuses a count that is not exact. A record that
  * this library gave you may go in without its count (`known` 0), with the bytes that it came with: every answer is the same, save the

@@ -10,7 +10,7 @@ use std::fmt;
 use words::columns::flag_digit;
 
 // Minute k, counted from 0, stands at k mod width. Unused words are zero. `place` is where the next word goes, and `fill` the
-// number of words kept.
+// number of words kept. The words are an array with their number beside it, since there is no heap and C lends arrays of this length.
 #[derive(Clone, Copy)]
 pub struct ActivityWindow {
     pub words: [u64; 256],

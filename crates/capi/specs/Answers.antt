@@ -1,7 +1,7 @@
 -- The records in which answers cross, defined by what an answer holds and not call by call. Assumes nothing.
 --
--- `refusal` is 0, or the number of the refusing check. On refusal a record is the very one that the call got, where it got one of
--- that kind and gives it back; every other field is 0.
+-- `refusal` is 0, or the number of the refusing check. On refusal what the call got and gives back stands there as it came: a mask, a
+-- builder, a cursor's place, the cursor of an offer, a window's numbers. Every other field is then 0.
 use Rattle.std.specs.Prelude.{ℕ, Bool, true, false, Option, Some, None, Result, Ok, Err}
 use Rattle.words.specs.Flags.{digit}
 use Rattle.masks.specs.declared.next_and_not.Found.{Found}

@@ -1,6 +1,11 @@
-// The records in which answers cross to C and Rust. `refusal` is 0, or the number of the refusing check. On refusal a record is
-// the very one that the call got, where it got one of that kind and gives it back; every other field is 0. A number for a refusal and a
-// flag beside a value stand here, and in the parameters of the exports, since C has neither `Result` nor `Option`.
+// The records in which answers cross to C and Rust. `refusal` is 0, or the number of the refusing check. On refusal what the call got and
+// gives back stands there as it came: a mask, a builder, a cursor's place, the cursor of an offer, a window's numbers. Every other field is
+// then 0. A number for a refusal and a flag beside a value stand here, and in the parameters of the exports, since C has neither `Result`
+// nor `Option`.
+//
+// The `From` of most answers, here and beside exports, has one shape: a value goes into its fields, a refusal into a record of zeros. One
+// generic impl cannot name the fields, since C has no generics and each answer is a record of its own. Over a trait each record would
+// still write both arms, as two functions.
 ghost use Rattle.std.specs.Prelude.{◌≡◌};
 ghost use Rattle.masks.specs.Answer.{answer, answer_back};
 ghost use Rattle.capi.specs.Answers.{as_flag, as_mask, as_number};
@@ -36,7 +41,7 @@ pub struct Position {
 
 // The position of a set bit of a word, where `found`; else, in `ones`, how many bits of the word are set.
 #[repr(C)]
-#[derive(Clone, Copy)]
+#[derive(Clone, Copy, Default)]
 pub struct NthAnswer {
     pub refusal: u8,
     pub found: bool,
@@ -123,7 +128,7 @@ pub struct CursorAnswer {
 // start, a flag as 0 or 1, or a position; `count` is a run's length, the flags of a remainder, the flags taken or the positions
 // written.
 #[repr(C)]
-#[derive(Clone, Copy)]
+#[derive(Clone, Copy, Default)]
 pub struct StepAnswer {
     pub refusal: u8,
     pub found: bool,
@@ -158,7 +163,7 @@ pub struct SpansAnswer {
 
 // A window of minutes without its arrays: the place where its next word goes, how many words it keeps now, and its width.
 #[repr(C)]
-#[derive(Clone, Copy)]
+#[derive(Clone, Copy, Default)]
 pub struct WindowAnswer {
     pub refusal: u8,
     pub place: usize,
@@ -220,9 +225,6 @@ impl<S: Copy> From<Result<Bitmap, Refused<S>>> for MaskAnswer {
     ghost from_gives = { λ r a. a ≡ as_mask (answer_back r) };
 
     fn from(r: Result<Bitmap, Refused<S>>) -> MaskAnswer {
-        match r {
-            Ok(m) => Ok::<Bitmap, Refusal>(m).into(),
-            Err(e) => Err::<Bitmap, Refusal>(e.refusal).into(),
-        }
+        r.map_err(|e| e.refusal).into()
     }
 }

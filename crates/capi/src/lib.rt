@@ -2,7 +2,8 @@
 // its count of elements; include/poruwhina.h declares them all.
 //
 // Nothing is decided here: each export turns its numbers into the call's records, makes the call, and turns the answer into
-// numbers.
+// numbers. Each call has an export of its own, since C links names: so those of one shape stand side by side. What belongs together, as a
+// mask and its bytes or a cursor's numbers, crosses as several parameters, as the C interface has it.
 #![tactic(auto)]
 
 pub mod answers;

@@ -2,6 +2,9 @@
 //
 // A builder and a cursor are given as a record and go in again as its numbers, which stay in registers: a record that is handed on
 // from call to call through memory costs several times the call.
+//
+// `known` is a flag beside a value, since C has no `Option`. It and `masked` are numbers, since a record may come damaged and a `bool`
+// other than 0 and 1 is undefined in C and in Rust.
 ghost use Rattle.std.specs.Prelude.{◌≡◌};
 ghost use Rattle.capi.specs.Records.{builder_in, builder_out, mask_in, mask_out, optional_in, serial_builder_in};
 
@@ -49,7 +52,7 @@ impl From<Mask> for Bitmap {
         Bitmap {
             start: m.start,
             length: m.length,
-            unset: if m.known == 0 { None } else { Some(m.zeros) },
+            unset: (m.known != 0).then_some(m.zeros),
             serial: m.serial,
         }
     }
@@ -60,15 +63,11 @@ impl From<Bitmap> for Mask {
     ghost from_gives = { λ b m. m ≡ mask_out b };
 
     fn from(b: Bitmap) -> Mask {
-        let (zeros, known) = match b.unset {
-            Some(zeros) => (zeros, 1),
-            None => (0, 0),
-        };
         Mask {
             start: b.start,
             length: b.length,
-            zeros,
-            known,
+            zeros: b.unset.unwrap_or(0),
+            known: b.unset.is_some().into(),
             serial: b.serial,
         }
     }
@@ -79,7 +78,7 @@ impl From<Bitmap> for Mask {
 pub(crate) fn optional_in(present: bool, m: Mask) -> Option<Bitmap>
     ensures { result ≡ optional_in present m }
 {
-    if present { Some(m.into()) } else { None }
+    present.then(|| m.into())
 }
 
 // A builder to append to: its serial does not cross, and 0 stands for it.

@@ -4,7 +4,7 @@ ghost use Rattle.words.specs.Flags.{digit};
 ghost use Rattle.masks.specs.Answer.{answer, answer_back};
 ghost use Rattle.masks.specs.Cursor.{answer_step};
 ghost use Rattle.capi.specs.declared.records.Cursor.{Cursor};
-ghost use Rattle.capi.specs.Answers.{as_cursor, as_remainder, as_step, as_taken, step_of};
+ghost use Rattle.capi.specs.Answers.{as_cursor, as_remainder, as_step, as_taken};
 ghost use Rattle.capi.specs.Records.{chunks_out, cursor_of, iter_out, slices_out, true_out};
 ghost use Rattle.capi.specs.Records.{chunks_place, iter_place, slices_place, true_place};
 
@@ -41,7 +41,7 @@ pub(crate) trait Item: Copy {
         ensures { result ≡ (valued self, counted self) };
 }
 
-// A cursor in one line, for the four below, each of which names its own record's definition.
+// A cursor in one line, for the four below, each of which names its own record's definition: a default body cannot read the fields.
 fn cursor_of(start: usize, length: usize, place: usize, masked: u8) -> Cursor
     ensures { result ≡ cursor_of start length place masked }
 {
@@ -50,19 +50,6 @@ fn cursor_of(start: usize, length: usize, place: usize, masked: u8) -> Cursor
         length,
         place,
         masked,
-    }
-}
-
-// A step in one line: the answers below differ in single fields.
-fn step_of(refusal: u8, found: bool, value: u64, count: usize, place: usize) -> StepAnswer
-    ensures { result ≡ step_of refusal found value count place }
-{
-    StepAnswer {
-        refusal,
-        found,
-        value,
-        count,
-        place,
     }
 }
 
@@ -195,11 +182,24 @@ impl<T: Item, C: Walk> From<Result<Step<T, C>, Refused<C>>> for StepAnswer {
             Ok(step) => match step.item {
                 Some(item) => {
                     let (value, count) = item.parts();
-                    step_of(0, true, value, count, step.cursor.place())
+                    StepAnswer {
+                        refusal: 0,
+                        found: true,
+                        value,
+                        count,
+                        place: step.cursor.place(),
+                    }
                 }
-                None => step_of(0, false, 0, 0, step.cursor.place()),
+                None => StepAnswer {
+                    place: step.cursor.place(),
+                    ..StepAnswer::default()
+                },
             },
-            Err(e) => step_of(e.refusal.into(), false, 0, 0, e.state.place()),
+            Err(e) => StepAnswer {
+                refusal: e.refusal.into(),
+                place: e.state.place(),
+                ..StepAnswer::default()
+            },
         }
     }
 }
@@ -211,19 +211,38 @@ impl<C: Walk> From<Result<(usize, C), Refused<C>>> for StepAnswer {
 
     fn from(r: Result<(usize, C), Refused<C>>) -> StepAnswer {
         match r {
-            Ok((n, c)) => step_of(0, true, 0, n, c.place()),
-            Err(e) => step_of(e.refusal.into(), false, 0, 0, e.state.place()),
+            Ok((count, c)) => StepAnswer {
+                found: true,
+                count,
+                place: c.place(),
+                ..StepAnswer::default()
+            },
+            Err(e) => StepAnswer {
+                refusal: e.refusal.into(),
+                place: e.state.place(),
+                ..StepAnswer::default()
+            },
         }
     }
 }
 
-// A word of so many flags, from a cursor that stands at `place` and stays there.
+// A word of so many flags, from a cursor that stands at `place` and stays there. The place came beside the result, so this is no `From`.
 #[tactic(auto, unfolding(crate::specs::Answers::as_remainder))]
 pub(crate) fn remainder_out(place: usize, r: Result<(u64, usize), Refused<BitChunks>>) -> StepAnswer
     ensures { result ≡ as_remainder place (answer_back r) }
 {
     match r {
-        Ok((w, n)) => step_of(0, true, w, n, place),
-        Err(e) => step_of(e.refusal.into(), false, 0, 0, place),
+        Ok((value, count)) => StepAnswer {
+            refusal: 0,
+            found: true,
+            value,
+            count,
+            place,
+        },
+        Err(e) => StepAnswer {
+            refusal: e.refusal.into(),
+            place,
+            ..StepAnswer::default()
+        },
     }
 }

@@ -5,12 +5,13 @@
 #![tactic(auto, unfolding(activity::specs::Window::no_minute, crate::specs::Window::as_window, crate::specs::Window::unless_refused, crate::specs::Window::window_in))]
 
 ghost use Rattle.std.specs.Prelude.{◌≡◌};
-ghost use Rattle.activity.specs.Window.{number, accepted, new_of, push_of, counts_of};
+ghost use Rattle.activity.specs.Window.{accepted, new_of, push_of, counts_of};
 ghost use Rattle.capi.specs.Window.{as_window, unless_refused, window_in};
 
 use crate::answers::WindowAnswer;
-use activity::window::{ActivityWindow, Refused};
+use activity::window::ActivityWindow;
 
+// A window as one record. The exports take its three numbers as parameters: so the C interface has them, and they go in registers.
 fn window_in(
     words: [u64; 256],
     counts: [u32; 64],
@@ -23,18 +24,6 @@ fn window_in(
     ActivityWindow {
         words,
         counts,
-        place,
-        fill,
-        width,
-    }
-}
-
-// The answer of a call that refused: the numbers that it gives back.
-fn refused_out(e: Refused, place: usize, fill: usize, width: usize) -> WindowAnswer
-    ensures { result ≡ record { refusal = number e; place = place; fill = fill; width = width } }
-{
-    WindowAnswer {
-        refusal: u8::from(e),
         place,
         fill,
         width,
@@ -79,7 +68,10 @@ pub extern "C" fn pw_activity_new(
 {
     match ActivityWindow::new(width) {
         Ok(made) => window_out(made, words, counts),
-        Err(e) => refused_out(e, 0, 0, 0),
+        Err(e) => WindowAnswer {
+            refusal: e.into(),
+            ..WindowAnswer::default()
+        },
     }
 }
 
@@ -101,7 +93,12 @@ pub extern "C" fn pw_activity_push_minute(
 {
     match window_in(*words, *counts, place, fill, width).push_minute(word) {
         Ok(after) => window_out(after, words, counts),
-        Err(e) => refused_out(e, place, fill, width),
+        Err(e) => WindowAnswer {
+            refusal: e.into(),
+            place,
+            fill,
+            width,
+        },
     }
 }
 
@@ -125,6 +122,6 @@ pub extern "C" fn pw_activity_counts(
             *out = counted;
             0
         }
-        Err(e) => u8::from(e),
+        Err(e) => e.into(),
     }
 }

@@ -11,22 +11,21 @@ use words::nth::{nth_set_bit_u32, nth_set_bit_u64};
 use words::word::load_padded_le_u64;
 
 #[tactic(auto, unfolding(crate::specs::Answers::as_nth))]
-fn nth_out(r: Result<u32, u32>) -> NthAnswer
-    ensures { result ≡ as_nth r }
-{
-    match r {
-        Ok(p) => NthAnswer {
-            refusal: 0,
-            found: true,
-            value: p,
-            ones: 0,
-        },
-        Err(k) => NthAnswer {
-            refusal: 0,
-            found: false,
-            value: 0,
-            ones: k,
-        },
+impl From<Result<u32, u32>> for NthAnswer {
+    ghost from_gives = { λ r a. a ≡ as_nth r };
+
+    fn from(r: Result<u32, u32>) -> NthAnswer {
+        match r {
+            Ok(value) => NthAnswer {
+                found: true,
+                value,
+                ..NthAnswer::default()
+            },
+            Err(ones) => NthAnswer {
+                ones,
+                ..NthAnswer::default()
+            },
+        }
     }
 }
 
@@ -52,7 +51,7 @@ pub extern "C" fn pw_merge_reversed(current: u64, next: u64, offset: usize) -> u
 pub extern "C" fn pw_nth_set_bit_u64(w: u64, n: u64) -> NthAnswer
     ensures { result ≡ as_nth (nth_one (bits 64 w) n) }
 {
-    nth_out(nth_set_bit_u64(w, n))
+    nth_set_bit_u64(w, n).into()
 }
 
 // The position of set bit n of a word of 32 bits, counted from 0; where at most n are set, how many are.
@@ -60,5 +59,5 @@ pub extern "C" fn pw_nth_set_bit_u64(w: u64, n: u64) -> NthAnswer
 pub extern "C" fn pw_nth_set_bit_u32(w: u32, n: u32) -> NthAnswer
     ensures { result ≡ as_nth (nth_one (bits 32 w) n) }
 {
-    nth_out(nth_set_bit_u32(w, n))
+    nth_set_bit_u32(w, n).into()
 }

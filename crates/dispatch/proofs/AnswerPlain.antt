@@ -1,6 +1,9 @@
--- The answer of `may_reassign` stands for what `specs/AnswerPlain.antt` says. Assumes nothing.
+-- The answers of `may_reassign` and `offer` stand for what `specs/AnswerPlain.antt` says. Assumes nothing.
 use mathlib.Core.Path.{refl}
-use Rattle.dispatch.specs.AnswerPlain.{AnswerPlain}
+use Rattle.dispatch.specs.AnswerPlain.{AnswerPlain, OfferPlain}
 
 pub answer-plain : AnswerPlain
 answer-plain = record { gives = λ a. refl; refuses = λ r. refl }
+
+pub offer-plain : OfferPlain
+offer-plain = record { gives = λ o. refl; refuses = λ e. refl }

@@ -77,6 +77,10 @@ offered cursor t k = record { truck = t; cursor = moved_to t cursor; windows = k
 abbrev pub as-offer : ℕ → Found → Offering
 as-offer cursor F = offered cursor F.position F.windows
 
+-- the same with the next cursor as a number
+abbrev pub offer-then : ℕ → Found → Offering
+offer-then next F = record { truck = F.position; cursor = next; windows = F.windows }
+
 module _ (n cursor : ℕ) (inside : cursor ≤ n) where
   read-ahead : (t : ℕ) → cursor ≤ t → t < n → (t - cursor) / 32 + 1 ≡ windows_read n cursor (Some t)
   unfolding windows_read in_order
@@ -167,10 +171,11 @@ module _ (p : Bitmap) (p_bytes : List ℕ) (R : Option Bitmap) (r_bytes : List �
     long : length (free_flags p p_bytes R r_bytes) ≡ p.length
     long = free-length p p_bytes R r_bytes ok.beside
 
-    pub found-way : given (as-offer cursor F) ≡ offer_of (Some p) p_bytes R r_bytes cursor
+    pub found-way : (next : ℕ) → next ≡ moved_to F.position cursor → given (offer-then next F) ≡ offer_of (Some p) p_bytes R r_bytes cursor
     unfolding offer_of offer_checks offered_of number found
-    found-way =
-        ap given (as_offered p.length cursor ok.ordered (free_flags p p_bytes R r_bytes) long F is_found)
+    found-way next h =
+        ap (λ (n : ℕ). given (offer-then n F)) h
+        ∙ ap given (as_offered p.length cursor ok.ordered (free_flags p p_bytes R r_bytes) long F is_found)
         ∙ is-given 0 number cursor (offering p.length (free_flags p p_bytes R r_bytes) cursor) passed refl
 
     pub found-bound : F.windows ≤ most_windows (Some p)

@@ -24,8 +24,14 @@ unfolding
 offers-ruled-out =
     record {
       round = tried (answer number offering_code) refl refl refl;
+      edge = tried (answer number offering_code) refl refl refl;
+      unrevoked = tried (answer number offering_code) refl refl refl;
       ahead = tried (answer number offering_code) refl refl refl;
       nothing = tried (answer number offering_code) refl refl refl;
+      most-read = tried (answer number offering_code) refl refl refl;
+      bound = tried number refl refl refl;
+      bound-absent = tried number refl refl refl;
+      said = tried number refl refl refl;
       outside = tried (answer number offering_code) refl refl refl;
       no-permission = tried (answer number offering_code) refl refl refl;
     }

@@ -1,8 +1,11 @@
--- What the answer of `may_reassign` stands for: the flag it carries, or the number. Assumes nothing.
+-- What the answers of `may_reassign` and `offer` stand for: what they carry, or the number. Assumes nothing.
 use Rattle.std.specs.Prelude.{◌≡◌, Bool, Result, Ok, Err}
 use Rattle.masks.specs.Answer.{Answer, given, refused, answer}
 use Rattle.masks.specs.Refusal.{number}
 use Rattle.masks.specs.declared.refusal.Refusal.{Refusal}
+use Rattle.dispatch.specs.declared.offer.NoOffer.{NoOffer}
+use Rattle.dispatch.specs.declared.offer.Offering.{Offering}
+use Rattle.dispatch.specs.Offer.{offer_answer}
 
 -- the definition by which its contract reads a result
 abbrev pub reassign_answer : Result Bool Refusal → Answer (Unit {0}) Bool
@@ -11,3 +14,8 @@ reassign_answer r = answer r
 pub record AnswerPlain : Type 0 where
   pub gives : (x : Bool) → reassign_answer (Ok x) ≡ given x
   pub refuses : (r : Refusal) → reassign_answer (Err r) ≡ refused (number r) tt
+
+-- a refused offer gives the cursor back
+pub record OfferPlain : Type 0 where
+  pub gives : (o : Offering) → offer_answer (Ok o) ≡ given o
+  pub refuses : (e : NoOffer) → offer_answer (Err e) ≡ refused (number e.refusal) e.cursor

@@ -1,12 +1,12 @@
 -- Wrong answers that the contract of `offer` rules out. Assumes nothing.
 --
 -- Rows as in `WrongAnswers` of words: the definition at one input, what it gives, and two answers of a faulty call.
-use Rattle.std.specs.Prelude.{ℕ, [], Some, None}
+use Rattle.std.specs.Prelude.{ℕ, [], Some, None, Ok}
 use Rattle.masks.specs.Answer.{given, refused}
 use Rattle.masks.specs.WrongMasks.{Tried}
 use Rattle.masks.specs.WrongNext.{some40, some40_bytes, taken40, taken40_bytes}
 use Rattle.dispatch.specs.declared.offer.Offering.{Offering}
-use Rattle.dispatch.specs.Offer.{offer_of}
+use Rattle.dispatch.specs.Offer.{most_windows, offer_of, windows_in}
 
 abbrev pub truck_at : ℕ → ℕ → ℕ → Offering
 truck_at t cursor k = record { truck = Some t; cursor = cursor; windows = k }
@@ -23,6 +23,20 @@ pub record WrongOffers : Type 0 where
       (given (none_at 36 2))
       -- the revocation ignored
       (given (truck_at 38 39 1))
+  -- `offer` from cursor 3: truck 35 is the first of the second window
+  pub edge : Tried (offer_of (Some some40) some40_bytes (Some taken40) taken40_bytes 3)
+      (given (truck_at 35 36 2))
+      -- a window of 33 flags
+      (given (truck_at 35 36 1))
+      -- a revoked truck at the cursor offered
+      (given (truck_at 3 4 1))
+  -- `offer` from cursor 4 with no revocation mask
+  pub unrevoked : Tried (offer_of (Some some40) some40_bytes None [] 4)
+      (given (truck_at 35 36 1))
+      -- from truck 0 whatever the cursor
+      (given (truck_at 3 4 1))
+      -- an absent revocation taken for all ones
+      (given (none_at 4 3))
   -- `offer` from cursor 0
   pub ahead : Tried (offer_of (Some some40) some40_bytes (Some taken40) taken40_bytes 0)
       (given (truck_at 35 36 2))
@@ -37,6 +51,34 @@ pub record WrongOffers : Type 0 where
       (given (none_at 32 3))
       -- the cursor moved on none
       (given (none_at 0 2))
+  -- `offer` from cursor 39 where every truck is revoked: as many windows as 40 flags can take
+  pub most-read : Tried (offer_of (Some some40) some40_bytes (Some some40) some40_bytes 39)
+      (given (none_at 39 3))
+      -- no second round
+      (given (none_at 39 1))
+      -- the window that the cursor cuts not read again
+      (given (none_at 39 2))
+  -- the bound on the windows, of 40 flags
+  pub bound : Tried (most_windows (Some some40))
+      3
+      -- bounded by the windows of one round
+      2
+      -- bounded by the windows of two rounds
+      4
+  -- and with no permission mask
+  pub bound-absent : Tried (most_windows None)
+      0
+      -- a window allowed with no permission mask
+      1
+      -- two windows allowed with no permission mask
+      2
+  -- the windows that an answer says were read
+  pub said : Tried (windows_in (Ok (none_at 39 3)))
+      3
+      -- no window said to be read
+      0
+      -- the cursor given as the number of windows
+      39
   -- `offer` from cursor 41
   pub outside : Tried (offer_of (Some some40) some40_bytes None [] 41)
       (refused 6 41)

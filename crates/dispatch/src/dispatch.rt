@@ -2,6 +2,8 @@
 // permission mask no truck may be reassigned.
 //
 // Of masks only combinations and searches are used: `tests/dispatch_calls.py` holds the sources of this crate to that.
+// A mask and its bytes are two parameters, as in the calls of masks: a `Bitmap` holds no bytes, the caller lends them beside it, and
+// lends them too where the mask is absent. No struct joins them: it would be made at each call and taken apart for `and_not_at` again.
 ghost use Rattle.std.specs.Prelude.{◌≡◌};
 ghost use Rattle.masks.specs.Answer.{answer};
 ghost use Rattle.dispatch.specs.Dispatch.{may_reassign};
@@ -29,8 +31,5 @@ pub fn may_reassign(
         revocation_bytes,
         truck,
     )?;
-    match permission {
-        Some(_) => Ok(flag),
-        None => Ok(false),
-    }
+    Ok(permission.is_some() && flag)
 }

@@ -1,4 +1,5 @@
 // The next truck that may be reassigned: from a cursor on the first that is permitted and not revoked, going round to truck 0 once.
+// A mask and its bytes are two parameters, as in `dispatch.rt`.
 ghost use Rattle.std.specs.Prelude.{◌≡◌, ◌≤◌};
 ghost use Rattle.dispatch.specs.Offer.{most_windows, offer_answer, offer_of, windows_in};
 
@@ -60,21 +61,15 @@ fn offer_next(
         cursor,
     )
     .map_err(|refusal| NoOffer { refusal, cursor })?;
-    match found.position {
-        Some(truck) => {
-            let next = truck + 1;
-            Ok(Offering {
-                truck: Some(truck),
-                cursor: next,
-                windows: found.windows,
-            })
-        }
-        None => Ok(Offering {
-            truck: None,
-            cursor,
-            windows: found.windows,
-        }),
-    }
+    let next = match found.position {
+        Some(truck) => truck + 1,
+        None => cursor,
+    };
+    Ok(Offering {
+        truck: found.position,
+        cursor: next,
+        windows: found.windows,
+    })
 }
 
 // Without one. A search over the revocation mask makes its checks; what it finds is not used.

@@ -1,4 +1,5 @@
 -- The combinations: what is written, by flags and by bytes, and what the counts say. Assumes nothing.
+use Rattle.std.specs.Bool.{then_some}
 use Rattle.std.specs.Prelude.{Option, Some, None}
 use Rattle.std.proofs.Math.Nat.{max-zero}
 use mathlib.Core.Path.{◌≡◌, refl, sym, ap, ap₂, ◌∙◌}
@@ -54,13 +55,10 @@ pub either_first : (x l r : Bool) → l ≡ true → Some x ≡ either_all x l r
 unfolding either_all
 either_first x l r e = rw e
 
-pub either_second : (x l r : Bool) → l ≡ false → r ≡ true → Some x ≡ either_all x l r
+pub either_second : (x l r : Bool) → l ≡ false → then_some r x ≡ either_all x l r
 unfolding either_all
-either_second x l r e f = rw (e, f)
-
-pub either-none : (x l r : Bool) → l ≡ false → r ≡ false → None ≡ either_all x l r
-unfolding either_all
-either-none x l r e f = rw (e, f)
+either_second x l true e = rw e
+either_second x l false e = rw e
 
 -- the tests say which operation it is
 pub not-short : (op : Op) (n l r : ℕ) → (op ≡ AndNot) ⊎ ((op ≡ OrNot) ⊎ ((op ≡ Not) ⊎ (op ≡ Select))) → None ≡ shortcut op n l r

@@ -8,7 +8,7 @@ use mathlib.Core.Bool.{Bool, true, false, cond, ◌&&◌}
 use mathlib.Core.List.{List, [], ◌∷◌}
 use Prim.Native.Nat.{ℕ, ◌+◌, ◌-◌, ◌/◌, ◌≤◌, ◌<◌, max}
 use native.Mathlib.Omega.{arith}
-use mathlib.Core.Logic.{⊎_elim}
+use mathlib.Core.Logic.{◌⊎◌, inl, inr, ⊎_elim}
 use lib.Dec.{eqb, leb}
 use lib.ListN.{length, drop, take}
 use borrow.Author.Tests.{le-leb, lt-leb, leb-true, eq-eqb, eqb-true, ne_eqb}
@@ -70,13 +70,10 @@ piece-allowed m bytes offset n e =
 
 -- ---- the count of a slice
 
-pub recounts-no : (old n z : ℕ) → z ≡ 0 → false ≡ recounts old n z
+pub recounts-no : (old n z : ℕ) (b : Bool) → ((z ≡ 0 → ⊥) × (z ≡ old)) ⊎ (z ≡ 0) → b ≡ false → b ≡ recounts old n z
 unfolding recounts
-recounts-no old n z e = rw (eq-eqb z 0 e)
-
-pub recounts-all : (old n z : ℕ) → (z ≡ 0 → ⊥) → z ≡ old → false ≡ recounts old n z
-unfolding recounts
-recounts-all old n z h e = rw (ne_eqb z 0 h, eq-eqb z old e)
+recounts-no old n z b (inl h) e = e ∙ rw (ne_eqb z 0 h.0, eq-eqb z old h.1)
+recounts-no old n z b (inr h) e = e ∙ rw (eq-eqb z 0 h)
 
 leb-less : (old n p : ℕ) → leb (old - n) p ≡ leb old (n + p)
 leb-less old n p = ⊎_elim (λ (h : p < old - n). lt-leb (old - n) p h ∙ sym (lt-leb old (n + p) (omega arith)))

@@ -3,7 +3,7 @@
 use Rattle.std.specs.Prelude.{Option, Some, None}
 use Rattle.std.proofs.Math.Bool.{and_self}
 use mathlib.Core.Path.{◌≡◌, refl, sym, ap, ap₂, ◌∙◌, subst}
-use mathlib.Core.Bool.{Bool, true, false, cond, ◌&&◌}
+use mathlib.Core.Bool.{Bool, true, false, ◌&&◌}
 use mathlib.Core.List.{List, [], ◌∷◌, ◌++◌, zip_with}
 use Prim.Native.Nat.{ℕ, ◌+◌, ◌-◌, ◌/◌, ◌≤◌, ◌<◌, min}
 use native.Mathlib.Nat.{add-zero}
@@ -21,7 +21,7 @@ use Rattle.words.proofs.Combining.{length-zip, zip-part, zip-self, zip-starts, z
 use Rattle.words.proofs.EndLaws.{leading-all, leading_le, leading-take}
 use Rattle.words.proofs.Plain.{window-part}
 use Rattle.words.proofs.Windows.{at_take, in_window, length-window, window-cut, window-ext}
-use Rattle.masks.specs.Checks.{check, earlier, first_failed}
+use Rattle.masks.specs.Checks.{check, first_failed}
 use Rattle.masks.specs.Combine.{And, AndNot, pair_flags, shortcut}
 use Rattle.masks.specs.Iterator.{leading_from}
 use Rattle.masks.specs.Mask.{mask_checks}
@@ -29,37 +29,13 @@ use Rattle.masks.specs.NextAndNot.{free_flags, going_round, next_checks, next_se
 use Rattle.masks.specs.Workers.{Beside, PassedTo, Searchable}
 use Rattle.masks.specs.Search.{nth_from}
 use Rattle.masks.specs.declared.bitmap.Bitmap.{Bitmap}
-use Rattle.masks.proofs.CheckLaws.{both_left, both_right, check-allowed, one-check, passed-before, two-pieces}
+use Rattle.masks.proofs.CheckLaws.{both_left, both_right, check-allowed, one-check, passed-before}
 use Rattle.masks.proofs.IteratorLaws.{at-end, every-alike, some_alike}
 use Rattle.masks.proofs.MaskLaws.{mask-allowed}
 use Rattle.masks.proofs.PairPlain.{flags-length}
 use Rattle.masks.proofs.TrueIdxLaws.{first-from, none_from_lem}
 
 -- ---- the checks
-
-module _ (a : Bitmap) (a_bytes : List ℕ) (S : Option Bitmap) (b_bytes : List ℕ) (from : ℕ) where
-  -- with a second mask
-  pub both-checked : (b : Bitmap) (r own rest others other equal place : ℕ) → S ≡ Some b → r ≡ earlier own rest → rest ≡ earlier others place
-      → others ≡ earlier other equal → own ≡ first_failed (mask_checks a a_bytes) → other ≡ first_failed (mask_checks b b_bytes)
-      → equal ≡ cond (eqb a.length b.length) 0 5 → place ≡ cond (leb from a.length) 0 6
-      → r ≡ first_failed (next_checks a a_bytes S b_bytes from)
-  unfolding next_checks other_checks
-  both-checked b r own rest others other equal place here e f g p q h i =
-      two-pieces own rest r (mask_checks a a_bytes) (other_checks a.length (Some b) b_bytes ++ (check 6 (leb from a.length) ∷ [])) e p
-      (two-pieces others place rest (other_checks a.length (Some b) b_bytes) (check 6 (leb from a.length) ∷ []) f
-      (two-pieces other equal others (mask_checks b b_bytes) (check 5 (eqb a.length b.length) ∷ []) g q
-      (one-check equal 5 (eqb a.length b.length) (eqb a.length b.length) h refl))
-      (one-check place 6 (leb from a.length) (leb from a.length) i refl))
-      ∙ ap (λ (o : Option Bitmap). first_failed (next_checks a a_bytes o b_bytes from)) (sym here)
-
-  -- without one
-  pub alone-checked : (r own place : ℕ) → S ≡ None → r ≡ earlier own place → own ≡ first_failed (mask_checks a a_bytes)
-      → place ≡ cond (leb from a.length) 0 6 → r ≡ first_failed (next_checks a a_bytes S b_bytes from)
-  unfolding next_checks other_checks
-  alone-checked r own place gone e p i =
-      two-pieces own place r (mask_checks a a_bytes) (check 6 (leb from a.length) ∷ []) e p
-      (one-check place 6 (leb from a.length) (leb from a.length) i refl)
-      ∙ ap (λ (o : Option Bitmap). first_failed (next_checks a a_bytes o b_bytes from)) (sym gone)
 
 beside-allowed : (n : ℕ) (S : Option Bitmap) (b_bytes : List ℕ) → first_failed (other_checks n S b_bytes) ≡ 0 → Beside n S
 unfolding other_checks

@@ -2,7 +2,7 @@
 use mathlib.Core.Path.{◌≡◌, refl, sym, ap, ap₂, ◌∙◌}
 use mathlib.Core.Bool.{Bool, true, false, not}
 use mathlib.Core.List.{List, ◌++◌, map, append_assoc}
-use Prim.Native.Nat.{ℕ, ◌+◌, ◌-◌, ◌*◌, ◌/◌, ◌%◌, ◌≤◌, ◌<◌}
+use Prim.Native.Nat.{ℕ, ◌+◌, ◌-◌, ◌*◌, ◌≤◌, ◌<◌}
 use native.Mathlib.Omega.{arith}
 use lib.ListN.{length, take, length-take}
 use lib.Dec.{eqb}
@@ -13,7 +13,7 @@ use Rattle.words.specs.Uniform.{all_are}
 use Rattle.words.proofs.Bits.{length-bits}
 use Rattle.words.proofs.Counting.{count-append, count-copies, count-padded, count-not, count-le}
 use Rattle.words.proofs.EndLaws.{leading_le, leading-some, leading-all, trailing_le, trailing-some, trailing-all}
-pub use Rattle.words.proofs.Loads.{moved-flags, near-flags}
+pub use Rattle.words.proofs.Loads.{moved-flags}
 use Rattle.words.proofs.UniformLaws.{eqb-both}
 use Rattle.words.proofs.Windows.{length-copies, length-window, window-add}
 use Rattle.masks.specs.Utils.{zeros}
@@ -23,6 +23,10 @@ use Rattle.masks.specs.Workers.{zeros_of_all}
 
 pub length-low : (k w : ℕ) → k ≤ 64 → length (take k (bits 64 w)) ≡ k
 length-low k w h = length-take k (bits 64 w) ∙ omega (arith, length-bits 64 w)
+
+-- a number of the k low flags of a word, which are those of a part, is that of the part, which has k flags
+pub of-part : (f : List Bool → ℕ) (w k n : ℕ) (part : List Bool) → (k ≤ 64) × (take k (bits 64 w) ≡ part) → n ≡ f (take k (bits 64 w)) → (n ≡ f part) × (length part ≡ k)
+of-part f w k n part h e = (e ∙ ap f h.1, ap length (sym h.1) ∙ length-low k w h.0)
 
 pub count-taken : (k w r c : ℕ) → bits 64 r ≡ window (take k (bits 64 w)) 0 64 → c ≡ count (bits 64 r) → c ≡ count (take k (bits 64 w))
 count-taken k w r c p q = q ∙ ap count p ∙ count-padded (take k (bits 64 w)) 64 (omega (arith, length-take k (bits 64 w), length-bits 64 w))
@@ -126,12 +130,6 @@ module _ (x : Bool) (l : List Bool) (s n : ℕ) where
       let f : s + 64 * 0 ≡ s = omega arith in
       let same : window l (s + 64 * 0) (64 * (n - 0)) ≡ window l s (64 * n) = ap₂ (λ (y m : ℕ). window l y (64 * m)) f e in
       omega (arith, inv, ap (trailing x) same, trailing_le x (window l s (64 * n)), length-window l s (64 * n))
-
--- the ones of a span that fits the word from its first byte on
-pub short-count : (bytes : List ℕ) (start n x r c : ℕ) → start % 8 + n ≤ 64 → bits 64 x ≡ window (flags_of bytes) (8 * (start / 8)) 64
-    → bits 64 r ≡ window (bits 64 x) (start % 8) 64
-    → c ≡ count (take n (bits 64 r)) → c ≡ count (window (flags_of bytes) start n)
-short-count bytes start n x r c h p q e = e ∙ ap count (near-flags (flags_of bytes) start n x r h p q)
 
 -- the zeros are what is not set
 pub zeros-rest : (l : List Bool) (n c : ℕ) → length l ≡ n → c ≡ count l → n - c ≡ zeros l

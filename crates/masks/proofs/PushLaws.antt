@@ -1,4 +1,4 @@
--- Flags of a word appended: within the word in progress, and over its end. Assumes nothing.
+-- Flags of a word appended to the word in progress, which has room for them. Assumes nothing.
 use Rattle.std.proofs.lemmas.Bool.{cases_lt}
 use mathlib.Core.Path.{◌≡◌, refl, sym, ap, ap₂, ◌∙◌}
 use mathlib.Core.Bool.{Bool, true, false, ◌||◌}
@@ -6,19 +6,18 @@ use mathlib.Core.List.{List, [], ◌++◌, zip_with}
 use mathlib.Core.Logic.{⊎_elim}
 use Prim.Native.Nat.{ℕ, ◌+◌, ◌-◌, ◌*◌, ◌/◌, ◌%◌, ◌^◌, ◌≤◌, ◌<◌}
 use native.Mathlib.Omega.{arith}
-use lib.ListN.{length, take, drop, get_or, length-append, length-drop, take-append-drop, get_or-append}
-use lib.Seq.{length-take-le, get_or-append-add}
-use Rattle.words.specs.Flags.{bits, copies, count, flags_of, over_at, window, word_of}
-use Rattle.words.proofs.Loads.{from_end}
+use lib.ListN.{length, take, get_or, length-append, get_or-append}
+use lib.Seq.{get_or-append-add}
+use Rattle.words.specs.Flags.{bits, copies, count, window, word_of}
+use Rattle.words.proofs.Bits.{length-bits}
 use Rattle.words.proofs.Merging.{or-behind}
-use Rattle.words.proofs.Plain.{window-part}
-use Rattle.words.proofs.Windows.{window-all, window-drop, window-ext, at_in, word_value}
+use Rattle.words.proofs.Windows.{window-all, window-ext, at_in, word_value}
 use Rattle.masks.specs.Builder.{Filling, filling, rebuilt, in_progress, appended, none_from}
 use Rattle.masks.specs.Frozen.{packed, over_from}
 use Rattle.masks.specs.Workers.{Inside}
 use Rattle.masks.specs.declared.builder.BitmapBuilder.{BitmapBuilder}
 use Rattle.masks.proofs.AppendLaws.{Parts, appended-grown, length-progress, low-window, no-count, no_bytes}
-use Rattle.masks.proofs.FrozenLaws.{Small, over_from-none, written-bytes}
+use Rattle.masks.proofs.FrozenLaws.{over_from-none}
 use Rattle.masks.proofs.PartLaws.{length-low}
 
 -- ---- a builder that a maker gives
@@ -70,31 +69,6 @@ module _ (b : BitmapBuilder) (bytes : List ℕ) (word v low k : ℕ) (few : k �
       (sym (word_value 64 (in_progress b ++ take k (bits 64 word)) low fits (omega (arith, row-long)) row-flags))
       (ap (over_from bytes (8 * (b.length / 64))) (no_bytes []) ∙ over_from-none bytes (8 * (b.length / 64))))
 
-  -- the word is full, and the rest is the next one
-  pub push-full : (rest c : ℕ) (out : List ℕ) → 64 ≤ b.length % 64 + k → rest < 2 ^ 64 → bits 64 rest ≡ window (bits 64 v) (64 - b.length % 64) 64 → c ≡ count (bits 64 low)
-      → Small bytes → Small out → flags_of out ≡ over_at (flags_of bytes) (8 * (8 * (b.length / 64))) (bits 64 low)
-      → filling (rebuilt b (b.length + k) rest (b.ones + c)) out ≡ appended (filling b bytes) (take k (bits 64 word))
-  push-full rest c out full fits down ones small small' put =
-      let row = in_progress b ++ take k (bits 64 word) in
-      let long : length row ≡ b.length % 64 + k = row-long in
-      let front : bits 64 low ≡ take 64 row = row-flags ∙ window-part row 0 64 (omega arith) in
-      let whole : length (take 64 row) ≡ 64 * 1 = length-take-le 64 row (omega arith) in
-      let less : length (drop 64 row) < 64 = omega (arith, length-drop 64 row) in
-      let p : Parts (filling b bytes) (take k (bits 64 word)) 1 (take 64 row) (drop 64 row) = record { row = sym (take-append-drop 64 row); whole = whole; less = less } in
-      let n : b.length + length (take k (bits 64 word)) ≡ b.length + k = omega (arith, length-low k word few) in
-      let o : b.ones + count (take 64 row) ≡ b.ones + c = ap (λ (x : ℕ). b.ones + x) (sym (ones ∙ ap count front)) in
-      let at : 64 ≡ length (in_progress b) + (64 - b.length % 64) = omega (arith, length-progress b) in
-      let z : 64 + 0 ≡ 64 = omega arith in
-      let high : bits 64 rest ≡ window (drop 64 row) 0 64 =
-      from_end (take k (bits 64 word)) 0 (64 - b.length % 64) (64 - b.length % 64) v rest (omega (arith, length-low k word few)) (omega arith) flags down
-      ∙ sym (window-drop row 64 0 64 ∙ ap (λ (x : ℕ). window row x 64) (z ∙ at) ∙ window-behind (in_progress b) (take k (bits 64 word)) (64 - b.length % 64) 64) in
-      let all : window (take 64 row) 0 (8 * 8) ≡ take 64 row = ap (window (take 64 row) 0) (sym whole) ∙ window-all (take 64 row) in
-      sym (appended-grown (filling b bytes) (take k (bits 64 word)) 1 (take 64 row) (drop 64 row) p
-      ∙ ap₂ (λ (x y : ℕ). filling (rebuilt b x (word_of (drop 64 row)) y) (over_from bytes (8 * (b.length / 64)) (packed 8 (take 64 row)))) n o
-      ∙ ap₂ (λ (x : ℕ) (y : List ℕ). filling (rebuilt b (b.length + k) x (b.ones + c)) y)
-      (sym (word_value 64 (drop 64 row) rest fits (omega arith) high))
-      (sym (written-bytes bytes out (8 * (b.length / 64)) 8 (take 64 row) small small' (put ∙ ap (over_at (flags_of bytes) (8 * (8 * (b.length / 64)))) (front ∙ sym all)))))
-
 -- ---- the same by `or`: a word with no flag where the new ones go, and these moved up
 
 pub or-merged : (b : BitmapBuilder) (flags u low : ℕ) → none_from b.word (b.length % 64) ≡ true
@@ -108,3 +82,13 @@ pub push-within : (b : BitmapBuilder) (bytes : List ℕ) (flags u low k : ℕ) �
 push-within b bytes flags u low k i moved joined fits =
     let room : b.length % 64 + k < 64 = i.room in
     push-short b bytes flags flags low k (omega arith) (low-window k flags i.few) (or-merged b flags u low i.low moved joined) fits room
+
+-- flags that begin a word
+pub push-begun : (b : BitmapBuilder) (bytes : List ℕ) (longer rest k : ℕ) → b.length % 64 ≡ 0 → k < 64 → none_from rest k ≡ true → rest < 2 ^ 64 → longer ≡ b.length + k
+    → filling (rebuilt b longer rest b.ones) bytes ≡ appended (filling b bytes) (take k (bits 64 rest))
+push-begun b bytes longer rest k begun few none fits e =
+    let whole : bits 64 rest ≡ window (bits 64 rest) 0 64 = sym (ap (window (bits 64 rest) 0) (sym (length-bits 64 rest)) ∙ window-all (bits 64 rest)) in
+    let merged : bits 64 rest ≡ window (take (b.length % 64) (bits 64 b.word) ++ bits 64 rest) 0 64 =
+    whole ∙ sym (ap (λ (n : ℕ). window (take n (bits 64 b.word) ++ bits 64 rest) 0 64) begun) in
+    ap (λ (n : ℕ). filling (rebuilt b n rest b.ones) bytes) e
+    ∙ push-short b bytes rest rest rest k (omega arith) (low-window k rest none) merged fits (omega arith)

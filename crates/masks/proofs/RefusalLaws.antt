@@ -1,7 +1,7 @@
 -- What the exit of a `?` gives, what is known behind it, and that refusals stand in the order of their numbers. Assumes nothing.
-use Rattle.std.proofs.Common.{◌≡◌, refl, ℕ, zero, suc, ◌<◌, Bool, true, List, [], ◌∷◌, length, get_or, Result, Ok, Err}
+use Rattle.std.proofs.Common.{◌≡◌, refl, ℕ, zero, suc, ◌<◌, Bool, true, false, List, [], ◌∷◌, length, get_or, Result, Ok, Err}
 use Rattle.std.specs.Prelude.{◌&&◌, eqb}
-use Rattle.std.specs.Result.{IsErrAnd}
+use Rattle.std.specs.Result.{IsErrAnd, is_ok}
 use Rattle.std.proofs.lemmas.Result.{err_from_is_err_and}
 use Rattle.std.specs.Ordering.{ord_min}
 use Rattle.std.proofs.lemmas.Bool.{and_parts}
@@ -9,7 +9,6 @@ use mathlib.Core.Path.{sym, ap, ◌∙◌}
 use native.Mathlib.Omega.{arith}
 use borrow.Author.Tests.{eqb-true}
 use Rattle.masks.specs.Answer.{Answer, answer, answer_back, decided, refused}
-use Rattle.masks.specs.Workers.{with_state}
 use Rattle.masks.proofs.CheckLaws.{is-refused}
 use Rattle.masks.specs.Checks.{earlier, rank, place_in}
 use Rattle.masks.specs.Cursor.{answer_step, Step}
@@ -90,18 +89,20 @@ abbrev error-of : {S A : Type 0} → Refused S → Result A (Refused S) → Refu
 error-of d (Ok a) = d
 error-of d (Err x) = x
 
--- what an error of `give_back` is
+-- what a check gave, with the record beside a refusal
+abbrev pub with_state : {S A : Type 0} → Result A Refusal → S → Result A (Refused S)
+with_state (Ok a) s = Ok a
+with_state (Err k) s = Err (record { refusal = k; state = s })
+
+-- the refusal and the record of an error of it
 pub back-err : {S A : Type 0} (r : Result A Refusal) (s : S) (x : Refused S) → Err x ≡ with_state r s → (r ≡ Err x.refusal) × (x.state ≡ s)
 back-err (Ok a) s x e = cc
 back-err (Err k) s x e = let p = ap (error-of x) e in (ap (λ (y : Refused _). Err y.refusal) (sym p), ap (λ (y : Refused _). y.state) p)
 
-pub back-ok : {S A : Type 0} (r : Result A Refusal) (s : S) (a : A) → Ok a ≡ with_state r s → r ≡ Ok a
-back-ok (Ok b) s a e = cc
-back-ok (Err k) s a e = cc
-
--- the checks have passed
-pub passed-back : {S : Type 0} (r : Result (Unit {0}) Refusal) (s : S) (u : Unit {0}) → Ok u ≡ with_state r s → failure_of r ≡ 0
-passed-back r s u e = ap failure_of (back-ok r s u e)
+-- the checks have passed: a result with another error is an `Ok` where they are
+pub passed-back : {S : Type 0} (r : Result (Unit {0}) Refusal) (m : Result (Unit {0}) (Refused S)) (u : Unit {0}) → is_ok m ≡ is_ok r → m ≡ Ok u → failure_of r ≡ 0
+passed-back (Ok a) m u v w = refl
+passed-back (Err k) m u v w = let e : true ≡ false = sym (ap is_ok w) ∙ v in cc
 
 -- they have not: the number is not 0
 pub failed-back : {S : Type 0} (r : Result (Unit {0}) Refusal) (s : S) (x : Refused S) → Err x ≡ with_state r s → failure_of r ≡ 0 → ⊥

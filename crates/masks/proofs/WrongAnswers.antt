@@ -267,6 +267,7 @@ serials-ruled-out =
       superseding = tried (plain mask_code) refl refl refl;
       superseding_bytes = tried (λ bytes. bytes) refl refl refl;
       superseding-bytes-of-none = tried (λ bytes. bytes) refl refl refl;
+      superseding-bytes-second = tried (λ bytes. bytes) refl refl refl;
       superseding-bytes-refused = tried (λ bytes. bytes) refl refl refl;
       or = tried combine_code refl refl refl;
       select = tried combine_code refl refl refl;

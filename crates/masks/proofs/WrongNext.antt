@@ -32,5 +32,6 @@ next-ruled-out =
       round = tried (plain found_code) refl refl refl;
       nothing = tried (plain found_code) refl refl refl;
       alone = tried (plain found_code) refl refl refl;
+      at_length = tried (plain found_code) refl refl refl;
       outside = tried (plain found_code) refl refl refl;
     }

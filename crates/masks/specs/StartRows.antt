@@ -3,7 +3,7 @@
 --
 -- A row has the numbers that a call gives, through the definition that its contract cites, and those that the papers' words give there,
 -- worked out by hand. `proofs/StartRows.antt` proves that the columns are equal.
-use Rattle.std.specs.Prelude.{ℕ, ◌≡◌, true, false, List, [], ◌∷◌, map, replicate, Option, Some, None}
+use Rattle.std.specs.Prelude.{ℕ, ◌≡◌, true, false, List, [], ◌∷◌, ◌++◌, map, replicate, Option, Some, None}
 use Rattle.words.specs.Flags.{digit}
 use Rattle.masks.specs.Answer.{Answer, given, refused}
 use Rattle.masks.specs.Bitmask.{split_at, window_at}
@@ -81,6 +81,10 @@ single (refused k s) = []
 abbrev pub many : List ℕ
 many = replicate 17 0x2D
 
+-- 72 flags, the last four 1,0,0,1
+abbrev pub uneven : List ℕ
+uneven = 0x0F ∷ (replicate 7 0x2D ++ (0x90 ∷ []))
+
 unfoldable pub start_rows : List SplitRow
 start_rows =
     -- flags
@@ -107,10 +111,12 @@ start_rows =
     ∷ numbers (stepped chunks_numbers (λ (w : ℕ). w) (next_chunk (chunks_at 4 130 1) many)) (0xD2D2D2D2D2D2D2D2 ∷ 4 ∷ 130 ∷ 2 ∷ [])
     ∷ numbers (stepped chunks_numbers (λ (w : ℕ). w) (next_chunk (chunks_at 4 130 2) many)) (4 ∷ 130 ∷ 2 ∷ [])
     ∷ numbers (remaining (chunks_remainder (chunks_at 4 130 0) many)) (2 ∷ 2 ∷ [])
+    ∷ numbers (remaining (chunks_remainder (chunks_at 4 68 0) uneven)) (9 ∷ 4 ∷ [])
     -- a slice begins in its bytes where the mask does, and the offset on
     ∷ numbers (cut (slice_of twelve two_bytes 2 8)) (6 ∷ 8 ∷ [])
     -- windows, splits and searches
     ∷ numbers (single (window_at two_bytes 4 12 2)) (0xB4 ∷ [])
+    ∷ numbers (single (window_at many 4 130 0)) (0xD2D2D2D2 ∷ [])
     ∷ numbers (part_numbers (split_at two_bytes 4 12 5)) (4 ∷ 5 ∷ 9 ∷ 7 ∷ [])
     ∷ numbers (placed (search_from two_bytes 4 12 1 5)) (7 ∷ [])
     ∷ numbers (placed (search_from two_bytes 4 12 3 5)) []

@@ -1,7 +1,6 @@
 -- What the private functions of masks ask and promise each other. No contract of a public function cites it, so it need not be
 -- believed. Assumes nothing.
 use Rattle.masks.specs.declared.refusal.Refusal.{Refusal}
-use Rattle.masks.specs.declared.refusal.Refused.{Refused}
 use Rattle.masks.specs.declared.refusal.Refusal.TheVariants.{WrongRecount}
 use Rattle.std.specs.Prelude.{◌≡◌, refl, ℕ, ◌+◌, ◌-◌, ◌*◌, ◌/◌, ◌%◌, ◌≤◌, ◌<◌, Bool, true, false, cond, ◌&&◌, ◌||◌, List, ◌++◌, eqb, leb, take, Option, Some, None, Result, Ok, Err}
 use Rattle.words.specs.Flags.{bits, count, word_flags}
@@ -149,9 +148,3 @@ pub record Searchable (a : Bitmap) (second : Option Bitmap) (from end : ℕ) : T
   pub beside : Beside a.length second
   pub ordered : from ≤ end
   pub inside : end ≤ a.length
-
--- ---- `refusal`: a refusal with the record that the call got
-
-abbrev pub with_state : {S A : Type 0} → Result A Refusal → S → Result A (Refused S)
-with_state (Ok a) s = Ok a
-with_state (Err r) s = Err (record { refusal = r; state = s })

@@ -60,6 +60,13 @@ pub record WrongNext : Type 0 where
       (given (nowhere 3))
       -- the bytes of the absent mask tested
       (refused 2 tt)
+  -- `next_and_not` from 40, the length: round to 35
+  pub at_length : Tried (next_and_not_of some40 some40_bytes (Some taken40) taken40_bytes 40)
+      (given (at 35 2))
+      -- a place at the length refused
+      (refused 6 tt)
+      -- no second round
+      (given (nowhere 0))
   -- `next_and_not` from 41
   pub outside : Tried (next_and_not_of some40 some40_bytes None [] 41)
       (refused 6 tt)

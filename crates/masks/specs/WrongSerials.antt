@@ -40,6 +40,10 @@ high = mask_under 5 4 4 (Some 0)
 abbrev pub part : Bool → ℕ → ℕ → Bitmap → Part
 part second from to m = record { second = second; from = from; to = to; mask = m }
 
+-- one of the flags 11 to 14 is a zero
+abbrev pub other : List ℕ
+other = 0x2D ∷ 0x70 ∷ []
+
 -- the bytes given of two masks over the same two bytes
 abbrev pub bytes_given : Bitmap → Bitmap → List ℕ
 bytes_given a b = bytes_of (superseding_of a two b two) two two
@@ -90,6 +94,13 @@ pub record WrongSerials : Type 0 where
       []
       -- the loser's bytes and more
       two
+  -- `superseding_bytes` of four flags in the second byte of the second slice
+  pub superseding-bytes-second : Tried (bytes_of (superseding_of old two later other) two other)
+      (0x70 ∷ [])
+      -- from the first byte on
+      other
+      -- that byte of the first slice
+      (0xF0 ∷ [])
   -- `superseding_bytes` after a refusal: the first's span lies outside its bytes
   pub superseding-bytes-refused : Tried (bytes_given (mask_under 7 3 14 None) old)
       []

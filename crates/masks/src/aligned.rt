@@ -11,7 +11,7 @@ use crate::span::flags_word;
 
 // A span's flags in three parts: a word of prefix flags, whole words that begin at a byte, and a word of suffix flags. The
 // Rust's `AlignedBitmapSlice`, with the whole words by their first byte and their number.
-#[derive(Clone, Copy, PartialEq, Eq, Debug)]
+#[derive(Clone, Copy, PartialEq, Eq, Debug, Default)]
 pub struct AlignedBitmapSlice {
     pub prefix: u64,
     pub prefix_len: usize,
@@ -32,14 +32,7 @@ impl AlignedBitmapSlice {
         ensures { answer result ≡ aligned_of bytes.now start length address }
     {
         if length == 0 {
-            return Ok(AlignedBitmapSlice {
-                prefix: 0,
-                prefix_len: 0,
-                bulk_start: 0,
-                bulk_len: 0,
-                suffix: 0,
-                suffix_len: 0,
-            });
+            return Ok(AlignedBitmapSlice::default());
         }
         check_aligned(start, length, bytes.len(), address)?;
         let span = Addressed {

@@ -1,9 +1,9 @@
 // The mask: its record, and the calls that make one, cut it and count it. Its bytes are lent beside it, as document 01 has it: a mask and
 // its bytes are two parameters, and become a `Lent` where its checks have passed.
-ghost use Rattle.std.specs.Prelude.{◌≡◌, ◌+◌, ◌-◌, ◌/◌, ◌≤◌, max, length as list_length};
+ghost use Rattle.std.specs.Prelude.{◌≡◌, ◌+◌, ◌≤◌, length as list_length};
 ghost use Rattle.masks.specs.Answer.{answer, answer_back};
 ghost use Rattle.masks.specs.Refusal.{failure_of};
-ghost use Rattle.masks.specs.Checks.{first_failed, limit};
+ghost use Rattle.masks.specs.Checks.{first_failed};
 ghost use Rattle.masks.specs.Utils.{zeros};
 ghost use Rattle.masks.specs.Mask.{empty_mask, kept_count, piece_checks, recounts as recounts_of};
 ghost use Rattle.masks.specs.Mask.{new_zeroed_bytes, new_zeroed_of, slice_of, try_new_of, uncounted, unset_bits_of};
@@ -12,7 +12,7 @@ ghost use Rattle.masks.specs.Workers.{cut_of, outside, recounted_of, PieceAllowe
 
 use crate::checks::{check_mask, check_output, check_span, sum_at_most, within_limit};
 use crate::frozen::fill_frozen;
-use crate::refusal::{Refusal, Refused, check, earlier, give_back};
+use crate::refusal::{Refusal, Refused, check, earlier};
 use crate::span::Lent;
 
 // A mask: a span of its bytes, its zero count where it is known, and the serial of the revocation list that it was drawn up under. The
@@ -67,7 +67,7 @@ impl Bitmap {
     pub fn unset_bits(self, bytes: &[u8]) -> Result<Recounted, Refused<Bitmap>>
         ensures { answer_back result ≡ unset_bits_of self bytes.now }
     {
-        give_back(check_mask(self, bytes), self)?;
+        check_mask(self, bytes).map_err(|r| r.with(self))?;
         let zeros = match self.unset {
             Some(zeros) => zeros,
             None => {
@@ -94,9 +94,9 @@ impl Bitmap {
     ) -> Result<Bitmap, Refused<Bitmap>>
         ensures { answer_back result ≡ slice_of self bytes.now offset length }
     {
-        give_back(check_piece(self, bytes, offset, length), self)?;
+        check_piece(self, bytes, offset, length).map_err(|r| r.with(self))?;
         let start = self.start + offset;
-        let unset = give_back(cut_count(self, bytes, offset, length), self)?;
+        let unset = cut_count(self, bytes, offset, length).map_err(|r| r.with(self))?;
         Ok(cut_mask(self, start, length, unset))
     }
 }
@@ -164,13 +164,7 @@ fn check_piece(mask: Bitmap, bytes: &[u8], offset: usize, length: usize) -> Resu
 fn recounts(old: usize, n: usize, zeros: usize) -> bool
     ensures { result ≡ recounts_of old n zeros }
 {
-    if zeros == 0 {
-        return false;
-    }
-    if zeros == old {
-        return false;
-    }
-    old.saturating_sub(n) <= (old / 5).max(32)
+    zeros != 0 && zeros != old && old.saturating_sub(n) <= (old / 5).max(32)
 }
 
 impl Lent<'_> {

@@ -6,16 +6,16 @@ ghost use Rattle.words.specs.Nth.{nth_one, nth_place};
 ghost use Rattle.masks.specs.Answer.{answer};
 ghost use Rattle.masks.specs.Refusal.{failure_of};
 ghost use Rattle.masks.specs.Bitmask.{split_at, split_checks, window_at, window_word};
-ghost use Rattle.masks.specs.Checks.{first_failed, limit};
+ghost use Rattle.masks.specs.Checks.{first_failed};
 ghost use Rattle.masks.specs.Search.{search_from, search_back, nth_from, nth_back};
 ghost use Rattle.masks.specs.Workers.{PassedFrom, PassedBack};
 
 use crate::bitmap::Bitmap;
 use crate::checks::{check_span, sum_at_most};
 use crate::refusal::{Refusal, check, earlier};
-use crate::span::{Lent, near_word};
+use crate::span::Lent;
 use words::nth::nth_set_bit_u32;
-use words::word::{down, load_padded_le_u64, low_flags};
+use words::word::{down, load_padded_le_u64, low_flags, near_word};
 
 // A start bit and a length in bits. The Rust's `BitMask`, its bytes lent beside it.
 #[derive(Clone, Copy, PartialEq, Eq, Debug)]

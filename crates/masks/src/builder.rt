@@ -1,5 +1,5 @@
 // The builder: flags are appended to a lent buffer. A word is written when it is full.
-ghost use Rattle.std.specs.Prelude.{◌≡◌, List, ℕ, ◌≤◌, ◌-◌, length, take};
+ghost use Rattle.std.specs.Prelude.{◌≡◌, List, ℕ, ◌≤◌, ◌-◌, ◌%◌, length, take};
 ghost use Rattle.words.specs.Flags.{word_flags};
 ghost use Rattle.masks.specs.Refusal.{failure_of};
 ghost use Rattle.masks.specs.Answer.{answer, answer_back};
@@ -11,7 +11,7 @@ ghost use Rattle.masks.specs.Workers.{Inside, Room};
 
 use crate::bitmap::{Bitmap, mask_under};
 use crate::checks::{check_builder, check_word};
-use crate::refusal::{Refusal, Refused, earlier, give_back};
+use crate::refusal::{Refusal, Refused, earlier};
 use words::ops::or_word;
 use words::word::{constant_word, down, low_flags, ones_in_word, store_whole, up};
 
@@ -36,7 +36,7 @@ impl BitmapBuilder {
         ensures answer { answer_back result ≡ append_answer (push_flag flag) self buf.old }
         ensures bytes { buf.new ≡ append_bytes (push_flag flag) self buf.old }
     {
-        give_back(check_builder(self, 1, buf.len()), self)?;
+        check_builder(self, 1, buf.len()).map_err(|r| r.with(self))?;
         Ok(push_flags(self, buf, constant_word(flag), 1))
     }
 
@@ -68,10 +68,7 @@ impl BitmapBuilder {
         ensures answer { answer_back result ≡ append_answer (push_word word k) self buf.old }
         ensures bytes { buf.new ≡ append_bytes (push_word word k) self buf.old }
     {
-        give_back(
-            earlier(check_builder(self, k, buf.len()), check_word(word, k)),
-            self,
-        )?;
+        earlier(check_builder(self, k, buf.len()), check_word(word, k)).map_err(|r| r.with(self))?;
         Ok(push_flags(self, buf, word, k))
     }
 
@@ -80,7 +77,7 @@ impl BitmapBuilder {
         ensures answer { answer_back result ≡ freeze_of self buf.old }
         ensures bytes { buf.new ≡ freeze_bytes self buf.old }
     {
-        give_back(check_builder(self, 0, buf.len()), self)?;
+        check_builder(self, 0, buf.len()).map_err(|r| r.with(self))?;
         finish(self, buf);
         Ok(frozen_mask(self))
     }
@@ -91,7 +88,7 @@ impl BitmapBuilder {
         ensures answer { answer_back result ≡ into_opt_validity_of self buf.old }
         ensures bytes { buf.new ≡ freeze_bytes self buf.old }
     {
-        give_back(check_builder(self, 0, buf.len()), self)?;
+        check_builder(self, 0, buf.len()).map_err(|r| r.with(self))?;
         finish(self, buf);
         if all_ones(self) == self.length {
             return Ok(None);
@@ -144,12 +141,23 @@ pub(crate) fn push_flags(b: BitmapBuilder, buf: &mut [u8], word: u64, k: usize) 
     if fill + k < 64 {
         return push_inside(b, flags, k);
     }
-    let low = or_word(b.word, up(flags, fill));
     let longer = b.length + k;
+    let rest = down(flags, 64 - fill);
+    let closed = close_word(b, buf, flags);
+    grown(closed, longer, rest, closed.ones)
+}
+
+// Completes the word in progress with the first flags of a word, and writes it.
+pub(crate) fn close_word(b: BitmapBuilder, buf: &mut [u8], word: u64) -> BitmapBuilder
+    requires { Room b (64 - b.length % 64) (length buf.old) }
+    ensures { filling result buf.new ≡ appended (filling b buf.old) (take (64 - b.length % 64) (word_flags word)) }
+{
+    let fill = b.length % 64;
+    let low = or_word(b.word, up(word, fill));
+    let longer = b.length + (64 - fill);
     store_whole(buf, 8 * (b.length / 64), low);
     let ones = b.ones + ones_in_word(low);
-    let rest = down(flags, 64 - fill);
-    grown(b, longer, rest, ones)
+    grown(b, longer, 0, ones)
 }
 
 // Writes the word in progress behind the finished ones.

@@ -8,7 +8,7 @@ ghost use Rattle.masks.specs.Chunks.{new_chunks, next_chunk, chunks_remainder};
 
 use crate::checks::check_span;
 use crate::cursor::{Step, check_cursor};
-use crate::refusal::{Refusal, Refused, give_back};
+use crate::refusal::{Refusal, Refused};
 use crate::span::{Lent, flags_word};
 use words::merge::merge_reversed;
 use words::word::byte_word;
@@ -42,10 +42,7 @@ impl BitChunks {
     pub fn next(self, bytes: &[u8]) -> Result<Step<u64, BitChunks>, Refused<BitChunks>>
         ensures { answer_step result ≡ next_chunk self bytes.now }
     {
-        give_back(
-            check_cursor(self.start, self.length, self.place, bytes.len()),
-            self,
-        )?;
+        check_cursor(self.start, self.length, self.place, bytes.len()).map_err(|r| r.with(self))?;
         if self.place >= self.length / 64 {
             return Ok(Step {
                 item: None,
@@ -72,10 +69,7 @@ impl BitChunks {
     pub fn remainder(self, bytes: &[u8]) -> Result<(u64, usize), Refused<BitChunks>>
         ensures { answer_back result ≡ chunks_remainder self bytes.now }
     {
-        give_back(
-            check_cursor(self.start, self.length, self.place, bytes.len()),
-            self,
-        )?;
+        check_cursor(self.start, self.length, self.place, bytes.len()).map_err(|r| r.with(self))?;
         let rest = self.length % 64;
         let first = self.start + self.length - rest;
         Ok((flags_word(bytes, first, rest), rest))

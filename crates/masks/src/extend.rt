@@ -1,8 +1,8 @@
 // Long extensions of a builder: up to a full word, then whole words written straight to the buffer, then the rest. The workers ask for
 // `Room`, a fact of the builder, the flags to append and the buffer. It is no field of a struct, since the number to append is another
 // one at each call; a builder and its buffer stay two parameters, as document 01 lends them.
-ghost use Rattle.std.specs.Prelude.{true, ◌&&◌, ◌≡◌, ◌+◌, ◌-◌, ◌*◌, ◌%◌, ◌≤◌, ◌<◌, leb, ltb, length, take};
-ghost use Rattle.words.specs.Flags.{copies, digit, word_flags};
+ghost use Rattle.std.specs.Prelude.{true, ◌&&◌, ◌≡◌, ◌+◌, ◌*◌, ◌%◌, ◌≤◌, ◌<◌, leb, ltb, length};
+ghost use Rattle.words.specs.Flags.{copies};
 ghost use Rattle.words.specs.Loops.{stretch};
 ghost use Rattle.masks.specs.Answer.{answer_back};
 ghost use Rattle.masks.specs.Appends.{append_answer, append_bytes, extend_constant, extend_slice, extend_bitmap};
@@ -10,16 +10,13 @@ ghost use Rattle.masks.specs.Builder.{filling, appended};
 ghost use Rattle.masks.specs.Workers.{Room};
 
 use crate::bitmap::Bitmap;
-use crate::builder::{BitmapBuilder, grown, push_flags, push_inside};
+use crate::builder::{BitmapBuilder, close_word, grown, push_flags, push_inside};
 use crate::checks::{check_builder, check_inner, check_limit, check_mask, check_span_grow};
-use crate::refusal::{Refused, earlier, give_back};
-use crate::span::{Lent, near_word};
+use crate::refusal::{Refused, earlier};
+use crate::span::Lent;
 use words::counts::{copy_count, none_from};
 use words::loops::fill_whole;
-use words::ops::or_word;
-use words::word::{
-    constant_flags, constant_word, low_flags, ones_in_word, store_whole, up, word_from,
-};
+use words::word::{constant_flags, constant_word, low_flags, near_word, word_from};
 
 // The flag limit in whole words.
 const LIMIT_WORDS: usize = Bitmap::LIMIT / 64;
@@ -38,10 +35,7 @@ impl BitmapBuilder {
         if fits_inside(self, n, buf.len()) {
             return Ok(push_inside(self, constant_flags(flag, n), n));
         }
-        give_back(
-            earlier(check_builder(self, n, buf.len()), check_limit(n)),
-            self,
-        )?;
+        earlier(check_builder(self, n, buf.len()), check_limit(n)).map_err(|r| r.with(self))?;
         Ok(append_copies(self, buf, n, flag))
     }
 
@@ -56,10 +50,7 @@ impl BitmapBuilder {
         ensures answer { answer_back result ≡ append_answer (extend_slice bytes.now start n) self buf.old }
         ensures bytes { buf.new ≡ append_bytes (extend_slice bytes.now start n) self buf.old }
     {
-        give_back(
-            check_span_grow(start, n, bytes.len(), self, buf.len()),
-            self,
-        )?;
+        check_span_grow(start, n, bytes.len(), self, buf.len()).map_err(|r| r.with(self))?;
         if stays_inside(self, n) {
             return Ok(push_inside(self, low_flags(near_word(bytes, start), n), n));
         }
@@ -83,16 +74,14 @@ impl BitmapBuilder {
         ensures answer { answer_back result ≡ append_answer (extend_bitmap mask bytes.now start n) self buf.old }
         ensures bytes { buf.new ≡ append_bytes (extend_bitmap mask bytes.now start n) self buf.old }
     {
-        give_back(
+        earlier(
+            check_mask(mask, bytes),
             earlier(
-                check_mask(mask, bytes),
-                earlier(
-                    check_inner(start, n, mask.length),
-                    check_builder(self, n, buf.len()),
-                ),
+                check_inner(start, n, mask.length),
+                check_builder(self, n, buf.len()),
             ),
-            self,
-        )?;
+        )
+        .map_err(|r| r.with(self))?;
         let span = Lent {
             bytes,
             start: mask.start + start,
@@ -107,16 +96,10 @@ fn fits_inside(b: BitmapBuilder, n: usize, size: usize) -> bool
     ensures { result ≡ true → (b.length % 64 + n < 64) × Room b n size }
 {
     let fill = b.length % 64;
-    if 63 - fill < n {
-        return false;
-    }
-    if !none_from(b.word, fill) {
-        return false;
-    }
-    if 64 * (b.length / 64) < b.ones {
-        return false;
-    }
-    b.length / 64 < (size / 8).min(LIMIT_WORDS)
+    n <= 63 - fill
+        && none_from(b.word, fill)
+        && b.ones <= 64 * (b.length / 64)
+        && b.length / 64 < (size / 8).min(LIMIT_WORDS)
 }
 
 // Returns whether n flags can be read by one load and fit in the word in progress.
@@ -133,7 +116,7 @@ fn to_whole(b: BitmapBuilder) -> usize
     (64 - b.length % 64) % 64
 }
 
-// Copies of a flag: into the word in progress, or up to its end, then whole words, then the rest.
+// Appends copies of a flag: into the word in progress, or up to its end, then whole words, then the rest.
 pub(crate) fn append_copies(b: BitmapBuilder, buf: &mut [u8], n: usize, flag: bool) -> BitmapBuilder
     requires { Room b n (length buf.old) }
     ensures { filling result buf.new ≡ appended (filling b buf.old) (copies n flag) }
@@ -149,20 +132,8 @@ pub(crate) fn append_copies(b: BitmapBuilder, buf: &mut [u8], n: usize, flag: bo
     push_inside(filled, constant_flags(flag, rest), rest)
 }
 
-// Completes the word in progress with the first flags of a word, and writes it.
-fn close_word(b: BitmapBuilder, buf: &mut [u8], word: u64) -> BitmapBuilder
-    requires { Room b (64 - b.length % 64) (length buf.old) }
-    ensures { filling result buf.new ≡ appended (filling b buf.old) (take (64 - b.length % 64) (word_flags word)) }
-{
-    let fill = b.length % 64;
-    let low = or_word(b.word, up(word, fill));
-    let longer = b.length + (64 - fill);
-    store_whole(buf, 8 * (b.length / 64), low);
-    let ones = b.ones + ones_in_word(low);
-    grown(b, longer, 0, ones)
-}
-
-// Appends whole words of one flag to a builder that has no word in progress.
+// Appends whole words of one flag to a builder that has no word in progress. It shares the place and the record with `copy_words`: here the
+// ones are known before the words are written, there the copy counts them.
 fn fill_words(b: BitmapBuilder, buf: &mut [u8], whole: usize, flag: bool) -> BitmapBuilder
     requires { (b.length % 64 ≡ 0) × Room b (64 * whole) (length buf.old) }
     ensures { filling result buf.new ≡ appended (filling b buf.old) (copies (64 * whole) flag) }
@@ -201,7 +172,7 @@ pub(crate) fn append_stretch(b: BitmapBuilder, buf: &mut [u8], span: &Lent) -> B
     push_flags(copied, buf, last, rest)
 }
 
-// Appends whole words of a span to a builder that has no word in progress.
+// Appends whole words of a span to a builder that has no word in progress: as `fill_words`, with ones that the copy counts.
 fn copy_words(
     b: BitmapBuilder,
     buf: &mut [u8],

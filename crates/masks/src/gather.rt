@@ -9,12 +9,14 @@ ghost use Rattle.masks.specs.Workers.{Room};
 
 use crate::builder::{BitmapBuilder, push_flags};
 use crate::checks::{check_builder, check_span};
-use crate::refusal::{Refusal, Refused, check, earlier, give_back};
+use crate::refusal::{Refusal, Refused, check, earlier};
 use crate::span::Lent;
 use words::word::{behind, constant_word, flag_at};
 
 impl BitmapBuilder {
-    // Appends the flag at each index, all of which lie in the span.
+    // Appends the flag at each index, all of which lie in the span. This and the next are the Rust's names over `append_gathered`. They
+    // differ in the check of the indices and in the definition that the contract names, so one function for both would take a flag and
+    // promise by cases.
     pub fn gather_extend_from_slice(
         self,
         buf: &mut [u8],
@@ -26,16 +28,14 @@ impl BitmapBuilder {
         ensures answer { answer_back result ≡ append_answer (extend_gather bytes.now start n idxs.now) self buf.old }
         ensures bytes { buf.new ≡ append_bytes (extend_gather bytes.now start n idxs.now) self buf.old }
     {
-        give_back(
+        earlier(
             earlier(
-                earlier(
-                    check_span(start, n, bytes.len()),
-                    check_builder(self, idxs.len(), buf.len()),
-                ),
-                check(Refusal::Outside, all_below(idxs, n)),
+                check_span(start, n, bytes.len()),
+                check_builder(self, idxs.len(), buf.len()),
             ),
-            self,
-        )?;
+            check(Refusal::Outside, all_below(idxs, n)),
+        )
+        .map_err(|r| r.with(self))?;
         let span = Lent {
             bytes,
             start,
@@ -56,13 +56,11 @@ impl BitmapBuilder {
         ensures answer { answer_back result ≡ append_answer (extend_opt_gather bytes.now start n idxs.now) self buf.old }
         ensures bytes { buf.new ≡ append_bytes (extend_opt_gather bytes.now start n idxs.now) self buf.old }
     {
-        give_back(
-            earlier(
-                check_span(start, n, bytes.len()),
-                check_builder(self, idxs.len(), buf.len()),
-            ),
-            self,
-        )?;
+        earlier(
+            check_span(start, n, bytes.len()),
+            check_builder(self, idxs.len(), buf.len()),
+        )
+        .map_err(|r| r.with(self))?;
         let span = Lent {
             bytes,
             start,

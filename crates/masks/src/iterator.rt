@@ -6,12 +6,12 @@ ghost use Rattle.masks.specs.Iterator.{moved_to, new_iter, nth_flag, take_leadin
 
 use crate::checks::check_span;
 use crate::cursor::{Step, check_cursor};
-use crate::refusal::{Refusal, Refused, give_back};
+use crate::refusal::{Refusal, Refused};
 use crate::span::leading_from;
 use words::word::flag_at;
 
 // A cursor over a span whose place counts flags. The Rust's `BitmapIter`, its bytes lent beside it.
-#[derive(Clone, Copy, PartialEq, Eq, Debug)]
+#[derive(Clone, Copy, PartialEq, Eq, Debug, Default)]
 pub struct BitmapIter {
     pub start: usize,
     pub length: usize,
@@ -24,11 +24,7 @@ impl BitmapIter {
         ensures { answer result ≡ new_iter bytes.now start length }
     {
         if length == 0 {
-            return Ok(BitmapIter {
-                start: 0,
-                length: 0,
-                place: 0,
-            });
+            return Ok(BitmapIter::default());
         }
         check_span(start, length, bytes.len())?;
         Ok(BitmapIter {
@@ -49,10 +45,7 @@ impl BitmapIter {
     pub fn nth(self, bytes: &[u8], n: usize) -> Result<Step<bool, BitmapIter>, Refused<BitmapIter>>
         ensures { answer_step result ≡ nth_flag self bytes.now n }
     {
-        give_back(
-            check_cursor(self.start, self.length, self.place, bytes.len()),
-            self,
-        )?;
+        check_cursor(self.start, self.length, self.place, bytes.len()).map_err(|r| r.with(self))?;
         if n >= self.length - self.place {
             return Ok(Step {
                 item: None,
@@ -92,10 +85,7 @@ impl BitmapIter {
     ) -> Result<(usize, BitmapIter), Refused<BitmapIter>>
         ensures { answer_back result ≡ take_leading flag self bytes.now }
     {
-        give_back(
-            check_cursor(self.start, self.length, self.place, bytes.len()),
-            self,
-        )?;
+        check_cursor(self.start, self.length, self.place, bytes.len()).map_err(|r| r.with(self))?;
         let taken = leading_from(flag, bytes, self.start, self.length, self.place);
         let past = self.place + taken;
         Ok((taken, self.moved(past)))

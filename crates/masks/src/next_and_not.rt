@@ -8,9 +8,9 @@ ghost use Rattle.words.specs.Counts.{any_set};
 ghost use Rattle.words.specs.Flags.{window, word_flags};
 ghost use Rattle.masks.specs.Answer.{answer};
 ghost use Rattle.masks.specs.Refusal.{failure_of};
-ghost use Rattle.masks.specs.Checks.{first_failed};
+ghost use Rattle.masks.specs.Checks.{first_failed, limit};
 ghost use Rattle.masks.specs.Iterator.{leading_from};
-ghost use Rattle.masks.specs.NextAndNot.{free_flags, next_and_not_of, next_checks, windows_of};
+ghost use Rattle.masks.specs.NextAndNot.{free_flags, next_and_not_of, next_checks, other_checks, windows_of};
 ghost use Rattle.masks.specs.Workers.{PassedTo, Searchable};
 
 use crate::bitmap::Bitmap;
@@ -70,13 +70,13 @@ pub fn next_and_not(
 
 // How many windows n flags take.
 fn windows_of(n: usize) -> usize
-    requires { n ≤ 4194304 }
+    requires { n ≤ limit }
     ensures { result ≡ windows_of n }
 {
     n.div_ceil(32)
 }
 
-// Of each mask that is there, of two that they are of one length, and of the place.
+// Makes the checks of each mask that is there, of two that they are of one length, and of the place.
 fn check_next(
     first: Bitmap,
     first_bytes: &[u8],
@@ -86,19 +86,21 @@ fn check_next(
 ) -> Result<(), Refusal>
     ensures { failure_of result ≡ first_failed (next_checks first first_bytes.now second second_bytes.now from) }
 {
+    let place = check(Refusal::Outside, from <= first.length);
+    let other = check_other(first.length, second, second_bytes);
+    earlier(check_mask(first, first_bytes), earlier(other, place))
+}
+
+// Makes the checks of the second mask, and that it has n flags. Without one nothing is asked.
+fn check_other(n: usize, second: Option<Bitmap>, bytes: &[u8]) -> Result<(), Refusal>
+    ensures { failure_of result ≡ first_failed (other_checks n second bytes.now) }
+{
     match second {
         Some(m) => {
-            let place = check(Refusal::Outside, from <= first.length);
-            let equal = check(Refusal::UnequalLengths, first.length == m.length);
-            let other = check_mask(m, second_bytes);
-            let own = check_mask(first, first_bytes);
-            earlier(own, earlier(earlier(other, equal), place))
+            let equal = check(Refusal::UnequalLengths, n == m.length);
+            earlier(check_mask(m, bytes), equal)
         }
-        None => {
-            let place = check(Refusal::Outside, from <= first.length);
-            let own = check_mask(first, first_bytes);
-            earlier(own, place)
-        }
+        None => Ok(()),
     }
 }
 

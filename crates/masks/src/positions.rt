@@ -9,7 +9,7 @@ ghost use Rattle.masks.specs.Frozen.{over_from};
 ghost use Rattle.masks.specs.Positions.{place_behind, left_of, next_positions, positions_over};
 ghost use Rattle.masks.specs.TrueIdx.{ones_from, ones_left, true_checks};
 
-use crate::refusal::{Refused, give_back};
+use crate::refusal::Refused;
 use crate::span::{Lent, flags_word};
 use crate::true_idx::{TrueIdxIter, check_next};
 use words::ends::leading_in_word;
@@ -131,7 +131,7 @@ impl TrueIdxIter {
         ensures answer { answer_back result ≡ next_positions self bytes.now (list_length out.old) }
         ensures positions { out.new ≡ positions_over self bytes.now out.old }
     {
-        give_back(check_next(self, bytes.len()), self)?;
+        check_next(self, bytes.len()).map_err(|r| r.with(self))?;
         let count = write_positions(self, bytes, out);
         let place = place_behind(self, out, count);
         Ok((count, self.moved(place)))

@@ -2,7 +2,6 @@
 ghost use Rattle.std.specs.Prelude.{◌≡◌, cond};
 ghost use Rattle.masks.specs.Checks.{earlier as earlier_of};
 ghost use Rattle.masks.specs.Refusal.{failure_of, number};
-ghost use Rattle.masks.specs.Workers.{with_state};
 
 use std::error::Error;
 use std::fmt;
@@ -31,6 +30,18 @@ pub enum Refusal {
     WrongAddress,
     // 9: does the output, or the builder's buffer, hold the result?
     ShortOutput,
+}
+
+impl Refusal {
+    // Puts the record that the call got beside the refusal.
+    pub(crate) fn with<S>(self, state: S) -> Refused<S>
+        ensures { (result.refusal ≡ self) × (result.state ≡ state) }
+    {
+        Refused {
+            refusal: self,
+            state,
+        }
+    }
 }
 
 // The number by which documents and the C interface name a refusal.
@@ -107,14 +118,4 @@ pub(crate) fn check(refusal: Refusal, holds: bool) -> Result<(), Refusal>
     ensures { failure_of result ≡ cond holds 0 (number refusal) }
 {
     if holds { Ok(()) } else { Err(refusal) }
-}
-
-// Gives the record back that the call got, beside a refusal.
-pub(crate) fn give_back<T, S: Copy>(answer: Result<T, Refusal>, state: S) -> Result<T, Refused<S>>
-    ensures { result ≡ with_state answer state }
-{
-    match answer {
-        Ok(value) => Ok(value),
-        Err(refusal) => Err(Refused { refusal, state }),
-    }
 }

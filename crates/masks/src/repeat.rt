@@ -1,6 +1,5 @@
 // A span appended with each flag repeated.
-ghost use Rattle.std.specs.Prelude.{◌≡◌, ◌+◌, ◌*◌, ◌%◌, ◌≤◌, ◌<◌, length};
-ghost use Rattle.words.specs.Flags.{copies};
+ghost use Rattle.std.specs.Prelude.{◌≡◌, ◌*◌, length};
 ghost use Rattle.words.specs.Loops.{stretch};
 ghost use Rattle.masks.specs.Answer.{answer_back};
 ghost use Rattle.masks.specs.Refusal.{failure_of};
@@ -9,12 +8,12 @@ ghost use Rattle.masks.specs.Builder.{filling, appended};
 ghost use Rattle.masks.specs.Checks.{first_failed};
 ghost use Rattle.masks.specs.Workers.{Room};
 
-use crate::builder::{BitmapBuilder, push_inside};
+use crate::builder::BitmapBuilder;
 use crate::checks::{check_builder, check_span};
 use crate::extend::{append_copies, append_stretch};
-use crate::refusal::{Refusal, Refused, earlier, give_back};
+use crate::refusal::{Refusal, Refused, earlier};
 use crate::span::Lent;
-use words::word::{constant_flags, flag_at};
+use words::word::flag_at;
 
 impl BitmapBuilder {
     // Appends each flag of a span, `repeats` times in turn.
@@ -29,13 +28,11 @@ impl BitmapBuilder {
         ensures answer { answer_back result ≡ append_answer (extend_repeated bytes.now start n repeats) self buf.old }
         ensures bytes { buf.new ≡ append_bytes (extend_repeated bytes.now start n repeats) self buf.old }
     {
-        give_back(
-            earlier(
-                check_span(start, n, bytes.len()),
-                check_product(self, n, repeats, buf.len()),
-            ),
-            self,
-        )?;
+        earlier(
+            check_span(start, n, bytes.len()),
+            check_product(self, n, repeats, buf.len()),
+        )
+        .map_err(|r| r.with(self))?;
         let span = Lent {
             bytes,
             start,
@@ -66,17 +63,6 @@ fn append_repeated(b: BitmapBuilder, buf: &mut [u8], span: &Lent, repeats: usize
     append_runs(b, buf, span, repeats)
 }
 
-// Copies of one flag: mostly few, for which the word in progress has room.
-fn append_run(b: BitmapBuilder, buf: &mut [u8], n: usize, flag: bool) -> BitmapBuilder
-    requires { Room b n (length buf.old) }
-    ensures { filling result buf.new ≡ appended (filling b buf.old) (copies n flag) }
-{
-    if b.length % 64 + n < 64 {
-        return push_inside(b, constant_flags(flag, n), n);
-    }
-    append_copies(b, buf, n, flag)
-}
-
 // Appends each flag `repeats` times, a run at a time. A range: flags are bits, and there is no slice of them.
 fn append_runs(b: BitmapBuilder, buf: &mut [u8], span: &Lent, repeats: usize) -> BitmapBuilder
     requires { Room b (span.now.length * repeats) (length buf.old) }
@@ -86,7 +72,7 @@ fn append_runs(b: BitmapBuilder, buf: &mut [u8], span: &Lent, repeats: usize) ->
     let mut grown = b;
     for i in 0..span.length {
         let flag = flag_at(span.bytes, span.start + i);
-        grown = append_run(grown, buf, repeats, flag);
+        grown = append_copies(grown, buf, repeats, flag);
     }
     grown
 }

@@ -16,7 +16,8 @@ fn zeros_of_all(flag: bool, n: usize) -> usize
     if flag { 0 } else { n }
 }
 
-// Is a mask all `flag` by its count. A known count says so; an unknown one is not counted: the first word with another flag says no.
+// Returns whether all flags of a mask are `flag`. A known count is compared. With an unknown one the flags are read, up to the first word
+// that has another flag, and not counted.
 fn is_all(flag: bool, mask: Bitmap, bytes: &[u8]) -> bool
     ensures { result ≡ is_all flag mask bytes.now }
 {
@@ -46,13 +47,7 @@ fn is_all_early(flag: bool, mask: Bitmap, bytes: &[u8]) -> bool
 fn either_all(flag: bool, lhs: Bitmap, left: &[u8], rhs: Bitmap, right: &[u8]) -> Option<bool>
     ensures { result ≡ either_all flag (is_all flag lhs left.now) (is_all flag rhs right.now) }
 {
-    if is_all_early(flag, lhs, left) {
-        return Some(flag);
-    }
-    if is_all_early(flag, rhs, right) {
-        return Some(flag);
-    }
-    None
+    (is_all_early(flag, lhs, left) || is_all_early(flag, rhs, right)).then_some(flag)
 }
 
 // The shortcut of `xor` with a mask that is all `flag`.
@@ -93,6 +88,7 @@ pub(crate) fn pair_shortcut(
     requires { lhs.length ≡ rhs.length }
     ensures { result ≡ pair_shortcut op lhs left.now rhs right.now }
 {
+    // a `match`: the arms name a flag to look for, another question, or none
     let flag = match op {
         Op::And => false,
         Op::Or => true,

@@ -1,16 +1,15 @@
 // The runs of ones of a mask, one by one.
-ghost use Rattle.std.specs.Prelude.{◌≡◌, ◌&&◌, ◌+◌, ◌*◌, ◌≤◌, eqb, leb, length as list_length};
+ghost use Rattle.std.specs.Prelude.{◌≡◌, ◌&&◌, ◌≤◌, eqb, leb};
 ghost use Rattle.words.specs.Loops.{stretch};
 ghost use Rattle.masks.specs.Cursor.{answer_step};
 ghost use Rattle.masks.specs.Answer.{answer};
-ghost use Rattle.masks.specs.Checks.{limit};
 ghost use Rattle.masks.specs.SliceIterator.{slices_moved, new_slices, next_slice};
 ghost use Rattle.masks.specs.Workers.{first_run};
 
 use crate::bitmap::Bitmap;
 use crate::checks::check_mask;
 use crate::cursor::{Step, check_cursor};
-use crate::refusal::{Refusal, Refused, give_back};
+use crate::refusal::{Refusal, Refused};
 use crate::span::{Lent, zeros_from};
 
 // A cursor over the flags of a mask. The Rust's `SlicesIterator`, its bytes lent beside it.
@@ -102,10 +101,7 @@ impl SlicesIterator {
     pub fn next(self, bytes: &[u8]) -> Result<Step<Run, SlicesIterator>, Refused<SlicesIterator>>
         ensures { answer_step result ≡ next_slice self bytes.now }
     {
-        give_back(
-            check_cursor(self.start, self.length, self.place, bytes.len()),
-            self,
-        )?;
+        check_cursor(self.start, self.length, self.place, bytes.len()).map_err(|r| r.with(self))?;
         let near = self.place + zeros_from(bytes, self.start, self.length, self.place);
         let span = Lent {
             bytes,

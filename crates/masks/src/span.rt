@@ -1,6 +1,6 @@
 // Words of a span, and how many flags alike stand next in it.
-ghost use Rattle.std.specs.Prelude.{false, ◌≡◌, ℕ, ◌+◌, ◌*◌, ◌≤◌, min, take, length as list_length};
-ghost use Rattle.words.specs.Flags.{word_of, word_flags};
+ghost use Rattle.std.specs.Prelude.{false, ◌≡◌, ◌+◌, ◌*◌, ◌≤◌, min, length as list_length};
+ghost use Rattle.words.specs.Flags.{word_of};
 ghost use Rattle.words.specs.Loops.{stretch};
 ghost use Rattle.masks.specs.Checks.{limit};
 ghost use Rattle.masks.specs.Iterator.{leading_from};
@@ -8,7 +8,7 @@ ghost use Rattle.masks.specs.Iterator.{leading_from};
 use crate::checks::check_span;
 use crate::refusal::Refusal;
 use words::ends::leading_in_word;
-use words::word::{byte_word, down, low_flags, word_from};
+use words::word::{low_flags, near_word, word_from};
 
 // A span of lent bytes that has passed checks 1 and 2, or a piece of the flags of one.
 #[derive(Clone, Copy)]
@@ -82,13 +82,6 @@ pub(crate) fn zeros_from(bytes: &[u8], start: usize, length: usize, place: usize
         return left;
     }
     leading_from(false, bytes, start, length, place)
-}
-
-// Reads the flags starting at `bit` with one load: at least 57 of them, then zeros.
-pub(crate) fn near_word(bytes: &[u8], bit: usize) -> u64
-    ensures { (k : ℕ) → k ≤ 57 → take k (word_flags result) ≡ stretch bytes.now bit k }
-{
-    down(byte_word(bytes, bit / 8), bit % 8)
 }
 
 // Does the work of `leading_from` word by word, up to the first word with a different flag. A range of places: there is no slice of words.

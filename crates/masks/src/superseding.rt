@@ -37,7 +37,8 @@ fn check_superseding(
     check(Refusal::UnequalLists, same)
 }
 
-// The part of its slice that holds a mask, and the mask over it.
+// Returns the part of its slice that holds a mask, and the mask over it. No type says that the mask's checks have passed: a `Bitmap` is
+// document 01's record, of any numbers, and a `Lent` has neither the count nor the serial that the part keeps.
 fn part_of(second: bool, mask: Bitmap) -> Part
     requires { (mask.start ≤ limit) × (mask.length ≤ limit) }
     ensures { result ≡ part_of second mask }

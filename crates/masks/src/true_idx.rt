@@ -10,7 +10,7 @@ ghost use Rattle.masks.specs.TrueIdx.{true_moved, new_true, new_true_checks, fir
 use crate::bitmap::Bitmap;
 use crate::checks::{check_mask, within_limit};
 use crate::cursor::{Step, check_cursor};
-use crate::refusal::{Refusal, Refused, check, earlier, give_back};
+use crate::refusal::{Refusal, Refused, check, earlier};
 use crate::span::zeros_from;
 
 // A cursor over the flags of a mask or, where there is none, over positions alone. The Rust's `TrueIdxIter`. `masked` stands for an
@@ -105,7 +105,7 @@ impl TrueIdxIter {
     pub fn next(self, bytes: &[u8]) -> Result<Step<usize, TrueIdxIter>, Refused<TrueIdxIter>>
         ensures { answer_step result ≡ next_true self bytes.now }
     {
-        give_back(check_next(self, bytes.len()), self)?;
+        check_next(self, bytes.len()).map_err(|r| r.with(self))?;
         let position = self.place + zeros_next(self, bytes);
         if position >= self.length {
             return Ok(Step {

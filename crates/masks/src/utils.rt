@@ -13,15 +13,15 @@ use crate::parts::{Back, End, Front, Split};
 use crate::refusal::Refusal;
 use crate::span::Lent;
 use words::uniform::{all_are, differs_early};
-use words::word::{byte_word, down, ones_below};
+use words::word::{near_word, ones_below};
 
-// Counts the zeros of a span that one word load covers. Separate, so that callers can inline it.
+// Counts the zeros of a span that one word load covers. Separate, so that callers can inline it. This and `short_run` take the span by its
+// parts: a `Lent` would ask their callers for more than one load needs.
 fn short_zeros(bytes: &[u8], start: usize, length: usize) -> usize
     requires { start % 8 + length ≤ 64 }
     ensures { result ≡ zeros (stretch bytes.now start length) }
 {
-    let few = ones_below(down(byte_word(bytes, start / 8), start % 8), length);
-    length - few
+    length - ones_below(near_word(bytes, start), length)
 }
 
 // The zeros of any span, by the three parts of its split.
@@ -58,7 +58,8 @@ impl Lent<'_> {
     }
 }
 
-// Are all flags of a span `flag`: what its zeros would say. They are not counted; the first word with another flag ends the search.
+// Are all flags of a span `flag`: what its zeros would say. They are not counted; the first word with another flag ends the search. This
+// and the next take the span by its parts, since they ask nothing of it.
 pub(crate) fn all_flags(flag: bool, bytes: &[u8], start: usize, length: usize) -> bool
     ensures { result ≡ eqb (zeros (stretch bytes.now start length)) (zeros_of_all flag length) }
 {
@@ -98,7 +99,7 @@ fn short_run<E: End>(flag: bool, bytes: &[u8], start: usize, length: usize) -> u
     requires { start % 8 + length ≤ 64 }
     ensures { result ≡ E.run flag (stretch bytes.now start length) }
 {
-    E::in_word(flag, down(byte_word(bytes, start / 8), start % 8), length)
+    E::in_word(flag, near_word(bytes, start), length)
 }
 
 // The same of any span, by the three parts of its split.

@@ -21,12 +21,8 @@ low_at a i = number_at a i % 2 ^ 32
 abbrev pub flag_at : Arguments → ℕ → Bool
 flag_at a i = not (number_at a i == 0)
 
--- the place of a serial among the three
-abbrev pub place_of : Serial → ℕ
-place_of First = 0
-place_of Second = 1
-place_of Third = 2
-
 -- the serial of that record, 0 where the line names none
 abbrev pub serial_at : Arguments → Serial → ℕ
-serial_at a s = unwrap_or (slice_get a.serials (place_of s)) 0
+serial_at a First = a.serials.first
+serial_at a Second = a.serials.second
+serial_at a Third = a.serials.third

@@ -1,5 +1,6 @@
--- When a line is at hand. Assumes nothing.
-use Rattle.std.specs.Prelude.{ℕ, Bool, true, false, List, [], if◌then◌else◌}
+-- When a line is at hand, and what a step takes of the bytes that are read. Assumes nothing.
+use Rattle.std.specs.Prelude.{ℕ, ◌-◌, ◌==◌, Bool, true, false, List, [], ◌++◌, length, take, position, Option, Some, None, if◌then◌else◌}
+use Rattle.std.specs.List.{before_first, after_first}
 use Rattle.notation.specs.declared.lines.Lines.{Lines}
 use Rattle.notation.specs.declared.lines.Step.{Step}
 use Rattle.notation.specs.declared.lines.Step.TheVariants.{Part, Line, Last}
@@ -14,3 +15,23 @@ ends Last = false
 module _ {R : Type 0} where
   abbrev pub begun : Lines R → List ℕ
   begun lines = if lines.ended then [] else lines.line.items
+
+-- is it a line feed
+abbrev pub is_feed : ℕ → Bool
+is_feed b = b == 10
+
+-- a line goes on with the bytes that are read, up to a line feed, as far as 16,384 bytes
+abbrev pub gone_on : List ℕ → List ℕ → List ℕ
+gone_on line read = line ++ take (16384 - length line) (before_first is_feed read)
+
+-- what is left of them, behind the line feed
+abbrev pub left_of : List ℕ → List ℕ
+left_of read = after_first is_feed read
+
+-- does one of them end the line
+abbrev pub step_by : Option ℕ → Step
+step_by (Some at) = Line
+step_by None = Part
+
+abbrev pub step_over : List ℕ → Step
+step_over read = step_by (position is_feed read)

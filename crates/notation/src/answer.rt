@@ -15,6 +15,7 @@ pub enum Token {
     Missing,
 }
 
+// One impl for each type of number: one over `T: Into<u64>` is refused beside those of `usize` and `bool`, as it might fit these too.
 impl From<u64> for Token {
     ghost from_gives = { λ n t. t ≡ Number n };
 

@@ -5,7 +5,7 @@ ghost use Rattle.notation.specs.Arguments.{count_at, number_at, low_at, flag_at,
 use crate::item::Role;
 use crate::lent::Sizes;
 
-// At most this many arguments has a call.
+// The most arguments that a call has.
 const MOST: usize = 9;
 
 // Which of the records among the arguments.
@@ -20,15 +20,33 @@ pub enum Serial {
 pub struct Arguments {
     // None for `?`, and 0 for one that is not there.
     numbers: [Option<u64>; MOST],
-    serials: [u32; 3],
+    serials: Serials,
     pub sizes: Sizes,
+}
+
+// The serial of each record, 0 where the line names none.
+#[derive(Clone, Copy, Debug, Default)]
+struct Serials {
+    first: u32,
+    second: u32,
+    third: u32,
+}
+
+impl Serials {
+    fn get_mut(&mut self, serial: Serial) -> &mut u32 {
+        match serial {
+            Serial::First => &mut self.first,
+            Serial::Second => &mut self.second,
+            Serial::Third => &mut self.third,
+        }
+    }
 }
 
 impl Arguments {
     pub(crate) fn new(sizes: Sizes) -> Arguments {
         Arguments {
             numbers: [Some(0); MOST],
-            serials: [0; 3],
+            serials: Serials::default(),
             sizes,
         }
     }
@@ -37,7 +55,7 @@ impl Arguments {
     pub(crate) fn put(&mut self, k: usize, role: Role, value: Option<u64>) {
         match (role, value) {
             (Role::Size(letter), Some(most)) => self.sizes.limit(letter, most),
-            (Role::Serial(serial), Some(n)) => self.put_serial(serial, n),
+            (Role::Serial(serial), Some(n)) => *self.serials.get_mut(serial) = low(n),
             _ => self.put_number(k, value),
         }
     }
@@ -48,14 +66,8 @@ impl Arguments {
         }
     }
 
-    // The conversions here are `as`: a variant's number, to `usize`, which has no `From` of a u64, and to the low 32 bits.
-    fn put_serial(&mut self, serial: Serial, value: u64) {
-        if let Some(place) = self.serials.get_mut(serial as usize) {
-            *place = low(value);
-        }
-    }
-
-    // Argument i as a zero count, None if it is not known.
+    // Argument i as a zero count, None if it is not known. The conversions of this file are `as`: to `usize`, which has no `From` of a u64,
+    // and to the low 32 bits.
     pub fn count(&self, i: usize) -> Option<usize>
         ensures { result ≡ count_at self.now i }
     {
@@ -89,7 +101,11 @@ impl Arguments {
     pub fn serial(&self, serial: Serial) -> u32
         ensures { result ≡ serial_at self.now serial }
     {
-        self.serials.get(serial as usize).copied().unwrap_or(0)
+        match serial {
+            Serial::First => self.serials.first,
+            Serial::Second => self.serials.second,
+            Serial::Third => self.serials.third,
+        }
     }
 }
 

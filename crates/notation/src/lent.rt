@@ -87,7 +87,8 @@ impl ByLetter<Vec<u8>, Vec<u32>> {
         }
     }
 
-    // Takes what a line lends. A malformed one changes nothing. What pieces stand for is not in the contract, only `@`.
+    // Takes what a line lends. The contract says in full what stays and what `@` lends. It does not say what other pieces lend and which
+    // are malformed: a definition of what their text stands for would be the parser again.
     pub fn take(
         &mut self,
         alloc: Global,
@@ -158,7 +159,7 @@ fn bytes(alloc: Global, text: &[u8], last: &Last) -> Result<Vec<u8>, Fault>
 }
 
 // The first n, or all.
-fn first<T>(items: &[T], n: usize) -> &[T]
+pub(crate) fn first<T>(items: &[T], n: usize) -> &[T]
     ensures { result.now ≡ take n items.now }
 {
     items.get(..n).unwrap_or(items)

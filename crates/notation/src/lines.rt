@@ -1,8 +1,11 @@
 // A reader taken apart into lines.
-ghost use Rattle.std.specs.Prelude.{◌≡◌, ◌<◌, [], IfOk, OnOk, take, vec_len, length, true, false, if◌then◌else◌};
-ghost use Rattle.notation.specs.Lines.{ends, begun};
+ghost use Rattle.std.specs.Prelude.{◌≡◌, ◌≢◌, ◌<◌, [], IfOk, OnOk, is_ok, length, nat_lt, vec_len, position, true, false, if◌then◌else◌};
+ghost use Rattle.std.specs.Io.Buffered.{reader_buffer};
+ghost use Rattle.notation.specs.Lines.{ends, begun, is_feed, gone_on, step_over, left_of};
+ghost use Rattle.notation.specs.declared.lines.Step.TheVariants.{Line};
 
 use crate::fault::Fault;
+use crate::lent::first;
 use std::alloc::Global;
 use std::io;
 use std::io::{BufRead, BufReader, Read};
@@ -14,7 +17,8 @@ const WINDOW: usize = 65536;
 const LINE: usize = 16384;
 
 // What a step of a reader came to: it read on, or took the rest of what it had read; or took the end of a line; or came to the end of the
-// input, and so of the last line, which may have no line feed.
+// input, and so of the last line, which may have no line feed. The line itself comes from `line`: a step that lent it would borrow `self`,
+// and its clauses could not name `self.new`.
 #[derive(Clone, Copy, Debug, PartialEq, Eq)]
 pub enum Step {
     Part,
@@ -43,10 +47,15 @@ impl<R: Read + Drop> Lines<R> {
         })
     }
 
-    // Goes on to the end of what is read, or of a line. Which bytes the reader gives is not in the contract, only what stays.
+    // Takes the bytes that are read, up to a line feed, or reads on if there are none. The contract says in full what becomes of bytes that
+    // are read. It does not say which bytes come next: those are the reader's.
     pub fn step(&mut self) -> io::Result<Step>
         ensures ended { IfOk result (λ step. self.new.ended ≡ ends step) }
-        ensures kept { OnOk result (take (length (begun self.old)) self.new.line.items ≡ begun self.old) }
+        ensures line { OnOk result (self.new.line.items ≡ gone_on (begun self.old) (reader_buffer self.old.source)) }
+        ensures step { reader_buffer self.old.source ≢ [] → IfOk result (λ step. step ≡ step_over (reader_buffer self.old.source)) }
+        ensures left { reader_buffer self.old.source ≢ []
+            → OnOk result (reader_buffer self.new.source ≡ left_of (reader_buffer self.old.source)) }
+        ensures empty { reader_buffer self.old.source ≡ [] → IfOk result (λ step. step ≢ Line) }
     {
         if self.ended {
             self.line.clear();
@@ -64,26 +73,31 @@ impl<R: Read + Drop> Lines<R> {
     // Takes what is read, up to a line feed.
     fn take(&mut self) -> io::Result<Step>
         ensures ended { IfOk result (λ step. self.new.ended ≡ (if ends step then true else self.old.ended)) }
-        ensures kept { OnOk result (take (vec_len self.old.line) self.new.line.items ≡ self.old.line.items) }
+        ensures line { OnOk result (self.new.line.items ≡ gone_on self.old.line.items (reader_buffer self.old.source)) }
+        ensures step { IfOk result (λ step. step ≡ step_over (reader_buffer self.old.source)) }
+        ensures left { OnOk result (reader_buffer self.new.source ≡ left_of (reader_buffer self.old.source)) }
     {
         let read = self.source.buffer();
-        let feed = read.iter().position(|b| *b == b'\n');
+        let feed = feed_in(read);
         let size = feed.unwrap_or(read.len());
         let room = LINE.saturating_sub(self.line.len());
-        let part = read.get(..size.min(room)).unwrap_or(read);
-        self.line.extend_from_slice(part)?;
+        self.line.extend_from_slice(first(read, size.min(room)))?;
         // With the line feed, if there is one.
         self.source.consume(size.saturating_add(1));
-        if feed.is_none() {
-            return Ok(Step::Part);
+        match feed {
+            None => Ok(Step::Part),
+            Some(_) => {
+                self.ended = true;
+                Ok(Step::Line)
+            }
         }
-        self.ended = true;
-        Ok(Step::Line)
     }
 
-    // The line that the last step ended.
+    // The line that the last step ended; a longer one is malformed.
     pub fn line(&self) -> Result<&[u8], Fault>
-        ensures { IfOk result (λ line. length line.now < 16384) }
+        ensures short { IfOk result (λ line. length line.now < 16384) }
+        ensures bytes { IfOk result (λ line. line.now ≡ self.now.line.items) }
+        ensures given { is_ok result ≡ nat_lt (vec_len self.now.line) 16384 }
     {
         if self.line.len() < LINE {
             Ok(self.line.as_slice())
@@ -91,4 +105,11 @@ impl<R: Read + Drop> Lines<R> {
             Err(Fault::Malformed)
         }
     }
+}
+
+// The place of the first line feed.
+fn feed_in(read: &[u8]) -> Option<usize>
+    ensures { result ≡ position is_feed read.now }
+{
+    read.iter().position(|b| *b == b'\n')
 }

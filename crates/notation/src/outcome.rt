@@ -1,5 +1,5 @@
 // How a request came out: what its calls gave, compared with its line.
-ghost use Rattle.std.specs.Prelude.{◌≡◌, IfOk, Ok, is_some, false};
+ghost use Rattle.std.specs.Prelude.{◌≡◌, ◌≢◌, IfOk, Ok, is_some, true, false};
 ghost use Rattle.notation.specs.declared.outcome.Verdict.TheVariants.{Made};
 ghost use Rattle.notation.specs.Outcome.{none_made, taken};
 
@@ -25,7 +25,7 @@ pub(crate) enum Verdict {
     Made,
 }
 
-// The call's name and its place, and how many calls were made.
+// The call's name and its place, and how many calls were made. The name is what is printed, the place is where the tally counts.
 #[derive(Clone, Copy, Debug)]
 pub struct Outcome {
     pub name: &'static str,
@@ -66,7 +66,8 @@ impl Ran {
     }
 }
 
-// Compares what was made with the line. Of the verdict the contract says when there is nothing to compare, and no more.
+// Compares what was made with the line. The contract says in full what is counted and where there is nothing to compare. It does not say
+// which answers and outputs are the same: a definition of what their text stands for would be the parser again.
 pub fn compare(
     alloc: Global,
     reading: &Reading,
@@ -78,8 +79,10 @@ pub fn compare(
     ensures place { IfOk result (λ o. o.place ≡ reading.now.place) }
     ensures calls { IfOk result (λ o. o.calls ≡ ran.calls) }
     ensures made { is_some reading.now.items.answer ≡ false → IfOk result (λ o. o.verdict ≡ Made) }
+    ensures told { is_some reading.now.items.answer ≡ true → IfOk result (λ o. o.verdict ≢ Made) }
 {
     let told = answer_verdict(reading, ran, &last.answer)?;
+    // The arms of bytes and numbers are calls of `holds` at two types, so that no one pattern joins them.
     let held = match reading.compared() {
         Output::Bytes => holds(
             alloc,
@@ -107,7 +110,8 @@ pub fn compare(
 
 // The answer alone.
 fn answer_verdict(reading: &Reading, ran: Ran, answer: &Answer) -> Result<Verdict, Fault>
-    ensures { is_some reading.now.items.answer ≡ false → result ≡ Ok Made }
+    ensures made { is_some reading.now.items.answer ≡ false → result ≡ Ok Made }
+    ensures told { is_some reading.now.items.answer ≡ true → IfOk result (λ v. v ≢ Made) }
 {
     let same = match reading.items.answer() {
         None => return Ok(Verdict::Made),

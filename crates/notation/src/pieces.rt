@@ -6,9 +6,10 @@ use crate::items::Items;
 use crate::text;
 use std::alloc::{AllocError, Global};
 
-// Of how often bytes stand the last eight decimal digits count, and of how often a number stands the low 24 bits.
+// The N of `HEX*N` is read modulo this: its last eight digits.
 const BYTES_TIMES: u64 = 100000000;
 
+// The K of `N*K` is read modulo this: its low 24 bits.
 const NUMBER_TIMES: u64 = 1 << 24;
 
 // A list with room for so many, and whether all that came had room. `fits` is a state: what comes behind is still read where they had not,
@@ -29,7 +30,7 @@ impl<T: Copy> Bounded<T> {
         }
     }
 
-    // Appends a part so often, if there is room for all.
+    // Appends a part so many times, if there is room for all. The loop is a `for _`: each turn appends the same part, and has no index.
     fn append(&mut self, part: &[T], times: usize) -> Result<(), AllocError> {
         let more = part.len().saturating_mul(times);
         if self.room < self.list.len().saturating_add(more) {
@@ -92,8 +93,8 @@ fn byte_of(pair: &[u8]) -> Option<u8> {
     }
 }
 
-// How often bytes stand that stand N times, besides the first time: N is decimal and at least 1. The conversions here are `as`: to `usize`,
-// which has no `From` of a u64, and to the low 32 bits.
+// Reads the N of `HEX*N` and returns N - 1, the copies behind the first; None if N is 0 or not decimal. The conversions of this file are
+// `as`: to `usize`, which has no `From` of a u64, and to the low 32 bits.
 fn more_times(digits: &[u8]) -> Option<usize> {
     let mut times: u64 = 0;
     for b in digits {

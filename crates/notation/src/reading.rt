@@ -12,7 +12,8 @@ use crate::names::{NAMES, Named, Output};
 use crate::{names, text};
 use std::alloc::Global;
 
-// The place of the call's name and what it says, the items of its arguments and its answer, and what its output must hold.
+// The place of the call's name and what it says, the items of its arguments and its answer, and what its output must hold. `named` is the
+// entry of the table at `place`, which it does not hold itself; the tally counts by the place.
 #[derive(Drop)]
 pub struct Reading<'a> {
     pub(crate) place: usize,
@@ -22,7 +23,8 @@ pub struct Reading<'a> {
 }
 
 impl<'a> Reading<'a> {
-    // `last` is the answer of the last call. Of the parsing the contract says the number of arguments alone: the rest is not proved.
+    // `last` is the answer of the last call. The contract says that the call has as many arguments as its entry in the table. It does not
+    // say what the arguments are and which entry is taken: a definition of what the text stands for would be the parser again.
     pub fn read(alloc: Global, line: &'a [u8], last: &Answer) -> Result<Reading<'a>, Fault>
         ensures { IfOk result (λ r. plain_of r.items ≡ r.named.arguments) }
     {
@@ -56,7 +58,8 @@ impl<'a> Reading<'a> {
         }
     }
 
-    // The arguments of call t of the request, None after its last one. The contract says that there is a first one, and no more.
+    // The arguments of call t of the request, None after its last one. The contract says that there is a first one. It does not say how
+    // many there are and what they are: both come from the text, and a definition of what that stands for would be the parser again.
     pub fn choice(&self, t: u64, sizes: Sizes) -> Option<Arguments>
         ensures { t ≡ 0 → IsSome result }
     {

@@ -7,6 +7,7 @@ ghost use Rattle.report.specs.Numbers.{report_of};
 
 use masks::bitmap::Bitmap;
 use masks::compare::num_edges;
+use masks::cursor::Step;
 use masks::slice_iterator::SlicesIterator;
 
 #[derive(Clone, Copy)]
@@ -50,12 +51,13 @@ fn runs_of(mask: Bitmap, bytes: &[u8]) -> usize
 {
     let mut cursor = SlicesIterator::new(mask, bytes).unwrap();
     let mut runs = 0;
-    loop {
-        let step = cursor.next(bytes).unwrap();
-        if step.item.is_none() {
-            return runs;
-        }
+    while let Step {
+        item: Some(_),
+        cursor: next,
+    } = cursor.next(bytes).unwrap()
+    {
         runs += 1;
-        cursor = step.cursor;
+        cursor = next;
     }
+    runs
 }

@@ -31,7 +31,8 @@ pub fn run(rt: &(impl io::Input + Print + Eprint)) -> Result<(), Failure> {
     printed
 }
 
-// One byte more is read than a report takes, so that longer input is seen.
+// One byte more is read than a report takes, so that longer input is seen. An array, not a `Vec`: the library has no heap, and a `Vec`
+// would ask the caller of `run` for an allocator.
 fn read_and_print(rt: &(impl io::Input + Print)) -> Result<(), Failure> {
     let mut buf = [0u8; 65537];
     let size = read_to_end(&mut rt.reader(), &mut buf).map_err(|_| Failure::Input)?;

@@ -3,11 +3,10 @@ ghost use Rattle.std.specs.Prelude.{◌≡◌};
 ghost use Rattle.masks.specs.Appends.{change_answer, append_answer, append_bytes, push_flag};
 ghost use Rattle.masks.specs.Refusal.{failure_of};
 
-use crate::tell::{Tell, Told};
+use crate::tell::Told;
 use crate::{tell, values};
 use masks::builder::BitmapBuilder;
 use masks::refusal::Refusal;
-use notation::answer::Answer;
 use notation::arguments::{Arguments, Serial};
 use notation::call::{BuilderCall, ExtendCall, GatherCall};
 use std::alloc::Global;
@@ -16,7 +15,10 @@ pub(crate) fn answer(alloc: Global, call: BuilderCall, a: &Arguments, buf: &mut 
     let b = values::builder(a);
     match call {
         BuilderCall::Push => tell::answer_back(alloc, b.push(buf, a.flag(3))),
-        BuilderCall::PushMut => left(alloc, push_lent(b, buf, a.flag(3))),
+        BuilderCall::PushMut => {
+            let Lent { builder, answer } = push_lent(b, buf, a.flag(3));
+            tell::left(alloc, answer, builder)
+        }
         BuilderCall::PushWord => {
             tell::answer_back(
                 alloc,
@@ -96,12 +98,5 @@ fn push_lent(b: BitmapBuilder, buf: &mut [u8], flag: bool) -> Lent
     Lent {
         builder: own,
         answer,
-    }
-}
-
-fn left(alloc: Global, r: Lent) -> Told {
-    match r.answer {
-        Ok(()) => tell::given(alloc, r.builder),
-        Err(refusal) => r.builder.tell(Answer::new(alloc, refusal.into())?),
     }
 }

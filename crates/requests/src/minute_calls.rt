@@ -2,9 +2,9 @@
 //
 // The arrays of a window lie in bytes, little-endian: its 256 words, then its 64 counts, 2,304 bytes. Its place, its fill and its width
 // are the first three arguments, and stand last in an answer.
-use crate::tell::{Tell, Told};
-use activity::window::ActivityWindow;
-use notation::answer::Answer;
+use crate::tell;
+use crate::tell::Told;
+use activity::window::{ActivityWindow, Refused};
 use notation::arguments::Arguments;
 use notation::call::MinutesCall;
 use std::alloc::Global;
@@ -22,38 +22,36 @@ pub(crate) fn answer(alloc: Global, call: MinutesCall, a: &Arguments, out: &mut 
     }
 }
 
-// The counts of the window whose arrays are x, as numbers.
+// The counts of the window whose arrays are x, as numbers: 64 zeros where the call refuses.
 pub(crate) fn counts(alloc: Global, a: &Arguments, x: &[u8], numbers: &mut [u32]) -> Told {
-    let (number, counts) = match window_of(a, x).counts() {
-        Ok(counts) => (0, counts),
-        Err(refused) => (u8::from(refused), [0; 64]),
-    };
-    for (number, count) in numbers.iter_mut().zip(counts) {
+    let counts = window_of(a, x).counts();
+    for (number, count) in numbers.iter_mut().zip(counts.unwrap_or([0; 64])) {
         *number = count;
     }
-    Answer::new(alloc, number)
+    tell::answer(alloc, counts.map(|_| ()))
 }
 
 // A new window. Where it is refused, one of zeros is written.
 fn made(alloc: Global, width: usize, out: &mut [u8]) -> Told {
     match ActivityWindow::new(width) {
-        Ok(window) => left(alloc, 0, window, out),
-        Err(refused) => left(alloc, refused.into(), window(&[], 0, 0, 0), out),
+        Ok(window) => left(alloc, Ok(()), window, out),
+        Err(refused) => left(alloc, Err(refused), window(&[], 0, 0, 0), out),
     }
 }
 
-// A run of minutes, so many: each word is a step more than the one before it. After a refusal no minute is pushed.
+// A run of minutes, so many: each word is a step more than the one before it. After a refusal no minute is pushed. The minutes are a number
+// and no list, so the loop is over a range; `try_fold` would lose the window that the refused minute left.
 fn minutes(alloc: Global, a: &Arguments, many: u64, out: &mut [u8]) -> Told {
     let mut word = a.word(3);
     let mut now = window_of(a, out);
     for _ in 0..many {
         match now.push_minute(word) {
             Ok(next) => now = next,
-            Err(refused) => return left(alloc, refused.into(), now, out),
+            Err(refused) => return left(alloc, Err(refused), now, out),
         }
         word = word.wrapping_add(a.word(4));
     }
-    left(alloc, 0, now, out)
+    left(alloc, Ok(()), now, out)
 }
 
 // The window whose arrays are these bytes.
@@ -81,8 +79,8 @@ fn window(bytes: &[u8], place: usize, fill: usize, width: usize) -> ActivityWind
     }
 }
 
-// The arrays of a window that a call gave are written.
-fn left(alloc: Global, number: u8, window: ActivityWindow, out: &mut [u8]) -> Told {
+// The arrays of the window that a call left are written.
+fn left(alloc: Global, r: Result<(), Refused>, window: ActivityWindow, out: &mut [u8]) -> Told {
     for (part, word) in out.chunks_mut(8).zip(window.words) {
         word::store_le_u64(part, word);
     }
@@ -91,5 +89,5 @@ fn left(alloc: Global, number: u8, window: ActivityWindow, out: &mut [u8]) -> To
     for (part, count) in rest.chunks_mut(4).zip(window.counts) {
         word::store_le_u64(part, u64::from(count));
     }
-    (window.place, window.fill, window.width).tell(Answer::new(alloc, number)?)
+    tell::left(alloc, r, (window.place, window.fill, window.width))
 }

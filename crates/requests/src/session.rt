@@ -89,10 +89,7 @@ impl Session {
         let output = reading.named.output;
         let sizes = self.lent.sizes();
         let mut ran = Ran::new();
-        for t in 0..RANGE {
-            let Some(arguments) = reading.choice(t, sizes) else {
-                break;
-            };
+        for arguments in (0..RANGE).map_while(|t| reading.choice(t, sizes)) {
             self.last.restore(output, &self.lent)?;
             let parts = self.lent.parts(arguments.sizes);
             let call = reading.named.call;

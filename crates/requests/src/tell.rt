@@ -8,7 +8,7 @@ use masks::chunks::BitChunks;
 use masks::cursor::Step;
 use masks::iterator::BitmapIter;
 use masks::next_and_not::Found;
-use masks::refusal::{Refusal, Refused};
+use masks::refusal::Refused;
 use masks::slice_iterator::{Run, SlicesIterator};
 use masks::superseding::Part;
 use masks::true_idx::TrueIdxIter;
@@ -29,7 +29,7 @@ pub(crate) fn given<T: Tell>(alloc: Global, value: T) -> Told {
 }
 
 // What a call gives, or the number of its refusal.
-pub(crate) fn answer<T: Tell>(alloc: Global, r: Result<T, Refusal>) -> Told {
+pub(crate) fn answer<T: Tell, R: Into<u8> + Drop>(alloc: Global, r: Result<T, R>) -> Told {
     match r {
         Ok(value) => given(alloc, value),
         Err(refusal) => Answer::new(alloc, refusal.into()),
@@ -40,10 +40,20 @@ pub(crate) fn answer<T: Tell>(alloc: Global, r: Result<T, Refusal>) -> Told {
 pub(crate) fn answer_back<T: Tell, S: Tell>(alloc: Global, r: Result<T, Refused<S>>) -> Told {
     match r {
         Ok(value) => given(alloc, value),
-        Err(refused) => refused
-            .state
-            .tell(Answer::new(alloc, refused.refusal.into())?),
+        Err(back) => refused(alloc, back.refusal, back.state),
     }
+}
+
+// The record that a call leaves, whether it refuses or not.
+pub(crate) fn left<S: Tell, R: Into<u8> + Drop>(alloc: Global, r: Result<(), R>, state: S) -> Told {
+    match r {
+        Ok(()) => given(alloc, state),
+        Err(refusal) => refused(alloc, refusal, state),
+    }
+}
+
+fn refused<S: Tell, R: Into<u8> + Drop>(alloc: Global, refusal: R, state: S) -> Told {
+    state.tell(Answer::new(alloc, refusal.into())?)
 }
 
 // A value of one token.
@@ -62,6 +72,13 @@ impl Single for Token {}
 impl<T: Single> Tell for T {
     fn tell(self, answer: Answer) -> Told {
         answer.and(self.into())
+    }
+}
+
+// A call that only writes gives nothing more.
+impl Tell for () {
+    fn tell(self, answer: Answer) -> Told {
+        Ok(answer)
     }
 }
 
@@ -96,6 +113,8 @@ impl<T: Tell, C: Tell> Tell for Step<T, C> {
     }
 }
 
+// A span and a run have the same fields, and so have the three cursors below. They share no trait: one that gave their fields would ask for
+// an impl of each too, as long as these.
 impl Tell for Span {
     fn tell(self, answer: Answer) -> Told {
         (self.start, self.length).tell(answer)
@@ -184,10 +203,11 @@ impl Tell for Offering {
     }
 }
 
-// A refused offer has the round's cursor, and no other record.
+// A refused offer has the round's cursor, and no other record. `NoOffer` is no `Refused` by a rule of the project: dispatch names only the
+// types of masks that combinations and searches take or give (tests/dispatch_calls.py).
 pub(crate) fn offered(alloc: Global, r: Result<Offering, NoOffer>) -> Told {
     match r {
         Ok(offering) => given(alloc, offering),
-        Err(none) => none.cursor.tell(Answer::new(alloc, none.refusal.into())?),
+        Err(none) => refused(alloc, none.refusal, none.cursor),
     }
 }

@@ -3,7 +3,7 @@ use Rattle.std.proofs.Common.{◌≡◌, refl, sym, ap, ap₂, ◌∙◌, Bool, 
 use Rattle.std.proofs.Common.{suc, ◌+◌, ◌-◌, ◌*◌, ◌/◌, ◌%◌, ◌^◌, ◌≤◌, ◌<◌, min, pow_pos, arith, length, take, take_all}
 use Rattle.std.proofs.Math.ListN.{length-reverse}
 use mathlib.Core.List.{reverse-cons}
-use Rattle.std.proofs.lemmas.List.{reverse-append, reverse-reverse, take-map}
+use Rattle.std.proofs.lemmas.List.{reverse-append, reverse-reverse}
 use Rattle.std.specs.Int.Count.{count_trailing_zeros, count_leading_zeros, under}
 use Rattle.std.proofs.lemmas.Bool.{cases_lt}
 use Rattle.words.specs.Flags.{is_one, bits, copies}
@@ -180,25 +180,17 @@ take-least d k w = ⊎_elim
     (λ (h : d ≤ k). take_all (min k d) (bits d w) (omega (arith, length-bits d w)) ∙ sym (take_all k (bits d w) (omega (arith, length-bits d w))))
     (cases_lt k d)
 
--- zeros are shifted in below them, and the zeros at the end counted, at most n
-pub trailing-shifted : (d k n v r c : ℕ) → n ≡ min k d → (n ≡ 0 → ⊥) → r ≡ v * 2 ^ (d - n) % 2 ^ d → c ≡ trailing false (bits d r)
-    → min c n ≡ trailing false (take k (bits d v))
-trailing-shifted d k n v r c e z p q =
+-- zeros are shifted in below them, and the flags alike at the end counted, at most n
+pub trailing-shifted : (x : Bool) (d k n v r c : ℕ) → n ≡ min k d → (n ≡ 0 → ⊥) → r ≡ v * 2 ^ (d - n) % 2 ^ d → c ≡ trailing x (bits d r)
+    → min c n ≡ trailing x (take k (bits d v))
+trailing-shifted x d k n v r c e z p q =
     let w : d ≡ (d - n) + n = omega arith in
     let shape : bits d r ≡ copies (d - n) false ++ bits n v =
-    ap (bits d) p ∙ bits-mod d (v * 2 ^ (d - n)) ∙ ap (λ (x : ℕ). bits x (v * 2 ^ (d - n))) w ∙ bits-shl (d - n) n v in
-    ap₂ min (q ∙ ap (trailing false) shape) (sym (length-bits n v)) ∙ trailing-last false (copies (d - n) false) (bits n v)
-    ∙ ap (trailing false) (sym (bits-take d n v (omega arith)) ∙ ap (λ (x : ℕ). take x (bits d v)) e ∙ take-least d k v)
+    ap (bits d) p ∙ bits-mod d (v * 2 ^ (d - n)) ∙ ap (λ (i : ℕ). bits i (v * 2 ^ (d - n))) w ∙ bits-shl (d - n) n v in
+    ap₂ min (q ∙ ap (trailing x) shape) (sym (length-bits n v)) ∙ trailing-last x (copies (d - n) false) (bits n v)
+    ∙ ap (trailing x) (sym (bits-take d n v (omega arith)) ∙ ap (λ (i : ℕ). take i (bits d v)) e ∙ take-least d k v)
 
 pub take_none : (x : Bool) (k : ℕ) (l : List Bool) → min k 64 ≡ 0 → 0 ≡ trailing x (take k l)
 unfolding trailing leading
 take_none x zero l e = refl
 take_none x (suc k) l e = absurd (omega arith)
-
-pub leading-inverted : (k v w r : ℕ) → bits 64 v ≡ map not (bits 64 w) → r ≡ leading false (take k (bits 64 v)) → r ≡ leading true (take k (bits 64 w))
-leading-inverted k v w r e p =
-    p ∙ ap (λ (l : List Bool). leading false (take k l)) e ∙ ap (leading false) (take-map not k (bits 64 w)) ∙ leading-not (take k (bits 64 w))
-
-pub trailing-inverted : (k v w r : ℕ) → bits 64 v ≡ map not (bits 64 w) → r ≡ trailing false (take k (bits 64 v)) → r ≡ trailing true (take k (bits 64 w))
-trailing-inverted k v w r e p =
-    p ∙ ap (λ (l : List Bool). trailing false (take k l)) e ∙ ap (trailing false) (take-map not k (bits 64 w)) ∙ trailing-not (take k (bits 64 w))

@@ -1,17 +1,19 @@
--- Loads and stores of words: byte by byte, whole in range, from any bit, and two loads that overlap. Assumes nothing.
+-- Loads and stores of words: up to eight bytes, whole in range, from any bit, and two loads that overlap. Assumes nothing.
 use Rattle.std.proofs.Common.{◌≡◌, refl, sym, ap, ap₂, ◌∙◌, subst, Bool, false, cond, ◌&&◌, List, [], ◌∷◌, ◌++◌, ⊎_elim, ℕ, zero, suc}
-use Rattle.std.proofs.Common.{◌+◌, ◌-◌, ◌*◌, ◌/◌, ◌%◌, ◌^◌, ◌≤◌, ◌<◌, le_of_lt, mod-lt, one-mul, add-one, arith, length, take, drop}
-use Rattle.std.proofs.Common.{get_or, set, length-append, length-drop, lit<, leb, ltb, drop_at, take_all, length-take-le, get_or-take}
-use Rattle.std.proofs.Common.{shl_exact, pow_pos, bit_or, lt-ltb, le-ltb, le-leb}
+use Rattle.std.proofs.Common.{◌+◌, ◌-◌, ◌*◌, ◌/◌, ◌%◌, ◌^◌, ◌≤◌, ◌<◌, le_of_lt, mod-lt, one-mul, arith, length, take, drop, add-one, bit_or}
+use Rattle.std.proofs.Common.{get_or, length-take-le, length-drop, lit<, leb, ltb, drop_at, take_all, get_or-take}
+use Rattle.std.proofs.Common.{shl_exact, pow_pos, lt-ltb, le-ltb, le-leb}
 use Rattle.std.proofs.Math.ListN.{get_or-eq_default}
 use Rattle.std.proofs.lemmas.Bool.{cases_lt}
+use Rattle.std.proofs.Math.Nat.{div-one}
+use Rattle.std.specs.Int.{w64, to_le_bytes}
 use Rattle.words.specs.Flags.{bits, word_of, flags_of, window, over, over_at}
 use Rattle.words.proofs.Bits.{length-bits, bits-add, bits-take, bits-zero, bits-mod, word_of_bits, or-append}
-use Rattle.words.proofs.Bytes.{flags-append, flags-take, flags-drop, flags-one, flags-more, flags-over, length-flags, over-part}
+use Rattle.words.proofs.Bytes.{flags-more, flags-append, flags-take, flags-drop, flags-one, length-flags, over-part}
 use Rattle.words.proofs.Windows.{window-cut, window-drop, window-past, window-ext}
-use Rattle.words.proofs.Windows.{at-window, in_window, bits-window, over_none, over_enough, set-over}
+use Rattle.words.proofs.Windows.{at-window, in_window, bits-window, ltb-sub}
 
--- ---- byte by byte
+-- ---- up to eight bytes: joined byte by byte, written as the bytes of a word
 
 -- the first i bytes, as a number
 unfoldable pub up_to : List ℕ → ℕ → ℕ
@@ -40,14 +42,9 @@ unfolding up_to
 up-all bs i w p h = ap (bits 64) (p ∙ ap (λ (l : List ℕ). word_of (flags_of l)) (take_all i bs h)) ∙ bits-window 64 (flags_of bs)
 
 -- the i low bytes of w
-unfoldable pub bytes_of : ℕ → ℕ → List ℕ
+bytes_of : ℕ → ℕ → List ℕ
 bytes_of w zero = []
 bytes_of w (suc i) = bytes_of w i ++ (w / 2 ^ (8 * i) % 256 ∷ [])
-
-length-bytes : (w i : ℕ) → length (bytes_of w i) ≡ i
-unfolding bytes_of
-length-bytes w zero = refl
-length-bytes w (suc i) = length-append (bytes_of w i) (w / 2 ^ (8 * i) % 256 ∷ []) ∙ add-one (length (bytes_of w i)) ∙ ap suc (length-bytes w i)
 
 flags-bytes : (w n : ℕ) → flags_of (bytes_of w n) ≡ bits (8 * n) w
 unfolding bytes_of flags_of bits
@@ -58,34 +55,25 @@ flags-bytes w (suc i) =
     ∙ sym (bits-add (8 * i) 8 w)
     ∙ (let e : 8 * i + 8 ≡ 8 * suc i = omega arith in ap (λ (d : ℕ). bits d w) e)
 
--- the i low bytes of w over the front of l
-unfoldable pub written : List ℕ → ℕ → ℕ → List ℕ
-written l w i = over l (bytes_of w i)
+-- the eight bytes of a word have its flags
+flags-word : (w : ℕ) → flags_of (to_le_bytes w64 w) ≡ bits 64 w
+unfolding bytes_of
+flags-word w =
+    ap (λ (x : ℕ). flags_of (x % 256 ∷ drop 1 (to_le_bytes w64 w))) (sym (div-one w)) ∙ flags-bytes w 8
 
-pub written_none : (l : List ℕ) (w : ℕ) → written l w 0 ≡ l
-unfolding written bytes_of
-written_none l w = over_none l
+pub over-take : {A : Type 0} (l m : List A) → length l ≤ length m → over l m ≡ take (length l) m
+unfolding over
+over-take [] m h = refl
+over-take (x ∷ l) [] h = absurd (omega arith)
+over-take (x ∷ l) (y ∷ m) h = ap (λ t. y ∷ t) (over-take l m (omega arith))
 
-written-more : (l : List ℕ) (w i : ℕ) → set (written l w i) i (w / 2 ^ (8 * i) % 256) ≡ written l w (i + 1)
-unfolding written bytes_of
-written-more l w i =
-    rw add-one
-    (ap (λ (n : ℕ). set (over l (bytes_of w i)) n (w / 2 ^ (8 * i) % 256)) (sym (length-bytes w i)) ∙ set-over l (bytes_of w i) (w / 2 ^ (8 * i) % 256))
-
--- one more byte is stored
-pub written_step : (l : List ℕ) (w i v : ℕ) (out out' : List ℕ) → out ≡ written l w i → v ≡ w / 2 ^ (8 * i) % 256 → out' ≡ set out i v
-    → out' ≡ written l w (i + 1)
-written_step l w i v out out' p q r = r ∙ ap₂ (λ (x : List ℕ) (y : ℕ). set x i y) p q ∙ written-more l w i
-
-pub written_all : (l : List ℕ) (w i : ℕ) (out : List ℕ) → length l ≤ 8 → length out ≡ length l
-    → out ≡ written l w i → i ≤ length out → length out ≤ i → flags_of out ≡ over (flags_of l) (bits 64 w)
-unfolding written
-written_all l w i out h e p k m =
-    let long : length (flags_of l) ≤ length (bits (8 * i) w) = rw (length-flags, length-bits) (omega arith) in
-    let n : 8 * i + (64 - 8 * i) ≡ 64 = omega arith in
-    ap flags_of p ∙ flags-over l (bytes_of w i) ∙ ap (over (flags_of l)) (flags-bytes w i)
-    ∙ sym (over_enough (flags_of l) (bits (8 * i) w) (bits (64 - 8 * i) (w / 2 ^ (8 * i))) long)
-    ∙ ap (over (flags_of l)) (sym (bits-add (8 * i) (64 - 8 * i) w) ∙ ap (λ (d : ℕ). bits d w) n)
+-- the bytes of a word over at most eight others
+pub split-all : (out new : List ℕ) (w : ℕ) → length out ≤ 8 → new ≡ take (length out) (to_le_bytes w64 w)
+    → flags_of new ≡ over (flags_of out) (bits 64 w)
+split-all out new w h p =
+    let fits : length (flags_of out) ≤ length (bits 64 w) = rw (length-flags, length-bits) (omega arith) in
+    ap flags_of p ∙ flags-take (length out) (to_le_bytes w64 w) ∙ ap₂ (λ (n : ℕ) (l : List Bool). take n l) (sym (length-flags out)) (flags-word w)
+    ∙ sym (over-take (flags_of out) (bits 64 w) fits)
 
 -- ---- a part of the bytes
 
@@ -170,10 +158,6 @@ pub at_last : (bs : List ℕ) (at s x r : ℕ) → 8 ≤ length bs → length bs
     → bits 64 r ≡ window (bits 64 x) (8 * (at + 8 - length bs) + s) 64 → bits 64 r ≡ window (flags_of bs) (8 * at + s) 64
 at_last bs at s x r h k b p u = from_end (flags_of bs) (8 * (length bs - 8)) (8 * (at + 8 - length bs) + s) (8 * at + s) x r (omega (arith, length-flags bs)) (omega arith) p u
 
-pub byte_last : (bs : List ℕ) (at x r : ℕ) → 8 ≤ length bs → length bs - at < 8 → at < length bs → bits 64 x ≡ window (flags_of bs) (8 * (length bs - 8)) 64
-    → bits 64 r ≡ window (bits 64 x) (8 * (at + 8 - length bs)) 64 → bits 64 r ≡ window (flags_of bs) (8 * at) 64
-byte_last bs at x r h k b p u = from_end (flags_of bs) (8 * (length bs - 8)) (8 * (at + 8 - length bs)) (8 * at) x r (omega (arith, length-flags bs)) (omega arith) p u
-
 pub byte_past : (bs : List ℕ) (at : ℕ) → length bs ≤ at → bits 64 0 ≡ window (flags_of bs) (8 * at) 64
 byte_past bs at h = bits-zero 64 ∙ sym (window-past (flags_of bs) (8 * at) 64 (omega (arith, length-flags bs)))
 
@@ -191,12 +175,24 @@ moved-flags l at k n x r h p q =
     ap (take n) q ∙ window-cut (bits 64 x) k 64 0 n (omega arith) ∙ ap (λ (t : List Bool). window t (k + 0) n) p
     ∙ in_window l at 64 (k + 0) n (omega arith) ∙ ap (λ (y : ℕ). window l y n) e
 
--- the flags of a span that fits the word from its first byte on
-pub near-flags : (l : List Bool) (start n x r : ℕ) → start % 8 + n ≤ 64 → bits 64 x ≡ window l (8 * (start / 8)) 64 → bits 64 r ≡ window (bits 64 x) (start % 8) 64
-    → take n (bits 64 r) ≡ window l start n
-near-flags l start n x r h p q =
-    let at : 8 * (start / 8) + start % 8 ≡ start = omega arith in
-    moved-flags l (8 * (start / 8)) (start % 8) n x r h p q ∙ ap (λ (k : ℕ). window l k n) at
+-- the flags to the end of the eight bytes in which flag `bit` stands, with zeros behind them
+pub near-all : (l : List Bool) (bit x r : ℕ) → bits 64 x ≡ window l (8 * (bit / 8)) 64 → bits 64 r ≡ window (bits 64 x) (bit % 8) 64
+    → bits 64 r ≡ window (window l bit (64 - bit % 8)) 0 64
+near-all l bit x r p q =
+    let s : ℕ = bit % 8 in
+    q ∙ ap (λ (t : List Bool). window t s 64) p
+    ∙ window-ext (window l (8 * (bit / 8)) 64) (window l bit (64 - s)) s 0 64 (λ j b.
+    let z : 0 + j ≡ j = omega arith in
+    let e : 8 * (bit / 8) + (s + j) ≡ bit + j = omega arith in
+    at-window l (8 * (bit / 8)) 64 (s + j) ∙ ap₂ (λ (t : Bool) (n : ℕ). t && get_or l n false) (sym (ltb-sub j 64 s)) e
+    ∙ sym (ap (λ (k : ℕ). get_or (window l bit (64 - s)) k false) z ∙ at-window l bit (64 - s) j))
+
+-- the first n of them
+pub near-first : (l : List Bool) (bit n r : ℕ) → bit % 8 + n ≤ 64 → bits 64 r ≡ window (window l bit (64 - bit % 8)) 0 64 → take n (bits 64 r) ≡ window l bit n
+near-first l bit n r h q =
+    let z : bit + (0 + 0) ≡ bit = omega arith in
+    ap (take n) q ∙ window-cut (window l bit (64 - bit % 8)) 0 64 0 n (omega arith) ∙ in_window l bit (64 - bit % 8) (0 + 0) n (omega arith)
+    ∙ ap (λ (k : ℕ). window l k n) z
 
 -- `&bytes[0..]` is all bytes
 pub whole_part : (bytes : List ℕ) → take (length bytes - 0) (drop 0 bytes) ≡ bytes

@@ -1,5 +1,5 @@
 -- Numbers of columns read off bit planes: digit by digit, each tested by the mask of its flag. Assumes nothing.
-use Rattle.std.proofs.Common.{◌≡◌, refl, sym, ap, ◌∙◌, Bool, cond, List, [], ◌∷◌}
+use Rattle.std.proofs.Common.{◌≡◌, refl, sym, ap, ◌∙◌, Bool, cond, List}
 use Rattle.std.proofs.Common.{ℕ, zero, suc, ◌+◌, ◌-◌, ◌*◌, ◌/◌, ◌%◌, ◌^◌, ◌≤◌, ◌<◌, pow-suc, mod-lt, zero-lt-suc}
 use Rattle.std.proofs.Common.{add-one, arith, bit_and, eqb, ⊎_elim, pow_mono, shl_exact, shr-shr, eq-eqb, ne_eqb}
 use Rattle.std.proofs.Common.{length, drop, get_or, set}
@@ -16,12 +16,6 @@ use Rattle.words.proofs.Plain.{at_bits}
 use Rattle.words.proofs.PlaneLaws.{doubled}
 
 -- ---- a column's number
-
-pub planes_lt : (ps : List ℕ) (c : ℕ) → planes_at ps c < 2 ^ length ps
-unfolding planes_at
-planes_lt [] c = omega arith
-planes_lt (p ∷ ps) c =
-    let e : 2 ^ suc (length ps) ≡ 2 ^ length ps * 2 = pow-suc 2 (length ps) in omega (arith, planes_lt ps c, digit_lt (flag p c))
 
 pub planes_down : (ps : List ℕ) (i c : ℕ) → i < length ps
     → planes_at (drop i ps) c ≡ digit (flag (get_or ps i 0) c) + 2 * planes_at (drop (suc i) ps) c
@@ -95,18 +89,29 @@ mask-digit p s c m h r a b e f g =
     g ∙ ap (λ (x : ℕ). cond (eqb x 0) 0 1) bit ∙ by_bit (h / 2 ^ c % 2) (2 ^ c) (mod-lt (h / 2 ^ c) (zero-lt-suc 1)) (omega arith)
     ∙ ap (λ (x : ℕ). x / 2 ^ c % 2) f ∙ half-bit p s c b ∙ digit_shift p (s + c) (omega arith)
 
--- one digit more of the sum is written, and the sum fits
+-- one digit more of the sum is written
 pub digit_more : (ps : List ℕ) (c i s d t : ℕ) → length ps ≡ 9 → i < length ps → s + 2 ^ i * planes_at (drop i ps) c ≡ planes_at ps c
-    → d ≡ digit (flag (get_or ps i 0) c) → t ≡ d * 2 ^ i % 2 ^ 32
-    → (s + t + 2 ^ (i + 1) * planes_at (drop (i + 1) ps) c ≡ planes_at ps c) × (s + t < 512)
+    → d ≡ digit (flag (get_or ps i 0) c) → t ≡ d * 2 ^ i % 2 ^ 32 → s + t + 2 ^ (i + 1) * planes_at (drop (i + 1) ps) c ≡ planes_at ps c
 digit_more ps c i s d t long h e f g =
     let one : d < 2 ^ 1 = omega (arith, f, digit_lt (flag (get_or ps i 0) c)) in
     let all : t ≡ d * 2 ^ i = g ∙ shl_exact 1 i 32 one (omega arith) in
-    let sum : s + d * 2 ^ i + 2 ^ (i + 1) * planes_at (drop (i + 1) ps) c ≡ planes_at ps c = digits_more ps c i s d h e f in
-    let last : s + t + 2 ^ (i + 1) * planes_at (drop (i + 1) ps) c ≡ planes_at ps c =
-    ap (λ (n : ℕ). s + n + 2 ^ (i + 1) * planes_at (drop (i + 1) ps) c) all ∙ sum in
-    let most : planes_at ps c < 2 ^ 9 = rw long at (planes_lt ps c) in
-    (last, omega arith)
+    ap (λ (n : ℕ). s + n + 2 ^ (i + 1) * planes_at (drop (i + 1) ps) c) all ∙ digits_more ps c i s d h e f
+
+-- a digit more keeps a sum of i digits below the next power of two, and of nine digits below 512
+pub sum_more : (i s d t : ℕ) → s < 2 ^ i → i < 9 → d < 2 → t ≡ d * 2 ^ i % 2 ^ 32 → (s + t < 2 ^ (i + 1)) × (s + t < 512)
+sum_more i s d t h b k g =
+    let all : t ≡ d * 2 ^ i = g ∙ shl_exact 1 i 32 k (omega arith) in
+    let next : 2 ^ (i + 1) ≡ 2 ^ i * 2 = ap (λ (n : ℕ). 2 ^ n) (add-one i) ∙ pow-suc 2 i in
+    let low : i + 1 ≤ 9 = omega arith in
+    let most : 2 ^ (i + 1) ≤ 2 ^ 9 = pow_mono low in
+    let part : d * 2 ^ i ≤ 2 ^ i = one_of d (2 ^ i) k in
+    let sum : s + t < 2 ^ (i + 1) = omega arith in
+    (sum, omega arith)
+  where
+    one_of : (d m : ℕ) → d < 2 → d * m ≤ m
+    one_of zero m h = omega arith
+    one_of (suc zero) m h = omega arith
+    one_of (suc (suc d)) m h = absurd (omega arith)
 
 pub digits_none : (ps : List ℕ) (c : ℕ) → 0 + 2 ^ 0 * planes_at (drop 0 ps) c ≡ planes_at ps c
 digits_none ps c = omega arith
@@ -127,7 +132,6 @@ mask_value c h =
 pub column_more : (ps : List ℕ) (s c i sum m h r : ℕ) → length ps ≡ 9 → i < 9 → s ≤ 32 → c < 32 → m ≡ 2 ^ c
     → sum + 2 ^ i * planes_at (drop i ps) (s + c) ≡ planes_at ps (s + c) → h ≡ get_or ps i 0 / 2 ^ s % 2 ^ 32
     → r ≡ cond (eqb (bit_and h m) 0) 0 1
-    → (sum + r * 2 ^ i % 2 ^ 32 + 2 ^ (i + 1) * planes_at (drop (i + 1) ps) (s + c) ≡ planes_at ps (s + c))
-    × (sum + r * 2 ^ i % 2 ^ 32 < 512)
+    → sum + r * 2 ^ i % 2 ^ 32 + 2 ^ (i + 1) * planes_at (drop (i + 1) ps) (s + c) ≡ planes_at ps (s + c)
 column_more ps s c i sum m h r long p a b e inv f g =
     digit_more ps (s + c) i sum r (r * 2 ^ i % 2 ^ 32) long (omega arith) inv (mask-digit (get_or ps i 0) s c m h r a b e f g) refl

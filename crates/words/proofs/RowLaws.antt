@@ -1,13 +1,13 @@
 -- Words added flag by flag, seven rows of words counted side by side, and the parts of a stretch that is counted. Assumes nothing.
-use Rattle.std.proofs.Common.{◌≡◌, refl, sym, ap, ◌∙◌, Bool, false, List, [], ◌∷◌, ℕ, suc, ◌+◌, ◌-◌, ◌*◌, ◌≤◌, ◌<◌}
+use Rattle.std.proofs.Common.{◌≡◌, refl, sym, ap, ◌∙◌, Bool, false, List, [], ◌∷◌, ℕ, suc, ◌+◌, ◌-◌, ◌*◌, ◌%◌, ◌≤◌, ◌<◌}
 use Rattle.std.proofs.Common.{arith, length, take, get_or, take_all, ⊎_elim}
 use Rattle.std.proofs.lemmas.Bool.{cases_lt}
 use Rattle.words.specs.Flags.{bits, count, digit, window}
 use Rattle.words.specs.Planes.{Added}
 use Rattle.words.proofs.Bits.{length-bits}
-use Rattle.words.proofs.Counting.{count_add, count-le, count_none, count_past, count-within, count_word}
-use Rattle.words.proofs.Loads.{moved-flags}
-use Rattle.words.proofs.Windows.{in_window, window-cut}
+use Rattle.words.proofs.Counting.{count_add, count-le, count_none, count-padded, count_past, count-within, count_word}
+use Rattle.words.proofs.Loads.{near-first}
+use Rattle.words.proofs.Windows.{length-window, window-cut}
 
 -- ---- words added flag by flag
 
@@ -138,18 +138,13 @@ count-first-flags l bit k w c h p e = ⊎_elim
     e ∙ ap count (ap (take k) p ∙ window-cut l bit 64 0 k (omega arith)) ∙ ap (λ (x : ℕ). count (window l x k)) z)
     (cases_lt 64 k)
 
--- of a word moved down by k flags
-pub count-moved : (l : List Bool) (at k n b x r c : ℕ) → k + n ≤ 64 → bits 64 x ≡ window l at 64 → bits 64 r ≡ window (bits 64 x) k 64 → c ≡ count (take n (bits 64 r)) → at + k ≡ b
-    → c ≡ count (window l b n)
-count-moved l at k n b x r c h p q e f = e ∙ ap count (moved-flags l at k n x r h p q) ∙ ap (λ (y : ℕ). count (window l y n)) f
+-- the flags of a near word: the first n of them, or all
+pub count-near : (l : List Bool) (bit n w c : ℕ) → bit % 8 + n ≤ 64 → bits 64 w ≡ window (window l bit (64 - bit % 8)) 0 64
+    → c ≡ count (take n (bits 64 w)) → c ≡ count (window l bit n)
+count-near l bit n w c h p e = e ∙ ap count (near-first l bit n w h p)
 
--- all of its flags
-pub count-moved-all : (l : List Bool) (at k b x r c : ℕ) → k ≤ 64 → bits 64 x ≡ window l at 64 → bits 64 r ≡ window (bits 64 x) k 64 → c ≡ count (bits 64 r) → at + k ≡ b
-    → c ≡ count (window l b (64 - k))
-count-moved-all l at k b x r c h p q e f =
-    let inside : count (window (bits 64 x) k (64 - k)) ≡ count (window l b (64 - k)) =
-    ap (λ (t : List Bool). count (window t k (64 - k))) p ∙ ap count (in_window l at 64 k (64 - k) (omega arith)) ∙ ap (λ (y : ℕ). count (window l y (64 - k))) f in
-    let cut : count (window (bits 64 x) k 64) ≡ count (window (bits 64 x) k (64 - k)) + count (window (bits 64 x) 64 k) = count-two (bits 64 x) k 64 (64 - k) k 64 (omega arith) (omega arith) in
-    let past : count (window (bits 64 x) 64 k) ≡ 0 = count_past (bits 64 x) 64 k (omega (arith, length-bits 64 x)) in
-    let all : count (bits 64 r) ≡ count (window (bits 64 x) k 64) = ap count q in
-    omega arith
+pub count-near-all : (l : List Bool) (bit n w c : ℕ) → n ≡ 64 - bit % 8 → bits 64 w ≡ window (window l bit (64 - bit % 8)) 0 64
+    → c ≡ count (bits 64 w) → c ≡ count (window l bit n)
+count-near-all l bit n w c h p e =
+    e ∙ ap count p ∙ count-padded (window l bit (64 - bit % 8)) 64 (omega (arith, length-window l bit (64 - bit % 8)))
+    ∙ ap (λ (k : ℕ). count (window l bit k)) (sym h)

@@ -14,7 +14,7 @@ use Rattle.words.specs.Uniform.{all_are, differs_early}
 use Rattle.words.proofs.AnyFlag.{any-add, any-copies, any-padded}
 use Rattle.words.proofs.Bits.{length-bits}
 use Rattle.words.proofs.Counting.{count-le, span-word}
-use Rattle.words.proofs.Loads.{near-flags}
+use Rattle.words.proofs.Loads.{near-first}
 use Rattle.words.proofs.Windows.{in_window, length-window, window-add, window-cut, window-past}
 
 -- ---- by the flag
@@ -127,9 +127,9 @@ first-are x l at n w t h p e =
     let z : at + 0 ≡ at = omega arith in
     e ∙ ap (λ (m : List Bool). all_are x (take n m)) p ∙ ap (all_are x) (window-cut l at 64 0 n (omega arith)) ∙ ap (λ (y : ℕ). all_are x (window l y n)) z
 
-pub near-are : (x : Bool) (l : List Bool) (start n v w : ℕ) (t : Bool) → start % 8 + n ≤ 64 → bits 64 v ≡ window l (8 * (start / 8)) 64
-    → bits 64 w ≡ window (bits 64 v) (start % 8) 64 → t ≡ all_are x (take n (bits 64 w)) → t ≡ all_are x (window l start n)
-near-are x l start n v w t h p q e = e ∙ ap (all_are x) (near-flags l start n v w h p q)
+pub near-are : (x : Bool) (l : List Bool) (start n w : ℕ) (t : Bool) → start % 8 + n ≤ 64 → bits 64 w ≡ window (window l start (64 - start % 8)) 0 64
+    → t ≡ all_are x (take n (bits 64 w)) → t ≡ all_are x (window l start n)
+near-are x l start n w t h p e = e ∙ ap (all_are x) (near-first l start n w h p)
 
 -- the first flags of a list's window, those past its end left out: they are not set
 any-inside : (l : List Bool) (s n : ℕ) → length l ≡ 64 → s ≤ 64 → any_set (take n (window l s 64)) ≡ any_set (window l s (min n (64 - s)))

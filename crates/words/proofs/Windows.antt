@@ -6,7 +6,6 @@ use Rattle.std.proofs.Common.{le-ltb}
 use Rattle.std.proofs.Math.Arith.{digits_div, digits_mod}
 use Rattle.std.proofs.Math.Dec.{leb-suc-suc}
 use Rattle.std.proofs.Math.ListN.{get_or-eq_default}
-pub use Rattle.std.proofs.lemmas.Bool.{cases_lt as lt-or-le}
 use Rattle.std.proofs.lemmas.Bool.{cases_lt}
 use Rattle.words.specs.Flags.{is_one, bits, word_of, copies, window, over, over_at}
 use Rattle.words.proofs.Bits.{bits-zero, digit_lt, is_one-digit, word_of_bits, word_of_lt}

@@ -1,10 +1,12 @@
 -- Loops that write a word a turn: F is the output's flags at first, G what is written over them, zeros past its end. Assumes nothing.
-use Rattle.std.proofs.Common.{◌≡◌, sym, ap, ap₂, ◌∙◌, Bool, false, List, ⊎_elim, ℕ, ◌+◌, ◌-◌, ◌*◌, ◌/◌, ◌%◌, ◌≤◌, ◌<◌, arith, length}
-use Rattle.std.proofs.Common.{take, get_or, lt-ltb, le-ltb}
+use Rattle.std.proofs.Common.{◌≡◌, sym, ap, ap₂, ◌∙◌, Bool, false, List, ◌++◌, ⊎_elim, ℕ, ◌+◌, ◌-◌, ◌*◌, ◌/◌, ◌%◌, ◌≤◌, ◌<◌, arith, length}
+use Rattle.std.proofs.Common.{take, drop, get_or, replicate, [], append-nil, drop_of_length-le, zero, suc, refl, ◌∷◌, zero-add, suc-add, take_all, le_of_eq, length-take-le, lt-ltb, le-ltb}
 use Rattle.std.proofs.Math.ListN.{get_or-eq_default}
 use Rattle.std.proofs.lemmas.Bool.{cases_lt}
 use Rattle.words.specs.Flags.{bits, copies, flags_of, window, over, over_at}
 use Rattle.words.specs.Loops.{whole_words}
+use Rattle.words.proofs.Bytes.{length-flags, over-part}
+use Rattle.words.proofs.Loads.{over-take}
 use Rattle.words.proofs.Windows.{length-copies, at_copies, length-window, window-add, window-all, window-ext, at_take, over_none, over-more, over_enough}
 
 pub write-none : (F G : List Bool) → F ≡ over F (window G 0 0)
@@ -29,10 +31,6 @@ pub write-all : (F G : List Bool) (i n : ℕ) (out : List ℕ) → flags_of out 
 write-all F G i n out p l h k =
     let e : 64 * i ≡ length G = omega arith in
     p ∙ ap (λ (x : ℕ). over F (window G 0 x)) e ∙ ap (over F) (window-all G)
-
--- words of a flag, whose number is known by another name
-pub write_words : (F : List Bool) (n m : ℕ) (x : Bool) (out : List ℕ) → flags_of out ≡ over F (copies (64 * n) x) → n ≡ m → flags_of out ≡ over F (copies (64 * m) x)
-write_words F n m x out p e = p ∙ ap (λ (k : ℕ). over F (copies (64 * k) x)) e
 
 -- all words of a stretch that is whole words
 pub write-stretch : (F l : List Bool) (k x len n : ℕ) (out : List ℕ) → flags_of out ≡ over F (window l x n)
@@ -82,3 +80,35 @@ unfolding whole_words
 write-nothing F G len l h =
     let e : 0 ≡ 64 * ((length G + 63) / 64) = omega arith in
     write-none F G ∙ ap (λ (n : ℕ). over F (window G 0 n)) e
+
+-- bytes that have one flag
+copies-add : (m n : ℕ) (x : Bool) → copies (m + n) x ≡ copies m x ++ copies n x
+unfolding copies
+copies-add zero n x = rw zero-add refl
+copies-add (suc m) n x = rw suc-add (ap (λ (l : List Bool). x ∷ l) (copies-add m n x))
+
+flags-same : (n b : ℕ) (x : Bool) → bits 8 b ≡ copies 8 x → flags_of (replicate n b) ≡ copies (8 * n) x
+unfolding flags_of copies
+flags-same zero b x h = refl
+flags-same (suc n) b x h =
+    let e : 8 * suc n ≡ 8 + 8 * n = omega arith in
+    ap₂ (λ (l m : List Bool). l ++ m) h (flags-same n b x h) ∙ sym (ap (λ (k : ℕ). copies k x) e ∙ copies-add 8 (8 * n) x)
+
+-- bytes written one by one: all
+pub filled_all : (l out : List ℕ) (i b : ℕ) (x : Bool) → out ≡ replicate i b ++ drop i l → i ≡ length l → bits 8 b ≡ copies 8 x
+    → flags_of out ≡ copies (8 * length l) x
+filled_all l out i b x p e h =
+    let rest : drop i l ≡ [] = drop_of_length-le l (le_of_eq (sym e)) in
+    ap flags_of (p ∙ ap (λ (m : List ℕ). replicate i b ++ m) rest ∙ append-nil (replicate i b)) ∙ flags-same i b x h ∙ ap (λ (n : ℕ). copies (8 * n) x) e
+
+-- a flag, written over the bytes that n words take
+pub fill-front : (n m : ℕ) (x : Bool) (out part : List ℕ) → 8 * n ≤ length out → n ≡ m → flags_of part ≡ copies (8 * length (take (8 * n) out)) x
+    → flags_of (part ++ drop (8 * n) out) ≡ over (flags_of out) (copies (64 * m) x)
+fill-front n m x out part h e p =
+    let long : length (take (8 * n) out) ≡ 8 * n = length-take-le (8 * n) out h in
+    let q : 8 * length (take (8 * n) out) ≡ 64 * m = omega arith in
+    let r : length (copies (64 * m) x) ≡ 8 * (8 * n) = length-copies (64 * m) x ∙ omega arith in
+    let s : length (flags_of (take (8 * n) out)) ≡ length (copies (64 * m) x) = length-flags (take (8 * n) out) ∙ q ∙ sym (length-copies (64 * m) x) in
+    over-part (8 * n) (copies (64 * m) x) out part h r
+    (p ∙ ap (λ (k : ℕ). copies k x) q ∙ sym (take_all (length (flags_of (take (8 * n) out))) (copies (64 * m) x) (le_of_eq (sym s)))
+    ∙ sym (over-take (flags_of (take (8 * n) out)) (copies (64 * m) x) (le_of_eq s)))

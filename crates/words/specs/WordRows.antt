@@ -8,7 +8,7 @@ use Rattle.words.specs.Counts.{any_set, same_flags}
 use Rattle.words.specs.Flags.{copies, digit, over_at}
 use Rattle.words.specs.Loops.{combined, whole_words}
 use Rattle.words.specs.Merge.{merged}
-use Rattle.words.specs.Uniform.{all_are}
+use Rattle.words.specs.Uniform.{all_are, differs_early}
 use Rattle.words.specs.declared.ops.Op.TheVariants.{AndNot, Not, Select}
 
 pub record Row : Type 0 where
@@ -49,6 +49,10 @@ rows =
     -- Are all flags one flag: of ones, of zeros, of both, of none.
     ∷ row (all_are true (true ∷ true ∷ []) ∷ all_are false (false ∷ false ∷ []) ∷ all_are true (true ∷ false ∷ []) ∷ all_are false (true ∷ false ∷ []) ∷ [])
     (1 ∷ 1 ∷ 0 ∷ 0 ∷ [])
+    -- Is one of the first flags not set: of fewer than eight bytes no; of eight flags from 4 on, of four, and of four again.
+    ∷ row (differs_early true (0 ∷ []) 0 4 ∷ differs_early true (0xF0 ∷ replicate 7 0xFF) 4 8
+    ∷ differs_early true (0x0F ∷ replicate 7 0) 0 4 ∷ differs_early true (0x07 ∷ replicate 7 0) 0 4 ∷ [])
+    (0 ∷ 0 ∷ 0 ∷ 1 ∷ [])
     -- The flags 0, 1 and 2 of the word 5 as numbers.
     ∷ record { computed = digit_of 5 0 ∷ digit_of 5 1 ∷ digit_of 5 2 ∷ []; stated = 1 ∷ 0 ∷ 1 ∷ [] }
     ∷ []

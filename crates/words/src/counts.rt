@@ -11,9 +11,9 @@ use crate::flags::Flags;
 use crate::kernels::{Count, Join, copy_words, each};
 use crate::lanes::{Aligned, Lane, Lanes, Shifted};
 use crate::loops::{copy, room, triple_word, words_for};
-use crate::ops::Op;
+use crate::ops::{Op, combine_word};
 use crate::rows::Countable;
-use crate::word::{byte_word, down, ones_below, ones_in_word};
+use crate::word::{byte_word, down, near_word, ones_below, ones_in_word};
 
 // How many flags of a stretch are set. Whole words from a byte on, all in range, are counted with no look for partial ones. What is
 // rare is outside this body and gets a slice or a record of its own, so that the slice given here stays in registers. The choice
@@ -50,7 +50,7 @@ fn count_mixed(bytes: &[u8], start: usize, len: usize) -> usize
     ensures { result ≡ count (stretch bytes.now start len) }
 {
     let k = 64 - start % 8;
-    let w = down(byte_word(bytes, start / 8), start % 8);
+    let w = near_word(bytes, start);
     if len <= k {
         return ones_below(w, len);
     }
@@ -105,24 +105,16 @@ fn reach(x: usize, y: usize, z: usize) -> usize
 fn past_end(op: Op) -> bool
     ensures { result ≡ op_of op false false false }
 {
-    // a `match`: each arm names the flag of one operation
-    match op {
-        Op::And => false,
-        Op::AndNot => false,
-        Op::Or => false,
-        Op::OrNot => true,
-        Op::Xor => false,
-        Op::Not => true,
-        Op::Select => false,
-    }
+    is_set(combine_word(op, 0, 0, 0))
 }
 
-// Counts the ones among the `len` flags after the first n words, all of which equal `flag`.
+// Counts the ones among the `len` flags after the first n words, all of which equal `flag`. 64 * n may be past the largest number, so n is
+// tested first: with `saturating_mul` and `usize::from(flag)` in place of the test 1000 flags take 1.02 of the instructions.
 fn ones_behind(flag: bool, len: usize, n: usize) -> usize
     ensures { result ≡ (len - 64 * n) * digit flag }
 {
-    if flag {
-        if n <= len / 64 { len - 64 * n } else { 0 }
+    if flag && n <= len / 64 {
+        len - 64 * n
     } else {
         0
     }
@@ -132,7 +124,7 @@ fn ones_behind(flag: bool, len: usize, n: usize) -> usize
 fn any_behind(flag: bool, len: usize, n: usize) -> bool
     ensures { result ≡ (ltb (64 * n) len && flag) }
 {
-    flag && n <= len / 64 && 64 * n < len
+    flag && n.saturating_mul(64) < len
 }
 
 // Returns whether any flag of a word is set.
@@ -149,7 +141,9 @@ pub fn none_from(w: u64, k: usize) -> bool
     !is_set(down(w, k))
 }
 
-// Counts the ones of a combination of three stretches.
+// Counts the ones of a combination of three stretches. The operation, the operands and the length are parameters here and in `loops`: a
+// struct of the five would be built in each call and taken apart again in each clause. It begins as `any_set` does: of at most a word the
+// two share `triple_word`, and a function that makes the lanes would promise in four clauses what four lines say.
 pub fn count_ones_of<'a>(op: Op, a: &Flags<'a>, b: &Flags<'a>, c: &Flags<'a>, len: usize) -> usize
     ensures { result ≡ count
         (combined op a.now.bytes.now a.now.start b.now.bytes.now b.now.start c.now.bytes.now c.now.start len) }
@@ -177,7 +171,7 @@ fn any_whole<A: Lane, B: Lane, C: Lane>(op: Op, lanes: &Lanes<A, B, C>) -> bool
 {
     let n = lanes.n;
     let mut i = 0;
-    // block by block, the last of which is shorter
+    // block by block, the last of which is shorter: with `step_by(64)` 65,536 flags take 1.04 of the instructions
     while i < n {
         let k = (n - i).min(64);
         let block = lanes.part(i, k);

@@ -1,15 +1,20 @@
 // The flags that are alike at either end of a word.
-ghost use Rattle.std.specs.Prelude.{◌≡◌, false, take};
+ghost use Rattle.std.specs.Prelude.{◌≡◌, true, false, take};
 ghost use Rattle.words.specs.Flags.{word_flags};
 ghost use Rattle.words.specs.Ends.{leading, trailing};
-
-use crate::ops::not_word;
 
 // Counts the trailing zero bits of a word, which are its first flags. To usize, here and below: there is no From; a number up to 64 fits.
 fn front_zeros(w: u64) -> usize
     ensures { result ≡ leading false (word_flags w) }
 {
     w.trailing_zeros() as usize
+}
+
+// Counts the trailing one bits.
+fn front_ones(w: u64) -> usize
+    ensures { result ≡ leading true (word_flags w) }
+{
+    w.trailing_ones() as usize
 }
 
 // Counts the leading zero bits of a word, which are its last flags.
@@ -19,12 +24,19 @@ fn end_zeros(w: u64) -> usize
     w.leading_zeros() as usize
 }
 
+// Counts the leading one bits.
+fn end_ones(w: u64) -> usize
+    ensures { result ≡ trailing true (word_flags w) }
+{
+    w.leading_ones() as usize
+}
+
 // Counts how many of the first k flags of w equal `flag` before the first that differs.
 pub fn leading_in_word(flag: bool, w: u64, k: usize) -> usize
     ensures { result ≡ leading flag (take k (word_flags w)) }
 {
     if flag {
-        front_zeros(not_word(w)).min(k)
+        front_ones(w).min(k)
     } else {
         front_zeros(w).min(k)
     }
@@ -39,7 +51,7 @@ pub fn trailing_in_word(flag: bool, w: u64, k: usize) -> usize
         return 0;
     }
     if flag {
-        end_zeros(not_word(w) << (64 - n)).min(n)
+        end_ones(w << (64 - n)).min(n)
     } else {
         end_zeros(w << (64 - n)).min(n)
     }

@@ -33,7 +33,8 @@ pub(crate) trait Lane: Drop {
         ensures words { words result + i ≡ words self.now };
 }
 
-// n words from a byte on.
+// n words from a byte on. Not a slice of arrays of eight bytes (`as_chunks`): for that `at` has to be cut to the length of the bytes first,
+// and counting 40 flags takes 1.02 of the instructions.
 #[derive(Clone, Copy)]
 pub(crate) struct Aligned<'a> {
     pub(crate) bytes: &'a [u8],

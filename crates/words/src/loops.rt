@@ -5,7 +5,7 @@ ghost use Rattle.words.specs.Flags.{word_flags, copies, flags_of, over, window};
 ghost use Rattle.words.specs.Loops.{stretch, combined, whole_words};
 
 use crate::flags::Flags;
-use crate::kernels::{Combine, each, fill_words};
+use crate::kernels::{Combine, each, fill_bytes};
 use crate::lanes::{Aligned, Lane, Lanes, Shifted};
 use crate::ops::{Op, combine_word};
 use crate::word::{constant_word, low_flags, store_at, store_le_u64};
@@ -143,7 +143,7 @@ pub fn fill(flag: bool, len: usize, out: &mut [u8])
     ensures { flags_of out.new ≡ over (flags_of out.old) (whole_words (copies len flag)) }
 {
     let n = (len / 64).min(out.len() / 8);
-    fill_words(flag, n, out);
+    fill_bytes(flag, &mut out[..8 * n]);
     let done = 64 * n;
     if done < len {
         store_at(out, 8 * n, low_flags(constant_word(flag), len - done));
@@ -155,5 +155,5 @@ pub fn fill_whole(flag: bool, words: usize, out: &mut [u8])
     ensures { flags_of out.new ≡ over (flags_of out.old) (copies (64 * min words (length out.old / 8)) flag) }
 {
     let n = words.min(out.len() / 8);
-    fill_words(flag, n, out);
+    fill_bytes(flag, &mut out[..8 * n]);
 }

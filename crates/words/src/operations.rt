@@ -30,7 +30,7 @@ pub(crate) struct Not;
 
 pub(crate) struct Select;
 
-// Seven impls that differ in a name: a macro of the repository may write no impl, and a const parameter is no enum.
+// The seven impls differ in one name. A macro of this repository cannot write an `impl`, and an enum cannot be a const parameter.
 impl Operation for And {
     ghost op = { And };
 

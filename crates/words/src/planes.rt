@@ -1,6 +1,6 @@
 // Bit planes: plane i has digit i of 64 numbers, so that a word is added to all 64 with a few operations. Everything is in range
 // by `requires`: nine planes hold numbers below 512.
-ghost use Rattle.std.specs.Prelude.{◌≡◌, cond, [], ◌+◌, ◌/◌, ◌%◌, ◌^◌, ◌<◌, ◌≤◌, eqb, length};
+ghost use Rattle.std.specs.Prelude.{◌≡◌, cond, [], ℕ, ◌+◌, ◌/◌, ◌%◌, ◌^◌, ◌<◌, ◌≤◌, eqb, length};
 ghost use Rattle.std.specs.Int.Bits.{bit_and};
 ghost use Rattle.words.specs.Columns.{digit_of};
 ghost use Rattle.words.specs.Planes.{planes_at, added, Added, FourMore, Grown, Masks, Totals, Wrote};
@@ -10,7 +10,7 @@ fn add(planes: &mut [u64], w: u64)
     ensures { planes.new ≡ added planes.old w }
 {
     let mut carry = w;
-    for (i, plane) in planes.iter_mut().enumerate() {
+    for plane in planes.iter_mut() {
         let p = *plane;
         *plane = p ^ carry;
         carry = p & carry;
@@ -112,13 +112,13 @@ fn masks() -> [u32; 32]
 fn digit_by(half: u32, mask: u32) -> u32
     ensures { (result ≡ cond (eqb (bit_and half mask) 0) 0 1) × (result < 2) }
 {
-    if half & mask == 0 { 0 } else { 1 }
+    u32::from(half & mask != 0)
 }
 
 // Returns the number of column s + c, where the mask has flag c alone.
-fn column_by(planes: &[u64; 9], s: usize, c: usize, mask: u32) -> u32
-    requires { (s ≤ 32) × (c < 32) × (mask ≡ 2 ^ c) }
-    ensures { result ≡ planes_at planes.now (s + c) }
+fn column_by(planes: &[u64; 9], s: usize, mask: u32) -> u32
+    requires { s ≤ 32 }
+    ensures { (c : ℕ) → c < 32 → mask ≡ 2 ^ c → result ≡ planes_at planes.now (s + c) }
 {
     let mut sum: u32 = 0;
     for (i, p) in planes.iter().enumerate() {
@@ -135,7 +135,7 @@ fn spread_half(planes: &[u64; 9], masks: &[u32; 32], s: usize, out: &mut [u32])
     ensures { Wrote planes.now s out.new 32 }
 {
     for (c, number) in out.iter_mut().enumerate() {
-        *number = column_by(planes, s, c, masks[c]);
+        *number = column_by(planes, s, masks[c]);
     }
 }
 

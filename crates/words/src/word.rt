@@ -1,8 +1,9 @@
 // A word: loads, stores, its low flags and its ones. Loads and stores that lie in range by `requires` are private to the crate.
-ghost use Rattle.std.specs.Prelude.{false, cond, ◌≡◌, ◌++◌, ◌+◌, ◌*◌, ◌≤◌, leb, length, take, get_or};
+ghost use Rattle.std.specs.Prelude.{false, cond, ◌≡◌, ◌++◌, ◌+◌, ◌-◌, ◌*◌, ◌%◌, ◌≤◌, ◌<◌, leb, length, take, get_or};
 ghost use Rattle.words.specs.Flags.{word_flags, copies, flags_of, count, over, over_at, window};
 
-// Joins up to eight bytes into a word. Compiles to one load if the length is known to be eight.
+// Joins up to eight bytes into a word. Compiles to one load if the length is known to be eight. Not by `u64::from_le_bytes`: a part shorter
+// than eight bytes is then copied into an array by a call, and `get_u32` takes 1.19 of the instructions, `count_zeros` of 40 flags 1.05.
 fn join(part: &[u8]) -> u64
     requires { length part.now ≤ 8 }
     ensures { word_flags result ≡ window (flags_of part.now) 0 64 }
@@ -19,10 +20,8 @@ fn split(out: &mut [u8], w: u64)
     requires { length out.old ≤ 8 }
     ensures { flags_of out.new ≡ over (flags_of out.old) (word_flags w) }
 {
-    for (i, b) in out.iter_mut().enumerate() {
-        // to u8: there is no From; a byte fits
-        *b = ((w >> (8 * i)) % 256) as u8;
-    }
+    let n = out.len();
+    out.copy_from_slice(&w.to_le_bytes()[..n]);
 }
 
 // Loads the first eight bytes as a word, padding a shorter slice with zeros.
@@ -56,8 +55,8 @@ pub fn store_at(out: &mut [u8], at: usize, w: u64)
     }
 }
 
-// The same where there is room for all eight; else nothing is written. For callers that know that there is: a part of a word,
-// which is written byte by byte, would make the code that stands in their bodies several times as long.
+// The same where there is room for all eight; else nothing is written. For callers that know that there is room: in `store_at` the call
+// that writes a part of a word would stand in their bodies too.
 pub fn store_whole(out: &mut [u8], at: usize, w: u64)
     ensures { flags_of out.new ≡ cond (leb (at + 8) (length out.old))
         (over_at (flags_of out.old) (8 * at) (word_flags w)) (flags_of out.old) }
@@ -71,8 +70,8 @@ pub fn store_whole(out: &mut [u8], at: usize, w: u64)
     put_word(out, at, w);
 }
 
-// Loads the eight bytes at `at`, which are in range. That they are is asked three times, by no type: a place and bytes are what an index
-// takes, and a struct of the two would be made for each load.
+// Loads the eight bytes at `at`, which are in range. The four functions that take a place in range ask for it by `requires`: a type for
+// it would be a struct of the bytes and the place, built before each load.
 fn eight_bytes(bytes: &[u8], at: usize) -> u64
     requires { at + 8 ≤ length bytes.now }
     ensures { word_flags result ≡ window (flags_of bytes.now) (8 * at) 64 }
@@ -122,8 +121,7 @@ pub fn up(w: u64, k: usize) -> u64
     if k < 64 { w << k } else { 0 }
 }
 
-// The 64 flags from the flag 8 * at + s on, zeros past the end. Near the end the last eight bytes are loaded, if there are so
-// many: the bytes of a mask are whole words, so this is the usual case.
+// Reads the 64 flags from the flag 8 * at + s on, with zeros past the end. `byte_word` is not this with s = 0: it takes one load, this two.
 pub(crate) fn word_at(bytes: &[u8], at: usize, s: usize) -> u64
     requires { s ≤ 8 }
     ensures { word_flags result ≡ window (flags_of bytes.now) (8 * at + s) 64 }
@@ -135,13 +133,23 @@ pub(crate) fn word_at(bytes: &[u8], at: usize, s: usize) -> u64
     if 9 <= n - at {
         return shifted_word(bytes, at, s);
     }
+    last_word(bytes, at, s)
+}
+
+// Reads the flags from the flag 8 * at + s on where at most eight bytes are left, with zeros past the end: the last eight bytes are
+// loaded, or all where there are fewer, and shifted.
+fn last_word(bytes: &[u8], at: usize, s: usize) -> u64
+    requires { (at < length bytes.now) × ((length bytes.now ≤ at + 8) × (s ≤ 8)) }
+    ensures { word_flags result ≡ window (flags_of bytes.now) (8 * at + s) 64 }
+{
+    let n = bytes.len();
     if n < 8 {
         return down(join(bytes), 8 * at + s);
     }
     down(full_word(bytes, n - 8), 8 * (at + 8 - n) + s)
 }
 
-// Reads the eight bytes at `at`, with zeros past the end. Near the end it loads the last eight bytes and shifts.
+// Reads the eight bytes at `at`, with zeros past the end.
 pub fn byte_word(bytes: &[u8], at: usize) -> u64
     ensures { word_flags result ≡ window (flags_of bytes.now) (8 * at) 64 }
 {
@@ -152,10 +160,14 @@ pub fn byte_word(bytes: &[u8], at: usize) -> u64
     if 8 <= n - at {
         return full_word(bytes, at);
     }
-    if n < 8 {
-        return down(join(bytes), 8 * at);
-    }
-    down(full_word(bytes, n - 8), 8 * (at + 8 - n))
+    last_word(bytes, at, 0)
+}
+
+// Reads the flags from flag `bit` to the end of the eight bytes in which it stands, at least 57, then zeros: by one load.
+pub fn near_word(bytes: &[u8], bit: usize) -> u64
+    ensures { word_flags result ≡ window (window (flags_of bytes.now) bit (64 - bit % 8)) 0 64 }
+{
+    down(byte_word(bytes, bit / 8), bit % 8)
 }
 
 // Reads the 64 flags starting at flag `bit`, with zeros past the end.

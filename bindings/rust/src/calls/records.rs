@@ -1,5 +1,6 @@
-//! The records that cross. In each answer `refusal` is the number of the first check that failed, or 0. On refusal a record in
-//! the answer is the very one that the call got, where it got one of that kind and gives it back; every other field is 0.
+//! The records that cross. In each answer `refusal` is the number of the first check that failed, or 0. On refusal what the call got
+//! and gives back stands in the answer as it came: a mask, a builder, a cursor's place, the cursor of an offer, a window's numbers.
+//! Every other field is then 0.
 
 /// A mask: a span of its bytes and its zero count. The count is read where `known` is not 0; an unknown one is given as 0.
 ///

@@ -1,7 +1,8 @@
 -- What the search finds is what is offered (`found-way`, `found-bound`); a refusal is passed on.
 use Rattle.std.proofs.Common.{arith, ℕ, Option, Ok, Err, sym, ap, ◌≡◌, ◌∙◌, rules}
-use Rattle.masks.specs.Answer.{answer, given}
-use Rattle.dispatch.proofs.OfferLaws.{found-bound, found_inside, found-way, offer-exit, offered, refused-way}
+use Rattle.masks.specs.Answer.{answer}
+use Rattle.dispatch.proofs.OfferLaws.{found-bound, found_inside, found-way, offer-exit, refused-way}
+use Rattle.dispatch.specs.Offer.{moved_to}
 use Rattle.dispatch.proofs.offer.offer_next.Goals as goal
 
 pub returns-in_err-found-clause-answer : goal.returns-in_err-found-clause-answer
@@ -20,7 +21,7 @@ pub returns-in-Some-clause-answer : goal.returns-in-Some-clause-answer
 returns-in-Some-clause-answer c =
     let e : c.next_and_not.result ≡ Ok c.in_ok-found.found = search rules in
     let found = sym (ap answer e) ∙ c.next_and_not.ensures in
-    ap (λ (t : Option ℕ). given (offered c.args.cursor t c.in_ok-found.found.windows)) (sym c.in-Some.is) ∙ found-way _ _ _ _ _ _ found
+    found-way _ _ _ _ _ _ found _ (ap (λ (t : Option ℕ). moved_to t c.args.cursor) (sym c.in-Some.is))
 
 pub returns-in-Some-clause-bound : goal.returns-in-Some-clause-bound
 returns-in-Some-clause-bound c =
@@ -32,7 +33,7 @@ pub returns-in-None-clause-answer : goal.returns-in-None-clause-answer
 returns-in-None-clause-answer c =
     let e : c.next_and_not.result ≡ Ok c.in_ok-found.found = search rules in
     let found = sym (ap answer e) ∙ c.next_and_not.ensures in
-    ap (λ (t : Option ℕ). given (offered c.args.cursor t c.in_ok-found.found.windows)) (sym c.in-None.is) ∙ found-way _ _ _ _ _ _ found
+    found-way _ _ _ _ _ _ found _ (ap (λ (t : Option ℕ). moved_to t c.args.cursor) (sym c.in-None.is))
 
 pub returns-in-None-clause-bound : goal.returns-in-None-clause-bound
 returns-in-None-clause-bound c =

@@ -1,14 +1,11 @@
--- In each arm it is known whether there is a second mask, and the checks are its pieces in a row (`both-checked`, `alone-checked`).
-use Rattle.masks.proofs.NextAndNotLaws.{both-checked, alone-checked}
+-- The checks of the first mask, of the second and of the place in a row: `two-pieces`.
+use mathlib.Core.Path.{refl}
+use Rattle.masks.specs.NextAndNot.{next_checks}
+use Rattle.masks.proofs.CheckLaws.{one-check, two-pieces}
 use Rattle.masks.proofs.next_and_not.check_next.Goals as goal
 
-pub returns-in-Some : goal.returns-in-Some
-returns-in-Some c =
-    both-checked _ _ _ _ _ _ _ _ _ _ _ _ _ c.in-Some.is c.earlier-in-Some-2.ensures c.earlier-in-Some.ensures
-    c.earlier.ensures c.check_mask-own.ensures c.check_mask-other.ensures c.check-equal.ensures
-    c.check-place.ensures
-
-pub returns-in-None : goal.returns-in-None
-returns-in-None c =
-    alone-checked _ _ _ _ _ _ _ _ c.in-None.is c.earlier-in-None.ensures c.check_mask-own-in-None.ensures
-    c.check-place-in-None.ensures
+pub returns : goal.returns
+unfolding next_checks
+returns c =
+    two-pieces _ _ _ _ _ c.earlier-2.ensures c.check_mask.ensures
+    (two-pieces _ _ _ _ _ c.earlier.ensures c.check_other-other.ensures (one-check _ _ _ _ c.check-place.ensures refl))

@@ -9,8 +9,8 @@ pub loop-i-init : goal.loop-i-init
 loop-i-init c =
     sym (append-none (filling _ _) c.well_formed.0.1.1.1.0.1 c.requires.low) ∙ ap (appended _) (nothing_yet _ _ _)
 
-pub append_run-grown-requires : goal.append_run-grown-requires
-append_run-grown-requires c = runs-room _ _ _ _ _ _ _ c.loop-i.invariant c.loop-i-test.true c.requires
+pub append_copies-grown-requires : goal.append_copies-grown-requires
+append_copies-grown-requires c = runs-room _ _ _ _ _ _ _ c.loop-i.invariant c.loop-i-test.true c.requires
 
 pub loop-i-preserved : goal.loop-i-preserved
-loop-i-preserved c = runs-step _ _ _ _ _ _ _ _ c.loop-i.invariant c.flag_at-flag.ensures c.append_run-grown.ensures
+loop-i-preserved c = runs-step _ _ _ _ _ _ _ _ c.loop-i.invariant c.flag_at-flag.ensures c.append_copies-grown.ensures

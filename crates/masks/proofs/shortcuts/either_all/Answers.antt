@@ -1,15 +1,17 @@
--- Each path decides enough of the two tests.
-use mathlib.Core.Path.{sym, ◌∙◌}
-use Rattle.masks.proofs.CombineLaws.{either_first, either_second, either-none}
+-- The first mask decides (`either_first`), or the second (`either_second`).
+use Rattle.std.specs.Bool.{then_some}
+use mathlib.Core.Bool.{Bool}
+use mathlib.Core.Path.{sym, ap, ◌∙◌}
+use Rattle.masks.proofs.CombineLaws.{either_first, either_second}
 use Rattle.masks.proofs.shortcuts.either_all.Goals as goal
-
-pub returns-then-is_all_early : goal.returns-then-is_all_early
-returns-then-is_all_early c = either_first _ _ _ (sym c.is_all_early.ensures ∙ c.if-is_all_early.true)
-
-pub returns-then-is_all_early-2 : goal.returns-then-is_all_early-2
-returns-then-is_all_early-2 c =
-    either_second _ _ _ (sym c.is_all_early.ensures ∙ c.if-is_all_early.false) (sym c.is_all_early-2.ensures ∙ c.if-is_all_early-2.true)
+use Rattle.masks.proofs.shortcuts.either_all.Goals.{then-is_all_early, else-is_all_early}
 
 pub returns : goal.returns
-returns c =
-    either-none _ _ _ (sym c.is_all_early.ensures ∙ c.if-is_all_early.false) (sym c.is_all_early-2.ensures ∙ c.if-is_all_early-2.false)
+returns c = c.then_some.ensures ∙ elim c.if-is_all_early.branch [
+  | then-is_all_early w ↦
+      ap (λ (b : Bool). then_some b c.args.flag) (w.then_some-is ∙ w.if-is_all_early.true)
+      ∙ either_first _ _ _ (sym c.is_all_early.ensures ∙ w.if-is_all_early.true)
+  | else-is_all_early w ↦
+      ap (λ (b : Bool). then_some b c.args.flag) (w.then_some-is ∙ w.is_all_early-else-is_all_early.ensures)
+      ∙ either_second _ _ _ (sym c.is_all_early.ensures ∙ w.if-is_all_early.false)
+]

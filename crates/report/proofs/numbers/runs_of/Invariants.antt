@@ -3,8 +3,8 @@ use Prim.Native.Nat.{◌-◌}
 use Rattle.report.proofs.NumberLaws.{RunsCounted}
 use Rattle.report.proofs.numbers.runs_of.Given as goal
 
-abbrev pub invariant-loop-step : goal.invariant-loop-step
-invariant-loop-step l = RunsCounted l.fn.mask l.bytes l.cursor l.runs
+abbrev pub invariant-loop-next : goal.invariant-loop-next
+invariant-loop-next l = RunsCounted l.fn.mask l.bytes l.cursor l.runs
 
-abbrev pub decreases-loop-step : goal.decreases-loop-step
-decreases-loop-step l = l.fn.mask.length - l.cursor.place
+abbrev pub decreases-loop-next : goal.decreases-loop-next
+decreases-loop-next l = l.fn.mask.length - l.cursor.place

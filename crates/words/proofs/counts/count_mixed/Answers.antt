@@ -1,9 +1,9 @@
--- At most a word by `count-moved`; else in three parts, whose counts `count-parts` adds. Each is at most its part's length, so the sums fit.
-use Rattle.std.proofs.Common.{◌≡◌, arith, ℕ, ◌+◌, ◌-◌, ◌*◌, ◌/◌, ◌%◌, ◌≤◌, ◌<◌, min, List, length}
+-- At most a word by `count-near`; else in three parts, whose counts `count-parts` adds. Each is at most its part's length, so the sums fit.
+use Rattle.std.proofs.Common.{◌≡◌, refl, arith, ℕ, ◌+◌, ◌-◌, ◌*◌, ◌/◌, ◌%◌, ◌≤◌, ◌<◌, min, List, length}
 use Rattle.words.proofs.Bytes.{length-flags}
 use Rattle.words.specs.Flags.{flags_of}
 use Rattle.words.proofs.Counting.{count-parts, count-within}
-use Rattle.words.proofs.RowLaws.{count-first-flags, count-moved, count-moved-all}
+use Rattle.words.proofs.RowLaws.{count-first-flags, count-near, count-near-all}
 use Rattle.words.proofs.counts.count_mixed.Goals as goal
 
 -- the three parts of `len` flags, of which n whole words
@@ -21,25 +21,25 @@ rest-ends bytes start len r n e f h = omega (arith, length-flags bytes)
 
 pub returns-then-len-k : goal.returns-then-len-k
 returns-then-len-k c =
-    count-moved _ _ _ _ _ _ _ _ (omega (arith, c.if-len-k.true)) c.byte_word.ensures c.down-w.ensures c.ones_below.ensures (omega arith)
+    count-near _ _ _ _ _ (omega (arith, c.if-len-k.true)) c.near_word-w.ensures c.ones_below.ensures
 
 pub overflow_add-result : goal.overflow_add-result
 overflow_add-result c =
     let a = c.args in
-    let x = count-moved-all (flags_of a.bytes.now) _ _ a.start _ _ _ (omega arith) c.byte_word.ensures c.down-w.ensures c.ones_in_word-first.ensures (omega arith) in
+    let x = count-near-all (flags_of a.bytes.now) a.start _ _ _ refl c.near_word-w.ensures c.ones_in_word-first.ensures in
     omega (arith, count-within _ _ _ _ x, count-within _ _ _ _ c.ones-mid.ensures)
 
 pub overflow_add-result-2 : goal.overflow_add-result-2
 overflow_add-result-2 c =
     let a = c.args in
-    let x = count-moved-all (flags_of a.bytes.now) _ _ a.start _ _ _ (omega arith) c.byte_word.ensures c.down-w.ensures c.ones_in_word-first.ensures (omega arith) in
-    let z = count-first-flags _ _ _ _ _ (rest-ends a.bytes.now a.start a.len _ _ c.min-n.ensures c.room.ensures) c.byte_word-2.ensures c.ones_below-last.ensures in
+    let x = count-near-all (flags_of a.bytes.now) a.start _ _ _ refl c.near_word-w.ensures c.ones_in_word-first.ensures in
+    let z = count-first-flags _ _ _ _ _ (rest-ends a.bytes.now a.start a.len _ _ c.min-n.ensures c.room.ensures) c.byte_word.ensures c.ones_below-last.ensures in
     omega (arith, parts-fit a.start a.len _ _ _ _ _ c.if-len-k.false c.min-n.ensures (count-within _ _ _ _ x) (count-within _ _ _ _ c.ones-mid.ensures) (count-within _ _ _ _ z), c.ranges.len.fits)
 
 pub returns : goal.returns
 returns c =
     let a = c.args in
-    let x = count-moved-all (flags_of a.bytes.now) _ _ a.start _ _ _ (omega arith) c.byte_word.ensures c.down-w.ensures c.ones_in_word-first.ensures (omega arith) in
-    let z = count-first-flags _ _ _ _ _ (rest-ends a.bytes.now a.start a.len _ _ c.min-n.ensures c.room.ensures) c.byte_word-2.ensures c.ones_below-last.ensures in
+    let x = count-near-all (flags_of a.bytes.now) a.start _ _ _ refl c.near_word-w.ensures c.ones_in_word-first.ensures in
+    let z = count-first-flags _ _ _ _ _ (rest-ends a.bytes.now a.start a.len _ _ c.min-n.ensures c.room.ensures) c.byte_word.ensures c.ones_below-last.ensures in
     count-parts (flags_of a.bytes.now) _ _ _ _ _ _ _ _ _ _ _ x c.ones-mid.ensures z (omega arith) (omega arith) (omega arith)
     (parts-sum a.start a.len _ _ c.if-len-k.false c.min-n.ensures)

@@ -1,8 +1,8 @@
--- In each arm the operation is known, and its value of three zeros is computed.
-use Rattle.std.proofs.Common.{refl}
-use Rattle.std.proofs.Math.Bool.{xor}
+-- `any-zeros`: a word of zeros, combined, is 64 copies of the flag that three zeros give.
+use Rattle.std.proofs.Common.{ap, ◌∙◌}
+use Rattle.words.specs.Counts.{any_set}
+use Rattle.words.proofs.Behind.{any-zeros}
 use Rattle.words.proofs.counts.past_end.Goals as goal
 
-pub returns-in-Xor : goal.returns-in-Xor
-unfolding xor
-returns-in-Xor c = rw c.in-Xor.is refl
+pub returns : goal.returns
+returns c = c.is_set.ensures ∙ ap any_set c.combine_word.ensures ∙ any-zeros _

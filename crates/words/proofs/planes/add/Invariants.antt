@@ -1,8 +1,8 @@
--- The invariant: what the planes from i on become, with the carry, is what all become (`way_step`).
+-- The invariant: what the planes from the next on become, with the carry, is what all become (`way_step`).
 use Rattle.std.proofs.Common.{◌≡◌}
 use Rattle.words.specs.Planes.{added}
 use Rattle.words.proofs.PlaneLaws.{added_from}
 use Rattle.words.proofs.planes.add.Given as goal
 
-abbrev pub invariant-loop-i : goal.invariant-loop-i
-invariant-loop-i l = added_from l.i l.planes l.carry ≡ added l.initial.planes l.w
+abbrev pub invariant-loop-plane : goal.invariant-loop-plane
+invariant-loop-plane l = added_from l.plane-index l.planes l.carry ≡ added l.initial.planes l.w

@@ -1,4 +1,4 @@
--- The invariant: the first c numbers are written (`wrote_step`).
+-- The invariant: the first c numbers are written (`wrote_step`), each by the mask of its column (`mask_of`).
 use Rattle.std.proofs.Common.{arith}
 use Rattle.words.proofs.PlaneLaws.{wrote_none, wrote_step}
 use Rattle.words.proofs.PlaneReads.{mask_of}
@@ -7,9 +7,7 @@ use Rattle.words.proofs.planes.spread_half.Goals as goal
 pub loop-c-init : goal.loop-c-init
 loop-c-init c = wrote_none _ _ _
 
-pub column_by-requires : goal.column_by-requires
-column_by-requires c =
-    (c.requires.2, omega arith, mask_of _ _ c.requires.1 (omega arith))
-
 pub loop-c-preserved : goal.loop-c-preserved
-loop-c-preserved c = wrote_step _ _ _ _ _ (omega arith) c.loop-c.invariant c.column_by.ensures
+loop-c-preserved c =
+    wrote_step _ _ _ _ _ (omega arith) c.loop-c.invariant
+    (c.column_by.ensures _ (omega arith) (mask_of _ _ c.requires.1 (omega arith)))

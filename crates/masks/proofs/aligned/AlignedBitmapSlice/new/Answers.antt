@@ -1,4 +1,5 @@
 -- Of no flags the empty split (`is-empty`); else the number of the checks decides, and `aligned-allowed` gives what `split` asks for.
+use Rattle.std.proofs.Common.{rules}
 use mathlib.Core.Path.{refl, sym, ap, ◌∙◌}
 use Rattle.masks.specs.Aligned.{aligned_of}
 use Rattle.masks.specs.Answer.{given}
@@ -9,7 +10,7 @@ use Rattle.masks.proofs.aligned.AlignedBitmapSlice.new.Goals as goal
 
 pub returns-then-length-eq0 : goal.returns-then-length-eq0
 unfolding aligned_of
-returns-then-length-eq0 c = is-empty _ _ _ c.if-length-eq0.true
+returns-then-length-eq0 c = ap given (search rules) ∙ is-empty _ _ _ c.if-length-eq0.true
 
 pub returns-in_err-check_aligned : goal.returns-in_err-check_aligned
 unfolding aligned_of

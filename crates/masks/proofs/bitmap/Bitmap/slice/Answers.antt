@@ -1,4 +1,5 @@
 -- One law for each answer: refused by the piece's checks, refused by check 7 where the recount is wrong, or given.
+use Rattle.std.proofs.Common.{rules, Ok, Err, ◌≡◌}
 use native.Mathlib.Omega.{arith}
 use Rattle.masks.proofs.MaskLaws.{cut-error, piece-allowed, slice-refused, slice_wrong, slice-right}
 use mathlib.Core.Path.{sym, ap, ◌∙◌}
@@ -7,31 +8,35 @@ use Rattle.masks.specs.Answer.{refused}
 use Rattle.masks.specs.Mask.{cut_zeros}
 use Rattle.masks.specs.Refusal.{number}
 use Rattle.masks.specs.declared.refusal.Refusal.{Refusal}
-use Rattle.masks.proofs.RefusalLaws.{back-err, back-exit, back-is, back-ok, failed-back, passed-back}
+use Rattle.masks.proofs.RefusalLaws.{with_state, back-err, back-exit, back-is, failed-back, passed-back}
 use Rattle.masks.proofs.bitmap.Bitmap.slice.Goals as goal
 
-pub returns-in_err-give_back : goal.returns-in_err-give_back
-returns-in_err-give_back c = back-is _ _ _ c.in_err-give_back.ensures _ c.from_residual.ensures.1 ∙ slice-refused _ _ _ _ _ c.check_piece.ensures (failed-back _ _ _ c.in_err-give_back.ensures)
+pub returns-in_err-map_err : goal.returns-in_err-map_err
+returns-in_err-map_err c =
+    let was : Err c.in_err-map_err.field-0.0 ≡ with_state c.check_piece.result c.args.self = search rules in
+    back-is _ _ _ was _ c.from_residual.ensures.1 ∙ slice-refused _ _ _ _ _ c.check_piece.ensures (failed-back _ _ _ was)
 
 pub overflow_add-start : goal.overflow_add-start
 overflow_add-start c =
-    let a = piece-allowed _ _ _ _ (sym c.check_piece.ensures ∙ (passed-back _ _ _ c.in_ok-give_back.ensures)) in
+    let a = piece-allowed _ _ _ _ (sym c.check_piece.ensures ∙ (passed-back _ _ _ c.map_err.ensures.variant c.in_ok-map_err.was)) in
     omega (arith, a.starts, a.short, a.inside)
 
 pub cut_count-requires : goal.cut_count-requires
-cut_count-requires c = piece-allowed _ _ _ _ (sym c.check_piece.ensures ∙ passed-back _ _ _ c.in_ok-give_back.ensures)
+cut_count-requires c = piece-allowed _ _ _ _ (sym c.check_piece.ensures ∙ passed-back _ _ _ c.map_err.ensures.variant c.in_ok-map_err.was)
 
 pub returns-in_err-unset : goal.returns-in_err-unset
 unfolding cut_zeros
 returns-in_err-unset c =
-    let wrong = cut-error _ _ _ _ _ (sym c.cut_count.ensures ∙ (back-err _ _ _ c.in_err-unset.ensures).0) in
-    back-exit _ _ _ c.in_err-unset.ensures _ c.from_residual-in_err-unset.ensures.1
+    let was : Err c.in_err-unset.field-0.0 ≡ with_state c.cut_count.result c.args.self = search rules in
+    let wrong = cut-error _ _ _ _ _ (sym c.cut_count.ensures ∙ (back-err _ _ _ was).0) in
+    back-exit _ _ _ was _ c.from_residual-in_err-unset.ensures.1
     ∙ ap (λ (r : Refusal). refused (number r) c.args.self) wrong.1
-    ∙ slice_wrong _ _ _ _ _ c.check_piece.ensures (passed-back _ _ _ c.in_ok-give_back.ensures) wrong.0
+    ∙ slice_wrong _ _ _ _ _ c.check_piece.ensures (passed-back _ _ _ c.map_err.ensures.variant c.in_ok-map_err.was) wrong.0
 
 pub returns : goal.returns
 unfolding cut_zeros
 returns c =
+    let was : c.cut_count.result ≡ Ok c.in_ok-unset.unset = search rules in
     ap given c.cut_mask.ensures
-    ∙ slice-right _ _ _ _ _ c.check_piece.ensures _ (passed-back _ _ _ c.in_ok-give_back.ensures)
-    (sym (back-ok _ _ _ c.in_ok-unset.ensures) ∙ c.cut_count.ensures)
+    ∙ slice-right _ _ _ _ _ c.check_piece.ensures _ (passed-back _ _ _ c.map_err.ensures.variant c.in_ok-map_err.was)
+    (sym was ∙ c.cut_count.ensures)

@@ -1,4 +1,5 @@
 -- The number of the mask's checks decides; where all have passed, the span is within the limit (`mask-allowed`), as `zero_count` asks.
+use Rattle.std.proofs.Common.{rules, Err, ◌≡◌}
 use Rattle.std.proofs.Common.{arith, ◌≡◌, ℕ, Option}
 use mathlib.Core.Path.{sym, ap, ◌∙◌}
 use Rattle.masks.specs.declared.bitmap.Bitmap.{Bitmap}
@@ -6,19 +7,20 @@ use Rattle.masks.specs.Answer.{given}
 use Rattle.masks.specs.Mask.{count_or, mask_flags, unset_bits_of, zero_count}
 use Rattle.masks.specs.Utils.{zeros}
 use Rattle.masks.proofs.CheckLaws.{is-given}
-use Rattle.masks.proofs.RefusalLaws.{back-refused, passed-back}
+use Rattle.masks.proofs.RefusalLaws.{with_state, back-refused, passed-back}
 use Rattle.masks.proofs.MaskLaws.{mask-allowed}
 use Rattle.masks.proofs.bitmap.Bitmap.unset_bits.Goals.{in-Some, in-None}
 use Rattle.masks.proofs.bitmap.Bitmap.unset_bits.Goals as goal
 
-pub returns-in_err-give_back : goal.returns-in_err-give_back
+pub returns-in_err-map_err : goal.returns-in_err-map_err
 unfolding unset_bits_of
-returns-in_err-give_back c =
-    back-refused _ _ _ c.in_err-give_back.ensures _ c.from_residual.ensures.1 _ c.check_mask.ensures _
+returns-in_err-map_err c =
+    let was : Err c.in_err-map_err.field-0.0 ≡ with_state c.check_mask.result c.args.self = search rules in
+    back-refused _ _ _ was _ c.from_residual.ensures.1 _ c.check_mask.ensures _
 
 pub invariant_of-span : goal.invariant_of-span
 invariant_of-span c =
-    let a = mask-allowed _ _ (sym c.check_mask.ensures ∙ passed-back _ _ _ c.in_ok-give_back.ensures) in
+    let a = mask-allowed _ _ (sym c.check_mask.ensures ∙ passed-back _ _ _ c.map_err.ensures.variant c.in_ok-map_err.was) in
     record { ends = omega (arith, a.starts, a.short); short = a.short; inside = a.inside }
 
 pub returns : goal.returns
@@ -30,4 +32,4 @@ returns c =
       | in-None w ↦ w.zeros-is ∙ w.zeros-zeros.ensures ∙ sym (ap (λ (u : Option ℕ). count_or u all) w.in-None.is)
     ] in
     ap (λ (m : Bitmap). given (record { mask = m; zeros = c.match-self.zeros })) c.with_count.ensures
-    ∙ rw known (is-given _ _ _ _ c.check_mask.ensures (passed-back _ _ _ c.in_ok-give_back.ensures))
+    ∙ rw known (is-given _ _ _ _ c.check_mask.ensures (passed-back _ _ _ c.map_err.ensures.variant c.in_ok-map_err.was))

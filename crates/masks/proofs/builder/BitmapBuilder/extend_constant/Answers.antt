@@ -1,5 +1,6 @@
 -- Flags for which the word in progress has room are joined to it: no check fails (`constant-passed`). Else the number of the checks
 -- decides: `refused-way`, or `append-way` of the worker.
+use Rattle.std.proofs.Common.{rules, Err, ◌≡◌}
 use mathlib.Core.Path.{refl, sym, ap, ◌∙◌}
 use native.Mathlib.Omega.{arith}
 use Rattle.words.proofs.Windows.{length-copies}
@@ -9,7 +10,7 @@ use Rattle.masks.proofs.CheckLaws.{refused-way, two-pieces, passed-left}
 use Rattle.masks.proofs.AppendLaws.{append-way}
 use Rattle.masks.proofs.InsideLaws.{constant-passed, front-padded, inside-padded}
 use Rattle.masks.proofs.RoomLaws.{room_of}
-use Rattle.masks.proofs.RefusalLaws.{passed-back, failed-back, back-is}
+use Rattle.masks.proofs.RefusalLaws.{with_state, passed-back, failed-back, back-is}
 use Rattle.masks.proofs.builder.BitmapBuilder.extend_constant.Goals as goal
 
 pub push_inside-requires : goal.push_inside-requires
@@ -24,19 +25,20 @@ returns-then-fits_inside c =
     (c.push_inside.ensures _ ∙ ap (appended _) (front-padded _ _ _ (length-copies _ _) (omega (arith, ok.0)) c.constant_flags.ensures)) in
     record { answer = both.0; bytes = both.1 }
 
-pub returns-in_err-give_back : goal.returns-in_err-give_back
+pub returns-in_err-map_err : goal.returns-in_err-map_err
 unfolding constant_checks
-returns-in_err-give_back c =
-    let both = refused-way _ _ _ _ (two-pieces _ _ _ _ _ c.earlier.ensures c.check_builder.ensures c.check_limit.ensures) _ _ (failed-back _ _ _ c.in_err-give_back.ensures) in
-    record { answer = back-is _ _ _ c.in_err-give_back.ensures _ c.from_residual.ensures.1 ∙ both.0; bytes = both.1 }
+returns-in_err-map_err c =
+    let was : Err c.in_err-map_err.field-0.0 ≡ with_state c.earlier.result c.args.self = search rules in
+    let both = refused-way _ _ _ _ (two-pieces _ _ _ _ _ c.earlier.ensures c.check_builder.ensures c.check_limit.ensures) _ _ (failed-back _ _ _ was) in
+    record { answer = back-is _ _ _ was _ c.from_residual.ensures.1 ∙ both.0; bytes = both.1 }
 
 pub append_copies-requires : goal.append_copies-requires
 append_copies-requires c =
-    room_of _ _ _ (sym c.check_builder.ensures ∙ passed-left _ _ (sym c.earlier.ensures ∙ (passed-back _ _ _ c.in_ok-give_back.ensures)))
+    room_of _ _ _ (sym c.check_builder.ensures ∙ passed-left _ _ (sym c.earlier.ensures ∙ (passed-back _ _ _ c.map_err.ensures.variant c.in_ok-map_err.was)))
 
 pub returns : goal.returns
 unfolding constant_checks
 returns c =
-    let both = append-way _ _ _ _ _ _ _ _ (two-pieces _ _ _ _ _ c.earlier.ensures c.check_builder.ensures c.check_limit.ensures) (passed-back _ _ _ c.in_ok-give_back.ensures)
+    let both = append-way _ _ _ _ _ _ _ _ (two-pieces _ _ _ _ _ c.earlier.ensures c.check_builder.ensures c.check_limit.ensures) (passed-back _ _ _ c.map_err.ensures.variant c.in_ok-map_err.was)
     c.append_copies.ensures in
     record { answer = both.0; bytes = both.1 }

@@ -1,33 +1,35 @@
 -- The number of the checks decides: `refused-way` or `append-way`; where all have passed there is room for n * repeats flags (`room_of`).
+use Rattle.std.proofs.Common.{rules, Err, ◌≡◌}
 use mathlib.Core.Path.{sym, ◌∙◌}
 use native.Mathlib.Omega.{arith}
 use Rattle.masks.specs.Appends.{span_grow_checks}
 use Rattle.masks.proofs.CheckLaws.{refused-way, two-pieces, passed-left, passed-right, span-allowed}
 use Rattle.masks.proofs.AppendLaws.{append-way}
 use Rattle.masks.proofs.RoomLaws.{room_of}
-use Rattle.masks.proofs.RefusalLaws.{passed-back, failed-back, back-is}
+use Rattle.masks.proofs.RefusalLaws.{with_state, passed-back, failed-back, back-is}
 use Rattle.masks.proofs.builder.BitmapBuilder.extend_each_repeated_from_slice_unchecked.Goals as goal
 
-pub returns-in_err-give_back : goal.returns-in_err-give_back
+pub returns-in_err-map_err : goal.returns-in_err-map_err
 unfolding span_grow_checks
-returns-in_err-give_back c =
-    let both = refused-way _ _ _ _ (two-pieces _ _ _ _ _ c.earlier.ensures c.check_span.ensures c.check_product.ensures) _ _ (failed-back _ _ _ c.in_err-give_back.ensures) in
-    record { answer = back-is _ _ _ c.in_err-give_back.ensures _ c.from_residual.ensures.1 ∙ both.0; bytes = both.1 }
+returns-in_err-map_err c =
+    let was : Err c.in_err-map_err.field-0.0 ≡ with_state c.earlier.result c.args.self = search rules in
+    let both = refused-way _ _ _ _ (two-pieces _ _ _ _ _ c.earlier.ensures c.check_span.ensures c.check_product.ensures) _ _ (failed-back _ _ _ was) in
+    record { answer = back-is _ _ _ was _ c.from_residual.ensures.1 ∙ both.0; bytes = both.1 }
 
 pub invariant_of-span : goal.invariant_of-span
 invariant_of-span c =
-    let none = sym c.earlier.ensures ∙ (passed-back _ _ _ c.in_ok-give_back.ensures) in
+    let none = sym c.earlier.ensures ∙ (passed-back _ _ _ c.map_err.ensures.variant c.in_ok-map_err.was) in
     let span = span-allowed _ _ _ (sym c.check_span.ensures ∙ passed-left _ _ none) in
     record { ends = omega (arith, span.starts, span.short); short = span.short; inside = span.inside }
 
 pub append_repeated-requires : goal.append_repeated-requires
 append_repeated-requires c =
-    let none = sym c.earlier.ensures ∙ (passed-back _ _ _ c.in_ok-give_back.ensures) in
+    let none = sym c.earlier.ensures ∙ (passed-back _ _ _ c.map_err.ensures.variant c.in_ok-map_err.was) in
     room_of _ _ _ (sym c.check_product.ensures ∙ passed-right _ _ none)
 
 pub returns : goal.returns
 unfolding span_grow_checks
 returns c =
-    let both = append-way _ _ _ _ _ _ _ _ (two-pieces _ _ _ _ _ c.earlier.ensures c.check_span.ensures c.check_product.ensures) (passed-back _ _ _ c.in_ok-give_back.ensures)
+    let both = append-way _ _ _ _ _ _ _ _ (two-pieces _ _ _ _ _ c.earlier.ensures c.check_span.ensures c.check_product.ensures) (passed-back _ _ _ c.map_err.ensures.variant c.in_ok-map_err.was)
     c.append_repeated.ensures in
     record { answer = both.0; bytes = both.1 }

@@ -1,8 +1,10 @@
 -- The number of the checks decides: `refused-way` or `append-way`; flags of one load for which the word in progress has room by themselves, more by
 -- the worker.
+use Rattle.std.proofs.Common.{rules, Err, ◌≡◌}
 use Prim.Native.Nat.{◌≤◌}
 use mathlib.Core.Path.{ap, ◌∙◌}
 use native.Mathlib.Omega.{arith}
+use Rattle.words.proofs.Loads.{near-first}
 use Rattle.masks.specs.Appends.{span_grow_checks}
 use Rattle.masks.specs.Builder.{appended}
 use Rattle.masks.proofs.CheckLaws.{refused-way}
@@ -11,18 +13,19 @@ use Rattle.masks.proofs.ExtendLaws.{few-inside}
 use Rattle.masks.proofs.InsideLaws.{front-padded, inside-padded}
 use Rattle.masks.proofs.PartLaws.{length-low}
 use Rattle.masks.proofs.RoomLaws.{grow-allowed}
-use Rattle.masks.proofs.RefusalLaws.{passed-back, failed-back, back-is}
+use Rattle.masks.proofs.RefusalLaws.{with_state, passed-back, failed-back, back-is}
 use Rattle.masks.proofs.builder.BitmapBuilder.extend_from_slice.Goals as goal
 
-pub returns-in_err-give_back : goal.returns-in_err-give_back
+pub returns-in_err-map_err : goal.returns-in_err-map_err
 unfolding span_grow_checks
-returns-in_err-give_back c =
-    let both = refused-way _ _ _ _ c.check_span_grow.ensures _ _ (failed-back _ _ _ c.in_err-give_back.ensures) in
-    record { answer = back-is _ _ _ c.in_err-give_back.ensures _ c.from_residual.ensures.1 ∙ both.0; bytes = both.1 }
+returns-in_err-map_err c =
+    let was : Err c.in_err-map_err.field-0.0 ≡ with_state c.check_span_grow.result c.args.self = search rules in
+    let both = refused-way _ _ _ _ c.check_span_grow.ensures _ _ (failed-back _ _ _ was) in
+    record { answer = back-is _ _ _ was _ c.from_residual.ensures.1 ∙ both.0; bytes = both.1 }
 
 pub push_inside-requires : goal.push_inside-requires
 push_inside-requires c =
-    let room = (grow-allowed _ _ _ _ _ _ c.check_span_grow.ensures (passed-back _ _ _ c.in_ok-give_back.ensures)).1 in
+    let room = (grow-allowed _ _ _ _ _ _ c.check_span_grow.ensures (passed-back _ _ _ c.map_err.ensures.variant c.in_ok-map_err.was)).1 in
     let a = c.args in
     let few = few-inside a.self a.n _ c.stays_inside.ensures c.if-stays_inside.true in
     inside-padded _ _ _ _ _ _ room few.1 (length-low _ _ (omega (arith, few.0))) c.low_flags.ensures
@@ -33,23 +36,23 @@ returns-then-stays_inside c =
     let a = c.args in
     let few = (few-inside a.self a.n _ c.stays_inside.ensures c.if-stays_inside.true).0 in
     let most : a.n ≤ 64 = omega arith in
-    let both = append-way _ _ _ _ _ _ _ _ c.check_span_grow.ensures (passed-back _ _ _ c.in_ok-give_back.ensures)
-    (c.push_inside.ensures _ ∙ ap (appended _) (front-padded _ _ _ (length-low _ _ most) most c.low_flags.ensures ∙ c.near_word.ensures _ few)) in
+    let both = append-way _ _ _ _ _ _ _ _ c.check_span_grow.ensures (passed-back _ _ _ c.map_err.ensures.variant c.in_ok-map_err.was)
+    (c.push_inside.ensures _ ∙ ap (appended _) (front-padded _ _ _ (length-low _ _ most) most c.low_flags.ensures ∙ near-first _ _ _ _ (omega (arith, few)) c.near_word.ensures)) in
     record { answer = both.0; bytes = both.1 }
 
 pub invariant_of-span : goal.invariant_of-span
 invariant_of-span c =
-    let span = (grow-allowed _ _ _ _ _ _ c.check_span_grow.ensures (passed-back _ _ _ c.in_ok-give_back.ensures)).0 in
+    let span = (grow-allowed _ _ _ _ _ _ c.check_span_grow.ensures (passed-back _ _ _ c.map_err.ensures.variant c.in_ok-map_err.was)).0 in
     record { ends = omega (arith, span.starts, span.short); short = span.short; inside = span.inside }
 
 pub append_stretch-requires : goal.append_stretch-requires
 append_stretch-requires c =
-    let allowed = grow-allowed _ _ _ _ _ _ c.check_span_grow.ensures (passed-back _ _ _ c.in_ok-give_back.ensures) in
+    let allowed = grow-allowed _ _ _ _ _ _ c.check_span_grow.ensures (passed-back _ _ _ c.map_err.ensures.variant c.in_ok-map_err.was) in
     allowed.1
 
 pub returns : goal.returns
 unfolding span_grow_checks
 returns c =
-    let both = append-way _ _ _ _ _ _ _ _ c.check_span_grow.ensures (passed-back _ _ _ c.in_ok-give_back.ensures)
+    let both = append-way _ _ _ _ _ _ _ _ c.check_span_grow.ensures (passed-back _ _ _ c.map_err.ensures.variant c.in_ok-map_err.was)
     c.append_stretch.ensures in
     record { answer = both.0; bytes = both.1 }

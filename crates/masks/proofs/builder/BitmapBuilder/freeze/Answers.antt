@@ -1,23 +1,25 @@
 -- The number of the checks decides: `refused-way` or `given-way`; where all have passed the ones are at most the length (`ones-fit`).
+use Rattle.std.proofs.Common.{rules, Err, ◌≡◌}
 use mathlib.Core.Path.{sym, ◌∙◌}
 use Rattle.masks.proofs.CheckLaws.{refused-way, given-way}
 use Rattle.masks.proofs.FreezeLaws.{same-checks, ones-fit}
 use Rattle.masks.proofs.RoomLaws.{room_of}
-use Rattle.masks.proofs.RefusalLaws.{passed-back, failed-back, back-is}
+use Rattle.masks.proofs.RefusalLaws.{with_state, passed-back, failed-back, back-is}
 use Rattle.masks.proofs.builder.BitmapBuilder.freeze.Goals as goal
 
-pub returns-in_err-give_back : goal.returns-in_err-give_back
-returns-in_err-give_back c =
-    let both = refused-way _ _ _ _ (same-checks _ _ _ c.check_builder.ensures) _ _ (failed-back _ _ _ c.in_err-give_back.ensures) in
-    record { answer = back-is _ _ _ c.in_err-give_back.ensures _ c.from_residual.ensures.1 ∙ both.0; bytes = both.1 }
+pub returns-in_err-map_err : goal.returns-in_err-map_err
+returns-in_err-map_err c =
+    let was : Err c.in_err-map_err.field-0.0 ≡ with_state c.check_builder.result c.args.self = search rules in
+    let both = refused-way _ _ _ _ (same-checks _ _ _ c.check_builder.ensures) _ _ (failed-back _ _ _ was) in
+    record { answer = back-is _ _ _ was _ c.from_residual.ensures.1 ∙ both.0; bytes = both.1 }
 
 pub finish-requires : goal.finish-requires
-finish-requires c = room_of _ _ _ (sym c.check_builder.ensures ∙ (passed-back _ _ _ c.in_ok-give_back.ensures))
+finish-requires c = room_of _ _ _ (sym c.check_builder.ensures ∙ (passed-back _ _ _ c.map_err.ensures.variant c.in_ok-map_err.was))
 
 pub frozen_mask-requires : goal.frozen_mask-requires
-frozen_mask-requires c = ones-fit _ _ _ (room_of _ _ _ (sym c.check_builder.ensures ∙ (passed-back _ _ _ c.in_ok-give_back.ensures)))
+frozen_mask-requires c = ones-fit _ _ _ (room_of _ _ _ (sym c.check_builder.ensures ∙ (passed-back _ _ _ c.map_err.ensures.variant c.in_ok-map_err.was)))
 
 pub returns : goal.returns
 returns c =
-    let both = given-way _ _ _ _ (same-checks _ _ _ c.check_builder.ensures) _ _ _ _ (passed-back _ _ _ c.in_ok-give_back.ensures) c.frozen_mask.ensures c.finish.ensures in
+    let both = given-way _ _ _ _ (same-checks _ _ _ c.check_builder.ensures) _ _ _ _ (passed-back _ _ _ c.map_err.ensures.variant c.in_ok-map_err.was) c.frozen_mask.ensures c.finish.ensures in
     record { answer = both.0; bytes = both.1 }

@@ -1,32 +1,34 @@
 -- The number of the checks decides: `refused-way` or `append-way`; where all have passed there is room for the flags (`room_of`).
+use Rattle.std.proofs.Common.{rules, Err, ◌≡◌}
 use mathlib.Core.Path.{sym, ◌∙◌}
 use native.Mathlib.Omega.{arith}
 use Rattle.masks.specs.Appends.{span_grow_checks, gather_checks}
 use Rattle.masks.proofs.CheckLaws.{refused-way, one-check, two-pieces, passed-left, passed-right, span-allowed}
 use Rattle.masks.proofs.AppendLaws.{append-way}
 use Rattle.masks.proofs.RoomLaws.{room_of}
-use Rattle.masks.proofs.RefusalLaws.{back-is, failed-back, passed-back}
+use Rattle.masks.proofs.RefusalLaws.{with_state, back-is, failed-back, passed-back}
 use Rattle.masks.proofs.builder.BitmapBuilder.gather_extend_from_slice.Goals as goal
 
-pub returns-in_err-give_back : goal.returns-in_err-give_back
+pub returns-in_err-map_err : goal.returns-in_err-map_err
 unfolding gather_checks span_grow_checks
-returns-in_err-give_back c =
+returns-in_err-map_err c =
+    let was : Err c.in_err-map_err.field-0.0 ≡ with_state c.earlier-2.result c.args.self = search rules in
     let both = refused-way _ _ _ _
     (two-pieces _ _ _ _ _ c.earlier-2.ensures
     (two-pieces _ _ _ _ _ c.earlier.ensures c.check_span.ensures c.check_builder.ensures)
     (one-check _ _ _ _ c.check.ensures c.all_below.ensures))
-    _ _ (failed-back _ _ _ c.in_err-give_back.ensures) in
-    record { answer = back-is _ _ _ c.in_err-give_back.ensures _ c.from_residual.ensures.1 ∙ both.0; bytes = both.1 }
+    _ _ (failed-back _ _ _ was) in
+    record { answer = back-is _ _ _ was _ c.from_residual.ensures.1 ∙ both.0; bytes = both.1 }
 
 pub invariant_of-span : goal.invariant_of-span
 invariant_of-span c =
-    let none = sym c.earlier.ensures ∙ passed-left _ _ (sym c.earlier-2.ensures ∙ (passed-back _ _ _ c.in_ok-give_back.ensures)) in
+    let none = sym c.earlier.ensures ∙ passed-left _ _ (sym c.earlier-2.ensures ∙ (passed-back _ _ _ c.map_err.ensures.variant c.in_ok-map_err.was)) in
     let span = span-allowed _ _ _ (sym c.check_span.ensures ∙ passed-left _ _ none) in
     record { ends = omega (arith, span.starts, span.short); short = span.short; inside = span.inside }
 
 pub append_gathered-requires : goal.append_gathered-requires
 append_gathered-requires c =
-    let none = sym c.earlier.ensures ∙ passed-left _ _ (sym c.earlier-2.ensures ∙ (passed-back _ _ _ c.in_ok-give_back.ensures)) in
+    let none = sym c.earlier.ensures ∙ passed-left _ _ (sym c.earlier-2.ensures ∙ (passed-back _ _ _ c.map_err.ensures.variant c.in_ok-map_err.was)) in
     room_of _ _ _ (sym c.check_builder.ensures ∙ passed-right _ _ none)
 
 pub returns : goal.returns
@@ -36,5 +38,5 @@ returns c =
     (two-pieces _ _ _ _ _ c.earlier-2.ensures
     (two-pieces _ _ _ _ _ c.earlier.ensures c.check_span.ensures c.check_builder.ensures)
     (one-check _ _ _ _ c.check.ensures c.all_below.ensures))
-    (passed-back _ _ _ c.in_ok-give_back.ensures) c.append_gathered.ensures in
+    (passed-back _ _ _ c.map_err.ensures.variant c.in_ok-map_err.was) c.append_gathered.ensures in
     record { answer = both.0; bytes = both.1 }

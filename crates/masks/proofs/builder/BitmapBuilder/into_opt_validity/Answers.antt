@@ -1,33 +1,35 @@
 -- The number of the checks decides: `refused-way` or `given-way`; then the ones against the length: `all_set` or `not-all-set`.
+use Rattle.std.proofs.Common.{rules, Err, ◌≡◌}
 use mathlib.Core.Path.{sym, ◌∙◌}
 use Rattle.masks.proofs.CheckLaws.{refused-way, given-way}
 use Rattle.masks.proofs.FreezeLaws.{same-checks, ones-fit, all_set, not-all-set}
 use Rattle.masks.proofs.RoomLaws.{room_of}
-use Rattle.masks.proofs.RefusalLaws.{passed-back, failed-back, back-is}
+use Rattle.masks.proofs.RefusalLaws.{with_state, passed-back, failed-back, back-is}
 use Rattle.masks.proofs.builder.BitmapBuilder.into_opt_validity.Goals as goal
 
-pub returns-in_err-give_back : goal.returns-in_err-give_back
-returns-in_err-give_back c =
-    let both = refused-way _ _ _ _ (same-checks _ _ _ c.check_builder.ensures) _ _ (failed-back _ _ _ c.in_err-give_back.ensures) in
-    record { answer = back-is _ _ _ c.in_err-give_back.ensures _ c.from_residual.ensures.1 ∙ both.0; bytes = both.1 }
+pub returns-in_err-map_err : goal.returns-in_err-map_err
+returns-in_err-map_err c =
+    let was : Err c.in_err-map_err.field-0.0 ≡ with_state c.check_builder.result c.args.self = search rules in
+    let both = refused-way _ _ _ _ (same-checks _ _ _ c.check_builder.ensures) _ _ (failed-back _ _ _ was) in
+    record { answer = back-is _ _ _ was _ c.from_residual.ensures.1 ∙ both.0; bytes = both.1 }
 
 pub finish-requires : goal.finish-requires
-finish-requires c = room_of _ _ _ (sym c.check_builder.ensures ∙ (passed-back _ _ _ c.in_ok-give_back.ensures))
+finish-requires c = room_of _ _ _ (sym c.check_builder.ensures ∙ (passed-back _ _ _ c.map_err.ensures.variant c.in_ok-map_err.was))
 
 pub all_ones-requires : goal.all_ones-requires
-all_ones-requires c = ones-fit _ _ _ (room_of _ _ _ (sym c.check_builder.ensures ∙ (passed-back _ _ _ c.in_ok-give_back.ensures)))
+all_ones-requires c = ones-fit _ _ _ (room_of _ _ _ (sym c.check_builder.ensures ∙ (passed-back _ _ _ c.map_err.ensures.variant c.in_ok-map_err.was)))
 
 pub returns-then-all_ones-self : goal.returns-then-all_ones-self
 returns-then-all_ones-self c =
-    let both = given-way _ _ _ _ (same-checks _ _ _ c.check_builder.ensures) _ _ _ _ (passed-back _ _ _ c.in_ok-give_back.ensures) (all_set c.args.self _ c.all_ones.ensures c.if-all_ones-self.true)
+    let both = given-way _ _ _ _ (same-checks _ _ _ c.check_builder.ensures) _ _ _ _ (passed-back _ _ _ c.map_err.ensures.variant c.in_ok-map_err.was) (all_set c.args.self _ c.all_ones.ensures c.if-all_ones-self.true)
     c.finish.ensures in
     record { answer = both.0; bytes = both.1 }
 
 pub frozen_mask-requires : goal.frozen_mask-requires
-frozen_mask-requires c = ones-fit _ _ _ (room_of _ _ _ (sym c.check_builder.ensures ∙ (passed-back _ _ _ c.in_ok-give_back.ensures)))
+frozen_mask-requires c = ones-fit _ _ _ (room_of _ _ _ (sym c.check_builder.ensures ∙ (passed-back _ _ _ c.map_err.ensures.variant c.in_ok-map_err.was)))
 
 pub returns : goal.returns
 returns c =
-    let both = given-way _ _ _ _ (same-checks _ _ _ c.check_builder.ensures) _ _ _ _ (passed-back _ _ _ c.in_ok-give_back.ensures)
+    let both = given-way _ _ _ _ (same-checks _ _ _ c.check_builder.ensures) _ _ _ _ (passed-back _ _ _ c.map_err.ensures.variant c.in_ok-map_err.was)
     (not-all-set c.args.self _ _ c.all_ones.ensures c.if-all_ones-self.false c.frozen_mask.ensures) c.finish.ensures in
     record { answer = both.0; bytes = both.1 }

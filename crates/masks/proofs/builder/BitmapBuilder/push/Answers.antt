@@ -1,23 +1,25 @@
 -- The number of the checks decides: `refused-way` or `append-way`; the first flag of a word of one flag is that flag (`constant-front`).
+use Rattle.std.proofs.Common.{rules, Err, ◌≡◌}
 use mathlib.Core.Path.{sym, ap, ◌∙◌}
 use native.Mathlib.Omega.{arith}
 use Rattle.masks.specs.Builder.{appended}
 use Rattle.masks.proofs.CheckLaws.{refused-way}
 use Rattle.masks.proofs.AppendLaws.{append-way, constant-front, one-copy}
 use Rattle.masks.proofs.RoomLaws.{room_of}
-use Rattle.masks.proofs.RefusalLaws.{passed-back, failed-back, back-is}
+use Rattle.masks.proofs.RefusalLaws.{with_state, passed-back, failed-back, back-is}
 use Rattle.masks.proofs.builder.BitmapBuilder.push.Goals as goal
 
-pub returns-in_err-give_back : goal.returns-in_err-give_back
-returns-in_err-give_back c =
-    let both = refused-way _ _ _ _ c.check_builder.ensures _ _ (failed-back _ _ _ c.in_err-give_back.ensures) in
-    record { answer = back-is _ _ _ c.in_err-give_back.ensures _ c.from_residual.ensures.1 ∙ both.0; bytes = both.1 }
+pub returns-in_err-map_err : goal.returns-in_err-map_err
+returns-in_err-map_err c =
+    let was : Err c.in_err-map_err.field-0.0 ≡ with_state c.check_builder.result c.args.self = search rules in
+    let both = refused-way _ _ _ _ c.check_builder.ensures _ _ (failed-back _ _ _ was) in
+    record { answer = back-is _ _ _ was _ c.from_residual.ensures.1 ∙ both.0; bytes = both.1 }
 
 pub push_flags-requires : goal.push_flags-requires
-push_flags-requires c = (omega arith, room_of _ _ _ (sym c.check_builder.ensures ∙ (passed-back _ _ _ c.in_ok-give_back.ensures)))
+push_flags-requires c = (omega arith, room_of _ _ _ (sym c.check_builder.ensures ∙ (passed-back _ _ _ c.map_err.ensures.variant c.in_ok-map_err.was)))
 
 pub returns : goal.returns
 returns c =
-    let both = append-way _ _ _ _ _ _ _ _ c.check_builder.ensures (passed-back _ _ _ c.in_ok-give_back.ensures)
+    let both = append-way _ _ _ _ _ _ _ _ c.check_builder.ensures (passed-back _ _ _ c.map_err.ensures.variant c.in_ok-map_err.was)
     (c.push_flags.ensures ∙ ap (appended _) (constant-front 1 _ _ (omega arith) c.constant_word.ensures ∙ one-copy _)) in
     record { answer = both.0; bytes = both.1 }

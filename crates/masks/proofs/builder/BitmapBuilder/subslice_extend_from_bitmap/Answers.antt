@@ -1,4 +1,5 @@
 -- The number of the checks decides: `refused-way` or `append-way`; a piece inside the mask is a stretch of the bytes (`in_window`).
+use Rattle.std.proofs.Common.{rules, Err, ◌≡◌}
 use mathlib.Core.Path.{sym, ap, ◌∙◌}
 use native.Mathlib.Omega.{arith}
 use Rattle.words.proofs.Windows.{in_window}
@@ -7,33 +8,34 @@ use Rattle.masks.specs.Builder.{appended}
 use Rattle.masks.proofs.CheckLaws.{refused-way, two-pieces, passed-left, passed-right}
 use Rattle.masks.proofs.AppendLaws.{append-way}
 use Rattle.masks.proofs.RoomLaws.{room_of, inner-allowed}
-use Rattle.masks.proofs.RefusalLaws.{back-is, failed-back, passed-back}
+use Rattle.masks.proofs.RefusalLaws.{with_state, back-is, failed-back, passed-back}
 use Rattle.masks.proofs.builder.BitmapBuilder.subslice_extend_from_bitmap.Goals as goal
 
-pub returns-in_err-give_back : goal.returns-in_err-give_back
+pub returns-in_err-map_err : goal.returns-in_err-map_err
 unfolding subslice_checks
-returns-in_err-give_back c =
+returns-in_err-map_err c =
+    let was : Err c.in_err-map_err.field-0.0 ≡ with_state c.earlier-2.result c.args.self = search rules in
     let both = refused-way _ _ _ _ (two-pieces _ _ _ _ _ c.earlier-2.ensures c.check_mask.ensures
-    (two-pieces _ _ _ _ _ c.earlier.ensures c.check_inner.ensures c.check_builder.ensures)) _ _ (failed-back _ _ _ c.in_err-give_back.ensures) in
-    record { answer = back-is _ _ _ c.in_err-give_back.ensures _ c.from_residual.ensures.1 ∙ both.0; bytes = both.1 }
+    (two-pieces _ _ _ _ _ c.earlier.ensures c.check_inner.ensures c.check_builder.ensures)) _ _ (failed-back _ _ _ was) in
+    record { answer = back-is _ _ _ was _ c.from_residual.ensures.1 ∙ both.0; bytes = both.1 }
 
 pub overflow_add-span : goal.overflow_add-span
 overflow_add-span c =
-    let none = sym c.earlier-2.ensures ∙ (passed-back _ _ _ c.in_ok-give_back.ensures) in
+    let none = sym c.earlier-2.ensures ∙ (passed-back _ _ _ c.map_err.ensures.variant c.in_ok-map_err.was) in
     let rest = sym c.earlier.ensures ∙ passed-right _ _ none in
     let ok = inner-allowed _ _ _ _ (sym c.check_mask.ensures ∙ passed-left _ _ none) (sym c.check_inner.ensures ∙ passed-left _ _ rest) in
     omega (arith, ok.starts, ok.short, ok.inside)
 
 pub invariant_of-span : goal.invariant_of-span
 invariant_of-span c =
-    let none = sym c.earlier-2.ensures ∙ (passed-back _ _ _ c.in_ok-give_back.ensures) in
+    let none = sym c.earlier-2.ensures ∙ (passed-back _ _ _ c.map_err.ensures.variant c.in_ok-map_err.was) in
     let rest = sym c.earlier.ensures ∙ passed-right _ _ none in
     let ok = inner-allowed _ _ _ _ (sym c.check_mask.ensures ∙ passed-left _ _ none) (sym c.check_inner.ensures ∙ passed-left _ _ rest) in
     record { ends = omega (arith, ok.starts, ok.short, ok.inside); short = omega (arith, ok.short, ok.inside); inside = omega (arith, ok.lent, ok.inside) }
 
 pub append_stretch-requires : goal.append_stretch-requires
 append_stretch-requires c =
-    let none = sym c.earlier-2.ensures ∙ (passed-back _ _ _ c.in_ok-give_back.ensures) in
+    let none = sym c.earlier-2.ensures ∙ (passed-back _ _ _ c.map_err.ensures.variant c.in_ok-map_err.was) in
     let rest = sym c.earlier.ensures ∙ passed-right _ _ none in
     let ok = inner-allowed _ _ _ _ (sym c.check_mask.ensures ∙ passed-left _ _ none) (sym c.check_inner.ensures ∙ passed-left _ _ rest) in
     room_of _ _ _ (sym c.check_builder.ensures ∙ passed-right _ _ rest)
@@ -41,10 +43,10 @@ append_stretch-requires c =
 pub returns : goal.returns
 unfolding subslice_checks
 returns c =
-    let none = sym c.earlier-2.ensures ∙ (passed-back _ _ _ c.in_ok-give_back.ensures) in
+    let none = sym c.earlier-2.ensures ∙ (passed-back _ _ _ c.map_err.ensures.variant c.in_ok-map_err.was) in
     let rest = sym c.earlier.ensures ∙ passed-right _ _ none in
     let ok = inner-allowed _ _ _ _ (sym c.check_mask.ensures ∙ passed-left _ _ none) (sym c.check_inner.ensures ∙ passed-left _ _ rest) in
     let both = append-way _ _ _ _ _ _ _ _ (two-pieces _ _ _ _ _ c.earlier-2.ensures c.check_mask.ensures
-    (two-pieces _ _ _ _ _ c.earlier.ensures c.check_inner.ensures c.check_builder.ensures)) (passed-back _ _ _ c.in_ok-give_back.ensures)
+    (two-pieces _ _ _ _ _ c.earlier.ensures c.check_inner.ensures c.check_builder.ensures)) (passed-back _ _ _ c.map_err.ensures.variant c.in_ok-map_err.was)
     (c.append_stretch.ensures ∙ ap (appended _) (sym (in_window _ _ _ _ _ ok.inside))) in
     record { answer = both.0; bytes = both.1 }

@@ -7,24 +7,27 @@ use Rattle.masks.proofs.CheckLaws.{is-given}
 use Rattle.masks.proofs.ChunkLaws.{a_word, no_word}
 use Rattle.masks.proofs.CursorLaws.{cursor-allowed}
 use borrow.Author.Rules.{rules}
-use Rattle.masks.proofs.RefusalLaws.{passed-back, step-refused}
+use Rattle.std.proofs.Common.{Err, ◌≡◌}
+use Rattle.masks.proofs.RefusalLaws.{with_state, passed-back, step-refused}
 use Rattle.masks.proofs.chunks.BitChunks.next.Goals as goal
 
-pub returns-in_err-give_back : goal.returns-in_err-give_back
+pub returns-in_err-map_err : goal.returns-in_err-map_err
 unfolding next_chunk
-returns-in_err-give_back c = step-refused _ _ _ c.in_err-give_back.ensures _ c.from_residual.ensures.1 _ c.check_cursor.ensures _
+returns-in_err-map_err c =
+    let was : Err c.in_err-map_err.field-0.0 ≡ with_state c.check_cursor.result c.args.self = search rules in
+    step-refused _ _ _ was _ c.from_residual.ensures.1 _ c.check_cursor.ensures _
 
 pub returns-then-self : goal.returns-then-self
 unfolding next_chunk
-returns-then-self c = ap given (no_word _ _ c.if-self.true) ∙ is-given _ _ _ _ c.check_cursor.ensures (passed-back _ _ _ c.in_ok-give_back.ensures)
+returns-then-self c = ap given (no_word _ _ c.if-self.true) ∙ is-given _ _ _ _ c.check_cursor.ensures (passed-back _ _ _ c.map_err.ensures.variant c.in_ok-map_err.was)
 
 pub invariant_of-span : goal.invariant_of-span
 invariant_of-span c =
-    let a = cursor-allowed _ _ _ _ (sym c.check_cursor.ensures ∙ (passed-back _ _ _ c.in_ok-give_back.ensures)) in
+    let a = cursor-allowed _ _ _ _ (sym c.check_cursor.ensures ∙ (passed-back _ _ _ c.map_err.ensures.variant c.in_ok-map_err.was)) in
     record { ends = omega (arith, a.starts, a.short); short = a.short; inside = a.inside }
 
 pub returns : goal.returns
 unfolding next_chunk
 returns c =
     ap given (a_word _ _ _ (search rules) c.if-self.false c.word-word.ensures)
-    ∙ is-given _ _ _ _ c.check_cursor.ensures (passed-back _ _ _ c.in_ok-give_back.ensures)
+    ∙ is-given _ _ _ _ c.check_cursor.ensures (passed-back _ _ _ c.map_err.ensures.variant c.in_ok-map_err.was)

@@ -1,4 +1,5 @@
 -- The number of the cursor's checks decides; the rest begins `length % 64` flags before the span's end (`remainder-value`).
+use Rattle.std.proofs.Common.{rules, Err, ◌≡◌}
 use mathlib.Core.Path.{sym, ap, ◌∙◌}
 use native.Mathlib.Omega.{arith}
 use Prim.Native.Nat.{ℕ, ◌%◌}
@@ -7,16 +8,18 @@ use Rattle.masks.specs.Chunks.{chunks_remainder}
 use Rattle.masks.proofs.CheckLaws.{is-given}
 use Rattle.masks.proofs.ChunkLaws.{remainder-value}
 use Rattle.masks.proofs.CursorLaws.{cursor-allowed}
-use Rattle.masks.proofs.RefusalLaws.{back-refused, passed-back}
+use Rattle.masks.proofs.RefusalLaws.{with_state, back-refused, passed-back}
 use Rattle.masks.proofs.chunks.BitChunks.remainder.Goals as goal
 
-pub returns-in_err-give_back : goal.returns-in_err-give_back
+pub returns-in_err-map_err : goal.returns-in_err-map_err
 unfolding chunks_remainder
-returns-in_err-give_back c = back-refused _ _ _ c.in_err-give_back.ensures _ c.from_residual.ensures.1 _ c.check_cursor.ensures _
+returns-in_err-map_err c =
+    let was : Err c.in_err-map_err.field-0.0 ≡ with_state c.check_cursor.result c.args.self = search rules in
+    back-refused _ _ _ was _ c.from_residual.ensures.1 _ c.check_cursor.ensures _
 
 pub overflow_add-first : goal.overflow_add-first
 overflow_add-first c =
-    let span = cursor-allowed _ _ _ _ (sym c.check_cursor.ensures ∙ (passed-back _ _ _ c.in_ok-give_back.ensures)) in
+    let span = cursor-allowed _ _ _ _ (sym c.check_cursor.ensures ∙ (passed-back _ _ _ c.map_err.ensures.variant c.in_ok-map_err.was)) in
     omega (arith, span.starts, span.short)
 
 pub returns : goal.returns
@@ -24,4 +27,4 @@ unfolding chunks_remainder
 returns c =
     let me = c.args.self in
     ap (λ (x : ℕ). given (x, me.length % 64)) (remainder-value _ _ _ _ c.flags_word.ensures)
-    ∙ is-given _ _ _ _ c.check_cursor.ensures (passed-back _ _ _ c.in_ok-give_back.ensures)
+    ∙ is-given _ _ _ _ c.check_cursor.ensures (passed-back _ _ _ c.map_err.ensures.variant c.in_ok-map_err.was)

@@ -1,5 +1,7 @@
 -- Of no flags the cursor is all 0 (`is-empty`); else the number of the span's checks decides (`not-empty`).
-use mathlib.Core.Path.{refl, ◌∙◌}
+use Rattle.std.proofs.Common.{rules}
+use mathlib.Core.Path.{refl, ap, ◌∙◌}
+use Rattle.masks.specs.Answer.{given}
 use Rattle.masks.specs.Iterator.{new_iter}
 use Rattle.masks.proofs.CheckLaws.{is-refused, is-given, is-empty, not-empty}
 use Rattle.masks.proofs.RefusalLaws.{exit-is, number-ne0}
@@ -7,7 +9,7 @@ use Rattle.masks.proofs.iterator.BitmapIter.new.Goals as goal
 
 pub returns-then-length-eq0 : goal.returns-then-length-eq0
 unfolding new_iter
-returns-then-length-eq0 c = is-empty _ _ _ c.if-length-eq0.true
+returns-then-length-eq0 c = ap given (search rules) ∙ is-empty _ _ _ c.if-length-eq0.true
 
 pub returns-in_err-check_span : goal.returns-in_err-check_span
 unfolding new_iter

@@ -1,4 +1,5 @@
 -- The number of the cursor's checks decides; the flags alike end inside the span (`alike-inside`), so that the place fits.
+use Rattle.std.proofs.Common.{rules, Err, ◌≡◌}
 use mathlib.Core.Path.{sym, ap, ◌∙◌}
 use Prim.Native.Nat.{ℕ, ◌+◌}
 use native.Mathlib.Omega.{arith}
@@ -8,21 +9,23 @@ use Rattle.masks.specs.Iterator.{take_leading, moved_to}
 use Rattle.masks.proofs.CheckLaws.{is-given}
 use Rattle.masks.proofs.CursorLaws.{cursor-allowed}
 use Rattle.masks.proofs.IteratorLaws.{alike-inside}
-use Rattle.masks.proofs.RefusalLaws.{back-refused, passed-back}
+use Rattle.masks.proofs.RefusalLaws.{with_state, back-refused, passed-back}
 use Rattle.masks.proofs.iterator.BitmapIter.take_leading.Goals as goal
 
-pub returns-in_err-give_back : goal.returns-in_err-give_back
+pub returns-in_err-map_err : goal.returns-in_err-map_err
 unfolding take_leading
-returns-in_err-give_back c = back-refused _ _ _ c.in_err-give_back.ensures _ c.from_residual.ensures.1 _ c.check_cursor.ensures _
+returns-in_err-map_err c =
+    let was : Err c.in_err-map_err.field-0.0 ≡ with_state c.check_cursor.result c.args.self = search rules in
+    back-refused _ _ _ was _ c.from_residual.ensures.1 _ c.check_cursor.ensures _
 
 pub leading_from-taken-requires : goal.leading_from-taken-requires
 leading_from-taken-requires c =
-    let span = cursor-allowed _ _ _ _ (sym c.check_cursor.ensures ∙ (passed-back _ _ _ c.in_ok-give_back.ensures)) in
+    let span = cursor-allowed _ _ _ _ (sym c.check_cursor.ensures ∙ (passed-back _ _ _ c.map_err.ensures.variant c.in_ok-map_err.was)) in
     (span.starts, (span.short, span.reached))
 
 pub overflow_add-past : goal.overflow_add-past
 overflow_add-past c =
-    let span = cursor-allowed _ _ _ _ (sym c.check_cursor.ensures ∙ (passed-back _ _ _ c.in_ok-give_back.ensures)) in
+    let span = cursor-allowed _ _ _ _ (sym c.check_cursor.ensures ∙ (passed-back _ _ _ c.map_err.ensures.variant c.in_ok-map_err.was)) in
     omega (arith, alike-inside _ _ _ _ _ _ span.reached c.leading_from-taken.ensures, span.short)
 
 pub returns : goal.returns
@@ -30,4 +33,4 @@ unfolding take_leading
 returns c =
     let me = c.args.self in
     ap (λ (d : BitmapIter). given (c.leading_from-taken.result, d)) c.moved.ensures
-    ∙ ap (λ (k : ℕ). given (k, moved_to me (me.place + k))) c.leading_from-taken.ensures ∙ is-given _ _ _ _ c.check_cursor.ensures (passed-back _ _ _ c.in_ok-give_back.ensures)
+    ∙ ap (λ (k : ℕ). given (k, moved_to me (me.place + k))) c.leading_from-taken.ensures ∙ is-given _ _ _ _ c.check_cursor.ensures (passed-back _ _ _ c.map_err.ensures.variant c.in_ok-map_err.was)

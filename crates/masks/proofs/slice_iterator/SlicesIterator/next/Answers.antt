@@ -1,4 +1,5 @@
 -- The number of the checks decides; behind the zeros from the place on the walk found no run (`no_run`) or one (`a-run`).
+use Rattle.std.proofs.Common.{rules, Err, ◌≡◌}
 use mathlib.Core.Path.{sym, ap, ◌∙◌}
 use native.Mathlib.Omega.{arith}
 use Rattle.words.proofs.Windows.{length-window}
@@ -10,31 +11,33 @@ use Rattle.masks.proofs.CheckLaws.{is-given}
 use Rattle.masks.proofs.CursorLaws.{cursor-allowed}
 use Rattle.masks.proofs.IteratorLaws.{alike-inside}
 use Rattle.masks.proofs.RunLaws.{a-run, no_run, run_inside}
-use Rattle.masks.proofs.RefusalLaws.{passed-back, step-refused}
+use Rattle.masks.proofs.RefusalLaws.{with_state, passed-back, step-refused}
 use Rattle.masks.proofs.slice_iterator.SlicesIterator.next.Goals as goal
 
-pub returns-in_err-give_back : goal.returns-in_err-give_back
+pub returns-in_err-map_err : goal.returns-in_err-map_err
 unfolding next_slice
-returns-in_err-give_back c = step-refused _ _ _ c.in_err-give_back.ensures _ c.from_residual.ensures.1 _ c.check_cursor.ensures _
+returns-in_err-map_err c =
+    let was : Err c.in_err-map_err.field-0.0 ≡ with_state c.check_cursor.result c.args.self = search rules in
+    step-refused _ _ _ was _ c.from_residual.ensures.1 _ c.check_cursor.ensures _
 
 pub invariant_of-span : goal.invariant_of-span
 invariant_of-span c =
-    let a = cursor-allowed _ _ _ _ (sym c.check_cursor.ensures ∙ (passed-back _ _ _ c.in_ok-give_back.ensures)) in
+    let a = cursor-allowed _ _ _ _ (sym c.check_cursor.ensures ∙ (passed-back _ _ _ c.map_err.ensures.variant c.in_ok-map_err.was)) in
     record { ends = omega (arith, a.starts, a.short); short = a.short; inside = a.inside }
 
 pub zeros_from-requires : goal.zeros_from-requires
 zeros_from-requires c =
-    let span = cursor-allowed _ _ _ _ (sym c.check_cursor.ensures ∙ (passed-back _ _ _ c.in_ok-give_back.ensures)) in
+    let span = cursor-allowed _ _ _ _ (sym c.check_cursor.ensures ∙ (passed-back _ _ _ c.map_err.ensures.variant c.in_ok-map_err.was)) in
     (span.starts, (span.short, span.reached))
 
 pub overflow_add-near : goal.overflow_add-near
 overflow_add-near c =
-    let span = cursor-allowed _ _ _ _ (sym c.check_cursor.ensures ∙ (passed-back _ _ _ c.in_ok-give_back.ensures)) in
+    let span = cursor-allowed _ _ _ _ (sym c.check_cursor.ensures ∙ (passed-back _ _ _ c.map_err.ensures.variant c.in_ok-map_err.was)) in
     omega (arith, alike-inside _ _ _ _ _ _ span.reached c.zeros_from.ensures, span.short)
 
 pub run_from-run-requires : goal.run_from-run-requires
 run_from-run-requires c =
-    let span = cursor-allowed _ _ _ _ (sym c.check_cursor.ensures ∙ (passed-back _ _ _ c.in_ok-give_back.ensures)) in
+    let span = cursor-allowed _ _ _ _ (sym c.check_cursor.ensures ∙ (passed-back _ _ _ c.map_err.ensures.variant c.in_ok-map_err.was)) in
     alike-inside _ _ _ _ _ _ span.reached c.zeros_from.ensures
 
 pub returns-then-run-eq0 : goal.returns-then-run-eq0
@@ -43,11 +46,11 @@ returns-then-run-eq0 c =
     let cursor = c.args.self in
     ap (λ (d : SlicesIterator). given (ended d)) c.moved.ensures
     ∙ ap given (no_run cursor _ _ _ (length-window _ _ _) c.zeros_from.ensures c.run_from-run.ensures c.if-run-eq0.true)
-    ∙ is-given _ _ _ _ c.check_cursor.ensures (passed-back _ _ _ c.in_ok-give_back.ensures)
+    ∙ is-given _ _ _ _ c.check_cursor.ensures (passed-back _ _ _ c.map_err.ensures.variant c.in_ok-map_err.was)
 
 pub overflow_add-past : goal.overflow_add-past
 overflow_add-past c =
-    let span = cursor-allowed _ _ _ _ (sym c.check_cursor.ensures ∙ (passed-back _ _ _ c.in_ok-give_back.ensures)) in
+    let span = cursor-allowed _ _ _ _ (sym c.check_cursor.ensures ∙ (passed-back _ _ _ c.map_err.ensures.variant c.in_ok-map_err.was)) in
     let near = alike-inside _ _ _ _ _ _ span.reached c.zeros_from.ensures in
     omega (arith, span.short, run_inside _ _ _ _ (length-window _ _ _) near c.run_from-run.ensures)
 
@@ -57,4 +60,4 @@ returns c =
     let cursor = c.args.self in
     ap (λ (d : SlicesIterator). given (item c.run_from-run.result d)) c.moved-2.ensures
     ∙ ap given (a-run cursor _ _ _ (length-window _ _ _) c.zeros_from.ensures c.run_from-run.ensures c.if-run-eq0.false)
-    ∙ is-given _ _ _ _ c.check_cursor.ensures (passed-back _ _ _ c.in_ok-give_back.ensures)
+    ∙ is-given _ _ _ _ c.check_cursor.ensures (passed-back _ _ _ c.map_err.ensures.variant c.in_ok-map_err.was)

@@ -1,6 +1,7 @@
 -- At most 32 flags are taken of a word that has 57 (`near-value`), so they fit 32 bits (`narrow`); past the length there are none.
 use native.Mathlib.Omega.{arith}
 use borrow.Author.Rules.{rules}
+use Rattle.words.proofs.Loads.{near-first}
 use Rattle.masks.proofs.BitmaskLaws.{narrow, window-value, window-none}
 use Rattle.masks.proofs.SpanLaws.{near-value}
 use Rattle.masks.proofs.span.Lent.window.Goals as goal
@@ -14,10 +15,10 @@ overflow_cast-result c =
     let k = c.min-k.result in
     record {
       fits =
-          narrow _ _ k 32 _ (near-value _ _ k _ _ (search rules) (omega (arith, few)) (c.near_word.ensures k (omega (arith, few))) c.low_flags.ensures) (omega (arith, few));
+          narrow _ _ k 32 _ (near-value _ _ k _ _ (search rules) (omega (arith, few)) (near-first _ _ k _ (omega (arith, few)) c.near_word.ensures) c.low_flags.ensures) (omega (arith, few));
     }
 
 pub returns : goal.returns
 returns c =
     let few = c.min-k.ensures in
-    window-value _ _ _ _ _ _ few (near-value _ _ _ _ _ (search rules) (omega (arith, few)) (c.near_word.ensures _ (omega (arith, few))) c.low_flags.ensures)
+    window-value _ _ _ _ _ _ few (near-value _ _ _ _ _ (search rules) (omega (arith, few)) (near-first _ _ _ _ (omega (arith, few)) c.near_word.ensures) c.low_flags.ensures)

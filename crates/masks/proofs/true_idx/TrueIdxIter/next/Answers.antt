@@ -1,4 +1,5 @@
 -- The number of the checks decides; behind the zeros from the place on the span ends (`no_one`) or a one stands (`a_one`).
+use Rattle.std.proofs.Common.{rules, Err, ◌≡◌}
 use mathlib.Core.Path.{sym, ap, ◌∙◌}
 use native.Mathlib.Omega.{arith}
 use Prim.Native.Nat.{◌+◌}
@@ -8,31 +9,33 @@ use Rattle.masks.specs.declared.true_idx.TrueIdxIter.{TrueIdxIter}
 use Rattle.masks.specs.TrueIdx.{next_true}
 use Rattle.masks.proofs.CheckLaws.{is-given}
 use Rattle.masks.proofs.TrueIdxLaws.{true-allowed, a_one, no_one, zeros_within}
-use Rattle.masks.proofs.RefusalLaws.{passed-back, step-refused}
+use Rattle.masks.proofs.RefusalLaws.{with_state, passed-back, step-refused}
 use Rattle.masks.proofs.true_idx.TrueIdxIter.next.Goals as goal
 
-pub returns-in_err-give_back : goal.returns-in_err-give_back
+pub returns-in_err-map_err : goal.returns-in_err-map_err
 unfolding next_true
-returns-in_err-give_back c = step-refused _ _ _ c.in_err-give_back.ensures _ c.from_residual.ensures.1 _ c.check_next.ensures _
+returns-in_err-map_err c =
+    let was : Err c.in_err-map_err.field-0.0 ≡ with_state c.check_next.result c.args.self = search rules in
+    step-refused _ _ _ was _ c.from_residual.ensures.1 _ c.check_next.ensures _
 
 pub zeros_next-requires : goal.zeros_next-requires
 zeros_next-requires c =
-    let a = true-allowed _ _ (sym c.check_next.ensures ∙ (passed-back _ _ _ c.in_ok-give_back.ensures)) in
+    let a = true-allowed _ _ (sym c.check_next.ensures ∙ (passed-back _ _ _ c.map_err.ensures.variant c.in_ok-map_err.was)) in
     (a.starts, (a.short, a.reached))
 
 pub overflow_add-position : goal.overflow_add-position
 overflow_add-position c =
-    let a = true-allowed _ _ (sym c.check_next.ensures ∙ (passed-back _ _ _ c.in_ok-give_back.ensures)) in
+    let a = true-allowed _ _ (sym c.check_next.ensures ∙ (passed-back _ _ _ c.map_err.ensures.variant c.in_ok-map_err.was)) in
     omega (arith, a.short, a.reached, zeros_within _ _ _ c.zeros_next.ensures)
 
 pub returns-then-position-self : goal.returns-then-position-self
 unfolding next_true
 returns-then-position-self c =
     ap (λ (d : TrueIdxIter). given (ended d)) c.moved.ensures
-    ∙ ap given (no_one _ _ _ c.zeros_next.ensures c.if-position-self.true) ∙ is-given _ _ _ _ c.check_next.ensures (passed-back _ _ _ c.in_ok-give_back.ensures)
+    ∙ ap given (no_one _ _ _ c.zeros_next.ensures c.if-position-self.true) ∙ is-given _ _ _ _ c.check_next.ensures (passed-back _ _ _ c.map_err.ensures.variant c.in_ok-map_err.was)
 
 pub returns : goal.returns
 unfolding next_true
 returns c =
     ap (λ (d : TrueIdxIter). given (item (c.args.self.place + c.zeros_next.result) d)) c.moved-2.ensures
-    ∙ ap given (a_one _ _ _ c.zeros_next.ensures c.if-position-self.false) ∙ is-given _ _ _ _ c.check_next.ensures (passed-back _ _ _ c.in_ok-give_back.ensures)
+    ∙ ap given (a_one _ _ _ c.zeros_next.ensures c.if-position-self.false) ∙ is-given _ _ _ _ c.check_next.ensures (passed-back _ _ _ c.map_err.ensures.variant c.in_ok-map_err.was)

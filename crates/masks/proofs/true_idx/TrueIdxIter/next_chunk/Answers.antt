@@ -1,21 +1,23 @@
 -- The number of the checks decides: `refused-way` or `given-way`.
+use Rattle.std.proofs.Common.{rules, Err, ◌≡◌}
 use mathlib.Core.Path.{sym, ap, ◌∙◌}
 use Rattle.masks.proofs.CheckLaws.{refused-way, given-way}
 use Rattle.masks.proofs.PositionLaws.{told, within-out}
 use Rattle.masks.specs.Answer.{given}
 use Rattle.masks.specs.declared.true_idx.TrueIdxIter.{TrueIdxIter}
 use Rattle.masks.specs.Positions.{next_positions, positions_over}
-use Rattle.masks.proofs.RefusalLaws.{passed-back, failed-back, back-is}
+use Rattle.masks.proofs.RefusalLaws.{with_state, passed-back, failed-back, back-is}
 use Rattle.masks.proofs.true_idx.TrueIdxIter.next_chunk.Goals as goal
 
-pub returns-in_err-give_back : goal.returns-in_err-give_back
+pub returns-in_err-map_err : goal.returns-in_err-map_err
 unfolding next_positions positions_over
-returns-in_err-give_back c =
-    let both = refused-way _ _ _ _ c.check_next.ensures _ _ (failed-back _ _ _ c.in_err-give_back.ensures) in
-    record { answer = back-is _ _ _ c.in_err-give_back.ensures _ c.from_residual.ensures.1 ∙ both.0; positions = both.1 }
+returns-in_err-map_err c =
+    let was : Err c.in_err-map_err.field-0.0 ≡ with_state c.check_next.result c.args.self = search rules in
+    let both = refused-way _ _ _ _ c.check_next.ensures _ _ (failed-back _ _ _ was) in
+    record { answer = back-is _ _ _ was _ c.from_residual.ensures.1 ∙ both.0; positions = both.1 }
 
 pub write_positions-count-requires : goal.write_positions-count-requires
-write_positions-count-requires c = sym c.check_next.ensures ∙ passed-back _ _ _ c.in_ok-give_back.ensures
+write_positions-count-requires c = sym c.check_next.ensures ∙ passed-back _ _ _ c.map_err.ensures.variant c.in_ok-map_err.was
 
 pub place_behind-place-requires : goal.place_behind-place-requires
 place_behind-place-requires c =
@@ -26,6 +28,6 @@ pub returns : goal.returns
 unfolding next_positions positions_over
 returns c =
     let wrote = c.write_positions-count.ensures in
-    let both = given-way _ _ _ _ c.check_next.ensures _ _ _ _ (passed-back _ _ _ c.in_ok-give_back.ensures)
+    let both = given-way _ _ _ _ c.check_next.ensures _ _ _ _ (passed-back _ _ _ c.map_err.ensures.variant c.in_ok-map_err.was)
     (told _ _ _ _ _ wrote.count (c.place_behind-place.ensures _ _ wrote.positions wrote.count)) wrote.positions in
     record { answer = ap (λ (d : TrueIdxIter). given (c.write_positions-count.result, d)) c.moved.ensures ∙ both.0; positions = both.1 }

@@ -6,7 +6,7 @@ use Rattle.words.proofs.Counting.{count-le}
 use Rattle.masks.proofs.ExtendLaws.{push-closed}
 use Rattle.masks.proofs.PushLaws.{grown-way, or-merged}
 use Rattle.masks.proofs.RoomLaws.{word-stored}
-use Rattle.masks.proofs.extend.close_word.Goals as goal
+use Rattle.masks.proofs.builder.close_word.Goals as goal
 
 pub overflow_add-ones : goal.overflow_add-ones
 overflow_add-ones c =

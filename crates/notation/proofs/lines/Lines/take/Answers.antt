@@ -1,0 +1,20 @@
+-- The line goes on with what stands before the line feed.
+use Rattle.std.proofs.Common.{rules, arith}
+use Rattle.notation.proofs.LineLaws.{line-taken, left-taken}
+use Rattle.notation.proofs.lines.Lines.take.Goals as goal
+
+pub returns-in-None-clause-line : goal.returns-in-None-clause-line
+returns-in-None-clause-line g c = search (rules, line-taken)
+
+pub returns-in-None-clause-left : goal.returns-in-None-clause-left
+returns-in-None-clause-left g c =
+    left-taken _ _ _ c.feed_in-feed.ensures (search rules) _ _ _ c.consume.ensures.buffer
+    c.buffer-read.ensures c.saturating_add.ensures (omega (arith, c.len.ensures, c.len.type_inv))
+
+pub returns-in-Some-clause-line : goal.returns-in-Some-clause-line
+returns-in-Some-clause-line g c = search (rules, line-taken)
+
+pub returns-in-Some-clause-left : goal.returns-in-Some-clause-left
+returns-in-Some-clause-left g c =
+    left-taken _ _ _ c.feed_in-feed.ensures (search rules) _ _ _ c.consume.ensures.buffer
+    c.buffer-read.ensures c.saturating_add.ensures (omega (arith, c.len.ensures, c.len.type_inv))

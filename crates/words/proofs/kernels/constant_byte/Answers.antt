@@ -1,0 +1,9 @@
+-- In each branch the flag is known: `bits-ones` or `bits-zero`.
+use Rattle.words.proofs.Bits.{bits-zero, bits-ones}
+use Rattle.words.proofs.kernels.constant_byte.Goals as goal
+
+pub returns-then-flag : goal.returns-then-flag
+returns-then-flag c = rw c.if-flag.true (bits-ones 8)
+
+pub returns-else-flag : goal.returns-else-flag
+returns-else-flag c = rw c.if-flag.false (bits-zero 8)

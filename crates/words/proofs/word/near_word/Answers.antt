@@ -1,0 +1,6 @@
+-- `near-all`: eight bytes moved down by less than a byte.
+use Rattle.words.proofs.Loads.{near-all}
+use Rattle.words.proofs.word.near_word.Goals as goal
+
+pub returns : goal.returns
+returns c = near-all _ _ _ _ c.byte_word.ensures c.down.ensures
