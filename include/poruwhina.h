@@ -419,7 +419,7 @@ pw_mask_answer pw_select_constant(pw_mask selector, const uint8_t *by, size_t by
 
 /* Whether the flag at `index` is set in the first mask and not in the second. Where not `first_present` there is no first mask, which
  * stands for all ones; where not `second_present` no second mask, which takes nothing away: record and bytes are then not read. 5
- * comes with both masks alone; without any mask nothing is refused. Refuses with 1, 2, 3, 5, 6; every other field is then 0. */
+ * comes only where both masks are there; without any mask nothing is refused. Refuses with 1, 2, 3, 5, 6; every other field is then 0. */
 pw_flag pw_and_not_at(bool first_present, pw_mask first, const uint8_t *first_bytes, size_t first_bytes_len,
     bool second_present, pw_mask second, const uint8_t *second_bytes, size_t second_bytes_len, size_t index);
 
@@ -485,9 +485,9 @@ pw_step_answer pw_true_idx_next_chunk(size_t start, size_t length, size_t place,
 
 /* Whether truck number `truck` may be reassigned: its flag in the permission mask, and not in the revocation mask. Where not
  * `permitted` there is no permission mask, and the answer is no for every truck; where not `revoked` no revocation mask, which takes
- * nothing away: record and bytes are then not read. 5 comes with both masks alone; without any mask nothing is refused. No permission
- * mask is the opposite of the none of pw_into_opt_validity and of no mask in pw_true_idx_new, which mean all ones: end the builder of
- * a permission mask with pw_freeze. Refuses with 1, 2, 3, 5, 6; every other field is then 0. */
+ * nothing away: record and bytes are then not read. 5 comes only where both masks are there; without any mask nothing is refused. No
+ * permission mask is the opposite of the none of pw_into_opt_validity and of no mask in pw_true_idx_new, which mean all ones: end the
+ * builder of a permission mask with pw_freeze. Refuses with 1, 2, 3, 5, 6; every other field is then 0. */
 pw_flag pw_may_reassign(bool permitted, pw_mask permission, const uint8_t *permission_bytes,
     size_t permission_bytes_len, bool revoked, pw_mask revocation, const uint8_t *revocation_bytes,
     size_t revocation_bytes_len, size_t truck);

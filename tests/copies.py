@@ -4,9 +4,10 @@
     python3 tests/copies.py [--write] [NAME..]
 
 Of each NAME in tests/copies there are three files: NAME.edit, the damage, in the form that tests/test_copy.py takes; NAME.stdin, requests
-with their right answers (docs/REQUESTS.md), which tests/cases.py works out again; NAME.stdout, what the program `cases` prints of them over the damaged copy: the lines that
-differ, with the wrong answers, and the totals. Over the sources as they are no request of NAME.stdin may differ. --write writes NAME.stdout
-anew. The exit status is 1 if a program printed something else, 2 if an edit does not fit or a copy does not compile.
+with their right answers (docs/REQUESTS.md), which tests/cases.py works out again; NAME.stdout, what the program `cases` prints of them over
+the damaged copy: the lines that differ, with the wrong answers, and the totals. Over the sources as they are no request of NAME.stdin may
+differ. --write writes NAME.stdout anew. The exit status is 1 if a program printed something else, 2 if an edit does not fit or a copy does
+not compile.
 """
 import re
 import subprocess

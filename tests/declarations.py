@@ -100,7 +100,8 @@ def raised(reworded):
 
 
 def interface_text():
-    lines = ["# The version of the interface and a digest of each declaration: written by tests/declarations.py.", f"interface {interface()}"]
+    head = "# The version of the interface and a digest of each declaration: written by tests/declarations.py."
+    lines = [head, f"interface {interface()}"]
     return "\n".join([*lines, *(f"{name} {digest}" for name, digest in digests().items())]) + "\n"
 
 

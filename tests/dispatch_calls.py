@@ -4,8 +4,8 @@
     python3 tests/dispatch_calls.py FOLDER     reads the sources of that folder instead
 
 Document 01 has dispatch cite only masks' combinations and searches. A call is found by its name where it is imported (`use
-masks::module::name;`, or among others in braces) or written with its path, a method by its name behind a dot or behind its type. Of masks' types only
-those may be named that a combination or a search takes or gives. Of words nothing may be used."""
+masks::module::name;`, or among others in braces) or written with its path, a method by its name behind a dot or behind its type. Of masks'
+types only those may be named that a combination or a search takes or gives. Of words nothing may be used."""
 import pathlib
 import re
 import sys

@@ -7,7 +7,8 @@ ROOT = pathlib.Path(__file__).resolve().parent.parent
 CAPI = ROOT / "crates/capi"
 
 # The order in which the modules are declared; a module that is not named here comes behind these.
-ORDER = ["word", "spans", "search", "chunks", "builder", "mask", "superseding", "combine", "at_index", "next_and_not", "cursors", "reassign", "offer", "window"]
+ORDER = ["word", "spans", "search", "chunks", "builder", "mask", "superseding", "combine", "at_index", "next_and_not", "cursors"]
+ORDER += ["reassign", "offer", "window"]
 
 # What a refused export gives back, by its name or by the encoding that its contract names; of every other all fields are 0.
 KEPT = {

@@ -75,7 +75,9 @@ def by_pointer(export, rest):
         lines += f"    {c_name(export.result)} a = {called}    b->builder = a.builder;\n    return a.refusal;\n}}\n"
     else:
         lines += f"    return {called}}}\n"
-    told = "Gives 0, or the number of a refusal, after which the builder is the one that came." if appends else "The builder stays as it is."
+    told = "The builder stays as it is."
+    if appends:
+        told = "Gives 0, or the number of a refusal, after which the builder is the one that came."
     return comment(f"{export.name} of the builder and its serial. {told}") + lines
 
 

@@ -97,7 +97,8 @@ def files():
     found, shown, lacking = exports(), examples(), []
     symbol = f"pw_interface_{interface()}"
     written = {
-        "exports.rs": "//! The exports of the static library. Written by tests/declarations.py from crates/capi.\n\nuse super::records::*;\n\n"
+        "exports.rs": "//! The exports of the static library. Written by tests/declarations.py from crates/capi.\n\n"
+        + "use super::records::*;\n\n"
         + 'unsafe extern "C" {\n'
         + "".join(declaration(export) for export in found)
         + "}\n\n/// A library of another version has no such symbol, and does not link.\n#[used]\n"

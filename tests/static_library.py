@@ -11,14 +11,19 @@ import re
 import subprocess
 import sys
 
+from layout import MOST
+
 ROOT = pathlib.Path(__file__).resolve().parent.parent
 FROM = ROOT / "crates/capi/src"
 TO = ROOT / "crates/capi_c/src"
 EXPORT = re.compile(
-    r'(?P<comment>(?:^//[^\n]*\n)*)^#\[unsafe\(no_mangle\)\]\n^pub extern "C" fn (?P<name>\w+)(?P<head>.*?)(?P<clauses>^ +ensures.*?)?^\{$', re.M | re.S
+    r'(?P<comment>(?:^//[^\n]*\n)*)^#\[unsafe\(no_mangle\)\]\n'
+    r'^pub extern "C" fn (?P<name>\w+)(?P<head>.*?)(?P<clauses>^ +ensures.*?)?^\{$',
+    re.M | re.S,
 )
 OPERATOR = re.compile(r"◌([^◌\w]+)◌")
-ROOT_FILE = """// The static library: the functions of capi under their own names, for C and Rust. Each calls that of capi and ensures what it ensures.
+ROOT_FILE = """\
+// The static library: the functions of capi under their own names, for C and Rust. Each calls that of capi and ensures what it ensures.
 // tests/static_library.py writes this crate.
 #![tactic(auto)]
 
@@ -40,6 +45,17 @@ def used(name, text):
     return operator[1] in text if operator else re.search(rf"(?<![\w.]){re.escape(name)}(?!\w)", text) is not None
 
 
+def rows(head, names):
+    """The `use` lines of a module's names, none longer than tests/layout.py lets a line be."""
+    found = []
+    for name in names:
+        if found and len(f"{head}{{{', '.join([*found[-1], name])}}};") <= MOST:
+            found[-1].append(name)
+        else:
+            found.append([name])
+    return [f"{head}{{{', '.join(row)}}};" if row[1:] or head[-1] == "." else f"{head}{row[0]};" for row in found]
+
+
 def lines(start, join, pairs, text):
     """The `use` lines of the names that a text uses."""
     modules = {}
@@ -48,7 +64,7 @@ def lines(start, join, pairs, text):
             modules.setdefault(module, []).append(name)
     if start == "use":
         modules = {module: sorted(modules[module]) for module in sorted(modules)}
-    return [f"{start} {module}{join}{{{', '.join(names)}}};" if names[1:] or start != "use" else f"use {module}::{names[0]};" for module, names in modules.items()]
+    return [line for module, names in modules.items() for line in rows(f"{start} {module}{join}", names)]
 
 
 def thin(module):

@@ -5,15 +5,17 @@
     python3 tests/test_copy.py replay                         with no edit: is what is printed crates/replay/stdout?
     python3 tests/test_copy.py cases,replay crates/*/must-fail/*.edit        a table: which edit is seen by which program
 
-An EDIT is a file in the form of the must-fail edits: `file: src/x.rt`, then pairs of `old:` and `new:` lines, each old text standing once in
-the file. A `file:` of an edit below crates/NAME is of that crate; elsewhere it is written from the repository on (`file: crates/masks/src/x.rt`).
-Several edits are tried one by one, each in a fresh copy; `A.edit+B.edit` applies two together. An edit that touches no file of src/ is left out.
+An EDIT is a file in the form of the must-fail edits: `file: src/x.rt`, then pairs of `old:` and `new:` lines, each old text standing once
+in the file. A `file:` of an edit below crates/NAME is of that crate; elsewhere it is written from the repository on
+(`file: crates/masks/src/x.rt`). Several edits are tried one by one, each in a fresh copy; `A.edit+B.edit` applies two together. An edit
+that touches no file of src/ is left out.
 
 A copy has src/ and specs/ alone. `rt try --cases` compiles the program there with no proof, and with tests of what a proof would show (an
 index out of bounds, an overflow), and runs it on its file `stdin` (or FILE). What it prints is compared with the file `stdout` of the
 repository (or --expect FILE, `-` for what the unedited sources print). --show prints the first differing lines.
 
-The exit status is 0 if every program printed what is expected of every copy, 1 if one did not, 2 if an edit does not fit or does not compile.
+The exit status is 0 if every program printed what is expected of every copy, 1 if one did not, 2 if an edit does not fit or does not
+compile.
 """
 
 import contextlib

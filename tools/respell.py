@@ -3,10 +3,11 @@
 
 usage: python3 tools/respell.py [ROOT]     after port.py, once; ROOT is the top of the checkout, and the current folder if it is left out
 
-Each row of respell.tsv has the old name, the new one and, where a name is meant in some files alone, the ends of their paths. Whole names turn,
-in definitions, lemmas, proofs, clauses, comments, edits and documents; a name with a dash turns in antt files, edits and code spans alone.
-A row with paths goes first, and leaves what a dot stands before. port.py has turned some names in crates/: their rows are for documents and
-edits. ALIASES are names under which clauses bring another. Functions of src/, exported names, strings, inputs and outputs keep their names."""
+Each row of respell.tsv has the old name, the new one and, where a name is meant in some files alone, the ends of their paths. Whole names
+turn, in definitions, lemmas, proofs, clauses, comments, edits and documents; a name with a dash turns in antt files, edits and code spans
+alone. A row with paths goes first, and leaves what a dot stands before. port.py has turned some names in crates/: their rows are for
+documents and edits. ALIASES are names under which clauses bring another. Functions of src/, exported names, strings, inputs and outputs
+keep their names."""
 import os
 import re
 import sys

@@ -47,7 +47,11 @@ pub fn run(driver: &Driver) {
         plain: None,
     });
     driver.each("slice, a tenth off each end", Kind::Half, &[1], |m| Sides {
-        ours: side(&m[0], |m| calls::slice(m.counted, m.bytes(), cut(m).0, cut(m).1).mask, |_, cut| vec![cut.length as u64, cut.zeros as u64]),
+        ours: side(
+            &m[0],
+            |m| calls::slice(m.counted, m.bytes(), cut(m).0, cut(m).1).mask,
+            |_, cut| vec![cut.length as u64, cut.zeros as u64],
+        ),
         original: Some(side(
             &m[0],
             |m| m.bitmap.clone().sliced(cut(m).0, cut(m).1),

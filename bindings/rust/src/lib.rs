@@ -2,8 +2,9 @@
 //! proved against its contract.
 //!
 //! A [`Bitmap`] is made from bytes, from flags or by a [`BitmapBuilder`], cut, combined with others, counted, searched and
-//! walked; [`may_reassign`] answers for one truck, [`offer`] gives the next one. An [`ActivityWindow`] counts who was busy in the last minutes. The names are those of polars-arrow's bitmap module, of which the library is
-//! a port. What a call cannot do it refuses, by a [`Refusal`] with its number and words, and nothing has changed then.
+//! walked; [`may_reassign`] answers for one truck, [`offer`] gives the next one. An [`ActivityWindow`] counts who was busy in the
+//! last minutes. The names are those of polars-arrow's bitmap module, of which the library is a port. What a call cannot do it
+//! refuses, by a [`Refusal`] with its number and words, and nothing has changed then.
 //!
 //! ```
 //! use poruwhina::{Bitmap, BitmapBuilder, Permission, may_reassign};

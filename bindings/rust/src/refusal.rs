@@ -8,8 +8,8 @@ use std::fmt;
 ///
 /// From [`Bitmap`](crate::Bitmap), [`BitmapBuilder`](crate::BitmapBuilder) and what stands beside them come 1, 2, 5 and 6 alone, and 3
 /// from [`try_from_counted_span`](crate::Bitmap::try_from_counted_span): the types keep their records true and give each call the
-/// room that it needs. 14 comes from [`superseding`](crate::Bitmap::superseding) alone. From [`ActivityWindow`](crate::ActivityWindow) comes 16 alone. [`calls`](crate::calls) can give every number
-/// but 7.
+/// room that it needs. 14 comes from [`superseding`](crate::Bitmap::superseding) alone. From
+/// [`ActivityWindow`](crate::ActivityWindow) comes 16 alone. [`calls`](crate::calls) can give every number but 7.
 ///
 /// ```
 /// use poruwhina::{Bitmap, Refusal};

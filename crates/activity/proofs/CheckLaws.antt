@@ -5,7 +5,10 @@ use Rattle.std.proofs.Math.Bool.{and_assoc, and-true}
 use Rattle.std.proofs.Math.Seq.{take_all}
 use Rattle.std.proofs.lemmas.Bool.{and_parts, and_from, eqb-true}
 use Rattle.std.proofs.lemmas.Bool.Decides.{nat_tests}
+use Rattle.std.proofs.lemmas.Nat.{le_or_l}
+use Rattle.std.specs.Int.Bits.{bit_or, or_zero_l}
 use Rattle.std.specs.List.{zip}
+use borrow.Author.Tests.{ne_eqb}
 use Rattle.words.specs.Columns.{column_counts}
 use Rattle.activity.specs.Checks.{width_fits, place_fits, inside_fits, numbers_fit, all_zero, same_numbers, words_fit, left_by_minutes}
 use Rattle.activity.specs.Workers.{Good}
@@ -20,11 +23,19 @@ first-not r t u e h = ap (λ (y : Bool). y && u) (sym h ∙ e)
 
 -- ---- the folds
 
--- over the words behind the kept ones; z says whether those before were zero
-pub zero-fold : (l : List ℕ) (z : Bool) → fold (λ z w. z && (w == 0)) z l ≡ (z && all_zero l)
+-- two words joined are zero if both are
+joined-zero : (a b : ℕ) → eqb (bit_or a b) 0 ≡ (eqb a 0 && eqb b 0)
+joined-zero zero b = ap (λ (x : ℕ). eqb x 0) (or_zero_l b)
+joined-zero (suc a) b =
+    ne_eqb (bit_or (suc a) b) 0 (λ h. absurd (omega (arith, le_or_l (suc a) b)))
+    ∙ sym (ap (λ (t : Bool). t && eqb b 0) (ne_eqb (suc a) 0 (λ h. absurd (omega arith))))
+
+-- over the words behind the kept ones; z joins those before
+pub zero-fold : (l : List ℕ) (z : ℕ) → eqb (fold (λ all w. bit_or all w) z l) 0 ≡ (eqb z 0 && all_zero l)
 unfolding all_zero
-zero-fold [] z = sym (and-true z)
-zero-fold (w ∷ l) z = zero-fold l (z && eqb w 0) ∙ and_assoc z (eqb w 0) (all_zero l)
+zero-fold [] z = sym (and-true (eqb z 0))
+zero-fold (w ∷ l) z = zero-fold l (bit_or z w) ∙ ap (λ (t : Bool). t && all_zero l) (joined-zero z w)
+    ∙ and_assoc (eqb z 0) (eqb w 0) (all_zero l)
 
 -- over the counts; s says whether those before were the same
 pub same-fold : (a b : List ℕ) (s : Bool) → length a ≡ length b
@@ -79,10 +90,11 @@ counted-whole l n h = ap column_counts (take_all 511 (take n l) (omega (arith, l
 -- the counts of the part that is lent
 -- the words behind the kept ones, as they are lent
 pub zero-rest : (words : List ℕ) (fill : ℕ) (z : Bool) → length words ≡ 256
-    → z ≡ fold (λ none w. none && (w == 0)) true (take (256 - fill) (drop fill words)) → z ≡ all_zero (drop fill words)
+    → z ≡ eqb (fold (λ all w. bit_or all w) 0 (take (256 - fill) (drop fill words))) 0 → z ≡ all_zero (drop fill words)
 zero-rest words fill z long e =
-    let t : take (256 - fill) (drop fill words) ≡ drop fill words = take_all (256 - fill) (drop fill words) (omega (arith, length-drop fill words)) in
-    e ∙ zero-fold (take (256 - fill) (drop fill words)) true ∙ ap all_zero t
+    let t : take (256 - fill) (drop fill words) ≡ drop fill words =
+    take_all (256 - fill) (drop fill words) (omega (arith, length-drop fill words)) in
+    e ∙ zero-fold (take (256 - fill) (drop fill words)) 0 ∙ ap all_zero t
 
 module _ (words counts : List ℕ) (fill : ℕ) (z : Bool) (e : z ≡ all_zero (drop fill words)) where
   pub words-yes : (found : List ℕ) (s : Bool) → fill ≤ 256 → z ≡ true → length counts ≡ length found

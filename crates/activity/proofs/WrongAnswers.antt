@@ -19,7 +19,8 @@ counts_code a = a.refusal ∷ a.value
 pub ruled_out : WrongAnswers
 unfolding
     same_code bits count column columns_from column_counts
-    width_fits place_fits inside_fits numbers_fit all_zero same_numbers words_fit left_by_minutes zeros no_minute minute_on new_of push_of counts_of
+    width_fits place_fits inside_fits numbers_fit all_zero same_numbers words_fit left_by_minutes zeros no_minute minute_on new_of push_of
+    counts_of
 ruled_out =
     record {
       new = tried window_code refl refl refl;

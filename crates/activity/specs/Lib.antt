@@ -1,5 +1,6 @@
 -- What the contracts of this crate mean. `Window` is read first.
 pub mod Checks
+pub mod Lent
 pub mod Minutes
 pub mod Refusals
 pub mod Window

@@ -38,7 +38,8 @@ pub record Run (a : ActivityWindow) : Type 0 where
 
 pub record Statements : Type 0 where
   -- From a new record on every minute is accepted, and the record is that of the run.
-  pub every-run : (width : ℕ) (minutes : List ℕ) → width_fits width ≡ true → pushes (new_of width) minutes ≡ accepted (left_by width minutes)
+  pub every-run : (width : ℕ) (minutes : List ℕ) → width_fits width ≡ true
+      → pushes (new_of width) minutes ≡ accepted (left_by width minutes)
   -- Each count is then a fresh count over the last words.
   pub fresh-counts : (width : ℕ) (minutes : List ℕ) → width_fits width ≡ true
       → counts_of (pushes (new_of width) minutes).value ≡ accepted (column_counts (last_of width minutes))

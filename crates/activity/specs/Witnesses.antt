@@ -3,6 +3,7 @@
 -- `ActivityWindow::new` is witnessed by widths, `ActivityWindow::push_minute` and `ActivityWindow::counts` by records.
 -- `proofs/Witnesses.antt` computes the rows.
 use Rattle.std.specs.Prelude.{ℕ, ◌-◌, ◌≡◌, List, [], ◌∷◌, ◌++◌, length, Ok, Err}
+use Rattle.activity.specs.Lent.{window_at, numbers_of}
 use Rattle.activity.specs.Window.{zeros, no_minute, accepted, refused, uncounted, answer, new_of, push_of, counts_of}
 use Rattle.activity.specs.declared.window.ActivityWindow.{ActivityWindow}
 use Rattle.activity.specs.declared.window.Refused.TheVariants.{ImpossibleWindow}
@@ -42,6 +43,11 @@ pub record Witnessed : Type 0 where
   pub counts-number : (counts_of (no_minute 0)).refusal ≡ 16
   pub no_number : (new_of 3).refusal ≡ 0
   pub counted-number : (counts_of three_minutes).refusal ≡ 0
+  -- lent arrays and numbers as a record, and the numbers of an answered window
+  pub lent-window : window_at (3 ∷ []) (1 ∷ []) (record { place = 1; fill = 2; width = 4 })
+      ≡ record { words = 3 ∷ []; counts = 1 ∷ []; place = 1; fill = 2; width = 4 }
+  pub lent-numbers : numbers_of (refused (record { words = 3 ∷ []; counts = 1 ∷ []; place = 1; fill = 2; width = 4 }))
+      ≡ record { value = record { place = 1; fill = 2; width = 4 }; refusal = 16 }
   -- how a result is read
   pub read-ok : (back a : ActivityWindow) → answer back (Ok a) ≡ accepted a
   pub read-refused : (back : ActivityWindow) → answer back (Err ImpossibleWindow) ≡ refused back

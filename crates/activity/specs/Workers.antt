@@ -14,10 +14,11 @@ pub record Good (a : ActivityWindow) : Type 0 where
   pub unused : all_zero (drop a.fill a.words) ≡ true
   pub counted : a.counts ≡ column_counts (take a.fill a.words)
 
--- the counts are at most 256, and the word's flags are counted in them
-unfoldable pub Holds : List ℕ → ℕ → Type 0
-Holds counts w = (c : ℕ) → c < 64 → (digit_of w c ≤ get_or counts c 0) × (get_or counts c 0 ≤ 256)
+-- the n counts from flag s on are at most 256, and the word's flags are counted in them
+unfoldable pub Holds : List ℕ → ℕ → ℕ → ℕ → Type 0
+Holds counts s n w = (c : ℕ) → c < n → (digit_of w (s + c) ≤ get_or counts c 0) × (get_or counts c 0 ≤ 256)
 
--- the first k counts have the flags of the word `old` taken off and those of `new` added
-unfoldable pub Exchanged : List ℕ → ℕ → ℕ → List ℕ → ℕ → Type 0
-Exchanged counts old new out k = (c : ℕ) → c < k → get_or out c 0 + digit_of old c ≡ get_or counts c 0 + digit_of new c
+-- the first k counts, of the flags from s on, have the flags of the word `old` taken off and those of `new` added
+unfoldable pub Exchanged : List ℕ → ℕ → ℕ → ℕ → List ℕ → ℕ → Type 0
+Exchanged counts s old new out k = (c : ℕ) → c < k
+    → get_or out c 0 + digit_of old (s + c) ≡ get_or counts c 0 + digit_of new (s + c)

@@ -1,9 +1,11 @@
 // Is a record one that a run of minutes leaves: its numbers, its words and its counts.
-ghost use Rattle.std.specs.Prelude.{◌≡◌, ℕ, ◌≤◌, Bool, true, ◌&&◌, ◌==◌, length, fold};
+ghost use Rattle.std.specs.Prelude.{◌≡◌, ℕ, ◌≤◌, Bool, true, ◌&&◌, ◌==◌, fold, eqb};
+ghost use Rattle.std.specs.Int.Bits.{bit_or};
 ghost use Rattle.std.specs.List.{zip};
 ghost use Rattle.activity.specs.Checks.{width_fits, numbers_fit, words_fit, left_by_minutes};
+ghost use Rattle.activity.specs.Lent.{window_at};
 
-use crate::window::ActivityWindow;
+use crate::lent::Numbers;
 use words::columns::column_counts;
 
 // A window keeps 1 to 256 words.
@@ -23,16 +25,16 @@ fn numbers_fit(place: usize, fill: usize, width: usize) -> bool
     width_fits(width) && place < width && fill <= width && (width <= fill || place == fill)
 }
 
-// Are all words zero. The fold reads each word, so that it is vectorised: with `all`, which stops at the first word that is not zero, 256
-// words take 1.67 times the instructions.
+// Are all words zero. The fold joins the words, so that it is vectorised: compared with 0 one by one, 255 words take 1.8 times the
+// instructions.
 fn all_zero(words: &[u64]) -> bool
-    ensures { result ≡ fold (λ none w. none && (w == 0)) true words.now }
+    ensures { result ≡ eqb (fold (λ all w. bit_or all w) 0 words.now) 0 }
 {
-    words.iter().fold(true, |none, w| none & (*w == 0))
+    words.iter().fold(0, |all, w| all | *w) == 0
 }
 
-// Are two lists of as many numbers the same. This fold reads each pair too: with `all` it takes 3.4 times the instructions, and with `==` of
-// the arrays `push_minute` takes 1.04 times.
+// Are two lists of as many numbers the same. This fold reads each pair too: with `all` it takes 3.4 times the instructions, and with `==`
+// of the arrays `push_minute` takes 1.04 times.
 fn same_numbers(a: &[u32; 64], b: &[u32; 64]) -> bool
     ensures { result ≡ fold (λ (same : Bool) (p : ℕ × ℕ). same && (p.0 == p.1)) true (zip a.now b.now) }
 {
@@ -41,17 +43,17 @@ fn same_numbers(a: &[u32; 64], b: &[u32; 64]) -> bool
 
 // Are the words behind the kept ones zero, and the counts those of the kept ones.
 #[tactic(auto, unfolding(crate::specs::Checks::words_fit))]
-fn words_fit(words: [u64; 256], counts: [u32; 64], fill: usize) -> bool
+fn words_fit(words: &[u64; 256], counts: &[u32; 64], fill: usize) -> bool
     requires { fill ≤ 256 }
-    ensures { result ≡ words_fit words counts fill }
+    ensures { result ≡ words_fit words.now counts.now fill }
 {
-    all_zero(&words[fill..]) && same_numbers(&counts, &column_counts(&words[..fill]))
+    all_zero(&words[fill..]) && same_numbers(counts, &column_counts(&words[..fill]))
 }
 
 // Does a run of minutes leave this record.
 #[tactic(auto, unfolding(crate::specs::Checks::left_by_minutes))]
-pub(crate) fn left_by_minutes(a: ActivityWindow) -> bool
-    ensures { result ≡ left_by_minutes a }
+pub(crate) fn left_by_minutes(words: &[u64; 256], counts: &[u32; 64], at: Numbers) -> bool
+    ensures { result ≡ left_by_minutes (window_at words.now counts.now at) }
 {
-    numbers_fit(a.place, a.fill, a.width) && words_fit(a.words, a.counts, a.fill)
+    numbers_fit(at.place, at.fill, at.width) && words_fit(words, counts, at.fill)
 }

@@ -4,4 +4,6 @@
 #![tactic(auto)]
 
 mod checks;
+mod exchange;
+pub mod lent;
 pub mod window;

@@ -1,13 +1,12 @@
 // The window of the last minutes: a record by value, 256 words of which the first `fill` are kept, and a count for each flag.
-ghost use Rattle.std.specs.Prelude.{◌≡◌, ◌+◌, ◌≤◌, ◌<◌, length};
-ghost use Rattle.activity.specs.Window.{zeros, no_minute, minute_on, number, answer, new_of, push_of, counts_of};
-ghost use Rattle.activity.specs.Workers.{Good, Holds, Exchanged};
+ghost use Rattle.std.specs.Prelude.{◌≡◌, cond, Ok, Err};
+ghost use Rattle.activity.specs.Window.{zeros, no_minute, number, answer, new_of, push_of, counts_of};
+ghost use Rattle.activity.specs.declared.window.Refused.TheVariants.{ImpossibleWindow};
 
-use crate::checks::{left_by_minutes, width_fits};
-use std::cmp::min;
+use crate::checks::width_fits;
+use crate::lent::{self, Numbers};
 use std::error::Error;
 use std::fmt;
-use words::columns::flag_digit;
 
 // Minute k, counted from 0, stands at k mod width. Unused words are zero. `place` is where the next word goes, and `fill` the
 // number of words kept. The words are an array with their number beside it, since there is no heap and C lends arrays of this length.
@@ -55,11 +54,8 @@ impl ActivityWindow {
     pub fn new(width: usize) -> Result<ActivityWindow, Refused>
         ensures { answer (no_minute 0) result ≡ new_of width }
     {
-        if width_fits(width) {
-            Ok(no_minute(width))
-        } else {
-            Err(Refused::ImpossibleWindow)
-        }
+        check(width_fits(width))?;
+        Ok(no_minute(width))
     }
 
     // Returns the window one minute on, with the word of that minute in it. Refused by 16 where no run of minutes leaves this
@@ -68,11 +64,22 @@ impl ActivityWindow {
     pub fn push_minute(self, word: u64) -> Result<ActivityWindow, Refused>
         ensures { answer self result ≡ push_of self word }
     {
-        if left_by_minutes(self) {
-            Ok(minute_on(self, word))
-        } else {
-            Err(Refused::ImpossibleWindow)
-        }
+        let ActivityWindow {
+            mut words,
+            mut counts,
+            place,
+            fill,
+            width,
+        } = self;
+        let at = Numbers { place, fill, width };
+        let after = lent::push_minute(&mut words, &mut counts, at, word)?;
+        Ok(ActivityWindow {
+            words,
+            counts,
+            place: after.place,
+            fill: after.fill,
+            width: after.width,
+        })
     }
 
     // Returns for each flag how many of the kept words have it set. Refused by 16 where no run of minutes leaves this window: the
@@ -81,11 +88,23 @@ impl ActivityWindow {
     pub fn counts(self) -> Result<[u32; 64], Refused>
         ensures { answer (zeros 64) result ≡ counts_of self }
     {
-        if left_by_minutes(self) {
-            Ok(self.counts)
-        } else {
-            Err(Refused::ImpossibleWindow)
-        }
+        let at = Numbers {
+            place: self.place,
+            fill: self.fill,
+            width: self.width,
+        };
+        lent::counts(&self.words, &self.counts, at)
+    }
+}
+
+// Refuses by 16 where the test failed.
+pub(crate) fn check(passed: bool) -> Result<(), Refused>
+    ensures { result ≡ cond passed (Ok tt) (Err ImpossibleWindow) }
+{
+    if passed {
+        Ok(())
+    } else {
+        Err(Refused::ImpossibleWindow)
     }
 }
 
@@ -100,43 +119,5 @@ fn no_minute(width: usize) -> ActivityWindow
         place: 0,
         fill: 0,
         width,
-    }
-}
-
-// Returns a count with one flag added and another taken off.
-fn moved(count: u32, plus: u32, minus: u32) -> u32
-    requires { (minus ≤ count) × (count ≤ 256) × (plus < 2) }
-    ensures { result + minus ≡ count + plus }
-{
-    count + plus - minus
-}
-
-// Returns the counts with the flags of one word taken off and those of another added.
-#[tactic(auto, using(crate::proofs::WindowLaws::exchanging), unfolding(crate::specs::Workers::Holds, crate::specs::Workers::Exchanged))]
-fn exchange(mut counts: [u32; 64], old: u64, new: u64) -> [u32; 64]
-    requires { Holds counts old }
-    ensures { (length result ≡ 64) × Exchanged counts old new result 64 }
-{
-    for (c, count) in counts.iter_mut().enumerate() {
-        let plus = flag_digit(new, c);
-        let minus = flag_digit(old, c);
-        *count = moved(*count, plus, minus);
-    }
-    counts
-}
-
-// Returns the window one minute on. Where not all places are taken the word at the place is zero, so the oldest word's flags are
-// taken off in either case.
-fn minute_on(mut a: ActivityWindow, word: u64) -> ActivityWindow
-    requires { Good a }
-    ensures { result ≡ minute_on a word }
-{
-    let oldest = a.words[a.place];
-    a.words[a.place] = word;
-    ActivityWindow {
-        counts: exchange(a.counts, oldest, word),
-        place: (a.place + 1) % a.width,
-        fill: min(a.fill + 1, a.width),
-        ..a
     }
 }

@@ -2,8 +2,9 @@
 use Rattle.std.specs.Prelude.{Option, Some, None}
 use Rattle.std.proofs.Common.{◌≡◌, refl, ap, ◌∙◌, Bool, true, false, List, ℕ, zero, suc}
 use Rattle.masks.specs.Answer.{checked, decided, kept}
-use Rattle.masks.specs.Appends.{Append, push_flag, extend_constant, push_word, extend_slice, extend_repeated, extend_bitmap, extend_gather, extend_opt_gather}
-use Rattle.masks.specs.Appends.{append_answer, append_bytes, append_checks, append_flags, constant_checks, gather_checks, span_grow_checks, subslice_checks, word_checks}
+use Rattle.masks.specs.Appends.{Append, push_flag, extend_constant, push_word, extend_slice, extend_repeated, extend_bitmap, extend_gather}
+use Rattle.masks.specs.Appends.{extend_opt_gather, append_answer, append_bytes, append_checks, append_flags, constant_checks, gather_checks}
+use Rattle.masks.specs.Appends.{span_grow_checks, subslice_checks, word_checks}
 use Rattle.masks.specs.Builder.{appended, builder_checks, filling, in_progress, possible}
 use Rattle.masks.specs.Checks.{Check, first_failed}
 use Rattle.masks.specs.Chunks.{chunks_at}
@@ -55,7 +56,8 @@ module _ (n word ones serial : ℕ) (buf : List ℕ) where
   checks-apart (extend_gather bytes start m idxs) = refl
   checks-apart (extend_opt_gather bytes start m idxs) = refl
 
-  pub answer-apart : (a : Append) → as_builder (append_answer a (serial_builder_in n word ones serial) buf) ≡ as_builder (append_answer a (builder_in n word ones) buf)
+  pub answer-apart : (a : Append) → as_builder (append_answer a (serial_builder_in n word ones serial) buf)
+      ≡ as_builder (append_answer a (builder_in n word ones) buf)
   unfolding serial_builder_in builder_in builder_out appended in_progress
   answer-apart a =
       let own = serial_builder_in n word ones serial in
@@ -65,7 +67,8 @@ module _ (n word ones serial : ℕ) (buf : List ℕ) where
   pub bytes_apart : (a : Append) → append_bytes a (serial_builder_in n word ones serial) buf ≡ append_bytes a (builder_in n word ones) buf
   unfolding serial_builder_in builder_in appended in_progress
   bytes_apart a =
-      ap (λ (cs : List Check). kept (first_failed cs) (appended (filling (builder_in n word ones) buf) (append_flags a)).bytes buf) (checks-apart a)
+      ap (λ (cs : List Check). kept (first_failed cs) (appended (filling (builder_in n word ones) buf) (append_flags a)).bytes buf)
+      (checks-apart a)
 
 pub chunks-back : (c : BitChunks) → chunks_at (chunks_out c).start (chunks_out c).length (chunks_out c).place ≡ c
 unfolding chunks_out

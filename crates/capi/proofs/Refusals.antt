@@ -281,7 +281,8 @@ refusals =
       pw_extend_from_slice = λ n word ones buf bytes start m.
           appends _ refl (extend_slice bytes start m) n word ones buf ((masks.refusals).append (extend_slice bytes start m) _ buf);
       pw_extend_each_repeated_from_slice_unchecked = λ n word ones buf bytes start m k.
-          appends _ refl (extend_repeated bytes start m k) n word ones buf ((masks.refusals).append (extend_repeated bytes start m k) _ buf);
+          appends _ refl (extend_repeated bytes start m k) n word ones buf
+          ((masks.refusals).append (extend_repeated bytes start m k) _ buf);
       pw_subslice_extend_from_bitmap = λ n word ones buf mask bytes start m.
           appends _ refl (extend_bitmap (mask_in mask) bytes start m) n word ones buf
           ((masks.refusals).append (extend_bitmap (mask_in mask) bytes start m) _ buf);
@@ -317,7 +318,8 @@ refusals =
           gives-unwritten _ _ refl _ _ (of_mask _) out _ ((masks.refusals).pair Xor (mask_in a) a_bytes (mask_in b) b_bytes out);
       pw_not = λ m bytes out. gives-unwritten _ _ refl _ _ (of_mask _) out _ ((masks.refusals).not-of (mask_in m) bytes out);
       pw_select = λ s s_bytes t t_bytes f f_bytes out.
-          gives-unwritten _ _ refl _ _ (of_mask _) out _ ((masks.refusals).select (mask_in s) s_bytes (mask_in t) t_bytes (mask_in f) f_bytes out);
+          gives-unwritten _ _ refl _ _ (of_mask _) out _
+          ((masks.refusals).select (mask_in s) s_bytes (mask_in t) t_bytes (mask_in f) f_bytes out);
       pw_select_constant = λ s s_bytes t t_bytes x out.
           gives-unwritten _ _ refl _ _ (of_mask _) out _ ((masks.refusals).select_constant (mask_in s) s_bytes (mask_in t) t_bytes x out);
       pw_slices_new = λ m bytes. gives _ _ refl _ _ (of-cursor slices_out _) ((masks.refusals).slices-new (mask_in m) bytes);
@@ -339,7 +341,8 @@ refusals =
       absent-true_idx_next = λ start n place bytes.
           step_back _ refl _ _ true_place _ _ ((masks.refusals).true-next_unmasked start n place bytes);
       pw_true_idx_next_chunk = λ start n place masked bytes out h.
-          rw (true_in_lem start n place masked h) (taken-both _ refl true_place _ _ out _ ((masks.refusals).true-chunk start n place bytes out));
+          rw (true_in_lem start n place masked h)
+          (taken-both _ refl true_place _ _ out _ ((masks.refusals).true-chunk start n place bytes out));
       absent-true_idx_next-chunk = λ start n place bytes out.
           taken-both _ refl true_place _ _ out _ ((masks.refusals).true-chunk_unmasked start n place bytes out);
       pw_and_not_at = λ p p_bytes q q_bytes i.

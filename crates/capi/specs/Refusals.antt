@@ -33,8 +33,7 @@ use Rattle.dispatch.specs.Dispatch.{may_reassign}
 use Rattle.dispatch.specs.Offer.{offer_of}
 use Rattle.activity.specs.Window.{new_of, push_of, counts_of}
 use Rattle.capi.specs.Answers.{as_bit, as_builder, as_cursor, as_flag, as_mask, as_next, as_nth, as_number, as_offer, as_position}
-use Rattle.capi.specs.Answers.{as_remainder, as_run, as_same_mask}
-use Rattle.capi.specs.Answers.{as_part, as_spans, as_split, as_taken, as_validity, as_word, as_zeros}
+use Rattle.capi.specs.Answers.{as_remainder, as_run, as_same_mask, as_part, as_spans, as_split, as_taken, as_validity, as_word, as_zeros}
 use Rattle.capi.specs.Records.{builder_in, chunks_out, chunks_place, iter_out, iter_place, mask_in, optional_in, slices_out, slices_place}
 use Rattle.capi.specs.Records.{serial_builder_in, true_in, true_out, true_place}
 use Rattle.capi.specs.Window.{as_window, unless_refused, window_in}
@@ -145,13 +144,15 @@ pub record Refusals : Type 0 where
   pub pw_superseding : (a : Mask) (a_bytes : List ℕ) (b : Mask) (b_bytes : List ℕ)
       → Gives (1 ∷ 2 ∷ 3 ∷ 14 ∷ []) (as_part (superseding_of (mask_in a) a_bytes (mask_in b) b_bytes)).refusal
   -- combinations
-  pub pw_and : (a : Mask) (a_bytes : List ℕ) (b : Mask) (b_bytes out : List ℕ) → Combines (1 ∷ 2 ∷ 3 ∷ 5 ∷ 9 ∷ []) And a a_bytes b b_bytes out
+  pub pw_and : (a : Mask) (a_bytes : List ℕ) (b : Mask) (b_bytes out : List ℕ)
+      → Combines (1 ∷ 2 ∷ 3 ∷ 5 ∷ 9 ∷ []) And a a_bytes b b_bytes out
   pub pw_and_not : (a : Mask) (a_bytes : List ℕ) (b : Mask) (b_bytes out : List ℕ)
       → Combines (1 ∷ 2 ∷ 3 ∷ 5 ∷ 9 ∷ []) AndNot a a_bytes b b_bytes out
   pub pw_or : (a : Mask) (a_bytes : List ℕ) (b : Mask) (b_bytes out : List ℕ) → Combines (1 ∷ 2 ∷ 3 ∷ 5 ∷ 9 ∷ []) Or a a_bytes b b_bytes out
   pub pw_or_not : (a : Mask) (a_bytes : List ℕ) (b : Mask) (b_bytes out : List ℕ)
       → Combines (1 ∷ 2 ∷ 3 ∷ 5 ∷ 9 ∷ []) OrNot a a_bytes b b_bytes out
-  pub pw_xor : (a : Mask) (a_bytes : List ℕ) (b : Mask) (b_bytes out : List ℕ) → Combines (1 ∷ 2 ∷ 3 ∷ 5 ∷ 9 ∷ []) Xor a a_bytes b b_bytes out
+  pub pw_xor : (a : Mask) (a_bytes : List ℕ) (b : Mask) (b_bytes out : List ℕ)
+      → Combines (1 ∷ 2 ∷ 3 ∷ 5 ∷ 9 ∷ []) Xor a a_bytes b b_bytes out
   pub pw_not : (m : Mask) (bytes out : List ℕ)
       → GivesBack (1 ∷ 2 ∷ 3 ∷ 9 ∷ []) (as_mask (not_of (mask_in m) bytes out)).refusal out (not_bytes (mask_in m) bytes out)
   pub pw_select : (s : Mask) (s_bytes : List ℕ) (t : Mask) (t_bytes : List ℕ) (f : Mask) (f_bytes out : List ℕ)

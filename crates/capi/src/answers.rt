@@ -1,7 +1,7 @@
-// The records in which answers cross to C and Rust. `refusal` is 0, or the number of the refusing check. On refusal what the call got and
-// gives back stands there as it came: a mask, a builder, a cursor's place, the cursor of an offer, a window's numbers. Every other field is
-// then 0. A number for a refusal and a flag beside a value stand here, and in the parameters of the exports, since C has neither `Result`
-// nor `Option`.
+// The records in which answers cross to C and Rust. `refusal` is 0, or the number of the refusing check. On refusal the fields for what the
+// call got and gives back (a mask, a builder, a cursor's place, the cursor of an offer, a window's numbers) hold it as it came; every other
+// field is 0. A number for a refusal and a flag beside a value stand here, and in the parameters of the exports, since C has neither
+// `Result` nor `Option`.
 //
 // The `From` of most answers, here and beside exports, has one shape: a value goes into its fields, a refusal into a record of zeros. One
 // generic impl cannot name the fields, since C has no generics and each answer is a record of its own. Over a trait each record would

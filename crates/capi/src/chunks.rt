@@ -10,6 +10,16 @@ use crate::answers::{CursorAnswer, StepAnswer};
 use crate::walks::remainder_out;
 use masks::chunks::{BitChunks, BitChunksExact};
 
+fn chunks_in(start: usize, length: usize, place: usize) -> BitChunks
+    ensures { result ≡ chunks_at start length place }
+{
+    BitChunks {
+        start,
+        length,
+        place,
+    }
+}
+
 // Returns a cursor at the first word of a span.
 #[unsafe(no_mangle)]
 pub extern "C" fn pw_chunks_new(bytes: &[u8], start: usize, length: usize) -> CursorAnswer
@@ -36,13 +46,7 @@ pub extern "C" fn pw_chunks_next(
 ) -> StepAnswer
     ensures { result ≡ as_word chunks_place (next_chunk (chunks_at start length place) bytes.now) }
 {
-    BitChunks {
-        start,
-        length,
-        place,
-    }
-    .next(bytes)
-    .into()
+    chunks_in(start, length, place).next(bytes).into()
 }
 
 // The last length mod 64 flags as a word in `value`, and their number in `count`, wherever the cursor stands. The cursor stays
@@ -56,13 +60,5 @@ pub extern "C" fn pw_chunks_remainder(
 ) -> StepAnswer
     ensures { result ≡ as_remainder place (chunks_remainder (chunks_at start length place) bytes.now) }
 {
-    remainder_out(
-        place,
-        BitChunks {
-            start,
-            length,
-            place,
-        }
-        .remainder(bytes),
-    )
+    remainder_out(place, chunks_in(start, length, place).remainder(bytes))
 }

@@ -46,6 +46,16 @@ pub extern "C" fn pw_slices_next(
 
 // ---- flags
 
+fn iter_in(start: usize, length: usize, place: usize) -> BitmapIter
+    ensures { result ≡ iter_at start length place }
+{
+    BitmapIter {
+        start,
+        length,
+        place,
+    }
+}
+
 // A cursor before the first flag of a span. With length 0 its start, length and place are 0, before any test.
 #[unsafe(no_mangle)]
 pub extern "C" fn pw_iter_new(bytes: &[u8], start: usize, length: usize) -> CursorAnswer
@@ -64,13 +74,7 @@ pub extern "C" fn pw_iter_next(
 ) -> StepAnswer
     ensures { result ≡ as_bit iter_place (nth_flag (iter_at start length place) bytes.now 0) }
 {
-    BitmapIter {
-        start,
-        length,
-        place,
-    }
-    .next(bytes)
-    .into()
+    iter_in(start, length, place).next(bytes).into()
 }
 
 // The flag that stands `n` behind the next one, 0 or 1 in `value`.
@@ -84,13 +88,7 @@ pub extern "C" fn pw_iter_nth(
 ) -> StepAnswer
     ensures { result ≡ as_bit iter_place (nth_flag (iter_at start length place) bytes.now n) }
 {
-    BitmapIter {
-        start,
-        length,
-        place,
-    }
-    .nth(bytes, n)
-    .into()
+    iter_in(start, length, place).nth(bytes, n).into()
 }
 
 // How many ones stand next, in `count`; the cursor moves past them.
@@ -103,13 +101,9 @@ pub extern "C" fn pw_take_leading_ones(
 ) -> StepAnswer
     ensures { result ≡ as_taken iter_place (take_leading true (iter_at start length place) bytes.now) }
 {
-    BitmapIter {
-        start,
-        length,
-        place,
-    }
-    .take_leading_ones(bytes)
-    .into()
+    iter_in(start, length, place)
+        .take_leading_ones(bytes)
+        .into()
 }
 
 // How many zeros stand next, in `count`; the cursor moves past them.
@@ -122,13 +116,9 @@ pub extern "C" fn pw_take_leading_zeros(
 ) -> StepAnswer
     ensures { result ≡ as_taken iter_place (take_leading false (iter_at start length place) bytes.now) }
 {
-    BitmapIter {
-        start,
-        length,
-        place,
-    }
-    .take_leading_zeros(bytes)
-    .into()
+    iter_in(start, length, place)
+        .take_leading_zeros(bytes)
+        .into()
 }
 
 // ---- positions of ones

@@ -13,7 +13,8 @@ use masks::bitmap::{Bitmap, Recounted};
 use masks::compare::{eq, num_edges, num_intersections_with};
 use masks::refusal::Refused;
 
-// `came` is the record that the export got: what stands beside the result, so that this and the next are no `From`.
+// `came` is the export's own record: a refusal gives it back to the last number. The `Bitmap` in `Refused` will not do: it has lost a stray
+// count beside an unknown one. Since `came` stands beside the result, this and the next are no `From`.
 #[tactic(auto, unfolding(crate::specs::Answers::as_same_mask))]
 fn sliced_out(came: Mask, r: Result<Bitmap, Refused<Bitmap>>) -> MaskAnswer
     ensures { result ≡ as_same_mask came (answer_back r) }
@@ -30,7 +31,7 @@ fn sliced_out(came: Mask, r: Result<Bitmap, Refused<Bitmap>>) -> MaskAnswer
     }
 }
 
-// `came` is the record that the export got.
+// `came` is the export's own record.
 #[tactic(auto, unfolding(crate::specs::Answers::as_zeros))]
 fn counting_out(came: Mask, r: Result<Recounted, Refused<Bitmap>>) -> ZerosAnswer
     ensures { result ≡ as_zeros came (answer_back r) }

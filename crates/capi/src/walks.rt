@@ -17,7 +17,7 @@ use masks::refusal::{Refusal, Refused};
 use masks::slice_iterator::{Run, SlicesIterator};
 use masks::true_idx::TrueIdxIter;
 
-// A cursor of masks: what of it crosses when it is new, and the place alone that crosses when it has moved.
+// A cursor of masks: `out` is the record that crosses when it is new, `place` the number that crosses after a step.
 pub(crate) trait Walk: Copy {
     ghost crossing: { Self → Cursor };
 
@@ -41,7 +41,8 @@ pub(crate) trait Item: Copy {
         ensures { result ≡ (valued self, counted self) };
 }
 
-// A cursor in one line, for the four below, each of which names its own record's definition: a default body cannot read the fields.
+// Makes a cursor's record, for the four impls below. It is no default body: that cannot read the fields, and each impl unfolds its own
+// definition.
 fn cursor_of(start: usize, length: usize, place: usize, masked: u8) -> Cursor
     ensures { result ≡ cursor_of start length place masked }
 {

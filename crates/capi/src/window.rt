@@ -1,7 +1,7 @@
 // Exported to C and Rust: who was busy lately.
 //
 // A window of minutes is lent as its two arrays, of 256 words and of 64 counts, and goes in with its place, its fill and its width,
-// as the call before gave them.
+// as the call before gave them. The exports take these three numbers as parameters: so the C interface has them, and they go in registers.
 #![tactic(auto, unfolding(activity::specs::Window::no_minute, crate::specs::Window::as_window, crate::specs::Window::unless_refused, crate::specs::Window::window_in))]
 
 ghost use Rattle.std.specs.Prelude.{◌≡◌};
@@ -9,26 +9,8 @@ ghost use Rattle.activity.specs.Window.{accepted, new_of, push_of, counts_of};
 ghost use Rattle.capi.specs.Window.{as_window, unless_refused, window_in};
 
 use crate::answers::WindowAnswer;
+use activity::lent::{self, Numbers};
 use activity::window::ActivityWindow;
-
-// A window as one record. The exports take its three numbers as parameters: so the C interface has them, and they go in registers.
-fn window_in(
-    words: [u64; 256],
-    counts: [u32; 64],
-    place: usize,
-    fill: usize,
-    width: usize,
-) -> ActivityWindow
-    ensures { result ≡ window_in words counts place fill width }
-{
-    ActivityWindow {
-        words,
-        counts,
-        place,
-        fill,
-        width,
-    }
-}
 
 // Writes a window's arrays, and answers its numbers.
 fn window_out(a: ActivityWindow, words: &mut [u64; 256], counts: &mut [u32; 64]) -> WindowAnswer
@@ -91,8 +73,14 @@ pub extern "C" fn pw_activity_push_minute(
     ensures counts { counts.new ≡
         (push_of (window_in words.old counts.old place fill width) word).value.counts }
 {
-    match window_in(*words, *counts, place, fill, width).push_minute(word) {
-        Ok(after) => window_out(after, words, counts),
+    let at = Numbers { place, fill, width };
+    match lent::push_minute(words, counts, at, word) {
+        Ok(after) => WindowAnswer {
+            refusal: 0,
+            place: after.place,
+            fill: after.fill,
+            width: after.width,
+        },
         Err(e) => WindowAnswer {
             refusal: e.into(),
             place,
@@ -117,7 +105,8 @@ pub extern "C" fn pw_activity_counts(
         unless_refused (counts_of (window_in words.now counts.now place fill width)).refusal out.old
         (counts_of (window_in words.now counts.now place fill width)).value }
 {
-    match window_in(*words, *counts, place, fill, width).counts() {
+    let at = Numbers { place, fill, width };
+    match lent::counts(words, counts, at) {
         Ok(counted) => {
             *out = counted;
             0

@@ -9,7 +9,7 @@ use capi::records::Mask;
 
 // Whether the flag at `index` is set in the first mask and not in the second. Where not `first_present` there is no first mask, which
 // stands for all ones; where not `second_present` no second mask, which takes nothing away: record and bytes are then not read. 5 comes
-// with both masks alone; without any mask nothing is refused.
+// only where both masks are there; without any mask nothing is refused.
 #[unsafe(no_mangle)]
 pub extern "C" fn pw_and_not_at(
     first_present: bool,

@@ -1,7 +1,8 @@
 // Exported to C and Rust: the builder. Each call appends to `buf` and gives the builder to go on with. Finished words are written
 // to the buffer, and nothing else of it; pw_freeze and pw_into_opt_validity write the frozen bytes over its front.
 ghost use Rattle.std.specs.Prelude.{◌≡◌};
-ghost use Rattle.masks.specs.Appends.{append_answer, append_bytes, extend_bitmap, extend_constant, extend_gather, extend_opt_gather, extend_repeated, extend_slice, push_flag, push_word};
+ghost use Rattle.masks.specs.Appends.{append_answer, append_bytes, extend_bitmap, extend_constant, extend_gather, extend_opt_gather};
+ghost use Rattle.masks.specs.Appends.{extend_repeated, extend_slice, push_flag, push_word};
 ghost use Rattle.masks.specs.Builder.{new_builder};
 ghost use Rattle.masks.specs.Freeze.{freeze_bytes, freeze_of, into_opt_validity_of};
 ghost use Rattle.capi.specs.Answers.{as_builder, as_mask, as_validity};

@@ -1,6 +1,7 @@
 // Exported to C and Rust: the combinations. Each writes frozen bytes over the front of `out` and gives the mask over them.
 ghost use Rattle.std.specs.Prelude.{◌≡◌};
-ghost use Rattle.masks.specs.Combine.{And, AndNot, Or, OrNot, Xor, pair_bytes, pair_of, not_bytes, not_of, select_bytes, select_constant_bytes, select_constant_of, select_of};
+ghost use Rattle.masks.specs.Combine.{And, AndNot, Or, OrNot, Xor, pair_bytes, pair_of, not_bytes, not_of, select_bytes};
+ghost use Rattle.masks.specs.Combine.{select_constant_bytes, select_constant_of, select_of};
 ghost use Rattle.capi.specs.Answers.{as_mask};
 ghost use Rattle.capi.specs.Records.{mask_in};
 

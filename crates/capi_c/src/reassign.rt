@@ -9,9 +9,9 @@ use capi::records::Mask;
 
 // Whether truck number `truck` may be reassigned: its flag in the permission mask, and not in the revocation mask. Where not
 // `permitted` there is no permission mask, and the answer is no for every truck; where not `revoked` no revocation mask, which takes
-// nothing away: record and bytes are then not read. 5 comes with both masks alone; without any mask nothing is refused. No permission
-// mask is the opposite of the none of pw_into_opt_validity and of no mask in pw_true_idx_new, which mean all ones: end the builder of a
-// permission mask with pw_freeze.
+// nothing away: record and bytes are then not read. 5 comes only where both masks are there; without any mask nothing is refused. No
+// permission mask is the opposite of the none of pw_into_opt_validity and of no mask in pw_true_idx_new, which mean all ones: end the
+// builder of a permission mask with pw_freeze.
 #[unsafe(no_mangle)]
 pub extern "C" fn pw_may_reassign(
     permitted: bool,

@@ -1,7 +1,7 @@
 // Exported to C and Rust: who was busy lately.
 //
 // A window of minutes is lent as its two arrays, of 256 words and of 64 counts, and goes in with its place, its fill and its width,
-// as the call before gave them.
+// as the call before gave them. The exports take these three numbers as parameters: so the C interface has them, and they go in registers.
 ghost use Rattle.std.specs.Prelude.{◌≡◌};
 ghost use Rattle.activity.specs.Window.{new_of, push_of, counts_of};
 ghost use Rattle.capi.specs.Window.{as_window, unless_refused, window_in};

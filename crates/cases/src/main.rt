@@ -6,8 +6,8 @@
 // shows.
 //
 // `rt run < stdin` makes them once all crates are proved, and so does `rt ci`. `rt try --seconds 1200 < stdin` makes them unproved: its
-// compiled run tests every access, for some nine minutes; its interpreter gives no answer, since it does not know the call that asks
-// whether the input can be sought in.
+// compiled run tests every access, for some nine minutes; its interpreter cannot run it: it does not know the call that asks whether
+// standard input is seekable.
 #![tactic(auto)]
 
 use std::io;

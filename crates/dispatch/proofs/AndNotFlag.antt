@@ -50,7 +50,8 @@ module _ (p : Bitmap) (p_bytes : List ℕ) (r : Bitmap) (r_bytes : List ℕ) (t 
 
   -- and so flag t of the mask that it gives, in the bytes that it writes to an output that holds them
   pub flag-of-written : (out : List ℕ) → first_failed (pair_checks p p_bytes r r_bytes (length out)) ≡ 0
-      → may_reassign (Some p) p_bytes (Some r) r_bytes t ≡ given (get_or (mask_flags (pair_mask AndNot p p_bytes r r_bytes) (pair_bytes AndNot p p_bytes r r_bytes out)) t false)
+      → may_reassign (Some p) p_bytes (Some r) r_bytes t
+      ≡ given (get_or (mask_flags (pair_mask AndNot p p_bytes r r_bytes) (pair_bytes AndNot p p_bytes r r_bytes out)) t false)
   flag-of-written out e = sym (is-and-not-at p p_bytes (Some r) r_bytes t) ∙ at-written p p_bytes r r_bytes t accepted out e
 
 -- ---- no revocation mask

@@ -29,7 +29,8 @@ flag-given None p_bytes R r_bytes t x here e = absurd (true≢false (sym here))
 
 -- with none the answer is what the definition has for none, whatever that flag
 pub rule-given : (P : Option Bitmap) (p_bytes : List ℕ) (R : Option Bitmap) (r_bytes : List ℕ) (t : ℕ) (x y : Bool) → is_some P ≡ false
-    → given x ≡ and_not_at_of P p_bytes R r_bytes t → y ≡ reassignable None p_bytes R r_bytes t → given y ≡ may_reassign P p_bytes R r_bytes t
+    → given x ≡ and_not_at_of P p_bytes R r_bytes t → y ≡ reassignable None p_bytes R r_bytes t
+    → given y ≡ may_reassign P p_bytes R r_bytes t
 unfolding and_not_at_of may_reassign
 rule-given (Some p) p_bytes R r_bytes t x y gone e h = absurd (true≢false gone)
 rule-given None p_bytes R r_bytes t x y gone e h =

@@ -31,7 +31,8 @@ use Rattle.masks.specs.Workers.{Searchable}
 use Rattle.masks.proofs.NextAndNotLaws.{free-length, next-allowed}
 use Rattle.masks.proofs.NextPlain.{some-ahead, some-before}
 use Rattle.dispatch.specs.declared.offer.Offering.{Offering}
-use Rattle.dispatch.specs.Offer.{beginning, in_order, most_windows, moved_to, next_truck, offer_checks, offered_of, offering, offer_of, or_else, up_to, windows_read}
+use Rattle.dispatch.specs.Offer.{beginning, in_order, most_windows, moved_to, next_truck, offer_checks, offered_of, offering, offer_of}
+use Rattle.dispatch.specs.Offer.{or_else, up_to, windows_read}
 
 -- ---- windows in order
 
@@ -59,7 +60,8 @@ up_to_there (suc most) from end t more h a b = ⊎_elim
     (cases_lt t (from + 32))
 
 -- none of those that begin after it
-up_to_past : (most from end t : ℕ) (more : List ℕ) → t < from → up_to t (beginning most from end ++ more) ≡ length (beginning most from end) + up_to t more
+up_to_past : (most from end t : ℕ) (more : List ℕ) → t < from
+    → up_to t (beginning most from end ++ more) ≡ length (beginning most from end) + up_to t more
 unfolding beginning up_to
 up_to_past zero from end t more h = omega arith
 up_to_past (suc most) from end t more h = ⊎_elim
@@ -133,7 +135,8 @@ module _ (n cursor : ℕ) (inside : cursor ≤ n) where
     search-bound F e =
         subst (λ (G : Found). G.windows ≤ (n + 31) / 32 + 1) (sym e) (bound-here (nth_from l 0 cursor) (nth_from l 0 0) refl refl)
 
-    inside-here : (A B : Option ℕ) (t : ℕ) → nth_from l 0 cursor ≡ A → nth_from l 0 0 ≡ B → (going_round n cursor A B).position ≡ Some t → t < n
+    inside-here : (A B : Option ℕ) (t : ℕ) → nth_from l 0 cursor ≡ A → nth_from l 0 0 ≡ B → (going_round n cursor A B).position ≡ Some t
+        → t < n
     unfolding going_round
     inside-here (Some p) B t e f g = omega (arith, (some-ahead l cursor p e).1, same_Some p t g)
     inside-here None (Some p) t e f g = omega (arith, (some-ahead l 0 p f).1, same_Some p t g)
@@ -187,32 +190,38 @@ module _ (p : Bitmap) (p_bytes : List ℕ) (R : Option Bitmap) (r_bytes : List �
     found_inside t h =
         omega (arith, search-inside p.length cursor ok.ordered (free_flags p p_bytes R r_bytes) long F t is_found h, ok.short)
 
-  pub refused-way : (k : ℕ) → refused k tt ≡ next_and_not_of p p_bytes R r_bytes cursor → refused k cursor ≡ offer_of (Some p) p_bytes R r_bytes cursor
+  pub refused-way : (k : ℕ) → refused k tt ≡ next_and_not_of p p_bytes R r_bytes cursor
+      → refused k cursor ≡ offer_of (Some p) p_bytes R r_bytes cursor
   unfolding next_and_not_of offer_of offer_checks number found
   refused-way k e =
       let same = refused-number k number tt tt found e in
-      is-refused k number cursor (offered_of (Some p) p_bytes R r_bytes cursor) same (λ z. refused-failed k number tt tt found e (sym same ∙ z))
+      is-refused k number cursor (offered_of (Some p) p_bytes R r_bytes cursor) same
+      (λ z. refused-failed k number tt tt found e (sym same ∙ z))
 
 -- without one: the search over a revocation mask asks the checks of that mask
-lone-number : (r : Bitmap) (r_bytes p_bytes : List ℕ) → first_failed (next_checks r r_bytes None p_bytes 0) ≡ first_failed (mask_checks r r_bytes)
+lone-number : (r : Bitmap) (r_bytes p_bytes : List ℕ)
+    → first_failed (next_checks r r_bytes None p_bytes 0) ≡ first_failed (mask_checks r r_bytes)
 unfolding next_checks other_checks
 lone-number r r_bytes p_bytes =
     failed-append (mask_checks r r_bytes) (check 6 (leb 0 r.length) ∷ [])
-    ∙ ap (earlier (first_failed (mask_checks r r_bytes))) (sym (one-check 0 6 true (leb 0 r.length) refl (sym (le-leb 0 r.length (omega arith)))))
+    ∙ ap (earlier (first_failed (mask_checks r r_bytes)))
+    (sym (one-check 0 6 true (leb 0 r.length) refl (sym (le-leb 0 r.length (omega arith)))))
     ∙ earlier-none (first_failed (mask_checks r r_bytes))
 
 module _ (p_bytes : List ℕ) (R : Option Bitmap) (r : Bitmap) (r_bytes : List ℕ) (cursor : ℕ) (here : R ≡ Some r) where
   lone : ℕ
   lone = first_failed (next_checks r r_bytes None p_bytes 0)
 
-  pub none-way : (F : Found) → given F ≡ next_and_not_of r r_bytes None p_bytes 0 → given (offered cursor None 0) ≡ offer_of None p_bytes R r_bytes cursor
+  pub none-way : (F : Found) → given F ≡ next_and_not_of r r_bytes None p_bytes 0
+      → given (offered cursor None 0) ≡ offer_of None p_bytes R r_bytes cursor
   unfolding next_and_not_of offer_of offer_checks offered_of lone
   none-way F e =
       let z : 0 ≡ lone = given-number lone tt F (next_set r.length (free_flags r r_bytes None p_bytes) 0) e in
       is-given 0 (first_failed (mask_checks r r_bytes)) cursor (offered cursor None 0) (z ∙ lone-number r r_bytes p_bytes) refl
       ∙ ap (λ (o : Option Bitmap). offer_of None p_bytes o r_bytes cursor) (sym here)
 
-  pub none-refused : (k : ℕ) → refused k tt ≡ next_and_not_of r r_bytes None p_bytes 0 → refused k cursor ≡ offer_of None p_bytes R r_bytes cursor
+  pub none-refused : (k : ℕ) → refused k tt ≡ next_and_not_of r r_bytes None p_bytes 0
+      → refused k cursor ≡ offer_of None p_bytes R r_bytes cursor
   unfolding next_and_not_of offer_of offer_checks offered_of lone
   none-refused k e =
       let v = next_set r.length (free_flags r r_bytes None p_bytes) 0 in
@@ -222,12 +231,14 @@ module _ (p_bytes : List ℕ) (R : Option Bitmap) (r : Bitmap) (r_bytes : List �
       ∙ ap (λ (o : Option Bitmap). offer_of None p_bytes o r_bytes cursor) (sym here)
 
 -- with no mask at all
-pub no-mask-way : (p_bytes : List ℕ) (R : Option Bitmap) (r_bytes : List ℕ) (cursor : ℕ) → R ≡ None → given (offered cursor None 0) ≡ offer_of None p_bytes R r_bytes cursor
+pub no-mask-way : (p_bytes : List ℕ) (R : Option Bitmap) (r_bytes : List ℕ) (cursor : ℕ) → R ≡ None
+    → given (offered cursor None 0) ≡ offer_of None p_bytes R r_bytes cursor
 unfolding offer_of offer_checks offered_of first_failed decided
 no-mask-way p_bytes R r_bytes cursor gone = ap (λ (o : Option Bitmap). offer_of None p_bytes o r_bytes cursor) (sym gone)
 
 -- the exit of a `?` gives the refusal and the cursor
-pub offer-exit : (result : Result Offering NoOffer) (x : NoOffer) → IsErrAnd result (λ (y : NoOffer). y ≡ x) → (cursor : ℕ) → x.cursor ≡ cursor
+pub offer-exit : (result : Result Offering NoOffer) (x : NoOffer) → IsErrAnd result (λ (y : NoOffer). y ≡ x) → (cursor : ℕ)
+    → x.cursor ≡ cursor
     → offer_answer result ≡ refused (number_of x.refusal) cursor
 offer-exit result x h cursor e =
     let p = err_from_is_err_and result h in

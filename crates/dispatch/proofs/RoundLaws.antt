@@ -112,7 +112,8 @@ head_around (t ∷ X) Y = refl
 -- the first of them is the first from the cursor on, else the first of all
 pub around_first : (f : ℕ → Bool) (n c : ℕ) → c ≤ n → or_else (head_of (ones f c (n - c))) (head_of (ones f 0 n)) ≡ head_of (around f n c)
 around_first f n c h =
-    ap (λ (l : List ℕ). or_else (head_of (ones f c (n - c))) (head_of l)) (in_order_lem f n c h) ∙ head_around (ones f c (n - c)) (ones f 0 c)
+    ap (λ (l : List ℕ). or_else (head_of (ones f c (n - c))) (head_of l)) (in_order_lem f n c h)
+    ∙ head_around (ones f c (n - c)) (ones f 0 c)
 
 one_set : (f : ℕ → Bool) (u : ℕ) → f u ≡ true → ones f u 1 ≡ u ∷ []
 unfolding ones
@@ -126,7 +127,8 @@ up_to f c t low e h =
     let w : c + (t - c) ≡ t = omega arith in
     ap (ones f 0) z ∙ ones-add f 0 c (t - c + 1)
     ∙ ap (λ (l : List ℕ). ones f 0 c ++ l)
-    (ap (λ (x : ℕ). ones f x (t - c + 1)) y ∙ ones-add f c (t - c) 1 ∙ ap₂ (λ (s r : List ℕ). s ++ r) e (ap (λ (x : ℕ). ones f x 1) w ∙ one_set f t h))
+    (ap (λ (x : ℕ). ones f x (t - c + 1)) y ∙ ones-add f c (t - c) 1
+    ∙ ap₂ (λ (s r : List ℕ). s ++ r) e (ap (λ (x : ℕ). ones f x 1) w ∙ one_set f t h))
 
 -- around the cursor one past t are the others, and then t
 pub record Turned (f : ℕ → Bool) (n c t : ℕ) (rest : List ℕ) : Type 0 where
@@ -165,14 +167,16 @@ turn-behind f n c t rest h e s =
       turned =
           ap₂ (λ (a b : List ℕ). a ++ b)
           (ap (ones f (t + 1)) z ∙ ones-add f (t + 1) (c - (t + 1)) (n - c)
-          ∙ ap₂ (λ (a b : List ℕ). a ++ b) (sym (s.after ∙ ap (ones f (t + 1)) w)) (ap (λ (x : ℕ). ones f x (n - c)) y ∙ e) ∙ append-nil rest)
+          ∙ ap₂ (λ (a b : List ℕ). a ++ b) (sym (s.after ∙ ap (ones f (t + 1)) w)) (ap (λ (x : ℕ). ones f x (n - c)) y ∙ e)
+          ∙ append-nil rest)
           (up_to f 0 t (omega arith) s.before s.is_set);
       ahead = λ j p q. absurd (omega (arith, s.high));
       behind = λ b j p q. none-set f c (n - c) e j p (omega arith);
       least = λ b j q. none-set f 0 t front j (omega arith) (omega arith);
     }
 
-turn_by : (f : ℕ → Bool) (n c t : ℕ) (rest : List ℕ) → c ≤ n → (X : List ℕ) → ones f c (n - c) ≡ X → X ++ ones f 0 c ≡ t ∷ rest → Turned f n c t rest
+turn_by : (f : ℕ → Bool) (n c t : ℕ) (rest : List ℕ) → c ≤ n → (X : List ℕ) → ones f c (n - c) ≡ X → X ++ ones f 0 c ≡ t ∷ rest
+    → Turned f n c t rest
 turn_by f n c t rest h [] g e = turn-behind f n c t rest h g (starts f 0 c t rest e)
 turn_by f n c t rest h (u ∷ us) g e =
     let both = first-item u t (us ++ ones f 0 c) rest e in

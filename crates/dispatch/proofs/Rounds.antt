@@ -79,7 +79,8 @@ module _ (p : Bitmap) (p_bytes : List ℕ) (R : Option Bitmap) (r_bytes : List �
     is-given-here : given (offered_of (Some p) p_bytes R r_bytes cursor) ≡ offer_of (Some p) p_bytes R r_bytes cursor
     unfolding offer_of
     is-given-here =
-        is-given 0 (first_failed (offer_checks (Some p) p_bytes R r_bytes cursor)) cursor (offered_of (Some p) p_bytes R r_bytes cursor) (sym e) refl
+        is-given 0 (first_failed (offer_checks (Some p) p_bytes R r_bytes cursor)) cursor
+        (offered_of (Some p) p_bytes R r_bytes cursor) (sym e) refl
 
   pub right : OneCall p p_bytes R r_bytes
   unfolding offered_of offering
@@ -102,8 +103,10 @@ module _ (p : Bitmap) (p_bytes : List ℕ) (R : Option Bitmap) (r_bytes : List �
       let T = turn (may p p_bytes R r_bytes) p.length cursor t rest (ok cursor e).ordered a in
       let truck : next_truck (free_flags p p_bytes R r_bytes) cursor ≡ Some t = first-truck cursor e ∙ ap head_of a in
       let here : trucks_of (call cursor) ≡ t ∷ [] = ap trucks_of (sym (is-given-here cursor e)) ∙ ap truck_in truck in
-      let next : cursor_of (call cursor) ≡ t + 1 = ap cursor_of (sym (is-given-here cursor e)) ∙ ap (λ (o : Option ℕ). moved_to o cursor) truck in
-      let room : k ≤ length (around (may p p_bytes R r_bytes) p.length (t + 1)) = omega (arith, ap length T.turned, length-append rest (t ∷ [])) in
+      let next : cursor_of (call cursor) ≡ t + 1 =
+      ap cursor_of (sym (is-given-here cursor e)) ∙ ap (λ (o : Option ℕ). moved_to o cursor) truck in
+      let room : k ≤ length (around (may p p_bytes R r_bytes) p.length (t + 1)) =
+      omega (arith, ap length T.turned, length-append rest (t ∷ [])) in
       let more = ih (t + 1) (elsewhere-accepted p p_bytes R r_bytes cursor (t + 1) e (omega (arith, T.below))) room in
       ap₂ (λ (a b : List ℕ). a ++ b) here
       (ap (offers call k) next ∙ more ∙ ap (take k) T.turned ∙ take-append-le k rest (t ∷ []) (omega arith))
@@ -121,5 +124,6 @@ module _ (p : Bitmap) (p_bytes : List ℕ) (R : Option Bitmap) (r_bytes : List �
       let f = may p p_bytes R r_bytes in
       let n = p.length in
       let many = around_many f n cursor (ok cursor e).ordered in
-      ap (times t) (offers-first (many_below f n) cursor e (omega (arith, many)) ∙ take_all (many_below f n) (around f n cursor) (omega (arith, many)))
+      ap (times t) (offers-first (many_below f n) cursor e (omega (arith, many))
+      ∙ take_all (many_below f n) (around f n cursor) (omega (arith, many)))
       ∙ around_times f n cursor t (ok cursor e).ordered

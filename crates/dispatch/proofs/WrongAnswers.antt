@@ -12,7 +12,8 @@ use Rattle.dispatch.specs.WrongAnswers.{WrongAnswers}
 pub ruled_out : WrongAnswers
 unfolding
     same_code bits count flags_of window zeros
-    first_failed earlier rank place_in span_checks mask_checks and_not_at_checks index_checks length_checks decided may_reassign reassignable and_not_flag flag_or
+    first_failed earlier rank place_in span_checks mask_checks and_not_at_checks index_checks length_checks decided may_reassign
+    reassignable and_not_flag flag_or
 ruled_out =
     record {
       with-both = tried (plain flag) refl refl refl;

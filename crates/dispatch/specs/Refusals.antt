@@ -36,9 +36,11 @@ number_at permission revocation truck = number_of (may_reassign permission byte 
 
 -- the numbers that come out are all that may: of two masks where either is refused, of one, and of none
 pub record Witnessed : Type 0 where
-  pub first : at_masks (λ m. number_at (Some m) (Some whole) 0) ++ (number_at (Some shorter) (Some whole) 0 ∷ number_at (Some whole) (Some whole) 8 ∷ [])
+  pub first : at_masks (λ m. number_at (Some m) (Some whole) 0)
+      ++ (number_at (Some shorter) (Some whole) 0 ∷ number_at (Some whole) (Some whole) 8 ∷ [])
       ≡ may_give (Some whole) (Some whole)
-  pub second : at_masks (λ m. number_at (Some whole) (Some m) 0) ++ (number_at (Some whole) (Some shorter) 0 ∷ number_at (Some whole) (Some whole) 8 ∷ [])
+  pub second : at_masks (λ m. number_at (Some whole) (Some m) 0)
+      ++ (number_at (Some whole) (Some shorter) 0 ∷ number_at (Some whole) (Some whole) 8 ∷ [])
       ≡ may_give (Some whole) (Some whole)
   pub permission : at_masks (λ m. number_at (Some m) None 0) ++ (number_at (Some whole) None 8 ∷ []) ≡ may_give (Some whole) None
   pub revocation : at_masks (λ m. number_at None (Some m) 0) ++ (number_at None (Some whole) 8 ∷ []) ≡ may_give None (Some whole)
@@ -48,9 +50,11 @@ abbrev pub offer_at : Option Bitmap → Option Bitmap → ℕ → ℕ
 offer_at permission revocation cursor = number_of (offer_of permission byte revocation byte cursor)
 
 pub record OfferWitnessed : Type 0 where
-  pub first : at_masks (λ m. offer_at (Some m) (Some whole) 0) ++ (offer_at (Some shorter) (Some whole) 0 ∷ offer_at (Some whole) (Some whole) 9 ∷ [])
+  pub first : at_masks (λ m. offer_at (Some m) (Some whole) 0)
+      ++ (offer_at (Some shorter) (Some whole) 0 ∷ offer_at (Some whole) (Some whole) 9 ∷ [])
       ≡ offer_gives (Some whole) (Some whole)
-  pub second : at_masks (λ m. offer_at (Some whole) (Some m) 0) ++ (offer_at (Some whole) (Some shorter) 0 ∷ offer_at (Some whole) (Some whole) 9 ∷ [])
+  pub second : at_masks (λ m. offer_at (Some whole) (Some m) 0)
+      ++ (offer_at (Some whole) (Some shorter) 0 ∷ offer_at (Some whole) (Some whole) 9 ∷ [])
       ≡ offer_gives (Some whole) (Some whole)
   pub permission : at_masks (λ m. offer_at (Some m) None 0) ++ (offer_at (Some whole) None 9 ∷ []) ≡ offer_gives (Some whole) None
   pub revocation : at_masks (λ m. offer_at None (Some m) 9) ≡ offer_gives None (Some whole)

@@ -1,6 +1,7 @@
 -- What `offer` means for trucks, in plain words: which one is offered, when none is, and what as many calls as there are such trucks
 -- offer. Assumes nothing.
-use Rattle.std.specs.Prelude.{ℕ, zero, suc, ◌+◌, ◌≤◌, ◌<◌, ◌≡◌, Bool, true, false, cond, ◌&&◌, List, [], ◌∷◌, ◌++◌, eqb, ltb, Option, Some, None}
+use Rattle.std.specs.Prelude.{ℕ, zero, suc, ◌+◌, ◌≤◌, ◌<◌, ◌≡◌, Bool, true, false, cond, ◌&&◌, List, [], ◌∷◌, ◌++◌, eqb, ltb, Option, Some}
+use Rattle.std.specs.Prelude.{None}
 use Rattle.masks.specs.Answer.{Answer, given, refused}
 use Rattle.masks.specs.Checks.{first_failed}
 use Rattle.masks.specs.declared.bitmap.Bitmap.{Bitmap}
@@ -74,4 +75,5 @@ module _ (p : Bitmap) (p_bytes : List ℕ) (revocation : Option Bitmap) (r_bytes
   -- in as many calls as there are such trucks each of them is offered once, and no other
   abbrev pub ARound : Type 0
   ARound = (cursor : ℕ) → Accepted cursor → (t : ℕ)
-      → times t (offers (offer_of (Some p) p_bytes revocation r_bytes) (many_below may p.length) cursor) ≡ cond (ltb t p.length && may t) 1 0
+      → times t (offers (offer_of (Some p) p_bytes revocation r_bytes) (many_below may p.length) cursor)
+      ≡ cond (ltb t p.length && may t) 1 0

@@ -14,7 +14,8 @@ use Rattle.masks.specs.Appends.{all_below, constant_checks, gather_checks, gathe
 use Rattle.masks.specs.Appends.{repeated, span_grow_checks, subslice_checks, word_checks}
 use Rattle.masks.specs.Builder.{Filling, appended, builder_checks, builder_flags, in_progress, possible}
 use Rattle.masks.specs.Checks.{earlier, first_failed, rank, place_in, output_checks, span_checks}
-use Rattle.masks.specs.Combine.{each_bytes, each_of, largest_serial, not_checks, pair_bytes, pair_checks, pair_flags, pair_mask, pair_of, select_checks, shortcut}
+use Rattle.masks.specs.Combine.{each_bytes, each_of, largest_serial, not_checks, pair_bytes, pair_checks, pair_flags, pair_mask, pair_of}
+use Rattle.masks.specs.Combine.{select_checks, shortcut}
 use Rattle.masks.specs.Freeze.{freeze_bytes, freeze_checks, frozen_mask, frozen_over, validity_of}
 use Rattle.masks.specs.Frozen.{frozen, over_from, packed}
 use Rattle.masks.specs.Mask.{cut_zeros, kept_count, mask_checks, piece_checks, recounts}

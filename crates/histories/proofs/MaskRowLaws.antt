@@ -16,9 +16,8 @@ use Rattle.words.proofs.Windows.{length-window}
 use Rattle.masks.specs.declared.bitmap.Recounted.{Recounted}
 use Rattle.masks.specs.Answer.{given, refused, checked, decided}
 use Rattle.masks.specs.Checks.{Check, check, first_failed, limit, output_checks, within_limit}
-use Rattle.masks.specs.Combine.{each_bytes, each_of, not_checks, not_flags, pair_bytes, pair_checks}
-use Rattle.masks.specs.Combine.{pair_each, pair_flags, pair_mask, pair_of, pair_shortcut}
-use Rattle.masks.specs.Combine.{result_count, result_mask, select_checks, select_constant_flags, select_flags}
+use Rattle.masks.specs.Combine.{each_bytes, each_of, not_checks, not_flags, pair_bytes, pair_checks, pair_each, pair_flags, pair_mask}
+use Rattle.masks.specs.Combine.{pair_of, pair_shortcut, result_count, result_mask, select_checks, select_constant_flags, select_flags}
 use Rattle.masks.specs.Mask.{mask_checks, mask_flags, piece_checks, slice_of, sliced_mask, uncounted, unset_bits_of, with_count, zero_count}
 use Rattle.masks.specs.TrueCounts.{Sound, TrueCount}
 use Rattle.masks.specs.declared.bitmap.Bitmap.{Bitmap}
@@ -49,7 +48,8 @@ piece-starts m bytes offset n e =
     let rest : List Check = within_limit offset ∷ within_limit n ∷ within_limit (m.start + offset) ∷ six in
     leb-true (m.start + offset) limit (first-allowed 0 (leb (m.start + offset) limit) six
     (rest-allowed (within_limit n) (within_limit (m.start + offset) ∷ six)
-    (rest-allowed (within_limit offset) (within_limit n ∷ within_limit (m.start + offset) ∷ six) (both_right (mask_checks m bytes) rest e))))
+    (rest-allowed (within_limit offset) (within_limit n ∷ within_limit (m.start + offset) ∷ six)
+    (both_right (mask_checks m bytes) rest e))))
 
 slice-stands : (m : Bitmap) (bytes : List ℕ) (offset n : ℕ) → first_failed (piece_checks m bytes offset n) ≡ 0 → Sound m bytes
     → Stands (sliced_mask m bytes offset n) bytes (piece offset n (mask_flags m bytes))

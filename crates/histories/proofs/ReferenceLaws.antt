@@ -19,9 +19,8 @@ use Rattle.words.proofs.Bits.{bits-take}
 use Rattle.words.proofs.Combining.{else-clear}
 use Rattle.words.proofs.Plain.{at-flags, at-stretch, window-part}
 use Rattle.words.proofs.Windows.{at-window, length-window}
-use Rattle.masks.specs.Appends.{Append, push_flag, extend_constant, push_word, extend_slice}
-use Rattle.masks.specs.Appends.{extend_repeated, extend_bitmap, extend_gather, extend_opt_gather}
-use Rattle.masks.specs.Appends.{all_below, append_checks, append_flags, gather_checks, gathered, grow_checks}
+use Rattle.masks.specs.Appends.{Append, push_flag, extend_constant, push_word, extend_slice, extend_repeated, extend_bitmap, extend_gather}
+use Rattle.masks.specs.Appends.{extend_opt_gather, all_below, append_checks, append_flags, gather_checks, gathered, grow_checks}
 use Rattle.masks.specs.Appends.{inner_checks, repeated, span_grow_checks, subslice_checks, word_checks}
 use Rattle.masks.specs.Builder.{none_from}
 use Rattle.masks.specs.Checks.{Check, check, first_failed, within_limit}
@@ -103,7 +102,8 @@ unfolding word_checks subslice_checks gather_checks
 added-same (push_flag x) b buf e = refl
 added-same (extend_constant n x) b buf e = copies-same n x
 added-same (push_word w n) b buf e =
-    word_flags_lem w n (word-allowed w n (both_right (grow_checks b n (length buf)) (within_limit n ∷ check 6 (leb n 64 && none_from w n) ∷ []) e))
+    word_flags_lem w n
+    (word-allowed w n (both_right (grow_checks b n (length buf)) (within_limit n ∷ check 6 (leb n 64 && none_from w n) ∷ []) e))
 added-same (extend_slice bytes start n) b buf e = span-flags bytes start n
 added-same (extend_repeated bytes start n k) b buf e =
     ap (flat_map (λ (x : Bool). replicate k x)) (span-flags bytes start n) ∙ repeated-same k (stretch bytes start n)
@@ -114,7 +114,8 @@ added-same (extend_bitmap m bytes offset n) b buf e =
     ap (piece offset n) (mask-flags m bytes) ∙ mask-piece m bytes offset n (inner-allowed offset n m.length inner)
 added-same (extend_gather bytes start n idxs) b buf e =
     strict_same bytes start n idxs
-    (check-allowed 5 (all_below n idxs) (both_right (span_grow_checks b buf bytes start n (length idxs)) (check 6 (all_below n idxs) ∷ []) e))
+    (check-allowed 5 (all_below n idxs)
+    (both_right (span_grow_checks b buf bytes start n (length idxs)) (check 6 (all_below n idxs) ∷ []) e))
 added-same (extend_opt_gather bytes start n idxs) b buf e = optional-same bytes start n idxs
 
 -- ---- `select`

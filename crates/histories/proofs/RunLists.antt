@@ -33,8 +33,7 @@ use Rattle.masks.proofs.MaskLaws.{mask-sound}
 use Rattle.masks.proofs.RoomLaws.{room_after, room-less}
 use Rattle.masks.proofs.RunsWhole.{lists-runs}
 use Rattle.histories.specs.Agreement.{runs_of, runs_shown}
-use Rattle.histories.specs.History.{Call, Fed, Outcome, building, masked}
-use Rattle.histories.specs.History.{after_append, after_freeze, outcome, run, step, trace}
+use Rattle.histories.specs.History.{Call, Fed, Outcome, building, masked, after_append, after_freeze, outcome, run, step, trace}
 use Rattle.histories.specs.Library.{LibraryCall, library_call}
 use Rattle.histories.specs.Owed.{Stands}
 use Rattle.histories.specs.RunLists.{HasRuns, Rebuilt, RunLists, Saves, constant, gap_calls, saving_from}

@@ -7,9 +7,8 @@ use mathlib.Core.List.{List, ◌++◌}
 use Prim.Native.Nat.{ℕ, zero, suc}
 use lib.ListN.{length}
 use Rattle.masks.specs.Answer.{Answer, given, refused, decided}
-use Rattle.masks.specs.Appends.{Append, push_flag, extend_constant, push_word, extend_slice, extend_repeated, extend_bitmap}
-use Rattle.masks.specs.Appends.{extend_gather, extend_opt_gather, append_answer, append_bytes, grow_checks, inner_checks}
-use Rattle.masks.specs.Appends.{subslice_checks}
+use Rattle.masks.specs.Appends.{Append, push_flag, extend_constant, push_word, extend_slice, extend_repeated, extend_bitmap, extend_gather}
+use Rattle.masks.specs.Appends.{extend_opt_gather, append_answer, append_bytes, grow_checks, inner_checks, subslice_checks}
 use Rattle.masks.specs.Checks.{first_failed}
 use Rattle.masks.specs.Mask.{mask_checks}
 use Rattle.masks.specs.TrueCounts.{Truthful}
@@ -18,9 +17,8 @@ use Rattle.masks.specs.declared.builder.BitmapBuilder.{BitmapBuilder}
 use Rattle.masks.proofs.CheckLaws.{both_left}
 use Rattle.masks.proofs.MaskLaws.{mask-truthful}
 use Rattle.histories.specs.Agreement.{TruthfulAppend, TruthfulAt, TruthfulCall, TruthfulRow}
-use Rattle.histories.specs.History.{Call, try_new, append, freeze, into_opt_validity, make}
-use Rattle.histories.specs.History.{State, waiting, building, masked, no_mask, after_append, after_written, lent_at}
-use Rattle.histories.specs.History.{step, step_row, written_answer, written_bytes}
+use Rattle.histories.specs.History.{Call, try_new, append, freeze, into_opt_validity, make, State, waiting, building, masked, no_mask}
+use Rattle.histories.specs.History.{after_append, after_written, lent_at, step, step_row, written_answer, written_bytes}
 use Rattle.histories.specs.Owed.{Honest, Lawful, LawfulWrites}
 use Rattle.histories.specs.Rows.{Argument, own, other, Every, RowCall, Tuple, Writes, each, keep, write}
 

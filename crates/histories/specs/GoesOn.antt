@@ -9,9 +9,8 @@ use Rattle.masks.specs.Examples.{first, lent}
 use Rattle.masks.specs.Mask.{mask_of}
 use Rattle.masks.specs.declared.bitmap.Bitmap.{Bitmap}
 use Rattle.histories.specs.Agreement.{ComesTo}
-use Rattle.histories.specs.History.{Call, try_new, append, freeze, into_opt_validity, make}
-use Rattle.histories.specs.History.{Fed, History, from_builder, from_span, from_mask}
-use Rattle.histories.specs.History.{building, no_mask, end_of, list_of, start_of, step, trace}
+use Rattle.histories.specs.History.{Call, try_new, append, freeze, into_opt_validity, make, Fed, History, from_builder, from_span}
+use Rattle.histories.specs.History.{from_mask, building, no_mask, end_of, list_of, start_of, step, trace}
 use Rattle.histories.specs.Library.{LibraryCall, library_call, masks}
 use Rattle.histories.specs.MaskRows.{pair, invert, select, select_constant, MaskCall, slice, unset_bits, combine}
 use Rattle.histories.specs.ReferenceList.{and, and_not, or, or_not, xor}
@@ -108,7 +107,8 @@ RefusedOnA c = Comes (on_a (c ∷ [])) (1 ∷ 0 ∷ []) (mask_of 0 6 None) A (1 
 
 pub record RefusedKinds : Type 0 where
   -- 64 ones fill the eight bytes
-  pub push : Comes (built (extend_constant 64 true ∷ push_flag false ∷ []) freeze) (1 ∷ 0 ∷ 1 ∷ []) (mask_of 0 64 (Some 0)) (replicate 8 0xFF)
+  pub push : Comes (built (extend_constant 64 true ∷ push_flag false ∷ []) freeze) (1 ∷ 0 ∷ 1 ∷ []) (mask_of 0 64 (Some 0))
+      (replicate 8 0xFF)
       (replicate 64 1)
   pub constant : RefusedAppend (extend_constant 64 true)
   -- a bit beyond the word's stated length

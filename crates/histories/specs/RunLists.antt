@@ -2,7 +2,8 @@
 --
 -- The runs of a list of flags are `runs_from 0`, which a new `SlicesIterator` lists. The calls are those of a history, so that the
 -- theorem speaks of the contracts of `extend_constant` and `freeze`.
-use Rattle.std.specs.Prelude.{ℕ, ◌+◌, ◌-◌, ◌≤◌, ◌<◌, ◌≡◌, Bool, true, false, cond, ◌&&◌, List, [], ◌∷◌, ◌++◌, map, eqb, leb, ltb, length, Some}
+use Rattle.std.specs.Prelude.{ℕ, ◌+◌, ◌-◌, ◌≤◌, ◌<◌, ◌≡◌, Bool, true, false, cond, ◌&&◌, List, [], ◌∷◌, ◌++◌, map, eqb, leb, ltb, length}
+use Rattle.std.specs.Prelude.{Some}
 use Rattle.masks.specs.Appends.{extend_constant}
 use Rattle.masks.specs.Builder.{Filling, builder_flags}
 use Rattle.masks.specs.Checks.{first_failed, limit}

@@ -29,15 +29,18 @@ unfolding span_checks first_failed earlier
 span-accepted start n size a b c = rw (le-leb start limit a, le-leb n limit b, le-leb (start + n) (8 * size) c)
 
 -- and so is a mask over it with no count or a true one
-pub mask-accepted : (m : Bitmap) (bytes : List ℕ) → m.start ≤ limit → m.length ≤ limit → m.start + m.length ≤ 8 * length bytes → Truthful m bytes
+pub mask-accepted : (m : Bitmap) (bytes : List ℕ) → m.start ≤ limit → m.length ≤ limit → m.start + m.length ≤ 8 * length bytes
+    → Truthful m bytes
     → 0 ≡ first_failed (mask_checks m bytes)
 unfolding mask_checks first_failed earlier
 mask-accepted m bytes a b c t =
-    passed-before (span_checks m.start m.length (length bytes)) (check 3 (count_valid m bytes) ∷ []) 0 0 (span-accepted m.start m.length (length bytes) a b c) refl
+    passed-before (span_checks m.start m.length (length bytes)) (check 3 (count_valid m bytes) ∷ []) 0 0
+    (span-accepted m.start m.length (length bytes) a b c) refl
     (rw (true-valid m.unset (mask_flags m bytes) t))
 
 -- the mask that `try_new` gives
-pub new-accepted : (bytes : List ℕ) (start n : ℕ) → first_failed (span_checks start n (length bytes)) ≡ 0 → 0 ≡ first_failed (mask_checks (mask_of start n (uncounted n)) bytes)
+pub new-accepted : (bytes : List ℕ) (start n : ℕ) → first_failed (span_checks start n (length bytes)) ≡ 0
+    → 0 ≡ first_failed (mask_checks (mask_of start n (uncounted n)) bytes)
 new-accepted bytes start n e =
     let a = span-allowed start n (length bytes) e in
     mask-accepted (mask_of start n (uncounted n)) bytes a.starts a.short a.inside
@@ -64,7 +67,8 @@ builder-accepted b n size r =
     )
 
 -- the whole of a mask, appended
-pub whole-accepted : (b : BitmapBuilder) (buf : List ℕ) (m : Bitmap) (bytes : List ℕ) → 0 ≡ first_failed (mask_checks m bytes) → m.length ≤ limit → Room b m.length (length buf)
+pub whole-accepted : (b : BitmapBuilder) (buf : List ℕ) (m : Bitmap) (bytes : List ℕ) → 0 ≡ first_failed (mask_checks m bytes)
+    → m.length ≤ limit → Room b m.length (length buf)
     → 0 ≡ first_failed (subslice_checks b buf m bytes 0 m.length)
 unfolding subslice_checks
 whole-accepted b buf m bytes a short r =

@@ -41,7 +41,8 @@ pub length-progress : (b : BitmapBuilder) → length (in_progress b) ≡ b.lengt
 unfolding in_progress
 length-progress b = length-take-le (b.length % 64) (bits 64 b.word) (omega (arith, length-bits 64 b.word))
 
-pub progress-of : (b : BitmapBuilder) (n : ℕ) (r : List Bool) (ones : ℕ) → length r ≡ n % 64 → in_progress (rebuilt b n (word_of r) ones) ≡ r
+pub progress-of : (b : BitmapBuilder) (n : ℕ) (r : List Bool) (ones : ℕ) → length r ≡ n % 64
+    → in_progress (rebuilt b n (word_of r) ones) ≡ r
 unfolding in_progress
 progress-of b n r ones e = word_back r (n % 64) e (omega arith)
 
@@ -56,7 +57,8 @@ pub record Parts (f : Filling) (l : List Bool) (q : ℕ) (front rest : List Bool
 -- n flags more, of which `front` is written
 abbrev pub grown : Filling → ℕ → ℕ → List Bool → List Bool → Filling
 grown f n q front rest =
-    filling (rebuilt f.builder (f.builder.length + n) (word_of rest) (f.builder.ones + count front)) (over_from f.bytes (8 * (f.builder.length / 64)) (packed (8 * q) front))
+    filling (rebuilt f.builder (f.builder.length + n) (word_of rest) (f.builder.ones + count front))
+    (over_from f.bytes (8 * (f.builder.length / 64)) (packed (8 * q) front))
 
 abbrev made : Filling → ℕ → ℕ → List Bool → Filling
 made f n q all =
@@ -69,10 +71,12 @@ made-grown f n q front rest e =
     ap₂ (λ (r t : List Bool). filling (rebuilt f.builder (f.builder.length + n) (word_of r) (f.builder.ones + count t))
     (over_from f.bytes (8 * (f.builder.length / 64)) (packed (8 * q) (front ++ rest))))
     (drop_at front rest (64 * q) e) (take_at front rest (64 * q) e)
-    ∙ ap (λ (m : List ℕ). filling (rebuilt f.builder (f.builder.length + n) (word_of rest) (f.builder.ones + count front)) (over_from f.bytes (8 * (f.builder.length / 64)) m))
+    ∙ ap (λ (m : List ℕ). filling (rebuilt f.builder (f.builder.length + n) (word_of rest) (f.builder.ones + count front))
+    (over_from f.bytes (8 * (f.builder.length / 64)) m))
     (packed-front (8 * q) front rest e8)
 
-pub appended-grown : (f : Filling) (l : List Bool) (q : ℕ) (front rest : List Bool) → Parts f l q front rest → appended f l ≡ grown f (length l) q front rest
+pub appended-grown : (f : Filling) (l : List Bool) (q : ℕ) (front rest : List Bool) → Parts f l q front rest
+    → appended f l ≡ grown f (length l) q front rest
 unfolding appended
 appended-grown f l q front rest p =
     let row = p.row in
@@ -84,7 +88,8 @@ appended-grown f l q front rest p =
 
 -- the parts that every appending has
 pub parts-of : (f : Filling) (l : List Bool)
-    → Parts f l (length (in_progress f.builder ++ l) / 64) (take (64 * (length (in_progress f.builder ++ l) / 64)) (in_progress f.builder ++ l))
+    → Parts f l (length (in_progress f.builder ++ l) / 64)
+    (take (64 * (length (in_progress f.builder ++ l) / 64)) (in_progress f.builder ++ l))
     (drop (64 * (length (in_progress f.builder ++ l) / 64)) (in_progress f.builder ++ l))
 parts-of f l =
     let all = in_progress f.builder ++ l in
@@ -95,7 +100,8 @@ parts-of f l =
     }
 
 -- how many flags the parts are
-pub parts-long : (f : Filling) (l : List Bool) (q : ℕ) (front rest : List Bool) → Parts f l q front rest → f.builder.length % 64 + length l ≡ 64 * q + length rest
+pub parts-long : (f : Filling) (l : List Bool) (q : ℕ) (front rest : List Bool) → Parts f l q front rest
+    → f.builder.length % 64 + length l ≡ 64 * q + length rest
 parts-long f l q front rest p =
     let long : length (in_progress f.builder ++ l) ≡ length (front ++ rest) = ap length p.row in
     let full : length front ≡ 64 * q = p.whole in
@@ -109,7 +115,12 @@ module _ (f : Filling) (a b : List Bool) (q : ℕ) (front rest : List Bool) (p :
   next-parts =
       let less : length rest < 64 = p.less in
       let e : length rest ≡ (f.builder.length + length a) % 64 = omega (arith, parts-long f a q front rest p) in
-      record { row = ap (λ (t : List Bool). t ++ b) (progress-of f.builder (f.builder.length + length a) rest (f.builder.ones + count front) e) ∙ row; whole = full2; less = less2 }
+      record {
+        row = ap (λ (t : List Bool). t ++ b) (progress-of f.builder (f.builder.length + length a) rest (f.builder.ones + count front)
+            e) ∙ row;
+        whole = full2;
+        less = less2;
+      }
 
   both-parts : Parts f (a ++ b) (q + r) (front ++ front2) rest2
   both-parts =
@@ -122,12 +133,14 @@ module _ (f : Filling) (a b : List Bool) (q : ℕ) (front rest : List Bool) (p :
         less = less2;
       }
 
-  grown-grown : grown (grown f (length a) q front rest) (length b) r front2 rest2 ≡ grown f (length (a ++ b)) (q + r) (front ++ front2) rest2
+  grown-grown : grown (grown f (length a) q front rest) (length b) r front2 rest2
+      ≡ grown f (length (a ++ b)) (q + r) (front ++ front2) rest2
   grown-grown =
       let full : length front ≡ 64 * q = p.whole in
       let less : length rest < 64 = p.less in
       let n : f.builder.length + length a + length b ≡ f.builder.length + length (a ++ b) = omega (arith, length-append a b) in
-      let o : f.builder.ones + count front + count front2 ≡ f.builder.ones + count (front ++ front2) = omega (arith, count-append front front2) in
+      let o : f.builder.ones + count front + count front2 ≡ f.builder.ones + count (front ++ front2) =
+      omega (arith, count-append front front2) in
       let at : 8 * ((f.builder.length + length a) / 64) ≡ 8 * (f.builder.length / 64) + length (packed (8 * q) front) = omega
       (arith, parts-long f a q front rest p, length-packed (8 * q) front) in
       let k : 8 * q + 8 * r ≡ 8 * (q + r) = omega arith in
@@ -142,7 +155,8 @@ module _ (f : Filling) (a b : List Bool) (q : ℕ) (front rest : List Bool) (p :
       ∙ over_from-more f.bytes (8 * (f.builder.length / 64)) (packed (8 * q) front) (packed (8 * r) front2)
       ∙ ap (over_from f.bytes (8 * (f.builder.length / 64))) two in
       ap₂ (λ (x y : ℕ). filling (rebuilt f.builder x (word_of rest2) y)
-      (over_from (over_from f.bytes (8 * (f.builder.length / 64)) (packed (8 * q) front)) (8 * ((f.builder.length + length a) / 64)) (packed (8 * r) front2))) n o
+      (over_from (over_from f.bytes (8 * (f.builder.length / 64)) (packed (8 * q) front)) (8 * ((f.builder.length + length a) / 64))
+      (packed (8 * r) front2))) n o
       ∙ ap (filling (rebuilt f.builder (f.builder.length + length (a ++ b)) (word_of rest2) (f.builder.ones + count (front ++ front2)))) m
 
   append-parts : appended (appended f a) b ≡ appended f (a ++ b)
@@ -186,7 +200,8 @@ low-window k w e =
 pub low_count : (k w : ℕ) → none_from w k ≡ true → count (take k (bits 64 w)) ≡ count (bits 64 w)
 low_count k w e =
     let z : count (drop k (bits 64 w)) ≡ 0 = any-zero (drop k (bits 64 w)) (sym (not-true (any_set (drop k (bits 64 w))) e)) in
-    let s : count (take k (bits 64 w)) + count (drop k (bits 64 w)) ≡ count (bits 64 w) = sym (count-append (take k (bits 64 w)) (drop k (bits 64 w)))
+    let s : count (take k (bits 64 w)) + count (drop k (bits 64 w)) ≡ count (bits 64 w) =
+    sym (count-append (take k (bits 64 w)) (drop k (bits 64 w)))
     ∙ ap count (take-append-drop k (bits 64 w)) in
     omega arith
 
@@ -210,17 +225,20 @@ append-none f h e =
     let n : f.builder.length + 0 ≡ f.builder.length = omega arith in
     let o : f.builder.ones + count [] ≡ f.builder.ones = omega (arith, no-count) in
     appended-grown f [] 0 [] (in_progress f.builder) p
-    ∙ ap₂ (λ (x y : ℕ). filling (rebuilt f.builder x (word_of (in_progress f.builder)) y) (over_from f.bytes (8 * (f.builder.length / 64)) (packed 0 []))) n o
+    ∙ ap₂ (λ (x y : ℕ). filling (rebuilt f.builder x (word_of (in_progress f.builder)) y)
+    (over_from f.bytes (8 * (f.builder.length / 64)) (packed 0 []))) n o
     ∙ ap₂ (λ (x : ℕ) (y : List ℕ). filling (rebuilt f.builder f.builder.length x f.builder.ones) y)
     (progress-word f.builder h e)
     (ap (over_from f.bytes (8 * (f.builder.length / 64))) (no_bytes []) ∙ over_from-none f.bytes (8 * (f.builder.length / 64)))
 
 -- ---- the promises of a call that appends
 
-pub append-way : (r m : ℕ) (s b : BitmapBuilder) (old out : List ℕ) (f : Filling) (l : List Bool) → r ≡ m → r ≡ 0 → filling b out ≡ appended f l
+pub append-way : (r m : ℕ) (s b : BitmapBuilder) (old out : List ℕ) (f : Filling) (l : List Bool) → r ≡ m → r ≡ 0
+    → filling b out ≡ appended f l
     → (given b ≡ decided m s (appended f l).builder) × (out ≡ kept m (appended f l).bytes old)
 append-way r m s b old out f l e h p =
-    given-way r m s old e b (appended f l).builder out (appended f l).bytes h (ap (λ (x : Filling). x.builder) p) (ap (λ (x : Filling). x.bytes) p)
+    given-way r m s old e b (appended f l).builder out (appended f l).bytes h (ap (λ (x : Filling). x.builder) p)
+    (ap (λ (x : Filling). x.bytes) p)
 
 -- a record that was given: the same answer as a number and the record that is left
 pub change-done : {S : Type 0} (b : S) (r : Answer S S) → given b ≡ r → decided 0 b b ≡ r

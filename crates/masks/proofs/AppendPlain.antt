@@ -18,9 +18,10 @@ use Rattle.words.proofs.Plain.{at_bits, at-flags, at-stretch}
 use Rattle.words.proofs.Windows.{length-window, length-copies, at_copies, at_in, at_take, at-window}
 use Rattle.masks.specs.Answer.{given}
 use Rattle.masks.specs.AppendPlain.{new_count, new_flag, builder_flag, AppendsPlainly, AppendPlain}
-use Rattle.masks.specs.Appends.{Append, push_flag, extend_constant, push_word, extend_slice, extend_repeated, extend_bitmap, extend_gather, extend_opt_gather}
-use Rattle.masks.specs.Appends.{append_checks, append_flags, append_answer, append_bytes, grow_checks, word_checks, constant_checks, span_grow_checks, subslice_checks}
-use Rattle.masks.specs.Appends.{inner_checks, gather_checks, all_below, gathered, repeated}
+use Rattle.masks.specs.Appends.{Append, push_flag, extend_constant, push_word, extend_slice, extend_repeated, extend_bitmap, extend_gather}
+use Rattle.masks.specs.Appends.{extend_opt_gather, append_checks, append_flags, append_answer, append_bytes, grow_checks, word_checks}
+use Rattle.masks.specs.Appends.{constant_checks, span_grow_checks, subslice_checks, inner_checks, gather_checks, all_below, gathered}
+use Rattle.masks.specs.Appends.{repeated}
 use Rattle.masks.specs.Builder.{filling, appended, builder_flags, in_progress, none_from}
 use Rattle.masks.specs.Checks.{check, first_failed, within_limit, span_checks}
 use Rattle.masks.specs.Mask.{mask_checks, mask_flags}
@@ -35,7 +36,8 @@ use Rattle.masks.proofs.RoomLaws.{room_of, word-allowed, flags-after, length-the
 
 -- ---- lists, flag by flag
 
-pub at-gathered : (l : List Bool) (idxs : List ℕ) (j : ℕ) → j < length idxs → get_or (gathered l idxs) j false ≡ get_or l (get_or idxs j 0) false
+pub at-gathered : (l : List Bool) (idxs : List ℕ) (j : ℕ) → j < length idxs
+    → get_or (gathered l idxs) j false ≡ get_or l (get_or idxs j 0) false
 unfolding gathered
 at-gathered l [] j h = absurd (omega arith)
 at-gathered l (i ∷ idxs) zero h = refl
@@ -76,14 +78,16 @@ below_at n (i ∷ idxs) (suc j) e h = below_at n idxs j (and_parts _ _ e).1 (ome
 
 -- flag i of a span, 0 at or past its length
 padded : (bytes : List ℕ) (start n i : ℕ) → get_or (stretch bytes start n) i false ≡ cond (ltb i n) (flag_at bytes (start + i)) false
-padded bytes start n i = at-window (flags_of bytes) start n i ∙ go (ltb i n) ∙ ap (λ (x : Bool). cond (ltb i n) x false) (at-flags bytes (start + i))
+padded bytes start n i =
+    at-window (flags_of bytes) start n i ∙ go (ltb i n) ∙ ap (λ (x : Bool). cond (ltb i n) x false) (at-flags bytes (start + i))
   where
     go : (t : Bool) → (t && get_or (flags_of bytes) (start + i) false) ≡ cond t (get_or (flags_of bytes) (start + i) false) false
     go true = refl
     go false = refl
 
 -- flag j of a builder
-pub at-builder : (b : BitmapBuilder) (buf : List ℕ) (j : ℕ) → j < b.length → get_or (builder_flags (filling b buf)) j false ≡ builder_flag b buf j
+pub at-builder : (b : BitmapBuilder) (buf : List ℕ) (j : ℕ) → j < b.length
+    → get_or (builder_flags (filling b buf)) j false ≡ builder_flag b buf j
 unfolding builder_flags in_progress
 at-builder b buf j h =
     let done : List Bool = window (flags_of buf) 0 (64 * (b.length / 64)) in
@@ -116,9 +120,11 @@ at_one x zero h = refl
 at_one x (suc j) h = absurd (omega arith)
 
 at_pushed : (w n j : ℕ) → j < n → n ≤ 64 → get_or (take n (bits 64 w)) j false ≡ bit_at w j
-at_pushed w n j h q = at_take n (bits 64 w) j ∙ ap (λ (t : Bool). t && get_or (bits 64 w) j false) (lt-ltb j n h) ∙ at_bits 64 w j (omega arith)
+at_pushed w n j h q =
+    at_take n (bits 64 w) j ∙ ap (λ (t : Bool). t && get_or (bits 64 w) j false) (lt-ltb j n h) ∙ at_bits 64 w j (omega arith)
 
-grown : (b : BitmapBuilder) (buf bytes : List ℕ) (start n m : ℕ) → first_failed (span_grow_checks b buf bytes start n m) ≡ 0 → Room b m (length buf)
+grown : (b : BitmapBuilder) (buf bytes : List ℕ) (start n m : ℕ) → first_failed (span_grow_checks b buf bytes start n m) ≡ 0
+    → Room b m (length buf)
 unfolding span_grow_checks
 grown b buf bytes start n m e = room_of b m (length buf) (both_right (span_checks start n (length bytes)) (grow_checks b m (length buf)) e)
 
@@ -126,7 +132,11 @@ plain : (a : Append) (b : BitmapBuilder) (buf : List ℕ) → first_failed (appe
 unfolding word_checks constant_checks subslice_checks gather_checks
 plain (push_flag x) b buf e = record { room = room_of b 1 (length buf) e; many = refl; at = at_one x }
 plain (extend_constant n x) b buf e =
-    record { room = room_of b n (length buf) (both_left (grow_checks b n (length buf)) (within_limit n ∷ []) e); many = length-copies n x; at = at_copies n x }
+    record {
+      room = room_of b n (length buf) (both_left (grow_checks b n (length buf)) (within_limit n ∷ []) e);
+      many = length-copies n x;
+      at = at_copies n x;
+    }
 plain (push_word w n) b buf e =
     let six = within_limit n ∷ check 6 (leb n 64 && none_from w n) ∷ [] in
     let short : n ≤ 64 = word-allowed w n (both_right (grow_checks b n (length buf)) six e) in
@@ -142,12 +152,16 @@ plain (extend_repeated bytes start n k) b buf e =
     record {
       room = grown b buf bytes start n (n * k) e;
       many = length-repeated k (stretch bytes start n) ∙ ap (λ (x : ℕ). x * k) long;
-      at = λ j h. at-repeated k (stretch bytes start n) j (subst (λ (x : ℕ). j < x * k) (sym long) h) ∙ at-stretch bytes start n (j / k) (turn_inside j n k h);
+      at =
+          λ j h. at-repeated k (stretch bytes start n) j (subst (λ (x : ℕ). j < x * k) (sym long) h)
+          ∙ at-stretch bytes start n (j / k) (turn_inside j n k h);
     }
 plain (extend_bitmap m bytes start n) b buf e =
     let grow = grow_checks b n (length buf) in
     let rest = both_right (mask_checks m bytes) (inner_checks start n m.length ++ grow) e in
-    let inner = inner-allowed m bytes start n (both_left (mask_checks m bytes) (inner_checks start n m.length ++ grow) e) (both_left (inner_checks start n m.length) grow rest) in
+    let inner =
+    inner-allowed m bytes start n (both_left (mask_checks m bytes) (inner_checks start n m.length ++ grow) e)
+    (both_left (inner_checks start n m.length) grow rest) in
     let inside : start + n ≤ m.length = inner.inside in
     record {
       room = room_of b n (length buf) (both_right (inner_checks start n m.length) grow rest);

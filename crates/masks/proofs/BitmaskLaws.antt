@@ -14,7 +14,8 @@ use borrow.Author.Tests.{leb-true, lt-ltb, le-ltb}
 use Rattle.words.specs.Flags.{bits, flags_of, window, word_of}
 use Rattle.words.specs.Loops.{stretch}
 use Rattle.words.proofs.Bits.{bits-zero, word_of_bits, word_of_lt}
-use Rattle.words.proofs.Windows.{ltb-sub, length-window, window-add, window-all, window-past, window-ext, at-window, bits-window, word_of_padded}
+use Rattle.words.proofs.Windows.{ltb-sub, length-window, window-add, window-all, window-past, window-ext, at-window, bits-window}
+use Rattle.words.proofs.Windows.{word_of_padded}
 use Rattle.masks.specs.Bitmask.{split_checks, window_word}
 use Rattle.masks.specs.Checks.{check, within_limit, first_failed, limit, span_checks}
 use Rattle.masks.proofs.CheckLaws.{check-allowed, both_left, both_right}
@@ -28,38 +29,46 @@ ltb-min d j m h = ⊎_elim
     (cases_lt j m)
 
 -- of the flags in range, with zeros behind them
-padded : (l : List Bool) (start n index d : ℕ) → window (window l start n) index d ≡ window (window l (start + index) (min d (n - index))) 0 d
+padded : (l : List Bool) (start n index d : ℕ)
+    → window (window l start n) index d ≡ window (window l (start + index) (min d (n - index))) 0 d
 padded l start n index d = window-ext (window l start n) (window l (start + index) (min d (n - index))) index 0 d (λ j h.
     let z : 0 + j ≡ j = omega arith in
     let e : start + (index + j) ≡ start + index + j = omega arith in
     at-window l start n (index + j)
     ∙ ap₂ (λ (t : Bool) (x : ℕ). t && get_or l x false) (sym (ltb-min d j (n - index) h ∙ ltb-sub j n index)) e
-    ∙ sym (ap (λ (x : ℕ). get_or (window l (start + index) (min d (n - index))) x false) z ∙ at-window l (start + index) (min d (n - index)) j))
+    ∙ sym (ap (λ (x : ℕ). get_or (window l (start + index) (min d (n - index))) x false) z
+    ∙ at-window l (start + index) (min d (n - index)) j))
 
 pub narrow : (l : List Bool) (b k d r : ℕ) → r ≡ word_of (window l b k) → k ≤ d → r < 2 ^ d
 narrow l b k d r e h =
     rw e (lt_of_lt_of_le (word_of_lt (window l b k)) (pow_mono (omega (arith, length-window l b k))))
 
-pub window-value : (bytes : List ℕ) (start n index k r : ℕ) → k ≡ min (n - index) 32 → r ≡ word_of (stretch bytes (start + index) k) → r ≡ window_word bytes start n index
+pub window-value : (bytes : List ℕ) (start n index k r : ℕ) → k ≡ min (n - index) 32 → r ≡ word_of (stretch bytes (start + index) k)
+    → r ≡ window_word bytes start n index
 unfolding window_word
 window-value bytes start n index k r e p =
     let few : k ≡ min 32 (n - index) = omega arith in
     p ∙ ap (λ (x : ℕ). word_of (window (flags_of bytes) (start + index) x)) few
     ∙ sym (ap word_of (padded (flags_of bytes) start n index 32)
-    ∙ word_of_padded 32 (window (flags_of bytes) (start + index) (min 32 (n - index))) (omega (arith, length-window (flags_of bytes) (start + index) (min 32 (n - index)))))
+    ∙ word_of_padded 32 (window (flags_of bytes) (start + index) (min 32 (n - index)))
+    (omega (arith, length-window (flags_of bytes) (start + index) (min 32 (n - index)))))
 
 -- where all its flags are in the span
-pub window-whole : (bytes : List ℕ) (start n index bit r : ℕ) → r ≡ word_of (stretch bytes bit 32) → bit ≡ start + index → index + 32 ≤ n → r ≡ window_word bytes start n index
-window-whole bytes start n index bit r p e h = window-value bytes start n index 32 r (omega arith) (p ∙ ap (λ (x : ℕ). word_of (stretch bytes x 32)) e)
+pub window-whole : (bytes : List ℕ) (start n index bit r : ℕ) → r ≡ word_of (stretch bytes bit 32) → bit ≡ start + index → index + 32 ≤ n
+    → r ≡ window_word bytes start n index
+window-whole bytes start n index bit r p e h =
+    window-value bytes start n index 32 r (omega arith) (p ∙ ap (λ (x : ℕ). word_of (stretch bytes x 32)) e)
 
 pub window-none : (bytes : List ℕ) (start n index : ℕ) → n ≤ index → 0 ≡ window_word bytes start n index
 unfolding window_word
 window-none bytes start n index h =
-    sym (ap word_of (window-past (window (flags_of bytes) start n) index 32 (omega (arith, length-window (flags_of bytes) start n)) ∙ sym (bits-zero 32))
+    sym (ap word_of (window-past (window (flags_of bytes) start n) index 32 (omega (arith, length-window (flags_of bytes) start n))
+    ∙ sym (bits-zero 32))
     ∙ word_of_bits 32 0 (pow_pos 32))
 
 -- the flags of that number are those of the span
-pub window-flags : (bytes : List ℕ) (start n index r : ℕ) → r ≡ window_word bytes start n index → bits 32 r ≡ window (stretch bytes start n) index 32
+pub window-flags : (bytes : List ℕ) (start n index r : ℕ) → r ≡ window_word bytes start n index
+    → bits 32 r ≡ window (stretch bytes start n) index 32
 unfolding window_word
 window-flags bytes start n index r e =
     let w : List Bool = window (stretch bytes start n) index 32 in
@@ -78,12 +87,15 @@ split-allowed start n at size e =
     let both : first_failed ((within_limit (start + at) ∷ []) ++ (check 6 (leb at n) ∷ [])) ≡ 0 =
     both_right (span_checks start n size) (within_limit (start + at) ∷ check 6 (leb at n) ∷ []) e in
     record {
-      starts = leb-true (start + at) limit (check-allowed 0 (leb (start + at) limit) (both_left (within_limit (start + at) ∷ []) (check 6 (leb at n) ∷ []) both));
+      starts =
+          leb-true (start + at) limit
+          (check-allowed 0 (leb (start + at) limit) (both_left (within_limit (start + at) ∷ []) (check 6 (leb at n) ∷ []) both));
       reached = leb-true at n (check-allowed 5 (leb at n) (both_right (within_limit (start + at) ∷ []) (check 6 (leb at n) ∷ []) both));
     }
 
 -- the two parts in a row have the flags of the whole
-pub split-whole : (bytes : List ℕ) (start n at : ℕ) → at ≤ n → stretch bytes start at ++ stretch bytes (start + at) (n - at) ≡ stretch bytes start n
+pub split-whole : (bytes : List ℕ) (start n at : ℕ) → at ≤ n
+    → stretch bytes start at ++ stretch bytes (start + at) (n - at) ≡ stretch bytes start n
 split-whole bytes start n at h =
     let e : at + (n - at) ≡ n = omega arith in
     sym (window-add (flags_of bytes) start at (n - at)) ∙ ap (window (flags_of bytes) start) e

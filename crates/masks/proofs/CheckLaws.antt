@@ -11,7 +11,8 @@ use borrow.Author.Tests.{le-leb, lt-leb, leb-true, eq-eqb, ne_eqb}
 use Rattle.masks.specs.Answer.{given, refused, decided, kept, unless_empty}
 use Rattle.masks.specs.Builder.{none_from, possible}
 use Rattle.masks.specs.declared.builder.BitmapBuilder.{BitmapBuilder}
-use Rattle.masks.specs.Checks.{Check, check, rank, place_in, earlier, failure, first_failed, limit, within_limit, span_checks, address_checks}
+use Rattle.masks.specs.Checks.{Check, check, rank, place_in, earlier, failure, first_failed, limit, within_limit, span_checks}
+use Rattle.masks.specs.Checks.{address_checks}
 use mathlib.Core.Logic.{⊎_elim}
 
 -- ---- a choice by a test, where the test is known
@@ -90,7 +91,8 @@ unfolding first_failed
 one-check r n t u e h = e ∙ ap (λ (x : Bool). cond x 0 n) h ∙ sym (earlier-none (cond u 0 n))
 
 -- a check before others
-pub check-before : (r n a b : ℕ) (t u : Bool) (cs : List Check) → r ≡ earlier a b → a ≡ cond t 0 n → t ≡ u → b ≡ first_failed cs → r ≡ first_failed (check n u ∷ cs)
+pub check-before : (r n a b : ℕ) (t u : Bool) (cs : List Check) → r ≡ earlier a b → a ≡ cond t 0 n → t ≡ u → b ≡ first_failed cs
+    → r ≡ first_failed (check n u ∷ cs)
 unfolding first_failed
 check-before r n a b t u cs e p h q = e ∙ ap₂ earlier (p ∙ ap (λ (x : Bool). cond x 0 n) h) q
 
@@ -161,8 +163,12 @@ pub record SpanAllowed (start n size : ℕ) : Type 0 where
 pub span-allowed : (start n size : ℕ) → first_failed (span_checks start n size) ≡ 0 → SpanAllowed start n size
 unfolding first_failed span_checks
 span-allowed start n size e =
-    let one = passed-left (failure (within_limit start)) (earlier (failure (within_limit n)) (earlier (failure (check 2 (leb (start + n) (8 * size)))) 0)) e in
-    let rest = passed-right (failure (within_limit start)) (earlier (failure (within_limit n)) (earlier (failure (check 2 (leb (start + n) (8 * size)))) 0)) e in
+    let one =
+    passed-left (failure (within_limit start))
+    (earlier (failure (within_limit n)) (earlier (failure (check 2 (leb (start + n) (8 * size)))) 0)) e in
+    let rest =
+    passed-right (failure (within_limit start))
+    (earlier (failure (within_limit n)) (earlier (failure (check 2 (leb (start + n) (8 * size)))) 0)) e in
     let two = passed-left (failure (within_limit n)) (earlier (failure (check 2 (leb (start + n) (8 * size)))) 0) rest in
     let three = passed-left (failure (check 2 (leb (start + n) (8 * size)))) 0
     (passed-right (failure (within_limit n)) (earlier (failure (check 2 (leb (start + n) (8 * size)))) 0) rest) in
@@ -190,10 +196,12 @@ both_right A B e = passed-right (first_failed A) (first_failed B) (sym (failed-a
 
 -- checks that have passed before others
 pub passed-before : (A B : List Check) (r n : ℕ) → n ≡ first_failed A → n ≡ 0 → r ≡ first_failed B → r ≡ first_failed (A ++ B)
-passed-before A B r n p z q = q ∙ sym (none-earlier (first_failed B)) ∙ ap (λ (x : ℕ). earlier x (first_failed B)) (sym z ∙ p) ∙ sym (failed-append A B)
+passed-before A B r n p z q =
+    q ∙ sym (none-earlier (first_failed B)) ∙ ap (λ (x : ℕ). earlier x (first_failed B)) (sym z ∙ p) ∙ sym (failed-append A B)
 
 -- a check that is made after the others have passed
-pub last_made : (cs : List Check) (n k : ℕ) (t : Bool) → n ≡ first_failed cs → n ≡ 0 → cond t 0 (suc k) ≡ first_failed (cs ++ (check (suc k) t ∷ []))
+pub last_made : (cs : List Check) (n k : ℕ) (t : Bool) → n ≡ first_failed cs → n ≡ 0
+    → cond t 0 (suc k) ≡ first_failed (cs ++ (check (suc k) t ∷ []))
 unfolding first_failed
 last_made cs n k t p z = passed-before cs (check (suc k) t ∷ []) (cond t 0 (suc k)) n p z (sym (earlier-none (cond t 0 (suc k))))
 
@@ -235,9 +243,11 @@ first-decide v true true z e h = absurd (let n : ◌≡◌ {A = ℕ} 0 1 = cc (e
 first-decide v true false z e h = e
 first-decide v false y z e h = e
 
-pub possible-not : (b : BitmapBuilder) (size : ℕ) (v : Bool) → v ≡ (none_from b.word (b.length % 64) && leb b.ones (64 * (b.length / 64))) → v ≡ false → v ≡ possible b size
+pub possible-not : (b : BitmapBuilder) (size : ℕ) (v : Bool) → v ≡ (none_from b.word (b.length % 64) && leb b.ones (64 * (b.length / 64)))
+    → v ≡ false → v ≡ possible b size
 unfolding possible
-possible-not b size v e h = first-decide v (none_from b.word (b.length % 64)) (leb b.ones (64 * (b.length / 64))) (leb (8 * (b.length / 64)) size) e h
+possible-not b size v e h =
+    first-decide v (none_from b.word (b.length % 64)) (leb b.ones (64 * (b.length / 64))) (leb (8 * (b.length / 64)) size) e h
 
 -- the checks of a span: where start and length are within the limit, check 2 decides; else it is 1
 span-number : (a b t : Bool) → a ≡ true → b ≡ true → cond t 0 2 ≡ earlier (cond a 0 1) (earlier (cond b 0 1) (earlier (cond t 0 2) 0))
@@ -257,14 +267,21 @@ over-number false true false h = refl
 over-number false false true h = refl
 over-number false false false h = refl
 
-pub span-within : (start n size r : ℕ) (t : Bool) → start ≤ limit → n ≤ limit → r ≡ cond t 0 2 → t ≡ leb (start + n) (8 * size) → r ≡ first_failed (span_checks start n size)
+pub span-within : (start n size r : ℕ) (t : Bool) → start ≤ limit → n ≤ limit → r ≡ cond t 0 2 → t ≡ leb (start + n) (8 * size)
+    → r ≡ first_failed (span_checks start n size)
 unfolding first_failed span_checks
 span-within start n size r t h k p q =
-    p ∙ ap (λ (z : Bool). cond z 0 2) q ∙ span-number (leb start limit) (leb n limit) (leb (start + n) (8 * size)) (le-leb start limit h) (le-leb n limit k)
+    p ∙ ap (λ (z : Bool). cond z 0 2) q
+    ∙ span-number (leb start limit) (leb n limit) (leb (start + n) (8 * size)) (le-leb start limit h) (le-leb n limit k)
 
 pub span-over : (start n size : ℕ) → (leb start limit && leb n limit) ≡ false → 1 ≡ first_failed (span_checks start n size)
 unfolding first_failed span_checks
 span-over start n size h = over-number (leb start limit) (leb n limit) (leb (start + n) (8 * size)) h
+
+pub span-refused : (start n size r : ℕ) (t : Bool) → r ≡ cond t 0 1 → (r ≡ 0 → ⊥) → t ≡ (leb start limit && leb n limit)
+    → r ≡ first_failed (span_checks start n size)
+span-refused start n size r true p z e = absurd (z p)
+span-refused start n size r false p z e = p ∙ span-over start n size (sym e)
 
 earlier-ranked : (a b k : ℕ) → ((a ≡ 0 → ⊥) → rank a ≤ k) → ((b ≡ 0 → ⊥) → rank b ≤ k) → (earlier a b ≡ 0 → ⊥) → rank (earlier a b) ≤ k
 unfolding earlier

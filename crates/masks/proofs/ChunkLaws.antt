@@ -16,7 +16,8 @@ use Rattle.masks.specs.Cursor.{item, ended}
 use Rattle.masks.specs.declared.chunks.BitChunks.{BitChunks}
 
 -- two words, the second eight bytes further, merged inside their first byte
-pub inside-byte : (l : List Bool) (start k c n r : ℕ) → bits 64 c ≡ window l (8 * (start / 8 + 8 * k)) 64 → bits 64 n ≡ window l (8 * (start / 8 + 8 * k + 8)) 64
+pub inside-byte : (l : List Bool) (start k c n r : ℕ) → bits 64 c ≡ window l (8 * (start / 8 + 8 * k)) 64
+    → bits 64 n ≡ window l (8 * (start / 8 + 8 * k + 8)) 64
     → bits 64 r ≡ merged (bits 64 c) (bits 64 n) (start % 8) → bits 64 r ≡ window l (start + 64 * k) 64
 inside-byte l start k c n r p q u =
     let e : 8 * (start / 8 + 8 * k + 8) ≡ 8 * (start / 8 + 8 * k) + 64 = omega arith in
@@ -24,7 +25,8 @@ inside-byte l start k c n r p q u =
     u ∙ ap₂ (λ (s t : List Bool). merged s t (start % 8)) p (q ∙ ap (λ (x : ℕ). window l x 64) e)
     ∙ merged-window l (8 * (start / 8 + 8 * k)) 64 (start % 8) (omega arith) ∙ ap (λ (x : ℕ). window l x 64) f
 
-chunk-value : (bytes : List ℕ) (start n k r : ℕ) → r < 2 ^ 64 → 64 * k + 64 ≤ n → bits 64 r ≡ window (flags_of bytes) (start + 64 * k) 64 → r ≡ chunk_word bytes start n k
+chunk-value : (bytes : List ℕ) (start n k r : ℕ) → r < 2 ^ 64 → 64 * k + 64 ≤ n → bits 64 r ≡ window (flags_of bytes) (start + 64 * k) 64
+    → r ≡ chunk_word bytes start n k
 unfolding chunk_word
 chunk-value bytes start n k r b h p =
     let w : List Bool = window (window (flags_of bytes) start n) (64 * k) 64 in
@@ -33,7 +35,8 @@ chunk-value bytes start n k r b h p =
     (p ∙ sym (in_window (flags_of bytes) start n (64 * k) 64 h) ∙ sym (ap (window w 0) (sym e) ∙ window-all w))
 
 -- the two answers of a cursor
-pub a_word : (bytes : List ℕ) (c : BitChunks) (r : ℕ) → r < 2 ^ 64 → c.place < c.length / 64 → bits 64 r ≡ window (flags_of bytes) (c.start + 64 * c.place) 64
+pub a_word : (bytes : List ℕ) (c : BitChunks) (r : ℕ) → r < 2 ^ 64 → c.place < c.length / 64
+    → bits 64 r ≡ window (flags_of bytes) (c.start + 64 * c.place) 64
     → item r (chunks_at c.start c.length (c.place + 1)) ≡ chunk_step bytes c
 unfolding chunk_step
 a_word bytes c r b h p =
@@ -45,8 +48,10 @@ unfolding chunk_step
 no_word bytes c h = rw (le-ltb c.place (c.length / 64) h)
 
 -- the flags behind the last whole word
-pub remainder-value : (bytes : List ℕ) (start n r : ℕ) → r ≡ word_of (stretch bytes (start + n - n % 64) (n % 64)) → r ≡ remainder_word bytes start n
+pub remainder-value : (bytes : List ℕ) (start n r : ℕ) → r ≡ word_of (stretch bytes (start + n - n % 64) (n % 64))
+    → r ≡ remainder_word bytes start n
 unfolding remainder_word
 remainder-value bytes start n r p =
     let e : start + n - n % 64 ≡ start + 64 * (n / 64) = omega arith in
-    p ∙ ap word_of (ap (λ (x : ℕ). window (flags_of bytes) x (n % 64)) e ∙ sym (in_window (flags_of bytes) start n (64 * (n / 64)) (n % 64) (omega arith)))
+    p ∙ ap word_of (ap (λ (x : ℕ). window (flags_of bytes) x (n % 64)) e
+    ∙ sym (in_window (flags_of bytes) start n (64 * (n / 64)) (n % 64) (omega arith)))

@@ -68,7 +68,8 @@ not-short op n l r (inr (inl e)) = rw e
 not-short op n l r (inr (inr (inl e))) = rw e
 not-short op n l r (inr (inr (inr e))) = rw e
 
-pub by-and : (n m l r : ℕ) (s : Option Bool) → n ≡ m → s ≡ either_all false (eqb l (zeros_of_all false n)) (eqb r (zeros_of_all false m)) → s ≡ shortcut And n l r
+pub by-and : (n m l r : ℕ) (s : Option Bool) → n ≡ m → s ≡ either_all false (eqb l (zeros_of_all false n)) (eqb r (zeros_of_all false m))
+    → s ≡ shortcut And n l r
 unfolding shortcut either_all
 by-and n m l r s h p = p ∙ ap (λ (k : ℕ). either_all false (eqb l n) (eqb r k)) (sym h)
 
@@ -110,7 +111,8 @@ xor-clear n m l r s same e p = go (eqb r n) (eqb r 0) (eqb l 0) refl refl refl
     go false false true u v w = xor-by n l r true false true false s e u w v (both false false u v)
     go false false false u v w = xor-by n l r true false false false s e u w v (both false false u v)
 
-pub xor-full : (n m l r : ℕ) (s : Option Bool) → n ≡ m → eqb l n ≡ false → eqb l 0 ≡ true → s ≡ xor_all (eqb r 0) (eqb r m) → s ≡ shortcut Xor n l r
+pub xor-full : (n m l r : ℕ) (s : Option Bool) → n ≡ m → eqb l n ≡ false → eqb l 0 ≡ true → s ≡ xor_all (eqb r 0) (eqb r m)
+    → s ≡ shortcut Xor n l r
 unfolding xor_all
 xor-full n m l r s same e f p = go (eqb r n) (eqb r 0) refl refl
   where
@@ -129,7 +131,8 @@ xor-other n l r e f = xor-by n l r false (eqb r n) false (eqb r 0) None e refl f
 
 -- ---- the answer of two masks combined
 
-pub pair_lengths : (a : Bitmap) (a_bytes : List ℕ) (b : Bitmap) (b_bytes : List ℕ) (size : ℕ) → first_failed (pair_checks a a_bytes b b_bytes size) ≡ 0
+pub pair_lengths : (a : Bitmap) (a_bytes : List ℕ) (b : Bitmap) (b_bytes : List ℕ) (size : ℕ)
+    → first_failed (pair_checks a a_bytes b b_bytes size) ≡ 0
     → a.length ≡ b.length
 unfolding pair_checks
 pair_lengths a a_bytes b b_bytes size e =
@@ -138,14 +141,18 @@ pair_lengths a a_bytes b b_bytes size e =
     (first-allowed 4 (eqb a.length b.length) (output_checks a.length size)
     (both_right (mask_checks b b_bytes) rest (both_right (mask_checks a a_bytes) (mask_checks b b_bytes ++ rest) e)))
 
-module _ (op : Op) (a : Bitmap) (a_bytes : List ℕ) (b : Bitmap) (b_bytes out : List ℕ) (k : ℕ) (e : k ≡ first_failed (pair_checks a a_bytes b b_bytes (length out))) where
+module _ (op : Op) (a : Bitmap) (a_bytes : List ℕ) (b : Bitmap) (b_bytes out : List ℕ) (k : ℕ)
+    (e : k ≡ first_failed (pair_checks a a_bytes b b_bytes (length out))) where
   pub pair-refused : (k ≡ 0 → ⊥) → (refused k tt ≡ pair_of op a a_bytes b b_bytes out) × (out ≡ pair_bytes op a a_bytes b b_bytes out)
   unfolding pair_of pair_bytes
   pair-refused h =
-      let number = first_failed (pair_checks a a_bytes b b_bytes (length out)) in
-      (is-refused k number tt (pair_mask op a a_bytes b b_bytes) e h, is-kept k number (over out (frozen (pair_flags op a a_bytes b b_bytes))) out e h)
+      let number = first_failed (pair_checks a a_bytes b b_bytes (length out)) in (
+        is-refused k number tt (pair_mask op a a_bytes b b_bytes) e h,
+        is-kept k number (over out (frozen (pair_flags op a a_bytes b b_bytes))) out e h,
+      )
 
-  pub pair-given : (by : Option Bool) (u : Option ℕ) (s : ℕ) (m : Bitmap) → k ≡ 0 → by ≡ pair_shortcut op a a_bytes b b_bytes → u ≡ result_count by a.length
+  pub pair-given : (by : Option Bool) (u : Option ℕ) (s : ℕ) (m : Bitmap) → k ≡ 0 → by ≡ pair_shortcut op a a_bytes b b_bytes
+      → u ≡ result_count by a.length
       → s ≡ largest_serial (a ∷ b ∷ []) → m ≡ mask_under s 0 a.length u → given m ≡ pair_of op a a_bytes b b_bytes out
   unfolding pair_of pair_mask
   pair-given by u s m z p q largest made =
@@ -163,8 +170,11 @@ module _ (op : Op) (a : Bitmap) (a_bytes : List ℕ) (b : Bitmap) (b_bytes out :
       let number = first_failed (pair_checks a a_bytes b b_bytes (length out)) in
       q
       ∙ ap₂ (λ (s : Option Bool) (n : ℕ).
-      over out (frozen (result_flags s a.length (zip3 (op_of op) (stretch a_bytes a.start a.length) (stretch b_bytes b.start n) (stretch b_bytes b.start n))))) p same
-      ∙ is-new k number (over out (frozen (result_flags (pair_shortcut op a a_bytes b b_bytes) a.length (pair_each op a a_bytes b b_bytes)))) out e z
+      over out
+      (frozen (result_flags s a.length
+      (zip3 (op_of op) (stretch a_bytes a.start a.length) (stretch b_bytes b.start n) (stretch b_bytes b.start n))))) p same
+      ∙ is-new k number
+      (over out (frozen (result_flags (pair_shortcut op a a_bytes b b_bytes) a.length (pair_each op a a_bytes b b_bytes)))) out e z
 
 -- ---- the largest serial
 
@@ -185,13 +195,18 @@ three-serials a b c s t e f = f ∙ ap (max a.serial) (two-serials b c t e)
 module _ (cs : List Check) (masks : List Bitmap) (n : ℕ) (flags : List Bool) (out : List ℕ) (k : ℕ) (e : k ≡ first_failed cs) where
   pub each-refused : (k ≡ 0 → ⊥) → (refused k tt ≡ each_of cs masks n) × (out ≡ each_bytes cs flags out)
   unfolding each_of each_bytes
-  each-refused h = (is-refused k (first_failed cs) tt (result_mask masks n (uncounted n)) e h, is-kept k (first_failed cs) (over out (frozen flags)) out e h)
+  each-refused h = (
+    is-refused k (first_failed cs) tt (result_mask masks n (uncounted n)) e h,
+    is-kept k (first_failed cs) (over out (frozen flags)) out e h,
+  )
 
   pub each-given : (u : Option ℕ) (s : ℕ) (m : Bitmap) (out' : List ℕ) (written : List Bool) → k ≡ 0 → u ≡ uncounted n
-      → s ≡ largest_serial masks → m ≡ mask_under s 0 n u → out' ≡ over out (frozen written) → written ≡ flags → (given m ≡ each_of cs masks n) × (out' ≡ each_bytes cs flags out)
+      → s ≡ largest_serial masks → m ≡ mask_under s 0 n u → out' ≡ over out (frozen written) → written ≡ flags
+      → (given m ≡ each_of cs masks n) × (out' ≡ each_bytes cs flags out)
   unfolding each_of each_bytes
   each-given u s m out' written z p largest made q r = (
-    ap given made ∙ ap₂ (λ (t : ℕ) (v : Option ℕ). given (mask_under t 0 n v)) largest p ∙ is-given k (first_failed cs) tt (result_mask masks n (uncounted n)) e z,
+    ap given made ∙ ap₂ (λ (t : ℕ) (v : Option ℕ). given (mask_under t 0 n v)) largest p
+        ∙ is-given k (first_failed cs) tt (result_mask masks n (uncounted n)) e z,
     q ∙ ap (λ (l : List Bool). over out (frozen l)) r ∙ is-new k (first_failed cs) (over out (frozen flags)) out e z,
   )
 
@@ -201,13 +216,15 @@ not-each l s n = zip_first not (window l s n) (window l s n) (window l s n) refl
 pub constant-set : (l m : List Bool) (s t n : ℕ)
     → zip3 (op_of OrNot) (window m t n) (window l s n) (window l s n) ≡ zip_with (λ p q. cond p q true) (window l s n) (window m t n)
 constant-set l m s t n =
-    zip_two or_not (window m t n) (window l s n) (window l s n) (length-window m t n ∙ sym (length-window l s n)) (length-window m t n ∙ sym (length-window l s n))
+    zip_two or_not (window m t n) (window l s n) (window l s n) (length-window m t n ∙ sym (length-window l s n))
+    (length-window m t n ∙ sym (length-window l s n))
     ∙ zip-flip or_not (λ p q. cond p q true) else-set (window l s n) (window m t n)
 
 pub constant-clear : (l m : List Bool) (s t n : ℕ)
     → zip3 (op_of And) (window l s n) (window m t n) (window m t n) ≡ zip_with (λ p q. cond p q false) (window l s n) (window m t n)
 constant-clear l m s t n =
-    zip_two ◌&&◌ (window l s n) (window m t n) (window m t n) (length-window l s n ∙ sym (length-window m t n)) (length-window l s n ∙ sym (length-window m t n))
+    zip_two ◌&&◌ (window l s n) (window m t n) (window m t n) (length-window l s n ∙ sym (length-window m t n))
+    (length-window l s n ∙ sym (length-window m t n))
     ∙ zip-same ◌&&◌ (λ p q. cond p q false) else-clear (window l s n) (window m t n)
 
 -- where the checks have passed, the lengths are equal
@@ -219,10 +236,12 @@ select_lengths s s_bytes t t_bytes f f_bytes size e =
     let rest : List Check = check 5 (eqb s.length t.length) ∷ last in
     let third = mask_checks f f_bytes ++ rest in
     let second = mask_checks t t_bytes ++ third in
-    let passed = both_right (mask_checks f f_bytes) rest (both_right (mask_checks t t_bytes) third (both_right (mask_checks s s_bytes) second e)) in (
+    let passed =
+    both_right (mask_checks f f_bytes) rest (both_right (mask_checks t t_bytes) third (both_right (mask_checks s s_bytes) second e)) in (
       eqb-true s.length t.length (first-allowed 4 (eqb s.length t.length) last passed),
       eqb-true s.length f.length
-          (first-allowed 4 (eqb s.length f.length) (output_checks s.length size) (rest-allowed (check 5 (eqb s.length t.length)) last passed)),
+          (first-allowed 4 (eqb s.length f.length) (output_checks s.length size)
+          (rest-allowed (check 5 (eqb s.length t.length)) last passed)),
     )
 
 pub select-each : (A B C : List Bool) (s t u n m k : ℕ) → n ≡ m → n ≡ k
@@ -242,10 +261,14 @@ as-constant F a b sa sb n x y out out' f h e =
     f ∙ ap (λ (z : Bool). zip_with (λ p q. cond p q z) (stretch a sa n) (stretch b sb n)) (sym h) in
     e ∙ ap (λ (l : List Bool). over out (frozen l)) same
 
-pub written-set : (a b : List ℕ) (sa sb n : ℕ) (x : Bool) (out out' : List ℕ) → x ≡ true → out' ≡ over out (frozen (combined OrNot b sb a sa a sa n))
+pub written-set : (a b : List ℕ) (sa sb n : ℕ) (x : Bool) (out out' : List ℕ) → x ≡ true
+    → out' ≡ over out (frozen (combined OrNot b sb a sa a sa n))
     → out' ≡ over out (frozen (zip_with (λ p q. cond p q x) (stretch a sa n) (stretch b sb n)))
-written-set a b sa sb n x out out' = as-constant (combined OrNot b sb a sa a sa n) a b sa sb n x true out out' (constant-set (flags_of a) (flags_of b) sa sb n)
+written-set a b sa sb n x out out' =
+    as-constant (combined OrNot b sb a sa a sa n) a b sa sb n x true out out' (constant-set (flags_of a) (flags_of b) sa sb n)
 
-pub written-clear : (a b : List ℕ) (sa sb n : ℕ) (x : Bool) (out out' : List ℕ) → x ≡ false → out' ≡ over out (frozen (combined And a sa b sb b sb n))
+pub written-clear : (a b : List ℕ) (sa sb n : ℕ) (x : Bool) (out out' : List ℕ) → x ≡ false
+    → out' ≡ over out (frozen (combined And a sa b sb b sb n))
     → out' ≡ over out (frozen (zip_with (λ p q. cond p q x) (stretch a sa n) (stretch b sb n)))
-written-clear a b sa sb n x out out' = as-constant (combined And a sa b sb b sb n) a b sa sb n x false out out' (constant-clear (flags_of a) (flags_of b) sa sb n)
+written-clear a b sa sb n x out out' =
+    as-constant (combined And a sa b sb b sb n) a b sa sb n x false out out' (constant-clear (flags_of a) (flags_of b) sa sb n)

@@ -46,7 +46,8 @@ edges-many l s n r h e =
     let m : suc (n - 1) ≡ n = omega arith in
     let o : s + 1 ≡ suc s = omega arith in
     e ∙ ap count (zip_two xor (window l s (n - 1)) (window l (s + 1) (n - 1)) (window l (s + 1) (n - 1)) same same)
-    ∙ ap (λ (x : ℕ). count (zip_with xor (window l s (n - 1)) (window l x (n - 1)))) o ∙ sym (edges-zip l s (n - 1)) ∙ ap (λ (x : ℕ). edges (window l s x)) m
+    ∙ ap (λ (x : ℕ). count (zip_with xor (window l s (n - 1)) (window l x (n - 1)))) o ∙ sym (edges-zip l s (n - 1))
+    ∙ ap (λ (x : ℕ). edges (window l s x)) m
   where
     same : length (window l s (n - 1)) ≡ length (window l (s + 1) (n - 1))
     same = length-window l s (n - 1) ∙ sym (length-window l (s + 1) (n - 1))
@@ -60,12 +61,14 @@ common-ones A B s t n m r h e =
     same : length (window A s n) ≡ length (window B t n)
     same = length-window A s n ∙ sym (length-window B t n)
 
-pub common_lengths : (a : Bitmap) (a_bytes : List ℕ) (b : Bitmap) (b_bytes : List ℕ) → first_failed (common_checks a a_bytes b b_bytes) ≡ 0 → a.length ≡ b.length
+pub common_lengths : (a : Bitmap) (a_bytes : List ℕ) (b : Bitmap) (b_bytes : List ℕ) → first_failed (common_checks a a_bytes b b_bytes) ≡ 0
+    → a.length ≡ b.length
 unfolding common_checks
 common_lengths a a_bytes b b_bytes e =
     let last : List Check = check 5 (eqb a.length b.length) ∷ [] in
     eqb-true a.length b.length (check-allowed 4 (eqb a.length b.length)
     (both_right (mask_checks b b_bytes) last (both_right (mask_checks a a_bytes) (mask_checks b b_bytes ++ last) e)))
 
-pub same-length-eq : (A B : List Bool) (s t n m : ℕ) (r : Bool) → n ≡ m → r ≡ same_flags (window A s n) (window B t n) → r ≡ same_flags (window A s n) (window B t m)
+pub same-length-eq : (A B : List Bool) (s t n m : ℕ) (r : Bool) → n ≡ m → r ≡ same_flags (window A s n) (window B t n)
+    → r ≡ same_flags (window A s n) (window B t m)
 same-length-eq A B s t n m r h e = e ∙ ap (λ (k : ℕ). same_flags (window A s n) (window B t k)) h

@@ -17,8 +17,9 @@ use Rattle.masks.specs.Combine.{And, AndNot, Or, OrNot, Xor, pair_of, pair_mask,
 use Rattle.masks.specs.Combine.{not_checks, select_checks}
 use Rattle.masks.specs.CountPlain.{Brings, told, counted, MadeCounts, SliceCounts, PairCounts, EachCounts, CountsPlainly}
 use Rattle.masks.specs.Freeze.{freeze_checks, frozen_mask}
-use Rattle.masks.specs.Mask.{mask_of, mask_flags, uncounted, count_or, zero_count, with_count, try_new_of, new_zeroed_of, zeroed_checks, unset_bits_of, mask_checks}
-use Rattle.masks.specs.Mask.{slice_of, slice_checks, sliced_mask, sliced_count, cut_zeros, recounts, recount_valid, kept_count, piece_checks}
+use Rattle.masks.specs.Mask.{mask_of, mask_flags, uncounted, count_or, zero_count, with_count, try_new_of, new_zeroed_of, zeroed_checks}
+use Rattle.masks.specs.Mask.{unset_bits_of, mask_checks, slice_of, slice_checks, sliced_mask, sliced_count, cut_zeros, recounts}
+use Rattle.masks.specs.Mask.{recount_valid, kept_count, piece_checks}
 use Rattle.masks.specs.Utils.{zeros}
 use Rattle.masks.specs.declared.bitmap.Bitmap.{Bitmap}
 use Rattle.masks.proofs.AnswerLaws.{given-number, given-value}
@@ -42,7 +43,8 @@ brought m bytes z (counted e h) = ap (λ (u : Option ℕ). count_or u (zeros (ma
 
 -- ---- masks made and counted
 
-recounted-as : (m : Bitmap) (bytes : List ℕ) (r : Recounted) (z : ℕ) → given r ≡ unset_bits_of m bytes → Brings m bytes z → (r.zeros ≡ z) × (r.mask.unset ≡ Some z)
+recounted-as : (m : Bitmap) (bytes : List ℕ) (r : Recounted) (z : ℕ) → given r ≡ unset_bits_of m bytes → Brings m bytes z
+    → (r.zeros ≡ z) × (r.mask.unset ≡ Some z)
 unfolding unset_bits_of
 recounted-as m bytes r z e h =
     let made : Recounted = record { mask = with_count m (Some (zero_count m bytes)); zeros = zero_count m bytes } in
@@ -55,7 +57,8 @@ made-counts = record {
   new = refl;
   try_new-none = λ bytes start m e. its_count (span_checks start 0 (length bytes)) tt m (mask_of start 0 (uncounted 0)) e;
   try-new = λ bytes start n m e.
-      its_count (span_checks start (suc n) (length bytes)) tt m (mask_of start (suc n) (uncounted (suc n))) e ∙ some-unknown (suc n) (λ q. omega arith);
+      its_count (span_checks start (suc n) (length bytes)) tt m (mask_of start (suc n) (uncounted (suc n))) e
+      ∙ some-unknown (suc n) (λ q. omega arith);
   new_zeroed = λ n out m e. its_count (zeroed_checks n (length out)) tt m (mask_of 0 n (Some n)) e;
   freeze = λ b buf m e. its_count (freeze_checks b (length buf)) b m (frozen_mask b) e;
   unset_bits = recounted-as;
@@ -72,7 +75,8 @@ unfolding recounts kept_count
 kept-all zero n cut h = ap Some (sym (h refl))
 kept-all (suc old) n cut h = rw (eq-eqb (suc old) (suc old) refl, ne_eqb (suc old) 0 (λ q. omega arith))
 
-kept-mixed : (old n cut z : ℕ) (t : Bool) → (z ≡ 0 → ⊥) → (z ≡ old → ⊥) → leb old (n + max (old / 5) 32) ≡ t → sliced_count old n cut (Some z) ≡ cond t (Some (z - cut)) None
+kept-mixed : (old n cut z : ℕ) (t : Bool) → (z ≡ 0 → ⊥) → (z ≡ old → ⊥) → leb old (n + max (old / 5) 32) ≡ t
+    → sliced_count old n cut (Some z) ≡ cond t (Some (z - cut)) None
 unfolding recounts kept_count
 kept-mixed old n cut z t p q e = rw (ne_eqb z 0 p, ne_eqb z old q, e)
 
@@ -81,14 +85,18 @@ unfolding slice_of slice_checks
 within m bytes offset n s e =
     let seven = check 7 (recount_valid m.length n (cut_zeros m bytes offset n) m.unset) ∷ [] in
     (piece-allowed m bytes offset n
-    (both_left (piece_checks m bytes offset n) seven (sym (given-number (first_failed (piece_checks m bytes offset n ++ seven)) m s (sliced_mask m bytes offset n) e)))).inside
+    (both_left (piece_checks m bytes offset n) seven
+    (sym (given-number (first_failed (piece_checks m bytes offset n ++ seven)) m s (sliced_mask m bytes offset n) e)))).inside
 
-slice-counts : (m : Bitmap) (bytes : List ℕ) (offset n : ℕ) (s : Bitmap) → given s ≡ slice_of m bytes offset n → SliceCounts m bytes offset n s
+slice-counts : (m : Bitmap) (bytes : List ℕ) (offset n : ℕ) (s : Bitmap) → given s ≡ slice_of m bytes offset n
+    → SliceCounts m bytes offset n s
 unfolding slice_of cut_zeros
 slice-counts m bytes offset n s e =
     let cut = cut_zeros m bytes offset n in
-    let its : s.unset ≡ sliced_count m.length n cut m.unset = its_count (slice_checks m bytes offset n) m s (sliced_mask m bytes offset n) e in
-    let told-as : (u : Option ℕ) → m.unset ≡ u → s.unset ≡ sliced_count m.length n cut u = λ u h. its ∙ ap (sliced_count m.length n cut) h in
+    let its : s.unset ≡ sliced_count m.length n cut m.unset =
+    its_count (slice_checks m bytes offset n) m s (sliced_mask m bytes offset n) e in
+    let told-as : (u : Option ℕ) → m.unset ≡ u → s.unset ≡ sliced_count m.length n cut u =
+    λ u h. its ∙ ap (sliced_count m.length n cut) h in
     let inside : offset + n ≤ m.length = within m bytes offset n s e in
     record {
       unknown = λ h. told-as None h;
@@ -101,7 +109,8 @@ slice-counts m bytes offset n s e =
 -- ---- combinations
 
 -- a pair's count, by the counts that its masks bring
-pair-count : (op : Op) (a : Bitmap) (a_bytes : List ℕ) (b : Bitmap) (b_bytes out : List ℕ) (c : Bitmap) (l r : ℕ) → given c ≡ pair_of op a a_bytes b b_bytes out
+pair-count : (op : Op) (a : Bitmap) (a_bytes : List ℕ) (b : Bitmap) (b_bytes out : List ℕ) (c : Bitmap) (l r : ℕ)
+    → given c ≡ pair_of op a a_bytes b b_bytes out
     → Brings a a_bytes l → Brings b b_bytes r → c.unset ≡ result_count (shortcut op a.length l r) a.length
 unfolding pair_of pair_mask
 pair-count op a a_bytes b b_bytes out c l r e p q =
@@ -133,7 +142,8 @@ xor-alike n l r (inl e) = rw (eq-eqb l n e.0, eq-eqb r n e.1)
 xor-alike n l r (inr e) = go (eqb l n && eqb r n) (eq-eqb l 0 e.0) (eq-eqb r 0 e.1)
   where
     go : (t : Bool) → eqb l 0 ≡ true → eqb r 0 ≡ true
-        → result_count (cond (t || (eqb l 0 && eqb r 0)) (Some false) (cond ((eqb l 0 && eqb r n) || (eqb l n && eqb r 0)) (Some true) None)) n ≡ Some n
+        → result_count (cond (t || (eqb l 0 && eqb r 0)) (Some false)
+        (cond ((eqb l 0 && eqb r n) || (eqb l n && eqb r 0)) (Some true) None)) n ≡ Some n
     go true p q = refl
     go false p q = rw (p, q)
 
@@ -145,7 +155,10 @@ not-both false b P Q p q h = refl
 xor_unlike : (n l r : ℕ) → (n ≡ 0 → ⊥) → (l ≡ n → r ≡ n → ⊥) → (l ≡ 0 → r ≡ 0 → ⊥) → result_count (shortcut Xor n l r) n ≡ None
 unfolding shortcut
 xor_unlike n l r z p q =
-    rw (not-both (eqb l n) (eqb r n) (l ≡ n) (r ≡ n) (eqb-true l n) (eqb-true r n) p, not-both (eqb l 0) (eqb r 0) (l ≡ 0) (r ≡ 0) (eqb-true l 0) (eqb-true r 0) q)
+    rw (
+      not-both (eqb l n) (eqb r n) (l ≡ n) (r ≡ n) (eqb-true l n) (eqb-true r n) p,
+      not-both (eqb l 0) (eqb r 0) (l ≡ 0) (r ≡ 0) (eqb-true l 0) (eqb-true r 0) q,
+    )
     (go ((eqb l 0 && eqb r n) || (eqb l n && eqb r 0)))
   where
     go : (t : Bool) → result_count (cond t (Some true) None) n ≡ None
@@ -162,12 +175,14 @@ no-shortcut op n l r (inl e) z = ap (λ (o : Op). result_count (shortcut o n l r
 no-shortcut op n l r (inr (inl e)) z = ap (λ (o : Op). result_count (shortcut o n l r) n) e ∙ some-unknown n z
 no-shortcut op n l r (inr (inr e)) z = ap (λ (o : Op). result_count (shortcut o n l r) n) e ∙ some-unknown n z
 
-pair-counts : (op : Op) (a : Bitmap) (a_bytes : List ℕ) (b : Bitmap) (b_bytes out : List ℕ) (c : Bitmap) (l r : ℕ) → given c ≡ pair_of op a a_bytes b b_bytes out
+pair-counts : (op : Op) (a : Bitmap) (a_bytes : List ℕ) (b : Bitmap) (b_bytes out : List ℕ) (c : Bitmap) (l r : ℕ)
+    → given c ≡ pair_of op a a_bytes b b_bytes out
     → Brings a a_bytes l → Brings b b_bytes r → PairCounts a.length l r op c
 pair-counts op a a_bytes b b_bytes out c l r e p q =
     let n = a.length in
     let its : c.unset ≡ result_count (shortcut op n l r) n = pair-count op a a_bytes b b_bytes out c l r e p q in
-    let by : (o : Op) → op ≡ o → c.unset ≡ result_count (shortcut o n l r) n = λ o h. its ∙ ap (λ (x : Op). result_count (shortcut x n l r) n) h in
+    let by : (o : Op) → op ≡ o → c.unset ≡ result_count (shortcut o n l r) n =
+    λ o h. its ∙ ap (λ (x : Op). result_count (shortcut x n l r) n) h in
     record {
       none = λ z. its ∙ nothing (shortcut op n l r) n z;
       and-zeros = λ o h. by And o ∙ and-either n l r h;
@@ -190,6 +205,7 @@ counts_plainly = record {
   slice = slice-counts;
   pair = pair-counts;
   inverted = λ m bytes out. each_counts (not_checks m bytes (length out)) (m ∷ []) m.length;
-  selected = λ s s_bytes t t_bytes f f_bytes out. each_counts (select_checks s s_bytes t t_bytes f f_bytes (length out)) (s ∷ t ∷ f ∷ []) s.length;
+  selected =
+      λ s s_bytes t t_bytes f f_bytes out. each_counts (select_checks s s_bytes t t_bytes f f_bytes (length out)) (s ∷ t ∷ f ∷ []) s.length;
   selected-constant = λ s s_bytes t t_bytes x out. each_counts (pair_checks s s_bytes t t_bytes (length out)) (s ∷ t ∷ []) s.length;
 }

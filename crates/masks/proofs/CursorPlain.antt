@@ -99,10 +99,14 @@ module _ (x : Bool) (bytes : List ℕ) (start n place : ℕ) where
   rest_at j h = get_or-drop place (stretch bytes start n) j false ∙ at-stretch bytes start n (place + j) h
 
   taken-alike : (j : ℕ) → j < leading x (rest_of bytes start n place) → flag_at bytes (start + (place + j)) ≡ x
-  taken-alike j h = sym (rest_at j (omega (arith, leading_le x (rest_of bytes start n place), rest-long))) ∙ leading-in x (rest_of bytes start n place) j h
+  taken-alike j h =
+      sym (rest_at j (omega (arith, leading_le x (rest_of bytes start n place), rest-long)))
+      ∙ leading-in x (rest_of bytes start n place) j h
 
-  taken-stops : place + leading x (rest_of bytes start n place) < n → flag_at bytes (start + (place + leading x (rest_of bytes start n place))) ≡ not x
-  taken-stops h = sym (rest_at (leading x (rest_of bytes start n place)) h) ∙ then-other x (rest_of bytes start n place) (omega (arith, rest-long))
+  taken-stops : place + leading x (rest_of bytes start n place) < n
+      → flag_at bytes (start + (place + leading x (rest_of bytes start n place))) ≡ not x
+  taken-stops h =
+      sym (rest_at (leading x (rest_of bytes start n place)) h) ∙ then-other x (rest_of bytes start n place) (omega (arith, rest-long))
 
   taken-inside : place ≤ n → place + leading x (rest_of bytes start n place) ≤ n
   taken-inside h = omega (arith, leading_le x (rest_of bytes start n place), rest-long)
@@ -115,14 +119,16 @@ taken-number x c bytes k d e =
     let many : ℕ = leading_from x (iter_flags c bytes) c.place in
     ap (λ (p : ℕ × BitmapIter). p.0) (given-value (first_failed (iter_checks c bytes)) c (k, d) (many, moved_to c (c.place + many)) e)
 
-place_inside : (x : Bool) (c : BitmapIter) (bytes : List ℕ) (k : ℕ) (d : BitmapIter) → given (k, d) ≡ take_leading x c bytes → c.place ≤ c.length
+place_inside : (x : Bool) (c : BitmapIter) (bytes : List ℕ) (k : ℕ) (d : BitmapIter) → given (k, d) ≡ take_leading x c bytes
+    → c.place ≤ c.length
 unfolding take_leading cursor_checks
 place_inside x c bytes k d e =
     let many : ℕ = leading_from x (iter_flags c bytes) c.place in
     let six : List Check = check 6 (leb c.place c.length) ∷ [] in
     let span : List Check = span_checks c.start c.length (length bytes) in
     leb-true c.place c.length
-    (check-allowed 5 (leb c.place c.length) (both_right span six (sym (given-number (first_failed (span ++ six)) c (k, d) (many, moved_to c (c.place + many)) e))))
+    (check-allowed 5 (leb c.place c.length)
+    (both_right span six (sym (given-number (first_failed (span ++ six)) c (k, d) (many, moved_to c (c.place + many)) e))))
 
 flag-places : (c : BitmapIter) (bytes : List ℕ) (d : BitmapIter) → FlagPlaces c bytes d
 unfolding nth_flag flag_step take_leading
@@ -141,7 +147,8 @@ flag-places c bytes d =
           (ltb-false (c.place + k) c.length r.0, r.1);
       taken = λ x k e.
           let many : ℕ = leading_from x (iter_flags c bytes) c.place in
-          let r : ◌≡◌ {A = ℕ × BitmapIter} (k, d) (many, moved_to c (c.place + many)) = given-value number c (k, d) (many, moved_to c (c.place + many)) e in
+          let r : ◌≡◌ {A = ℕ × BitmapIter} (k, d) (many, moved_to c (c.place + many)) =
+          given-value number c (k, d) (many, moved_to c (c.place + many)) e in
           ap (λ (p : ℕ × BitmapIter). p.1) r ∙ ap (λ (p : ℕ × BitmapIter). moved_to c (c.place + p.0)) (sym r);
       inside = λ x k e.
           subst (λ (m : ℕ). c.place + m ≤ c.length) (sym (taken-number x c bytes k d e))
@@ -188,7 +195,8 @@ unfolding next_positions
 positions-given c bytes room n d e =
     let many : ℕ = length (take room (left_of c bytes)) in
     let next : TrueIdxIter = true_moved c (place_behind c (left_of c bytes) room) in
-    let r : ◌≡◌ {A = ℕ × TrueIdxIter} (n, d) (many, next) = given-value (first_failed (true_checks c (length bytes))) c (n, d) (many, next) e in
+    let r : ◌≡◌ {A = ℕ × TrueIdxIter} (n, d) (many, next) =
+    given-value (first_failed (true_checks c (length bytes))) c (n, d) (many, next) e in
     (ap (λ (p : ℕ × TrueIdxIter). p.0) r, ap (λ (p : ℕ × TrueIdxIter). p.1) r)
 
 one-places : (c : TrueIdxIter) (bytes : List ℕ) (d : TrueIdxIter) → OnePlaces c bytes d

@@ -18,7 +18,8 @@ use Rattle.masks.specs.Freeze.{frozen_over}
 use Rattle.masks.specs.Frozen.{frozen, over_from, packed}
 use Rattle.masks.specs.Iterator.{leading_from}
 use Rattle.masks.specs.Listing.{listing}
-use Rattle.masks.specs.Mask.{cut_zeros, kept_count, mask_checks, piece_checks, recounts, slice_checks, slice_of, try_new_of, unset_bits_of, zero_count}
+use Rattle.masks.specs.Mask.{cut_zeros, kept_count, mask_checks, piece_checks, recounts, slice_checks, slice_of, try_new_of, unset_bits_of}
+use Rattle.masks.specs.Mask.{zero_count}
 use Rattle.masks.specs.Search.{nth_back, nth_from, search_back, search_from}
 use Rattle.masks.specs.SliceIterator.{new_slices, next_slice, run_start, slice_step}
 use Rattle.masks.specs.Utils.{zeros}

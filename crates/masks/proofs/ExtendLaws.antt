@@ -30,7 +30,8 @@ unfolding word_of
 no_word = refl
 
 -- what a helper wrote from the first unfilled word on
-whole-written : (bytes out : List ℕ) (at q : ℕ) (l : List Bool) → length l ≡ 64 * q → Small bytes → Small out → flags_of out ≡ over_at (flags_of bytes) (8 * at) (whole_words l)
+whole-written : (bytes out : List ℕ) (at q : ℕ) (l : List Bool) → length l ≡ 64 * q → Small bytes → Small out
+    → flags_of out ≡ over_at (flags_of bytes) (8 * at) (whole_words l)
     → out ≡ over_from bytes at (packed (8 * q) l)
 unfolding whole_words
 whole-written bytes out at q l e small small' put =
@@ -38,37 +39,46 @@ whole-written bytes out at q l e small small' put =
     written-bytes bytes out at (8 * q) l small small' (put ∙ ap (λ (x : ℕ). over_at (flags_of bytes) (8 * at) (window l 0 x)) n)
 
 -- whole words appended to a builder with no word in progress
-pub append-whole : (b : BitmapBuilder) (bytes out : List ℕ) (q c : ℕ) (l : List Bool) → b.length % 64 ≡ 0 → length l ≡ 64 * q → c ≡ count l → Small bytes → Small out
-    → flags_of out ≡ over_at (flags_of bytes) (8 * (8 * (b.length / 64))) (whole_words l) → filling (rebuilt b (b.length + 64 * q) 0 (b.ones + c)) out ≡ appended (filling b bytes) l
+pub append-whole : (b : BitmapBuilder) (bytes out : List ℕ) (q c : ℕ) (l : List Bool) → b.length % 64 ≡ 0 → length l ≡ 64 * q → c ≡ count l
+    → Small bytes → Small out
+    → flags_of out ≡ over_at (flags_of bytes) (8 * (8 * (b.length / 64))) (whole_words l)
+    → filling (rebuilt b (b.length + 64 * q) 0 (b.ones + c)) out ≡ appended (filling b bytes) l
 append-whole b bytes out q c l h e ones small small' put =
     let none : in_progress b ≡ [] = nil_from_length (in_progress b) (length-progress b ∙ h) in
-    let p : Parts (filling b bytes) l q l [] = record { row = ap (λ (t : List Bool). t ++ l) none ∙ sym (append-nil l); whole = e; less = zero-lt-suc 63 } in
+    let p : Parts (filling b bytes) l q l [] =
+    record { row = ap (λ (t : List Bool). t ++ l) none ∙ sym (append-nil l); whole = e; less = zero-lt-suc 63 } in
     sym (appended-grown (filling b bytes) l q l [] p
-    ∙ ap₂ (λ (x y : ℕ). filling (rebuilt b (b.length + x) y (b.ones + count l)) (over_from bytes (8 * (b.length / 64)) (packed (8 * q) l))) e no_word
+    ∙ ap₂ (λ (x y : ℕ). filling (rebuilt b (b.length + x) y (b.ones + count l)) (over_from bytes (8 * (b.length / 64)) (packed (8 * q) l)))
+    e no_word
     ∙ ap₂ (λ (x : ℕ) (y : List ℕ). filling (rebuilt b (b.length + 64 * q) 0 (b.ones + x)) y) (sym ones)
     (sym (whole-written bytes out (8 * (b.length / 64)) q l e small small' put)))
 
 -- words of a flag, for all of which there is room
-pub words-filled : (F : List Bool) (out : List ℕ) (q m : ℕ) (x : Bool) → q ≤ m → flags_of out ≡ over F (copies (64 * min q m) x) → flags_of out ≡ over F (whole_words (copies (64 * q) x))
+pub words-filled : (F : List Bool) (out : List ℕ) (q m : ℕ) (x : Bool) → q ≤ m → flags_of out ≡ over F (copies (64 * min q m) x)
+    → flags_of out ≡ over F (whole_words (copies (64 * q) x))
 unfolding whole_words
 words-filled F out q m x h put =
     let e : min q m ≡ q = omega arith in
     let n : 64 * ((length (copies (64 * q) x) + 63) / 64) ≡ length (copies (64 * q) x) = omega (arith, length-copies (64 * q) x) in
-    put ∙ ap (λ (k : ℕ). over F (copies (64 * k) x)) e ∙ ap (over F) (sym (ap (window (copies (64 * q) x) 0) n ∙ window-all (copies (64 * q) x)))
+    put ∙ ap (λ (k : ℕ). over F (copies (64 * k) x)) e
+    ∙ ap (over F) (sym (ap (window (copies (64 * q) x) 0) n ∙ window-all (copies (64 * q) x)))
 
 -- ---- up to the end of the word in progress
 
 pub push-closed : (b : BitmapBuilder) (bytes out : List ℕ) (word low c : ℕ)
     → bits 64 low ≡ window (take (b.length % 64) (bits 64 b.word) ++ bits 64 word) 0 64 → c ≡ count (bits 64 low) → Small bytes → Small out
     → flags_of out ≡ over_at (flags_of bytes) (8 * (8 * (b.length / 64))) (bits 64 low)
-    → filling (rebuilt b (b.length + (64 - b.length % 64)) 0 (b.ones + c)) out ≡ appended (filling b bytes) (take (64 - b.length % 64) (bits 64 word))
+    → filling (rebuilt b (b.length + (64 - b.length % 64)) 0 (b.ones + c)) out
+    ≡ appended (filling b bytes) (take (64 - b.length % 64) (bits 64 word))
 unfolding in_progress
 push-closed b bytes out word low c merged ones small small' put =
     let l = take (64 - b.length % 64) (bits 64 word) in
     let row = in_progress b ++ l in
     let short : length l ≡ 64 - b.length % 64 = length-low (64 - b.length % 64) word (omega arith) in
     let whole : length row ≡ 64 * 1 = omega (arith, length-append (in_progress b) l, length-progress b) in
-    let front : bits 64 low ≡ row = merged ∙ sym (front-flags 64 (b.length % 64) (in_progress b) (bits 64 word) (length-progress b) (omega arith) (length-bits 64 word)) in
+    let front : bits 64 low ≡ row =
+    merged
+    ∙ sym (front-flags 64 (b.length % 64) (in_progress b) (bits 64 word) (length-progress b) (omega arith) (length-bits 64 word)) in
     let p : Parts (filling b bytes) l 1 row [] = record { row = sym (append-nil row); whole = whole; less = zero-lt-suc 63 } in
     let n : b.length + length l ≡ b.length + (64 - b.length % 64) = omega arith in
     let o : b.ones + count row ≡ b.ones + c = ap (λ (x : ℕ). b.ones + x) (sym (ones ∙ ap count front)) in
@@ -76,11 +86,13 @@ push-closed b bytes out word low c merged ones small small' put =
     sym (appended-grown (filling b bytes) l 1 row [] p
     ∙ ap₂ (λ (x y : ℕ). filling (rebuilt b x (word_of []) y) (over_from bytes (8 * (b.length / 64)) (packed 8 row))) n o
     ∙ ap₂ (λ (x : ℕ) (y : List ℕ). filling (rebuilt b (b.length + (64 - b.length % 64)) x (b.ones + c)) y) no_word
-    (sym (written-bytes bytes out (8 * (b.length / 64)) 8 row small small' (put ∙ ap (over_at (flags_of bytes) (8 * (8 * (b.length / 64)))) (front ∙ sym all)))))
+    (sym (written-bytes bytes out (8 * (b.length / 64)) 8 row small small'
+    (put ∙ ap (over_at (flags_of bytes) (8 * (8 * (b.length / 64)))) (front ∙ sym all)))))
 
 -- ---- three parts
 
-pub append-three : (f g h k : Filling) (a m c l : List Bool) → g ≡ appended f a → h ≡ appended g m → k ≡ appended h c → (a ++ m) ++ c ≡ l → k ≡ appended f l
+pub append-three : (f g h k : Filling) (a m c l : List Bool) → g ≡ appended f a → h ≡ appended g m → k ≡ appended h c → (a ++ m) ++ c ≡ l
+    → k ≡ appended f l
 append-three f g h k a m c l p q r e = append-then f h k (a ++ m) c (append-then f g h a m p q) r ∙ ap (appended f) e
 
 pub copies-add : (m n : ℕ) (x : Bool) → copies (m + n) x ≡ copies m x ++ copies n x
@@ -89,15 +101,18 @@ copies-add zero n x = ap (λ (k : ℕ). copies k x) (zero-add n)
 copies-add (suc m) n x = ap (λ (k : ℕ). copies k x) (suc-add m n) ∙ ap (λ (t : List Bool). x ∷ t) (copies-add m n x)
 
 pub copies-three : (a m c n : ℕ) (x : Bool) → n ≡ a + m + c → (copies a x ++ copies m x) ++ copies c x ≡ copies n x
-copies-three a m c n x e = sym (ap (λ (k : ℕ). copies k x) e ∙ copies-add (a + m) c x ∙ ap (λ (t : List Bool). t ++ copies c x) (copies-add a m x))
+copies-three a m c n x e =
+    sym (ap (λ (k : ℕ). copies k x) e ∙ copies-add (a + m) c x ∙ ap (λ (t : List Bool). t ++ copies c x) (copies-add a m x))
 
-pub window-three : (l : List Bool) (k a m c n x y : ℕ) → n ≡ a + m + c → x ≡ k + a → y ≡ k + (a + m) → (window l k a ++ window l x m) ++ window l y c ≡ window l k n
+pub window-three : (l : List Bool) (k a m c n x y : ℕ) → n ≡ a + m + c → x ≡ k + a → y ≡ k + (a + m)
+    → (window l k a ++ window l x m) ++ window l y c ≡ window l k n
 window-three l k a m c n x y e ex ey =
     ap₂ (λ (i j : ℕ). (window l k a ++ window l i m) ++ window l j c) ex ey
     ∙ sym (ap (window l k) e ∙ window-add l k (a + m) c ∙ ap (λ (t : List Bool). t ++ window l (k + (a + m)) c) (window-add l k a m))
 
 -- what the test of the short path says: n flags are few, and the word in progress has room for them
-pub few-inside : (b : BitmapBuilder) (n : ℕ) (t : Bool) → t ≡ (leb n 57 && ltb (b.length % 64 + n) 64) → t ≡ true → (n ≤ 57) × (b.length % 64 + n < 64)
+pub few-inside : (b : BitmapBuilder) (n : ℕ) (t : Bool) → t ≡ (leb n 57 && ltb (b.length % 64 + n) 64) → t ≡ true
+    → (n ≤ 57) × (b.length % 64 + n < 64)
 few-inside b n t e h = (
   leb-true n 57 (and_parts _ _ (sym e ∙ h)).0,
   ltb-true (b.length % 64 + n) 64 (and_parts _ _ (sym e ∙ h)).1,

@@ -33,7 +33,8 @@ use Rattle.masks.proofs.RoomLaws.{finished, length-flags-of}
 pub ones-fit : (b : BitmapBuilder) (n size : ℕ) → Room b n size → all_ones b ≤ b.length
 ones-fit b n size r =
     let few : b.ones ≤ 64 * (b.length / 64) = r.few in
-    let low : length (take (b.length % 64) (bits 64 b.word)) ≡ b.length % 64 = length-take-le (b.length % 64) (bits 64 b.word) (omega (arith, length-bits 64 b.word)) in
+    let low : length (take (b.length % 64) (bits 64 b.word)) ≡ b.length % 64 =
+    length-take-le (b.length % 64) (bits 64 b.word) (omega (arith, length-bits 64 b.word)) in
     omega (arith, low_count (b.length % 64) b.word r.low, count-le (take (b.length % 64) (bits 64 b.word)))
 
 -- a list's own front, and more, written over it
@@ -61,14 +62,17 @@ no-window l k = refl
 
 module _ (b : BitmapBuilder) (bytes : List ℕ) (r : Room b 0 (length bytes)) where
   -- the frozen flags: the finished words, and what is behind them
-  flags-parts : (n k : ℕ) → 8 * n ≡ 64 * (b.length / 64) + k → window (builder_flags (filling b bytes)) 0 (8 * n) ≡ finished (filling b bytes) ++ window (in_progress b) 0 k
+  flags-parts : (n k : ℕ) → 8 * n ≡ 64 * (b.length / 64) + k
+      → window (builder_flags (filling b bytes)) 0 (8 * n) ≡ finished (filling b bytes) ++ window (in_progress b) 0 k
   unfolding builder_flags
   flags-parts n k e =
       let long : length (finished (filling b bytes)) ≡ 64 * (b.length / 64) = length-window (flags_of bytes) 0 (64 * (b.length / 64)) in
       let z : 0 + 64 * (b.length / 64) ≡ length (finished (filling b bytes)) + 0 = omega arith in
-      ap (window (finished (filling b bytes) ++ in_progress b) 0) e ∙ window-add (finished (filling b bytes) ++ in_progress b) 0 (64 * (b.length / 64)) k
+      ap (window (finished (filling b bytes) ++ in_progress b) 0) e
+      ∙ window-add (finished (filling b bytes) ++ in_progress b) 0 (64 * (b.length / 64)) k
       ∙ ap₂ (λ (x y : List Bool). x ++ y) (window-front (64 * (b.length / 64)) (finished (filling b bytes)) (in_progress b) long)
-      (ap (λ (x : ℕ). window (finished (filling b bytes) ++ in_progress b) x k) z ∙ window-behind (finished (filling b bytes)) (in_progress b) 0 k)
+      (ap (λ (x : ℕ). window (finished (filling b bytes) ++ in_progress b) x k) z
+      ∙ window-behind (finished (filling b bytes)) (in_progress b) 0 k)
 
   freeze-flags : (out : List ℕ) (k : ℕ) → frozen_size b.length * 8 ≡ 64 * (b.length / 64) + k → Small bytes → Small out
       → flags_of out ≡ over_at (flags_of bytes) (64 * (b.length / 64)) (window (in_progress b) 0 k) → out ≡ frozen_over b bytes
@@ -83,7 +87,8 @@ module _ (b : BitmapBuilder) (bytes : List ℕ) (r : Room b 0 (length bytes)) wh
       ∙ ap (λ (n : ℕ). over bytes (packed (frozen_size n) (builder_flags (filling b bytes)))) (sym (length-flags-of (filling b bytes)))
 
   -- with a word in progress, which was stored
-  pub freeze-word : (out : List ℕ) → (b.length % 64 ≡ 0 → ⊥) → Small bytes → Small out → flags_of out ≡ over_at (flags_of bytes) (8 * (8 * (b.length / 64))) (bits 64 b.word)
+  pub freeze-word : (out : List ℕ) → (b.length % 64 ≡ 0 → ⊥) → Small bytes → Small out
+      → flags_of out ≡ over_at (flags_of bytes) (8 * (8 * (b.length / 64))) (bits 64 b.word)
       → out ≡ frozen_over b bytes
   freeze-word out h small small' put =
       let at : 8 * (8 * (b.length / 64)) ≡ 64 * (b.length / 64) = omega arith in
@@ -100,22 +105,27 @@ module _ (b : BitmapBuilder) (bytes : List ℕ) (r : Room b 0 (length bytes)) wh
 -- ---- the calls
 
 -- no flag is appended
-pub same-checks : (b : BitmapBuilder) (size r : ℕ) → r ≡ first_failed (builder_checks b (b.length + 0) size) → r ≡ first_failed (freeze_checks b size)
+pub same-checks : (b : BitmapBuilder) (size r : ℕ) → r ≡ first_failed (builder_checks b (b.length + 0) size)
+    → r ≡ first_failed (freeze_checks b size)
 same-checks b size r e = e ∙ ap (λ (n : ℕ). first_failed (builder_checks b n size)) (add-zero b.length)
 
 pub all_set : (b : BitmapBuilder) (n : ℕ) → n ≡ all_ones b → n ≡ b.length → None ≡ validity_of b
 all_set b n e h = ap (λ (t : Bool). cond t None (Some (frozen_mask b))) (sym (eq-eqb (all_ones b) b.length (sym e ∙ h)))
 
-pub not-all-set : (b : BitmapBuilder) (n : ℕ) (m : Bitmap) → n ≡ all_ones b → (n ≡ b.length → ⊥) → m ≡ frozen_mask b → Some m ≡ validity_of b
-not-all-set b n m e h p = ap Some p ∙ ap (λ (t : Bool). cond t None (Some (frozen_mask b))) (sym (ne_eqb (all_ones b) b.length (λ q. h (e ∙ q))))
+pub not-all-set : (b : BitmapBuilder) (n : ℕ) (m : Bitmap) → n ≡ all_ones b → (n ≡ b.length → ⊥) → m ≡ frozen_mask b
+    → Some m ≡ validity_of b
+not-all-set b n m e h p =
+    ap Some p ∙ ap (λ (t : Bool). cond t None (Some (frozen_mask b))) (sym (ne_eqb (all_ones b) b.length (λ q. h (e ∙ q))))
 
 -- ---- what the frozen bytes and the count stand for
 
 -- a list's own flags stand at the front of what its frozen bytes were written over
-pub frozen-front : (bytes : List ℕ) (l : List Bool) → frozen_size (length l) ≤ length bytes → window (flags_of (over bytes (frozen l))) 0 (length l) ≡ l
+pub frozen-front : (bytes : List ℕ) (l : List Bool) → frozen_size (length l) ≤ length bytes
+    → window (flags_of (over bytes (frozen l))) 0 (length l) ≡ l
 unfolding frozen
 frozen-front bytes l h =
-    let flags : flags_of (over bytes (packed (frozen_size (length l)) l)) ≡ over (flags_of bytes) (window l 0 (8 * frozen_size (length l))) =
+    let flags : flags_of (over bytes (packed (frozen_size (length l)) l))
+    ≡ over (flags_of bytes) (window l 0 (8 * frozen_size (length l))) =
     flags-over bytes (packed (frozen_size (length l)) l) ∙ ap (over (flags_of bytes)) (flags-packed (frozen_size (length l)) l) in
     sym (as-window l (flags_of (over bytes (packed (frozen_size (length l)) l))) 0 (length l) refl (λ j b.
     let z : 0 + j ≡ j = omega arith in
@@ -125,7 +135,8 @@ frozen-front bytes l h =
     ∙ at_in l 0 (8 * frozen_size (length l)) j (omega arith) ∙ ap (λ (x : ℕ). get_or l x false) z)))
 
 -- the mask's flags are the builder's
-pub frozen-flags : (b : BitmapBuilder) (bytes : List ℕ) → Room b 0 (length bytes) → mask_flags (frozen_mask b) (frozen_over b bytes) ≡ builder_flags (filling b bytes)
+pub frozen-flags : (b : BitmapBuilder) (bytes : List ℕ) → Room b 0 (length bytes)
+    → mask_flags (frozen_mask b) (frozen_over b bytes) ≡ builder_flags (filling b bytes)
 unfolding frozen_over
 frozen-flags b bytes r =
     let holds : 8 * ((b.length + 0 + 63) / 64) ≤ length bytes = r.holds in
@@ -137,7 +148,8 @@ unfolding in_progress
 progress-count b e = low_count (b.length % 64) b.word e
 
 -- ones that are those of the finished words make all ones those of the builder's flags
-pub true-ones : (b : BitmapBuilder) (bytes : List ℕ) → Room b 0 (length bytes) → b.ones ≡ count (finished (filling b bytes)) → all_ones b ≡ count (builder_flags (filling b bytes))
+pub true-ones : (b : BitmapBuilder) (bytes : List ℕ) → Room b 0 (length bytes) → b.ones ≡ count (finished (filling b bytes))
+    → all_ones b ≡ count (builder_flags (filling b bytes))
 unfolding builder_flags
 true-ones b bytes r e =
     ap₂ (λ (x y : ℕ). x + y) e (sym (progress-count b r.low)) ∙ sym (count-append (finished (filling b bytes)) (in_progress b))

@@ -79,10 +79,12 @@ pub flags-over_from : (l : List ℕ) (at : ℕ) (m : List ℕ) → flags_of (ove
 unfolding over_from over_at
 flags-over_from l at m =
     flags-append (take at l) (over (drop at l) m)
-    ∙ ap₂ (λ (x y : List Bool). x ++ y) (flags-take at l) (flags-over (drop at l) m ∙ ap (λ (t : List Bool). over t (flags_of m)) (flags-drop at l))
+    ∙ ap₂ (λ (x y : List Bool). x ++ y) (flags-take at l)
+    (flags-over (drop at l) m ∙ ap (λ (t : List Bool). over t (flags_of m)) (flags-drop at l))
 
 -- n bytes of m were written from the byte `at` on, as their flags say
-pub written-bytes : (out out' : List ℕ) (at n : ℕ) (m : List Bool) → Small out → Small out' → flags_of out' ≡ over_at (flags_of out) (8 * at) (window m 0 (8 * n))
+pub written-bytes : (out out' : List ℕ) (at n : ℕ) (m : List Bool) → Small out → Small out'
+    → flags_of out' ≡ over_at (flags_of out) (8 * at) (window m 0 (8 * n))
     → out' ≡ over_from out at (packed n m)
 written-bytes out out' at n m p q e =
     flags-inj out' (over_from out at (packed n m)) q (over_from-small out at (packed n m) p (packed-small n m))
@@ -103,4 +105,5 @@ packed-append (suc m) n l =
     let e : 8 + 8 * m ≡ 8 * suc m = omega arith in
     ap (λ (x : ℕ). packed x l) (suc-add m n)
     ∙ ap (λ (t : List ℕ). word_of (window l 0 8) ∷ t)
-    (packed-append m n (drop 8 l) ∙ ap (λ (t : List Bool). packed m (drop 8 l) ++ packed n t) (drop-drop (8 * m) 8 l ∙ ap (λ (x : ℕ). drop x l) e))
+    (packed-append m n (drop 8 l) ∙ ap (λ (t : List Bool). packed m (drop 8 l) ++ packed n t)
+    (drop-drop (8 * m) 8 l ∙ ap (λ (x : ℕ). drop x l) e))

@@ -39,7 +39,8 @@ one-gathered : (l : List Bool) (i : ℕ) → gathered l (i ∷ []) ≡ get_or l 
 unfolding gathered
 one-gathered l i = refl
 
-gathered_next : (l : List Bool) (a : List ℕ) (i : ℕ) → i < length a → gathered l (take (i + 1) a) ≡ gathered l (take i a) ++ (get_or l (get_or a i 0) false ∷ [])
+gathered_next : (l : List Bool) (a : List ℕ) (i : ℕ) → i < length a
+    → gathered l (take (i + 1) a) ≡ gathered l (take i a) ++ (get_or l (get_or a i 0) false ∷ [])
 gathered_next l a i h =
     ap (λ (n : ℕ). gathered l (take n a)) (add-one i) ∙ ap (gathered l) (take-suc a i 0 h)
     ∙ gathered-append l (take i a) (get_or a i 0 ∷ []) ∙ ap (λ (t : List Bool). gathered l (take i a) ++ t) (one-gathered l (get_or a i 0))
@@ -58,16 +59,20 @@ next-flag : (w v r i : ℕ) (x : Bool) → i < 64 → bits 64 v ≡ copies 64 x 
     → take (i + 1) (bits 64 r) ≡ take i (bits 64 w) ++ (x ∷ [])
 next-flag w v r i x h e p =
     let front : length (take i (bits 64 w)) ≡ i = length-low i w (omega arith) in
-    let long : length (take i (bits 64 w) ++ bits 64 v) ≡ i + 64 = length-append (take i (bits 64 w)) (bits 64 v) ∙ ap₂ (λ (a b : ℕ). a + b) front (length-bits 64 v) in
-    let row : bits 64 r ≡ take 64 (take i (bits 64 w) ++ bits 64 v) = p ∙ window-part (take i (bits 64 w) ++ bits 64 v) 0 64 (omega arith) in
+    let long : length (take i (bits 64 w) ++ bits 64 v) ≡ i + 64 =
+    length-append (take i (bits 64 w)) (bits 64 v) ∙ ap₂ (λ (a b : ℕ). a + b) front (length-bits 64 v) in
+    let row : bits 64 r ≡ take 64 (take i (bits 64 w) ++ bits 64 v) =
+    p ∙ window-part (take i (bits 64 w) ++ bits 64 v) 0 64 (omega arith) in
     let n : i + 1 ≡ length (take i (bits 64 w)) + 1 = omega arith in
     ap (take (i + 1)) row ∙ take-take (i + 1) 64 (take i (bits 64 w) ++ bits 64 v) (omega arith)
     ∙ ap (λ (k : ℕ). take k (take i (bits 64 w) ++ bits 64 v)) n ∙ take-append-add (take i (bits 64 w)) (bits 64 v) 1
     ∙ ap (λ (t : List Bool). take i (bits 64 w) ++ t) (ap (take 1) e ∙ take-copies 1 64 x (omega arith) ∙ one-copy x)
 
-pub word-step : (l : List Bool) (a : List ℕ) (w v r i at : ℕ) (x : Bool) → take i (bits 64 w) ≡ gathered l (take i a) → i < length a → length a ≤ 64 → at ≡ get_or a i 0
+pub word-step : (l : List Bool) (a : List ℕ) (w v r i at : ℕ) (x : Bool) → take i (bits 64 w) ≡ gathered l (take i a) → i < length a
+    → length a ≤ 64 → at ≡ get_or a i 0
     → x ≡ get_or l at false
-    → bits 64 v ≡ copies 64 x → bits 64 r ≡ window (take i (bits 64 w) ++ bits 64 v) 0 64 → take (i + 1) (bits 64 r) ≡ gathered l (take (i + 1) a)
+    → bits 64 v ≡ copies 64 x → bits 64 r ≡ window (take i (bits 64 w) ++ bits 64 v) 0 64
+    → take (i + 1) (bits 64 r) ≡ gathered l (take (i + 1) a)
 word-step l a w v r i at x inv h few ea ex ev er =
     next-flag w v r i x (omega arith) ev er
     ∙ ap₂ (λ (s : List Bool) (t : Bool). s ++ (t ∷ [])) inv (ex ∙ ap (λ (n : ℕ). get_or l n false) ea) ∙ sym (gathered_next l a i h)

@@ -57,7 +57,8 @@ module _ (word flags rest k a : ℕ) (most : k ≤ 64) (less : a ≤ k) (low : b
       ∙ take-append-drop a (take k (bits 64 word))
 
 -- it may be joined to those in progress
-pub inside-padded : (b : BitmapBuilder) (l : List Bool) (k v m size : ℕ) → Room b m size → b.length % 64 + k < 64 → length l ≡ k → bits 64 v ≡ window l 0 64 → Inside b v k
+pub inside-padded : (b : BitmapBuilder) (l : List Bool) (k v m size : ℕ) → Room b m size → b.length % 64 + k < 64 → length l ≡ k
+    → bits 64 v ≡ window l 0 64 → Inside b v k
 inside-padded b l k v m size r h e p =
     let short : b.length + m ≤ limit = r.short in
     record { short = omega arith; room = h; low = r.low; few = none-padded l k v e (omega arith) p }

@@ -19,7 +19,8 @@ use Rattle.masks.specs.declared.iterator.BitmapIter.{BitmapIter}
 
 -- ---- the two answers of a cursor
 
-pub a-flag : (bytes : List ℕ) (c : BitmapIter) (k : ℕ) (x : Bool) → k < c.length - c.place → x ≡ get_or (flags_of bytes) (c.start + (c.place + k)) false
+pub a-flag : (bytes : List ℕ) (c : BitmapIter) (k : ℕ) (x : Bool) → k < c.length - c.place
+    → x ≡ get_or (flags_of bytes) (c.start + (c.place + k)) false
     → item x (moved_to c (c.place + k + 1)) ≡ flag_step bytes c k
 unfolding flag_step
 a-flag bytes c k x h e =
@@ -27,7 +28,8 @@ a-flag bytes c k x h e =
     rw (lt-ltb (c.place + k) c.length i)
     (ap (λ (y : Bool). item y (moved_to c (c.place + k + 1))) (e ∙ sym (at_in (flags_of bytes) c.start c.length (c.place + k) i)))
 
-pub no_flag : (bytes : List ℕ) (c : BitmapIter) (k : ℕ) → c.place ≤ c.length → c.length - c.place ≤ k → ended (moved_to c c.length) ≡ flag_step bytes c k
+pub no_flag : (bytes : List ℕ) (c : BitmapIter) (k : ℕ) → c.place ≤ c.length → c.length - c.place ≤ k
+    → ended (moved_to c c.length) ≡ flag_step bytes c k
 unfolding flag_step
 no_flag bytes c k p h = rw (le-ltb (c.place + k) c.length (omega arith))
 
@@ -68,7 +70,8 @@ at-end l x at h = omega (arith, leading_le x (drop at l), length-drop at l)
 
 pub alike-done : (l : List Bool) (x : Bool) (start size place at : ℕ) → Alike (window l start size) x size place at → size ≤ at
     → at - place ≡ leading_from x (window l start size) place
-alike-done l x start size place at a h = omega (arith, a.low, a.sum, at-end (window l start size) x at (omega (arith, length-window l start size)))
+alike-done l x start size place at a h =
+    omega (arith, a.low, a.sum, at-end (window l start size) x at (omega (arith, length-window l start size)))
 
 pub alike-whole : (l : List Bool) (x : Bool) (start size place at : ℕ) → Alike (window l start size) x size place at → size ≤ at
     → size - place ≡ leading_from x (window l start size) place
@@ -76,14 +79,16 @@ alike-whole l x start size place at a h = omega (arith, a.inside, alike-done l x
 
 -- the first k flags of a word that was read in the span
 module _ (l : List Bool) (x : Bool) (start size place at k w r : ℕ) (a : Alike (window l start size) x size place at)
-    (most : k ≡ min (size - at) 64) (before : at < size) (flags : bits 64 w ≡ window l (start + at) 64) (same : r ≡ leading x (take k (bits 64 w))) where
+    (most : k ≡ min (size - at) 64) (before : at < size) (flags : bits 64 w ≡ window l (start + at) 64)
+    (same : r ≡ leading x (take k (bits 64 w))) where
   fits : at + k ≤ length (window l start size)
   fits = omega (arith, length-window l start size)
 
   in_span : r ≡ leading x (window (window l start size) at k)
   in_span =
       same ∙ ap (λ (t : List Bool). leading x (take k t)) flags
-      ∙ ap (leading x) (window-cut l (start + at) 64 0 k (omega arith) ∙ ap (λ (y : ℕ). window l y k) (add-zero (start + at)) ∙ sym (in_window l start size at k (omega arith)))
+      ∙ ap (leading x) (window-cut l (start + at) 64 0 k (omega arith) ∙ ap (λ (y : ℕ). window l y k) (add-zero (start + at))
+      ∙ sym (in_window l start size at k (omega arith)))
 
   alike-most : r ≤ k
   alike-most = no_more (window l start size) x at k r fits in_span
@@ -107,13 +112,16 @@ module _ (l : List Bool) (x : Bool) (start size place at k w r : ℕ) (a : Alike
   alike-last h few = alike-whole l x start size place (at + k) (alike-on h) (omega arith)
 
 -- the first k flags of a word that was read from `place` on
-pub word-alike : (l : List Bool) (x : Bool) (start size place k w r : ℕ) → place + k ≤ size → take k (bits 64 w) ≡ window l (start + place) k
+pub word-alike : (l : List Bool) (x : Bool) (start size place k w r : ℕ) → place + k ≤ size
+    → take k (bits 64 w) ≡ window l (start + place) k
     → r ≡ leading x (take k (bits 64 w)) → r < k → r ≡ leading_from x (window l start size) place
 word-alike l x start size place k w r inside p e h =
-    sym (some_alike (window l start size) x place k r (omega (arith, length-window l start size)) (e ∙ ap (leading x) (p ∙ sym (in_window l start size place k inside))) h)
+    sym (some_alike (window l start size) x place k r (omega (arith, length-window l start size))
+    (e ∙ ap (leading x) (p ∙ sym (in_window l start size place k inside))) h)
 
 -- the same where these are all that is left, and alike
-pub word-all-alike : (l : List Bool) (x : Bool) (start size place k w r : ℕ) → place + k ≡ size → take k (bits 64 w) ≡ window l (start + place) k
+pub word-all-alike : (l : List Bool) (x : Bool) (start size place k w r : ℕ) → place + k ≡ size
+    → take k (bits 64 w) ≡ window l (start + place) k
     → r ≡ leading x (take k (bits 64 w)) → k ≤ r → k ≡ leading_from x (window l start size) place
 word-all-alike l x start size place k w r all p e h =
     let m : List Bool = window l start size in
@@ -126,6 +134,8 @@ word-all-alike l x start size place k w r all p e h =
       at-end m x (place + r) (omega (arith, length-window l start size)),
     )
 
-pub alike-inside : (l : List Bool) (x : Bool) (start size place r : ℕ) → place ≤ size → r ≡ leading_from x (window l start size) place → place + r ≤ size
+pub alike-inside : (l : List Bool) (x : Bool) (start size place r : ℕ) → place ≤ size → r ≡ leading_from x (window l start size) place
+    → place + r ≤ size
 unfolding leading_from
-alike-inside l x start size place r h e = omega (arith, leading_le x (drop place (window l start size)), length-drop place (window l start size), length-window l start size)
+alike-inside l x start size place r h e =
+    omega (arith, leading_le x (drop place (window l start size)), length-drop place (window l start size), length-window l start size)

@@ -11,7 +11,8 @@ use Rattle.words.specs.Ops.{zip3}
 use Rattle.masks.specs.Checks.{first_failed, output_checks}
 use Rattle.masks.proofs.CheckLaws.{check-allowed}
 
-pub length-zip3 : (f : Bool → Bool → Bool → Bool) (a b c : List Bool) → length a ≡ length b → length a ≡ length c → length (zip3 f a b c) ≡ length a
+pub length-zip3 : (f : Bool → Bool → Bool → Bool) (a b c : List Bool) → length a ≡ length b → length a ≡ length c
+    → length (zip3 f a b c) ≡ length a
 unfolding zip3
 length-zip3 f [] b c p q = refl
 length-zip3 f (x ∷ a) [] c p q = absurd (omega arith)

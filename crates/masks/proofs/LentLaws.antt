@@ -11,7 +11,8 @@ use Rattle.masks.specs.declared.refusal.Refusal.{Refusal}
 use Rattle.masks.specs.declared.span.Lent.{Lent}
 
 -- the exit of a `?`
-pub lent-exit : (result : Result Lent Refusal) (e : Refusal) → IsErrAnd result (λ (y : Refusal). y ≡ e) → lent_answer result ≡ refused (number e) tt
+pub lent-exit : (result : Result Lent Refusal) (e : Refusal) → IsErrAnd result (λ (y : Refusal). y ≡ e)
+    → lent_answer result ≡ refused (number e) tt
 lent-exit result e h = let p = err_from_is_err_and result h in ap lent_answer (p.1 ∙ ap (λ (y : Refusal). Err y) p.2)
 
 -- where a check failed

@@ -38,7 +38,8 @@ module _ {C A : Type 0} (next : C → Answer C (Step C A)) where
   pub lists : (left : C → List A) (Ok : C → Type 0) (far : C → ℕ) → ((c : C) → Ok c → Moves next left Ok far c)
       → (k : ℕ) (c : C) → Ok c → far c < k → listing next k c ≡ left c
   lists left Ok far moves zero c ok h = absurd (omega arith)
-  lists left Ok far moves (suc k) c ok h = step (moves c ok) (λ (d : C) (o : Ok d) (f : far d < far c). lists left Ok far moves k d o (omega arith))
+  lists left Ok far moves (suc k) c ok h =
+      step (moves c ok) (λ (d : C) (o : Ok d) (f : far d < far c). lists left Ok far moves k d o (omega arith))
     where
       step : Moves next left Ok far c → ((d : C) → Ok d → far d < far c → listing next k d ≡ left d) → listing next (suc k) c ≡ left c
       step (gives a d e o f g) again = an_item k c d a e ∙ ap (λ (t : List A). a ∷ t) (again d o f) ∙ sym g
@@ -50,5 +51,6 @@ unfolding first_failed earlier
 place-accepted A q n e h = sym (passed-before A (check 6 (leb q n) ∷ []) 0 0 (sym e) refl (rw (le-leb q n h)))
 
 -- also where they have passed at another place
-pub place-again : (A : List Check) (p q n : ℕ) → first_failed (A ++ (check 6 (leb p n) ∷ [])) ≡ 0 → q ≤ n → first_failed (A ++ (check 6 (leb q n) ∷ [])) ≡ 0
+pub place-again : (A : List Check) (p q n : ℕ) → first_failed (A ++ (check 6 (leb p n) ∷ [])) ≡ 0 → q ≤ n
+    → first_failed (A ++ (check 6 (leb q n) ∷ [])) ≡ 0
 place-again A p q n e h = place-accepted A q n (both_left A (check 6 (leb p n) ∷ []) e) h

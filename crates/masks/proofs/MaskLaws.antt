@@ -28,7 +28,9 @@ use Rattle.masks.proofs.CheckLaws.{span-allowed, SpanAllowed, rest-allowed, chec
 -- what is known of a mask whose checks have passed
 pub mask-allowed : (m : Bitmap) (bytes : List ℕ) → first_failed (mask_checks m bytes) ≡ 0 → SpanAllowed m.start m.length (length bytes)
 unfolding mask_checks
-mask-allowed m bytes e = span-allowed m.start m.length (length bytes) (both_left (span_checks m.start m.length (length bytes)) (check 3 (count_valid m bytes) ∷ []) e)
+mask-allowed m bytes e =
+    span-allowed m.start m.length (length bytes)
+    (both_left (span_checks m.start m.length (length bytes)) (check 3 (count_valid m bytes) ∷ []) e)
 
 -- its count is not known, or true: check 3 says just that
 count-true : (u : Option ℕ) (l : List Bool) → count_is u (zeros l) ≡ true → TrueCount u l
@@ -58,15 +60,23 @@ mask-sound m bytes e =
     let a = mask-allowed m bytes e in
     record { starts = a.starts; short = a.short; inside = a.inside; counts = mask-truthful m bytes e }
 
-pub piece-allowed : (m : Bitmap) (bytes : List ℕ) (offset n : ℕ) → first_failed (piece_checks m bytes offset n) ≡ 0 → PieceAllowed m (length bytes) offset n
+pub piece-allowed : (m : Bitmap) (bytes : List ℕ) (offset n : ℕ) → first_failed (piece_checks m bytes offset n) ≡ 0
+    → PieceAllowed m (length bytes) offset n
 unfolding piece_checks
 piece-allowed m bytes offset n e =
-    let rest : List Check = within_limit offset ∷ within_limit n ∷ within_limit (m.start + offset) ∷ check 6 (leb (offset + n) m.length) ∷ [] in
+    let rest : List Check =
+    within_limit offset ∷ within_limit n ∷ within_limit (m.start + offset) ∷ check 6 (leb (offset + n) m.length) ∷ [] in
     let a = mask-allowed m bytes (both_left (mask_checks m bytes) rest e) in
     let six = rest-allowed (within_limit (m.start + offset)) (check 6 (leb (offset + n) m.length) ∷ [])
     (rest-allowed (within_limit n) (within_limit (m.start + offset) ∷ check 6 (leb (offset + n) m.length) ∷ [])
-    (rest-allowed (within_limit offset) (within_limit n ∷ within_limit (m.start + offset) ∷ check 6 (leb (offset + n) m.length) ∷ []) (both_right (mask_checks m bytes) rest e))) in
-    record { starts = a.starts; short = a.short; lent = a.inside; inside = leb-true (offset + n) m.length (check-allowed 5 (leb (offset + n) m.length) six) }
+    (rest-allowed (within_limit offset) (within_limit n ∷ within_limit (m.start + offset) ∷ check 6 (leb (offset + n) m.length) ∷ [])
+    (both_right (mask_checks m bytes) rest e))) in
+    record {
+      starts = a.starts;
+      short = a.short;
+      lent = a.inside;
+      inside = leb-true (offset + n) m.length (check-allowed 5 (leb (offset + n) m.length) six);
+    }
 
 -- ---- the count of a slice
 
@@ -84,16 +94,22 @@ unfolding recounts
 recounts-by old n z p h k e = leb-less old n p ∙ rw (ne_eqb z 0 h, ne_eqb z old k, e)
 
 -- recounted, kept, and not known
-pub cut-known : (old n cut x z : ℕ) (u : Option ℕ) (r : Result (Option ℕ) Refusal) → u ≡ Some z → recounts old n z ≡ true → r ≡ recounted_of z x n → x ≡ cut → r ≡ cut_of old n cut u
+pub cut-known : (old n cut x z : ℕ) (u : Option ℕ) (r : Result (Option ℕ) Refusal) → u ≡ Some z → recounts old n z ≡ true
+    → r ≡ recounted_of z x n → x ≡ cut → r ≡ cut_of old n cut u
 unfolding recounted_of
 cut-known old n cut x z u r k t e h =
     e ∙ ap (λ (y : ℕ). recounted_of z y n) h
-    ∙ sym (ap (cut_of old n cut) k ∙ ap (λ (b : Bool). cond (cond b (leb cut z && leb (z - cut) n) true) (Ok (cond b (Some (z - cut)) (kept_count z old n))) (Err WrongRecount)) t)
+    ∙ sym (ap (cut_of old n cut) k
+    ∙ ap (λ (b : Bool). cond (cond b (leb cut z && leb (z - cut) n) true) (Ok (cond b (Some (z - cut)) (kept_count z old n)))
+    (Err WrongRecount)) t)
 
-pub cut-kept : (old n cut z : ℕ) (u : Option ℕ) (r : Result (Option ℕ) Refusal) → u ≡ Some z → recounts old n z ≡ false → r ≡ Ok (kept_count z old n) → r ≡ cut_of old n cut u
+pub cut-kept : (old n cut z : ℕ) (u : Option ℕ) (r : Result (Option ℕ) Refusal) → u ≡ Some z → recounts old n z ≡ false
+    → r ≡ Ok (kept_count z old n) → r ≡ cut_of old n cut u
 cut-kept old n cut z u r k t e =
     e
-    ∙ sym (ap (cut_of old n cut) k ∙ ap (λ (b : Bool). cond (cond b (leb cut z && leb (z - cut) n) true) (Ok (cond b (Some (z - cut)) (kept_count z old n))) (Err WrongRecount)) t)
+    ∙ sym (ap (cut_of old n cut) k
+    ∙ ap (λ (b : Bool). cond (cond b (leb cut z && leb (z - cut) n) true) (Ok (cond b (Some (z - cut)) (kept_count z old n)))
+    (Err WrongRecount)) t)
 
 pub cut-unknown : (old n cut : ℕ) (u : Option ℕ) → u ≡ None → Ok None ≡ cut_of old n cut u
 cut-unknown old n cut u k = sym (ap (cut_of old n cut) k)
@@ -118,7 +134,8 @@ cut_wrong old n cut u e = go (recount_valid old n cut u) e
     go true e = absurd (let z : ◌≡◌ {A = ℕ} 0 1 = cc in omega arith)
     go false e = refl
 
-pub cut-error : (old n cut : ℕ) (u : Option ℕ) (e : Refusal) → cut_of old n cut u ≡ Err e → (Err WrongRecount ≡ cut_of old n cut u) × (e ≡ WrongRecount)
+pub cut-error : (old n cut : ℕ) (u : Option ℕ) (e : Refusal) → cut_of old n cut u ≡ Err e
+    → (Err WrongRecount ≡ cut_of old n cut u) × (e ≡ WrongRecount)
 cut-error old n cut u e h = go (recount_valid old n cut u) h
   where
     go : (t : Bool) → cond t (Ok (sliced_count old n cut u)) (Err WrongRecount) ≡ Err e
@@ -126,7 +143,8 @@ cut-error old n cut u e h = go (recount_valid old n cut u) h
     go true k = cc
     go false k = (refl, cc)
 
-pub cut_right : (old n cut : ℕ) (u v : Option ℕ) → Ok v ≡ cut_of old n cut u → (recount_valid old n cut u ≡ true) × (v ≡ sliced_count old n cut u)
+pub cut_right : (old n cut : ℕ) (u v : Option ℕ) → Ok v ≡ cut_of old n cut u
+    → (recount_valid old n cut u ≡ true) × (v ≡ sliced_count old n cut u)
 cut_right old n cut u v e = go (recount_valid old n cut u) e
   where
     go : (t : Bool) → Ok v ≡ cond t (Ok (sliced_count old n cut u)) (Err WrongRecount) → (t ≡ true) × (v ≡ sliced_count old n cut u)
@@ -147,7 +165,8 @@ module _ (m : Bitmap) (bytes : List ℕ) (offset n k : ℕ) (piece : k ≡ first
       first-refused (piece_checks m bytes offset n) k 6 (recount_valid m.length n (cut_zeros m bytes offset n) m.unset) m
       (sliced_mask m bytes offset n) (piece-before m bytes offset n) piece h
 
-  pub slice_wrong : k ≡ 0 → (Err WrongRecount) ≡ cut_of m.length n (cut_zeros m bytes offset n) m.unset → refused 7 m ≡ slice_of m bytes offset n
+  pub slice_wrong : k ≡ 0 → (Err WrongRecount) ≡ cut_of m.length n (cut_zeros m bytes offset n) m.unset
+      → refused 7 m ≡ slice_of m bytes offset n
   unfolding slice_of slice_checks
   slice_wrong z e =
       last-refused (piece_checks m bytes offset n) k 6 (recount_valid m.length n (cut_zeros m bytes offset n) m.unset) m
@@ -159,4 +178,5 @@ module _ (m : Bitmap) (bytes : List ℕ) (offset n k : ℕ) (piece : k ≡ first
   slice-right v z e =
       let known = cut_right m.length n (cut_zeros m bytes offset n) m.unset v e in
       ap (λ (u : Option ℕ). given (cut_mask m (m.start + offset) n u)) known.1
-      ∙ last-given (piece_checks m bytes offset n) k 6 (recount_valid m.length n (cut_zeros m bytes offset n) m.unset) m (sliced_mask m bytes offset n) piece z known.0
+      ∙ last-given (piece_checks m bytes offset n) k 6 (recount_valid m.length n (cut_zeros m bytes offset n) m.unset) m
+      (sliced_mask m bytes offset n) piece z known.0

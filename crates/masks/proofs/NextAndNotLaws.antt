@@ -9,18 +9,19 @@ use Prim.Native.Nat.{ℕ, ◌+◌, ◌-◌, ◌/◌, ◌≤◌, ◌<◌, min}
 use native.Mathlib.Nat.{add-zero}
 use native.Mathlib.Omega.{arith}
 use lib.Dec.{eqb, leb}
-use lib.ListN.{length, take, drop, get_or, length-take, take-append-drop}
-use lib.Seq.{take_all, length-take-le}
+use lib.ListN.{length, take, drop, get_or, length-drop, length-take, take-append-drop}
+use lib.Seq.{take_all, take-take, length-take-le}
 use borrow.Author.Tests.{eqb-true, le-leb, leb-true, lt-ltb}
 use Rattle.words.specs.Counts.{any_set}
 use Rattle.words.specs.Ends.{leading}
 use Rattle.words.specs.Flags.{bits, flags_of, window}
 use Rattle.words.specs.Loops.{combined}
 use Rattle.words.specs.Ops.{and_not, op_of, zip3}
+use Rattle.words.proofs.Bits.{length-bits}
 use Rattle.words.proofs.Combining.{length-zip, zip-part, zip-self, zip-starts, zip_two}
 use Rattle.words.proofs.EndLaws.{leading-all, leading_le, leading-take}
 use Rattle.words.proofs.Plain.{window-part}
-use Rattle.words.proofs.Windows.{at_take, in_window, length-window, window-cut, window-ext}
+use Rattle.words.proofs.Windows.{at_take, in_window, length-window, window-all, window-cut, window-ext}
 use Rattle.masks.specs.Checks.{check, first_failed}
 use Rattle.masks.specs.Combine.{And, AndNot, pair_flags, shortcut}
 use Rattle.masks.specs.Iterator.{leading_from}
@@ -29,6 +30,7 @@ use Rattle.masks.specs.NextAndNot.{free_flags, going_round, next_checks, next_se
 use Rattle.masks.specs.Workers.{Beside, PassedTo, Searchable}
 use Rattle.masks.specs.Search.{nth_from}
 use Rattle.masks.specs.declared.bitmap.Bitmap.{Bitmap}
+use Rattle.masks.specs.declared.next_and_not.Found.{Found}
 use Rattle.masks.proofs.CheckLaws.{both_left, both_right, check-allowed, one-check, passed-before}
 use Rattle.masks.proofs.IteratorLaws.{at-end, every-alike, some_alike}
 use Rattle.masks.proofs.MaskLaws.{mask-allowed}
@@ -46,7 +48,8 @@ beside-allowed n (Some b) b_bytes e = (
 beside-allowed n None b_bytes e = tt
 
 -- where they have passed, the flags from the place on can be searched
-pub next-allowed : (a : Bitmap) (a_bytes : List ℕ) (S : Option Bitmap) (b_bytes : List ℕ) (from : ℕ) → first_failed (next_checks a a_bytes S b_bytes from) ≡ 0
+pub next-allowed : (a : Bitmap) (a_bytes : List ℕ) (S : Option Bitmap) (b_bytes : List ℕ) (from : ℕ)
+    → first_failed (next_checks a a_bytes S b_bytes from) ≡ 0
     → Searchable a S from a.length
 unfolding next_checks
 next-allowed a a_bytes S b_bytes from e =
@@ -87,15 +90,20 @@ beside-here n S b e h = subst (λ (o : Option Bitmap). Beside n o) e h
 
 module _ (a : Bitmap) (a_bytes : List ℕ) (b : Bitmap) (b_bytes : List ℕ) (same : a.length ≡ b.length) where
   each : List Bool
-  each = zip3 (op_of AndNot) (window (flags_of a_bytes) a.start a.length) (window (flags_of b_bytes) b.start a.length) (window (flags_of b_bytes) b.start a.length)
+  each =
+      zip3 (op_of AndNot) (window (flags_of a_bytes) a.start a.length) (window (flags_of b_bytes) b.start a.length)
+      (window (flags_of b_bytes) b.start a.length)
 
   is-each : each ≡ free_flags a a_bytes (Some b) b_bytes
   unfolding each free_flags pair_flags shortcut
-  is-each = ap (λ (n : ℕ). zip3 (op_of AndNot) (window (flags_of a_bytes) a.start a.length) (window (flags_of b_bytes) b.start n) (window (flags_of b_bytes) b.start n)) same
+  is-each =
+      ap (λ (n : ℕ). zip3 (op_of AndNot) (window (flags_of a_bytes) a.start a.length) (window (flags_of b_bytes) b.start n)
+      (window (flags_of b_bytes) b.start n)) same
 
   -- a part, from stretches of the two buffers
   each_part : (at k : ℕ) → at + k ≤ a.length
-      → zip3 (op_of AndNot) (window (flags_of a_bytes) (a.start + at) k) (window (flags_of b_bytes) (b.start + at) k) (window (flags_of b_bytes) (b.start + at) k)
+      → zip3 (op_of AndNot) (window (flags_of a_bytes) (a.start + at) k) (window (flags_of b_bytes) (b.start + at) k)
+      (window (flags_of b_bytes) (b.start + at) k)
       ≡ window (free_flags a a_bytes (Some b) b_bytes) at k
   unfolding each
   each_part at k h =
@@ -122,7 +130,8 @@ module _ (a : Bitmap) (a_bytes : List ℕ) (b : Bitmap) (b_bytes : List ℕ) (sa
       ∙ each_part at k h
 
 -- the second mask of an arm
-module _ (a : Bitmap) (a_bytes : List ℕ) (S : Option Bitmap) (b_bytes : List ℕ) (b : Bitmap) (here : S ≡ Some b) (beside : Beside a.length S) where
+module _ (a : Bitmap) (a_bytes : List ℕ) (S : Option Bitmap) (b_bytes : List ℕ) (b : Bitmap) (here : S ≡ Some b)
+    (beside : Beside a.length S) where
   same_length : a.length ≡ b.length
   same_length = (beside-here a.length S b here beside).1
 
@@ -160,7 +169,8 @@ module _ (a : Bitmap) (a_bytes : List ℕ) (S : Option Bitmap) (b_bytes : List �
       ∙ ap (λ (x : ℕ). window (flags_of a_bytes) x k) (add-zero (a.start + at)) ∙ own-part at k h
 
 -- there are as many as the first mask has
-pub free-length : (a : Bitmap) (a_bytes : List ℕ) (S : Option Bitmap) (b_bytes : List ℕ) → Beside a.length S → length (free_flags a a_bytes S b_bytes) ≡ a.length
+pub free-length : (a : Bitmap) (a_bytes : List ℕ) (S : Option Bitmap) (b_bytes : List ℕ) → Beside a.length S
+    → length (free_flags a a_bytes S b_bytes) ≡ a.length
 unfolding free_flags
 free-length a a_bytes (Some b) b_bytes h = flags-length a a_bytes b b_bytes h.1 AndNot
 free-length a a_bytes None b_bytes h = length-window (flags_of a_bytes) a.start a.length
@@ -178,7 +188,8 @@ pub word-most : (k w r : ℕ) → r ≡ leading false (take k (bits 64 w)) → r
 word-most k w r e = omega (arith, leading_le false (take k (bits 64 w)), length-take k (bits 64 w))
 
 -- `end` flags of n, and k of them from `at` on
-module _ (Z : List Bool) (n end from at k : ℕ) (long : length Z ≡ n) (reach : end ≤ n) (p : PassedTo (take end Z) end from at) (fits : at + k ≤ end) where
+module _ (Z : List Bool) (n end from at k : ℕ) (long : length Z ≡ n) (reach : end ≤ n) (p : PassedTo (take end Z) end from at)
+    (fits : at + k ≤ end) where
   in-front : window (take end Z) at k ≡ window Z at k
   in-front = window-ext (take end Z) Z at at k (λ j h.
       at_take end Z (at + j) ∙ ap (λ (t : Bool). t && get_or Z (at + j) false) (lt-ltb (at + j) end (omega arith)))
@@ -211,6 +222,42 @@ module _ (Z : List Bool) (n end from at k : ℕ) (long : length Z ≡ n) (reach 
       let z : leading false (window Z at k) ≡ k = omega (arith, leading_le false (window Z at k), length-window Z at k) in
       passed-more k (sym z) (omega arith)
 
+-- ---- at most 64 flags, in one word
+
+module _ (n from w : ℕ) (few : n ≤ 64) (inside : from ≤ n) where
+  pub long-word : length (take n (bits 64 w)) ≡ n
+  long-word = length-take-le n (bits 64 w) (omega (arith, length-bits 64 w))
+
+  -- those from the place on
+  pub word-ahead : (v r : ℕ) → bits 64 v ≡ window (bits 64 w) from 64 → r ≡ leading false (take (n - from) (bits 64 v))
+      → r ≡ leading_from false (take n (take n (bits 64 w))) from
+  unfolding leading_from
+  word-ahead v r p e =
+      let l = bits 64 w in
+      let k = n - from in
+      let rest = drop from (take n l) in
+      let begun : PassedTo (take n l) n from from = record { low = omega arith; inside = inside; same = refl } in
+      let part : take k (bits 64 v) ≡ window l from k =
+      ap (take k) p ∙ window-cut l from 64 0 k (omega arith) ∙ ap (λ (x : ℕ). window l x k) (add-zero from) in
+      let all : window (take n l) from k ≡ rest =
+      window-part (take n l) from k (omega (arith, long-word)) ∙ take_all k rest (omega (arith, length-drop from (take n l), long-word)) in
+      e ∙ ap (leading false) (part ∙ sym (in-front l 64 n from from k (length-bits 64 w) few begun (omega arith)) ∙ all)
+      ∙ ap (λ (m : List Bool). leading false (drop from m)) (sym (take-take n n l (omega arith)))
+
+  -- those before it
+  pub word-before : (r : ℕ) → r ≡ leading false (take from (bits 64 w)) → r ≡ leading_from false (take from (take n (bits 64 w))) 0
+  unfolding leading_from
+  word-before r e = e ∙ ap (leading false) (sym (take-take from n (bits 64 w) inside))
+
+-- what the flags are is found in them
+pub found-word : (a : Bitmap) (a_bytes : List ℕ) (S : Option Bitmap) (b_bytes : List ℕ) (n from w : ℕ) (r : Found) → Beside n S
+    → n ≡ a.length → take n (bits 64 w) ≡ window (free_flags a a_bytes S b_bytes) 0 n → r ≡ next_set n (take n (bits 64 w)) from
+    → r ≡ next_set a.length (free_flags a a_bytes S b_bytes) from
+found-word a a_bytes S b_bytes n from w r h z p e =
+    let Z = free_flags a a_bytes S b_bytes in
+    let long : n ≡ length Z = z ∙ sym (free-length a a_bytes S b_bytes (subst (λ (x : ℕ). Beside x S) z h)) in
+    e ∙ ap₂ (λ (x : ℕ) (l : List Bool). next_set x l from) z (p ∙ ap (window Z 0) long ∙ window-all Z)
+
 -- all are passed over
 pub passed-end : (Z : List Bool) (n end from at : ℕ) → length Z ≡ n → end ≤ n → PassedTo (take end Z) end from at → end ≤ at
     → at - from ≡ leading_from false (take end Z) from
@@ -230,10 +277,12 @@ module _ (Z : List Bool) (n from ahead : ℕ) (long : length Z ≡ n) (inside : 
   found-ahead position read h p r =
       let there : Some position ≡ nth_from Z 0 from = ap Some p ∙ first-from Z from ahead ahead-all (omega arith) in
       let w : read ≡ (position - from) / 32 + 1 = omega arith in
-      ap (λ (x : ℕ). record { position = Some position; windows = x }) w ∙ ap (λ (o : Option ℕ). going_round n from o (nth_from Z 0 0)) there
+      ap (λ (x : ℕ). record { position = Some position; windows = x }) w
+      ∙ ap (λ (o : Option ℕ). going_round n from o (nth_from Z 0 0)) there
 
   -- there is none: before it
-  module _ (passed before : ℕ) (few : n - from ≤ ahead) (w : passed ≡ windows_of (n - from)) (f : before ≡ leading_from false (take from Z) 0) where
+  module _ (passed before : ℕ) (few : n - from ≤ ahead) (w : passed ≡ windows_of (n - from))
+      (f : before ≡ leading_from false (take from Z) 0) where
     none_ahead : None ≡ nth_from Z 0 from
     none_ahead = none_from_lem Z from ahead ahead-all (omega arith)
 

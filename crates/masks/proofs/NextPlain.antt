@@ -94,10 +94,12 @@ unfolding ones_from ones flags
 listed k [] = refl
 listed k (true ∷ m) =
     ap (λ (t : List ℕ). k ∷ t) (listed (suc k) m ∙ later-flags k true m)
-    ∙ ap (λ (b : Bool). cond b (k ∷ ones (flags k true m) (suc k) (length m)) (ones (flags k true m) (suc k) (length m))) (sym (first-flag k true m))
+    ∙ ap (λ (b : Bool). cond b (k ∷ ones (flags k true m) (suc k) (length m)) (ones (flags k true m) (suc k) (length m)))
+    (sym (first-flag k true m))
 listed k (false ∷ m) =
     listed (suc k) m ∙ later-flags k false m
-    ∙ ap (λ (b : Bool). cond b (k ∷ ones (flags k false m) (suc k) (length m)) (ones (flags k false m) (suc k) (length m))) (sym (first-flag k false m))
+    ∙ ap (λ (b : Bool). cond b (k ∷ ones (flags k false m) (suc k) (length m)) (ones (flags k false m) (suc k) (length m)))
+    (sym (first-flag k false m))
 
 abbrev pub head_of : List ℕ → Option ℕ
 head_of [] = None

@@ -7,7 +7,7 @@ use Prim.Native.Nat.{ℕ, zero, suc, ◌≤◌}
 use native.Mathlib.Omega.{arith}
 use lib.Dec.{leb}
 use borrow.Author.Tests.{leb-true}
-use Rattle.masks.specs.Checks.{Check, rank, earlier, failure, first_failed}
+use Rattle.masks.specs.Checks.{Check, rank, earlier, failure, first_failed, limit, within_limit}
 use Rattle.masks.proofs.CheckLaws.{earlier-none, first-least, earlier-assoc}
 
 -- is k put before all numbers of a list
@@ -35,3 +35,13 @@ led k (c ∷ cs) e =
     ∙ ap (λ (x : ℕ). earlier x (first_failed cs))
     (led_failure k c (leb-true (rank (suc k)) (rank c.number) (and_parts _ _ e).0))
     ∙ led k cs (and_parts _ _ e).1
+
+-- a number over the limit decides, whatever else fails
+pub limit-first : (n r : ℕ) (cs : List Check) → leads 1 cs ≡ true → r ≡ first_failed (within_limit n ∷ []) → (r ≡ 0 → ⊥)
+    → r ≡ first_failed (within_limit n ∷ cs)
+unfolding first_failed
+limit-first n r cs e p z = go (leb n limit) (p ∙ earlier-none (cond (leb n limit) 0 1))
+  where
+    go : (t : Bool) → r ≡ cond t 0 1 → r ≡ earlier (cond t 0 1) (first_failed cs)
+    go true q = absurd (z q)
+    go false q = q ∙ sym (led 0 cs e)

@@ -36,13 +36,16 @@ module _ (a : Bitmap) (a_bytes : List ℕ) (b : Bitmap) (b_bytes : List ℕ) (sa
   at_each op j h =
       let A = flags_of a_bytes in
       let B = flags_of b_bytes in
-      let second : get_or B (b.start + j) false ≡ get_or (window B b.start b.length) j false = sym (at_in B b.start b.length j (omega arith)) in
+      let second : get_or B (b.start + j) false ≡ get_or (window B b.start b.length) j false =
+      sym (at_in B b.start b.length j (omega arith)) in
       ap (λ (n : ℕ). get_or (pair_each op a a_bytes (cut_mask b b.start n b.unset) b_bytes) j false) (sym same)
       ∙ at-zip-in (op_of op) A B B a.start b.start b.start a.length j h
       ∙ ap₂ (λ (x y : Bool). op_of op x y y) (sym (at_in A a.start a.length j h)) second
 
   -- `and_not` has no shortcut, so its flags are those whatever the counts say
-  pub at-and-not : (j : ℕ) → j < a.length → get_or (pair_flags AndNot a a_bytes b b_bytes) j false ≡ (get_or (mask_flags a a_bytes) j false && not (get_or (mask_flags b b_bytes) j false))
+  pub at-and-not : (j : ℕ) → j < a.length
+      → get_or (pair_flags AndNot a a_bytes b b_bytes) j false
+      ≡ (get_or (mask_flags a a_bytes) j false && not (get_or (mask_flags b b_bytes) j false))
   unfolding pair_flags shortcut
   at-and-not j h = at_each AndNot j h
 
@@ -50,7 +53,8 @@ module _ (a : Bitmap) (a_bytes : List ℕ) (b : Bitmap) (b_bytes : List ℕ) (sa
   each-length op =
       let first = length-window (flags_of a_bytes) a.start a.length in
       let second = length-window (flags_of b_bytes) b.start b.length in
-      length-zip3 (op_of op) (mask_flags a a_bytes) (mask_flags b b_bytes) (mask_flags b b_bytes) (first ∙ same ∙ sym second) (first ∙ same ∙ sym second) ∙ first
+      length-zip3 (op_of op) (mask_flags a a_bytes) (mask_flags b b_bytes) (mask_flags b b_bytes) (first ∙ same ∙ sym second)
+      (first ∙ same ∙ sym second) ∙ first
 
   -- a combination has as many flags as its masks
   pub flags-length : (op : Op) → length (pair_flags op a a_bytes b b_bytes) ≡ a.length
@@ -62,7 +66,8 @@ module _ (a : Bitmap) (a_bytes : List ℕ) (b : Bitmap) (b_bytes : List ℕ) (sa
       go (Some x) = length-copies a.length x
 
 -- the mask that an accepted combination gives has the combination's flags in the bytes written
-pub written-flags : (op : Op) (a : Bitmap) (a_bytes : List ℕ) (b : Bitmap) (b_bytes out : List ℕ) → first_failed (pair_checks a a_bytes b b_bytes (length out)) ≡ 0
+pub written-flags : (op : Op) (a : Bitmap) (a_bytes : List ℕ) (b : Bitmap) (b_bytes out : List ℕ)
+    → first_failed (pair_checks a a_bytes b b_bytes (length out)) ≡ 0
     → mask_flags (pair_mask op a a_bytes b b_bytes) (pair_bytes op a a_bytes b b_bytes out) ≡ pair_flags op a a_bytes b b_bytes
 unfolding pair_mask pair_bytes pair_checks
 written-flags op a a_bytes b b_bytes out e =
@@ -71,7 +76,8 @@ written-flags op a a_bytes b b_bytes out e =
     (both_right (mask_checks b b_bytes) rest (both_right (mask_checks a a_bytes) (mask_checks b b_bytes ++ rest) e))) in
     let F = pair_flags op a a_bytes b b_bytes in
     let n : length F ≡ a.length = flags-length a a_bytes b b_bytes (pair_lengths a a_bytes b b_bytes (length out) e) op in
-    let new : kept (first_failed (mask_checks a a_bytes ++ (mask_checks b b_bytes ++ rest))) (over out (frozen F)) out ≡ over out (frozen F) =
+    let new : kept (first_failed (mask_checks a a_bytes ++ (mask_checks b b_bytes ++ rest))) (over out (frozen F)) out
+    ≡ over out (frozen F) =
     when-passed (first_failed (mask_checks a a_bytes ++ (mask_checks b b_bytes ++ rest))) (over out (frozen F)) out e in
     ap (λ (l : List ℕ). window (flags_of l) 0 a.length) new
     ∙ ap (window (flags_of (over out (frozen F))) 0) (sym n)
@@ -87,7 +93,8 @@ unfolding pair_checks
 pair-truthful a a_bytes b b_bytes size e =
     let rest : List Check = check 5 (eqb a.length b.length) ∷ output_checks a.length size in (
       mask-truthful a a_bytes (both_left (mask_checks a a_bytes) (mask_checks b b_bytes ++ rest) e),
-      mask-truthful b b_bytes (both_left (mask_checks b b_bytes) rest (both_right (mask_checks a a_bytes) (mask_checks b b_bytes ++ rest) e)),
+      mask-truthful b b_bytes
+          (both_left (mask_checks b b_bytes) rest (both_right (mask_checks a a_bytes) (mask_checks b b_bytes ++ rest) e)),
     )
 
 -- so it writes the operation flag by flag, shortcut or not

@@ -25,7 +25,8 @@ pub length-low : (k w : ℕ) → k ≤ 64 → length (take k (bits 64 w)) ≡ k
 length-low k w h = length-take k (bits 64 w) ∙ omega (arith, length-bits 64 w)
 
 -- a number of the k low flags of a word, which are those of a part, is that of the part, which has k flags
-pub of-part : (f : List Bool → ℕ) (w k n : ℕ) (part : List Bool) → (k ≤ 64) × (take k (bits 64 w) ≡ part) → n ≡ f (take k (bits 64 w)) → (n ≡ f part) × (length part ≡ k)
+pub of-part : (f : List Bool → ℕ) (w k n : ℕ) (part : List Bool) → (k ≤ 64) × (take k (bits 64 w) ≡ part) → n ≡ f (take k (bits 64 w))
+    → (n ≡ f part) × (length part ≡ k)
 of-part f w k n part h e = (e ∙ ap f h.1, ap length (sym h.1) ∙ length-low k w h.0)
 
 pub count-taken : (k w r c : ℕ) → bits 64 r ≡ window (take k (bits 64 w)) 0 64 → c ≡ count (bits 64 r) → c ≡ count (take k (bits 64 w))
@@ -37,7 +38,8 @@ count-three A B C a b c p q r = omega (arith, count-append A (B ++ C), count-app
 -- ---- flags alike at the front of three parts
 
 module _ (x : Bool) (A B C : List Bool) where
-  pub front-middle : (a n b m : ℕ) → a ≡ leading x A → length A ≡ n → n ≤ a → b ≡ leading x B → length B ≡ m → b < m → n + b ≡ leading x (A ++ (B ++ C))
+  pub front-middle : (a n b m : ℕ) → a ≡ leading x A → length A ≡ n → n ≤ a → b ≡ leading x B → length B ≡ m → b < m
+      → n + b ≡ leading x (A ++ (B ++ C))
   front-middle a n b m e l h f k i =
       let one : leading x (A ++ (B ++ C)) ≡ length A + leading x (B ++ C) = leading-all x A (B ++ C) (omega arith) in
       let two : leading x (B ++ C) ≡ leading x B = leading-some x B C (omega arith) in
@@ -62,7 +64,8 @@ whole_word w = take_all 64 (bits 64 w) (omega (arith, length-bits 64 w))
 
 module _ (x : Bool) (l : List Bool) (s n : ℕ) where
   -- the words up to i, the word i, the rest
-  front_cut : (i : ℕ) → i < n → window l s (64 * n) ≡ window l s (64 * i) ++ (window l (s + 64 * i) 64 ++ window l (s + 64 * i + 64) (64 * n - (64 * i + 64)))
+  front_cut : (i : ℕ) → i < n → window l s (64 * n) ≡ window l s (64 * i)
+      ++ (window l (s + 64 * i) 64 ++ window l (s + 64 * i + 64) (64 * n - (64 * i + 64)))
   front_cut i h =
       let e : 64 * n ≡ 64 * i + (64 + (64 * n - (64 * i + 64))) = omega arith in
       ap (window l s) e ∙ window-add l s (64 * i) (64 + (64 * n - (64 * i + 64)))
@@ -95,30 +98,36 @@ module _ (x : Bool) (l : List Bool) (s n : ℕ) where
       ap (λ (m : ℕ). 64 * m) (sym e) ∙ all ∙ ap (λ (m : ℕ). leading x (window l s (64 * m))) e
 
   -- the words before word i, word i, the k words from word j on
-  end-cut : (k i j : ℕ) → j ≡ i + 1 → k + j ≡ n → window l s (64 * n) ≡ window l s (64 * i) ++ (window l (s + 64 * i) 64 ++ window l (s + 64 * j) (64 * k))
+  end-cut : (k i j : ℕ) → j ≡ i + 1 → k + j ≡ n
+      → window l s (64 * n) ≡ window l s (64 * i) ++ (window l (s + 64 * i) 64 ++ window l (s + 64 * j) (64 * k))
   end-cut k i j d h =
       let e : 64 * n ≡ 64 * i + (64 + 64 * k) = omega arith in
       let f : s + 64 * i + 64 ≡ s + 64 * j = omega arith in
       ap (window l s) e ∙ window-add l s (64 * i) (64 + 64 * k)
-      ∙ ap (λ (t : List Bool). window l s (64 * i) ++ t) (window-add l (s + 64 * i) 64 (64 * k) ∙ ap (λ (z : ℕ). window l (s + 64 * i) 64 ++ window l z (64 * k)) f)
+      ∙ ap (λ (t : List Bool). window l s (64 * i) ++ t) (window-add l (s + 64 * i) 64 (64 * k)
+      ∙ ap (λ (z : ℕ). window l (s + 64 * i) 64 ++ window l z (64 * k)) f)
 
-  pub end-exit : (k i j p w a : ℕ) → j ≡ i + 1 → k + j ≡ n → 64 * k ≤ trailing x (window l (s + 64 * j) (64 * k)) → bits 64 w ≡ window l p 64 → p ≡ s + 64 * i
+  pub end-exit : (k i j p w a : ℕ) → j ≡ i + 1 → k + j ≡ n → 64 * k ≤ trailing x (window l (s + 64 * j) (64 * k))
+      → bits 64 w ≡ window l p 64 → p ≡ s + 64 * i
       → a ≡ trailing x (take 64 (bits 64 w)) → a < 64
       → 64 * k + a ≡ trailing x (window l s (64 * n))
   end-exit k i j p w a d h inv q e u b =
       let here : a ≡ trailing x (window l (s + 64 * i) 64) = u ∙ ap (trailing x) (whole_word w ∙ q ∙ ap (λ (z : ℕ). window l z 64) e) in
       end-middle x (window l s (64 * i)) (window l (s + 64 * i) 64) (window l (s + 64 * j) (64 * k))
-      (trailing x (window l (s + 64 * j) (64 * k))) (64 * k) a 64 refl (length-window l (s + 64 * j) (64 * k)) inv here (length-window l (s + 64 * i) 64) b
+      (trailing x (window l (s + 64 * j) (64 * k))) (64 * k) a 64 refl (length-window l (s + 64 * j) (64 * k)) inv here
+      (length-window l (s + 64 * i) 64) b
       ∙ ap (trailing x) (sym (end-cut k i j d h))
 
-  pub end_step : (k i j p w a : ℕ) → j ≡ i + 1 → k + j ≡ n → 64 * k ≤ trailing x (window l (s + 64 * j) (64 * k)) → bits 64 w ≡ window l p 64 → p ≡ s + 64 * i
+  pub end_step : (k i j p w a : ℕ) → j ≡ i + 1 → k + j ≡ n → 64 * k ≤ trailing x (window l (s + 64 * j) (64 * k))
+      → bits 64 w ≡ window l p 64 → p ≡ s + 64 * i
       → a ≡ trailing x (take 64 (bits 64 w)) → 64 ≤ a
       → 64 * (n - i) ≤ trailing x (window l (s + 64 * i) (64 * (n - i)))
   end_step k i j p w a d h inv q e u b =
       let m : 64 * (n - i) ≡ 64 + 64 * k = omega arith in
       let g : s + 64 * i + 64 ≡ s + 64 * j = omega arith in
       let here : a ≡ trailing x (window l (s + 64 * i) 64) = u ∙ ap (trailing x) (whole_word w ∙ q ∙ ap (λ (z : ℕ). window l z 64) e) in
-      let all : trailing x (window l (s + 64 * i) (64 * (n - i))) ≡ length (window l (s + 64 * j) (64 * k)) + trailing x (window l (s + 64 * i) 64) =
+      let all : trailing x (window l (s + 64 * i) (64 * (n - i)))
+      ≡ length (window l (s + 64 * j) (64 * k)) + trailing x (window l (s + 64 * i) 64) =
       ap (λ (z : ℕ). trailing x (window l (s + 64 * i) z)) m
       ∙ ap (trailing x) (window-add l (s + 64 * i) 64 (64 * k) ∙ ap (λ (z : ℕ). window l (s + 64 * i) 64 ++ window l z (64 * k)) g)
       ∙ trailing-all x (window l (s + 64 * i) 64) (window l (s + 64 * j) (64 * k)) (omega (arith, length-window l (s + 64 * j) (64 * k))) in
@@ -150,8 +159,10 @@ zeros-none bytes start n e = omega (arith, count-not (window (flags_of bytes) st
 -- all flags are x just where the zeros are as many as they would then be
 pub all-zeros : (x : Bool) (l : List Bool) (n : ℕ) (t : Bool) → length l ≡ n → t ≡ all_are x l → t ≡ eqb (zeros l) (zeros_of_all x n)
 unfolding zeros all_are
-all-zeros true l n t e p = p ∙ eqb-both (count l) (length l * 1) (count (map not l)) 0 (λ h. omega (arith, count-not l)) (λ h. omega (arith, count-not l))
-all-zeros false l n t e p = p ∙ eqb-both (count l) (length l * 0) (count (map not l)) n (λ h. omega (arith, count-not l)) (λ h. omega (arith, count-not l))
+all-zeros true l n t e p =
+    p ∙ eqb-both (count l) (length l * 1) (count (map not l)) 0 (λ h. omega (arith, count-not l)) (λ h. omega (arith, count-not l))
+all-zeros false l n t e p =
+    p ∙ eqb-both (count l) (length l * 0) (count (map not l)) n (λ h. omega (arith, count-not l)) (λ h. omega (arith, count-not l))
 
 -- `zeros_of_all` is what it is called
 pub zeros_of_all_lem : (x : Bool) (n : ℕ) → zeros (copies n x) ≡ zeros_of_all x n

@@ -84,7 +84,8 @@ row-mid out part at first n h p =
     let f : at + n - at ≡ n = omega arith in
     let long : length (take n d) ≡ n = length-take-le n d (omega (arith, length-drop at out)) in
     let row : List ℕ = ones_from first (copies n true) in
-    let same : part ≡ row = p ∙ ap (λ (x : ℕ). ones_from first (copies (length (take x d)) true)) f ∙ ap (λ (x : ℕ). ones_from first (copies x true)) long in
+    let same : part ≡ row =
+    p ∙ ap (λ (x : ℕ). ones_from first (copies (length (take x d)) true)) f ∙ ap (λ (x : ℕ). ones_from first (copies x true)) long in
     let written : over (take n d ++ drop n d) (row ++ []) ≡ row ++ over (drop n d) [] =
     over-append (take n d) row (drop n d) [] (long ∙ sym (length-row first n)) in
     ap (λ (t : List ℕ). take at out ++ t)
@@ -156,10 +157,12 @@ module _ (out₀ : List ℕ) (done : ℕ) (all out : List ℕ) (count : ℕ) whe
             ⊎_elim
             (λ (fits : count + length a < length out).
             let last : r ≡ count + length a = omega arith in
-            ap (λ (t : List ℕ). over_from t r b) p ∙ ap (λ (x : ℕ). over_from (over_from out count a) x b) last ∙ over_from-more out count a b
+            ap (λ (t : List ℕ). over_from t r b) p ∙ ap (λ (x : ℕ). over_from (over_from out count a) x b) last
+            ∙ over_from-more out count a b
             ∙ ap (over_from out count) (sym e) ∙ u.same_out)
             (λ (full : length out ≤ count + length a).
-            over_from-past out' r b (omega arith) ∙ p ∙ sym (over_from_enough out count a b full) ∙ ap (over_from out count) (sym e) ∙ u.same_out)
+            over_from-past out' r b (omega arith) ∙ p ∙ sym (over_from_enough out count a b full) ∙ ap (over_from out count) (sym e)
+            ∙ u.same_out)
             (cases_lt (count + length a) (length out));
         same_count = omega (arith, u.same_count, u.same_length);
       }
@@ -197,7 +200,8 @@ pub behind-none : (c : TrueIdxIter) (left : List ℕ) → place_behind c left 0 
 unfolding place_behind
 behind-none c left = refl
 
-module _ (c : TrueIdxIter) (out : List ℕ) (count : ℕ) (old left : List ℕ) (p : out ≡ over old left) (q : count ≡ min (length old) (length left)) where
+module _ (c : TrueIdxIter) (out : List ℕ) (count : ℕ) (old left : List ℕ) (p : out ≡ over old left)
+    (q : count ≡ min (length old) (length left)) where
   same-room : length out ≡ length old
   same-room = ap length p ∙ length_over old left
 
@@ -216,7 +220,8 @@ module _ (c : TrueIdxIter) (out : List ℕ) (count : ℕ) (old left : List ℕ) 
   pub place-last : (r : ℕ) → length out ≤ count → (count ≡ 0 → ⊥) → r ≡ get_or out (count - 1) 0 → r + 1 ≡ place_behind c left (length old)
   place-last r h n e =
       let k : length old ≡ suc (count - 1) = omega (arith, same-room, n) in
-      ap (λ (x : ℕ). x + 1) (e ∙ ap (λ (l : List ℕ). get_or l (count - 1) 0) p ∙ at-over old left (count - 1) (omega (arith, n)) (omega (arith, n)))
+      ap (λ (x : ℕ). x + 1) (e ∙ ap (λ (l : List ℕ). get_or l (count - 1) 0) p
+      ∙ at-over old left (count - 1) (omega (arith, n)) (omega (arith, n)))
       ∙ sym (behind-many c left (count - 1) (omega (arith, n))) ∙ ap (place_behind c left) (sym k)
 
 -- ---- with a mask and without
@@ -240,7 +245,8 @@ module _ (c : TrueIdxIter) (bytes : List ℕ) where
   row-left : c.masked ≡ false → left_of c bytes ≡ ones_from c.place (copies (c.length - c.place) true)
   unfolding ones_left
   row-left m =
-      ap (λ (l : List Bool). ones_from c.place (drop c.place l)) (unmasked c bytes m) ∙ ap (ones_from c.place) (drop-copies c.place c.length true)
+      ap (λ (l : List Bool). ones_from c.place (drop c.place l)) (unmasked c bytes m)
+      ∙ ap (ones_from c.place) (drop-copies c.place c.length true)
 
   pub row_written : (out out' : List ℕ) (n : ℕ) → c.masked ≡ false → n ≡ min (c.length - c.place) (length out)
       → out' ≡ over_from out 0 (ones_from c.place (copies n true))
@@ -249,12 +255,14 @@ module _ (c : TrueIdxIter) (bytes : List ℕ) where
       let row : List ℕ = ones_from c.place (copies (c.length - c.place) true) in
       let long : length (left_of c bytes) ≡ c.length - c.place = ap length (row-left m) ∙ length-row c.place (c.length - c.place) in (
         omega arith,
-        q ∙ run-cut out 0 c.place (c.length - c.place) n (omega arith) (omega arith) ∙ from_front out row ∙ ap (over out) (sym (row-left m)),
+        q ∙ run-cut out 0 c.place (c.length - c.place) n (omega arith) (omega arith) ∙ from_front out row
+            ∙ ap (over out) (sym (row-left m)),
       )
 
   -- what the answer tells
   pub told : (k r place : ℕ) → r ≡ min k (length (left_of c bytes)) → place ≡ place_behind c (left_of c bytes) k
-      → ◌≡◌ {A = ℕ × TrueIdxIter} (r, true_moved c place) (length (take k (left_of c bytes)), true_moved c (place_behind c (left_of c bytes) k))
+      → ◌≡◌ {A = ℕ × TrueIdxIter} (r, true_moved c place)
+      (length (take k (left_of c bytes)), true_moved c (place_behind c (left_of c bytes) k))
   told k r place e f = ap₂ {A = ℕ} (λ (x y : ℕ). (x, true_moved c y)) (e ∙ sym (length-take k (left_of c bytes))) f
 
 pub within-out : (out out' left : List ℕ) (r : ℕ) → r ≡ min (length out) (length left) → out' ≡ over out left → r ≤ length out'

@@ -35,7 +35,8 @@ padded : (m : List Bool) (k n : ℕ) → length m ≤ n → ones_from k (window 
 unfolding ones_from window
 padded [] k n h = ap (ones_from k) (window-past [] 0 n (omega arith)) ∙ none-set k n
 padded (x ∷ m) k zero h = absurd (omega arith)
-padded (true ∷ m) k (suc n) h = ap (λ (t : List ℕ). k ∷ t) (ap (ones_from (suc k)) (sym (window-drop (true ∷ m) 1 0 n)) ∙ padded m (suc k) n (omega arith))
+padded (true ∷ m) k (suc n) h =
+    ap (λ (t : List ℕ). k ∷ t) (ap (ones_from (suc k)) (sym (window-drop (true ∷ m) 1 0 n)) ∙ padded m (suc k) n (omega arith))
 padded (false ∷ m) k (suc n) h = ap (ones_from (suc k)) (sym (window-drop (false ∷ m) 1 0 n)) ∙ padded m (suc k) n (omega arith)
 
 behind-zeros : (l : List Bool) (k : ℕ) → ones_from k l ≡ ones_from (k + leading false l) (drop (leading false l) l)
@@ -84,7 +85,8 @@ module _ (w : ℕ) where
       → ones_from at (bits 64 w) ≡ ones_from (at + z) rest
   past-zeros at z rest e p =
       let f : leading false (bits 64 w) ≡ z = ap (leading false) (sym all_flags) ∙ sym e in
-      behind-zeros (bits 64 w) at ∙ ap (λ (x : ℕ). ones_from (at + x) (drop x (bits 64 w))) f ∙ sym (moved (at + z) z) ∙ ap (ones_from (at + z)) (sym p)
+      behind-zeros (bits 64 w) at ∙ ap (λ (x : ℕ). ones_from (at + x) (drop x (bits 64 w))) f ∙ sym (moved (at + z) z)
+      ∙ ap (ones_from (at + z)) (sym p)
 
   pub past_ones : (at k : ℕ) (rest : List Bool) → k ≡ leading true (take 64 (bits 64 w)) → rest ≡ window (bits 64 w) k 64
       → ones_from at (bits 64 w) ≡ ones_from at (copies k true) ++ ones_from (at + k) rest
@@ -107,8 +109,10 @@ module _ (w : ℕ) where
       let k : z + 0 ≡ z = omega arith in
       let one : 0 < leading true (drop z (bits 64 w)) =
       subst (λ (x : ℕ). 0 < leading true (drop x (bits 64 w))) f (then_one (bits 64 w) (omega (arith, length-bits 64 w))) in
-      let same : window (drop z (bits 64 w)) 0 64 ≡ bits 64 rest = window-drop (bits 64 w) z 0 64 ∙ ap (λ (x : ℕ). window (bits 64 w) x 64) k ∙ sym p in
-      let last : leading true (bits 64 rest) ≡ r = ap (leading true) (sym (take_all 64 (bits 64 rest) (omega (arith, length-bits 64 rest)))) ∙ sym q in
+      let same : window (drop z (bits 64 w)) 0 64 ≡ bits 64 rest =
+      window-drop (bits 64 w) z 0 64 ∙ ap (λ (x : ℕ). window (bits 64 w) x 64) k ∙ sym p in
+      let last : leading true (bits 64 rest) ≡ r =
+      ap (leading true) (sym (take_all 64 (bits 64 rest) (omega (arith, length-bits 64 rest)))) ∙ sym q in
       subst (λ (x : ℕ). 0 < x) (ap (leading true) same ∙ last) (still_one (drop z (bits 64 w)) 63 one)
 
 pub lead-within : (x : Bool) (w z : ℕ) → z ≡ leading x (take 64 (bits 64 w)) → z ≤ 64
@@ -135,10 +139,12 @@ module _ (out₀ : List ℕ) (done : ℕ) (all out : List ℕ) (count at w zeros
       ∙ ap (λ (x : ℕ). x + length (ones_from (at + (zeros + ones)) more)) (length-row (at + zeros) ones)
 
   pub turned : (more : List Bool) (out' : List ℕ) → more ≡ window (bits 64 rest) ones 64 → n ≡ min ones (length out - count)
-      → out' ≡ over_from out count (ones_from (at + zeros) (copies n true)) → UnderWay out₀ done all out' (count + n) (ones_from (at + (zeros + ones)) more)
+      → out' ≡ over_from out count (ones_from (at + zeros) (copies n true))
+      → UnderWay out₀ done all out' (count + n) (ones_from (at + (zeros + ones)) more)
   turned more out' e m p =
       let room : count ≤ length out = u.within in
-      goes_on out₀ done all out count (ones_from at (bits 64 w)) (ones_from (at + zeros) (copies ones true)) (ones_from (at + (zeros + ones)) more) out' (count + n)
+      goes_on out₀ done all out count (ones_from at (bits 64 w)) (ones_from (at + zeros) (copies ones true))
+      (ones_from (at + (zeros + ones)) more) out' (count + n)
       u (split-run more e) (p ∙ run-cut out count (at + zeros) ones n room m) (omega (arith, length-row (at + zeros) ones))
 
 -- ---- a span's positions, word by word
@@ -168,7 +174,8 @@ word_split bytes start n at k w h small e =
     let l : List Bool = stretch bytes start n in
     let m : List Bool = stretch bytes (start + at) k in
     let word : ones_from at (bits 64 w) ≡ ones_from at m =
-    ap (λ (x : ℕ). ones_from at (bits 64 x)) e ∙ ap (ones_from at) (bits-window 64 m) ∙ padded m at 64 (omega (arith, length-window (flags_of bytes) (start + at) k)) in
+    ap (λ (x : ℕ). ones_from at (bits 64 x)) e ∙ ap (ones_from at) (bits-window 64 m)
+    ∙ padded m at 64 (omega (arith, length-window (flags_of bytes) (start + at) k)) in
     left_split l at k (omega (arith, length-window (flags_of bytes) start n))
     ∙ ap (λ (t : List Bool). ones_from at t ++ ones_left l (at + k)) (window-cut (flags_of bytes) start n at k h)
     ∙ ap (λ (t : List ℕ). t ++ ones_left l (at + k)) (sym word)
@@ -184,5 +191,6 @@ pub word-on : (out₀ : List ℕ) (done : ℕ) (all out : List ℕ) (count : ℕ
     → UnderWay out₀ done all out' r (ones_left (stretch bytes start n) next)
 word-on out₀ done all out count bytes start n at u k w h small e out' r p q next f =
     rw f
-    (goes_on out₀ done all out count (ones_left (stretch bytes start n) at) (ones_from at (bits 64 w)) (ones_left (stretch bytes start n) (at + k)) out' r u
+    (goes_on out₀ done all out count (ones_left (stretch bytes start n) at) (ones_from at (bits 64 w))
+    (ones_left (stretch bytes start n) (at + k)) out' r u
     (word_split bytes start n at k w h small e) p q)

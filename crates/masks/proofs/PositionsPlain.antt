@@ -30,7 +30,8 @@ chunk-lists bytes (suc k) c ok = go (next_one bytes c ok) (λ (d : TrueIdxIter) 
     go : NextOne bytes c → ((d : TrueIdxIter) → IsAccepted bytes d → take k (left_of d bytes) ≡ listing (answer-of bytes) k d)
         → take (suc k) (left_of c bytes) ≡ listing (answer-of bytes) (suc k) c
     go (one-next p low high e o f) again =
-        ap (take (suc k)) f ∙ ap (λ (t : List ℕ). p ∷ t) (again (true_moved c (p + 1)) o) ∙ sym (an_item (answer-of bytes) k c (true_moved c (p + 1)) p e)
+        ap (take (suc k)) f ∙ ap (λ (t : List ℕ). p ∷ t) (again (true_moved c (p + 1)) o)
+        ∙ sym (an_item (answer-of bytes) k c (true_moved c (p + 1)) p e)
     go (none-next e f) again = ap (take (suc k)) f ∙ sym (the_end (answer-of bytes) k c (true_moved c c.length) e)
 
 -- a place behind one position more
@@ -45,7 +46,8 @@ one_more c d p left (suc k) e f = ⊎_elim
 -- a cursor at the length stays there
 at_the_end : (bytes : List ℕ) (k : ℕ) (c : TrueIdxIter) → IsAccepted bytes c → c.place ≡ c.length → after_calls (answer-of bytes) k c ≡ c
 at_the_end bytes zero c ok e = same-cursor bytes c
-at_the_end bytes (suc k) c ok e = go (next_one bytes c ok) (λ (d : TrueIdxIter) (o : IsAccepted bytes d) (f : d.place ≡ d.length). at_the_end bytes k d o f)
+at_the_end bytes (suc k) c ok e =
+    go (next_one bytes c ok) (λ (d : TrueIdxIter) (o : IsAccepted bytes d) (f : d.place ≡ d.length). at_the_end bytes k d o f)
   where
     go : NextOne bytes c → ((d : TrueIdxIter) → IsAccepted bytes d → d.place ≡ d.length → after_calls (answer-of bytes) k d ≡ d)
         → after_calls (answer-of bytes) (suc k) c ≡ c

@@ -58,13 +58,16 @@ module _ (b : BitmapBuilder) (bytes : List ℕ) (word v low k : ℕ) (few : k �
   row-long = length-append (in_progress b) (take k (bits 64 word)) ∙ ap₂ (λ (x y : ℕ). x + y) (length-progress b) (length-low k word few)
 
   -- the word in progress has room for all
-  pub push-short : low < 2 ^ 64 → b.length % 64 + k < 64 → filling (rebuilt b (b.length + k) low b.ones) bytes ≡ appended (filling b bytes) (take k (bits 64 word))
+  pub push-short : low < 2 ^ 64 → b.length % 64 + k < 64
+      → filling (rebuilt b (b.length + k) low b.ones) bytes ≡ appended (filling b bytes) (take k (bits 64 word))
   push-short fits less =
-      let p : Parts (filling b bytes) (take k (bits 64 word)) 0 [] (in_progress b ++ take k (bits 64 word)) = record { row = refl; whole = refl; less = omega (arith, row-long) } in
+      let p : Parts (filling b bytes) (take k (bits 64 word)) 0 [] (in_progress b ++ take k (bits 64 word)) =
+      record { row = refl; whole = refl; less = omega (arith, row-long) } in
       let n : b.length + length (take k (bits 64 word)) ≡ b.length + k = omega (arith, length-low k word few) in
       let o : b.ones + count [] ≡ b.ones = omega (arith, no-count) in
       sym (appended-grown (filling b bytes) (take k (bits 64 word)) 0 [] (in_progress b ++ take k (bits 64 word)) p
-      ∙ ap₂ (λ (x y : ℕ). filling (rebuilt b x (word_of (in_progress b ++ take k (bits 64 word))) y) (over_from bytes (8 * (b.length / 64)) (packed 0 []))) n o
+      ∙ ap₂ (λ (x y : ℕ). filling (rebuilt b x (word_of (in_progress b ++ take k (bits 64 word))) y)
+      (over_from bytes (8 * (b.length / 64)) (packed 0 []))) n o
       ∙ ap₂ (λ (x : ℕ) (y : List ℕ). filling (rebuilt b (b.length + k) x b.ones) y)
       (sym (word_value 64 (in_progress b ++ take k (bits 64 word)) low fits (omega (arith, row-long)) row-flags))
       (ap (over_from bytes (8 * (b.length / 64))) (no_bytes []) ∙ over_from-none bytes (8 * (b.length / 64))))
@@ -74,20 +77,24 @@ module _ (b : BitmapBuilder) (bytes : List ℕ) (word v low k : ℕ) (few : k �
 pub or-merged : (b : BitmapBuilder) (flags u low : ℕ) → none_from b.word (b.length % 64) ≡ true
     → bits 64 u ≡ window (copies (b.length % 64) false ++ bits 64 flags) 0 64 → bits 64 low ≡ zip_with ◌||◌ (bits 64 b.word) (bits 64 u)
     → bits 64 low ≡ window (take (b.length % 64) (bits 64 b.word) ++ bits 64 flags) 0 64
-or-merged b flags u low e moved joined = or-behind 64 (b.length % 64) b.word flags u low (omega arith) (low-window (b.length % 64) b.word e) moved joined
+or-merged b flags u low e moved joined =
+    or-behind 64 (b.length % 64) b.word flags u low (omega arith) (low-window (b.length % 64) b.word e) moved joined
 
 pub push-within : (b : BitmapBuilder) (bytes : List ℕ) (flags u low k : ℕ) → Inside b flags k
-    → bits 64 u ≡ window (copies (b.length % 64) false ++ bits 64 flags) 0 64 → bits 64 low ≡ zip_with ◌||◌ (bits 64 b.word) (bits 64 u) → low < 2 ^ 64
+    → bits 64 u ≡ window (copies (b.length % 64) false ++ bits 64 flags) 0 64 → bits 64 low ≡ zip_with ◌||◌ (bits 64 b.word) (bits 64 u)
+    → low < 2 ^ 64
     → filling (rebuilt b (b.length + k) low b.ones) bytes ≡ appended (filling b bytes) (take k (bits 64 flags))
 push-within b bytes flags u low k i moved joined fits =
     let room : b.length % 64 + k < 64 = i.room in
     push-short b bytes flags flags low k (omega arith) (low-window k flags i.few) (or-merged b flags u low i.low moved joined) fits room
 
 -- flags that begin a word
-pub push-begun : (b : BitmapBuilder) (bytes : List ℕ) (longer rest k : ℕ) → b.length % 64 ≡ 0 → k < 64 → none_from rest k ≡ true → rest < 2 ^ 64 → longer ≡ b.length + k
+pub push-begun : (b : BitmapBuilder) (bytes : List ℕ) (longer rest k : ℕ) → b.length % 64 ≡ 0 → k < 64 → none_from rest k ≡ true
+    → rest < 2 ^ 64 → longer ≡ b.length + k
     → filling (rebuilt b longer rest b.ones) bytes ≡ appended (filling b bytes) (take k (bits 64 rest))
 push-begun b bytes longer rest k begun few none fits e =
-    let whole : bits 64 rest ≡ window (bits 64 rest) 0 64 = sym (ap (window (bits 64 rest) 0) (sym (length-bits 64 rest)) ∙ window-all (bits 64 rest)) in
+    let whole : bits 64 rest ≡ window (bits 64 rest) 0 64 =
+    sym (ap (window (bits 64 rest) 0) (sym (length-bits 64 rest)) ∙ window-all (bits 64 rest)) in
     let merged : bits 64 rest ≡ window (take (b.length % 64) (bits 64 b.word) ++ bits 64 rest) 0 64 =
     whole ∙ sym (ap (λ (n : ℕ). window (take n (bits 64 b.word) ++ bits 64 rest) 0 64) begun) in
     ap (λ (n : ℕ). filling (rebuilt b n rest b.ones) bytes) e

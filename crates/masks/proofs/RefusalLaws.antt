@@ -80,7 +80,8 @@ number-ne0 ShortOutput e = omega arith
 -- ---- the exit of a `?`, where no record is given back
 
 -- the exit of a function that makes checks
-pub exit-number : (result : Result (Unit {0}) Refusal) (e : Refusal) → IsErrAnd result (λ (y : Refusal). y ≡ e) → failure_of result ≡ number e
+pub exit-number : (result : Result (Unit {0}) Refusal) (e : Refusal) → IsErrAnd result (λ (y : Refusal). y ≡ e)
+    → failure_of result ≡ number e
 exit-number result e h = let p = err_from_is_err_and result h in ap failure_of p.1 ∙ ap number p.2
 
 -- ---- where the record that the call got is given back
@@ -100,7 +101,8 @@ back-err (Ok a) s x e = cc
 back-err (Err k) s x e = let p = ap (error-of x) e in (ap (λ (y : Refused _). Err y.refusal) (sym p), ap (λ (y : Refused _). y.state) p)
 
 -- the checks have passed: a result with another error is an `Ok` where they are
-pub passed-back : {S : Type 0} (r : Result (Unit {0}) Refusal) (m : Result (Unit {0}) (Refused S)) (u : Unit {0}) → is_ok m ≡ is_ok r → m ≡ Ok u → failure_of r ≡ 0
+pub passed-back : {S : Type 0} (r : Result (Unit {0}) Refusal) (m : Result (Unit {0}) (Refused S)) (u : Unit {0}) → is_ok m ≡ is_ok r
+    → m ≡ Ok u → failure_of r ≡ 0
 passed-back (Ok a) m u v w = refl
 passed-back (Err k) m u v w = let e : true ≡ false = sym (ap is_ok w) ∙ v in cc
 
@@ -109,7 +111,8 @@ pub failed-back : {S : Type 0} (r : Result (Unit {0}) Refusal) (s : S) (x : Refu
 failed-back r s x e h = number-ne0 x.refusal (sym (ap failure_of (back-err r s x e).0) ∙ h)
 
 -- what the call answers there
-pub exit-is : {A : Type 0} (result : Result A Refusal) (e : Refusal) → IsErrAnd result (λ (y : Refusal). y ≡ e) → answer result ≡ refused (number e) tt
+pub exit-is : {A : Type 0} (result : Result A Refusal) (e : Refusal) → IsErrAnd result (λ (y : Refusal). y ≡ e)
+    → answer result ≡ refused (number e) tt
 exit-is result e h = let p = err_from_is_err_and result h in ap answer (p.1 ∙ ap (λ (y : Refusal). Err y) p.2)
 
 same-refused : {S A : Type 0} (r : Result (Unit {0}) Refusal) (s : S) (x : Refused S) → Err x ≡ with_state r s
@@ -125,7 +128,8 @@ back-is r s x e result h =
     ap answer_back (p.1 ∙ ap (λ (y : Refused _). Err y) p.2) ∙ same-refused r s x e
 
 pub step-is : {S A : Type 0} (r : Result (Unit {0}) Refusal) (s : S) (x : Refused S) → Err x ≡ with_state r s
-    → (result : Result (Stepped A S) (Refused S)) → IsErrAnd result (λ (y : Refused S). y ≡ x) → answer_step result ≡ refused (failure_of r) s
+    → (result : Result (Stepped A S) (Refused S)) → IsErrAnd result (λ (y : Refused S). y ≡ x)
+    → answer_step result ≡ refused (failure_of r) s
 step-is r s x e result h =
     let p = err_from_is_err_and result h in
     ap answer_step (p.1 ∙ ap (λ (y : Refused _). Err y) p.2) ∙ same-refused r s x e

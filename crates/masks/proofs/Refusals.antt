@@ -15,7 +15,8 @@ use Rattle.masks.proofs.CheckLaws.{is-kept}
 use Rattle.masks.proofs.SliceTruth.{slice-number}
 use Rattle.masks.specs.Aligned.{aligned_checks, aligned_of}
 use Rattle.masks.specs.Answer.{Answer, given, refused, checked, kept, unless_empty}
-use Rattle.masks.specs.Appends.{Append, push_flag, extend_constant, push_word, extend_slice, extend_repeated, extend_bitmap, extend_gather, extend_opt_gather}
+use Rattle.masks.specs.Appends.{Append, push_flag, extend_constant, push_word, extend_slice, extend_repeated, extend_bitmap, extend_gather}
+use Rattle.masks.specs.Appends.{extend_opt_gather}
 use Rattle.masks.specs.Appends.{append_checks, word_checks, constant_checks, span_grow_checks, inner_checks, subslice_checks, gather_checks}
 use Rattle.masks.specs.AtIndex.{and_not_at_checks, and_not_at_of, index_checks, length_checks}
 use Rattle.masks.specs.NextAndNot.{next_and_not_of, next_checks, other_checks}
@@ -28,7 +29,8 @@ use Rattle.masks.specs.Compare.{eq_of, edges_of, common_checks, common_of}
 use Rattle.masks.specs.Cursor.{cursor_checks}
 use Rattle.masks.specs.Freeze.{freeze_checks}
 use Rattle.masks.specs.Iterator.{iter_checks, new_iter, nth_flag, take_leading}
-use Rattle.masks.specs.Mask.{mask_checks, zeroed_checks, piece_checks, slice_checks, try_new_of, new_zeroed_of, new_zeroed_bytes, unset_bits_of, slice_of}
+use Rattle.masks.specs.Mask.{mask_checks, zeroed_checks, piece_checks, slice_checks, try_new_of, new_zeroed_of, new_zeroed_bytes}
+use Rattle.masks.specs.Mask.{unset_bits_of, slice_of}
 use Rattle.masks.specs.Refusals.{numbers, among, all_among, Refuses, RefusesUnwritten, Refusals, may_give, append_family}
 use Rattle.masks.specs.Refusals.{Family, addressed, spans, cursors, unmasked_cursors, splits, builders, pushed-words, span-appends, gathers}
 use Rattle.masks.specs.Refusals.{piece-appends, zeroed-masks, masks, slices, combinations, inversions, intersections}
@@ -74,7 +76,8 @@ pub failed-among : (cs : List Check) → NoneOrAmong (first_failed cs) (numbers 
 unfolding first_failed numbers
 failed-among [] = inl refl
 failed-among (c ∷ cs) = ⊎_elim
-    (λ (e : earlier (failure c) (first_failed cs) ≡ failure c). subst (λ (n : ℕ). NoneOrAmong n (c.number ∷ numbers cs)) (sym e) (failure-first c (numbers cs)))
+    (λ (e : earlier (failure c) (first_failed cs) ≡ failure c). subst (λ (n : ℕ). NoneOrAmong n (c.number ∷ numbers cs)) (sym e)
+    (failure-first c (numbers cs)))
     (λ (e : earlier (failure c) (first_failed cs) ≡ first_failed cs).
     subst (λ (n : ℕ). NoneOrAmong n (c.number ∷ numbers cs)) (sym e) (one_more c.number (first_failed cs) (numbers cs) (failed-among cs)))
     (earlier-either (failure c) (first_failed cs))
@@ -94,7 +97,8 @@ module _ {S A : Type 0} (cs : List Check) (s : S) (a : A) where
   refused-among : (ns : List ℕ) (k : ℕ) (t : S) → all_among (numbers cs) ns ≡ true → refused k t ≡ checked cs s a → among k ns ≡ true
   refused-among ns k t e h =
       ap (λ (x : ℕ). among x ns) (refused-number k (first_failed cs) t s a h) ∙ among-all (first_failed cs) (numbers cs) ns e
-      (⊎_elim (λ (z : first_failed cs ≡ 0). absurd (refused-failed k (first_failed cs) t s a h z)) (λ (p : among (first_failed cs) (numbers cs) ≡ true). p) (failed-among cs))
+      (⊎_elim (λ (z : first_failed cs ≡ 0). absurd (refused-failed k (first_failed cs) t s a h z))
+      (λ (p : among (first_failed cs) (numbers cs) ≡ true). p) (failed-among cs))
 
   -- its number is one of theirs, and it carries the state that it got
   pub refuses-by : (ns : List ℕ) → all_among (numbers cs) ns ≡ true → Refuses ns s (checked cs s a)
@@ -164,8 +168,10 @@ all-in-order stated-masks = refl
 all-in-order stated_lengths = refl
 all-in-order supersessions = refl
 
-append-listed : (a : Append) (b : BitmapBuilder) (buf : List ℕ) → all_among (numbers (append_checks a b buf)) (may_give (append_family a)) ≡ true
-unfolding numbers all_among among span_checks output_checks mask_checks builder_checks word_checks constant_checks span_grow_checks inner_checks subslice_checks gather_checks
+append-listed : (a : Append) (b : BitmapBuilder) (buf : List ℕ)
+    → all_among (numbers (append_checks a b buf)) (may_give (append_family a)) ≡ true
+unfolding numbers all_among among span_checks output_checks mask_checks builder_checks word_checks constant_checks span_grow_checks
+    inner_checks subslice_checks gather_checks
 append-listed (push_flag x) b buf = refl
 append-listed (extend_constant n x) b buf = refl
 append-listed (push_word w n) b buf = refl
@@ -188,7 +194,8 @@ not_seven k p e = ⊎_elim
 seven_never : (m : Bitmap) (bytes : List ℕ) (offset n : ℕ) → first_failed (slice_checks m bytes offset n) ≡ 7 → ⊥
 unfolding numbers piece_checks mask_checks span_checks
 seven_never m bytes offset n e =
-    not_seven (first_failed (piece_checks m bytes offset n)) (failed-among (piece_checks m bytes offset n)) (slice-number m bytes offset n ∙ e)
+    not_seven (first_failed (piece_checks m bytes offset n)) (failed-among (piece_checks m bytes offset n))
+    (slice-number m bytes offset n ∙ e)
 
 pub refusals : Refusals
 unfolding
@@ -201,8 +208,10 @@ unfolding
 refusals =
     record {
       in_order = all-in-order;
-      split-aligned = λ bytes start n address. refuses-nonempty n _ _ _ _ (refuses-by (aligned_checks start n (length bytes) address) _ _ _ refl);
-      count_of = λ bytes start n address value. refuses-nonempty n _ _ _ _ (refuses-by (aligned_checks start n (length bytes) address) _ _ _ refl);
+      split-aligned =
+          λ bytes start n address. refuses-nonempty n _ _ _ _ (refuses-by (aligned_checks start n (length bytes) address) _ _ _ refl);
+      count_of =
+          λ bytes start n address value. refuses-nonempty n _ _ _ _ (refuses-by (aligned_checks start n (length bytes) address) _ _ _ refl);
       chunks-new = λ bytes start n. refuses-by (span_checks start n (length bytes)) _ _ _ refl;
       chunks-next = λ c bytes. refuses-by (chunk_checks c bytes) _ _ _ refl;
       chunks_rest = λ c bytes. refuses-by (chunk_checks c bytes) _ _ _ refl;
@@ -220,7 +229,8 @@ refusals =
       unset_bits = λ m bytes. refuses-by (mask_checks m bytes) _ _ _ refl;
       pair = λ op a a_bytes b b_bytes out. refuses-unwritten (pair_checks a a_bytes b b_bytes (length out)) _ _ _ _ _ refl;
       not-of = λ m bytes out. refuses-unwritten (not_checks m bytes (length out)) _ _ _ _ _ refl;
-      select = λ s s_bytes t t_bytes f f_bytes out. refuses-unwritten (select_checks s s_bytes t t_bytes f f_bytes (length out)) _ _ _ _ _ refl;
+      select =
+          λ s s_bytes t t_bytes f f_bytes out. refuses-unwritten (select_checks s s_bytes t t_bytes f f_bytes (length out)) _ _ _ _ _ refl;
       select_constant = λ s s_bytes t t_bytes x out. refuses-unwritten (pair_checks s s_bytes t t_bytes (length out)) _ _ _ _ _ refl;
       eq = λ a a_bytes b b_bytes. refuses-by (mask_checks a a_bytes ++ mask_checks b b_bytes) _ _ _ refl;
       edges = λ m bytes. refuses-by (mask_checks m bytes) _ _ _ refl;
@@ -232,7 +242,9 @@ refusals =
       next_and_not = λ a a_bytes b b_bytes from. refuses-by (next_checks a a_bytes (Some b) b_bytes from) _ _ _ refl;
       next-and-not-alone = λ a a_bytes b_bytes from. refuses-by (next_checks a a_bytes None b_bytes from) _ _ _ refl;
       superseding_part = λ a a_bytes b b_bytes. refuses-by (superseding_checks a a_bytes b b_bytes) _ _ _ refl;
-      superseding = λ a a_bytes b b_bytes. refuses-record _ (superseding_of a a_bytes b b_bytes) (refuses-by (superseding_checks a a_bytes b b_bytes) _ _ _ refl);
+      superseding =
+          λ a a_bytes b b_bytes. refuses-record _ (superseding_of a a_bytes b b_bytes)
+          (refuses-by (superseding_checks a a_bytes b b_bytes) _ _ _ refl);
       slices-new = λ m bytes. refuses-by (mask_checks m bytes) _ _ _ refl;
       slices-next = λ c bytes. refuses-by (run_checks c bytes) _ _ _ refl;
       iter-new = λ bytes start n. refuses-nonempty n _ _ _ _ (refuses-by (span_checks start n (length bytes)) _ _ _ refl);
@@ -243,5 +255,6 @@ refusals =
       true-next = λ start n place bytes. refuses-by (true_checks (true_at start n place true) (length bytes)) _ _ _ refl;
       true-next_unmasked = λ start n place bytes. refuses-by (true_checks (true_at start n place false) (length bytes)) _ _ _ refl;
       true-chunk = λ start n place bytes out. refuses-unwritten (true_checks (true_at start n place true) (length bytes)) _ _ _ _ _ refl;
-      true-chunk_unmasked = λ start n place bytes out. refuses-unwritten (true_checks (true_at start n place false) (length bytes)) _ _ _ _ _ refl;
+      true-chunk_unmasked =
+          λ start n place bytes out. refuses-unwritten (true_checks (true_at start n place false) (length bytes)) _ _ _ _ _ refl;
     }

@@ -24,7 +24,8 @@ use Rattle.masks.proofs.RoomLaws.{room_after, over-limit}
 repeated-append : (k : ℕ) (a b : List Bool) → repeated k (a ++ b) ≡ repeated k a ++ repeated k b
 unfolding repeated
 repeated-append k [] b = refl
-repeated-append k (x ∷ a) b = ap (λ (t : List Bool). copies k x ++ t) (repeated-append k a b) ∙ sym (append_assoc (copies k x) (repeated k a) (repeated k b))
+repeated-append k (x ∷ a) b =
+    ap (λ (t : List Bool). copies k x ++ t) (repeated-append k a b) ∙ sym (append_assoc (copies k x) (repeated k a) (repeated k b))
 
 pub length-repeated : (k : ℕ) (l : List Bool) → length (repeated k l) ≡ length l * k
 unfolding repeated
@@ -58,18 +59,21 @@ unfolding repeated window
 one-repeated k l s = append-nil (copies k (get_or l s false))
 
 -- one flag more
-pub runs-step : (f g h : Filling) (l : List Bool) (s i k : ℕ) (x : Bool) → g ≡ appended f (repeated k (window l s i)) → x ≡ get_or l (s + i) false → h ≡ appended g (copies k x)
+pub runs-step : (f g h : Filling) (l : List Bool) (s i k : ℕ) (x : Bool) → g ≡ appended f (repeated k (window l s i))
+    → x ≡ get_or l (s + i) false → h ≡ appended g (copies k x)
     → h ≡ appended f (repeated k (window l s (i + 1)))
 runs-step f g h l s i k x p q r =
     append-then f g h (repeated k (window l s i)) (copies k x) p r
     ∙ ap (appended f) (ap (λ (t : List Bool). repeated k (window l s i) ++ t) (ap (copies k) q ∙ sym (one-repeated k l (s + i)))
     ∙ sym (ap (repeated k) (window-add l s i 1) ∙ repeated-append k (window l s i) (window l (s + i) 1)))
 
-pub runs-room : (f g : Filling) (l : List Bool) (s i n k : ℕ) → g ≡ appended f (repeated k (window l s i)) → i < n → Room f.builder (n * k) (length f.bytes)
+pub runs-room : (f g : Filling) (l : List Bool) (s i n k : ℕ) → g ≡ appended f (repeated k (window l s i)) → i < n
+    → Room f.builder (n * k) (length f.bytes)
     → Room g.builder k (length g.bytes)
 runs-room f g l s i n k e h r =
     let more : suc i * k ≤ n * k = mul-le-mul_right k h in
-    let long : length (repeated k (window l s i)) ≡ i * k = length-repeated k (window l s i) ∙ ap (λ (x : ℕ). x * k) (length-window l s i) in
+    let long : length (repeated k (window l s i)) ≡ i * k =
+    length-repeated k (window l s i) ∙ ap (λ (x : ℕ). x * k) (length-window l s i) in
     room_after f g (repeated k (window l s i)) (n * k) k e (omega (arith, suc-mul i k)) r
 
 -- ---- the product, or the largest number if it does not fit: over the limit check 1 decides
@@ -77,7 +81,8 @@ runs-room f g l s i n k e h r =
 too_long_lem : (b : BitmapBuilder) (n size : ℕ) → limit < n → 1 ≡ first_failed (grow_checks b n size)
 too_long_lem b n size h = over-limit b n size (lt-leb (b.length + n) limit (omega arith))
 
-pub exact-product : (b : BitmapBuilder) (r p size c : ℕ) → r ≡ min p (2 ^ 64 - 1) → c ≡ first_failed (grow_checks b r size) → c ≡ first_failed (grow_checks b p size)
+pub exact-product : (b : BitmapBuilder) (r p size c : ℕ) → r ≡ min p (2 ^ 64 - 1) → c ≡ first_failed (grow_checks b r size)
+    → c ≡ first_failed (grow_checks b p size)
 exact-product b r p size c e h = h ∙ ⊎_elim
     (λ (q : 2 ^ 64 - 1 < p). sym (too_long_lem b r size (omega arith)) ∙ too_long_lem b p size (omega arith))
     (λ (q : p ≤ 2 ^ 64 - 1). let same : r ≡ p = omega arith in ap (λ (x : ℕ). first_failed (grow_checks b x size)) same)

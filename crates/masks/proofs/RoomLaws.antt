@@ -25,7 +25,8 @@ use Rattle.masks.specs.Workers.{Room}
 use Rattle.masks.specs.declared.bitmap.Bitmap.{Bitmap}
 use Rattle.masks.specs.declared.builder.BitmapBuilder.{BitmapBuilder}
 use Rattle.masks.proofs.AppendLaws.{Parts, grown, appended-grown, parts-of, parts-long, progress-of, word_back, length-progress}
-use Rattle.masks.proofs.CheckLaws.{one-check, earlier-none, none-earlier, first-least, first-allowed, rest-allowed, both_left, both_right, SpanAllowed, span-allowed}
+use Rattle.masks.proofs.CheckLaws.{one-check, earlier-none, none-earlier, first-least, first-allowed, rest-allowed, both_left, both_right}
+use Rattle.masks.proofs.CheckLaws.{SpanAllowed, span-allowed}
 use Rattle.masks.proofs.OrderLaws.{leads, led}
 use Rattle.masks.proofs.FrozenLaws.{flags-packed, length-over_from, flags-over_from}
 
@@ -36,7 +37,8 @@ limit-leads : (p : Bool) (n size : ℕ) → leads 1 (check 4 p ∷ output_checks
 unfolding output_checks rank place_in
 limit-leads p n size = refl
 
-pub over-limit : (b : BitmapBuilder) (n size : ℕ) → leb (b.length + n) limit ≡ false → 1 ≡ first_failed (builder_checks b (b.length + n) size)
+pub over-limit : (b : BitmapBuilder) (n size : ℕ) → leb (b.length + n) limit ≡ false
+    → 1 ≡ first_failed (builder_checks b (b.length + n) size)
 unfolding first_failed builder_checks
 over-limit b n size e =
     let behind = check 4 (possible b size) ∷ output_checks (b.length + n) size in
@@ -47,17 +49,20 @@ over-limit b n size e =
     either true x h = h ∙ sym (none-earlier (earlier 1 x))
     either false x h = sym (first-least 1 1 (λ q. omega arith) (λ q. omega arith) (omega arith)) ∙ ap (earlier 1) h
 
-pub in-limit : (b : BitmapBuilder) (n size r : ℕ) → leb (b.length + n) limit ≡ true → r ≡ first_failed (check 4 (possible b size) ∷ output_checks (b.length + n) size)
+pub in-limit : (b : BitmapBuilder) (n size r : ℕ) → leb (b.length + n) limit ≡ true
+    → r ≡ first_failed (check 4 (possible b size) ∷ output_checks (b.length + n) size)
     → r ≡ first_failed (builder_checks b (b.length + n) size)
 unfolding first_failed builder_checks earlier
 in-limit b n size r e p =
     let short = leb-true (b.length + n) limit e in
-    p ∙ ap₂ (λ (s t : Bool). earlier (cond s 0 1) (earlier (cond t 0 1) (first_failed (check 4 (possible b size) ∷ output_checks (b.length + n) size))))
+    p ∙ ap₂ (λ (s t : Bool). earlier (cond s 0 1)
+    (earlier (cond t 0 1) (first_failed (check 4 (possible b size) ∷ output_checks (b.length + n) size))))
     (sym (le-leb b.length limit (omega arith))) (sym e)
 
 pub impossible : (t : Bool) (n size : ℕ) → t ≡ false → 4 ≡ first_failed (check 4 t ∷ output_checks n size)
 unfolding first_failed output_checks earlier rank place_in
-impossible t n size e = last (leb (8 * ((n + 63) / 64)) size) ∙ ap (λ (s : Bool). earlier (cond s 0 4) (first_failed (output_checks n size))) (sym e)
+impossible t n size e =
+    last (leb (8 * ((n + 63) / 64)) size) ∙ ap (λ (s : Bool). earlier (cond s 0 4) (first_failed (output_checks n size))) (sym e)
   where
     last : (t : Bool) → 4 ≡ earlier 4 (earlier (cond t 0 9) 0)
     last true = refl
@@ -66,14 +71,16 @@ impossible t n size e = last (leb (8 * ((n + 63) / 64)) size) ∙ ap (λ (s : Bo
 -- a buffer that does not hold n flags
 pub small-room : (p : Bool) (n size r : ℕ) → r ≡ cond p 9 4 → size / 8 < (n + 63) / 64 → r ≡ first_failed (check 4 p ∷ output_checks n size)
 unfolding first_failed output_checks earlier
-small-room true n size r e h = one-check r 9 false (leb (8 * ((n + 63) / 64)) size) e (sym (lt-leb (8 * ((n + 63) / 64)) size (omega arith)))
+small-room true n size r e h =
+    one-check r 9 false (leb (8 * ((n + 63) / 64)) size) e (sym (lt-leb (8 * ((n + 63) / 64)) size (omega arith)))
 small-room false n size r e h = e ∙ impossible false n size refl
 
 -- one that does, and so holds the finished words: the rest of check 4 decides
 module _ (b : BitmapBuilder) (n size : ℕ) (holds : (n + 63) / 64 ≤ size / 8) (longer : b.length ≤ n) where
   pub ones_over : 64 * (b.length / 64) < b.ones → 4 ≡ first_failed (check 4 (possible b size) ∷ output_checks n size)
   unfolding possible
-  ones_over h = impossible (possible b size) n size (ap (λ (t : Bool). none_from b.word (b.length % 64) && (t && leb (8 * (b.length / 64)) size))
+  ones_over h =
+      impossible (possible b size) n size (ap (λ (t : Bool). none_from b.word (b.length % 64) && (t && leb (8 * (b.length / 64)) size))
       (lt-leb b.ones (64 * (b.length / 64)) h) ∙ and-false (none_from b.word (b.length % 64)))
 
   pub word-decides : (t : Bool) (r : ℕ) → b.ones ≤ 64 * (b.length / 64) → r ≡ cond t 0 4 → t ≡ none_from b.word (b.length % 64)
@@ -86,7 +93,8 @@ module _ (b : BitmapBuilder) (n size : ℕ) (holds : (n + 63) / 64 ≤ size / 8)
       ∙ sym (earlier-none (cond (none_from b.word (b.length % 64) && (true && true)) 0 4))
       ∙ ap₂ (λ (x y : Bool). earlier (cond (none_from b.word (b.length % 64) && (x && y)) 0 4) 0)
       (sym (le-leb b.ones (64 * (b.length / 64)) few)) (sym (le-leb (8 * (b.length / 64)) size enough))
-      ∙ ap (λ (x : Bool). earlier (cond (none_from b.word (b.length % 64) && (leb b.ones (64 * (b.length / 64)) && leb (8 * (b.length / 64)) size)) 0 4)
+      ∙ ap (λ (x : Bool). earlier
+      (cond (none_from b.word (b.length % 64) && (leb b.ones (64 * (b.length / 64)) && leb (8 * (b.length / 64)) size)) 0 4)
       (earlier (cond x 0 9) 0)) (sym (le-leb (8 * ((n + 63) / 64)) size fits))
 
 -- ---- what the checks give
@@ -94,13 +102,17 @@ module _ (b : BitmapBuilder) (n size : ℕ) (holds : (n + 63) / 64 ≤ size / 8)
 pub room_of : (b : BitmapBuilder) (n size : ℕ) → first_failed (builder_checks b (b.length + n) size) ≡ 0 → Room b n size
 unfolding builder_checks possible output_checks
 room_of b n size e =
-    let two = rest-allowed (within_limit b.length) (within_limit (b.length + n) ∷ check 4 (possible b size) ∷ output_checks (b.length + n) size) e in
+    let two =
+    rest-allowed (within_limit b.length)
+    (within_limit (b.length + n) ∷ check 4 (possible b size) ∷ output_checks (b.length + n) size) e in
     let three = rest-allowed (within_limit (b.length + n)) (check 4 (possible b size) ∷ output_checks (b.length + n) size) two in
     let four = rest-allowed (check 4 (possible b size)) (output_checks (b.length + n) size) three in
     let poss = first-allowed 3 (possible b size) (output_checks (b.length + n) size) three in
     let rest = (and_parts _ _ poss).1 in
     record {
-      short = leb-true (b.length + n) limit (first-allowed 0 (leb (b.length + n) limit) (check 4 (possible b size) ∷ output_checks (b.length + n) size) two);
+      short =
+          leb-true (b.length + n) limit
+          (first-allowed 0 (leb (b.length + n) limit) (check 4 (possible b size) ∷ output_checks (b.length + n) size) two);
       low = (and_parts _ _ poss).0;
       few = leb-true b.ones (64 * (b.length / 64)) (and_parts _ _ rest).0;
       holds = leb-true (8 * ((b.length + n + 63) / 64)) size (first-allowed 8 (leb (8 * ((b.length + n + 63) / 64)) size) [] four);
@@ -114,7 +126,8 @@ word-stored b k size out new old r h e =
     had-room (8 * (b.length / 64)) size out new old e (omega arith)
 
 -- of a span that is appended
-pub grow-allowed : (start n bytes size r : ℕ) (b : BitmapBuilder) → r ≡ first_failed (span_checks start n bytes ++ builder_checks b (b.length + n) size) → r ≡ 0
+pub grow-allowed : (start n bytes size r : ℕ) (b : BitmapBuilder)
+    → r ≡ first_failed (span_checks start n bytes ++ builder_checks b (b.length + n) size) → r ≡ 0
     → SpanAllowed start n bytes × Room b n size
 grow-allowed start n bytes size r b e z = (
   span-allowed start n bytes (both_left (span_checks start n bytes) (builder_checks b (b.length + n) size) (sym e ∙ z)),
@@ -123,7 +136,9 @@ grow-allowed start n bytes size r b e z = (
 
 pub word-allowed : (w k : ℕ) → first_failed (within_limit k ∷ check 6 (leb k 64 && none_from w k) ∷ []) ≡ 0 → k ≤ 64
 word-allowed w k e =
-    leb-true k 64 (and_parts _ _ (first-allowed 5 (leb k 64 && none_from w k) [] (rest-allowed (within_limit k) (check 6 (leb k 64 && none_from w k) ∷ []) e))).0
+    leb-true k 64
+    (and_parts _ _
+    (first-allowed 5 (leb k 64 && none_from w k) [] (rest-allowed (within_limit k) (check 6 (leb k 64 && none_from w k) ∷ []) e))).0
 
 pub room-less : (b : BitmapBuilder) (m n size : ℕ) → m ≤ n → Room b n size → Room b m size
 room-less b m n size h r =
@@ -139,10 +154,12 @@ none-behind r k e h =
     let whole : count (bits 64 (word_of r)) ≡ count r = ap count (bits-window 64 r) ∙ count-padded r 64 (omega arith) in
     let front : count (take k (bits 64 (word_of r))) ≡ count r = ap count (word_back r k e h) in
     let sum : count (take k (bits 64 (word_of r))) + count (drop k (bits 64 (word_of r))) ≡ count (bits 64 (word_of r)) =
-    sym (count-append (take k (bits 64 (word_of r))) (drop k (bits 64 (word_of r)))) ∙ ap count (take-append-drop k (bits 64 (word_of r))) in
+    sym (count-append (take k (bits 64 (word_of r))) (drop k (bits 64 (word_of r))))
+    ∙ ap count (take-append-drop k (bits 64 (word_of r))) in
     ap not (sym (zero-any (drop k (bits 64 (word_of r))) (omega arith)))
 
-grown-room : (f : Filling) (l : List Bool) (q : ℕ) (front rest : List Bool) (m n : ℕ) → Parts f l q front rest → length l + n ≤ m → Room f.builder m (length f.bytes)
+grown-room : (f : Filling) (l : List Bool) (q : ℕ) (front rest : List Bool) (m n : ℕ) → Parts f l q front rest → length l + n ≤ m
+    → Room f.builder m (length f.bytes)
     → Room (grown f (length l) q front rest).builder n (length (grown f (length l) q front rest).bytes)
 grown-room f l q front rest m n p h r =
     let short : f.builder.length + m ≤ limit = r.short in
@@ -159,12 +176,14 @@ grown-room f l q front rest m n p h r =
     }
 
 -- what is left where room for m flags was, and l has been appended
-pub room_after : (f g : Filling) (l : List Bool) (m n : ℕ) → g ≡ appended f l → length l + n ≤ m → Room f.builder m (length f.bytes) → Room g.builder n (length g.bytes)
+pub room_after : (f g : Filling) (l : List Bool) (m n : ℕ) → g ≡ appended f l → length l + n ≤ m → Room f.builder m (length f.bytes)
+    → Room g.builder n (length g.bytes)
 room_after f g l m n e h r =
     let p = parts-of f l in
     subst (λ (x : Filling). Room x.builder n (length x.bytes)) (sym (e ∙ appended-grown f l _ _ _ p)) (grown-room f l _ _ _ m n p h r)
 
-pub room-then : (f g : Filling) (l : List Bool) (k m n : ℕ) → g ≡ appended f l → length l ≡ k → Room f.builder m (length f.bytes) → k + n ≤ m
+pub room-then : (f g : Filling) (l : List Bool) (k m n : ℕ) → g ≡ appended f l → length l ≡ k → Room f.builder m (length f.bytes)
+    → k + n ≤ m
     → Room g.builder n (length g.bytes)
 room-then f g l k m n e h r q = room_after f g l m n e (omega arith) r
 
@@ -175,7 +194,8 @@ length-then f g l k e h = ap (λ (x : Filling). x.builder.length) e ∙ ap (λ (
 pub size_after : (f g : Filling) (l : List Bool) → g ≡ appended f l → length g.bytes ≡ length f.bytes
 unfolding appended
 size_after f g l e = ap (λ (x : Filling). length x.bytes) e
-    ∙ length-over_from f.bytes (8 * (f.builder.length / 64)) (packed (8 * (length (in_progress f.builder ++ l) / 64)) (in_progress f.builder ++ l))
+    ∙ length-over_from f.bytes (8 * (f.builder.length / 64))
+    (packed (8 * (length (in_progress f.builder ++ l) / 64)) (in_progress f.builder ++ l))
 
 -- ---- the flags of the builder, and the count of its finished words
 
@@ -183,7 +203,8 @@ size_after f g l e = ap (λ (x : Filling). length x.bytes) e
 abbrev pub finished : Filling → List Bool
 finished f = window (flags_of f.bytes) 0 (64 * (f.builder.length / 64))
 
-grown-finished : (f : Filling) (l : List Bool) (q : ℕ) (front rest : List Bool) → Parts f l q front rest → 8 * ((f.builder.length + length l) / 64) ≤ length f.bytes
+grown-finished : (f : Filling) (l : List Bool) (q : ℕ) (front rest : List Bool) → Parts f l q front rest
+    → 8 * ((f.builder.length + length l) / 64) ≤ length f.bytes
     → finished (grown f (length l) q front rest) ≡ finished f ++ front
 grown-finished f l q front rest p h =
     let full : length front ≡ 64 * q = p.whole in
@@ -199,31 +220,39 @@ grown-finished f l q front rest p h =
     ap (window new 0) e ∙ window-add new 0 (64 * (f.builder.length / 64)) (64 * q)
     ∙ ap (λ (t : List Bool). window t 0 (64 * (f.builder.length / 64)) ++ window t (0 + 64 * (f.builder.length / 64)) (64 * q)) now
     ∙ ap₂ (λ (x y : List Bool). x ++ y)
-    (window-ext (over_at (flags_of f.bytes) (64 * (f.builder.length / 64)) (window front 0 (64 * q))) (flags_of f.bytes) 0 0 (64 * (f.builder.length / 64)) (λ j b.
+    (window-ext (over_at (flags_of f.bytes) (64 * (f.builder.length / 64)) (window front 0 (64 * q))) (flags_of f.bytes) 0 0
+    (64 * (f.builder.length / 64)) (λ j b.
     over_at-before (flags_of f.bytes) (64 * (f.builder.length / 64)) (window front 0 (64 * q)) (0 + j) (omega arith)))
-    (sym (as-window front (over_at (flags_of f.bytes) (64 * (f.builder.length / 64)) (window front 0 (64 * q))) (0 + 64 * (f.builder.length / 64)) (64 * q) full (λ j b.
+    (sym (as-window front (over_at (flags_of f.bytes) (64 * (f.builder.length / 64)) (window front 0 (64 * q)))
+    (0 + 64 * (f.builder.length / 64)) (64 * q) full (λ j b.
     let z : 0 + j ≡ j = omega arith in
     let y : 64 * (f.builder.length / 64) + j ≡ 0 + 64 * (f.builder.length / 64) + j = omega arith in
     sym (ap (λ (x : ℕ). get_or front x false) z) ∙ sym (at_in front 0 (64 * q) j b)
-    ∙ sym (over_at-in (flags_of f.bytes) (64 * (f.builder.length / 64)) (window front 0 (64 * q)) j (omega (arith, length-window front 0 (64 * q)))
+    ∙ sym (over_at-in (flags_of f.bytes) (64 * (f.builder.length / 64)) (window front 0 (64 * q)) j
+    (omega (arith, length-window front 0 (64 * q)))
     (omega (arith, length-flags f.bytes)))
     ∙ ap (λ (x : ℕ). get_or (over_at (flags_of f.bytes) (64 * (f.builder.length / 64)) (window front 0 (64 * q))) x false) y)))
 
-pub finished-after : (f : Filling) (l : List Bool) (q : ℕ) (front rest : List Bool) → Parts f l q front rest → 8 * ((f.builder.length + length l) / 64) ≤ length f.bytes
+pub finished-after : (f : Filling) (l : List Bool) (q : ℕ) (front rest : List Bool) → Parts f l q front rest
+    → 8 * ((f.builder.length + length l) / 64) ≤ length f.bytes
     → finished (appended f l) ≡ finished f ++ front
 finished-after f l q front rest p h = ap finished (appended-grown f l q front rest p) ∙ grown-finished f l q front rest p h
 
-grown-flags : (f : Filling) (l : List Bool) (q : ℕ) (front rest : List Bool) → Parts f l q front rest → 8 * ((f.builder.length + length l) / 64) ≤ length f.bytes
+grown-flags : (f : Filling) (l : List Bool) (q : ℕ) (front rest : List Bool) → Parts f l q front rest
+    → 8 * ((f.builder.length + length l) / 64) ≤ length f.bytes
     → builder_flags (grown f (length l) q front rest) ≡ builder_flags f ++ l
 unfolding builder_flags
 grown-flags f l q front rest p h =
     let less : length rest < 64 = p.less in
     let e : length rest ≡ (f.builder.length + length l) % 64 = omega (arith, parts-long f l q front rest p) in
-    ap₂ (λ (x y : List Bool). x ++ y) (grown-finished f l q front rest p h) (progress-of f.builder (f.builder.length + length l) rest (f.builder.ones + count front) e)
-    ∙ append_assoc (finished f) front rest ∙ ap (λ (t : List Bool). finished f ++ t) (sym p.row) ∙ sym (append_assoc (finished f) (in_progress f.builder) l)
+    ap₂ (λ (x y : List Bool). x ++ y) (grown-finished f l q front rest p h)
+    (progress-of f.builder (f.builder.length + length l) rest (f.builder.ones + count front) e)
+    ∙ append_assoc (finished f) front rest ∙ ap (λ (t : List Bool). finished f ++ t) (sym p.row)
+    ∙ sym (append_assoc (finished f) (in_progress f.builder) l)
 
 -- the builder's flags, then the new ones
-pub flags-after : (f : Filling) (l : List Bool) → Room f.builder (length l) (length f.bytes) → builder_flags (appended f l) ≡ builder_flags f ++ l
+pub flags-after : (f : Filling) (l : List Bool) → Room f.builder (length l) (length f.bytes)
+    → builder_flags (appended f l) ≡ builder_flags f ++ l
 flags-after f l r =
     let holds : 8 * ((f.builder.length + length l + 63) / 64) ≤ length f.bytes = r.holds in
     let p = parts-of f l in
@@ -242,7 +271,12 @@ ones-after f l r e =
 pub length-flags-of : (f : Filling) → length (builder_flags f) ≡ f.builder.length
 unfolding builder_flags
 length-flags-of f =
-    omega (arith, length-append (finished f) (in_progress f.builder), length-window (flags_of f.bytes) 0 (64 * (f.builder.length / 64)), length-progress f.builder)
+    omega (
+      arith,
+      length-append (finished f) (in_progress f.builder),
+      length-window (flags_of f.bytes) 0 (64 * (f.builder.length / 64)),
+      length-progress f.builder,
+    )
 
 -- ---- what the checks of a mask and of a piece of it give
 
@@ -252,11 +286,19 @@ pub record InnerAllowed (m : Bitmap) (bytes : List ℕ) (start n : ℕ) : Type 0
   pub inside : start + n ≤ m.length
   pub lent : m.start + m.length ≤ 8 * length bytes
 
-pub inner-allowed : (m : Bitmap) (bytes : List ℕ) (start n : ℕ) → first_failed (mask_checks m bytes) ≡ 0 → first_failed (inner_checks start n m.length) ≡ 0
+pub inner-allowed : (m : Bitmap) (bytes : List ℕ) (start n : ℕ) → first_failed (mask_checks m bytes) ≡ 0
+    → first_failed (inner_checks start n m.length) ≡ 0
     → InnerAllowed m bytes start n
 unfolding mask_checks inner_checks
 inner-allowed m bytes start n e p =
-    let span = span-allowed m.start m.length (length bytes) (both_left (span_checks m.start m.length (length bytes)) (check 3 (count_valid m bytes) ∷ []) e) in
+    let span =
+    span-allowed m.start m.length (length bytes)
+    (both_left (span_checks m.start m.length (length bytes)) (check 3 (count_valid m bytes) ∷ []) e) in
     let two = rest-allowed (within_limit start) (within_limit n ∷ check 6 (leb (start + n) m.length) ∷ []) p in
     let three = rest-allowed (within_limit n) (check 6 (leb (start + n) m.length) ∷ []) two in
-    record { starts = span.starts; short = span.short; inside = leb-true (start + n) m.length (first-allowed 5 (leb (start + n) m.length) [] three); lent = span.inside }
+    record {
+      starts = span.starts;
+      short = span.short;
+      inside = leb-true (start + n) m.length (first-allowed 5 (leb (start + n) m.length) [] three);
+      lent = span.inside;
+    }

@@ -8,10 +8,12 @@ use Rattle.masks.specs.Answer.{decided, kept}
 use Rattle.masks.specs.Appends.{all_below, constant_checks, gather_checks, gathered, span_grow_checks, word_checks}
 use Rattle.masks.specs.Builder.{appended, builder_checks, builder_flags, in_progress, possible}
 use Rattle.masks.specs.Checks.{earlier, first_failed, rank, place_in, output_checks, span_checks}
-use Rattle.masks.specs.Combine.{each_bytes, each_of, largest_serial, not_checks, pair_bytes, pair_checks, pair_flags, pair_mask, pair_of, shortcut}
+use Rattle.masks.specs.Combine.{each_bytes, each_of, largest_serial, not_checks, pair_bytes, pair_checks, pair_flags, pair_mask, pair_of}
+use Rattle.masks.specs.Combine.{shortcut}
 use Rattle.masks.specs.Freeze.{frozen_over}
 use Rattle.masks.specs.Frozen.{frozen, over_from, packed}
-use Rattle.masks.specs.Mask.{cut_zeros, kept_count, mask_checks, piece_checks, recounts, slice_checks, slice_of, try_new_of, unset_bits_of, zero_count}
+use Rattle.masks.specs.Mask.{cut_zeros, kept_count, mask_checks, piece_checks, recounts, slice_checks, slice_of, try_new_of, unset_bits_of}
+use Rattle.masks.specs.Mask.{zero_count}
 use Rattle.masks.specs.RuleRows.{rows, RulesHold}
 use Rattle.masks.specs.Utils.{zeros}
 

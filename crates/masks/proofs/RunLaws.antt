@@ -84,7 +84,8 @@ module _ (c : SlicesIterator) (l : List Bool) (z : ℕ) (r : Run) (long : length
       rw (le-ltb first c.length h)
 
 -- the run lies in the list
-pub run_inside : (l : List Bool) (size place : ℕ) (r : Run) → length l ≡ size → place ≤ size → r ≡ first_run l place → r.start + r.length ≤ size
+pub run_inside : (l : List Bool) (size place : ℕ) (r : Run) → length l ≡ size → place ≤ size → r ≡ first_run l place
+    → r.start + r.length ≤ size
 unfolding first_run run_start leading_from
 run_inside l size place r long h e =
     let first = place + leading false (drop place l) in
@@ -153,7 +154,8 @@ pub record Walking (l : List Bool) (size place first at : ℕ) : Type 0 where
   pub ones : Alike l true size first at
 
 -- the run that begins at `first`, where no zero stands, is the first from `place` on
-run-here : (l : List Bool) (size place first n : ℕ) → Alike l false size place first → leading_from false l first ≡ 0 → n ≡ leading_from true l first
+run-here : (l : List Bool) (size place first n : ℕ) → Alike l false size place first → leading_from false l first ≡ 0
+    → n ≡ leading_from true l first
     → run_of first n ≡ first_run l place
 unfolding first_run run_start
 run-here l size place first n a none e =
@@ -177,7 +179,8 @@ module _ (bytes : List ℕ) (start size place first at : ℕ) (w : Walking (stre
     sum = omega (arith, a.sum, every-alike (stretch bytes start size) x at k k (fits k h) (in_span x k k h e) (omega arith));
   }
 
-  ones-on : (k : ℕ) → at + k ≤ size → k ≡ leading true (window (flags_of bytes) (start + at) k) → Walking (stretch bytes start size) size place first (at + k)
+  ones-on : (k : ℕ) → at + k ≤ size → k ≡ leading true (window (flags_of bytes) (start + at) k)
+      → Walking (stretch bytes start size) size place first (at + k)
   ones-on k h e = record { zeros = w.zeros; ones = alike-on true first k w.ones h e }
 
   -- nothing or ones stand between `first` and the span's end
@@ -188,7 +191,9 @@ module _ (bytes : List ℕ) (start size place first at : ℕ) (w : Walking (stre
       (cases_lt first at)
 
   pub walk_end : size ≤ at → run_of first (at - first) ≡ first_run (stretch bytes start size) place
-  walk_end h = run-here (stretch bytes start size) size place first (at - first) w.zeros (ended-first h) (alike-done (flags_of bytes) true start size first at w.ones h)
+  walk_end h =
+      run-here (stretch bytes start size) size place first (at - first) w.zeros (ended-first h)
+      (alike-done (flags_of bytes) true start size first at w.ones h)
 
   pub walk-byte : (t : Bool) (byte : ℕ) → t ≡ (eqb ((start + at) % 8) 0 && (eqb byte 255 && leb 8 (size - at))) → t ≡ true
       → byte ≡ get_or bytes ((start + at) / 8) 0 → Walking (stretch bytes start size) size place first (at + 8)
@@ -197,13 +202,16 @@ module _ (bytes : List ℕ) (start size place first at : ℕ) (w : Walking (stre
       let rest : (eqb byte 255 && leb 8 (size - at)) ≡ true = (and_parts _ _ (sym e ∙ h)).1 in
       let full : get_or bytes ((start + at) / 8) 0 ≡ 255 = sym f ∙ eqb-true byte 255 (and_parts _ _ rest).0 in
       let room : 8 ≤ size - at = leb-true 8 (size - at) (and_parts _ _ rest).1 in
-      ones-on 8 (omega arith) (sym (ap (leading true) (whole-byte bytes (start + at) (eqb-true ((start + at) % 8) 0 whole) full) ∙ eight_ones))
+      ones-on 8 (omega arith)
+      (sym (ap (leading true) (whole-byte bytes (start + at) (eqb-true ((start + at) % 8) 0 whole) full) ∙ eight_ones))
 
   -- the flag at `at` is bit `bit` of byte i
-  module _ (i bit byte : ℕ) (before : at < size) (there : start + at ≡ 8 * i + bit) (in-byte : bit < 8) (read : byte ≡ get_or bytes i 0) where
+  module _ (i bit byte : ℕ) (before : at < size) (there : start + at ≡ 8 * i + bit) (in-byte : bit < 8)
+      (read : byte ≡ get_or bytes i 0) where
     one-flag : (x : Bool) → leading x (window (flags_of bytes) (start + at) 1) ≡ leading x (is_one (byte / 2 ^ bit % 2) ∷ [])
     one-flag x =
-        ap (leading x) (flag-window (flags_of bytes) (start + at) ∙ ap (λ (y : Bool). y ∷ []) (bit-flag bytes (start + at) i bit byte there in-byte read))
+        ap (leading x) (flag-window (flags_of bytes) (start + at)
+        ∙ ap (λ (y : Bool). y ∷ []) (bit-flag bytes (start + at) i bit byte there in-byte read))
 
     -- a zero behind ones
     pub walk-stop : byte / 2 ^ bit % 2 ≡ 0 → 0 < at - first → run_of first (at - first) ≡ first_run (stretch bytes start size) place

@@ -93,15 +93,19 @@ no-runs k (x ∷ l) h = absurd (omega arith)
 
 pub behind : (l : List Bool) (place : ℕ) → runs_left l place ≡ runs_left l (run_start l place)
 unfolding runs_left run_start leading_from
-behind l place = zeros-passed place (drop place l) ∙ ap (runs_from (place + leading false (drop place l))) (drop-drop (leading false (drop place l)) place l)
+behind l place =
+    zeros-passed place (drop place l)
+    ∙ ap (runs_from (place + leading false (drop place l))) (drop-drop (leading false (drop place l)) place l)
 
 starts-one : (l : List Bool) (place : ℕ) → run_start l place < length l → 0 < leading true (drop (run_start l place) l)
 unfolding run_start leading_from
-starts-one l place h = rw (sym (drop-drop (leading false (drop place l)) place l)) (then-ones (drop place l) (omega (arith, length-drop place l)))
+starts-one l place h =
+    rw (sym (drop-drop (leading false (drop place l)) place l)) (then-ones (drop place l) (omega (arith, length-drop place l)))
 
 pub a-run-first : (l : List Bool) (place : ℕ) → run_start l place < length l
     → runs_left l (run_start l place)
-    ≡ run_of (run_start l place) (leading_from true l (run_start l place)) ∷ runs_left l (run_start l place + leading_from true l (run_start l place))
+    ≡ run_of (run_start l place) (leading_from true l (run_start l place)) ∷ runs_left l
+    (run_start l place + leading_from true l (run_start l place))
 unfolding runs_left leading_from
 a-run-first l place h =
     let s = run_start l place in
@@ -177,7 +181,8 @@ unfolding run_start
 starts-after l place = omega arith
 
 -- what is given where there is a run
-pub first_run_lem : (l : List Bool) (place : ℕ) → run_start l place < length l → FirstRun l place (run_of (run_start l place) (leading_from true l (run_start l place)))
+pub first_run_lem : (l : List Bool) (place : ℕ) → run_start l place < length l
+    → FirstRun l place (run_of (run_start l place) (leading_from true l (run_start l place)))
 first_run_lem l place h = record {
   after = starts-after l place;
   inside = ones-inside l (run_start l place) (omega arith);

@@ -79,7 +79,8 @@ unfolding runs_left
 from_first l = refl
 
 pub all_runs : (l : List Bool) → AllRuns l 0 (runs_from 0 l)
-all_runs l = subst (AllRuns l 0) (from_first l) (all_left (suc (length l)) l 0 (omega arith) (λ (j : ℕ) (e : suc j ≡ 0). absurd (omega arith)))
+all_runs l =
+    subst (AllRuns l 0) (from_first l) (all_left (suc (length l)) l 0 (omega arith) (λ (j : ℕ) (e : suc j ≡ 0). absurd (omega arith)))
 
 behind-stop : (l : List Bool) (s j : ℕ) → s ≤ j → get_or l s false ≡ false → get_or l j false ≡ true → suc s ≤ j
 behind-stop l s j h z e = ⊎_elim
@@ -151,7 +152,8 @@ module _ (bytes : List ℕ) (c : SlicesIterator) (ok : IsAccepted bytes c) where
       gives (run_of s n) (slices_moved c (s + n)) (stepped ∙ ap given (to-run s n refl refl h))
       (accepted-at bytes c (s + n) ok (omega (arith, f.inside))) (omega (arith, f.inside, f.after, f.some))
       (next-lists c l size ∙ ap (listed l) (to-run s n refl refl h)))
-      (λ (h : c.length ≤ s). ends (slices_moved c c.length) (stepped ∙ ap given (to_end h)) (next-lists c l size ∙ ap (listed l) (to_end h)))
+      (λ (h : c.length ≤ s). ends (slices_moved c c.length) (stepped ∙ ap given (to_end h))
+      (next-lists c l size ∙ ap (listed l) (to_end h)))
       (cases_lt s c.length)
 
 -- A cursor that `next` accepts lists, until it gives none, just the runs from its place on.
@@ -163,4 +165,5 @@ lists-runs bytes c ok k h = lists (answer-of bytes) (left-of bytes) (IsAccepted 
 pub new-lists-runs : (m : Bitmap) (bytes : List ℕ) → first_failed (mask_checks m bytes) ≡ 0
     → listing (λ (d : SlicesIterator). next_slice d bytes) (suc m.length) (slices_at m.start m.length 0) ≡ runs_from 0 (mask_flags m bytes)
 new-lists-runs m bytes e =
-    lists-runs bytes (slices_at m.start m.length 0) (over-mask m bytes 0 e (omega arith)) (suc m.length) (omega arith) ∙ from_first (mask_flags m bytes)
+    lists-runs bytes (slices_at m.start m.length 0) (over-mask m bytes 0 e (omega arith)) (suc m.length) (omega arith)
+    ∙ from_first (mask_flags m bytes)

@@ -57,8 +57,10 @@ the_nth : (k : ℕ) (l : List Bool) (n : ℕ) → n < count l → slice_get (one
 unfolding ones_from count nth_place
 the_nth k [] n h = absurd (omega arith)
 the_nth k (true ∷ l) zero h = let e : k ≡ k + 0 = omega arith in ap Some e
-the_nth k (true ∷ l) (suc n) h = let e : suc k + nth_place l n ≡ k + suc (nth_place l n) = omega arith in the_nth (suc k) l n (omega arith) ∙ ap Some e
-the_nth k (false ∷ l) n h = let e : suc k + nth_place l n ≡ k + suc (nth_place l n) = omega arith in the_nth (suc k) l n (omega arith) ∙ ap Some e
+the_nth k (true ∷ l) (suc n) h =
+    let e : suc k + nth_place l n ≡ k + suc (nth_place l n) = omega arith in the_nth (suc k) l n (omega arith) ∙ ap Some e
+the_nth k (false ∷ l) n h =
+    let e : suc k + nth_place l n ≡ k + suc (nth_place l n) = omega arith in the_nth (suc k) l n (omega arith) ∙ ap Some e
 
 -- ---- the searches
 

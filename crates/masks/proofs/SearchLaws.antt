@@ -29,7 +29,8 @@ place-padded : (l : List Bool) (d n : ℕ) → length l ≤ d → n < count l �
 place-padded l d n h k =
     let e : d ≡ length l + (d - length l) = omega arith in
     ap (λ (x : ℕ). nth_place (window l 0 x) n) e
-    ∙ ap (λ (t : List Bool). nth_place t n) (window-add l 0 (length l) (d - length l) ∙ ap (λ (t : List Bool). t ++ window l (0 + length l) (d - length l)) (window-all l))
+    ∙ ap (λ (t : List Bool). nth_place t n)
+    (window-add l 0 (length l) (d - length l) ∙ ap (λ (t : List Bool). t ++ window l (0 + length l) (d - length l)) (window-all l))
     ∙ nth-low l (window l (0 + length l) (d - length l)) n k
 
 -- ---- from a place on
@@ -40,7 +41,9 @@ rest-window l at m = window-drop l at 0 m ∙ ap (λ (x : ℕ). window l x m) (a
 -- the flags from `at` on are those of the window and those behind it
 module _ (l : List Bool) (at d : ℕ) where
   whole : window (drop at l) 0 (d + length l) ≡ window l at d ++ window (drop (at + d) l) 0 (length l)
-  whole = rest-window l at (d + length l) ∙ window-add l at d (length l) ∙ ap (λ (t : List Bool). window l at d ++ t) (sym (rest-window l (at + d) (length l)))
+  whole =
+      rest-window l at (d + length l) ∙ window-add l at d (length l)
+      ∙ ap (λ (t : List Bool). window l at d ++ t) (sym (rest-window l (at + d) (length l)))
 
   count-on : count (drop at l) ≡ count (window l at d) + count (drop (at + d) l)
   count-on =
@@ -48,8 +51,10 @@ module _ (l : List Bool) (at d : ℕ) where
       ∙ count-append (window l at d) (window (drop (at + d) l) 0 (length l))
       ∙ ap (λ (x : ℕ). count (window l at d) + x) (count-padded (drop (at + d) l) (length l) (omega (arith, length-drop (at + d) l)))
 
-  place-whole : (n : ℕ) → n < count (drop at l) → nth_place (drop at l) n ≡ nth_place (window l at d ++ window (drop (at + d) l) 0 (length l)) n
-  place-whole n h = sym (place-padded (drop at l) (d + length l) n (omega (arith, length-drop at l)) h) ∙ ap (λ (t : List Bool). nth_place t n) whole
+  place-whole : (n : ℕ) → n < count (drop at l)
+      → nth_place (drop at l) n ≡ nth_place (window l at d ++ window (drop (at + d) l) 0 (length l)) n
+  place-whole n h =
+      sym (place-padded (drop at l) (d + length l) n (omega (arith, length-drop at l)) h) ∙ ap (λ (t : List Bool). nth_place t n) whole
 
   place_in : (n : ℕ) → n < count (window l at d) → nth_place (drop at l) n ≡ nth_place (window l at d) n
   place_in n h = place-whole n (omega (arith, count-on)) ∙ nth-low (window l at d) (window (drop (at + d) l) 0 (length l)) n h
@@ -58,7 +63,8 @@ module _ (l : List Bool) (at d : ℕ) where
       → nth_place (drop at l) n ≡ d + nth_place (drop (at + d) l) (n - count (window l at d))
   place_behind n h k =
       place-whole n (omega (arith, count-on)) ∙ nth-high (window l at d) (window (drop (at + d) l) 0 (length l)) n h
-      ∙ ap₂ (λ (x y : ℕ). x + y) (length-window l at d) (place-padded (drop (at + d) l) (length l) (n - count (window l at d)) (omega (arith, length-drop (at + d) l)) k)
+      ∙ ap₂ (λ (x y : ℕ). x + y) (length-window l at d)
+      (place-padded (drop (at + d) l) (length l) (n - count (window l at d)) (omega (arith, length-drop (at + d) l)) k)
 
   pub from_found : (n : ℕ) → n < count (window l at d) → Some (at + nth_place (window l at d) n) ≡ nth_from l n at
   unfolding nth_from
@@ -68,7 +74,9 @@ module _ (l : List Bool) (at d : ℕ) where
   unfolding nth_from
   from_on n h = ⊎_elim
       (λ (k : n - count (window l at d) < count (drop (at + d) l)).
-      let e : at + (d + nth_place (drop (at + d) l) (n - count (window l at d))) ≡ at + d + nth_place (drop (at + d) l) (n - count (window l at d)) = omega arith in
+      let e : at + (d + nth_place (drop (at + d) l) (n - count (window l at d)))
+      ≡ at + d + nth_place (drop (at + d) l) (n - count (window l at d)) =
+      omega arith in
       rw (lt-ltb n (count (drop at l)) (omega (arith, count-on)), lt-ltb (n - count (window l at d)) (count (drop (at + d) l)) k)
       (ap Some (ap (λ (x : ℕ). at + x) (place_behind n h k) ∙ e)))
       (λ (k : count (drop (at + d) l) ≤ n - count (window l at d)).
@@ -191,7 +199,8 @@ pub turn_end : (l : List Bool) (start size n at : ℕ) → size ≤ at → None 
 turn_end l start size n at h = from_end (window l start size) n at (omega (arith, length-window l start size))
 
 -- the last window is passed over
-pub turn_last : (l m : List Bool) (start size n at k : ℕ) → m ≡ window (window l start size) at 32 → IsOnly m n k → size ≤ at + 32 → None ≡ nth_from (window l start size) n at
+pub turn_last : (l m : List Bool) (start size n at k : ℕ) → m ≡ window (window l start size) at 32 → IsOnly m n k → size ≤ at + 32
+    → None ≡ nth_from (window l start size) n at
 turn_last l m start size n at k e h z = turn_end l start size (n - k) (at + 32) z ∙ turn-only (window l start size) m n at k e h
 
 -- a window that has enough set flags has not too few
@@ -203,8 +212,10 @@ enough bytes start size at left w ones few e p h = omega (arith, p ∙ ap (λ (x
 span-take : (l : List Bool) (start n e : ℕ) → e ≤ n → window l start e ≡ take e (window l start n)
 span-take l start n e h = sym (window-cut l start n 0 e (omega arith) ∙ ap (λ (x : ℕ). window l x e) (add-zero start))
 
-back-flags : (bytes : List ℕ) (start size e s w : ℕ) → e ≤ size → w ≡ window_word bytes start e s → bits 32 w ≡ window (take e (stretch bytes start size)) s 32
-back-flags bytes start size e s w h p = window-flags bytes start e s w p ∙ ap (λ (t : List Bool). window t s 32) (span-take (flags_of bytes) start size e h)
+back-flags : (bytes : List ℕ) (start size e s w : ℕ) → e ≤ size → w ≡ window_word bytes start e s
+    → bits 32 w ≡ window (take e (stretch bytes start size)) s 32
+back-flags bytes start size e s w h p =
+    window-flags bytes start e s w p ∙ ap (λ (t : List Bool). window t s 32) (span-take (flags_of bytes) start size e h)
 
 -- a window from s on, below e, in a span of so many flags
 pub record Below (size s e : ℕ) : Type 0 where
@@ -219,12 +230,14 @@ module _ (bytes : List ℕ) (start size s e w : ℕ) (at : Below size s e) (flag
   same : bits 32 w ≡ window (take e (stretch bytes start size)) s 32
   same = back-flags bytes start size e s w at.inside flags
 
-  pub turn-back : (n k i : ℕ) → k ≡ count (bits 32 w) → n < k → i ≡ nth_place (bits 32 w) (k - 1 - n) → Some (s + i) ≡ nth_back (stretch bytes start size) n e
+  pub turn-back : (n k i : ℕ) → k ≡ count (bits 32 w) → n < k → i ≡ nth_place (bits 32 w) (k - 1 - n)
+      → Some (s + i) ≡ nth_back (stretch bytes start size) n e
   turn-back n k i p h j =
       ap (λ (x : ℕ). Some (s + x)) (j ∙ ap₂ (λ (t : List Bool) (x : ℕ). nth_place t (x - 1 - n)) same (p ∙ ap count same))
       ∙ back_found (stretch bytes start size) s e 32 at.low reach at.near n (subst (λ (x : ℕ). n < x) (p ∙ ap count same) h)
 
-  pub turn-down : (n k : ℕ) → k ≡ count (bits 32 w) → k ≤ n → nth_back (stretch bytes start size) (n - k) s ≡ nth_back (stretch bytes start size) n e
+  pub turn-down : (n k : ℕ) → k ≡ count (bits 32 w) → k ≤ n
+      → nth_back (stretch bytes start size) (n - k) s ≡ nth_back (stretch bytes start size) n e
   turn-down n k p h =
       ap (λ (x : ℕ). nth_back (stretch bytes start size) (n - x) s) (p ∙ ap count same)
       ∙ sym (back_on (stretch bytes start size) s e 32 at.low reach at.near n (subst (λ (x : ℕ). x ≤ n) (p ∙ ap count same) h))
@@ -235,5 +248,6 @@ back_none l n e h = let z : 0 ≡ e = omega arith in back_end l n ∙ ap (nth_ba
 pub place-below : (w n i : ℕ) → n < count (bits 32 w) → i ≡ nth_place (bits 32 w) n → i < 32
 place-below w n i h e = omega (arith, nth-lt (bits 32 w) n h, length-bits 32 w)
 
-pub span-most : (l : List Bool) (start size n end m : ℕ) → m ≡ min end size → nth_back (window l start size) n m ≡ nth_back (window l start size) n end
+pub span-most : (l : List Bool) (start size n end m : ℕ) → m ≡ min end size
+    → nth_back (window l start size) n m ≡ nth_back (window l start size) n end
 span-most l start size n end m e = back-most (window l start size) n end m (e ∙ ap (min end) (sym (length-window l start size)))

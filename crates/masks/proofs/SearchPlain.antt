@@ -38,7 +38,8 @@ forward-some l n from h =
           is_set = sym (get_or-drop from l (nth_place (drop from l) n) false) ∙ nth-set (drop from l) n h;
           between =
               ap (λ (x : ℕ). count (window l from x)) e
-              ∙ ap count (window-part l from (nth_place (drop from l) n) (omega (arith, length-drop from l))) ∙ nth-before (drop from l) n h;
+              ∙ ap count (window-part l from (nth_place (drop from l) n) (omega (arith, length-drop from l)))
+              ∙ nth-before (drop from l) n h;
         },
       ),
     )

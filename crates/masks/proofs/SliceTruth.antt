@@ -81,7 +81,9 @@ module _ (l : List Bool) (start old offset n : ℕ) (h : offset + n ≤ old) whe
   middle-most = zeros-most (window l (start + offset) n) n middle (length-window l (start + offset) n) refl
 
   last-most : last ≤ old - (offset + n)
-  last-most = zeros-most (window l (start + offset + n) (old - (offset + n))) (old - (offset + n)) last (length-window l (start + offset + n) (old - (offset + n))) refl
+  last-most =
+      zeros-most (window l (start + offset + n) (old - (offset + n))) (old - (offset + n)) last
+      (length-window l (start + offset + n) (old - (offset + n))) refl
 
   kept-true : (z : ℕ) → z ≡ zeros (window l start old) → TrueCount (kept_count z old n) (window l (start + offset) n)
   unfolding kept_count
@@ -89,10 +91,12 @@ module _ (l : List Bool) (start old offset n : ℕ) (h : offset + n ≤ old) whe
     where
       go : (a b : Bool) → eqb z 0 ≡ a → eqb z old ≡ b → TrueCount (cond a (Some 0) (cond b (Some n) None)) (window l (start + offset) n)
       go true b p q = let z0 : z ≡ 0 = eqb-true z 0 p in let r : 0 ≡ middle = omega (arith, in_three) in r
-      go false true p q = let zo : z ≡ old = eqb-true z old q in let r : n ≡ middle = omega (arith, in_three, first-most, middle-most, last-most) in r
+      go false true p q =
+          let zo : z ≡ old = eqb-true z old q in let r : n ≡ middle = omega (arith, in_three, first-most, middle-most, last-most) in r
       go false false p q = tt
 
-  sliced-true : (u : Option ℕ) → TrueCount u (window l start old) → TrueCount (sliced_count old n (first + last) u) (window l (start + offset) n)
+  sliced-true : (u : Option ℕ) → TrueCount u (window l start old)
+      → TrueCount (sliced_count old n (first + last) u) (window l (start + offset) n)
   sliced-true None e = tt
   sliced-true (Some z) e = go (recounts old n z)
     where
@@ -114,14 +118,17 @@ module _ (l : List Bool) (start old offset n : ℕ) (h : offset + n ≤ old) whe
 -- ---- the same of masks
 
 -- the flags of a slice are those of its piece
-pub slice-flags : (m : Bitmap) (bytes : List ℕ) (offset n : ℕ) → offset + n ≤ m.length → mask_flags (sliced_mask m bytes offset n) bytes ≡ window (mask_flags m bytes) offset n
+pub slice-flags : (m : Bitmap) (bytes : List ℕ) (offset n : ℕ) → offset + n ≤ m.length
+    → mask_flags (sliced_mask m bytes offset n) bytes ≡ window (mask_flags m bytes) offset n
 slice-flags m bytes offset n h = sym (in_window (flags_of bytes) m.start m.length offset n h)
 
-pub slice-true : (m : Bitmap) (bytes : List ℕ) (offset n : ℕ) → offset + n ≤ m.length → Truthful m bytes → Truthful (sliced_mask m bytes offset n) bytes
+pub slice-true : (m : Bitmap) (bytes : List ℕ) (offset n : ℕ) → offset + n ≤ m.length → Truthful m bytes
+    → Truthful (sliced_mask m bytes offset n) bytes
 unfolding cut_zeros
 slice-true m bytes offset n h t = sliced-true (flags_of bytes) m.start m.length offset n h m.unset t
 
-valid-slice : (m : Bitmap) (bytes : List ℕ) (offset n : ℕ) → offset + n ≤ m.length → Truthful m bytes → recount_valid m.length n (cut_zeros m bytes offset n) m.unset ≡ true
+valid-slice : (m : Bitmap) (bytes : List ℕ) (offset n : ℕ) → offset + n ≤ m.length → Truthful m bytes
+    → recount_valid m.length n (cut_zeros m bytes offset n) m.unset ≡ true
 unfolding cut_zeros
 valid-slice m bytes offset n h t = never_wrong (flags_of bytes) m.start m.length offset n h m.unset t
 
@@ -141,7 +148,8 @@ slice-number m bytes offset n = go (first_failed (piece_checks m bytes offset n)
     valid : Bool
     valid = recount_valid m.length n (cut_zeros m bytes offset n) m.unset
 
-    go : (k : ℕ) → k ≡ first_failed (piece_checks m bytes offset n) → k ≡ first_failed (piece_checks m bytes offset n ++ (check 7 valid ∷ []))
+    go : (k : ℕ) → k ≡ first_failed (piece_checks m bytes offset n)
+        → k ≡ first_failed (piece_checks m bytes offset n ++ (check 7 valid ∷ []))
     go zero e =
         let inside = (piece-allowed m bytes offset n (sym e)).inside in
         ap (λ (t : Bool). cond t 0 7) (sym (valid-slice m bytes offset n inside (piece-truthful m bytes offset n (sym e))))
@@ -187,7 +195,8 @@ whole-allowed : (m : Bitmap) (bytes : List ℕ) → first_failed (mask_checks m 
 unfolding piece_checks first_failed earlier
 whole-allowed m bytes e =
     let a = mask-allowed m bytes e in
-    passed-before (mask_checks m bytes) (within_limit 0 ∷ within_limit m.length ∷ within_limit (m.start + 0) ∷ check 6 (leb (0 + m.length) m.length) ∷ []) 0 0 (sym e) refl
+    passed-before (mask_checks m bytes)
+    (within_limit 0 ∷ within_limit m.length ∷ within_limit (m.start + 0) ∷ check 6 (leb (0 + m.length) m.length) ∷ []) 0 0 (sym e) refl
     (rw (le-leb m.length limit a.short, le-leb (m.start + 0) limit (omega (arith, a.starts)), le-leb (0 + m.length) m.length (omega arith)))
 
 -- a slice of the whole gives every mask back as it was
@@ -198,7 +207,8 @@ slice-whole m bytes e =
     let known = whole-count m.length m.unset (mask_flags m bytes) long (mask-truthful m bytes e) in
     let s : m.start + 0 ≡ m.start = omega arith in
     sym (slice-right m bytes 0 m.length 0 (whole-allowed m bytes e) m.unset refl
-    (sym (ap (λ (x : ℕ). cut_of m.length m.length x m.unset) none ∙ ap₂ (λ (b : Bool) (u : Option ℕ). cond b (Ok u) (Err WrongRecount)) known.1 known.0)))
+    (sym (ap (λ (x : ℕ). cut_of m.length m.length x m.unset) none
+    ∙ ap₂ (λ (b : Bool) (u : Option ℕ). cond b (Ok u) (Err WrongRecount)) known.1 known.0)))
     ∙ ap (λ (x : ℕ). given (mask_under m.serial x m.length m.unset)) s
 
 -- ---- a combination's count

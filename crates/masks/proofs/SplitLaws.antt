@@ -26,7 +26,8 @@ pub record Offset (start offset : ℕ) : Type 0 where
 pub offset-of : (start address : ℕ) → Offset start (bulk_offset start address)
 unfolding bulk_offset
 offset-of start address =
-    by-test (Offset start) (start % 8) (8 * bytes_to_aligned start address) (bytes_to_aligned start address) (bytes_to_aligned start address + 8)
+    by-test (Offset start) (start % 8) (8 * bytes_to_aligned start address) (bytes_to_aligned start address)
+    (bytes_to_aligned start address + 8)
     (λ h. record { low = h; high = omega arith })
     (λ h. record { low = omega arith; high = omega arith })
 
@@ -45,8 +46,14 @@ pub placed : (start n address : ℕ) → Placed start n (prefix_length start n a
 unfolding prefix_length bulk_start_of
 placed start n address =
     let o : Offset start (bulk_offset start address) = offset-of start address in
-    both-tests (Placed start n) (leb (start % 8 + n) 64) n (8 * bulk_offset start address - start % 8) 0 (start / 8 + bulk_offset start address)
-    (λ e. let h : start % 8 + n ≤ 64 = leb-true (start % 8 + n) 64 e in record { fits = omega arith; word = omega arith; starts = inl refl; near = omega arith })
+    both-tests (Placed start n) (leb (start % 8 + n) 64) n (8 * bulk_offset start address - start % 8) 0
+    (start / 8 + bulk_offset start address)
+    (λ e. let h : start % 8 + n ≤ 64 = leb-true (start % 8 + n) 64 e in record {
+      fits = omega arith;
+      word = omega arith;
+      starts = inl refl;
+      near = omega arith;
+    })
     (λ e. let h : 64 < start % 8 + n = leb-false (start % 8 + n) 64 e in
     let low : start % 8 ≤ 8 * bulk_offset start address = o.low in
     let high : bulk_offset start address ≤ 8 = o.high in
@@ -81,7 +88,9 @@ three-parts l start n p b h =
     no-window x y = sym (window-none l x) ∙ window-none l y
 
     middle : (n ≡ p) ⊎ (8 * b ≡ start + p) → window l (8 * b) (64 * ((n - p) / 64)) ≡ window l (start + p) (64 * ((n - p) / 64))
-    middle (inl e) = let z : 64 * ((n - p) / 64) ≡ 0 = omega arith in ap (window l (8 * b)) z ∙ no-window (8 * b) (start + p) ∙ ap (window l (start + p)) (sym z)
+    middle (inl e) =
+        let z : 64 * ((n - p) / 64) ≡ 0 = omega arith in
+        ap (window l (8 * b)) z ∙ no-window (8 * b) (start + p) ∙ ap (window l (start + p)) (sym z)
     middle (inr e) = ap (λ (x : ℕ). window l x (64 * ((n - p) / 64))) e
 
 pub split-flags : (bytes : List ℕ) (start n address : ℕ) → split_flags bytes (aligned_split bytes start n address) ≡ stretch bytes start n
@@ -105,7 +114,8 @@ split-bounded bytes start n address hs hn =
 -- a number of a split's flags is the span's
 pub split-number : (f : List Bool → ℕ) (bytes : List ℕ) (start n address c : ℕ) (s : AlignedBitmapSlice)
     → s ≡ aligned_split bytes start n address → c ≡ f (split_flags bytes s) → c ≡ f (stretch bytes start n)
-split-number f bytes start n address c s e p = p ∙ ap (λ (t : AlignedBitmapSlice). f (split_flags bytes t)) e ∙ ap f (split-flags bytes start n address)
+split-number f bytes start n address c s e p =
+    p ∙ ap (λ (t : AlignedBitmapSlice). f (split_flags bytes t)) e ∙ ap f (split-flags bytes start n address)
 
 -- its ones too
 pub split-count : (bytes : List ℕ) (start n address c : ℕ) (s : AlignedBitmapSlice)
@@ -113,7 +123,8 @@ pub split-count : (bytes : List ℕ) (start n address c : ℕ) (s : AlignedBitma
 split-count = split-number count
 
 -- what is known of a span whose checks have passed, with its address
-pub aligned-allowed : (start n size address : ℕ) → first_failed (aligned_checks start n size address) ≡ 0 → (start ≤ 2 * limit) × ((n ≤ limit) × (address ≤ 7))
+pub aligned-allowed : (start n size address : ℕ) → first_failed (aligned_checks start n size address) ≡ 0
+    → (start ≤ 2 * limit) × ((n ≤ limit) × (address ≤ 7))
 unfolding aligned_checks
 aligned-allowed start n size address e =
     let span = span-allowed start n size (both_left (span_checks start n size) (address_checks address) e) in

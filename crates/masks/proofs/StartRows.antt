@@ -20,8 +20,9 @@ use Rattle.masks.specs.Utils.{zeros}
 pub all_hold : StartsHold
 unfolding
     start_rows bits word_of flags_of count copies window over leading nth_place zeros decided kept
-    first_failed earlier rank place_in span_checks cursor_checks mask_checks slice_of slice_checks piece_checks cut_zeros recounts kept_count split_checks split_at window_at window_word
-    next_chunk chunk_step chunk_word chunks_remainder remainder_word search_from search_back nth_from nth_back
-    nth_flag flag_step take_leading leading_from new_slices next_slice run_start slice_step
-    new_true new_true_checks first_true next_true true_checks true_flags true_step ones_from ones_left next_positions place_behind positions_over
+    first_failed earlier rank place_in span_checks cursor_checks mask_checks slice_of slice_checks piece_checks cut_zeros recounts
+    kept_count split_checks split_at window_at window_word next_chunk chunk_step chunk_word chunks_remainder remainder_word search_from
+    search_back nth_from nth_back nth_flag flag_step take_leading leading_from new_slices next_slice run_start slice_step
+    new_true new_true_checks first_true next_true true_checks true_flags true_step ones_from ones_left next_positions place_behind
+    positions_over
 all_hold = refl

@@ -25,7 +25,8 @@ use Rattle.masks.specs.declared.bitmap.Bitmap.{Bitmap}
 use Rattle.masks.specs.declared.superseding.Part.{Part}
 use Rattle.masks.proofs.Accepted.{span-accepted}
 use Rattle.masks.proofs.AnswerLaws.{given-number, given-value, refused-number}
-use Rattle.masks.proofs.CheckLaws.{SpanAllowed, before, both_left, both_right, check-allowed, earlier-none, failed-ranked, first-number, last-refused, one-check, passed-before}
+use Rattle.masks.proofs.CheckLaws.{SpanAllowed, before, both_left, both_right, check-allowed, earlier-none, failed-ranked, first-number}
+use Rattle.masks.proofs.CheckLaws.{last-refused, one-check, passed-before}
 use Rattle.masks.proofs.MaskLaws.{mask-allowed}
 use Rattle.masks.proofs.SupersedingLaws.{apart, first_wins, masks-before, second_wins}
 
@@ -34,7 +35,8 @@ use Rattle.masks.proofs.SupersedingLaws.{apart, first_wins, masks-before, second
 -- flags below a cut are those of the whole list
 window-below : (l : List Bool) (m k n : ℕ) → k + n ≤ m → window (take m l) k n ≡ window l k n
 window-below l m k n h =
-    window-ext (take m l) l k k n (λ j i. at_take m l (k + j) ∙ ap (λ (t : Bool). t && get_or l (k + j) false) (lt-ltb (k + j) m (omega arith)))
+    window-ext (take m l) l k k n
+    (λ j i. at_take m l (k + j) ∙ ap (λ (t : Bool). t && get_or l (k + j) false) (lt-ltb (k + j) m (omega arith)))
 
 module _ (m : Bitmap) (bytes : List ℕ) (e : Accepted m bytes) where
   abbrev from : ℕ
@@ -58,7 +60,8 @@ module _ (m : Bitmap) (bytes : List ℕ) (e : Accepted m bytes) where
   part-flags =
       let at : 8 * from + m.start % 8 ≡ m.start = omega arith in
       let short : m.start % 8 + m.length ≤ 8 * (to - from) = omega arith in
-      ap (λ (l : List Bool). window l (m.start % 8) m.length) (flags-take (to - from) (drop from bytes) ∙ ap (take (8 * (to - from))) (flags-drop from bytes))
+      ap (λ (l : List Bool). window l (m.start % 8) m.length)
+      (flags-take (to - from) (drop from bytes) ∙ ap (take (8 * (to - from))) (flags-drop from bytes))
       ∙ window-below (drop (8 * from) (flags_of bytes)) (8 * (to - from)) (m.start % 8) m.length short
       ∙ window-drop (flags_of bytes) (8 * from) (m.start % 8) m.length
       ∙ ap (λ (k : ℕ). window (flags_of bytes) k m.length) at
@@ -69,7 +72,9 @@ module _ (m : Bitmap) (bytes : List ℕ) (e : Accepted m bytes) where
 
   count-passed : count_valid m bytes ≡ true
   unfolding mask_checks
-  count-passed = check-allowed 2 (count_valid m bytes) (both_right (span_checks m.start m.length (length bytes)) (check 3 (count_valid m bytes) ∷ []) e)
+  count-passed =
+      check-allowed 2 (count_valid m bytes)
+      (both_right (span_checks m.start m.length (length bytes)) (check 3 (count_valid m bytes) ∷ []) e)
 
   part-accepted : Accepted (fitted m) part
   unfolding mask_checks
@@ -117,10 +122,12 @@ module _ (a : Bitmap) (a_bytes : List ℕ) (b : Bitmap) (b_bytes : List ℕ) whe
       go true e = absurd (n (same-equal (mask_flags a a_bytes) (mask_flags b b_bytes) e))
       go false e = refl
 
-  apart-passed : Accepted a a_bytes → Accepted b b_bytes → (a.serial ≡ b.serial → ⊥) → 0 ≡ first_failed (superseding_checks a a_bytes b b_bytes)
+  apart-passed : Accepted a a_bytes → Accepted b b_bytes → (a.serial ≡ b.serial → ⊥)
+      → 0 ≡ first_failed (superseding_checks a a_bytes b b_bytes)
   apart-passed p q n = apart a a_bytes b b_bytes 0 0 0 n (sym (earlier-none 0)) (sym p) (sym q)
 
-  equal-passed : Accepted a a_bytes → Accepted b b_bytes → a.serial ≡ b.serial → same ≡ true → 0 ≡ first_failed (superseding_checks a a_bytes b b_bytes)
+  equal-passed : Accepted a a_bytes → Accepted b b_bytes → a.serial ≡ b.serial → same ≡ true
+      → 0 ≡ first_failed (superseding_checks a a_bytes b b_bytes)
   unfolding superseding_checks
   equal-passed p q s e =
       passed-before masks (check 14 (agree a a_bytes b b_bytes) ∷ []) 0 0 (both-passed p q) refl
@@ -129,7 +136,8 @@ module _ (a : Bitmap) (a_bytes : List ℕ) (b : Bitmap) (b_bytes : List ℕ) whe
   refused-different : Accepted a a_bytes → Accepted b b_bytes → a.serial ≡ b.serial → (mask_flags a a_bytes ≡ mask_flags b b_bytes → ⊥)
       → refused 14 tt ≡ superseding_of a a_bytes b b_bytes
   unfolding superseding_of superseding_checks
-  refused-different p q s n = last-refused masks 0 13 (agree a a_bytes b b_bytes) tt (winning a b) (both-passed p q) refl (agreed s ∙ differ n)
+  refused-different p q s n =
+      last-refused masks 0 13 (agree a a_bytes b b_bytes) tt (winning a b) (both-passed p q) refl (agreed s ∙ differ n)
 
   -- 14 is no number of a mask's checks: where it comes, these have passed
   fourteen-number : superseding_of a a_bytes b b_bytes ≡ refused 14 tt → 14 ≡ first_failed (superseding_checks a a_bytes b b_bytes)
@@ -149,12 +157,16 @@ module _ (a : Bitmap) (a_bytes : List ℕ) (b : Bitmap) (b_bytes : List ℕ) whe
   masks-passed zero e p = e
   masks-passed (suc n) e p =
       let some : first_failed masks ≡ 0 → ⊥ = λ z. (let o : suc n ≡ 0 = sym e ∙ z in omega arith) in
-      absurd (never-fourteen some (first-number masks (first_failed masks) 13 (agree a a_bytes b b_bytes) (masks-before a a_bytes b b_bytes) refl some ∙ sym p))
+      absurd (never-fourteen some
+      (first-number masks (first_failed masks) 13 (agree a a_bytes b b_bytes) (masks-before a a_bytes b b_bytes) refl some ∙ sym p))
 
-  disagree : (t : Bool) → agree a a_bytes b b_bytes ≡ t → first_failed masks ≡ 0 → 14 ≡ first_failed (superseding_checks a a_bytes b b_bytes) → agree a a_bytes b b_bytes ≡ false
+  disagree : (t : Bool) → agree a a_bytes b b_bytes ≡ t → first_failed masks ≡ 0
+      → 14 ≡ first_failed (superseding_checks a a_bytes b b_bytes) → agree a a_bytes b b_bytes ≡ false
   unfolding superseding_checks
   disagree true e z p =
-      let o : ◌≡◌ {A = ℕ} 0 14 = passed-before masks (check 14 (agree a a_bytes b b_bytes) ∷ []) 0 0 (sym z) refl (one-check 0 14 true (agree a a_bytes b b_bytes) refl (sym e)) ∙ sym p in
+      let o : ◌≡◌ {A = ℕ} 0 14 =
+      passed-before masks (check 14 (agree a a_bytes b b_bytes) ∷ []) 0 0 (sym z) refl
+      (one-check 0 14 true (agree a a_bytes b b_bytes) refl (sym e)) ∙ sym p in
       absurd (omega arith)
   disagree false e z p = e
 
@@ -164,14 +176,18 @@ module _ (a : Bitmap) (a_bytes : List ℕ) (b : Bitmap) (b_bytes : List ℕ) whe
       let number = fourteen-number e in
       let passed = masks-passed (first_failed masks) refl number in
       let told = not_agreed (eqb a.serial b.serial) same (disagree (agree a a_bytes b b_bytes) refl passed number) in (
-        (both_left (mask_checks a a_bytes) (mask_checks b b_bytes) passed, both_right (mask_checks a a_bytes) (mask_checks b b_bytes) passed),
+        (
+          both_left (mask_checks a a_bytes) (mask_checks b b_bytes) passed,
+          both_right (mask_checks a a_bytes) (mask_checks b b_bytes) passed,
+        ),
         (eqb-true a.serial b.serial told.0, λ l. true≢false (sym (equal-same (mask_flags a a_bytes) (mask_flags b b_bytes) l) ∙ told.1)),
       )
 
   supersedes : Supersedes a a_bytes b b_bytes
   unfolding eq_of mask_checks
   supersedes = record {
-    first_larger = λ p q h. sym (first_wins a a_bytes b b_bytes 0 (part_of false a) (apart-passed p q (λ s. omega arith)) refl (omega arith) refl);
+    first_larger =
+        λ p q h. sym (first_wins a a_bytes b b_bytes 0 (part_of false a) (apart-passed p q (λ s. omega arith)) refl (omega arith) refl);
     second_larger = λ p q h. sym (second_wins a a_bytes b b_bytes 0 (part_of true b) (apart-passed p q (λ s. omega arith)) refl h refl);
     equal = λ p q s e. sym (first_wins a a_bytes b b_bytes 0 (part_of false a)
         (equal-passed p q s (equal-same (mask_flags a a_bytes) (mask_flags b b_bytes) e)) refl (omega arith) refl);
@@ -182,7 +198,8 @@ module _ (a : Bitmap) (a_bytes : List ℕ) (b : Bitmap) (b_bytes : List ℕ) whe
 
 -- ---- the part that is given
 
-module _ (a : Bitmap) (a_bytes : List ℕ) (b : Bitmap) (b_bytes : List ℕ) (e : 0 ≡ first_failed (superseding_checks a a_bytes b b_bytes)) where
+module _ (a : Bitmap) (a_bytes : List ℕ) (b : Bitmap) (b_bytes : List ℕ)
+    (e : 0 ≡ first_failed (superseding_checks a a_bytes b b_bytes)) where
   accepted-masks : first_failed (mask_checks a a_bytes ++ mask_checks b b_bytes) ≡ 0
   unfolding superseding_checks
   accepted-masks = both_left (mask_checks a a_bytes ++ mask_checks b b_bytes) (check 14 (agree a a_bytes b b_bytes) ∷ []) (sym e)
@@ -209,7 +226,8 @@ module _ (a : Bitmap) (a_bytes : List ℕ) (b : Bitmap) (b_bytes : List ℕ) (e 
         accepted = part.accepted;
       }
 
-given-won : (a : Bitmap) (a_bytes : List ℕ) (b : Bitmap) (b_bytes : List ℕ) (p : Part) → superseding_of a a_bytes b b_bytes ≡ given p → Winning a a_bytes b b_bytes p
+given-won : (a : Bitmap) (a_bytes : List ℕ) (b : Bitmap) (b_bytes : List ℕ) (p : Part) → superseding_of a a_bytes b b_bytes ≡ given p
+    → Winning a a_bytes b b_bytes p
 unfolding superseding_of
 given-won a a_bytes b b_bytes p e =
     let k = first_failed (superseding_checks a a_bytes b b_bytes) in

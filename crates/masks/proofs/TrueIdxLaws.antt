@@ -91,7 +91,10 @@ three-passed : (a b c : Bool) → first_failed (check 1 a ∷ check 1 b ∷ chec
 three-passed a b c e =
     let rest : first_failed ((check 1 b ∷ []) ++ (check 6 c ∷ [])) ≡ 0 = both_right (check 1 a ∷ []) (check 1 b ∷ check 6 c ∷ []) e in (
       check-allowed 0 a (both_left (check 1 a ∷ []) (check 1 b ∷ check 6 c ∷ []) e),
-      (check-allowed 0 b (both_left (check 1 b ∷ []) (check 6 c ∷ []) rest), check-allowed 5 c (both_right (check 1 b ∷ []) (check 6 c ∷ []) rest)),
+      (
+        check-allowed 0 b (both_left (check 1 b ∷ []) (check 6 c ∷ []) rest),
+        check-allowed 5 c (both_right (check 1 b ∷ []) (check 6 c ∷ []) rest),
+      ),
     )
 
 -- of a cursor over a mask
@@ -133,4 +136,5 @@ no_one c bytes r e h = ap (true_step c) (none_from_lem (true_flags c bytes) c.pl
 
 pub zeros_within : (c : TrueIdxIter) (bytes : List ℕ) (r : ℕ) → r ≡ leading_from false (true_flags c bytes) c.place → r ≤ c.length
 unfolding leading_from
-zeros_within c bytes r e = omega (arith, leading_le false (drop c.place (true_flags c bytes)), length-drop c.place (true_flags c bytes), flags-length c bytes)
+zeros_within c bytes r e =
+    omega (arith, leading_le false (drop c.place (true_flags c bytes)), length-drop c.place (true_flags c bytes), flags-length c bytes)

@@ -22,7 +22,8 @@ use Rattle.masks.specs.Listing.{listing, AllOnes, no_one, one_at}
 use Rattle.masks.specs.Mask.{count_valid, mask_checks}
 use Rattle.masks.specs.Positions.{left_of}
 use Rattle.masks.specs.Search.{nth_from}
-use Rattle.masks.specs.TrueIdx.{new_true_checks, first_true, true_moved, true_flags, true_checks, true_step, next_true, ones_from, ones_left}
+use Rattle.masks.specs.TrueIdx.{new_true_checks, first_true, true_moved, true_flags, true_checks, true_step, next_true, ones_from}
+use Rattle.masks.specs.TrueIdx.{ones_left}
 use Rattle.masks.specs.declared.true_idx.TrueIdxIter.{TrueIdxIter}
 use Rattle.masks.proofs.CheckLaws.{both_left, both_right, check-allowed, is-given, passed-before}
 use Rattle.masks.proofs.Listing.{Moves, gives, ends, lists, place-accepted, place-again}
@@ -83,7 +84,8 @@ ones-from (suc k) l p h = ⊎_elim
   where
     by_flag : (x : Bool) → get_or l p false ≡ x → p < length l → AllOnes l (suc p) (ones_left l (suc p)) → AllOnes l p (ones_left l p)
     by_flag true e b more =
-        subst (AllOnes l p) (sym (at_one l p b e)) (one_at {p = p} {i = p} (omega arith) (λ (j : ℕ) (i : p ≤ j) (o : j < p). absurd (omega arith)) e more)
+        subst (AllOnes l p) (sym (at_one l p b e))
+        (one_at {p = p} {i = p} (omega arith) (λ (j : ℕ) (i : p ≤ j) (o : j < p). absurd (omega arith)) e more)
     by_flag false e b more = subst (AllOnes l p) (sym (over_zero l p b e)) (zero-before e more)
 
 pub all_ones_lem : (l : List Bool) (p : ℕ) → AllOnes l p (ones_left l p)
@@ -91,7 +93,8 @@ all_ones_lem l p = ones-from (suc (length l)) l p (omega arith)
 
 -- ---- call by call
 
-first_one : (k : ℕ) (m : List Bool) → 0 < count m → ones_from k m ≡ (k + nth_place m 0) ∷ ones_from (k + suc (nth_place m 0)) (drop (suc (nth_place m 0)) m)
+first_one : (k : ℕ) (m : List Bool) → 0 < count m
+    → ones_from k m ≡ (k + nth_place m 0) ∷ ones_from (k + suc (nth_place m 0)) (drop (suc (nth_place m 0)) m)
 unfolding ones_from nth_place count
 first_one k [] h = absurd (omega arith)
 first_one k (true ∷ m) h =
@@ -134,7 +137,8 @@ none_left : (l : List Bool) (place : ℕ) → count (drop place l) ≡ 0 → one
 unfolding ones_left
 none_left l place h = none-set place (drop place l) h
 
-pub accepted-at : (c : TrueIdxIter) (size q : ℕ) → first_failed (true_checks c size) ≡ 0 → q ≤ c.length → first_failed (true_checks (true_moved c q) size) ≡ 0
+pub accepted-at : (c : TrueIdxIter) (size q : ℕ) → first_failed (true_checks c size) ≡ 0 → q ≤ c.length
+    → first_failed (true_checks (true_moved c q) size) ≡ 0
 unfolding true_checks cursor_checks
 accepted-at c size q e h = go c.masked e
   where
@@ -165,14 +169,16 @@ far-of c = c.length - c.place
 
 -- one call: the first position that is left, and a cursor with the others before it; or none, where nothing is left
 pub data NextOne (bytes : List ℕ) (c : TrueIdxIter) : Type 0 where
-  one-next : (p : ℕ) → c.place ≤ p → p < c.length → next_true c bytes ≡ given (item p (true_moved c (p + 1))) → IsAccepted bytes (true_moved c (p + 1))
+  one-next : (p : ℕ) → c.place ≤ p → p < c.length → next_true c bytes ≡ given (item p (true_moved c (p + 1)))
+      → IsAccepted bytes (true_moved c (p + 1))
       → left-of bytes c ≡ p ∷ left-of bytes (true_moved c (p + 1)) → NextOne bytes c
   none-next : next_true c bytes ≡ given (ended (true_moved c c.length)) → left-of bytes c ≡ [] → NextOne bytes c
 
 module _ (bytes : List ℕ) (c : TrueIdxIter) (ok : IsAccepted bytes c) where
   stepped : next_true c bytes ≡ given (true_step c (nth_from (true_flags c bytes) 0 c.place))
   unfolding next_true
-  stepped = sym (is-given 0 (first_failed (true_checks c (length bytes))) c (true_step c (nth_from (true_flags c bytes) 0 c.place)) (sym ok) refl)
+  stepped =
+      sym (is-given 0 (first_failed (true_checks c (length bytes))) c (true_step c (nth_from (true_flags c bytes) 0 c.place)) (sym ok) refl)
 
   to_item : (p : ℕ) → nth_from (true_flags c bytes) 0 c.place ≡ Some p → next_true c bytes ≡ given (item p (true_moved c (p + 1)))
   unfolding true_step
@@ -215,14 +221,16 @@ unfolding first_failed earlier
 zero-limit = refl
 
 -- What `new` accepts `next` accepts.
-accepted-new : (n : ℕ) (mask : Option Bitmap) (bytes : List ℕ) → first_failed (new_true_checks n mask bytes) ≡ 0 → IsAccepted bytes (first_true n mask)
+accepted-new : (n : ℕ) (mask : Option Bitmap) (bytes : List ℕ) → first_failed (new_true_checks n mask bytes) ≡ 0
+    → IsAccepted bytes (first_true n mask)
 unfolding new_true_checks first_true true_checks cursor_checks mask_checks
 accepted-new n (Some m) bytes e =
     let five : List Check = check 5 (eqb n m.length) ∷ [] in
     let rest : first_failed (mask_checks m bytes ++ five) ≡ 0 = both_right (within_limit n ∷ []) (mask_checks m bytes ++ five) e in
     let same : n ≡ m.length = eqb-true n m.length (check-allowed 4 (eqb n m.length) (both_right (mask_checks m bytes) five rest)) in
     let span : first_failed (span_checks m.start m.length (length bytes)) ≡ 0 =
-    both_left (span_checks m.start m.length (length bytes)) (check 3 (count_valid m bytes) ∷ []) (both_left (mask_checks m bytes) five rest) in
+    both_left (span_checks m.start m.length (length bytes)) (check 3 (count_valid m bytes) ∷ [])
+    (both_left (mask_checks m bytes) five rest) in
     place-accepted (span_checks m.start n (length bytes)) 0 n
     (ap (λ (k : ℕ). first_failed (span_checks m.start k (length bytes))) same ∙ span) (omega arith)
 accepted-new n None bytes e =
@@ -237,7 +245,8 @@ new-lists-ones n (Some m) bytes e =
     lists-ones bytes (first_true n (Some m)) (accepted-new n (Some m) bytes e) (suc n) (omega arith)
     ∙ from_first (true_flags (first_true n (Some m)) bytes)
 new-lists-ones n None bytes e =
-    lists-ones bytes (first_true n None) (accepted-new n None bytes e) (suc n) (omega arith) ∙ from_first (true_flags (first_true n None) bytes)
+    lists-ones bytes (first_true n None) (accepted-new n None bytes e) (suc n) (omega arith)
+    ∙ from_first (true_flags (first_true n None) bytes)
 
 -- ---- with no mask
 

@@ -46,11 +46,13 @@ all_one (false ∷ l) (suc n) e h = absurd (omega arith)
 
 -- ---- an operation that a constant list decides
 
-zip-first-constant : (f : Bool → Bool → Bool → Bool) (x w : Bool) → ((y z : Bool) → f x y z ≡ w) → (n : ℕ) (m : List Bool) → length m ≡ n → zip3 f (copies n x) m m ≡ copies n w
+zip-first-constant : (f : Bool → Bool → Bool → Bool) (x w : Bool) → ((y z : Bool) → f x y z ≡ w) → (n : ℕ) (m : List Bool) → length m ≡ n
+    → zip3 f (copies n x) m m ≡ copies n w
 unfolding zip3 copies
 zip-first-constant f x w h zero m e = refl
 zip-first-constant f x w h (suc n) [] e = absurd (omega arith)
-zip-first-constant f x w h (suc n) (y ∷ m) e = ap₂ (λ (b : Bool) (t : List Bool). b ∷ t) (h y y) (zip-first-constant f x w h n m (omega arith))
+zip-first-constant f x w h (suc n) (y ∷ m) e =
+    ap₂ (λ (b : Bool) (t : List Bool). b ∷ t) (h y y) (zip-first-constant f x w h n m (omega arith))
 
 zip-second-constant : (f : Bool → Bool → Bool → Bool) (y w : Bool) → ((x : Bool) → f x y y ≡ w)
     → (n : ℕ) (l : List Bool) → length l ≡ n → zip3 f l (copies n y) (copies n y) ≡ copies n w
@@ -58,7 +60,8 @@ unfolding zip3 copies
 zip-second-constant f y w h zero [] e = refl
 zip-second-constant f y w h zero (x ∷ l) e = absurd (omega arith)
 zip-second-constant f y w h (suc n) [] e = absurd (omega arith)
-zip-second-constant f y w h (suc n) (x ∷ l) e = ap₂ (λ (b : Bool) (t : List Bool). b ∷ t) (h x) (zip-second-constant f y w h n l (omega arith))
+zip-second-constant f y w h (suc n) (x ∷ l) e =
+    ap₂ (λ (b : Bool) (t : List Bool). b ∷ t) (h x) (zip-second-constant f y w h n l (omega arith))
 
 -- both lists constant
 zip_constants : (f : Bool → Bool → Bool → Bool) (x y : Bool) (n : ℕ) → zip3 f (copies n x) (copies n y) (copies n y) ≡ copies n (f x y y)
@@ -69,7 +72,8 @@ zip_constants f x y (suc n) = ap (λ (t : List Bool). f x y y ∷ t) (zip_consta
 -- ---- one law over the operation
 
 module _ (l m : List Bool) (n : ℕ) (el : length l ≡ n) (em : length m ≡ n) where
-  and-seen : (a b : Bool) → eqb (zeros l) n ≡ a → eqb (zeros m) n ≡ b → result_flags (cond (a || b) (Some false) None) n (zip3 (op_of And) l m m) ≡ zip3 (op_of And) l m m
+  and-seen : (a b : Bool) → eqb (zeros l) n ≡ a → eqb (zeros m) n ≡ b
+      → result_flags (cond (a || b) (Some false) None) n (zip3 (op_of And) l m m) ≡ zip3 (op_of And) l m m
   and-seen true b p q =
       sym (ap (λ (t : List Bool). zip3 (op_of And) t m m) (all-zero l n el (eqb-true (zeros l) n p))
       ∙ zip-first-constant (op_of And) false false (λ y z. refl) n m em)
@@ -78,24 +82,36 @@ module _ (l m : List Bool) (n : ℕ) (el : length l ≡ n) (em : length m ≡ n)
       ∙ zip-second-constant (op_of And) false false and-false n l el)
   and-seen false false p q = refl
 
-  or-seen : (a b : Bool) → eqb (zeros l) 0 ≡ a → eqb (zeros m) 0 ≡ b → result_flags (cond (a || b) (Some true) None) n (zip3 (op_of Or) l m m) ≡ zip3 (op_of Or) l m m
-  or-seen true b p q = sym (ap (λ (t : List Bool). zip3 (op_of Or) t m m) (all_one l n el (eqb-true (zeros l) 0 p)) ∙ zip-first-constant (op_of Or) true true (λ y z. refl) n m em)
-  or-seen false true p q = sym (ap (λ (t : List Bool). zip3 (op_of Or) l t t) (all_one m n em (eqb-true (zeros m) 0 q)) ∙ zip-second-constant (op_of Or) true true or-true n l el)
+  or-seen : (a b : Bool) → eqb (zeros l) 0 ≡ a → eqb (zeros m) 0 ≡ b
+      → result_flags (cond (a || b) (Some true) None) n (zip3 (op_of Or) l m m) ≡ zip3 (op_of Or) l m m
+  or-seen true b p q =
+      sym (ap (λ (t : List Bool). zip3 (op_of Or) t m m) (all_one l n el (eqb-true (zeros l) 0 p))
+      ∙ zip-first-constant (op_of Or) true true (λ y z. refl) n m em)
+  or-seen false true p q =
+      sym (ap (λ (t : List Bool). zip3 (op_of Or) l t t) (all_one m n em (eqb-true (zeros m) 0 q))
+      ∙ zip-second-constant (op_of Or) true true or-true n l el)
   or-seen false false p q = refl
 
   both_constant : (x y w : Bool) → l ≡ copies n x → m ≡ copies n y → xor x y ≡ w → copies n w ≡ zip3 (op_of Xor) l m m
-  both_constant x y w p q e = ap (copies n) (sym e) ∙ sym (ap₂ (λ (s t : List Bool). zip3 (op_of Xor) s t t) p q ∙ zip_constants (op_of Xor) x y n)
+  both_constant x y w p q e =
+      ap (copies n) (sym e) ∙ sym (ap₂ (λ (s t : List Bool). zip3 (op_of Xor) s t t) p q ∙ zip_constants (op_of Xor) x y n)
 
   xor-seen : (a b c d : Bool) → eqb (zeros l) n ≡ a → eqb (zeros m) n ≡ b → eqb (zeros l) 0 ≡ c → eqb (zeros m) 0 ≡ d
-      → result_flags (cond ((a && b) || (c && d)) (Some false) (cond ((c && b) || (a && d)) (Some true) None)) n (zip3 (op_of Xor) l m m) ≡ zip3 (op_of Xor) l m m
+      → result_flags (cond ((a && b) || (c && d)) (Some false) (cond ((c && b) || (a && d)) (Some true) None)) n (zip3 (op_of Xor) l m m)
+      ≡ zip3 (op_of Xor) l m m
   unfolding xor
-  xor-seen true true c d p q r s = both_constant false false false (all-zero l n el (eqb-true (zeros l) n p)) (all-zero m n em (eqb-true (zeros m) n q)) refl
-  xor-seen true false true true p q r s = both_constant true true false (all_one l n el (eqb-true (zeros l) 0 r)) (all_one m n em (eqb-true (zeros m) 0 s)) refl
-  xor-seen true false false true p q r s = both_constant false true true (all-zero l n el (eqb-true (zeros l) n p)) (all_one m n em (eqb-true (zeros m) 0 s)) refl
+  xor-seen true true c d p q r s =
+      both_constant false false false (all-zero l n el (eqb-true (zeros l) n p)) (all-zero m n em (eqb-true (zeros m) n q)) refl
+  xor-seen true false true true p q r s =
+      both_constant true true false (all_one l n el (eqb-true (zeros l) 0 r)) (all_one m n em (eqb-true (zeros m) 0 s)) refl
+  xor-seen true false false true p q r s =
+      both_constant false true true (all-zero l n el (eqb-true (zeros l) n p)) (all_one m n em (eqb-true (zeros m) 0 s)) refl
   xor-seen true false true false p q r s = refl
   xor-seen true false false false p q r s = refl
-  xor-seen false b true true p q r s = both_constant true true false (all_one l n el (eqb-true (zeros l) 0 r)) (all_one m n em (eqb-true (zeros m) 0 s)) refl
-  xor-seen false true true false p q r s = both_constant true false true (all_one l n el (eqb-true (zeros l) 0 r)) (all-zero m n em (eqb-true (zeros m) n q)) refl
+  xor-seen false b true true p q r s =
+      both_constant true true false (all_one l n el (eqb-true (zeros l) 0 r)) (all_one m n em (eqb-true (zeros m) 0 s)) refl
+  xor-seen false true true false p q r s =
+      both_constant true false true (all_one l n el (eqb-true (zeros l) 0 r)) (all-zero m n em (eqb-true (zeros m) n q)) refl
   xor-seen false false true false p q r s = refl
   xor-seen false b false d p q r s = refl
 
@@ -119,9 +135,12 @@ true-count m bytes t = go m.unset t
     go None e = refl
 
 -- with true counts the flags written are the operation on the arguments' flags
-pub flags-by_operation : (op : Op) (a : Bitmap) (a_bytes : List ℕ) (b : Bitmap) (b_bytes : List ℕ) → a.length ≡ b.length → Truthful a a_bytes → Truthful b b_bytes
+pub flags-by_operation : (op : Op) (a : Bitmap) (a_bytes : List ℕ) (b : Bitmap) (b_bytes : List ℕ) → a.length ≡ b.length
+    → Truthful a a_bytes → Truthful b b_bytes
     → pair_flags op a a_bytes b b_bytes ≡ pair_each op a a_bytes b b_bytes
 unfolding pair_flags
 flags-by_operation op a a_bytes b b_bytes e ta tb =
-    ap₂ (λ (x y : ℕ). result_flags (shortcut op a.length x y) a.length (pair_each op a a_bytes b b_bytes)) (true-count a a_bytes ta) (true-count b b_bytes tb)
-    ∙ shortcut_unseen (mask_flags a a_bytes) (mask_flags b b_bytes) a.length (length-window _ a.start a.length) (length-window _ b.start b.length ∙ sym e) op
+    ap₂ (λ (x y : ℕ). result_flags (shortcut op a.length x y) a.length (pair_each op a a_bytes b b_bytes)) (true-count a a_bytes ta)
+    (true-count b b_bytes tb)
+    ∙ shortcut_unseen (mask_flags a a_bytes) (mask_flags b b_bytes) a.length (length-window _ a.start a.length)
+    (length-window _ b.start b.length ∙ sym e) op

@@ -42,16 +42,19 @@ but_count_lem zero m s t e = ap given e
 but_count_lem (suc k) m s t e = refl
 
 -- a part given or refused, but for its count
-part_but_count_lem : (k : ℕ) (p q : Part) → forgot_part p ≡ forgot_part q → part_but_count (decided k tt p) ≡ part_but_count (decided k tt q)
+part_but_count_lem : (k : ℕ) (p q : Part) → forgot_part p ≡ forgot_part q
+    → part_but_count (decided k tt p) ≡ part_but_count (decided k tt q)
 unfolding decided
 part_but_count_lem zero p q e = ap given e
 part_but_count_lem (suc k) p q e = refl
 
-won-left : (m b : Bitmap) (t : Bool) → forgot_part (cond t (part_of true b) (part_of false m)) ≡ forgot_part (cond t (part_of true b) (part_of false (forgot m)))
+won-left : (m b : Bitmap) (t : Bool) → forgot_part (cond t (part_of true b) (part_of false m))
+    ≡ forgot_part (cond t (part_of true b) (part_of false (forgot m)))
 won-left m b true = refl
 won-left m b false = refl
 
-won-right : (b m : Bitmap) (t : Bool) → forgot_part (cond t (part_of true m) (part_of false b)) ≡ forgot_part (cond t (part_of true (forgot m)) (part_of false b))
+won-right : (b m : Bitmap) (t : Bool) → forgot_part (cond t (part_of true m) (part_of false b))
+    ≡ forgot_part (cond t (part_of true (forgot m)) (part_of false b))
 won-right b m true = refl
 won-right b m false = refl
 
@@ -111,18 +114,21 @@ module _ (m : Bitmap) (bytes : List ℕ) (e : first_failed (mask_checks m bytes)
   module _ (b : Bitmap) (b_b : List ℕ) where
     eq-left : eq_of m bytes b b_b ≡ eq_of (forgot m) bytes b b_b
     unfolding eq_of
-    eq-left = ap (λ (cs : List Check). checked (cs ++ mask_checks b b_b) tt (same_flags (mask_flags m bytes) (mask_flags b b_b))) same-checks
+    eq-left =
+        ap (λ (cs : List Check). checked (cs ++ mask_checks b b_b) tt (same_flags (mask_flags m bytes) (mask_flags b b_b))) same-checks
 
     eq-right : eq_of b b_b m bytes ≡ eq_of b b_b (forgot m) bytes
     unfolding eq_of
-    eq-right = ap (λ (cs : List Check). checked (mask_checks b b_b ++ cs) tt (same_flags (mask_flags b b_b) (mask_flags m bytes))) same-checks
+    eq-right =
+        ap (λ (cs : List Check). checked (mask_checks b b_b ++ cs) tt (same_flags (mask_flags b b_b) (mask_flags m bytes))) same-checks
 
     superseding-left : part_but_count (superseding_of m bytes b b_b) ≡ part_but_count (superseding_of (forgot m) bytes b b_b)
     unfolding superseding_of superseding_checks
     superseding-left =
         let last : List Check = check 14 (agree m bytes b b_b) ∷ [] in
         ap (λ (cs : List Check). part_but_count (checked ((cs ++ mask_checks b b_b) ++ last) tt (winning m b))) same-checks
-        ∙ part_but_count_lem (first_failed ((mask_checks (forgot m) bytes ++ mask_checks b b_b) ++ last)) (winning m b) (winning (forgot m) b)
+        ∙ part_but_count_lem (first_failed ((mask_checks (forgot m) bytes ++ mask_checks b b_b) ++ last)) (winning m b)
+        (winning (forgot m) b)
         (won-left m b (ltb m.serial b.serial))
 
     superseding-right : part_but_count (superseding_of b b_b m bytes) ≡ part_but_count (superseding_of b b_b (forgot m) bytes)
@@ -130,7 +136,8 @@ module _ (m : Bitmap) (bytes : List ℕ) (e : first_failed (mask_checks m bytes)
     superseding-right =
         let last : List Check = check 14 (agree b b_b m bytes) ∷ [] in
         ap (λ (cs : List Check). part_but_count (checked ((mask_checks b b_b ++ cs) ++ last) tt (winning b m))) same-checks
-        ∙ part_but_count_lem (first_failed ((mask_checks b b_b ++ mask_checks (forgot m) bytes) ++ last)) (winning b m) (winning b (forgot m))
+        ∙ part_but_count_lem (first_failed ((mask_checks b b_b ++ mask_checks (forgot m) bytes) ++ last)) (winning b m)
+        (winning b (forgot m))
         (won-right b m (ltb b.serial m.serial))
 
     common-left : common_of m bytes b b_b ≡ common_of (forgot m) bytes b b_b
@@ -264,7 +271,8 @@ module _ (m : Bitmap) (bytes : List ℕ) (e : first_failed (mask_checks m bytes)
           writes = ap (λ (cs : List Check). each_bytes cs (select_flags m bytes b b_b c c_b) out) same;
         }
 
-    selected-second : UnseenBoth m (λ (x : Bitmap). select_of b b_b x bytes c c_b out) (λ (x : Bitmap). select_bytes b b_b x bytes c c_b out)
+    selected-second : UnseenBoth m (λ (x : Bitmap). select_of b b_b x bytes c c_b out)
+        (λ (x : Bitmap). select_bytes b b_b x bytes c c_b out)
     unfolding each_of largest_serial
     selected-second =
         let same = select-middle m bytes e b b_b c c_b (length out) in

@@ -17,19 +17,22 @@ use Rattle.words.specs.Ops.{zip3}
 use Rattle.masks.specs.declared.bitmap.Recounted.{Recounted}
 use Rattle.masks.specs.Aligned.{aligned_checks, aligned_of, bulk_offset, bulk_start_of, prefix_length}
 use Rattle.masks.specs.Answer.{Answer, given, refused, decided, kept, unless_empty}
-use Rattle.masks.specs.Appends.{all_below, constant_checks, gather_checks, gathered, inner_checks, repeated, span_grow_checks, subslice_checks, word_checks}
+use Rattle.masks.specs.Appends.{all_below, constant_checks, gather_checks, gathered, inner_checks, repeated, span_grow_checks}
+use Rattle.masks.specs.Appends.{subslice_checks, word_checks}
 use Rattle.masks.specs.AtIndex.{and_not_at_checks, and_not_at_of, and_not_flag, flag_or, index_checks, length_checks}
 use Rattle.masks.specs.Bitmask.{split_at, split_checks, window_at, window_word}
 use Rattle.masks.specs.Builder.{appended, builder_checks, builder_flags, in_progress, possible}
 use Rattle.masks.specs.Checks.{address_checks, earlier, first_failed, rank, place_in, output_checks, span_checks}
 use Rattle.masks.specs.Chunks.{chunk_step, chunk_word, chunks_remainder, new_chunks, next_chunk, remainder_word}
-use Rattle.masks.specs.Combine.{each_bytes, each_of, largest_serial, not_checks, pair_bytes, pair_checks, pair_flags, pair_mask, pair_of, select_checks, shortcut}
+use Rattle.masks.specs.Combine.{each_bytes, each_of, largest_serial, not_checks, pair_bytes, pair_checks, pair_flags, pair_mask, pair_of}
+use Rattle.masks.specs.Combine.{select_checks, shortcut}
 use Rattle.masks.specs.Compare.{common_checks, common_of, edges, edges_of, eq_of}
 use Rattle.masks.specs.Cursor.{Step, item, ended, cursor_checks}
 use Rattle.masks.specs.Freeze.{frozen_over}
 use Rattle.masks.specs.Frozen.{frozen, over_from, packed}
 use Rattle.masks.specs.Iterator.{flag_step, leading_from, new_iter, nth_flag, take_leading}
-use Rattle.masks.specs.Mask.{cut_zeros, kept_count, mask_checks, new_zeroed_bytes, new_zeroed_of, piece_checks, recounts, slice_checks, slice_of, try_new_of, unset_bits_of, zero_count, zeroed_checks}
+use Rattle.masks.specs.Mask.{cut_zeros, kept_count, mask_checks, new_zeroed_bytes, new_zeroed_of, piece_checks, recounts, slice_checks}
+use Rattle.masks.specs.Mask.{slice_of, try_new_of, unset_bits_of, zero_count, zeroed_checks}
 use Rattle.masks.specs.Search.{nth_back, nth_from, search_back, search_from}
 use Rattle.masks.specs.SliceIterator.{new_slices, next_slice, run_start, slice_step}
 use Rattle.masks.specs.Positions.{next_positions, positions_over, place_behind}
@@ -146,8 +149,8 @@ pub spans-ruled-out : WrongSpans
 unfolding
     same_code bits word_of flags_of count window leading trailing nth_place zeros
     first_failed earlier rank place_in span_checks address_checks aligned_checks cursor_checks split_checks decided unless_empty
-    aligned_of prefix_length bulk_start_of bulk_offset span_count new_chunks next_chunk chunk_step chunk_word chunks_remainder remainder_word
-    split_at window_at window_word search_from search_back nth_from nth_back
+    aligned_of prefix_length bulk_start_of bulk_offset span_count new_chunks next_chunk chunk_step chunk_word chunks_remainder
+    remainder_word split_at window_at window_word search_from search_back nth_from nth_back
 spans-ruled-out =
     record {
       aligned-new = tried (plain split_code) refl refl refl;
@@ -192,10 +195,10 @@ builders-ruled-out =
 pub masks-ruled-out : WrongMasks
 unfolding
     same_code bits word_of flags_of count copies window over zip3 zip_with same_flags xor
-    first_failed earlier rank place_in span_checks output_checks mask_checks zeroed_checks piece_checks slice_checks pair_checks not_checks select_checks common_checks
-    decided kept zero_count zeros cut_zeros recounts kept_count packed frozen
-    try_new_of new_zeroed_of new_zeroed_bytes slice_of unset_bits_of pair_of pair_bytes pair_mask pair_flags shortcut each_of each_bytes largest_serial
-    eq_of edges_of edges common_of and_not_at_of and_not_at_checks index_checks length_checks and_not_flag flag_or
+    first_failed earlier rank place_in span_checks output_checks mask_checks zeroed_checks piece_checks slice_checks pair_checks not_checks
+    select_checks common_checks decided kept zero_count zeros cut_zeros recounts kept_count packed frozen
+    try_new_of new_zeroed_of new_zeroed_bytes slice_of unset_bits_of pair_of pair_bytes pair_mask pair_flags shortcut each_of each_bytes
+    largest_serial eq_of edges_of edges common_of and_not_at_of and_not_at_checks index_checks length_checks and_not_flag flag_or
 masks-ruled-out =
     record {
       new = tried mask_code refl refl refl;
@@ -256,9 +259,10 @@ cursors-ruled-out =
 pub serials-ruled-out : WrongSerials
 unfolding
     same_code bits word_of flags_of count copies window over zip3 same_flags xor any_set zero_count zeros
-    first_failed earlier rank place_in span_checks output_checks mask_checks piece_checks slice_checks pair_checks select_checks builder_checks possible
-    decided kept cut_zeros recounts kept_count packed frozen over_from in_progress appended builder_flags frozen_over
-    slice_of pair_of pair_bytes pair_mask pair_flags shortcut each_of each_bytes largest_serial superseding_of superseding_checks
+    first_failed earlier rank place_in span_checks output_checks mask_checks piece_checks slice_checks pair_checks select_checks
+    builder_checks possible decided kept cut_zeros recounts kept_count packed frozen over_from in_progress appended builder_flags
+    frozen_over slice_of pair_of pair_bytes pair_mask pair_flags shortcut each_of each_bytes largest_serial superseding_of
+    superseding_checks
 serials-ruled-out =
     record {
       superseding_part = tried (plain part_code) refl refl refl;

@@ -14,7 +14,8 @@ bytes_to_aligned start address = (8 - (address + start / 8) % 8) % 8
 
 -- the same, but a word further where the span begins inside the byte that is aligned
 unfoldable pub bulk_offset : ℕ → ℕ → ℕ
-bulk_offset start address = cond (leb (start % 8) (8 * bytes_to_aligned start address)) (bytes_to_aligned start address) (bytes_to_aligned start address + 8)
+bulk_offset start address =
+    cond (leb (start % 8) (8 * bytes_to_aligned start address)) (bytes_to_aligned start address) (bytes_to_aligned start address + 8)
 
 -- a span that fits a word from its first byte on
 abbrev pub short : ℕ → ℕ → Bool

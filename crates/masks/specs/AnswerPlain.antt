@@ -32,11 +32,13 @@ pub record AnswersPlain : Type 1 where
   pub refuses : {A : Type 0} (r : Refusal) → answer {A = A} (Err r) ≡ refused (number r) tt
   -- one that gives back the record that it got
   pub gives_back : {S A : Type 0} (a : A) → answer_back {S = S} (Ok a) ≡ given a
-  pub refuses_back : {S A : Type 0} (r : Refusal) (s : S) → answer_back {A = A} (Err (record { refusal = r; state = s })) ≡ refused (number r) s
+  pub refuses_back : {S A : Type 0} (r : Refusal) (s : S)
+      → answer_back {A = A} (Err (record { refusal = r; state = s })) ≡ refused (number r) s
   -- a cursor's call
   pub steps : {C A : Type 0} (a : A) (c : C) → answer_step (Ok (record { item = Some a; cursor = c })) ≡ given (item a c)
   pub ends : {C A : Type 0} (c : C) → answer_step {A = A} (Ok (record { item = None; cursor = c })) ≡ given (ended c)
-  pub refuses_step : {C A : Type 0} (r : Refusal) (c : C) → answer_step {A = A} (Err (record { refusal = r; state = c })) ≡ refused (number r) c
+  pub refuses_step : {C A : Type 0} (r : Refusal) (c : C)
+      → answer_step {A = A} (Err (record { refusal = r; state = c })) ≡ refused (number r) c
   -- `push` over the caller's own record
   pub changed : (b : BitmapBuilder) → change_answer 0 b ≡ given b
   pub passes : failure_of (Ok tt) ≡ 0

@@ -43,4 +43,5 @@ pub record AppendsPlainly (a : Append) (b : BitmapBuilder) (buf : List ℕ) (new
   pub added : (j : ℕ) → j < new_count a → builder_flag new (append_bytes a b buf) (b.length + j) ≡ new_flag a j
 
 abbrev pub AppendPlain : Type 0
-AppendPlain = (a : Append) (b : BitmapBuilder) (buf : List ℕ) (new : BitmapBuilder) → given new ≡ append_answer a b buf → AppendsPlainly a b buf new
+AppendPlain =
+    (a : Append) (b : BitmapBuilder) (buf : List ℕ) (new : BitmapBuilder) → given new ≡ append_answer a b buf → AppendsPlainly a b buf new

@@ -33,7 +33,8 @@ length_checks None second = []
 
 -- with both absent there is none
 unfoldable pub and_not_at_checks : Option Bitmap → List ℕ → Option Bitmap → List ℕ → ℕ → List Check
-and_not_at_checks first a_bytes second b_bytes i = index_checks first a_bytes i ++ (index_checks second b_bytes i ++ length_checks first second)
+and_not_at_checks first a_bytes second b_bytes i =
+    index_checks first a_bytes i ++ (index_checks second b_bytes i ++ length_checks first second)
 
 -- ---- the answer
 

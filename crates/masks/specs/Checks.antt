@@ -1,4 +1,5 @@
--- The nine questions of document 01, and 14 of paper 02. Here a question is a check: its number, and whether it is answered yes. Assumes nothing.
+-- The nine questions of document 01, and 14 of paper 02. Here a question is a check: its number, and
+-- whether it is answered yes. Assumes nothing.
 --
 -- A call's checks are a list made of the pieces below. The number of the call is that of the first check answered no, where
 -- `rank` says which comes first: so a list may name its checks in any order.

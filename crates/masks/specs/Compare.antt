@@ -11,7 +11,8 @@ use Rattle.masks.specs.declared.bitmap.Bitmap.{Bitmap}
 
 -- are the lengths and the flags equal
 unfoldable pub eq_of : Bitmap → List ℕ → Bitmap → List ℕ → Answer (Unit {0}) Bool
-eq_of a a_bytes b b_bytes = checked (mask_checks a a_bytes ++ mask_checks b b_bytes) tt (same_flags (mask_flags a a_bytes) (mask_flags b b_bytes))
+eq_of a a_bytes b b_bytes =
+    checked (mask_checks a a_bytes ++ mask_checks b b_bytes) tt (same_flags (mask_flags a a_bytes) (mask_flags b b_bytes))
 
 -- how many flags differ from the next one
 unfoldable pub edges : List Bool → ℕ
@@ -27,4 +28,5 @@ unfoldable pub common_checks : Bitmap → List ℕ → Bitmap → List ℕ → L
 common_checks a a_bytes b b_bytes = mask_checks a a_bytes ++ (mask_checks b b_bytes ++ (check 5 (eqb a.length b.length) ∷ []))
 
 unfoldable pub common_of : Bitmap → List ℕ → Bitmap → List ℕ → Answer (Unit {0}) ℕ
-common_of a a_bytes b b_bytes = checked (common_checks a a_bytes b b_bytes) tt (count (zip_with ◌&&◌ (mask_flags a a_bytes) (mask_flags b b_bytes)))
+common_of a a_bytes b b_bytes =
+    checked (common_checks a a_bytes b b_bytes) tt (count (zip_with ◌&&◌ (mask_flags a a_bytes) (mask_flags b b_bytes)))

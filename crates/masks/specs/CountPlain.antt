@@ -68,7 +68,8 @@ pub record EachCounts (n : ℕ) (answer : Answer (Unit {0}) Bitmap) : Type 0 whe
 -- the statement
 pub record CountsPlainly : Type 0 where
   pub made : MadeCounts
-  pub slice : (m : Bitmap) (bytes : List ℕ) (offset n : ℕ) (s : Bitmap) → given s ≡ slice_of m bytes offset n → SliceCounts m bytes offset n s
+  pub slice : (m : Bitmap) (bytes : List ℕ) (offset n : ℕ) (s : Bitmap) → given s ≡ slice_of m bytes offset n
+      → SliceCounts m bytes offset n s
   pub pair : (op : Op) (a : Bitmap) (a_bytes : List ℕ) (b : Bitmap) (b_bytes out : List ℕ) (c : Bitmap) (l r : ℕ)
       → given c ≡ pair_of op a a_bytes b b_bytes out → Brings a a_bytes l → Brings b b_bytes r → PairCounts a.length l r op c
   pub inverted : (m : Bitmap) (bytes out : List ℕ) → EachCounts m.length (not_of m bytes out)

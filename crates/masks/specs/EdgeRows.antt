@@ -6,13 +6,14 @@
 use Rattle.std.specs.Prelude.{ℕ, ◌≡◌, true, false, List, [], ◌∷◌, ◌++◌, map, replicate, Some, None}
 use Rattle.masks.specs.Aligned.{aligned_of}
 use Rattle.masks.specs.Answer.{Answer, given, refused}
-use Rattle.masks.specs.Appends.{Append, push_flag, extend_constant, push_word, extend_slice, extend_repeated, extend_bitmap, extend_gather, extend_opt_gather}
-use Rattle.masks.specs.Appends.{append_answer, append_bytes}
+use Rattle.masks.specs.Appends.{Append, push_flag, extend_constant, push_word, extend_slice, extend_repeated, extend_bitmap, extend_gather}
+use Rattle.masks.specs.Appends.{extend_opt_gather, append_answer, append_bytes}
 use Rattle.masks.specs.AtIndex.{and_not_at_of}
 use Rattle.masks.specs.Bitmask.{split_at, window_at}
 use Rattle.masks.specs.Builder.{builder_of, new_builder}
 use Rattle.masks.specs.Chunks.{chunks_at, next_chunk, chunks_remainder}
-use Rattle.masks.specs.Combine.{And, AndNot, OrNot, pair_of, pair_bytes, not_of, not_bytes, select_of, select_bytes, select_constant_of, select_constant_bytes}
+use Rattle.masks.specs.Combine.{And, AndNot, OrNot, pair_of, pair_bytes, not_of, not_bytes, select_of, select_bytes, select_constant_of}
+use Rattle.masks.specs.Combine.{select_constant_bytes}
 use Rattle.masks.specs.Compare.{eq_of, common_of}
 use Rattle.masks.specs.Examples.{Value, mask, count, bytes, accepted, refusal, sliced_value, sliced_to, mixed, frozen_in, first}
 use Rattle.masks.specs.Freeze.{freeze_of, freeze_bytes, into_opt_validity_of}

@@ -7,7 +7,8 @@ use Rattle.std.specs.Prelude.{ℕ, ◌≡◌, true, List, [], ◌∷◌, ◌++�
 use Rattle.words.specs.Flags.{is_one}
 use Rattle.masks.specs.declared.bitmap.Recounted.{Recounted}
 use Rattle.masks.specs.Answer.{Answer, given, refused}
-use Rattle.masks.specs.Appends.{Append, push_flag, extend_constant, extend_slice, extend_repeated, extend_gather, extend_opt_gather, append_answer, append_bytes}
+use Rattle.masks.specs.Appends.{Append, push_flag, extend_constant, extend_slice, extend_repeated, extend_gather, extend_opt_gather}
+use Rattle.masks.specs.Appends.{append_answer, append_bytes}
 use Rattle.masks.specs.Builder.{new_builder}
 use Rattle.masks.specs.Combine.{OrNot, pair_of, pair_bytes, select_of, select_bytes}
 use Rattle.masks.specs.Compare.{edges_of}

@@ -35,12 +35,14 @@ pub record SerialsPlainly : Type 0 where
   -- extensions, both pushes among them, leave the builder's own; `freeze` and `into_opt_validity` hand it on
   pub append : (a : Append) (b : BitmapBuilder) (buf : List ℕ) (c : BitmapBuilder) → given c ≡ append_answer a b buf → c.serial ≡ b.serial
   pub freeze : (b : BitmapBuilder) (buf : List ℕ) (m : Bitmap) → given m ≡ freeze_of b buf → m.serial ≡ b.serial
-  pub into-opt-validity : (b : BitmapBuilder) (buf : List ℕ) (m : Bitmap) → given (Some m) ≡ into_opt_validity_of b buf → m.serial ≡ b.serial
+  pub into-opt-validity : (b : BitmapBuilder) (buf : List ℕ) (m : Bitmap) → given (Some m) ≡ into_opt_validity_of b buf
+      → m.serial ≡ b.serial
   -- `slice` and `unset_bits` keep their mask's
   pub slice : (m : Bitmap) (bytes : List ℕ) (offset n : ℕ) (s : Bitmap) → given s ≡ slice_of m bytes offset n → s.serial ≡ m.serial
   pub unset_bits : (m : Bitmap) (bytes : List ℕ) (r : Recounted) → given r ≡ unset_bits_of m bytes → r.mask.serial ≡ m.serial
   -- a combination takes the largest of its masks
-  pub pair : (op : Op) (a : Bitmap) (a_bytes : List ℕ) (b : Bitmap) (b_bytes out : List ℕ) (c : Bitmap) → given c ≡ pair_of op a a_bytes b b_bytes out
+  pub pair : (op : Op) (a : Bitmap) (a_bytes : List ℕ) (b : Bitmap) (b_bytes out : List ℕ) (c : Bitmap)
+      → given c ≡ pair_of op a a_bytes b b_bytes out
       → Largest c.serial (a.serial ∷ b.serial ∷ [])
   pub inverted : (m : Bitmap) (bytes out : List ℕ) (c : Bitmap) → given c ≡ not_of m bytes out → c.serial ≡ m.serial
   pub selected : (s : Bitmap) (s_bytes : List ℕ) (t : Bitmap) (t_bytes : List ℕ) (f : Bitmap) (f_bytes out : List ℕ) (c : Bitmap)

@@ -20,8 +20,10 @@ under serial m = mask_under serial m.start m.length m.unset
 
 pub record Supersedes (a : Bitmap) (a_bytes : List ℕ) (b : Bitmap) (b_bytes : List ℕ) : Type 0 where
   -- the larger serial wins, whatever the lists are
-  pub first_larger : Accepted a a_bytes → Accepted b b_bytes → b.serial < a.serial → superseding_of a a_bytes b b_bytes ≡ given (part_of false a)
-  pub second_larger : Accepted a a_bytes → Accepted b b_bytes → a.serial < b.serial → superseding_of a a_bytes b b_bytes ≡ given (part_of true b)
+  pub first_larger : Accepted a a_bytes → Accepted b b_bytes → b.serial < a.serial
+      → superseding_of a a_bytes b b_bytes ≡ given (part_of false a)
+  pub second_larger : Accepted a a_bytes → Accepted b b_bytes → a.serial < b.serial
+      → superseding_of a a_bytes b b_bytes ≡ given (part_of true b)
   -- equal serials with equal lists give the first
   pub equal : Accepted a a_bytes → Accepted b b_bytes → a.serial ≡ b.serial → mask_flags a a_bytes ≡ mask_flags b b_bytes
       → superseding_of a a_bytes b b_bytes ≡ given (part_of false a)

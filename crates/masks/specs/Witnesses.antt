@@ -9,7 +9,8 @@ use Rattle.words.specs.Loops.{stretch}
 use Rattle.words.specs.declared.ops.Op.{Op}
 use Rattle.masks.specs.Aligned.{aligned_of}
 use Rattle.masks.specs.Answer.{Answer, given, refused}
-use Rattle.masks.specs.Appends.{Append, push_flag, extend_constant, push_word, extend_slice, extend_repeated, extend_bitmap, extend_gather, extend_opt_gather, append_answer}
+use Rattle.masks.specs.Appends.{Append, push_flag, extend_constant, push_word, extend_slice, extend_repeated, extend_bitmap, extend_gather}
+use Rattle.masks.specs.Appends.{extend_opt_gather, append_answer}
 use Rattle.masks.specs.AtIndex.{and_not_at_of}
 use Rattle.masks.specs.NextAndNot.{next_and_not_of}
 use Rattle.masks.specs.Bitmask.{split_at, window_at}
@@ -20,9 +21,8 @@ use Rattle.masks.specs.Compare.{eq_of, edges_of, common_of}
 use Rattle.masks.specs.Freeze.{freeze_of, into_opt_validity_of}
 use Rattle.masks.specs.Iterator.{iter_at, new_iter, nth_flag, take_leading}
 use Rattle.masks.specs.Mask.{mask_of, try_new_of, new_zeroed_of, unset_bits_of, slice_of}
-use Rattle.masks.specs.Refusals.{may_give}
-use Rattle.masks.specs.Refusals.{Family, addressed, spans, cursors, unmasked_cursors, splits, builders, pushed-words, span-appends, gathers}
-use Rattle.masks.specs.Refusals.{piece-appends, zeroed-masks, masks, slices, combinations, inversions, intersections}
+use Rattle.masks.specs.Refusals.{may_give, Family, addressed, spans, cursors, unmasked_cursors, splits, builders, pushed-words}
+use Rattle.masks.specs.Refusals.{span-appends, gathers, piece-appends, zeroed-masks, masks, slices, combinations, inversions, intersections}
 use Rattle.masks.specs.Refusals.{indexed-pairs, indexed-masks, stated-masks, stated_lengths, supersessions}
 use Rattle.masks.specs.Search.{search_from, search_back}
 use Rattle.masks.specs.SliceIterator.{slices_at, new_slices, next_slice}
@@ -173,7 +173,8 @@ witnesses splits =
     ∷ []
 witnesses builders =
     -- `BitmapBuilder::push` and `BitmapBuilder::push_mut`, by one definition
-    (number_of (append_answer (push_flag true) (builder_of 4194304 0 0) buffer) ∷ to_impossible (push_flag true) ∷ to_no_bytes (push_flag true) ∷ [])
+    (number_of (append_answer (push_flag true) (builder_of 4194304 0 0) buffer) ∷ to_impossible (push_flag true) ∷ to_no_bytes
+    (push_flag true) ∷ [])
     -- `BitmapBuilder::extend_constant`
     ∷ (to_new (extend_constant too_long true) ∷ to_impossible (extend_constant 1 true) ∷ to_no_bytes (extend_constant 1 true) ∷ [])
     -- `BitmapBuilder::freeze`, `BitmapBuilder::into_opt_validity`
@@ -203,7 +204,8 @@ witnesses gathers =
 witnesses piece-appends =
     -- `BitmapBuilder::subslice_extend_from_bitmap`
     (at_masks (λ m. to_new (extend_bitmap m byte 0 1))
-    ++ (to_impossible (extend_bitmap whole byte 0 8) ∷ to_new (extend_bitmap whole byte 1 8) ∷ to_no_bytes (extend_bitmap whole byte 0 8) ∷ []))
+    ++ (to_impossible (extend_bitmap whole byte 0 8) ∷ to_new (extend_bitmap whole byte 1 8) ∷ to_no_bytes
+    (extend_bitmap whole byte 0 8) ∷ []))
     ∷ []
 witnesses zeroed-masks =
     -- `Bitmap::new_zeroed`
@@ -269,7 +271,8 @@ witnesses supersessions =
     (at_short_masks (λ m. number_of (superseding_of m byte whole byte)) ++ (number_of (superseding_of whole byte shorter byte) ∷ []))
     ∷ (at_short_masks (λ m. number_of (superseding_of whole byte m byte)) ++ (number_of (superseding_of shorter byte whole byte) ∷ []))
     -- `superseding`
-    ∷ (at_short_masks (λ m. number_of (record_of (superseding_of m byte whole byte))) ++ (number_of (record_of (superseding_of whole byte shorter byte)) ∷ []))
+    ∷ (at_short_masks (λ m. number_of (record_of (superseding_of m byte whole byte)))
+    ++ (number_of (record_of (superseding_of whole byte shorter byte)) ∷ []))
     ∷ []
 
 -- the numbers but 7

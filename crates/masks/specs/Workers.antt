@@ -2,7 +2,8 @@
 -- believed. Assumes nothing.
 use Rattle.masks.specs.declared.refusal.Refusal.{Refusal}
 use Rattle.masks.specs.declared.refusal.Refusal.TheVariants.{WrongRecount}
-use Rattle.std.specs.Prelude.{◌≡◌, refl, ℕ, ◌+◌, ◌-◌, ◌*◌, ◌/◌, ◌%◌, ◌≤◌, ◌<◌, Bool, true, false, cond, ◌&&◌, ◌||◌, List, ◌++◌, eqb, leb, take, Option, Some, None, Result, Ok, Err}
+use Rattle.std.specs.Prelude.{◌≡◌, refl, ℕ, ◌+◌, ◌-◌, ◌*◌, ◌/◌, ◌%◌, ◌≤◌, ◌<◌, Bool, true, false, cond, ◌&&◌, ◌||◌, List, ◌++◌, eqb, leb}
+use Rattle.std.specs.Prelude.{take, Option, Some, None, Result, Ok, Err}
 use Rattle.words.specs.Flags.{bits, count, word_flags}
 use Rattle.words.specs.Loops.{stretch}
 use Rattle.masks.specs.Bitmask.{window_word}
@@ -33,7 +34,8 @@ suffix_flags s = take s.suffix_len (word_flags s.suffix)
 unfoldable pub split_flags : List ℕ → AlignedBitmapSlice → List Bool
 split_flags bytes s = prefix_flags s ++ (bulk_flags bytes s ++ suffix_flags s)
 
-pub parts-in-row : (bytes : List ℕ) (s : AlignedBitmapSlice) → split_flags bytes s ≡ prefix_flags s ++ (bulk_flags bytes s ++ suffix_flags s)
+pub parts-in-row : (bytes : List ℕ) (s : AlignedBitmapSlice)
+    → split_flags bytes s ≡ prefix_flags s ++ (bulk_flags bytes s ++ suffix_flags s)
 unfolding split_flags
 parts-in-row bytes s = refl
 

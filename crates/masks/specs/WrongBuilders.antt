@@ -4,7 +4,8 @@
 use Rattle.std.specs.Prelude.{ℕ, true, List, [], ◌∷◌, ◌++◌, replicate, Some, None}
 use Rattle.words.specs.WrongAnswers.{Tried}
 use Rattle.masks.specs.Answer.{Answer, given, refused}
-use Rattle.masks.specs.Appends.{Append, push_flag, extend_constant, push_word, extend_slice, extend_repeated, extend_bitmap, extend_gather, extend_opt_gather, append_answer, append_bytes, change_answer}
+use Rattle.masks.specs.Appends.{Append, push_flag, extend_constant, push_word, extend_slice, extend_repeated, extend_bitmap, extend_gather}
+use Rattle.masks.specs.Appends.{extend_opt_gather, append_answer, append_bytes, change_answer}
 use Rattle.masks.specs.Builder.{builder_of, new_builder}
 use Rattle.masks.specs.Examples.{first, lent}
 use Rattle.masks.specs.Freeze.{freeze_of, into_opt_validity_of, freeze_bytes}

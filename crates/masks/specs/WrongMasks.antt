@@ -8,7 +8,8 @@ use Rattle.masks.specs.declared.bitmap.Recounted.{Recounted}
 use Rattle.masks.specs.Answer.{Answer, given, refused}
 use Rattle.masks.specs.AtIndex.{and_not_at_of}
 use Rattle.masks.specs.Checks.{earlier, first_failed, output_checks, span_checks}
-use Rattle.masks.specs.Combine.{And, AndNot, Or, OrNot, Xor, pair_of, pair_bytes, not_of, not_bytes, select_of, select_bytes, select_constant_of, select_constant_bytes}
+use Rattle.masks.specs.Combine.{And, AndNot, Or, OrNot, Xor, pair_of, pair_bytes, not_of, not_bytes, select_of, select_bytes}
+use Rattle.masks.specs.Combine.{select_constant_of, select_constant_bytes}
 use Rattle.masks.specs.Compare.{eq_of, edges_of, common_of}
 use Rattle.masks.specs.Examples.{first, lent}
 use Rattle.masks.specs.Mask.{mask_checks, mask_of, empty_mask, try_new_of, new_zeroed_of, new_zeroed_bytes, unset_bits_of, slice_of}
@@ -184,16 +185,20 @@ pub record WrongMasks : Type 0 where
       -- the start kept
       (given (mask_of 2 4 None), first 0x0A)
   -- `select` by 1,1,0,0 from 1,0,1,0 and 1,1,1,1
-  pub select : Tried {A = Written}
-      (select_of left left_bytes right right_bytes ones ones_bytes (lent 8), select_bytes left left_bytes right right_bytes ones ones_bytes (lent 8))
+  pub select : Tried {A = Written} (
+    select_of left left_bytes right right_bytes ones ones_bytes (lent 8),
+    select_bytes left left_bytes right right_bytes ones ones_bytes (lent 8),
+  )
       (four None (first 0x0D))
       -- the two masks exchanged
       (four None (first 0x07))
       -- the selector's own flags
       (four None (first 0x03))
   -- `select_constant` by 1,1,0,0 from 1,0,1,0 and ones
-  pub select_constant : Tried {A = Written}
-      (select_constant_of left left_bytes right right_bytes true (lent 8), select_constant_bytes left left_bytes right right_bytes true (lent 8))
+  pub select_constant : Tried {A = Written} (
+    select_constant_of left left_bytes right right_bytes true (lent 8),
+    select_constant_bytes left left_bytes right right_bytes true (lent 8),
+  )
       (four None (first 0x0D))
       -- the constant inverted
       (four None (first 0x01))

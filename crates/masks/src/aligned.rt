@@ -1,12 +1,12 @@
 // The aligned split of a span: prefix, whole words, suffix.
-ghost use Rattle.std.specs.Prelude.{◌≡◌, ◌+◌, ◌*◌, ◌≤◌, ◌<◌, length};
+ghost use Rattle.std.specs.Prelude.{◌≡◌, ◌*◌, ◌≤◌, length};
 ghost use Rattle.masks.specs.Answer.{answer};
 ghost use Rattle.masks.specs.Refusal.{failure_of};
 ghost use Rattle.masks.specs.Aligned.{aligned_of, aligned_checks, aligned_split, prefix_length, bulk_start_of, bulk_offset};
 ghost use Rattle.masks.specs.Checks.{first_failed, limit};
 
 use crate::checks::{check_address, check_span};
-use crate::refusal::{Refusal, earlier};
+use crate::refusal::Refusal;
 use crate::span::flags_word;
 
 // A span's flags in three parts: a word of prefix flags, whole words that begin at a byte, and a word of suffix flags. The
@@ -53,7 +53,8 @@ pub(crate) fn check_aligned(
 ) -> Result<(), Refusal>
     ensures { failure_of result ≡ first_failed (aligned_checks start length size address) }
 {
-    earlier(check_span(start, length, size), check_address(address))
+    check_span(start, length, size)?;
+    check_address(address)
 }
 
 // A span whose numbers can be added up, and the address of its first byte modulo 8.

@@ -10,10 +10,11 @@ ghost use Rattle.masks.specs.Mask.{new_zeroed_bytes, new_zeroed_of, slice_of, tr
 ghost use Rattle.masks.specs.Mask.{cut_mask, mask_of, mask_under, with_count};
 ghost use Rattle.masks.specs.Workers.{cut_of, outside, recounted_of, PieceAllowed};
 
-use crate::checks::{check_mask, check_output, check_span, sum_at_most, within_limit};
+use crate::checks::{check_limit, check_mask, check_output, check_span, sum_at_most};
 use crate::frozen::fill_frozen;
 use crate::refusal::{Refusal, Refused, check, earlier};
 use crate::span::Lent;
+use words::flags::Flags;
 
 // A mask: a span of its bytes, its zero count where it is known, and the serial of the revocation list that it was drawn up under. The
 // Rust's `Bitmap` with a serial.
@@ -48,8 +49,8 @@ impl Bitmap {
         ensures answer { answer result ≡ new_zeroed_of length out.old }
         ensures bytes { out.new ≡ new_zeroed_bytes length out.old }
     {
-        let room = check_output(length, out.len());
-        earlier(check(Refusal::OverLimit, within_limit(length)), room)?;
+        check_limit(length)?;
+        check_output(length, out.len())?;
         fill_frozen(false, length, out);
         Ok(mask_of(0, length, Some(length)))
     }
@@ -85,6 +86,16 @@ impl Bitmap {
         })
     }
 
+    // Its flags, as the combinations take an operand.
+    pub(crate) fn flags<'a>(self, bytes: &'a [u8]) -> Flags<'a>
+        ensures { (result.bytes.now ≡ bytes.now) × (result.start ≡ self.start) }
+    {
+        Flags {
+            bytes,
+            start: self.start,
+        }
+    }
+
     // Returns the `length` flags starting at `offset`.
     pub fn slice(
         self,
@@ -101,7 +112,7 @@ impl Bitmap {
     }
 }
 
-// The one place where a mask's record is made, under its serial.
+// Makes a mask's record from its parts, under a serial.
 pub(crate) fn mask_under(serial: u32, start: usize, length: usize, unset: Option<usize>) -> Bitmap
     ensures { result ≡ mask_under serial start length unset }
 {
@@ -154,8 +165,8 @@ fn check_piece(mask: Bitmap, bytes: &[u8], offset: usize, length: usize) -> Resu
         Refusal::OverLimit,
         sum_at_most(mask.start, offset, Bitmap::LIMIT),
     );
-    let short = check(Refusal::OverLimit, within_limit(length));
-    let near = check(Refusal::OverLimit, within_limit(offset));
+    let short = check_limit(length);
+    let near = check_limit(offset);
     let piece = earlier(near, earlier(short, earlier(starts, inside)));
     earlier(check_mask(mask, bytes), piece)
 }
@@ -174,11 +185,7 @@ impl Lent<'_> {
         ensures { result ≡ outside self.now.bytes.now self.now.start self.now.length offset n }
     {
         let end = offset + n;
-        let before = Lent {
-            bytes: self.bytes,
-            start: self.start,
-            length: offset,
-        };
+        let before = self.front(offset);
         let behind = Lent {
             bytes: self.bytes,
             start: self.start + offset + n,
@@ -214,14 +221,10 @@ fn cut_count(mask: Bitmap, bytes: &[u8], offset: usize, n: usize) -> Result<Opti
 fn recount(zeros: usize, cut: usize, length: usize) -> Result<Option<usize>, Refusal>
     ensures { result ≡ recounted_of zeros cut length }
 {
-    if zeros < cut {
-        return Err(Refusal::WrongRecount);
+    match zeros.checked_sub(cut) {
+        Some(rest) if rest <= length => Ok(Some(rest)),
+        _ => Err(Refusal::WrongRecount),
     }
-    let rest = zeros - cut;
-    if length < rest {
-        return Err(Refusal::WrongRecount);
-    }
-    Ok(Some(rest))
 }
 
 // Returns the count of a slice that is not recounted: still known if the mask was all ones or all zeros, else unknown.

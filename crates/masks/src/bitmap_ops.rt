@@ -1,11 +1,11 @@
 // The combinations: flag by flag into a lent output, as frozen bytes. Spans start at any bit.
-ghost use Rattle.std.specs.Prelude.{◌≡◌, [], ◌∷◌, max};
+ghost use Rattle.std.specs.Prelude.{◌≡◌, [], ◌∷◌};
 ghost use Rattle.words.specs.declared.ops.Op.TheVariants.{And, AndNot, Or, OrNot, Xor};
 ghost use Rattle.masks.specs.Answer.{answer};
 ghost use Rattle.masks.specs.Refusal.{failure_of};
 ghost use Rattle.masks.specs.Checks.{first_failed};
-ghost use Rattle.masks.specs.Combine.{pair_bytes, pair_checks, pair_of, not_bytes, not_checks, not_of, select_bytes, select_checks, select_constant_bytes};
-ghost use Rattle.masks.specs.Combine.{largest_serial, select_constant_of, select_of};
+ghost use Rattle.masks.specs.Combine.{pair_bytes, pair_checks, pair_of, not_bytes, not_checks, not_of, select_bytes, select_checks};
+ghost use Rattle.masks.specs.Combine.{largest_serial, select_constant_bytes, select_constant_of, select_of};
 ghost use Rattle.masks.specs.Mask.{mask_under};
 
 use crate::bitmap::{Bitmap, mask_under, not_counted};
@@ -13,10 +13,9 @@ use crate::checks::{check_mask, check_output};
 use crate::frozen::{combine_frozen, select_frozen, write_result};
 use crate::refusal::{Refusal, check, earlier};
 use crate::shortcuts::{pair_shortcut, result_count};
-use words::flags::Flags;
 use words::ops::Op;
 
-// The record of a result of n flags, made here alone: `result_mask` at the largest serial of the masks combined.
+// Makes the record of a result of n flags, under the largest serial of its masks.
 fn result_mask(serial: u32, n: usize, unset: Option<usize>) -> Bitmap
     ensures { result ≡ mask_under serial 0 n unset }
 {
@@ -67,14 +66,8 @@ fn combine_two(
     ensures bytes { out.new ≡ pair_bytes op lhs left.now rhs right.now out.old }
 {
     check_pair(lhs, left, rhs, right, out.len())?;
-    let a = Flags {
-        bytes: left,
-        start: lhs.start,
-    };
-    let b = Flags {
-        bytes: right,
-        start: rhs.start,
-    };
+    let a = lhs.flags(left);
+    let b = rhs.flags(right);
     let by = pair_shortcut(op, lhs, left, rhs, right);
     let n = lhs.length;
     write_result(by, op, &a, &b, n, out);
@@ -156,8 +149,8 @@ pub fn xor(
 fn check_not(mask: Bitmap, bytes: &[u8], size: usize) -> Result<(), Refusal>
     ensures { failure_of result ≡ first_failed (not_checks mask bytes.now size) }
 {
-    let room = check_output(mask.length, size);
-    earlier(check_mask(mask, bytes), room)
+    check_mask(mask, bytes)?;
+    check_output(mask.length, size)
 }
 
 // Writes the inverted flags of a mask.
@@ -167,10 +160,7 @@ pub fn not(mask: Bitmap, bytes: &[u8], out: &mut [u8]) -> Result<Bitmap, Refusal
 {
     check_not(mask, bytes, out.len())?;
     let n = mask.length;
-    let own = Flags {
-        bytes,
-        start: mask.start,
-    };
+    let own = mask.flags(bytes);
     combine_frozen(Op::Not, &own, &own, &own, n, out);
     let unset = not_counted(n);
     Ok(result_mask(mask.serial, n, unset))
@@ -213,18 +203,9 @@ pub fn select(
 {
     check_select(selector, by, truthy, yes, falsy, no, out.len())?;
     let n = selector.length;
-    let a = Flags {
-        bytes: by,
-        start: selector.start,
-    };
-    let b = Flags {
-        bytes: yes,
-        start: truthy.start,
-    };
-    let c = Flags {
-        bytes: no,
-        start: falsy.start,
-    };
+    let a = selector.flags(by);
+    let b = truthy.flags(yes);
+    let c = falsy.flags(no);
     combine_frozen(Op::Select, &a, &b, &c, n, out);
     let unset = not_counted(n);
     let serial = select_serial(selector, truthy, falsy);
@@ -245,14 +226,8 @@ pub fn select_constant(
 {
     check_pair(selector, by, truthy, yes, out.len())?;
     let n = selector.length;
-    let a = Flags {
-        bytes: by,
-        start: selector.start,
-    };
-    let b = Flags {
-        bytes: yes,
-        start: truthy.start,
-    };
+    let a = selector.flags(by);
+    let b = truthy.flags(yes);
     select_frozen(&a, &b, flag, n, out);
     let unset = not_counted(n);
     let serial = pair_serial(selector, truthy);

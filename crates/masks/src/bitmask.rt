@@ -123,7 +123,7 @@ impl Lent<'_> {
     }
 
     // The flags below `end`.
-    fn front(self, end: usize) -> Self
+    pub(crate) fn front(self, end: usize) -> Self
         requires { end ≤ self.length }
         ensures { (result.bytes.now ≡ self.entry.bytes.now) × ((result.start ≡ self.entry.start) × (result.length ≡ end)) }
     {
@@ -186,14 +186,7 @@ impl Lent<'_> {
         requires { (from ≤ self.length + 32) × (self.length ≤ from + 32) }
         ensures { result ≡ nth_from (stretch self.entry.bytes.now self.entry.start self.entry.length) n from }
     {
-        let seen = nth_in_window(self.window(from), n);
-        match seen {
-            Ok(i) => {
-                let position = from + i;
-                Some(position)
-            }
-            Err(_) => None,
-        }
+        nth_in_window(self.window(from), n).ok().map(|i| from + i)
     }
 
     // As `pass_windows`, down from `end` to the first 63 flags. A window above these is taken from the eight bytes that end with its
@@ -253,7 +246,8 @@ impl Lent<'_> {
     }
 }
 
-// What the word answers, at the width of a position: the searches count no flag themselves. No word of 32 flags has one numbered 32.
+// What the word answers, at the width of a position. A rule of the project: the number of a window's flags is read off the word's answer,
+// so that a wrong one shows in the searches (tests/copies/missing_carries_zero.edit). No word of 32 flags has one numbered 32.
 fn nth_in_window(w: u32, n: usize) -> Result<usize, usize>
     ensures { result ≡ nth_one (bits 32 w) n }
 {
@@ -268,20 +262,12 @@ fn nth_in_window(w: u32, n: usize) -> Result<usize, usize>
 fn ones_in_window(w: u32) -> usize
     ensures { result ≡ count (bits 32 w) }
 {
-    let seen = nth_in_window(w, 32);
-    match seen {
-        Ok(i) => i,
-        Err(ones) => ones,
-    }
+    nth_in_window(w, 32).unwrap_or_else(|ones| ones)
 }
 
 fn place_in_window(w: u32, n: usize) -> usize
     requires { n < count (bits 32 w) }
     ensures { result ≡ nth_place (bits 32 w) n }
 {
-    let seen = nth_in_window(w, n);
-    match seen {
-        Ok(i) => i,
-        Err(ones) => ones,
-    }
+    nth_in_window(w, n).unwrap_or_else(|ones| ones)
 }

@@ -2,10 +2,9 @@
 ghost use Rattle.std.specs.Prelude.{◌≡◌, List, ℕ, ◌≤◌, ◌-◌, ◌%◌, length, take};
 ghost use Rattle.words.specs.Flags.{word_flags};
 ghost use Rattle.masks.specs.Refusal.{failure_of};
-ghost use Rattle.masks.specs.Answer.{answer, answer_back};
+ghost use Rattle.masks.specs.Answer.{answer_back};
 ghost use Rattle.masks.specs.Appends.{append_answer, append_bytes, change_answer, push_flag, push_word};
 ghost use Rattle.masks.specs.Builder.{builder_under, new_builder, rebuilt, filling, appended};
-ghost use Rattle.masks.specs.declared.builder.BitmapBuilder.{BitmapBuilder};
 ghost use Rattle.masks.specs.Freeze.{all_ones, frozen_mask, freeze_bytes, freeze_of, frozen_over, into_opt_validity_of};
 ghost use Rattle.masks.specs.Workers.{Inside, Room};
 
@@ -17,7 +16,7 @@ use words::word::{constant_word, down, low_flags, ones_in_word, store_whole, up}
 
 // The length, the word in progress, the ones in the finished words, and the serial that its mask will have. The Rust's
 // `BitmapBuilder` with a serial, its buffer lent beside it.
-#[derive(Clone, Copy, PartialEq, Eq, Debug)]
+#[derive(Clone, Copy, PartialEq, Eq, Debug, Default)]
 pub struct BitmapBuilder {
     pub length: usize,
     pub word: u64,
@@ -29,7 +28,7 @@ impl BitmapBuilder {
     pub fn new() -> Self
         ensures { result ≡ new_builder }
     {
-        builder_under(0, 0, 0, 0)
+        BitmapBuilder::default()
     }
 
     pub fn push(self, buf: &mut [u8], flag: bool) -> Result<BitmapBuilder, Refused<BitmapBuilder>>
@@ -40,8 +39,8 @@ impl BitmapBuilder {
         Ok(push_flags(self, buf, constant_word(flag), 1))
     }
 
-    // The same over the caller's own record. Takes length, word and ones apart, calls the by-value push with them and stores them back;
-    // the caller's serial stays as it is.
+    // The same over the caller's own record. A named form of document 01: length, word and ones are taken apart, pushed by value and
+    // stored back; the serial stays.
     pub fn push_mut(&mut self, buf: &mut [u8], flag: bool) -> Result<(), Refusal>
         ensures answer { change_answer (failure_of result) self.new ≡ append_answer (push_flag flag) self.old buf.old }
         ensures bytes { buf.new ≡ append_bytes (push_flag flag) self.old buf.old }
@@ -97,7 +96,7 @@ impl BitmapBuilder {
     }
 }
 
-// The one place where a builder's record is made, under its serial.
+// Makes a builder's record from its parts, under a serial.
 fn builder_under(serial: u32, length: usize, word: u64, ones: usize) -> BitmapBuilder
     ensures { result ≡ builder_under serial length word ones }
 {

@@ -1,5 +1,5 @@
 // The checks that the calls share. Those that crates above masks put their own checks together from are public.
-ghost use Rattle.std.specs.Prelude.{◌≡◌, cond, ◌&&◌, [], ◌∷◌, ◌++◌, ◌+◌, ◌*◌, ◌≤◌, eqb, leb};
+ghost use Rattle.std.specs.Prelude.{◌≡◌, cond, ◌&&◌, [], ◌∷◌, ◌++◌, ◌+◌, ◌≤◌, eqb, leb};
 ghost use Rattle.masks.specs.Refusal.{failure_of};
 ghost use Rattle.masks.specs.Checks.{first_failed, limit, check, within_limit, span_checks, address_checks, output_checks};
 ghost use Rattle.masks.specs.Mask.{count_valid, mask_checks};
@@ -25,12 +25,12 @@ pub fn check_span(start: usize, length: usize, size: usize) -> Result<(), Refusa
     ensures { failure_of result ≡ first_failed (span_checks start length size) }
 {
     // `&`: one branch for both, in every check of a mask.
-    let short = within_limit(start) & within_limit(length);
-    if short {
-        let end = (start + length).div_ceil(8);
-        return check(Refusal::PastBytes, end <= size);
-    }
-    Err(Refusal::OverLimit)
+    check(
+        Refusal::OverLimit,
+        within_limit(start) & within_limit(length),
+    )?;
+    let end = (start + length).div_ceil(8);
+    check(Refusal::PastBytes, end <= size)
 }
 
 pub(crate) fn check_address(address: usize) -> Result<(), Refusal>
@@ -60,8 +60,7 @@ fn count_valid(mask: Bitmap, bytes: &[u8]) -> bool
     requires { (mask.start ≤ limit) × (mask.length ≤ limit) }
     ensures { result ≡ count_valid mask bytes.now }
 {
-    let unset = mask.unset;
-    match unset {
+    match mask.unset {
         Some(z) => count_is(z, &bytes[0..], mask.start, mask.length),
         None => true,
     }
@@ -97,8 +96,8 @@ fn is_possible(b: BitmapBuilder, size: usize) -> bool
     none_from(b.word, b.length % 64) && b.ones <= 64 * whole && 8 * whole <= size
 }
 
-// Of a builder over a buffer of so many bytes, made n flags long. The buffer is tested first: one that holds n flags holds the
-// finished words too, and a call that is not refused makes no number.
+// Makes checks 4 and 9 for a builder made n flags long. The buffer is tested first: one that holds n flags holds the finished words too,
+// and a call that is not refused makes no number.
 fn check_room(b: BitmapBuilder, n: usize, size: usize) -> Result<(), Refusal>
     requires { (n ≤ limit) × (b.length ≤ n) }
     ensures { failure_of result ≡ first_failed (check 4 (possible b size) ∷ output_checks n size) }
@@ -120,7 +119,8 @@ fn check_small(b: BitmapBuilder, size: usize) -> Result<(), Refusal>
     Err(Refusal::ShortOutput)
 }
 
-// Makes checks 1, 4 and 9 for appending `more` flags to a builder.
+// Makes checks 1, 4 and 9 for appending `more` flags to a builder. Speed: by `sum_at_most`, which makes both tests, `freeze` took
+// 1.06 times the instructions and `extend_from_slice` of 40 flags 1.05 times.
 pub(crate) fn check_builder(b: BitmapBuilder, more: usize, size: usize) -> Result<(), Refusal>
     ensures { failure_of result ≡ first_failed (builder_checks b (b.length + more) size) }
 {
@@ -150,10 +150,8 @@ pub(crate) fn check_span_grow(
 pub(crate) fn check_word(word: u64, k: usize) -> Result<(), Refusal>
     ensures { failure_of result ≡ first_failed (within_limit k ∷ check 6 (leb k 64 && none_from word k) ∷ []) }
 {
-    earlier(
-        check(Refusal::OverLimit, within_limit(k)),
-        check(Refusal::Outside, k <= 64 && none_from(word, k)),
-    )
+    check_limit(k)?;
+    check(Refusal::Outside, k <= 64 && none_from(word, k))
 }
 
 // Makes check 1 on a stated length.
@@ -167,11 +165,7 @@ pub(crate) fn check_limit(n: usize) -> Result<(), Refusal>
 pub(crate) fn check_inner(start: usize, n: usize, whole: usize) -> Result<(), Refusal>
     ensures { failure_of result ≡ first_failed (inner_checks start n whole) }
 {
-    earlier(
-        check(Refusal::OverLimit, within_limit(start)),
-        earlier(
-            check(Refusal::OverLimit, within_limit(n)),
-            check(Refusal::Outside, sum_at_most(start, n, whole)),
-        ),
-    )
+    check_limit(start)?;
+    check_limit(n)?;
+    check(Refusal::Outside, sum_at_most(start, n, whole))
 }

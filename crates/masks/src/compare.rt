@@ -12,20 +12,16 @@ use words::counts::{count_ones_of, equal};
 use words::flags::Flags;
 use words::ops::Op;
 
-// Returns whether two masks have the same length and flags.
+// Returns whether two masks have the same length and flags. Compiled into its callers: as a function of its own 40 flags took 32
+// instructions more.
+#[inline(always)]
 pub fn eq(lhs: Bitmap, left: &[u8], rhs: Bitmap, right: &[u8]) -> Result<bool, Refusal>
     ensures { answer result ≡ eq_of lhs left.now rhs right.now }
 {
     earlier(check_mask(lhs, left), check_mask(rhs, right))?;
     let n = lhs.length;
-    let a = Flags {
-        bytes: left,
-        start: lhs.start,
-    };
-    let b = Flags {
-        bytes: right,
-        start: rhs.start,
-    };
+    let a = lhs.flags(left);
+    let b = rhs.flags(right);
     Ok(n == rhs.length && equal(&a, &b, n))
 }
 
@@ -74,13 +70,7 @@ pub fn num_intersections_with(
     let same = check(Refusal::UnequalLengths, lhs.length == rhs.length);
     let second = check_mask(rhs, right);
     earlier(check_mask(lhs, left), earlier(second, same))?;
-    let a = Flags {
-        bytes: left,
-        start: lhs.start,
-    };
-    let b = Flags {
-        bytes: right,
-        start: rhs.start,
-    };
+    let a = lhs.flags(left);
+    let b = rhs.flags(right);
     Ok(count_ones_of(Op::And, &a, &b, &b, lhs.length))
 }

@@ -1,15 +1,13 @@
-// What all cursors share. A cursor is a span and the next place in it: document 01's walk.
+// What all cursors share. A cursor is a span and the next place in it: document 01's walk. Each of the Rust's four cursors has a struct of
+// its own. `moved` stands in three: a generic one would need a trait with the same line in each impl.
 ghost use Rattle.std.specs.Prelude.{◌≡◌};
 ghost use Rattle.masks.specs.Refusal.{failure_of};
 ghost use Rattle.masks.specs.Checks.{first_failed};
 ghost use Rattle.masks.specs.Cursor.{cursor_checks};
 
 use crate::checks::check_span;
-use crate::refusal::{Refusal, check, earlier};
+use crate::refusal::{Refusal, check};
 
-// The cursors' own structs stay four, as the Rust names them, and `moved` is a method of three: one generic `moved` would ask for a
-// trait that each implements by that line, `Self { place, ..self }`.
-//
 // What a cursor gives: an item and the cursor just past it, or none and where the cursor then stands.
 #[derive(Clone, Copy, PartialEq, Eq, Debug)]
 pub struct Step<T, C> {
@@ -25,8 +23,6 @@ pub(crate) fn check_cursor(
 ) -> Result<(), Refusal>
     ensures { failure_of result ≡ first_failed (cursor_checks start length place size) }
 {
-    earlier(
-        check_span(start, length, size),
-        check(Refusal::Outside, place <= length),
-    )
+    check_span(start, length, size)?;
+    check(Refusal::Outside, place <= length)
 }

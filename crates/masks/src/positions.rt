@@ -1,6 +1,6 @@
 // Many positions of ones at once, written to a lent output: for whoever wants them all, since a call for each costs more than what
 // it does.
-ghost use Rattle.std.specs.Prelude.{◌≡◌, true, List, ℕ, ◌+◌, ◌*◌, ◌≤◌, ◌<◌, min, length as list_length};
+ghost use Rattle.std.specs.Prelude.{◌≡◌, true, List, ℕ, ◌+◌, ◌*◌, ◌≤◌, min, length as list_length};
 ghost use Rattle.words.specs.Flags.{copies, over, word_flags};
 ghost use Rattle.words.specs.Loops.{stretch};
 ghost use Rattle.masks.specs.Answer.{answer_back};
@@ -35,9 +35,8 @@ fn write_run(out: &mut [u32], at: usize, first: usize, n: usize)
     write_row(&mut out[at..end], first);
 }
 
-// The positions of a word's ones behind those written, as many as there is room for: run by run, since ones that stand side by side
-// are written without a look at each. The word's first flag is number `first`. A `loop`, since a turn moves by what it finds
-// (`zeros + ones`), and carries three values.
+// Writes the positions of a word's ones behind those written, as many as fit. A run is written as a whole, with no test of each flag. The
+// word's first flag is number `first`. A `loop`, since a turn moves by what it finds (`zeros + ones`), and carries three values.
 fn write_word(out: &mut [u32], done: usize, word: u64, first: usize) -> usize
     requires { (done ≤ list_length out.old) × (first ≤ limit) }
     ensures count { result ≡ min (list_length out.old) (done + list_length (ones_from first (word_flags word))) }
@@ -106,7 +105,8 @@ fn write_positions(cursor: TrueIdxIter, bytes: &[u8], out: &mut [u32]) -> usize
     n
 }
 
-// Returns the place of a cursor that has written `count` positions to `out`. `as`, since `usize` has no `From` of a u32.
+// Returns the place of a cursor that has written `count` positions to `out`. `as`, since `usize` has no `From` of a u32. Speed: by `last`
+// and `map_or` `next_chunk` took 1.04 times the instructions.
 fn place_behind(cursor: TrueIdxIter, out: &[u32], count: usize) -> usize
     requires { count ≤ list_length out.now }
     ensures { (old left : List ℕ) → out.now ≡ over old left → count ≡ min (list_length old) (list_length left)

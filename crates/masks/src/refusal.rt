@@ -102,7 +102,8 @@ impl<S> fmt::Display for Refused<S> {
     }
 }
 
-// Returns the refusal of two checks that comes first in their order.
+// Returns the refusal of two checks that comes first in their order. It joins checks where one made later may be put first, as check 1 of
+// a second mask before check 3 of the first. Where each comes behind those made before it, a call uses `?`.
 pub fn earlier(a: Result<(), Refusal>, b: Result<(), Refusal>) -> Result<(), Refusal>
     ensures { failure_of result ≡ earlier_of (failure_of a) (failure_of b) }
 {

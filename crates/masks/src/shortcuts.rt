@@ -1,5 +1,5 @@
-// What the zero counts of two masks say of their combination: nothing, or that all its flags are this one. A count that is unknown is
-// not made for it: whether a mask is constant is mostly decided by its first word.
+// What the zero counts of two masks say of their combination: nothing, or that all its flags are this one. An unknown count is not
+// computed for this: the first word mostly shows that a mask is not constant.
 ghost use Rattle.std.specs.Prelude.{◌≡◌, not};
 ghost use Rattle.words.specs.declared.ops.Op.TheVariants.{Xor};
 ghost use Rattle.masks.specs.Combine.{pair_shortcut, result_count};
@@ -21,8 +21,7 @@ fn zeros_of_all(flag: bool, n: usize) -> usize
 fn is_all(flag: bool, mask: Bitmap, bytes: &[u8]) -> bool
     ensures { result ≡ is_all flag mask bytes.now }
 {
-    let unset = mask.unset;
-    match unset {
+    match mask.unset {
         Some(zeros) => zeros == zeros_of_all(flag, mask.length),
         None => all_flags(flag, bytes, mask.start, mask.length),
     }
@@ -33,8 +32,7 @@ fn is_all(flag: bool, mask: Bitmap, bytes: &[u8]) -> bool
 fn is_all_early(flag: bool, mask: Bitmap, bytes: &[u8]) -> bool
     ensures { result ≡ is_all flag mask bytes.now }
 {
-    let unset = mask.unset;
-    match unset {
+    match mask.unset {
         Some(zeros) => zeros == zeros_of_all(flag, mask.length),
         None => {
             !other_early(flag, bytes, mask.start, mask.length)

@@ -39,9 +39,9 @@ fn all_ones(byte: u8, bit: usize, left: usize) -> bool
     }
 }
 
-// Finds the first run of ones from `place` on: over bytes and, inside them, over bits, both left at the run's end. Passes over a byte
-// of ones at once, and over a zero before the run. Where there is no run it is empty, at the length. The two loops are the walk of document
-// 01, a named form.
+// Finds the first run of ones from `place` on, byte by byte and, inside a byte, bit by bit; the end of the run leaves both loops. Passes
+// over a byte of ones at once, and over a zero before the run. Where there is no run it is empty, at the length. The two loops are the
+// walk of document 01, a named form.
 fn run_from(span: Lent, place: usize) -> Run
     requires { place ≤ span.length }
     ensures { result ≡ first_run (stretch span.entry.bytes.now span.entry.start span.entry.length) place }

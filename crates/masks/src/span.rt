@@ -1,5 +1,5 @@
 // Words of a span, and how many flags alike stand next in it.
-ghost use Rattle.std.specs.Prelude.{false, ◌≡◌, ◌+◌, ◌*◌, ◌≤◌, min, length as list_length};
+ghost use Rattle.std.specs.Prelude.{false, ◌≡◌, ◌+◌, ◌*◌, ◌≤◌, length as list_length};
 ghost use Rattle.words.specs.Flags.{word_of};
 ghost use Rattle.words.specs.Loops.{stretch};
 ghost use Rattle.masks.specs.Checks.{limit};
@@ -66,8 +66,8 @@ pub(crate) fn leading_from(
     leading_by_words(flag, bytes, start, length, place)
 }
 
-// The same of zeros, for the cursors that look for a one: it is mostly among the flags of one load, or these are the last, and the
-// rest is left to `leading_from`, so that this stands in the body of its caller.
+// The same for zeros, for cursors that look for a one. One load mostly decides; `leading_from` does the rest, so that this is small enough
+// to be inlined.
 pub(crate) fn zeros_from(bytes: &[u8], start: usize, length: usize, place: usize) -> usize
     requires { (start ≤ limit) × ((length ≤ limit) × (place ≤ length)) }
     ensures { result ≡ leading_from false (stretch bytes.now start length) place }

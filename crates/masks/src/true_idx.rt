@@ -8,9 +8,9 @@ ghost use Rattle.masks.specs.Iterator.{leading_from};
 ghost use Rattle.masks.specs.TrueIdx.{true_moved, new_true, new_true_checks, first_true, next_true, true_checks, true_flags};
 
 use crate::bitmap::Bitmap;
-use crate::checks::{check_mask, within_limit};
+use crate::checks::{check_limit, check_mask};
 use crate::cursor::{Step, check_cursor};
-use crate::refusal::{Refusal, Refused, check, earlier};
+use crate::refusal::{Refusal, Refused, check};
 use crate::span::zeros_from;
 
 // A cursor over the flags of a mask or, where there is none, over positions alone. The Rust's `TrueIdxIter`. `masked` stands for an
@@ -26,14 +26,9 @@ pub struct TrueIdxIter {
 fn check_stated(length: usize, mask: Bitmap, bytes: &[u8]) -> Result<(), Refusal>
     ensures { failure_of result ≡ first_failed (new_true_checks length (Some mask) bytes.now) }
 {
-    let own = mask.length;
-    earlier(
-        check(Refusal::OverLimit, within_limit(length)),
-        earlier(
-            check_mask(mask, bytes),
-            check(Refusal::UnequalLengths, length == own),
-        ),
-    )
+    check_limit(length)?;
+    check_mask(mask, bytes)?;
+    check(Refusal::UnequalLengths, length == mask.length)
 }
 
 fn check_new(length: usize, mask: Option<Bitmap>, bytes: &[u8]) -> Result<(), Refusal>
@@ -41,7 +36,7 @@ fn check_new(length: usize, mask: Option<Bitmap>, bytes: &[u8]) -> Result<(), Re
 {
     match mask {
         Some(m) => check_stated(length, m, bytes),
-        None => check(Refusal::OverLimit, within_limit(length)),
+        None => check_limit(length),
     }
 }
 
@@ -70,13 +65,9 @@ pub(crate) fn check_next(cursor: TrueIdxIter, size: usize) -> Result<(), Refusal
     if cursor.masked {
         return check_cursor(cursor.start, cursor.length, cursor.place, size);
     }
-    earlier(
-        check(Refusal::OverLimit, within_limit(cursor.start)),
-        earlier(
-            check(Refusal::OverLimit, within_limit(cursor.length)),
-            check(Refusal::Outside, cursor.place <= cursor.length),
-        ),
-    )
+    check_limit(cursor.start)?;
+    check_limit(cursor.length)?;
+    check(Refusal::Outside, cursor.place <= cursor.length)
 }
 
 // Counts the zeros before the next one. By the cursor's fields, as `zeros_from` is: over a `Lent` `next` with no mask took 1.08 times the

@@ -109,7 +109,8 @@ fn long_run<E: End>(flag: bool, span: &Addressed) -> usize
     Split::new(span).run::<E>(flag)
 }
 
-// The checks, then the short span or any other, as in `count_zeros`.
+// The checks, then the short span or any other. `count_zeros` makes the same tests: one body for both would take the two ways to count as
+// a type parameter, by a trait of its own, where two calls differ.
 fn run_flags<E: End>(
     flag: bool,
     bytes: &[u8],

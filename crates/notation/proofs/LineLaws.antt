@@ -1,5 +1,6 @@
 -- What a step takes of the bytes that are read.
-use Rattle.std.proofs.Common.{◌≡◌, ℕ, ◌+◌, ◌-◌, ◌^◌, ◌<◌, ◌≤◌, min, Bool, true, false, cond, Option, Some, None, List, ◌++◌, length, take, drop, position, nat_lt, ltb-false, refl, sym, ◌∙◌, ap, arith, ◌⊎◌, inl, inr}
+use Rattle.std.proofs.Common.{◌≡◌, ℕ, ◌+◌, ◌-◌, ◌^◌, ◌<◌, ◌≤◌, min, Bool, true, false, cond, Option, Some, None, List, ◌++◌, length, take}
+use Rattle.std.proofs.Common.{drop, position, nat_lt, ltb-false, refl, sym, ◌∙◌, ap, arith, ◌⊎◌, inl, inr}
 use Rattle.std.proofs.lemmas.Bool.{cases_lt}
 use Rattle.std.proofs.lemmas.List.{take-take, take_min, length-take}
 use Rattle.std.proofs.lemmas.List.Sums.{prefix_len-le-length}

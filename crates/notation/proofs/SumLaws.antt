@@ -12,7 +12,8 @@ abbrev pub with_part : Checksum → Bor (List ℕ) → Checksum
 with_part h x = mixed h (word_of x.now)
 
 -- a run of parts of eight bytes is taken in as the bytes that it begins with are
-pub parts-taken : (items : List (Bor (List ℕ))) (s t : Chunks ℕ) (h : Checksum) → chunks_size s ≡ 8 → Yields chunks_steps s items t → fold with_part h items ≡ parts_mixed (length items) h (chunks_rest s)
+pub parts-taken : (items : List (Bor (List ℕ))) (s t : Chunks ℕ) (h : Checksum) → chunks_size s ≡ 8 → Yields chunks_steps s items t
+    → fold with_part h items ≡ parts_mixed (length items) h (chunks_rest s)
 parts-taken [] s t h e y = refl
 parts-taken (x ∷ items) s t h e (j, st, y) =
     let long : length x.now ≡ min 8 (length (chunks_rest s)) = st.1.1 ∙ ap (λ n. min n (length (chunks_rest s))) e in

@@ -15,7 +15,12 @@ pub data Said : Type 0 where
 
 -- the letters x, y, z, o and i
 abbrev pub letter_of : ℕ → Option Letter
-letter_of b = if b == 120 then Some X else (if b == 121 then Some Y else (if b == 122 then Some Z else (if b == 111 then Some O else (if b == 105 then Some I else None))))
+letter_of b =
+    if b == 120 then Some X else
+    (if b == 121 then Some Y else
+    (if b == 122 then Some Z else
+    (if b == 111 then Some O else
+    (if b == 105 then Some I else None))))
 
 -- the pieces behind a letter
 abbrev pub pieces_lent : Option Letter → List ℕ → Option Said

@@ -15,7 +15,7 @@ pub enum Token {
     Missing,
 }
 
-// One impl for each type of number: one over `T: Into<u64>` is refused beside those of `usize` and `bool`, as it might fit these too.
+// One impl for each type: one over `T: Into<u64>` for all but `usize` is refused beside that of `usize`, which might come to fit it.
 impl From<u64> for Token {
     ghost from_gives = { λ n t. t ≡ Number n };
 

@@ -1,4 +1,5 @@
-// The arguments of one call: numbers, how many bytes and numbers are lent, and the serials of the records among them.
+// The arguments of one call: numbers, how many bytes and numbers are lent, and the serials of the records among them. The conversions of
+// this file are `as`: to `usize`, which has no `From` of a u64, and to the low 32 bits.
 ghost use Rattle.std.specs.Prelude.{◌≡◌, ◌%◌, ◌^◌};
 ghost use Rattle.notation.specs.Arguments.{count_at, number_at, low_at, flag_at, serial_at};
 
@@ -66,8 +67,7 @@ impl Arguments {
         }
     }
 
-    // Argument i as a zero count, None if it is not known. The conversions of this file are `as`: to `usize`, which has no `From` of a u64,
-    // and to the low 32 bits.
+    // Argument i as a zero count, None if it is not known.
     pub fn count(&self, i: usize) -> Option<usize>
         ensures { result ≡ count_at self.now i }
     {
@@ -109,7 +109,8 @@ impl Arguments {
     }
 }
 
-fn low(n: u64) -> u32
+// The low 32 bits.
+pub(crate) fn low(n: u64) -> u32
     ensures { result ≡ n % 2 ^ 32 }
 {
     (n & 0xffff_ffff) as u32

@@ -1,4 +1,4 @@
-// The bytes and the numbers of i: what is done alike with both.
+// What is lent is bytes, or the numbers of i: what is done alike with both.
 ghost use Rattle.std.specs.Prelude.{◌≡◌, OnOk};
 
 use crate::answer::Answer;

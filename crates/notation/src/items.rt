@@ -46,10 +46,7 @@ impl Choice {
     fn is_argument(&self) -> bool
         ensures { result ≡ is_argument self.now }
     {
-        match self.items.last() {
-            Some(item) => item.is_argument(),
-            None => true,
-        }
+        self.items.last().is_none_or(|item| item.is_argument())
     }
 }
 

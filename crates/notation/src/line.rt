@@ -1,7 +1,7 @@
 // A line: what it lends, a request, or nothing. docs/REQUESTS.md says what it means.
 ghost use Rattle.std.specs.Prelude.{◌≡◌, IfErr};
 ghost use Rattle.notation.specs.declared.fault.Fault.TheVariants.{Malformed};
-ghost use Rattle.notation.specs.Line.{said_by, said_of, lettered, letter_of};
+ghost use Rattle.notation.specs.Line.{said_by, said_of, lettered};
 
 use crate::fault::Fault;
 use crate::lent::Letter;

@@ -26,6 +26,9 @@ pub enum Step {
     Last,
 }
 
+// Lines are cut by hand: over `take(..).read_until(..)` the proof of `step` didn't close. At a reader whose bytes are not known, as
+// standard input, the contract of `read_until` says neither what it takes of the buffer nor that it keeps to the limit; and that of
+// `skip_until` does not say whether it met a line feed.
 #[derive(Drop)]
 pub struct Lines<R: Read + Drop> {
     source: BufReader<R>,

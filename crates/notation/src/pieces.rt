@@ -1,5 +1,6 @@
-// Lists of bytes and of numbers, written in pieces. A well-formed list that has more than the room is None, but for one of `*` whose bytes
-// had no room, which is malformed.
+// Lists of bytes and of numbers, written in pieces. A list that has more than the room is None; but `HEX*N` is malformed where no byte
+// of HEX had room.
+use crate::arguments::low;
 use crate::fault::Fault;
 use crate::item::{Item, Role};
 use crate::items::Items;
@@ -94,7 +95,7 @@ fn byte_of(pair: &[u8]) -> Option<u8> {
 }
 
 // Reads the N of `HEX*N` and returns N - 1, the copies behind the first; None if N is 0 or not decimal. The conversions of this file are
-// `as`: to `usize`, which has no `From` of a u64, and to the low 32 bits.
+// `as`: to `usize`, which has no `From` of a u64.
 fn more_times(digits: &[u8]) -> Option<usize> {
     let mut times: u64 = 0;
     for b in digits {
@@ -133,8 +134,7 @@ impl Bounded<u32> {
             Item::Times { number, times } => (number, times),
             _ => return Err(Fault::Malformed),
         };
-        let n = (number & 0xffff_ffff) as u32;
-        self.append(&[n], (times % NUMBER_TIMES) as usize)?;
+        self.append(&[low(number)], (times % NUMBER_TIMES) as usize)?;
         Ok(())
     }
 }

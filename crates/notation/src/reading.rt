@@ -28,20 +28,19 @@ impl<'a> Reading<'a> {
     pub fn read(alloc: Global, line: &'a [u8], last: &Answer) -> Result<Reading<'a>, Fault>
         ensures { IfOk result (λ r. plain_of r.items ≡ r.named.arguments) }
     {
-        let bar = line.iter().position(|b| *b == b'|');
-        let (head, after) = cut(line, bar);
+        let (head, after) = cut(line);
         let (name, rest) = text::split_once(head, b' ').unwrap_or((head, &[]));
         let place = names::place(name).ok_or(Fault::Malformed)?;
         let reading = Reading {
             place,
             named: NAMES.get(place).copied().ok_or(Fault::Malformed)?,
             items: Items::read(alloc, rest, last)?,
-            after,
+            after: after.unwrap_or(&[]),
         };
         if reading.items.plain() != reading.named.arguments {
             return Err(Fault::Malformed);
         }
-        if bar.is_some() != (reading.compared() != Output::Nothing) {
+        if after.is_some() != (reading.compared() != Output::Nothing) {
             return Err(Fault::Malformed);
         }
         Ok(reading)
@@ -67,14 +66,12 @@ impl<'a> Reading<'a> {
     }
 }
 
-// The text before ` |`, and that behind `| `. With no bar, or at its start, all is before it.
-fn cut(line: &[u8], bar: Option<usize>) -> (&[u8], &[u8]) {
-    let Some(bar) = bar else {
-        return (line, &[]);
-    };
-    let head = match bar.checked_sub(1) {
-        Some(end) => line.get(..end).unwrap_or(line),
-        None => line,
-    };
-    (head, line.get(bar.saturating_add(2)..).unwrap_or(&[]))
+// The text before ` |`, and that behind `| ` where there is a bar. With no bar all is before it; with one at the start too, since such a
+// line names no call.
+fn cut(line: &[u8]) -> (&[u8], Option<&[u8]>) {
+    match text::split_once(line, b'|') {
+        None | Some(([], _)) => (line, None),
+        Some(([head @ .., _], [_, after @ ..])) => (head, Some(after)),
+        Some(([head @ .., _], [])) => (head, Some(&[])),
+    }
 }

@@ -141,9 +141,7 @@ fn add_row(rows: &mut [Row], outcome: Outcome)
 {
     let place = outcome.place;
     if place < rows.len() {
-        let mut row = rows[place];
-        row.count.add(outcome.calls, outcome.verdict);
-        rows[place] = row;
+        rows[place].count.add(outcome.calls, outcome.verdict);
     }
 }
 

@@ -7,10 +7,10 @@ use crate::names::Output;
 use crate::outcome;
 use crate::outcome::{Ran, Verdict};
 use crate::reading::Reading;
-use std::io;
+use std::test::Fail;
 
 #[test]
-fn answers_grow(rt: HostRuntime) -> io::Result<()> {
+fn answers_grow(rt: HostRuntime) -> Result<(), Fail> {
     let answer = Answer::new(rt.alloc(), 14)?.and(Token::Unknown)?;
     let wanted = [Token::Number(14), Token::Unknown];
     assert_eq!(rt; answer.as_slice(), wanted.as_slice());
@@ -18,39 +18,29 @@ fn answers_grow(rt: HostRuntime) -> io::Result<()> {
 }
 
 #[test]
-fn lines_are_read(rt: HostRuntime) -> io::Result<()> {
+fn lines_are_read(rt: HostRuntime) -> Result<(), Fail> {
     let text: &[u8] = b"x 00\nfill";
     let mut lines = Lines::new(rt.alloc(), text)?;
-    let mut step = Step::Part;
-    for _ in 0..8 {
-        if step == Step::Part {
-            step = lines.step()?;
-        }
-    }
-    assert_eq!(rt; step, Step::Line);
+    assert_eq!(rt; lines.step()?, Step::Part);
+    assert_eq!(rt; lines.step()?, Step::Line);
     Ok(())
 }
 
 #[test]
-fn requests_are_compared(rt: HostRuntime) -> io::Result<()> {
+fn requests_are_compared(rt: HostRuntime) -> Result<(), Fail> {
     let alloc = rt.alloc();
     let mut last = Last::new(alloc);
     let mut lent = Lent::new(alloc);
-    let taken = lent.take(alloc, Letter::O, b"00*8", &last).is_ok();
-    assert!(rt; taken);
+    lent.take(alloc, Letter::O, b"00*8", &last)?;
     last.restore(Output::Bytes, &lent)?;
     lent.go_on(&last)?;
     assert_eq!(rt; lent.sizes().o, 8);
     let request = b"fill 0 8 = 0 | 00*8";
-    let Ok(reading) = Reading::read(alloc, request, &last.answer) else {
-        return Err(io::Error::from(io::ErrorKind::InvalidData));
-    };
+    let reading = Reading::read(alloc, request, &last.answer)?;
     let mut ran = Ran::new();
     last.answer = Answer::new(alloc, 0)?;
     ran.take(Output::Bytes, &last);
-    match outcome::compare(alloc, &reading, ran, &lent, &last) {
-        Ok(outcome) => assert_eq!(rt; outcome.verdict, Verdict::Same),
-        Err(_) => return Err(io::Error::from(io::ErrorKind::InvalidData)),
-    }
+    let outcome = outcome::compare(alloc, &reading, ran, &lent, &last)?;
+    assert_eq!(rt; outcome.verdict, Verdict::Same);
     Ok(())
 }

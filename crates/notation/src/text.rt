@@ -1,7 +1,7 @@
 // Digits and numbers, and a text cut in two.
 ghost use Rattle.std.specs.Prelude.{◌<◌, IfSome};
 
-// A number with one digit more has been below this, so that it fits.
+// The number before its last digit is below this, so that 16 times it and a digit fit.
 const LIMIT: u64 = 1 << 60;
 
 // The value of a digit, with lower-case letters.

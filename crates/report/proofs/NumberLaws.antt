@@ -39,7 +39,8 @@ use Rattle.report.specs.declared.numbers.Numbers.{Numbers}
 pub whole-flags : (bytes : List ℕ) (n : ℕ) → n ≡ 8 * length bytes → window (flags_of bytes) 0 n ≡ flags_of bytes
 whole-flags bytes n e = ap (window (flags_of bytes) 0) (e ∙ sym (length-flags bytes)) ∙ window-all (flags_of bytes)
 
-pub whole-accepted : (bytes : List ℕ) (n : ℕ) → length bytes ≤ 65536 → n ≡ 8 * length bytes → first_failed (mask_checks (mask_of 0 n None) bytes) ≡ 0
+pub whole-accepted : (bytes : List ℕ) (n : ℕ) → length bytes ≤ 65536 → n ≡ 8 * length bytes
+    → first_failed (mask_checks (mask_of 0 n None) bytes) ≡ 0
 whole-accepted bytes n h e = sym (mask-accepted (mask_of 0 n None) bytes (omega arith) (omega arith) (omega arith) tt)
 
 -- ---- a call whose checks pass is not refused
@@ -71,7 +72,8 @@ numbers-given bytes n z e r h size p q s =
     same_numbers count zero edge run ∙ when-le (length bytes) most (Some (numbers_of (flags_of bytes))) None h
   where
     same_numbers : {n n' z z' e e' r r' : ℕ} → n ≡ n' → z ≡ z' → e ≡ e' → r ≡ r'
-        → ◌≡◌ {A = Option Numbers} (Some (record { flags = n; zeros = z; edges = e; runs = r })) (Some (record { flags = n'; zeros = z'; edges = e'; runs = r' }))
+        → ◌≡◌ {A = Option Numbers} (Some (record { flags = n; zeros = z; edges = e; runs = r }))
+        (Some (record { flags = n'; zeros = z'; edges = e'; runs = r' }))
     same_numbers a b c d = cc
 
 -- ---- a cursor over the flags of a mask, on its way
@@ -115,7 +117,8 @@ step-next : (t : Bool) (r s : Run) (c d e : SlicesIterator) → item r c ≡ con
 step-next true r s c d e p = (refl, cc)
 step-next false r s c d e p = absurd (let z : ◌≡◌ {A = ℕ} 0 1 = cc in omega arith)
 
-module _ (m : Bitmap) (bytes : List ℕ) (c : SlicesIterator) (runs : ℕ) (readable : first_failed (mask_checks m bytes) ≡ 0) (a : RunsCounted m bytes c runs) where
+module _ (m : Bitmap) (bytes : List ℕ) (c : SlicesIterator) (runs : ℕ)
+    (readable : first_failed (mask_checks m bytes) ≡ 0) (a : RunsCounted m bytes c runs) where
   flags-length : length (mask_flags m bytes) ≡ m.length
   flags-length = length-window (flags_of bytes) m.start m.length
 
@@ -137,16 +140,20 @@ module _ (m : Bitmap) (bytes : List ℕ) (c : SlicesIterator) (runs : ℕ) (read
       let l = mask_flags m bytes in
       let first = run_start l c.place in
       let n = leading_from true l first in
-      let seen = step-next (ltb first m.length) r (run_of first n) d (slices_at m.start m.length (first + n)) (slices_at m.start m.length m.length) e in
+      let seen =
+      step-next (ltb first m.length) r (run_of first n) d
+      (slices_at m.start m.length (first + n)) (slices_at m.start m.length m.length) e in
       let run = first_run_lem l c.place (omega (arith, ltb-true first m.length seen.0, flags-length)) in
       let at : d.place ≡ first + n = ap (λ (f : SlicesIterator). f.place) seen.1 in
       (seen.1 ∙ ap (slices_at m.start m.length) (sym at), omega (arith, run.after, run.some), omega (arith, run.inside, flags-length))
 
   -- the runs before the cursor are those of the step
-  left-listed : (s : Step SlicesIterator Run) → s ≡ step → length (runs_left (mask_flags m bytes) c.place) ≡ length (listed (mask_flags m bytes) s)
+  left-listed : (s : Step SlicesIterator Run) → s ≡ step
+      → length (runs_left (mask_flags m bytes) c.place) ≡ length (listed (mask_flags m bytes) s)
   unfolding step
   left-listed s e =
-      ap length (next-lists (slices_at m.start m.length c.place) (mask_flags m bytes) flags-length ∙ ap (listed (mask_flags m bytes)) (sym e))
+      ap length (next-lists (slices_at m.start m.length c.place) (mask_flags m bytes) flags-length
+      ∙ ap (listed (mask_flags m bytes)) (sym e))
 
   pub ok-next : (x : Result (Stepped Run SlicesIterator) (Refused SlicesIterator)) → answer_step x ≡ next_slice c bytes → is_ok x ≡ true
   ok-next (Ok s) e = refl
@@ -166,7 +173,8 @@ module _ (m : Bitmap) (bytes : List ℕ) (c : SlicesIterator) (runs : ℕ) (read
       let taken = given-step x s (Some there.0) e o there.1 in
       let ahead = moved there.0 s.cursor taken in
       let left = left-listed (item there.0 s.cursor) taken in
-      let counted : RunsCounted m bytes s.cursor (runs + 1) = record { over = ahead.0; reached = ahead.2; few = omega (arith, a.few, ahead.1); sum = omega (arith, a.sum, left) } in
+      let counted : RunsCounted m bytes s.cursor (runs + 1) =
+      record { over = ahead.0; reached = ahead.2; few = omega (arith, a.few, ahead.1); sum = omega (arith, a.sum, left) } in
       let short = (cursor-allowed _ _ _ _ (over-mask m bytes c.place readable a.reached)).short in
       (counted, ahead.1, omega (arith, a.few, ahead.1, ahead.2, short))
 

@@ -18,8 +18,7 @@ pub struct Numbers {
     pub runs: usize,
 }
 
-// Returns the number of flags, zeros, edges and runs of ones; none of more bytes than a report takes, a limit of its own, which no
-// check of masks has.
+// Returns the number of flags, zeros, edges and runs of ones. None of more than 65,536 bytes: the report's own limit, no check of masks.
 pub fn report(bytes: &[u8]) -> Option<Numbers>
     ensures { result ≡ report_of bytes.now }
 {
@@ -44,7 +43,7 @@ pub fn report(bytes: &[u8]) -> Option<Numbers>
     })
 }
 
-// Counts the runs by calling the cursor until it has none left.
+// Counts the runs by calling the cursor until it has none left. The cursor is no iterator: it is lent the bytes at each call.
 fn runs_of(mask: Bitmap, bytes: &[u8]) -> usize
     requires { first_failed (mask_checks mask bytes.now) ≡ 0 }
     ensures { result ≡ length (runs_from 0 (mask_flags mask bytes.now)) }

@@ -31,16 +31,16 @@ pub fn run(rt: &(impl io::Input + Print + Eprint)) -> Result<(), Failure> {
     printed
 }
 
-// One byte more is read than a report takes, so that longer input is seen. An array, not a `Vec`: the library has no heap, and a `Vec`
-// would ask the caller of `run` for an allocator.
+// One byte more is read than a report takes, so that longer input is seen. An array, not a `Vec`: with a `Vec` `run` would ask its callers
+// for an allocator, which it does not ask for now, and a change may not ask more of callers.
 fn read_and_print(rt: &(impl io::Input + Print)) -> Result<(), Failure> {
     let mut buf = [0u8; 65537];
     let size = read_to_end(&mut rt.reader(), &mut buf).map_err(|_| Failure::Input)?;
     print(rt, report(&buf[..size])).map_err(|_| Failure::Output)
 }
 
-// Reads until the buffer is full, the input ends or a read fails. A read may give fewer bytes than it could. Of the library's methods
-// `read_exact` tells no number where the input ends early, and `read_to_end` wants a `Vec`.
+// Reads until the buffer is full, the input ends or a read fails. A read may give fewer bytes than it could. It is a loop since of the
+// library's methods `read_exact` tells no count where the input ends early, and `read_to_end` wants a `Vec`.
 fn read_to_end(source: &mut impl Read, buf: &mut [u8]) -> io::Result<usize>
     ensures { ReadsAtMost result buf.new }
 {

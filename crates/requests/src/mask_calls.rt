@@ -1,4 +1,4 @@
-// The calls of the mask: makers, slices, combinations, comparisons.
+// The calls over masks: makers, slices, combinations, comparisons, searches, and those of dispatch.
 use crate::tell::Told;
 use crate::{tell, values};
 use dispatch::dispatch::may_reassign;

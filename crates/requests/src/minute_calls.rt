@@ -40,7 +40,7 @@ fn made(alloc: Global, width: usize, out: &mut [u8]) -> Told {
 }
 
 // A run of minutes, so many: each word is a step more than the one before it. After a refusal no minute is pushed. The minutes are a number
-// and no list, so the loop is over a range; `try_fold` would lose the window that the refused minute left.
+// and no list, so the loop is over a range; `try_fold` would carry the word and the window as a pair through both ends: no plainer.
 fn minutes(alloc: Global, a: &Arguments, many: u64, out: &mut [u8]) -> Told {
     let mut word = a.word(3);
     let mut now = window_of(a, out);

@@ -21,11 +21,7 @@ pub(crate) fn mask(a: &Arguments, i: usize, serial: Serial) -> Bitmap
 pub(crate) fn optional(a: &Arguments, i: usize, serial: Serial) -> Option<Bitmap>
     requires { i ≤ 5 }
 {
-    if a.flag(i) {
-        Some(mask(a, i + 1, serial))
-    } else {
-        None
-    }
+    a.flag(i).then(|| mask(a, i + 1, serial))
 }
 
 // The builder of the first three arguments.

@@ -53,7 +53,8 @@ four-more (w ∷ x ∷ y ∷ z ∷ u ∷ ws) p q a1 a2 b1 b2 c1 c2 h f g k c d =
 adds-from : (k : ℕ) (ps : List ℕ) (w c : ℕ) → c < 64 → k ≤ length ps
     → planes_at (added_from k ps w) c + 2 ^ length ps * digit_of (carry_of (drop k ps) w) c ≡ planes_at ps c + 2 ^ k * digit_of w c
 unfolding added_from planes_at
-adds-from zero ps w c b h = adds ps w c b ∙ (let e : planes_at ps c + digit_of w c ≡ planes_at ps c + 2 ^ 0 * digit_of w c = omega arith in e)
+adds-from zero ps w c b h =
+    adds ps w c b ∙ (let e : planes_at ps c + digit_of w c ≡ planes_at ps c + 2 ^ 0 * digit_of w c = omega arith in e)
 adds-from (suc k) [] w c b h = absurd (omega arith)
 adds-from (suc k) (p ∷ ps) w c b h =
     omega (arith, adds-from k ps w c b (omega arith), doubled (length ps) (digit_of (carry_of (drop k ps) w) c), doubled k (digit_of w c))

@@ -1,5 +1,9 @@
 -- Whether a flag of a list is set, and whether two lists are the same: word by word, with an end at the first that has one.
 -- Assumes nothing.
+use Rattle.std.specs.Bool.{MatchBool}
+use Rattle.std.specs.List.{AllWithin, HoldsAt, range_with_len}
+use Rattle.std.proofs.lemmas.Bool.{true≢false}
+use Rattle.std.proofs.lemmas.List.FromFn.{length-range_with_len, get_or-range_with_len}
 use Rattle.std.proofs.Common.{◌≡◌, refl, sym, ap, ap₂, ◌∙◌, Bool, true, false, not, ◌&&◌, ◌||◌, List, [], ◌∷◌, ◌++◌, ◌⊎◌, inl, inr}
 use Rattle.std.proofs.Common.{⊎_elim, ℕ, zero, suc, ◌+◌, ◌-◌, ◌*◌, ◌^◌, ◌≤◌, ◌<◌, arith, eqb, ltb, length, drop, length-drop, eq-eqb}
 use Rattle.std.proofs.Common.{ne_eqb, lt-ltb, le-ltb, ltb-true, ltb-false}
@@ -61,8 +65,10 @@ any_step Z i v w r inv new op =
     ∙ ap₂ (λ (x y : Bool). x || y) inv (ap any_set (new ∙ ap (λ (x : ℕ). window Z x 64) z))
     ∙ sym (any-add Z 0 (64 * i) 64) ∙ ap (λ (x : ℕ). any_set (window Z 0 x)) n
 
-pub any-all : (Z : List Bool) (i n w : ℕ) → any_set (bits 64 w) ≡ any_set (window Z 0 (64 * i)) → length Z ≡ 64 * n → i ≤ n → n ≤ i → any_set (bits 64 w) ≡ any_set Z
-any-all Z i n w p l h k = let e : 64 * i ≡ length Z = omega arith in p ∙ ap (λ (x : ℕ). any_set (window Z 0 x)) e ∙ ap any_set (window-all Z)
+pub any-all : (Z : List Bool) (i n w : ℕ) → any_set (bits 64 w) ≡ any_set (window Z 0 (64 * i)) → length Z ≡ 64 * n → i ≤ n → n ≤ i
+    → any_set (bits 64 w) ≡ any_set Z
+any-all Z i n w p l h k =
+    let e : 64 * i ≡ length Z = omega arith in p ∙ ap (λ (x : ℕ). any_set (window Z 0 x)) e ∙ ap any_set (window-all Z)
 
 -- ---- a word with a flag set is not zero
 
@@ -110,7 +116,8 @@ pub any-padded : (l : List Bool) (d : ℕ) → length l ≤ d → any_set (windo
 any-padded l d h = any-count (window l 0 d) ∙ ap (ltb 0) (count-padded l d h) ∙ sym (any-count l)
 
 -- at most a word
-pub any-short : (l : List Bool) (len w : ℕ) (t : Bool) → length l ≡ len → len ≤ 64 → bits 64 w ≡ window l 0 64 → t ≡ any_set (bits 64 w) → t ≡ any_set l
+pub any-short : (l : List Bool) (len w : ℕ) (t : Bool) → length l ≡ len → len ≤ 64 → bits 64 w ≡ window l 0 64 → t ≡ any_set (bits 64 w)
+    → t ≡ any_set l
 any-short l len w t e h p q = q ∙ ap any_set p ∙ any-padded l 64 (omega arith)
 
 -- ---- with an end at the first words that have one
@@ -120,13 +127,49 @@ pub any-exit : (Z : List Bool) (k n : ℕ) (t : Bool) → t ≡ any_set (window 
 any-exit Z k n t p e = some-any Z (omega (arith, any_some (window Z k n) (sym e ∙ p), count-inside Z k n))
 
 -- a part that has none
-pub any-more : (Z : List Bool) (m n k : ℕ) (t : Bool) → 0 ≡ count (window Z 0 m) → t ≡ any_set (window Z m n) → t ≡ false → m + n ≡ k → 0 ≡ count (window Z 0 k)
+pub any-more : (Z : List Bool) (m n k : ℕ) (t : Bool) → 0 ≡ count (window Z 0 m) → t ≡ any_set (window Z m n) → t ≡ false → m + n ≡ k
+    → 0 ≡ count (window Z 0 k)
 any-more Z m n k t inv p e h =
     let z : 0 + m ≡ m = omega arith in
     let a : count (window Z 0 (m + n)) ≡ count (window Z 0 m) + count (window Z (0 + m) n) = count_add Z 0 m n in
     let b : count (window Z (0 + m) n) ≡ 0 = ap (λ (x : ℕ). count (window Z x n)) z ∙ any-zero (window Z m n) (sym e ∙ p) in
     let c : 0 ≡ count (window Z 0 (m + n)) = omega arith in
     c ∙ ap (λ (x : ℕ). count (window Z 0 x)) h
+
+-- words side by side, none of which has one
+pub any-passed : (Z : List Bool) (a n : ℕ) → ((k : ℕ) → k < n → false ≡ any_set (window Z (64 * (a + k)) 64))
+    → 0 ≡ count (window Z 0 (64 * a))
+    → 0 ≡ count (window Z 0 (64 * (a + n)))
+any-passed Z a zero none inv =
+    let e : a ≡ a + 0 = omega arith in
+    inv ∙ ap (λ (x : ℕ). count (window Z 0 (64 * x))) e
+any-passed Z a (suc n) none inv =
+    any-more Z (64 * (a + n)) 64 (64 * (a + suc n)) false (any-passed Z a n (λ k h. none k (omega (arith, h))) inv) (none n (omega arith))
+    refl (omega arith)
+
+-- the answer t is that of word i
+abbrev pub Said : List Bool → Bool → ℕ → Type 0
+Said Z t i = t ≡ any_set (window Z (64 * i) 64)
+
+-- what a search of words a to b answers of them
+abbrev pub Among : List Bool → ℕ → ℕ → Bool → Type 0
+Among Z a b r = MatchBool r
+    ((k : ℕ) × (k < length (range_with_len a (b - a))) × HoldsAt (Said Z true) (range_with_len a (b - a)) k)
+    (AllWithin (Said Z false) (range_with_len a (b - a)) 0 (length (range_with_len a (b - a))))
+
+pub any-among : (Z : List Bool) (a b : ℕ) (r : Bool) → Among Z a b r → r ≡ true → true ≡ any_set Z
+any-among Z a b true (k, h, p) e = any-exit Z _ 64 true (p 0) refl
+any-among Z a b false none e = absurd (true≢false (sym e))
+
+pub none-among : (Z : List Bool) (a b : ℕ) (r : Bool) → Among Z a b r → r ≡ false → a ≤ b
+    → 0 ≡ count (window Z 0 (64 * a)) → 0 ≡ count (window Z 0 (64 * b))
+none-among Z a b true some e h inv = absurd (true≢false e)
+none-among Z a b false none e h inv =
+    let m : a + (b - a) ≡ b = omega arith in
+    any-passed Z a (b - a)
+    (λ k l. none k 0 (omega arith) (omega (arith, l, length-range_with_len a (b - a)))
+    ∙ ap (λ (x : ℕ). any_set (window Z (64 * x) 64)) (get_or-range_with_len a (b - a) k 0 l)) inv
+    ∙ ap (λ (x : ℕ). count (window Z 0 (64 * x))) m
 
 -- a list of m flags with none set among the first n, whose flags behind n are one flag, over and over
 pub any_behind : (Z : List Bool) (m n : ℕ) (x t : Bool) → 0 ≡ count (window Z 0 n) → length Z ≡ m
@@ -158,12 +201,14 @@ unfolding any_set same_flags zip3
 same-any [] [] e = refl
 same-any [] (y ∷ b) e = absurd (omega arith)
 same-any (x ∷ a) [] e = absurd (omega arith)
-same-any (x ∷ a) (y ∷ b) e = not-or (xor x y) (any_set (zip3 (λ x y z. xor x y) a b b)) ∙ ap (λ (t : Bool). not (xor x y) && t) (same-any a b (omega arith))
+same-any (x ∷ a) (y ∷ b) e =
+    not-or (xor x y) (any_set (zip3 (λ x y z. xor x y) a b b)) ∙ ap (λ (t : Bool). not (xor x y) && t) (same-any a b (omega arith))
 
 -- a window that reaches the end
 pub any-drop : (l : List Bool) (k n : ℕ) → length l ≤ k + n → any_set (window l k n) ≡ any_set (drop k l)
 any-drop l k n h =
     let z : k ≡ k + 0 = omega arith in
     any-count (window l k n)
-    ∙ ap (ltb 0) (ap (λ (x : ℕ). count (window l x n)) z ∙ ap count (sym (window-drop l k 0 n)) ∙ count-padded (drop k l) n (omega (arith, length-drop k l)))
+    ∙ ap (ltb 0) (ap (λ (x : ℕ). count (window l x n)) z ∙ ap count (sym (window-drop l k 0 n))
+    ∙ count-padded (drop k l) n (omega (arith, length-drop k l)))
     ∙ sym (any-count (drop k l))

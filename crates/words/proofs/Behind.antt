@@ -40,8 +40,10 @@ module _ (f : Bool → Bool → Bool → Bool) (a b c : List ℕ) (p q r len n :
       → x + d ≡ count (zip3 f (window (flags_of a) p len) (window (flags_of b) q len) (window (flags_of c) r len))
   count-finish i x d e h k u =
       let m : i ≡ n = omega arith in
-      count-behind (zip3 f (window (flags_of a) p len) (window (flags_of b) q len) (window (flags_of c) r len)) len (64 * n) x d (f false false false)
-      (e ∙ ap (λ (j : ℕ). count (window (zip3 f (window (flags_of a) p len) (window (flags_of b) q len) (window (flags_of c) r len)) 0 (64 * j))) m)
+      count-behind (zip3 f (window (flags_of a) p len) (window (flags_of b) q len) (window (flags_of c) r len)) len (64 * n) x d
+      (f false false false)
+      (e ∙ ap (λ (j : ℕ). count
+      (window (zip3 f (window (flags_of a) p len) (window (flags_of b) q len) (window (flags_of c) r len)) 0 (64 * j))) m)
       (length-zip f (flags_of a) (flags_of b) (flags_of c) p q r len) u behind
 
   pub any-finish : (i : ℕ) (t : Bool)
@@ -50,6 +52,8 @@ module _ (f : Bool → Bool → Bool → Bool) (a b c : List ℕ) (p q r len n :
       → t ≡ any_set (zip3 f (window (flags_of a) p len) (window (flags_of b) q len) (window (flags_of c) r len))
   any-finish i t e h k u =
       let m : i ≡ n = omega arith in
-      any_behind (zip3 f (window (flags_of a) p len) (window (flags_of b) q len) (window (flags_of c) r len)) len (64 * n) (f false false false) t
-      (e ∙ ap (λ (j : ℕ). count (window (zip3 f (window (flags_of a) p len) (window (flags_of b) q len) (window (flags_of c) r len)) 0 (64 * j))) m)
+      any_behind (zip3 f (window (flags_of a) p len) (window (flags_of b) q len) (window (flags_of c) r len)) len (64 * n)
+      (f false false false) t
+      (e ∙ ap (λ (j : ℕ). count
+      (window (zip3 f (window (flags_of a) p len) (window (flags_of b) q len) (window (flags_of c) r len)) 0 (64 * j))) m)
       (length-zip f (flags_of a) (flags_of b) (flags_of c) p q r len) u behind

@@ -23,7 +23,8 @@ halves n j = shr-shr n 1 j ∙ ap (λ (x : ℕ). n / 2 ^ x) (one-add j)
 pub bits-add : (j k n : ℕ) → bits (j + k) n ≡ bits j n ++ bits k (n / 2 ^ j)
 unfolding bits
 bits-add zero k n = rw zero-add (ap (bits k) (sym (div-one n)))
-bits-add (suc j) k n = rw suc-add (ap (λ (l : List Bool). is_one (n % 2) ∷ l) (bits-add j k (n / 2) ∙ ap (λ (x : ℕ). bits j (n / 2) ++ bits k x) (halves n j)))
+bits-add (suc j) k n =
+    rw suc-add (ap (λ (l : List Bool). is_one (n % 2) ∷ l) (bits-add j k (n / 2) ∙ ap (λ (x : ℕ). bits j (n / 2) ++ bits k x) (halves n j)))
 
 -- fewer bits are the front of more
 pub bits-take : (d k w : ℕ) → k ≤ d → take k (bits d w) ≡ bits k w
@@ -41,7 +42,8 @@ bits-zero (suc d) = ap (λ (l : List Bool). false ∷ l) (bits-zero d)
 pub bits-low : (d a r : ℕ) → bits d (a * 2 ^ d + r) ≡ bits d r
 unfolding bits
 bits-low zero a r = refl
-bits-low (suc d) a r = ap₂ (λ (x : ℕ) (l : List Bool). is_one x ∷ l) (block_odd a d r) (ap (bits d) (block_half a d r) ∙ bits-low d a (r / 2))
+bits-low (suc d) a r =
+    ap₂ (λ (x : ℕ) (l : List Bool). is_one x ∷ l) (block_odd a d r) (ap (bits d) (block_half a d r) ∙ bits-low d a (r / 2))
 
 pub bits-mod : (d n : ℕ) → bits d (n % 2 ^ d) ≡ bits d n
 bits-mod d n = sym (bits-low d (n / 2 ^ d) (n % 2 ^ d)) ∙ ap (bits d) (split n d)
@@ -50,7 +52,8 @@ bits-mod d n = sym (bits-low d (n / 2 ^ d) (n % 2 ^ d)) ∙ ap (bits d) (split n
 pub bits-shl : (k d a : ℕ) → bits (k + d) (a * 2 ^ k) ≡ copies k false ++ bits d a
 bits-shl k d a =
     bits-add k d (a * 2 ^ k)
-    ∙ ap₂ (λ (x y : List Bool). x ++ y) (ap (bits k) (sym (add-zero (a * 2 ^ k))) ∙ bits-low k a 0 ∙ bits-zero k) (ap (bits d) (shl-shr a k))
+    ∙ ap₂ (λ (x y : List Bool). x ++ y) (ap (bits k) (sym (add-zero (a * 2 ^ k))) ∙ bits-low k a 0 ∙ bits-zero k)
+    (ap (bits d) (shl-shr a k))
 
 -- ---- one law for the operations on two numbers that go digit by digit
 module _ (op f : ℕ → ℕ → ℕ) (g : Bool → Bool → Bool) (step : (a b : ℕ) → op a b ≡ op (a / 2) (b / 2) * 2 + f (a % 2) (b % 2))
@@ -136,7 +139,8 @@ pub word_of_append : (l m : List Bool) → word_of (l ++ m) ≡ word_of m * 2 ^ 
 unfolding word_of
 word_of_append [] m = omega arith
 word_of_append (b ∷ l) m =
-    let e : word_of m * 2 ^ suc (length l) ≡ word_of m * 2 ^ length l * 2 = ap (λ (x : ℕ). word_of m * x) (pow-suc 2 (length l)) ∙ sym (mul_assoc (word_of m) (2 ^ length l) 2) in
+    let e : word_of m * 2 ^ suc (length l) ≡ word_of m * 2 ^ length l * 2 =
+    ap (λ (x : ℕ). word_of m * x) (pow-suc 2 (length l)) ∙ sym (mul_assoc (word_of m) (2 ^ length l) 2) in
     let ih : word_of (l ++ m) ≡ word_of m * 2 ^ length l + word_of l = word_of_append l m in
     omega arith
 

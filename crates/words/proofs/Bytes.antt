@@ -39,7 +39,9 @@ flags-one b = append-nil (bits 8 b)
 
 -- one byte more
 pub flags-more : (bs : List ℕ) (i : ℕ) → i < length bs → flags_of (take (suc i) bs) ≡ flags_of (take i bs) ++ bits 8 (get_or bs i 0)
-flags-more bs i h = ap flags_of (take-suc bs i 0 h) ∙ flags-append (take i bs) (get_or bs i 0 ∷ []) ∙ ap (λ (l : List Bool). flags_of (take i bs) ++ l) (flags-one (get_or bs i 0))
+flags-more bs i h =
+    ap flags_of (take-suc bs i 0 h) ∙ flags-append (take i bs) (get_or bs i 0 ∷ [])
+    ∙ ap (λ (l : List Bool). flags_of (take i bs) ++ l) (flags-one (get_or bs i 0))
 
 pub flags-over : (l m : List ℕ) → flags_of (over l m) ≡ over (flags_of l) (flags_of m)
 unfolding over flags_of
@@ -53,8 +55,12 @@ flags-over (x ∷ l) (y ∷ m) =
 pub flags-inj : (a b : List ℕ) → ((k : ℕ) → get_or a k 0 < 256) → ((k : ℕ) → get_or b k 0 < 256) → flags_of a ≡ flags_of b → a ≡ b
 unfolding flags_of
 flags-inj [] [] p q e = refl
-flags-inj [] (y ∷ b) p q e = absurd (let z : length (bits 8 y ++ flags_of b) ≡ 0 = sym (ap length e) in omega (arith, length-append (bits 8 y) (flags_of b), length-bits 8 y))
-flags-inj (x ∷ a) [] p q e = absurd (let z : length (bits 8 x ++ flags_of a) ≡ 0 = ap length e in omega (arith, length-append (bits 8 x) (flags_of a), length-bits 8 x))
+flags-inj [] (y ∷ b) p q e =
+    absurd (let z : length (bits 8 y ++ flags_of b)
+    ≡ 0 = sym (ap length e) in omega (arith, length-append (bits 8 y) (flags_of b), length-bits 8 y))
+flags-inj (x ∷ a) [] p q e =
+    absurd (let z : length (bits 8 x ++ flags_of a)
+    ≡ 0 = ap length e in omega (arith, length-append (bits 8 x) (flags_of a), length-bits 8 x))
 flags-inj (x ∷ a) (y ∷ b) p q e =
     ap₂ (λ (z : ℕ) (t : List ℕ). z ∷ t)
     (bits-inj 8 x y (p 0) (q 0) (front x a ∙ ap (take 8) e ∙ sym (front y b)))
@@ -73,7 +79,8 @@ pub over-part : (n : ℕ) (m : List Bool) (out part : List ℕ) → n ≤ length
     → flags_of part ≡ over (flags_of (take n out)) m → flags_of (part ++ drop n out) ≡ over (flags_of out) m
 over-part n m out part h k e =
     flags-append part (drop n out) ∙ ap (λ (x : List Bool). x ++ flags_of (drop n out)) e
-    ∙ sym (over-left (flags_of (take n out)) (flags_of (drop n out)) m (length-flags (take n out) ∙ ap (λ (x : ℕ). 8 * x) (length-take-le n out h) ∙ sym k))
+    ∙ sym (over-left (flags_of (take n out)) (flags_of (drop n out)) m
+    (length-flags (take n out) ∙ ap (λ (x : ℕ). 8 * x) (length-take-le n out h) ∙ sym k))
     ∙ ap (λ (x : List Bool). over x m) (sym (flags-append (take n out) (drop n out)) ∙ ap flags_of (take-append-drop n out))
 
 -- a part from a start on, as the borrow checker lends it: `take (length l - a) (drop a l)`
@@ -90,4 +97,5 @@ unfolding over_at
 over-from out part a m p =
     ap (λ (l : List ℕ). flags_of (take a out ++ l)) (ap (λ (l : List ℕ). part ++ l) (post_from a out) ∙ append-nil part)
     ∙ flags-append (take a out) part
-    ∙ ap₂ (λ (x y : List Bool). x ++ y) (flags-take a out) (p ∙ ap (λ (l : List Bool). over l m) (ap flags_of (mid-from a out) ∙ flags-drop a out))
+    ∙ ap₂ (λ (x y : List Bool). x ++ y) (flags-take a out)
+    (p ∙ ap (λ (l : List Bool). over l m) (ap flags_of (mid-from a out) ∙ flags-drop a out))

@@ -18,7 +18,8 @@ zip_first f (x ∷ a) [] c e k = absurd (omega arith)
 zip_first f (x ∷ a) (y ∷ b) [] e k = absurd (omega arith)
 zip_first f (x ∷ a) (y ∷ b) (z ∷ c) e k = ap (λ (t : List Bool). f x ∷ t) (zip_first f a b c (omega arith) (omega arith))
 
-pub zip_two : (f : Bool → Bool → Bool) (a b c : List Bool) → length a ≡ length b → length a ≡ length c → zip3 (λ x y z. f x y) a b c ≡ zip_with f a b
+pub zip_two : (f : Bool → Bool → Bool) (a b c : List Bool) → length a ≡ length b → length a ≡ length c
+    → zip3 (λ x y z. f x y) a b c ≡ zip_with f a b
 unfolding zip3 zip_with
 zip_two f [] b c e k = refl
 zip_two f (x ∷ a) [] c e k = refl
@@ -52,12 +53,14 @@ select-one true true z = refl
 select-one true false z = refl
 select-one false y z = refl
 
-pub select-flags : (a b c : List Bool) → length a ≡ length b → length a ≡ length c → zip_with ◌||◌ (zip_with ◌&&◌ a b) (zip_with ◌&&◌ (map not a) c) ≡ zip3 cond a b c
+pub select-flags : (a b c : List Bool) → length a ≡ length b → length a ≡ length c
+    → zip_with ◌||◌ (zip_with ◌&&◌ a b) (zip_with ◌&&◌ (map not a) c) ≡ zip3 cond a b c
 unfolding zip3 zip_with
 select-flags [] b c e k = refl
 select-flags (x ∷ a) [] c e k = absurd (omega arith)
 select-flags (x ∷ a) (y ∷ b) [] e k = absurd (omega arith)
-select-flags (x ∷ a) (y ∷ b) (z ∷ c) e k = ap₂ (λ (t : Bool) (l : List Bool). t ∷ l) (select-one x y z) (select-flags a b c (omega arith) (omega arith))
+select-flags (x ∷ a) (y ∷ b) (z ∷ c) e k =
+    ap₂ (λ (t : Bool) (l : List Bool). t ∷ l) (select-one x y z) (select-flags a b c (omega arith) (omega arith))
 
 pub else-set : (x y : Bool) → (y || not x) ≡ cond x y true
 else-set true true = refl
@@ -91,7 +94,8 @@ module _ (f : Bool → Bool → Bool → Bool) (A B C : List Bool) where
 
   pub at-zip-in : (p q r n j : ℕ) → j < n → get_or (zip3 f (window A p n) (window B q n) (window C r n)) j false
       ≡ f (get_or A (p + j) false) (get_or B (q + j) false) (get_or C (r + j) false)
-  at-zip-in p q r n j h = at-zip p q r n j ∙ ap (λ (t : Bool). t && f (get_or A (p + j) false) (get_or B (q + j) false) (get_or C (r + j) false)) (lt-ltb j n h)
+  at-zip-in p q r n j h =
+      at-zip p q r n j ∙ ap (λ (t : Bool). t && f (get_or A (p + j) false) (get_or B (q + j) false) (get_or C (r + j) false)) (lt-ltb j n h)
 
   -- the same flag seen from k flags on
   at-later : (p q r k j : ℕ) → f (get_or A (p + k + j) false) (get_or B (q + k + j) false) (get_or C (r + k + j) false)
@@ -104,13 +108,16 @@ module _ (f : Bool → Bool → Bool → Bool) (A B C : List Bool) where
 
   -- a part
   pub zip-part : (p q r m k n : ℕ) → k + n ≤ m
-      → zip3 f (window A (p + k) n) (window B (q + k) n) (window C (r + k) n) ≡ window (zip3 f (window A p m) (window B q m) (window C r m)) k n
-  zip-part p q r m k n h = as-window _ (zip3 f (window A p m) (window B q m) (window C r m)) k n (length-zip (p + k) (q + k) (r + k) n) (λ j b.
+      → zip3 f (window A (p + k) n) (window B (q + k) n) (window C (r + k) n)
+      ≡ window (zip3 f (window A p m) (window B q m) (window C r m)) k n
+  zip-part p q r m k n h =
+      as-window _ (zip3 f (window A p m) (window B q m) (window C r m)) k n (length-zip (p + k) (q + k) (r + k) n) (λ j b.
       at-zip-in (p + k) (q + k) (r + k) n j b ∙ at-later p q r k j ∙ sym (at-zip-in p q r m (k + j) (omega arith)))
 
   -- a part cut at the end, with zeros behind it
   pub zip-cut : (p q r m k n : ℕ)
-      → window (take (m - k) (zip3 f (window A (p + k) n) (window B (q + k) n) (window C (r + k) n))) 0 n ≡ window (zip3 f (window A p m) (window B q m) (window C r m)) k n
+      → window (take (m - k) (zip3 f (window A (p + k) n) (window B (q + k) n) (window C (r + k) n))) 0 n
+      ≡ window (zip3 f (window A p m) (window B q m) (window C r m)) k n
   zip-cut p q r m k n =
       window-ext (take (m - k) (zip3 f (window A (p + k) n) (window B (q + k) n) (window C (r + k) n)))
       (zip3 f (window A p m) (window B q m) (window C r m)) 0 k n (λ j h.
@@ -121,7 +128,8 @@ module _ (f : Bool → Bool → Bool → Bool) (A B C : List Bool) where
       ∙ sym (at-zip p q r m (k + j)))
 
   -- past the end of all three there is one flag, over and over
-  pub zip-past : (p q r n : ℕ) → length A ≤ p → length B ≤ q → length C ≤ r → zip3 f (window A p n) (window B q n) (window C r n) ≡ copies n (f false false false)
+  pub zip-past : (p q r n : ℕ) → length A ≤ p → length B ≤ q → length C ≤ r
+      → zip3 f (window A p n) (window B q n) (window C r n) ≡ copies n (f false false false)
   unfolding zip3 window copies
   zip-past p q r zero ha hb hc = refl
   zip-past p q r (suc n) ha hb hc =
@@ -133,7 +141,8 @@ module _ (f : Bool → Bool → Bool → Bool) (A B C : List Bool) where
 
   -- a whole word
   pub zip_word : (p q r m i x y z u v w t : ℕ) → 64 * i + 64 ≤ m → x ≡ p + 64 * i → y ≡ q + 64 * i → z ≡ r + 64 * i
-      → bits 64 u ≡ window A x 64 → bits 64 v ≡ window B y 64 → bits 64 w ≡ window C z 64 → bits 64 t ≡ zip3 f (bits 64 u) (bits 64 v) (bits 64 w)
+      → bits 64 u ≡ window A x 64 → bits 64 v ≡ window B y 64 → bits 64 w ≡ window C z 64
+      → bits 64 t ≡ zip3 f (bits 64 u) (bits 64 v) (bits 64 w)
       → bits 64 t ≡ window (zip3 f (window A p m) (window B q m) (window C r m)) (64 * i) 64
   zip_word p q r m i x y z u v w t h ex ey ez pu pv pw op =
       op ∙ rw (pu, pv, pw, ex, ey, ez) (zip-part p q r m (64 * i) 64 h)
@@ -146,7 +155,8 @@ module _ (f : Bool → Bool → Bool → Bool) (A B C : List Bool) where
   cut_word p q r m i u v w t s pu pv pw op cut = cut ∙ rw (op, pu, pv, pw) (zip-cut p q r m (64 * i) 64)
 
   -- the same starts under other names
-  pub zip-starts : (p q r x y z n : ℕ) → x ≡ p → y ≡ q → z ≡ r → zip3 f (window A x n) (window B y n) (window C z n) ≡ zip3 f (window A p n) (window B q n) (window C r n)
+  pub zip-starts : (p q r x y z n : ℕ) → x ≡ p → y ≡ q → z ≡ r
+      → zip3 f (window A x n) (window B y n) (window C z n) ≡ zip3 f (window A p n) (window B q n) (window C r n)
   zip-starts p q r x y z n ex ey ez = rw (ex, ey, ez)
 
   -- what lies behind n flags, where all three have ended by then
@@ -155,13 +165,16 @@ module _ (f : Bool → Bool → Bool → Bool) (A B C : List Bool) where
   zip-behind p q r m n h ha hb hc = sym (zip-part p q r m n (m - n) (omega arith)) ∙ zip-past (p + n) (q + n) (r + n) (m - n) ha hb hc
 
 -- three stretches under other names
-pub zip-at : (f : Bool → Bool → Bool → Bool) (A A' B B' C C' : List ℕ) (p p' q q' r r' n : ℕ) → A ≡ A' → p ≡ p' → B ≡ B' → q ≡ q' → C ≡ C' → r ≡ r'
+pub zip-at : (f : Bool → Bool → Bool → Bool) (A A' B B' C C' : List ℕ) (p p' q q' r r' n : ℕ) → A ≡ A' → p ≡ p' → B ≡ B' → q ≡ q' → C ≡ C'
+    → r ≡ r'
     → zip3 f (stretch A p n) (stretch B q n) (stretch C r n) ≡ zip3 f (stretch A' p' n) (stretch B' q' n) (stretch C' r' n)
 zip-at f A A' B B' C C' p p' q q' r r' n ea ep eb eq ec er = rw (ea, ep, eb, eq, ec, er)
 
 -- a part of them
-pub zip-later : (f : Bool → Bool → Bool → Bool) (A A' B B' C C' : List ℕ) (p p' q q' r r' m k n : ℕ) → A ≡ A' → p ≡ p' + k → B ≡ B' → q ≡ q' + k → C ≡ C' → r ≡ r' + k
-    → k + n ≤ m → zip3 f (stretch A p n) (stretch B q n) (stretch C r n) ≡ window (zip3 f (stretch A' p' m) (stretch B' q' m) (stretch C' r' m)) k n
+pub zip-later : (f : Bool → Bool → Bool → Bool) (A A' B B' C C' : List ℕ) (p p' q q' r r' m k n : ℕ) → A ≡ A' → p ≡ p' + k → B ≡ B'
+    → q ≡ q' + k → C ≡ C' → r ≡ r' + k
+    → k + n ≤ m → zip3 f (stretch A p n) (stretch B q n) (stretch C r n)
+    ≡ window (zip3 f (stretch A' p' m) (stretch B' q' m) (stretch C' r' m)) k n
 zip-later f A A' B B' C C' p p' q q' r r' m k n ea ep eb eq ec er h =
     zip-at f A A' B B' C C' p (p' + k) q (q' + k) r (r' + k) n ea ep eb eq ec er
     ∙ zip-part f (flags_of A') (flags_of B') (flags_of C') p' q' r' m k n h

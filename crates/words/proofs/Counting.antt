@@ -12,7 +12,8 @@ use Rattle.words.proofs.Windows.{length-window, window-add, window-all, window-p
 pub ones-bits : (d n : ℕ) → n < 2 ^ d → count (bits d n) ≡ ones n
 unfolding bits count ones
 ones-bits zero n h = sym (ap ones (lt-one h))
-ones-bits (suc d) n h = ap₂ (λ (x y : ℕ). x + y) (digit-is_one (n % 2) (mod-lt n (zero-lt-suc 1))) (ones-bits d (n / 2) (half_lt d n h)) ∙ sym (ones_step n)
+ones-bits (suc d) n h =
+    ap₂ (λ (x y : ℕ). x + y) (digit-is_one (n % 2) (mod-lt n (zero-lt-suc 1))) (ones-bits d (n / 2) (half_lt d n h)) ∙ sym (ones_step n)
 
 pub count-append : (l m : List Bool) → count (l ++ m) ≡ count l + count m
 unfolding count
@@ -62,7 +63,8 @@ pub count-inside : (l : List Bool) (k n : ℕ) → count (window l k n) ≤ coun
 count-inside l k n =
     let z : 0 + k ≡ k = omega arith in
     let a : count (window l 0 (k + n + length l)) ≡ count l = count-padded l (k + n + length l) (omega arith) in
-    let b : count (window l 0 (k + n + length l)) ≡ count (window l 0 (k + n)) + count (window l (0 + (k + n)) (length l)) = count_add l 0 (k + n) (length l) in
+    let b : count (window l 0 (k + n + length l)) ≡ count (window l 0 (k + n)) + count (window l (0 + (k + n)) (length l)) =
+    count_add l 0 (k + n) (length l) in
     let c : count (window l 0 (k + n)) ≡ count (window l 0 k) + count (window l (0 + k) n) = count_add l 0 k n in
     let d : count (window l (0 + k) n) ≡ count (window l k n) = ap (λ (x : ℕ). count (window l x n)) z in
     omega arith
@@ -94,11 +96,13 @@ pub count-all : (l : List Bool) (i n c : ℕ) → c ≡ count (window l 0 (64 * 
 count-all l i n c p e h k = p ∙ count-padded l (64 * i) (omega arith)
 
 -- word i of a stretch
-pub span-word : (l : List Bool) (p n i x w : ℕ) → 64 * i + 64 ≤ n → x ≡ p + 64 * i → bits 64 w ≡ window l x 64 → bits 64 w ≡ window (window l p n) (64 * i) 64
+pub span-word : (l : List Bool) (p n i x w : ℕ) → 64 * i + 64 ≤ n → x ≡ p + 64 * i → bits 64 w ≡ window l x 64
+    → bits 64 w ≡ window (window l p n) (64 * i) 64
 span-word l p n i x w h e q = q ∙ ap (λ (m : ℕ). window l m 64) e ∙ sym (in_window l p n (64 * i) 64 h)
 
 -- a stretch in three parts
-pub count-parts : (l : List Bool) (p len h m o a b c x y z : ℕ) → x ≡ count (window l o h) → y ≡ count (window l a m) → z ≡ count (window l b c) → o ≡ p → a ≡ p + h
+pub count-parts : (l : List Bool) (p len h m o a b c x y z : ℕ) → x ≡ count (window l o h) → y ≡ count (window l a m)
+    → z ≡ count (window l b c) → o ≡ p → a ≡ p + h
     → b ≡ p + h + m → len ≡ h + m + c → x + y + z ≡ count (window l p len)
 count-parts l p len h m o a b c x y z ex ey ez eo ea eb el =
     let n : len ≡ h + (m + c) = omega arith in
@@ -124,13 +128,15 @@ low-within k w r c p q =
     let e : c ≡ count (window (take k (bits 64 w)) 0 64) = q ∙ ap count p in
     ⊎_elim
     (λ (h : k < 64).
-    let a : count (window (take k (bits 64 w)) 0 64) ≡ count (take k (bits 64 w)) = count-padded (take k (bits 64 w)) 64 (omega (arith, length-take k (bits 64 w))) in
+    let a : count (window (take k (bits 64 w)) 0 64) ≡ count (take k (bits 64 w)) =
+    count-padded (take k (bits 64 w)) 64 (omega (arith, length-take k (bits 64 w))) in
     omega (arith, count-le (take k (bits 64 w)), length-take k (bits 64 w)))
     (λ (h : 64 ≤ k). omega (arith, count-le (window (take k (bits 64 w)) 0 64), length-window (take k (bits 64 w)) 0 64))
     (cases_lt k 64)
 
 -- at most a word
-pub count-short : (l : List Bool) (len w c : ℕ) → length l ≡ len → len ≤ 64 → bits 64 w ≡ window l 0 64 → c ≡ count (bits 64 w) → c ≡ count l
+pub count-short : (l : List Bool) (len w c : ℕ) → length l ≡ len → len ≤ 64 → bits 64 w ≡ window l 0 64 → c ≡ count (bits 64 w)
+    → c ≡ count l
 count-short l len w c e h p q = q ∙ ap count p ∙ count-padded l 64 (omega arith)
 
 -- a list of m flags whose flags behind n are one flag, over and over
@@ -140,8 +146,10 @@ count-behind l m n c d x p e q h = ⊎_elim
     (λ (k : n < m).
     let a : m ≡ n + (m - n) = omega arith in
     let z : 0 + n ≡ n = omega arith in
-    let whole : count l ≡ count (window l 0 n) + count (window l (0 + n) (m - n)) = sym (count-padded l m (omega arith)) ∙ count_cut l 0 m n (m - n) a in
-    let rest : count (window l (0 + n) (m - n)) ≡ (m - n) * digit x = ap (λ (i : ℕ). count (window l i (m - n))) z ∙ ap count (h k) ∙ count-copies (m - n) x in
+    let whole : count l ≡ count (window l 0 n) + count (window l (0 + n) (m - n)) =
+    sym (count-padded l m (omega arith)) ∙ count_cut l 0 m n (m - n) a in
+    let rest : count (window l (0 + n) (m - n)) ≡ (m - n) * digit x =
+    ap (λ (i : ℕ). count (window l i (m - n))) z ∙ ap count (h k) ∙ count-copies (m - n) x in
     omega arith)
     (λ (k : m ≤ n).
     let none : m - n ≡ 0 = omega arith in

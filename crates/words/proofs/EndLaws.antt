@@ -32,10 +32,12 @@ leading-some false (false ∷ a) b h = ap suc (leading-some false a b (omega ari
 pub leading-all : (x : Bool) (a b : List Bool) → length a ≤ leading x a → leading x (a ++ b) ≡ length a + leading x b
 unfolding leading
 leading-all x [] b h = omega arith
-leading-all true (true ∷ a) b h = let ih : leading true (a ++ b) ≡ length a + leading true b = leading-all true a b (omega arith) in omega arith
+leading-all true (true ∷ a) b h =
+    let ih : leading true (a ++ b) ≡ length a + leading true b = leading-all true a b (omega arith) in omega arith
 leading-all true (false ∷ a) b h = absurd (omega arith)
 leading-all false (true ∷ a) b h = absurd (omega arith)
-leading-all false (false ∷ a) b h = let ih : leading false (a ++ b) ≡ length a + leading false b = leading-all false a b (omega arith) in omega arith
+leading-all false (false ∷ a) b h =
+    let ih : leading false (a ++ b) ≡ length a + leading false b = leading-all false a b (omega arith) in omega arith
 
 -- of a list's first flags
 pub leading-take : (x : Bool) (k : ℕ) (l : List Bool) → min (leading x l) k ≡ leading x (take k l)
@@ -110,7 +112,8 @@ trailing-copies x n = ap (leading x) (reverse-copies n x) ∙ leading-copies x n
 reverse-map : (f : Bool → Bool) (l : List Bool) → reverse (map f l) ≡ map f (reverse l)
 reverse-map f [] = refl
 reverse-map f (x ∷ l) =
-    reverse-cons (f x) (map f l) ∙ ap (λ (t : List Bool). t ++ (f x ∷ [])) (reverse-map f l) ∙ sym (ap (map f) (reverse-cons x l) ∙ map_snoc (reverse l) x)
+    reverse-cons (f x) (map f l) ∙ ap (λ (t : List Bool). t ++ (f x ∷ [])) (reverse-map f l)
+    ∙ sym (ap (map f) (reverse-cons x l) ∙ map_snoc (reverse l) x)
   where
     map_snoc : (l : List Bool) (x : Bool) → map f (l ++ (x ∷ [])) ≡ map f l ++ (f x ∷ [])
     map_snoc [] x = refl
@@ -136,7 +139,8 @@ front-bits (suc d) n = front-one (n % 2) (count_trailing_zeros d (n / 2)) (bits 
 zero_bits : (d n : ℕ) → n < 2 ^ d → length (bits d n) ≤ trailing false (bits d n) → n ≡ 0
 unfolding trailing
 zero_bits d n b h =
-    let r : reverse (bits d n) ≡ copies (length (reverse (bits d n))) false = all_alike false (reverse (bits d n)) (omega (arith, length-reverse (bits d n))) in
+    let r : reverse (bits d n) ≡ copies (length (reverse (bits d n))) false =
+    all_alike false (reverse (bits d n)) (omega (arith, length-reverse (bits d n))) in
     bits-inj d n 0 b (pow_pos d)
     (sym (reverse-reverse (bits d n)) ∙ ap reverse (r ∙ ap (λ (k : ℕ). copies k false) (length-reverse (bits d n) ∙ length-bits d n))
     ∙ reverse-copies d false ∙ sym (bits-zero d))
@@ -177,7 +181,8 @@ end-bits (suc d) (suc n) b =
 take-least : (d k w : ℕ) → take (min k d) (bits d w) ≡ take k (bits d w)
 take-least d k w = ⊎_elim
     (λ (h : k < d). let e : min k d ≡ k = omega arith in ap (λ (n : ℕ). take n (bits d w)) e)
-    (λ (h : d ≤ k). take_all (min k d) (bits d w) (omega (arith, length-bits d w)) ∙ sym (take_all k (bits d w) (omega (arith, length-bits d w))))
+    (λ (h : d ≤ k). take_all (min k d) (bits d w) (omega (arith, length-bits d w))
+    ∙ sym (take_all k (bits d w) (omega (arith, length-bits d w))))
     (cases_lt k d)
 
 -- zeros are shifted in below them, and the flags alike at the end counted, at most n

@@ -13,7 +13,7 @@ pub mod Merging
 pub mod NthLaws
 pub mod Plain
 mod PlaneLaws
-mod PlaneReads
+pub mod PlaneReads
 mod RowLaws
 pub mod UniformLaws
 pub mod Windows

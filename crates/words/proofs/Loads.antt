@@ -10,8 +10,7 @@ use Rattle.std.specs.Int.{w64, to_le_bytes}
 use Rattle.words.specs.Flags.{bits, word_of, flags_of, window, over, over_at}
 use Rattle.words.proofs.Bits.{length-bits, bits-add, bits-take, bits-zero, bits-mod, word_of_bits, or-append}
 use Rattle.words.proofs.Bytes.{flags-more, flags-append, flags-take, flags-drop, flags-one, length-flags, over-part}
-use Rattle.words.proofs.Windows.{window-cut, window-drop, window-past, window-ext}
-use Rattle.words.proofs.Windows.{at-window, in_window, bits-window, ltb-sub}
+use Rattle.words.proofs.Windows.{window-cut, window-drop, window-past, window-ext, at-window, in_window, bits-window, ltb-sub}
 
 -- ---- up to eight bytes: joined byte by byte, written as the bytes of a word
 
@@ -23,10 +22,12 @@ pub up_none : (bs : List ℕ) → 0 ≡ up_to bs 0
 unfolding up_to flags_of word_of
 up_none bs = refl
 
-up_more : (bs : List ℕ) (i : ℕ) → i < length bs → length bs ≤ 8 → get_or bs i 0 < 256 → bit_or (up_to bs i) (get_or bs i 0 * 2 ^ (8 * i) % 2 ^ 64) ≡ up_to bs (i + 1)
+up_more : (bs : List ℕ) (i : ℕ) → i < length bs → length bs ≤ 8 → get_or bs i 0 < 256
+    → bit_or (up_to bs i) (get_or bs i 0 * 2 ^ (8 * i) % 2 ^ 64) ≡ up_to bs (i + 1)
 unfolding up_to
 up_more bs i h k b =
-    let long : length (flags_of (take i bs)) ≡ 8 * i = length-flags (take i bs) ∙ ap (λ (n : ℕ). 8 * n) (length-take-le i bs (le_of_lt h)) in
+    let long : length (flags_of (take i bs)) ≡ 8 * i =
+    length-flags (take i bs) ∙ ap (λ (n : ℕ). 8 * n) (length-take-le i bs (le_of_lt h)) in
     ap (bit_or (word_of (flags_of (take i bs)))) (shl_exact 8 (8 * i) 64 b (omega arith))
     ∙ ap₂ (λ (x y : ℕ). bit_or (word_of (flags_of (take i bs))) (x * 2 ^ y)) (sym (word_of_bits 8 (get_or bs i 0) b)) (sym long)
     ∙ or-append (flags_of (take i bs)) (bits 8 (get_or bs i 0))
@@ -35,7 +36,8 @@ up_more bs i h k b =
 -- one more byte is loaded
 pub up_step : (bs : List ℕ) (i v w : ℕ) → length bs ≤ 8 → i < length bs → w ≡ up_to bs i → (v ≡ get_or bs i 0) × (v < 256)
     → bit_or w (v * 2 ^ (8 * i) % 2 ^ 64) ≡ up_to bs (i + 1)
-up_step bs i v w k h p q = ap₂ (λ (x y : ℕ). bit_or x (y * 2 ^ (8 * i) % 2 ^ 64)) p q.0 ∙ up_more bs i h k (subst (λ (y : ℕ). y < 256) q.0 q.1)
+up_step bs i v w k h p q =
+    ap₂ (λ (x y : ℕ). bit_or x (y * 2 ^ (8 * i) % 2 ^ 64)) p q.0 ∙ up_more bs i h k (subst (λ (y : ℕ). y < 256) q.0 q.1)
 
 pub up-all : (bs : List ℕ) (i w : ℕ) → w ≡ up_to bs i → length bs ≤ i → bits 64 w ≡ window (flags_of bs) 0 64
 unfolding up_to
@@ -72,7 +74,8 @@ pub split-all : (out new : List ℕ) (w : ℕ) → length out ≤ 8 → new ≡ 
     → flags_of new ≡ over (flags_of out) (bits 64 w)
 split-all out new w h p =
     let fits : length (flags_of out) ≤ length (bits 64 w) = rw (length-flags, length-bits) (omega arith) in
-    ap flags_of p ∙ flags-take (length out) (to_le_bytes w64 w) ∙ ap₂ (λ (n : ℕ) (l : List Bool). take n l) (sym (length-flags out)) (flags-word w)
+    ap flags_of p ∙ flags-take (length out) (to_le_bytes w64 w)
+    ∙ ap₂ (λ (n : ℕ) (l : List Bool). take n l) (sym (length-flags out)) (flags-word w)
     ∙ sym (over-take (flags_of out) (bits 64 w) fits)
 
 -- ---- a part of the bytes
@@ -86,14 +89,17 @@ load-first bs r p = p ∙ ap (λ (l : List Bool). window l 0 64) (flags-take 8 b
         window-ext (take 64 l) l 0 0 64 (λ j h. let z : 0 + j ≡ j = omega arith in ap (λ (x : ℕ). get_or (take 64 l) x false) z
         ∙ get_or-take 64 l j false h ∙ sym (ap (λ (x : ℕ). get_or l x false) z))
 
-pub load-mid : (bs : List ℕ) (at r : ℕ) → bits 64 r ≡ window (flags_of (take (at + 8 - at) (drop at bs))) 0 64 → bits 64 r ≡ window (flags_of bs) (8 * at) 64
+pub load-mid : (bs : List ℕ) (at r : ℕ) → bits 64 r ≡ window (flags_of (take (at + 8 - at) (drop at bs))) 0 64
+    → bits 64 r ≡ window (flags_of bs) (8 * at) 64
 load-mid bs at r p =
     let e : at + 8 - at ≡ 8 = omega arith in
     let z : 8 * at + 0 ≡ 8 * at = omega arith in
     load-first (drop at bs) r (p ∙ ap (λ (n : ℕ). window (flags_of (take n (drop at bs))) 0 64) e)
-    ∙ ap (λ (l : List Bool). window l 0 64) (flags-drop at bs) ∙ window-drop (flags_of bs) (8 * at) 0 64 ∙ ap (λ (x : ℕ). window (flags_of bs) x 64) z
+    ∙ ap (λ (l : List Bool). window l 0 64) (flags-drop at bs) ∙ window-drop (flags_of bs) (8 * at) 0 64
+    ∙ ap (λ (x : ℕ). window (flags_of bs) x 64) z
 
-pub put-mid : (out part : List ℕ) (at w : ℕ) → at + 8 ≤ length out → flags_of part ≡ over (flags_of (take (at + 8 - at) (drop at out))) (bits 64 w)
+pub put-mid : (out part : List ℕ) (at w : ℕ) → at + 8 ≤ length out
+    → flags_of part ≡ over (flags_of (take (at + 8 - at) (drop at out))) (bits 64 w)
     → flags_of (take at out ++ (part ++ drop (at + 8 - at) (drop at out))) ≡ over_at (flags_of out) (8 * at) (bits 64 w)
 unfolding over_at
 put-mid out part at w h p =
@@ -124,7 +130,8 @@ bits-more d m x h = ap (bits m) (sym (word_of_bits d x h)) ∙ bits-window m (bi
 pub bits-shr : (d s x : ℕ) → x < 2 ^ d → bits d (x / 2 ^ s) ≡ window (bits d x) s d
 bits-shr d s x h =
     let z : 0 + s ≡ s = omega arith in
-    sym (ap (take d) (drop_at (bits s x) (bits d (x / 2 ^ s)) s (length-bits s x)) ∙ take_all d (bits d (x / 2 ^ s)) (omega (arith, length-bits d (x / 2 ^ s))))
+    sym (ap (take d) (drop_at (bits s x) (bits d (x / 2 ^ s)) s (length-bits s x))
+    ∙ take_all d (bits d (x / 2 ^ s)) (omega (arith, length-bits d (x / 2 ^ s))))
     ∙ ap (λ (l : List Bool). take d (drop s l)) (sym (bits-add s d x) ∙ bits-more d (s + d) x h)
     ∙ window-cut (bits d x) 0 (s + d) s d (omega arith) ∙ ap (λ (n : ℕ). window (bits d x) n d) z
 
@@ -132,7 +139,8 @@ pub down-all : (d k w : ℕ) → d ≤ k → bits d 0 ≡ window (bits d w) k d
 down-all d k w h = bits-zero d ∙ sym (window-past (bits d w) k d (omega (arith, length-bits d w)))
 
 -- a word of the list's last flags, moved down
-pub from_end : (l : List Bool) (p k bit x r : ℕ) → length l ≤ p + 64 → bit ≡ p + k → bits 64 x ≡ window l p 64 → bits 64 r ≡ window (bits 64 x) k 64
+pub from_end : (l : List Bool) (p k bit x r : ℕ) → length l ≤ p + 64 → bit ≡ p + k → bits 64 x ≡ window l p 64
+    → bits 64 r ≡ window (bits 64 x) k 64
     → bits 64 r ≡ window l bit 64
 from_end l p k bit x r h e q u =
     u ∙ ap (λ (t : List Bool). window t k 64) q
@@ -154,9 +162,12 @@ pub at-few : (bs : List ℕ) (bit x r : ℕ) → length bs < 8 → bits 64 x ≡
     → bits 64 r ≡ window (flags_of bs) bit 64
 at-few bs bit x r h p u = from_end (flags_of bs) 0 bit bit x r (omega (arith, length-flags bs)) (omega arith) p u
 
-pub at_last : (bs : List ℕ) (at s x r : ℕ) → 8 ≤ length bs → length bs - at < 9 → at < length bs → bits 64 x ≡ window (flags_of bs) (8 * (length bs - 8)) 64
+pub at_last : (bs : List ℕ) (at s x r : ℕ) → 8 ≤ length bs → length bs - at < 9 → at < length bs
+    → bits 64 x ≡ window (flags_of bs) (8 * (length bs - 8)) 64
     → bits 64 r ≡ window (bits 64 x) (8 * (at + 8 - length bs) + s) 64 → bits 64 r ≡ window (flags_of bs) (8 * at + s) 64
-at_last bs at s x r h k b p u = from_end (flags_of bs) (8 * (length bs - 8)) (8 * (at + 8 - length bs) + s) (8 * at + s) x r (omega (arith, length-flags bs)) (omega arith) p u
+at_last bs at s x r h k b p u =
+    from_end (flags_of bs) (8 * (length bs - 8)) (8 * (at + 8 - length bs) + s) (8 * at + s) x r (omega (arith, length-flags bs))
+    (omega arith) p u
 
 pub byte_past : (bs : List ℕ) (at : ℕ) → length bs ≤ at → bits 64 0 ≡ window (flags_of bs) (8 * at) 64
 byte_past bs at h = bits-zero 64 ∙ sym (window-past (flags_of bs) (8 * at) 64 (omega (arith, length-flags bs)))
@@ -188,7 +199,8 @@ near-all l bit x r p q =
     ∙ sym (ap (λ (k : ℕ). get_or (window l bit (64 - s)) k false) z ∙ at-window l bit (64 - s) j))
 
 -- the first n of them
-pub near-first : (l : List Bool) (bit n r : ℕ) → bit % 8 + n ≤ 64 → bits 64 r ≡ window (window l bit (64 - bit % 8)) 0 64 → take n (bits 64 r) ≡ window l bit n
+pub near-first : (l : List Bool) (bit n r : ℕ) → bit % 8 + n ≤ 64 → bits 64 r ≡ window (window l bit (64 - bit % 8)) 0 64
+    → take n (bits 64 r) ≡ window l bit n
 near-first l bit n r h q =
     let z : bit + (0 + 0) ≡ bit = omega arith in
     ap (take n) q ∙ window-cut (window l bit (64 - bit % 8)) 0 64 0 n (omega arith) ∙ in_window l bit (64 - bit % 8) (0 + 0) n (omega arith)
@@ -198,5 +210,6 @@ near-first l bit n r h q =
 pub whole_part : (bytes : List ℕ) → take (length bytes - 0) (drop 0 bytes) ≡ bytes
 whole_part bytes = take_all (length bytes - 0) bytes (omega arith)
 
-pub whole-stretch : (bytes : List ℕ) (start n : ℕ) → window (flags_of (take (length bytes - 0) (drop 0 bytes))) start n ≡ window (flags_of bytes) start n
+pub whole-stretch : (bytes : List ℕ) (start n : ℕ)
+    → window (flags_of (take (length bytes - 0) (drop 0 bytes))) start n ≡ window (flags_of bytes) start n
 whole-stretch bytes start n = ap (λ (l : List ℕ). window (flags_of l) start n) (whole_part bytes)

@@ -23,7 +23,8 @@ unfolding nth_place count
 nth-high [] b n h = let e : n - 0 ≡ n = omega arith in rw e (omega arith)
 nth-high (false ∷ a) b n h = let e : n - (0 + count a) ≡ n - count a = omega arith in rw (e, nth-high a b n (omega arith)) (omega arith)
 nth-high (true ∷ a) b zero h = absurd (omega arith)
-nth-high (true ∷ a) b (suc n) h = let e : suc n - (1 + count a) ≡ n - count a = omega arith in rw (e, nth-high a b n (omega arith)) (omega arith)
+nth-high (true ∷ a) b (suc n) h =
+    let e : suc n - (1 + count a) ≡ n - count a = omega arith in rw (e, nth-high a b n (omega arith)) (omega arith)
 
 pub nth-lt : (l : List Bool) (n : ℕ) → n < count l → nth_place l n < length l
 unfolding nth_place count
@@ -61,7 +62,8 @@ pub place-low : (d h w n k r : ℕ) → h ≤ d → k ≡ count (bits h w) → n
 place-low d h w n k r l e q p =
     p ∙ sym (ap (λ (x : List Bool). nth_place x n) (cut d h w l) ∙ nth-low (bits h w) (bits (d - h) (w / 2 ^ h)) n (omega arith))
 
-pub place-high : (d h w n k r : ℕ) → h ≤ d → k ≡ count (bits h w) → k ≤ n → r ≡ nth_place (bits (d - h) (w / 2 ^ h)) (n - k) → h + r ≡ nth_place (bits d w) n
+pub place-high : (d h w n k r : ℕ) → h ≤ d → k ≡ count (bits h w) → k ≤ n → r ≡ nth_place (bits (d - h) (w / 2 ^ h)) (n - k)
+    → h + r ≡ nth_place (bits d w) n
 place-high d h w n k r l e q p =
     ap₂ (λ (x y : ℕ). x + y) (sym (length-bits h w)) (p ∙ ap (λ (x : ℕ). nth_place (bits (d - h) (w / 2 ^ h)) (n - x)) e)
     ∙ sym (ap (λ (x : List Bool). nth_place x n) (cut d h w l) ∙ nth-high (bits h w) (bits (d - h) (w / 2 ^ h)) n (omega arith))
@@ -80,7 +82,8 @@ behind-ones n k r e = ⊎_elim
     (λ (h : k ≤ n). let z : r ≡ k = rw (le-ltb n k h) at e in omega arith)
     (cases_lt n k)
 
-module _ (d h w n k s o : ℕ) (l : h ≤ d - h) (e : k ≡ count (bits h w)) (es : s ≡ cond (ltb n k) 0 h) (eo : o ≡ cond (ltb n k) 0 k) (inside : n < count (bits d w)) where
+module _ (d h w n k s o : ℕ) (l : h ≤ d - h) (e : k ≡ count (bits h w)) (es : s ≡ cond (ltb n k) 0 h) (eo : o ≡ cond (ltb n k) 0 k)
+    (inside : n < count (bits d w)) where
   whole : (x : ℕ) → x ≡ 0 → w / 2 ^ x ≡ w
   whole x z = ap (λ (y : ℕ). w / 2 ^ y) z ∙ div-one w
 

@@ -52,13 +52,15 @@ at-flags (b ∷ bytes) j = ⊎_elim
     let q : j / 8 ≡ suc ((j - 8) / 8) = omega arith in
     let r : j % 8 ≡ (j - 8) % 8 = omega arith in
     rw (q, r)
-    (ap (λ (x : ℕ). get_or (bits 8 b ++ flags_of bytes) x false) e ∙ get_or-append-add (bits 8 b) (flags_of bytes) (j - 8) false ∙ at-flags bytes (j - 8)))
+    (ap (λ (x : ℕ). get_or (bits 8 b ++ flags_of bytes) x false) e ∙ get_or-append-add (bits 8 b) (flags_of bytes) (j - 8) false
+    ∙ at-flags bytes (j - 8)))
     (cases_lt j 8)
 
 -- So a flag can be read from its byte alone.
 pub read-flag : (bytes : List ℕ) (j b : ℕ) → b ≡ get_or bytes (j / 8) 0 → eqb (b / 2 ^ (j % 8) % 2) 1 ≡ get_or (flags_of bytes) j false
 read-flag bytes j b e =
-    eqb-is_one (b / 2 ^ (j % 8) % 2) (mod-lt (b / 2 ^ (j % 8)) (zero-lt-suc 1)) ∙ ap (λ (x : ℕ). bit_at x (j % 8)) e ∙ sym (at-flags bytes j)
+    eqb-is_one (b / 2 ^ (j % 8) % 2) (mod-lt (b / 2 ^ (j % 8)) (zero-lt-suc 1)) ∙ ap (λ (x : ℕ). bit_at x (j % 8)) e
+    ∙ sym (at-flags bytes j)
 
 pub no_flag : (bytes : List ℕ) (j : ℕ) → length bytes ≤ j / 8 → false ≡ get_or (flags_of bytes) j false
 no_flag bytes j h = sym (get_or-eq_default (flags_of bytes) false (omega (arith, length-flags bytes)))
@@ -139,29 +141,35 @@ at-behind (x ∷ l) (y ∷ m) (suc j) d h = at-behind l m j d (omega arith)
 -- `over_at l n m` is as long as l.
 pub length-over_at : (l : List Bool) (n : ℕ) (m : List Bool) → length (over_at l n m) ≡ length l
 unfolding over_at
-length-over_at l n m = omega (arith, length-append (take n l) (over (drop n l) m), length-take n l, length_over (drop n l) m, length-drop n l)
+length-over_at l n m =
+    omega (arith, length-append (take n l) (over (drop n l) m), length-take n l, length_over (drop n l) m, length-drop n l)
 
 -- Before n it has the flags of l,
 pub over_at-before : (l : List Bool) (n : ℕ) (m : List Bool) (j : ℕ) → j < n → get_or (over_at l n m) j false ≡ get_or l j false
 unfolding over_at
 over_at-before l n m j h = ⊎_elim
-    (λ (k : j < length l). get_or-append (take n l) (over (drop n l) m) false j (omega (arith, length-take n l)) ∙ get_or-take n l j false h)
-    (λ (k : length l ≤ j). get_or-eq_default (over_at l n m) false (omega (arith, length-over_at l n m)) ∙ sym (get_or-eq_default l false k))
+    (λ (k : j < length l). get_or-append (take n l) (over (drop n l) m) false j (omega (arith, length-take n l))
+    ∙ get_or-take n l j false h)
+    (λ (k : length l ≤ j). get_or-eq_default (over_at l n m) false (omega (arith, length-over_at l n m))
+    ∙ sym (get_or-eq_default l false k))
     (cases_lt j (length l))
 
 -- from n on what is written over the rest of l:
-over_at-rest : (l : List Bool) (n : ℕ) (m : List Bool) (j : ℕ) → n ≤ length l → get_or (over_at l n m) (n + j) false ≡ get_or (over (drop n l) m) j false
+over_at-rest : (l : List Bool) (n : ℕ) (m : List Bool) (j : ℕ) → n ≤ length l
+    → get_or (over_at l n m) (n + j) false ≡ get_or (over (drop n l) m) j false
 unfolding over_at
 over_at-rest l n m j h =
     ap (λ (x : ℕ). get_or (take n l ++ over (drop n l) m) (x + j) false) (sym (length-take-le n l h))
     ∙ get_or-append-add (take n l) (over (drop n l) m) j false
 
 -- there it has those of m, as many as l has room for,
-pub over_at-in : (l : List Bool) (n : ℕ) (m : List Bool) (j : ℕ) → j < length m → n + j < length l → get_or (over_at l n m) (n + j) false ≡ get_or m j false
+pub over_at-in : (l : List Bool) (n : ℕ) (m : List Bool) (j : ℕ) → j < length m → n + j < length l
+    → get_or (over_at l n m) (n + j) false ≡ get_or m j false
 over_at-in l n m j h k = over_at-rest l n m j (omega arith) ∙ at-over (drop n l) m j false h (omega (arith, length-drop n l))
 
 -- and from the end of m on those of l again.
-pub over_at-behind : (l : List Bool) (n : ℕ) (m : List Bool) (j : ℕ) → length m ≤ j → get_or (over_at l n m) (n + j) false ≡ get_or l (n + j) false
+pub over_at-behind : (l : List Bool) (n : ℕ) (m : List Bool) (j : ℕ) → length m ≤ j
+    → get_or (over_at l n m) (n + j) false ≡ get_or l (n + j) false
 over_at-behind l n m j h = ⊎_elim
     (λ (k : n < length l). over_at-rest l n m j (omega arith) ∙ at-behind (drop n l) m j false h ∙ get_or-drop n l j false)
     (λ (k : length l ≤ n). ap (λ (t : List Bool). get_or t (n + j) false) (sym (over_at-past l n m k)))
@@ -170,9 +178,11 @@ over_at-behind l n m j h = ⊎_elim
 -- ---- two words read as one
 
 -- With an offset inside a, flag j of `merged a b offset` is flag offset + j of a and b in a row,
-pub at-merged : (a b : List Bool) (offset j : ℕ) → offset < length a → j < length a → get_or (merged a b offset) j false ≡ get_or (a ++ b) (offset + j) false
+pub at-merged : (a b : List Bool) (offset j : ℕ) → offset < length a → j < length a
+    → get_or (merged a b offset) j false ≡ get_or (a ++ b) (offset + j) false
 unfolding merged
-at-merged a b offset j h k = rw (lt-ltb offset (length a) h) (get_or-take (length a) (drop offset (a ++ b)) j false k ∙ get_or-drop offset (a ++ b) j false)
+at-merged a b offset j h k =
+    rw (lt-ltb offset (length a) h) (get_or-take (length a) (drop offset (a ++ b)) j false k ∙ get_or-drop offset (a ++ b) j false)
 
 -- and it is as long as a, if b is no shorter;
 pub length_merged : (a b : List Bool) (offset : ℕ) → offset < length a → length a ≤ length b → length (merged a b offset) ≡ length a
@@ -248,7 +258,8 @@ nth-missing l n h = rw (le-ltb n (count l) h)
 -- and only then: a number that it gives is that of the set flags, and at most n.
 pub missing-nth : (l : List Bool) (n k : ℕ) → nth_one l n ≡ Err k → (k ≡ count l) × (count l ≤ n)
 missing-nth l n k e = ⊎_elim
-    (λ (h : n < count l). absurd (let f : nth_one l n ≡ Ok (nth_place l n) = nth-found l n h in let z : ◌≡◌ {A = ℕ} 0 1 = cc in omega arith))
+    (λ (h : n < count l). absurd (let f : nth_one l n
+    ≡ Ok (nth_place l n) = nth-found l n h in let z : ◌≡◌ {A = ℕ} 0 1 = cc in omega arith))
     (λ (h : count l ≤ n). let f : nth_one l n ≡ Err (count l) = nth-missing l n h in let p : k ≡ count l = cc in (p, h))
     (cases_lt n (count l))
 
@@ -295,8 +306,10 @@ unfolding copies xor
 all-copies x [] e = refl
 all-copies true (true ∷ l) e = ap (λ (t : List Bool). true ∷ t) (all-copies true l (sym (all_cons true true l) ∙ e))
 all-copies false (false ∷ l) e = ap (λ (t : List Bool). false ∷ t) (all-copies false l (sym (all_cons false false l) ∙ e))
-all-copies true (false ∷ l) e = absurd (let f : false ≡ true = sym (all_cons true false l) ∙ e in let z : ◌≡◌ {A = ℕ} 0 1 = cc f in omega arith)
-all-copies false (true ∷ l) e = absurd (let f : false ≡ true = sym (all_cons false true l) ∙ e in let z : ◌≡◌ {A = ℕ} 0 1 = cc f in omega arith)
+all-copies true (false ∷ l) e =
+    absurd (let f : false ≡ true = sym (all_cons true false l) ∙ e in let z : ◌≡◌ {A = ℕ} 0 1 = cc f in omega arith)
+all-copies false (true ∷ l) e =
+    absurd (let f : false ≡ true = sym (all_cons false true l) ∙ e in let z : ◌≡◌ {A = ℕ} 0 1 = cc f in omega arith)
 
 -- and copies of x are all x.
 pub copies-all : (x : Bool) (n : ℕ) → all_are x (copies n x) ≡ true

@@ -1,10 +1,8 @@
 -- Words added to bit planes, at any number of planes; the numbers of the columns. Assumes nothing.
-use Rattle.std.proofs.Common.{◌≡◌, refl, sym, ap, ap₂, ◌∙◌, Bool, true, false, ◌&&◌, List, [], ◌∷◌, ◌++◌, append-nil, append_assoc}
-use Rattle.std.proofs.Common.{ℕ, zero, suc, ◌+◌, ◌-◌, ◌*◌, ◌%◌, ◌^◌, ◌≤◌, ◌<◌, min, pow-suc, mod-eq_of_lt}
-use Rattle.std.proofs.Common.{zero-add, add-one, arith, bit_and, bit_xor, ⊎_elim}
-use Rattle.std.proofs.Common.{length, take, drop, get_or, set, replicate, length-append}
-use Rattle.std.proofs.Common.{drop_of_length-le, drop-drop, drop-cons, take-suc-set, drop-set-lt, take_all, get_or-set_same}
-use Rattle.std.proofs.Common.{get_or-set_other}
+use Rattle.std.proofs.Common.{◌≡◌, refl, sym, ap, ap₂, ◌∙◌, Bool, true, false, ◌&&◌, List, [], ◌∷◌, ◌++◌, append-nil, append_assoc, ℕ, zero}
+use Rattle.std.proofs.Common.{suc, ◌+◌, ◌-◌, ◌*◌, ◌%◌, ◌^◌, ◌≤◌, ◌<◌, min, pow-suc, mod-eq_of_lt, zero-add, add-one, arith, bit_and}
+use Rattle.std.proofs.Common.{bit_xor, ⊎_elim, length, take, drop, get_or, set, replicate, length-append, drop_of_length-le, drop-drop}
+use Rattle.std.proofs.Common.{drop-cons, take-suc-set, drop-set-lt, take_all, get_or-set_same, get_or-set_other}
 use Rattle.std.proofs.Math.Bool.{xor}
 use Rattle.std.proofs.Math.ListN.{get_or-append}
 use Rattle.std.proofs.Math.Seq.{take-append_seam, drop-append_seam, get_or-append_right}
@@ -104,7 +102,10 @@ zeros_at zero c p = refl
 zeros_at (suc n) c p = omega (arith, zero-digit c, zeros_at n c p)
 
 pub totals_none : (words : List ℕ) → Totals words (replicate 9 0) words
-totals_none words = record { nine = refl; sums = λ c p. ap (λ (n : ℕ). n + count (column words c)) (zeros_at 9 c p) ∙ zero-add (count (column words c)) }
+totals_none words = record {
+  nine = refl;
+  sums = λ c p. ap (λ (n : ℕ). n + count (column words c)) (zeros_at 9 c p) ∙ zero-add (count (column words c));
+}
 
 -- some of the words that were left are added
 pub totals_grown : (words ps ws left all new : List ℕ) → length words < 512 → all ≡ ws ++ left → Totals words ps all → Grown ps ws new
@@ -201,6 +202,40 @@ wrote_halves ps low zeros high long same a b =
     let g : take 32 (low ++ zeros) ++ (high ++ drop 32 (drop 32 (low ++ zeros))) ≡ low ++ high =
     ap₂ (λ (s t : List ℕ). s ++ (high ++ t)) e f ∙ ap (λ (t : List ℕ). low ++ t) (append-nil high) in
     rw g (wrote_both ps low high long a b)
+
+-- the planes from k on make the rest of a number, times their power of two
+planes-split : (ps : List ℕ) (k c : ℕ) → planes_at ps c ≡ planes_at (take k ps) c + 2 ^ k * planes_at (drop k ps) c
+unfolding planes_at
+planes-split ps zero c = omega arith
+planes-split [] (suc k) c = omega arith
+planes-split (p ∷ ps) (suc k) c =
+    let d : 2 ^ suc k * planes_at (drop k ps) c ≡ 2 * (2 ^ k * planes_at (drop k ps) c) = doubled k (planes_at (drop k ps) c) in
+    omega (arith, planes-split ps k c)
+
+-- so numbers below 2 ^ k stand in the first k planes
+planes-few : (n m r : ℕ) → n ≡ m + 32 * r → n < 32 → m ≡ n
+planes-few n m r e h = omega arith
+
+five-planes : (ps : List ℕ) → length ps ≡ 9
+    → take 5 ps ≡ get_or ps 0 0 ∷ get_or ps 1 0 ∷ get_or ps 2 0 ∷ get_or ps 3 0 ∷ get_or ps 4 0 ∷ []
+five-planes (a ∷ b ∷ c ∷ d ∷ e ∷ ps) h = refl
+five-planes [] h = absurd (omega arith)
+five-planes (a ∷ []) h = absurd (omega arith)
+five-planes (a ∷ b ∷ []) h = absurd (omega arith)
+five-planes (a ∷ b ∷ c ∷ []) h = absurd (omega arith)
+five-planes (a ∷ b ∷ c ∷ d ∷ []) h = absurd (omega arith)
+
+-- fewer than 32 words: five planes have the sums
+pub wrote-few : (words ps few out : List ℕ) → length words < 32 → Totals words ps []
+    → few ≡ get_or ps 0 0 ∷ get_or ps 1 0 ∷ get_or ps 2 0 ∷ get_or ps 3 0 ∷ get_or ps 4 0 ∷ [] → Wrote few 0 out 64 → Wrote ps 0 out 64
+unfolding Wrote column count
+wrote-few words ps few out h t e w c p =
+    let f : few ≡ take 5 ps = e ∙ sym (five-planes ps t.nine) in
+    let z : planes_at ps (0 + c) ≡ planes_at ps c = ap (planes_at ps) (zero-add c) in
+    let s : planes_at ps c + 0 ≡ count (column words c) = t.sums c p in
+    let n : planes_at ps (0 + c) < 32 = omega (arith, column-le words c) in
+    w c p ∙ ap (λ (l : List ℕ). planes_at l (0 + c)) f
+    ∙ planes-few (planes_at ps (0 + c)) (planes_at (take 5 ps) (0 + c)) (planes_at (drop 5 ps) (0 + c)) (planes-split ps 5 (0 + c)) n
 
 -- the numbers of planes that have the sums of all words
 pub counted : (words ps out : List ℕ) → Totals words ps [] → length out ≡ 64 → Wrote ps 0 out 64 → out ≡ column_counts words

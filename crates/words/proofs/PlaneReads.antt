@@ -1,13 +1,11 @@
 -- Numbers of columns read off bit planes: digit by digit, each tested by the mask of its flag. Assumes nothing.
 use Rattle.std.proofs.Common.{◌≡◌, refl, sym, ap, ◌∙◌, Bool, cond, List}
 use Rattle.std.proofs.Common.{ℕ, zero, suc, ◌+◌, ◌-◌, ◌*◌, ◌/◌, ◌%◌, ◌^◌, ◌≤◌, ◌<◌, pow-suc, mod-lt, zero-lt-suc}
-use Rattle.std.proofs.Common.{add-one, arith, bit_and, eqb, ⊎_elim, pow_mono, shl_exact, shr-shr, eq-eqb, ne_eqb}
-use Rattle.std.proofs.Common.{length, drop, get_or, set}
-use Rattle.std.proofs.Common.{drop_of_length-le, drop-cons, get_or-set_same}
-use Rattle.std.proofs.Common.{get_or-set_other}
+use Rattle.std.proofs.Common.{add-one, arith, bit_and, eqb, pow_mono, shl_exact, shr-shr, eq-eqb, ne_eqb}
+use Rattle.std.proofs.Common.{length, drop, get_or}
+use Rattle.std.proofs.Common.{drop_of_length-le, drop-cons}
 use Rattle.std.proofs.Math.Pow.{field, high_ones, mod-mod-pow}
 use Rattle.std.specs.Int.Bits.{and_high}
-use Rattle.std.proofs.lemmas.Bool.{cases_lt}
 use Rattle.words.specs.Flags.{digit}
 use Rattle.words.specs.Planes.{planes_at, Masks}
 use Rattle.words.proofs.Bits.{digit-is_one, digit_lt}
@@ -42,19 +40,6 @@ digits_more ps c i s d h e f =
 
 -- ---- a column tested by a mask
 
-pub masks_more : (ms : List ℕ) (k v : ℕ) → k < length ms → Masks ms k → v ≡ 2 ^ k → Masks (set ms k v) (k + 1)
-unfolding Masks
-masks_more ms k v h inv e c p = ⊎_elim
-    (λ (l : c < k). get_or-set_other ms k c v 0 (λ f. omega arith) ∙ inv c l)
-    (λ (l : k ≤ c).
-    let f : c ≡ k = omega arith in
-    ap (λ (x : ℕ). get_or (set ms k v) x 0) f ∙ get_or-set_same ms k v 0 h ∙ e ∙ ap (λ (x : ℕ). 2 ^ x) (sym f))
-    (cases_lt c k)
-
-pub masks_none : (ms : List ℕ) → Masks ms 0
-unfolding Masks
-masks_none ms c p = absurd (omega arith)
-
 pub mask_of : (ms : List ℕ) (c : ℕ) → Masks ms 32 → c < 32 → get_or ms c 0 ≡ 2 ^ c
 unfolding Masks
 mask_of ms c h p = h c p
@@ -77,7 +62,8 @@ masked h c =
 by_bit : (x m : ℕ) → x < 2 → 0 < m → cond (eqb (x * m) 0) 0 1 ≡ x
 by_bit zero m h p = let e : zero * m ≡ 0 = omega arith in ap (λ (t : Bool). cond t 0 1) (eq-eqb (zero * m) 0 e)
 by_bit (suc zero) m h p =
-    let e : suc zero * m ≡ m = omega arith in ap (λ (t : Bool). cond t 0 1) (ne_eqb (suc zero * m) 0 (λ (f : suc zero * m ≡ 0). omega arith))
+    let e : suc zero * m ≡ m = omega arith in
+    ap (λ (t : Bool). cond t 0 1) (ne_eqb (suc zero * m) 0 (λ (f : suc zero * m ≡ 0). omega arith))
 by_bit (suc (suc x)) m h p = absurd (omega arith)
 
 pub mask-digit : (p s c m h r : ℕ) → s ≤ 32 → c < 32 → m ≡ 2 ^ c → h ≡ p / 2 ^ s % 2 ^ 32 → r ≡ cond (eqb (bit_and h m) 0) 0 1
@@ -90,7 +76,7 @@ mask-digit p s c m h r a b e f g =
     ∙ ap (λ (x : ℕ). x / 2 ^ c % 2) f ∙ half-bit p s c b ∙ digit_shift p (s + c) (omega arith)
 
 -- one digit more of the sum is written
-pub digit_more : (ps : List ℕ) (c i s d t : ℕ) → length ps ≡ 9 → i < length ps → s + 2 ^ i * planes_at (drop i ps) c ≡ planes_at ps c
+pub digit_more : (ps : List ℕ) (c i s d t : ℕ) → length ps ≤ 9 → i < length ps → s + 2 ^ i * planes_at (drop i ps) c ≡ planes_at ps c
     → d ≡ digit (flag (get_or ps i 0) c) → t ≡ d * 2 ^ i % 2 ^ 32 → s + t + 2 ^ (i + 1) * planes_at (drop (i + 1) ps) c ≡ planes_at ps c
 digit_more ps c i s d t long h e f g =
     let one : d < 2 ^ 1 = omega (arith, f, digit_lt (flag (get_or ps i 0) c)) in
@@ -129,9 +115,9 @@ mask_value c h =
     shl_exact 1 c 32 low (omega arith) ∙ e
 
 -- a plane's digit of column s + c, by the mask of flag c, is added to the sum
-pub column_more : (ps : List ℕ) (s c i sum m h r : ℕ) → length ps ≡ 9 → i < 9 → s ≤ 32 → c < 32 → m ≡ 2 ^ c
+pub column_more : (ps : List ℕ) (s c i sum m h r : ℕ) → length ps ≤ 9 → i < length ps → s ≤ 32 → c < 32 → m ≡ 2 ^ c
     → sum + 2 ^ i * planes_at (drop i ps) (s + c) ≡ planes_at ps (s + c) → h ≡ get_or ps i 0 / 2 ^ s % 2 ^ 32
     → r ≡ cond (eqb (bit_and h m) 0) 0 1
     → sum + r * 2 ^ i % 2 ^ 32 + 2 ^ (i + 1) * planes_at (drop (i + 1) ps) (s + c) ≡ planes_at ps (s + c)
 column_more ps s c i sum m h r long p a b e inv f g =
-    digit_more ps (s + c) i sum r (r * 2 ^ i % 2 ^ 32) long (omega arith) inv (mask-digit (get_or ps i 0) s c m h r a b e f g) refl
+    digit_more ps (s + c) i sum r (r * 2 ^ i % 2 ^ 32) long p inv (mask-digit (get_or ps i 0) s c m h r a b e f g) refl

@@ -82,7 +82,8 @@ unlike_zero x w e = each (bits 64 w) ∙ ap (λ (y : Bool). map (xor y) (bits 64
     each (y ∷ l) = ap₂ (λ (z : Bool) (t : List Bool). z ∷ t) (zero_xor y) (each l)
 
 -- the low flags of a word
-pub all-low : (x : Bool) (k w u r : ℕ) (t : Bool) → bits 64 u ≡ map (xor x) (bits 64 w) → bits 64 r ≡ window (take k (bits 64 u)) 0 64 → t ≡ any_set (bits 64 r)
+pub all-low : (x : Bool) (k w u r : ℕ) (t : Bool) → bits 64 u ≡ map (xor x) (bits 64 w) → bits 64 r ≡ window (take k (bits 64 u)) 0 64
+    → t ≡ any_set (bits 64 r)
     → not t ≡ all_are x (take k (bits 64 w))
 all-low x k w u r t p q e =
     ap not (e ∙ ap any_set q ∙ any-padded (take k (bits 64 u)) 64 (omega (arith, length-take k (bits 64 u), length-bits 64 u))
@@ -94,17 +95,21 @@ all-low x k w u r t p q e =
 window-map : (f : Bool → Bool) (l : List Bool) (k n : ℕ) → k + n ≤ length l → window (map f l) k n ≡ map f (window l k n)
 unfolding window
 window-map f l k zero h = refl
-window-map f l k (suc n) h = ap₂ (λ (x : Bool) (t : List Bool). x ∷ t) (get_or-map f l k false false (omega arith)) (window-map f l (suc k) n (omega arith))
+window-map f l k (suc n) h =
+    ap₂ (λ (x : Bool) (t : List Bool). x ∷ t) (get_or-map f l k false false (omega arith)) (window-map f l (suc k) n (omega arith))
 
-all-cut : (x : Bool) (l : List Bool) (k n a b : ℕ) → n ≡ a + b → all_are x (window l k n) ≡ (all_are x (window l k a) && all_are x (window l (k + a) b))
-all-cut x l k n a b e = ap (λ (m : ℕ). all_are x (window l k m)) e ∙ ap (all_are x) (window-add l k a b) ∙ all_append x (window l k a) (window l (k + a) b)
+all-cut : (x : Bool) (l : List Bool) (k n a b : ℕ) → n ≡ a + b
+    → all_are x (window l k n) ≡ (all_are x (window l k a) && all_are x (window l (k + a) b))
+all-cut x l k n a b e =
+    ap (λ (m : ℕ). all_are x (window l k m)) e ∙ ap (all_are x) (window-add l k a b) ∙ all_append x (window l k a) (window l (k + a) b)
 
 pub all-empty : (x : Bool) (l : List Bool) (p : ℕ) → true ≡ all_are x (window l p (64 * 0))
 unfolding window
 all-empty x l p = sym (all_none x)
 
 -- a part with another flag: the whole has it
-pub all-exit : (x : Bool) (l : List Bool) (p n k m : ℕ) (t : Bool) → t ≡ all_are x (window l k m) → t ≡ false → p ≤ k → k + m ≤ p + n → false ≡ all_are x (window l p n)
+pub all-exit : (x : Bool) (l : List Bool) (p n k m : ℕ) (t : Bool) → t ≡ all_are x (window l k m) → t ≡ false → p ≤ k → k + m ≤ p + n
+    → false ≡ all_are x (window l p n)
 all-exit x l p n k m t e f g h =
     let a : n ≡ (k - p) + (m + (p + n - (k + m))) = omega arith in
     let b : p + (k - p) ≡ k = omega arith in
@@ -116,18 +121,23 @@ all-exit x l p n k m t e f g h =
     ∙ and-false (all_are x (window l p (k - p))))
 
 -- a part after another that has only x
-pub all_more : (x : Bool) (l : List Bool) (p n k m s : ℕ) (t : Bool) → true ≡ all_are x (window l p n) → t ≡ all_are x (window l k m) → k ≡ p + n → s ≡ n + m
+pub all_more : (x : Bool) (l : List Bool) (p n k m s : ℕ) (t : Bool) → true ≡ all_are x (window l p n) → t ≡ all_are x (window l k m)
+    → k ≡ p + n → s ≡ n + m
     → t ≡ all_are x (window l p s)
 all_more x l p n k m s t inv e f g =
-    e ∙ ap (λ (y : ℕ). all_are x (window l y m)) f ∙ ap (λ (t : Bool). t && all_are x (window l (p + n) m)) inv ∙ sym (all-cut x l p s n m g)
+    e ∙ ap (λ (y : ℕ). all_are x (window l y m)) f ∙ ap (λ (t : Bool). t && all_are x (window l (p + n) m)) inv
+    ∙ sym (all-cut x l p s n m g)
 
 -- the low flags of a word that was read from a flag on, and of one that was moved down to it
-pub first-are : (x : Bool) (l : List Bool) (at n w : ℕ) (t : Bool) → n ≤ 64 → bits 64 w ≡ window l at 64 → t ≡ all_are x (take n (bits 64 w)) → t ≡ all_are x (window l at n)
+pub first-are : (x : Bool) (l : List Bool) (at n w : ℕ) (t : Bool) → n ≤ 64 → bits 64 w ≡ window l at 64
+    → t ≡ all_are x (take n (bits 64 w)) → t ≡ all_are x (window l at n)
 first-are x l at n w t h p e =
     let z : at + 0 ≡ at = omega arith in
-    e ∙ ap (λ (m : List Bool). all_are x (take n m)) p ∙ ap (all_are x) (window-cut l at 64 0 n (omega arith)) ∙ ap (λ (y : ℕ). all_are x (window l y n)) z
+    e ∙ ap (λ (m : List Bool). all_are x (take n m)) p ∙ ap (all_are x) (window-cut l at 64 0 n (omega arith))
+    ∙ ap (λ (y : ℕ). all_are x (window l y n)) z
 
-pub near-are : (x : Bool) (l : List Bool) (start n w : ℕ) (t : Bool) → start % 8 + n ≤ 64 → bits 64 w ≡ window (window l start (64 - start % 8)) 0 64
+pub near-are : (x : Bool) (l : List Bool) (start n w : ℕ) (t : Bool) → start % 8 + n ≤ 64
+    → bits 64 w ≡ window (window l start (64 - start % 8)) 0 64
     → t ≡ all_are x (take n (bits 64 w)) → t ≡ all_are x (window l start n)
 near-are x l start n w t h p e = e ∙ ap (all_are x) (near-first l start n w h p)
 
@@ -143,7 +153,8 @@ any-inside l s n e h = ⊎_elim
     let b : 64 - s ≡ min n (64 - s) = omega arith in
     ap any_set (first p) ∙ ap (λ (y : ℕ). any_set (window l s y)) m ∙ any-add l s (64 - s) (min n 64 - (64 - s))
     ∙ ap (λ (t : List Bool). any_set (window l s (64 - s)) || any_set t) (window-past l (s + (64 - s)) (min n 64 - (64 - s)) (omega arith))
-    ∙ ap (λ (t : Bool). any_set (window l s (64 - s)) || t) (any-copies (min n 64 - (64 - s)) false ∙ and-false (ltb 0 (min n 64 - (64 - s))))
+    ∙ ap (λ (t : Bool). any_set (window l s (64 - s)) || t)
+    (any-copies (min n 64 - (64 - s)) false ∙ and-false (ltb 0 (min n 64 - (64 - s))))
     ∙ or-false (any_set (window l s (64 - s))) ∙ ap (λ (y : ℕ). any_set (window l s y)) b)
     (cases_lt n (64 - s))
   where
@@ -159,32 +170,37 @@ any-inside l s n e h = ⊎_elim
         (cases_lt n 64)
 
 -- a flag unlike x among the first flags of the eight bytes in which a stretch begins
-pub differs : (x : Bool) (l : List Bool) (start n w u v r : ℕ) (t : Bool) → bits 64 w ≡ window l (8 * (start / 8)) 64 → bits 64 u ≡ map (xor x) (bits 64 w)
+pub differs : (x : Bool) (l : List Bool) (start n w u v r : ℕ) (t : Bool) → bits 64 w ≡ window l (8 * (start / 8)) 64
+    → bits 64 u ≡ map (xor x) (bits 64 w)
     → bits 64 v ≡ window (bits 64 u) (start % 8) 64 → bits 64 r ≡ window (take n (bits 64 v)) 0 64 → t ≡ any_set (bits 64 r)
     → t ≡ not (all_are x (window l start (min n (64 - start % 8))))
 differs x l start n w u v r t pw pu pv pr pt =
     let k : ℕ = min n (64 - start % 8) in
     let at : 8 * (start / 8) + start % 8 ≡ start = omega arith in
     let near : window (bits 64 w) (start % 8) k ≡ window l start k =
-    ap (λ (m : List Bool). window m (start % 8) k) pw ∙ in_window l (8 * (start / 8)) 64 (start % 8) k (omega arith) ∙ ap (λ (y : ℕ). window l y k) at in
+    ap (λ (m : List Bool). window m (start % 8) k) pw ∙ in_window l (8 * (start / 8)) 64 (start % 8) k (omega arith)
+    ∙ ap (λ (y : ℕ). window l y k) at in
     let some : t ≡ any_set (map (xor x) (window l start k)) =
     pt ∙ ap any_set pr ∙ any-padded (take n (bits 64 v)) 64 (omega (arith, length-take n (bits 64 v), length-bits 64 v))
     ∙ ap (λ (m : List Bool). any_set (take n m)) pv ∙ any-inside (bits 64 u) (start % 8) n (length-bits 64 u) (omega arith)
     ∙ ap (λ (m : List Bool). any_set (window m (start % 8) k)) pu
-    ∙ ap any_set (window-map (xor x) (bits 64 w) (start % 8) k (omega (arith, length-bits 64 w))) ∙ ap (λ (m : List Bool). any_set (map (xor x) m)) near in
+    ∙ ap any_set (window-map (xor x) (bits 64 w) (start % 8) k (omega (arith, length-bits 64 w)))
+    ∙ ap (λ (m : List Bool). any_set (map (xor x) m)) near in
     some ∙ sym (not-not (any_set (map (xor x) (window l start k)))) ∙ ap not (all_any x (window l start k))
 
 pub too_few : (x : Bool) (bytes : List ℕ) (start n : ℕ) → length bytes < start / 8 + 8 → false ≡ differs_early x bytes start n
 unfolding differs_early
 too_few x bytes start n h = rw (lt-leb (start / 8 + 8) (length bytes) h)
 
-pub enough : (x : Bool) (bytes : List ℕ) (start n : ℕ) (t : Bool) → start / 8 + 8 ≤ length bytes → t ≡ not (all_are x (window (flags_of bytes) start (min n (64 - start % 8))))
+pub enough : (x : Bool) (bytes : List ℕ) (start n : ℕ) (t : Bool) → start / 8 + 8 ≤ length bytes
+    → t ≡ not (all_are x (window (flags_of bytes) start (min n (64 - start % 8))))
     → t ≡ differs_early x bytes start n
 unfolding differs_early
 enough x bytes start n t h e = rw (le-leb (start / 8 + 8) (length bytes) h) e
 
 -- a flag that differs early differs
-pub early-other : (x : Bool) (bytes : List ℕ) (start n : ℕ) (t : Bool) → t ≡ differs_early x bytes start n → t ≡ true → all_are x (window (flags_of bytes) start n) ≡ false
+pub early-other : (x : Bool) (bytes : List ℕ) (start n : ℕ) (t : Bool) → t ≡ differs_early x bytes start n → t ≡ true
+    → all_are x (window (flags_of bytes) start n) ≡ false
 unfolding differs_early
 early-other x bytes start n t e said = go (leb (start / 8 + 8) (length bytes)) (sym said ∙ e)
   where
@@ -192,7 +208,9 @@ early-other x bytes start n t e said = go (leb (start / 8 + 8) (length bytes)) (
     first = window (flags_of bytes) start (min n (64 - start % 8))
 
     go : (b : Bool) → true ≡ (b && not (all_are x first)) → all_are x (window (flags_of bytes) start n) ≡ false
-    go true p = sym (all-exit x (flags_of bytes) start n start (min n (64 - start % 8)) (all_are x first) refl (not-true (all_are x first) (sym p)) (omega arith) (omega arith))
+    go true p =
+        sym (all-exit x (flags_of bytes) start n start (min n (64 - start % 8)) (all_are x first) refl (not-true (all_are x first) (sym p))
+        (omega arith) (omega arith))
     go false p = absurd (true≢false p)
 
 -- ---- word by word
@@ -201,7 +219,8 @@ pub length_unlike : (x : Bool) (l : List Bool) (p n : ℕ) → length (map (xor 
 length_unlike x l p n = length-map (window l p n) (xor x) ∙ length-window l p n
 
 -- word i of a stretch, each flag changed
-pub map-word : (f : Bool → Bool) (l : List Bool) (p n i x w u : ℕ) → 64 * i + 64 ≤ n → x ≡ p + 64 * i → bits 64 w ≡ window l x 64 → bits 64 u ≡ map f (bits 64 w)
+pub map-word : (f : Bool → Bool) (l : List Bool) (p n i x w u : ℕ) → 64 * i + 64 ≤ n → x ≡ p + 64 * i → bits 64 w ≡ window l x 64
+    → bits 64 u ≡ map f (bits 64 w)
     → bits 64 u ≡ window (map f (window l p n)) (64 * i) 64
 map-word f l p n i x w u h e q r =
     r ∙ ap (map f) (span-word l p n i x w h e q) ∙ sym (window-map f (window l p n) (64 * i) 64 (omega (arith, length-window l p n)))
@@ -211,7 +230,8 @@ map-word f l p n i x w u h e q r =
 pub counted-one : (x : Bool) (l : List Bool) (p n c : ℕ) → x ≡ true → c ≡ count (window l p n) → eqb c n ≡ all_are x (window l p n)
 unfolding all_are
 counted-one x l p n c e q =
-    let one : length (window l p n) * digit x ≡ n = ap (λ (y : Bool). length (window l p n) * digit y) e ∙ omega (arith, length-window l p n) in
+    let one : length (window l p n) * digit x ≡ n =
+    ap (λ (y : Bool). length (window l p n) * digit y) e ∙ omega (arith, length-window l p n) in
     ap₂ eqb q (sym one)
 
 pub counted-zero : (x : Bool) (l : List Bool) (p n c : ℕ) → x ≡ false → c ≡ count (window l p n) → eqb c 0 ≡ all_are x (window l p n)

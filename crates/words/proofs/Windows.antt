@@ -1,8 +1,7 @@
 -- The laws of `window` and `over`: none has a condition on the length of the list that is read. Assumes nothing.
-use Rattle.std.proofs.Common.{◌≡◌, refl, sym, ap, ap₂, ◌∙◌, Bool, false, ◌&&◌, List, [], ◌∷◌, ◌++◌, ⊎_elim, ℕ, zero}
-use Rattle.std.proofs.Common.{suc, ◌+◌, ◌-◌, ◌^◌, ◌≤◌, ◌<◌, zero-le, add-zero, zero-add, add-suc, suc-add, lt_of_lt_of_le, arith, length}
-use Rattle.std.proofs.Common.{take, drop, get_or, set, length-take, ltb, get_or-drop, get_or-take, take_at, drop_at, pow_mono, lt-ltb}
-use Rattle.std.proofs.Common.{le-ltb}
+use Rattle.std.proofs.Common.{◌≡◌, refl, sym, ap, ap₂, ◌∙◌, Bool, false, ◌&&◌, List, [], ◌∷◌, ◌++◌, ⊎_elim, ℕ, zero, suc, ◌+◌, ◌-◌, ◌^◌}
+use Rattle.std.proofs.Common.{◌≤◌, ◌<◌, zero-le, add-zero, zero-add, add-suc, suc-add, lt_of_lt_of_le, arith, length, take, drop, get_or}
+use Rattle.std.proofs.Common.{set, length-take, ltb, get_or-drop, get_or-take, take_at, drop_at, pow_mono, lt-ltb, le-ltb}
 use Rattle.std.proofs.Math.Arith.{digits_div, digits_mod}
 use Rattle.std.proofs.Math.Dec.{leb-suc-suc}
 use Rattle.std.proofs.Math.ListN.{get_or-eq_default}
@@ -43,7 +42,9 @@ window-cut l k m o n h =
 pub window-drop : (l : List Bool) (a k n : ℕ) → window (drop a l) k n ≡ window l (a + k) n
 unfolding window
 window-drop l a k zero = refl
-window-drop l a k (suc n) = ap₂ (λ (x : Bool) (t : List Bool). x ∷ t) (get_or-drop a l k false) (window-drop l a (suc k) n ∙ ap (λ (x : ℕ). window l x n) (add-suc a k))
+window-drop l a k (suc n) =
+    ap₂ (λ (x : Bool) (t : List Bool). x ∷ t) (get_or-drop a l k false)
+    (window-drop l a (suc k) n ∙ ap (λ (x : ℕ). window l x n) (add-suc a k))
 
 -- a whole list is a window of itself
 pub window-all : (l : List Bool) → window l 0 (length l) ≡ l
@@ -73,7 +74,8 @@ at_copies (suc m) x (suc k) h = at_copies m x k (omega arith)
 pub copies-window : (m : ℕ) (x : Bool) (k n : ℕ) → k + n ≤ m → copies n x ≡ window (copies m x) k n
 unfolding window copies
 copies-window m x k zero h = refl
-copies-window m x k (suc n) h = ap₂ (λ (y : Bool) (t : List Bool). y ∷ t) (sym (at_copies m x k (omega arith))) (copies-window m x (suc k) n (omega arith))
+copies-window m x k (suc n) h =
+    ap₂ (λ (y : Bool) (t : List Bool). y ∷ t) (sym (at_copies m x k (omega arith))) (copies-window m x (suc k) n (omega arith))
 
 -- ---- by the flag
 
@@ -95,7 +97,8 @@ at_take n l j = ⊎_elim
     (cases_lt j n)
 
 -- windows with the same flags are equal
-pub window-ext : (a b : List Bool) (k h n : ℕ) → ((j : ℕ) → j < n → get_or a (k + j) false ≡ get_or b (h + j) false) → window a k n ≡ window b h n
+pub window-ext : (a b : List Bool) (k h n : ℕ) → ((j : ℕ) → j < n → get_or a (k + j) false ≡ get_or b (h + j) false)
+    → window a k n ≡ window b h n
 unfolding window
 window-ext a b k h zero p = refl
 window-ext a b k h (suc n) p =
@@ -107,7 +110,8 @@ window-ext a b k h (suc n) p =
     ap (λ (x : ℕ). get_or a x false) e ∙ p (suc j) (omega arith) ∙ ap (λ (x : ℕ). get_or b x false) f))
 
 -- a list of n flags is the window that has them
-pub as-window : (l b : List Bool) (h n : ℕ) → length l ≡ n → ((j : ℕ) → j < n → get_or l j false ≡ get_or b (h + j) false) → l ≡ window b h n
+pub as-window : (l b : List Bool) (h n : ℕ) → length l ≡ n → ((j : ℕ) → j < n → get_or l j false ≡ get_or b (h + j) false)
+    → l ≡ window b h n
 as-window l b h n e p =
     sym (window-all l) ∙ ap (window l 0) e
     ∙ window-ext l b 0 h n (λ j q. let z : 0 + j ≡ j = omega arith in ap (λ (x : ℕ). get_or l x false) z ∙ p j q)

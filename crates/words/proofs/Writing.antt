@@ -1,20 +1,23 @@
 -- Loops that write a word a turn: F is the output's flags at first, G what is written over them, zeros past its end. Assumes nothing.
 use Rattle.std.proofs.Common.{◌≡◌, sym, ap, ap₂, ◌∙◌, Bool, false, List, ◌++◌, ⊎_elim, ℕ, ◌+◌, ◌-◌, ◌*◌, ◌/◌, ◌%◌, ◌≤◌, ◌<◌, arith, length}
-use Rattle.std.proofs.Common.{take, drop, get_or, replicate, [], append-nil, drop_of_length-le, zero, suc, refl, ◌∷◌, zero-add, suc-add, take_all, le_of_eq, length-take-le, lt-ltb, le-ltb}
+use Rattle.std.proofs.Common.{take, drop, get_or, replicate, [], append-nil, drop_of_length-le, zero, suc, refl, ◌∷◌, zero-add, suc-add}
+use Rattle.std.proofs.Common.{take_all, le_of_eq, length-take-le, lt-ltb, le-ltb}
 use Rattle.std.proofs.Math.ListN.{get_or-eq_default}
 use Rattle.std.proofs.lemmas.Bool.{cases_lt}
 use Rattle.words.specs.Flags.{bits, copies, flags_of, window, over, over_at}
 use Rattle.words.specs.Loops.{whole_words}
 use Rattle.words.proofs.Bytes.{length-flags, over-part}
 use Rattle.words.proofs.Loads.{over-take}
-use Rattle.words.proofs.Windows.{length-copies, at_copies, length-window, window-add, window-all, window-ext, at_take, over_none, over-more, over_enough}
+use Rattle.words.proofs.Windows.{length-copies, at_copies, length-window, window-add, window-all, window-ext, at_take, over_none, over-more}
+use Rattle.words.proofs.Windows.{over_enough}
 
 pub write-none : (F G : List Bool) → F ≡ over F (window G 0 0)
 unfolding window
 write-none F G = sym (over_none F)
 
 -- one more word
-pub write_step : (F G : List Bool) (i w : ℕ) (out out' : List ℕ) → flags_of out ≡ over F (window G 0 (64 * i)) → bits 64 w ≡ window G (64 * i) 64
+pub write_step : (F G : List Bool) (i w : ℕ) (out out' : List ℕ) → flags_of out ≡ over F (window G 0 (64 * i))
+    → bits 64 w ≡ window G (64 * i) 64
     → flags_of out' ≡ over_at (flags_of out) (8 * (8 * i)) (bits 64 w) → flags_of out' ≡ over F (window G 0 (64 * (i + 1)))
 unfolding over_at
 write_step F G i w out out' inv new put =
@@ -27,7 +30,8 @@ write_step F G i w out out' inv new put =
     ∙ ap (over F) (sym (window-add G 0 (64 * i) 64) ∙ ap (window G 0) e)
 
 -- all words of a list that is whole words
-pub write-all : (F G : List Bool) (i n : ℕ) (out : List ℕ) → flags_of out ≡ over F (window G 0 (64 * i)) → length G ≡ 64 * n → i ≤ n → n ≤ i → flags_of out ≡ over F G
+pub write-all : (F G : List Bool) (i n : ℕ) (out : List ℕ) → flags_of out ≡ over F (window G 0 (64 * i)) → length G ≡ 64 * n → i ≤ n → n ≤ i
+    → flags_of out ≡ over F G
 write-all F G i n out p l h k =
     let e : 64 * i ≡ length G = omega arith in
     p ∙ ap (λ (x : ℕ). over F (window G 0 x)) e ∙ ap (over F) (window-all G)
@@ -50,7 +54,8 @@ write-end F G len m i out p l_f l_g full h =
     (λ (l : i < (len + 63) / 64).
     let e : 64 * i + (64 * ((len + 63) / 64) - 64 * i) ≡ 64 * ((len + 63) / 64) = omega arith in
     let room : m ≤ 64 * i = full l in
-    p ∙ sym (over_enough F (window G 0 (64 * i)) (window G (0 + 64 * i) (64 * ((len + 63) / 64) - 64 * i)) (omega (arith, length-window G 0 (64 * i))))
+    p ∙ sym (over_enough F (window G 0 (64 * i)) (window G (0 + 64 * i) (64 * ((len + 63) / 64) - 64 * i))
+    (omega (arith, length-window G 0 (64 * i))))
     ∙ ap (over F) (sym (window-add G 0 (64 * i) (64 * ((len + 63) / 64) - 64 * i)) ∙ ap (window G 0) e))
     (λ (l : (len + 63) / 64 ≤ i). let e : i ≡ (len + 63) / 64 = omega arith in p ∙ ap (λ (x : ℕ). over F (window G 0 (64 * x))) e)
     (cases_lt i ((len + 63) / 64))
@@ -59,7 +64,8 @@ write-end F G len m i out p l_f l_g full h =
 -- the last, cut word of copies
 pub copies-cut : (len : ℕ) (x : Bool) (k w r : ℕ) → k ≤ len → bits 64 w ≡ copies 64 x
     → bits 64 r ≡ window (take (len - k) (bits 64 w)) 0 64 → bits 64 r ≡ window (copies len x) k 64
-copies-cut len x k w r h q p = p ∙ ap (λ (t : List Bool). window (take (len - k) t) 0 64) q ∙ window-ext (take (len - k) (copies 64 x)) (copies len x) 0 k 64 (λ j b.
+copies-cut len x k w r h q p =
+    p ∙ ap (λ (t : List Bool). window (take (len - k) t) 0 64) q ∙ window-ext (take (len - k) (copies 64 x)) (copies len x) 0 k 64 (λ j b.
     let z : 0 + j ≡ j = omega arith in
     ap (λ (i : ℕ). get_or (take (len - k) (copies 64 x)) i false) z ∙ at_take (len - k) (copies 64 x) j
     ∙ ⊎_elim
@@ -68,7 +74,8 @@ copies-cut len x k w r h q p = p ∙ ap (λ (t : List Bool). window (take (len -
     (cases_lt j (len - k)))
 
 -- at most a word
-pub write-once : (G : List Bool) (len w : ℕ) (out out' : List ℕ) → length G ≡ len → 0 < len → len ≤ 64 → bits 64 w ≡ window G 0 64 → flags_of out' ≡ over (flags_of out) (bits 64 w)
+pub write-once : (G : List Bool) (len w : ℕ) (out out' : List ℕ) → length G ≡ len → 0 < len → len ≤ 64 → bits 64 w ≡ window G 0 64
+    → flags_of out' ≡ over (flags_of out) (bits 64 w)
     → flags_of out' ≡ over (flags_of out) (whole_words G)
 unfolding whole_words
 write-once G len w out out' l low high new put =
@@ -99,16 +106,19 @@ pub filled_all : (l out : List ℕ) (i b : ℕ) (x : Bool) → out ≡ replicate
     → flags_of out ≡ copies (8 * length l) x
 filled_all l out i b x p e h =
     let rest : drop i l ≡ [] = drop_of_length-le l (le_of_eq (sym e)) in
-    ap flags_of (p ∙ ap (λ (m : List ℕ). replicate i b ++ m) rest ∙ append-nil (replicate i b)) ∙ flags-same i b x h ∙ ap (λ (n : ℕ). copies (8 * n) x) e
+    ap flags_of (p ∙ ap (λ (m : List ℕ). replicate i b ++ m) rest ∙ append-nil (replicate i b)) ∙ flags-same i b x h
+    ∙ ap (λ (n : ℕ). copies (8 * n) x) e
 
 -- a flag, written over the bytes that n words take
-pub fill-front : (n m : ℕ) (x : Bool) (out part : List ℕ) → 8 * n ≤ length out → n ≡ m → flags_of part ≡ copies (8 * length (take (8 * n) out)) x
+pub fill-front : (n m : ℕ) (x : Bool) (out part : List ℕ) → 8 * n ≤ length out → n ≡ m
+    → flags_of part ≡ copies (8 * length (take (8 * n) out)) x
     → flags_of (part ++ drop (8 * n) out) ≡ over (flags_of out) (copies (64 * m) x)
 fill-front n m x out part h e p =
     let long : length (take (8 * n) out) ≡ 8 * n = length-take-le (8 * n) out h in
     let q : 8 * length (take (8 * n) out) ≡ 64 * m = omega arith in
     let r : length (copies (64 * m) x) ≡ 8 * (8 * n) = length-copies (64 * m) x ∙ omega arith in
-    let s : length (flags_of (take (8 * n) out)) ≡ length (copies (64 * m) x) = length-flags (take (8 * n) out) ∙ q ∙ sym (length-copies (64 * m) x) in
+    let s : length (flags_of (take (8 * n) out)) ≡ length (copies (64 * m) x) =
+    length-flags (take (8 * n) out) ∙ q ∙ sym (length-copies (64 * m) x) in
     over-part (8 * n) (copies (64 * m) x) out part h r
     (p ∙ ap (λ (k : ℕ). copies k x) q ∙ sym (take_all (length (flags_of (take (8 * n) out))) (copies (64 * m) x) (le_of_eq (sym s)))
     ∙ sym (over-take (flags_of (take (8 * n) out)) (copies (64 * m) x) (le_of_eq s)))

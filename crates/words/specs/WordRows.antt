@@ -47,7 +47,9 @@ rows =
     -- Is a flag set: none of no flags, one of two.
     ∷ row (any_set [] ∷ any_set (false ∷ true ∷ []) ∷ any_set (false ∷ false ∷ []) ∷ []) (0 ∷ 1 ∷ 0 ∷ [])
     -- Are all flags one flag: of ones, of zeros, of both, of none.
-    ∷ row (all_are true (true ∷ true ∷ []) ∷ all_are false (false ∷ false ∷ []) ∷ all_are true (true ∷ false ∷ []) ∷ all_are false (true ∷ false ∷ []) ∷ [])
+    ∷ row
+    (all_are true (true ∷ true ∷ []) ∷ all_are false (false ∷ false ∷ []) ∷ all_are true (true ∷ false ∷ []) ∷ all_are false
+    (true ∷ false ∷ []) ∷ [])
     (1 ∷ 1 ∷ 0 ∷ 0 ∷ [])
     -- Is one of the first flags not set: of fewer than eight bytes no; of eight flags from 4 on, of four, and of four again.
     ∷ row (differs_early true (0 ∷ []) 0 4 ∷ differs_early true (0xF0 ∷ replicate 7 0xFF) 4 8

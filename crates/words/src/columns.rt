@@ -4,13 +4,18 @@ ghost use Rattle.words.specs.Columns.{column_counts, digit_of};
 
 use crate::planes::{digit_at, spread, totals};
 
-// Returns for each flag how many of the first 511 words have it set: nine planes hold no larger number.
+// Returns for each flag how many of the first 511 words have it set: nine planes hold no larger number. Of fewer than 32 words five planes
+// are read, which halves the instructions of the reading.
 pub fn column_counts(words: &[u64]) -> [u32; 64]
     ensures { result ≡ column_counts (take 511 words.now) }
 {
-    let n = usize::min(511, words.len());
+    let n = words.len().min(511);
     let planes = totals(&words[..n]);
-    spread(&planes)
+    if n < 32 {
+        spread(&[planes[0], planes[1], planes[2], planes[3], planes[4]])
+    } else {
+        spread(&planes)
+    }
 }
 
 // Returns flag k of a word as a number: 1 if it is set, else 0.

@@ -13,11 +13,11 @@ use crate::lanes::{Aligned, Lane, Lanes, Shifted};
 use crate::loops::{copy, room, triple_word, words_for};
 use crate::ops::{Op, combine_word};
 use crate::rows::Countable;
-use crate::word::{byte_word, down, near_word, ones_below, ones_in_word};
+use crate::word::{byte_word, down, low_flags, near_word, ones_below, ones_in_word};
 
-// How many flags of a stretch are set. Whole words from a byte on, all in range, are counted with no look for partial ones. What is
-// rare is outside this body and gets a slice or a record of its own, so that the slice given here stays in registers. The choice
-// stands here and in `ones` of `rows`: through that function, with two callers, 1000 flags take 30 instructions more.
+// How many flags of a stretch are set. Whole words from a byte on, all in range, are counted with no look for partial ones. Rare
+// cases are in functions outside this body and get a slice or record of their own, so that this slice stays in registers. `ones` of
+// `rows` makes the same choice: called from here, 1000 flags take 30 instructions more.
 pub fn count_ones(bytes: &[u8], start: usize, len: usize) -> usize
     ensures { result ≡ count (stretch bytes.now start len) }
 {
@@ -42,7 +42,7 @@ pub fn count_ones(bytes: &[u8], start: usize, len: usize) -> usize
 fn whole_words(size: usize, start: usize, len: usize) -> bool
     ensures { result ≡ true → WholeWords size start len }
 {
-    start % 8 + len % 64 == 0 && len / 64 <= room(size, start / 8)
+    start % 8 == 0 && len % 64 == 0 && len / 64 <= room(size, start / 8)
 }
 
 // The flags of the first eight bytes, whole words, and the rest. What fits a word is one load.
@@ -71,10 +71,7 @@ pub fn copy_count(bytes: &[u8], start: usize, len: usize, out: &mut [u8]) -> usi
     ensures ones { result ≡ count (stretch bytes.now start len) }
     ensures flags { flags_of out.new ≡ over (flags_of out.old) (whole_words (stretch bytes.now start len)) }
 {
-    if len % 64 != 0 {
-        return copy_then_count(bytes, start, len, out);
-    }
-    if room(bytes.len(), start / 8 + 1).min(out.len() / 8) < len / 64 {
+    if len % 64 != 0 || room(bytes.len(), start / 8 + 1).min(out.len() / 8) < len / 64 {
         return copy_then_count(bytes, start, len, out);
     }
     if start % 8 == 0 {
@@ -98,6 +95,7 @@ fn copy_then_count(bytes: &[u8], start: usize, len: usize, out: &mut [u8]) -> us
 fn reach(x: usize, y: usize, z: usize) -> usize
     ensures { (x ≤ 8 * result) × ((y ≤ 8 * result) × (z ≤ 8 * result)) }
 {
+    // one word too many where the last is whole: by `div_ceil` `num_edges` of 1000 flags takes 1.011 of the instructions
     x.max(y).max(z) / 8 + 1
 }
 
@@ -165,6 +163,8 @@ pub fn count_ones_of<'a>(op: Op, a: &Flags<'a>, b: &Flags<'a>, c: &Flags<'a>, le
 }
 
 // Returns whether any flag of three lanes combined is set. Tests 64 words at a time and stops at the first block with one.
+// `words_are` of `uniform` has the same loop: a shared one would take the test of a block as a closure and promise what it answered of
+// each block, and both callers' proofs would have to join the blocks to flags again.
 fn any_whole<A: Lane, B: Lane, C: Lane>(op: Op, lanes: &Lanes<A, B, C>) -> bool
     ensures { result ≡ any_set (combined op (A.source lanes.now.a) (A.start lanes.now.a) (B.source lanes.now.b) (B.start lanes.now.b)
         (C.source lanes.now.c) (C.start lanes.now.c) (64 * lanes.now.n)) }
@@ -197,21 +197,21 @@ pub fn any_set<'a>(op: Op, a: &Flags<'a>, b: &Flags<'a>, c: &Flags<'a>, len: usi
     let y = Shifted::new(*b);
     let z = Shifted::new(*c);
     let lanes = Lanes::new(len / 64, x, y, z);
-    if any_whole(op, &lanes) {
-        return true;
-    }
-    // a range: i is the place of a word in three stretches, which have no slice of words
-    for i in lanes.n..n {
-        if is_set(triple_word(op, a, b, c, len, i)) {
-            return true;
-        }
-    }
-    any_behind(past_end(op), len, n)
+    any_whole(op, &lanes)
+        || (lanes.n..n).any(|i| is_set(triple_word(op, a, b, c, len, i)))
+        || any_behind(past_end(op), len, n)
 }
 
-// Returns whether two stretches have the same flags.
+// Returns whether two stretches have the same flags. At most 64 are two words, compared here: by `any_set`, which reads three, `eq` of 40
+// flags takes 247 instructions in place of 176, and 188 where this is a function of its own.
+#[inline(always)]
 pub fn equal<'a>(a: &Flags<'a>, b: &Flags<'a>, len: usize) -> bool
     ensures { result ≡ same_flags (stretch a.now.bytes.now a.now.start len) (stretch b.now.bytes.now b.now.start len) }
 {
+    if len <= 64 {
+        let x = a.word(0);
+        let y = b.word(0);
+        return !is_set(low_flags(combine_word(Op::Xor, x, y, y), len));
+    }
     !any_set(Op::Xor, a, b, b, len)
 }

@@ -1,6 +1,6 @@
 // What the combinations take of each operand: lent bytes and the flag from which on they are read. Calls with one operand (`copy`,
-// `count_ones`, `copy_count`, `all_are`, `differs_early`, `word_from`, `flag_at`) take the two as parameters: their callers have a slice
-// and a number that they reckon with, and would make a `Flags` for one call only.
+// `count_ones`, `copy_count`, `all_are`, `differs_early`, `near_word`, `word_from`, `flag_at`) take the two as parameters: their callers
+// have a slice and a number that they reckon with, and would make a `Flags` for one call only.
 ghost use Rattle.std.specs.Prelude.{◌≡◌, ◌*◌, ◌+◌, ◌^◌, ◌<◌};
 ghost use Rattle.words.specs.Flags.{word_flags, flags_of, window};
 

@@ -41,7 +41,8 @@ impl Kernel for Combine {
     ghost gives = { λ flags old new _. flags_of new ≡ over (flags_of old) flags };
 
     fn run<O: Operation, A: Lane, B: Lane, C: Lane>(lanes: &Lanes<A, B, C>, out: &mut [u8]) {
-        // a range: i is the place of a word in three lanes and in the output, which have no slices of words
+        // a range: i is the place of a word in three lanes, which have no slices of words, and in the output: std has no clause on what a
+        // slice holds after `chunks_exact_mut`
         for i in 0..lanes.n {
             let w = lanes.word::<O>(i);
             put_word(out, 8 * i, w);
@@ -124,7 +125,8 @@ pub(crate) fn copy_words<L: Lane>(lane: &L, n: usize, out: &mut [u8]) -> usize
     ensures flags { flags_of out.new ≡ over (flags_of out.old) (window (flags_of (L.source lane.now)) (L.start lane.now) (64 * n)) }
 {
     let mut ones: usize = 0;
-    // a range: i is the place of a word in the lane and in the output, which have no slices of words
+    // a range: i is the place of a word in the lane, which has no slice of words, and in the output: std has no clause on what a slice
+    // holds after `chunks_exact_mut`
     for i in 0..n {
         let w = lane.word(i);
         put_word(out, 8 * i, w);

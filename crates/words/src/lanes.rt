@@ -33,8 +33,8 @@ pub(crate) trait Lane: Drop {
         ensures words { words result + i ≡ words self.now };
 }
 
-// n words from a byte on. Not a slice of arrays of eight bytes (`as_chunks`): for that `at` has to be cut to the length of the bytes first,
-// and counting 40 flags takes 1.02 of the instructions.
+// n words from a byte on. Not a slice of arrays of eight bytes (`as_chunks`): where n is 0 the byte may lie past the end, so that `at`
+// has to be cut to the length of the bytes first, and counting 40 flags takes 1.02 of the instructions.
 #[derive(Clone, Copy)]
 pub(crate) struct Aligned<'a> {
     pub(crate) bytes: &'a [u8],

@@ -80,7 +80,8 @@ fn combine_long<'a>(op: Op, a: &Flags<'a>, b: &Flags<'a>, c: &Flags<'a>, len: us
 {
     let n = words_for(len).min(out.len().div_ceil(8));
     let done = combine_whole(op, a, b, c, len, out);
-    // a range: i is the place of a word in three stretches and in the output, which have no slices of words
+    // a range: i is the place of a word in three stretches, which have no slices of words, and in the output: std has no clause on what a
+    // slice holds after `chunks_mut`, by which the last word may be cut
     for i in done..n {
         store_at(out, 8 * i, triple_word(op, a, b, c, len, i));
     }
@@ -100,7 +101,7 @@ fn combine_whole<'a>(
         (combined op a.now.bytes.now a.now.start b.now.bytes.now b.now.start c.now.bytes.now c.now.start (64 * result)))) }
 {
     let most = (len / 64).min(out.len() / 8);
-    if a.start % 8 + b.start % 8 + c.start % 8 == 0 {
+    if a.start % 8 == 0 && b.start % 8 == 0 && c.start % 8 == 0 {
         let x = Aligned::new(a.bytes, a.start / 8);
         let y = Aligned::new(b.bytes, b.start / 8);
         let z = Aligned::new(c.bytes, c.start / 8);

@@ -9,6 +9,7 @@ ghost use Rattle.words.specs.Merge.{merged};
 pub fn merge_reversed(current: u64, next: u64, offset: usize) -> u64
     ensures { word_flags result ≡ merged (word_flags current) (word_flags next) offset }
 {
+    // two tests: the proof has a law for each
     if offset == 0 {
         return current;
     }

@@ -19,7 +19,7 @@ fn descend(w: u64, n: u32, width: u32) -> u32
         return 0;
     }
     let half = width / 2;
-    let ones = u64::count_ones(w << (64 - half));
+    let ones = (w << (64 - half)).count_ones();
     let skip = if_behind(n, ones, half);
     let passed = if_behind(n, ones, ones);
     skip + descend(w >> skip, n - passed, width - half)

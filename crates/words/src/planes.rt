@@ -1,9 +1,11 @@
-// Bit planes: plane i has digit i of 64 numbers, so that a word is added to all 64 with a few operations. Everything is in range
-// by `requires`: nine planes hold numbers below 512.
-ghost use Rattle.std.specs.Prelude.{◌≡◌, cond, [], ℕ, ◌+◌, ◌/◌, ◌%◌, ◌^◌, ◌<◌, ◌≤◌, eqb, length};
+// Bit planes: plane i has digit i of 64 numbers, so that a word is added to all 64 with a few operations. `totals` takes fewer
+// than 512 words, so that nine planes hold each number.
+ghost use Rattle.std.specs.Prelude.{◌≡◌, cond, [], ℕ, ◌+◌, ◌^◌, ◌<◌, ◌≤◌, eqb, length};
 ghost use Rattle.std.specs.Int.Bits.{bit_and};
 ghost use Rattle.words.specs.Columns.{digit_of};
 ghost use Rattle.words.specs.Planes.{planes_at, added, Added, FourMore, Grown, Masks, Totals, Wrote};
+
+use std::array;
 
 // Adds a word to planes: each hands its carry to the next.
 fn add(planes: &mut [u64], w: u64)
@@ -101,11 +103,7 @@ pub(crate) fn digit_at(w: u64, c: usize) -> u32
 fn masks() -> [u32; 32]
     ensures { Masks result 32 }
 {
-    let mut out: [u32; 32] = [0; 32];
-    for (c, mask) in out.iter_mut().enumerate() {
-        *mask = 1 << c;
-    }
-    out
+    array::from_fn(|c| 1 << c)
 }
 
 // Returns 1 where the flag of the mask is set, else 0.
@@ -116,8 +114,8 @@ fn digit_by(half: u32, mask: u32) -> u32
 }
 
 // Returns the number of column s + c, where the mask has flag c alone.
-fn column_by(planes: &[u64; 9], s: usize, mask: u32) -> u32
-    requires { s ≤ 32 }
+fn column_by<const N: usize>(planes: &[u64; N], s: usize, mask: u32) -> u32
+    requires { (s ≤ 32) × (N ≤ 9) }
     ensures { (c : ℕ) → c < 32 → mask ≡ 2 ^ c → result ≡ planes_at planes.now (s + c) }
 {
     let mut sum: u32 = 0;
@@ -130,17 +128,19 @@ fn column_by(planes: &[u64; 9], s: usize, mask: u32) -> u32
 }
 
 // Writes the numbers of 32 columns, from column s on.
-fn spread_half(planes: &[u64; 9], masks: &[u32; 32], s: usize, out: &mut [u32])
-    requires { (length out.old ≡ 32) × Masks masks.now 32 × (s ≤ 32) }
+fn spread_half<const N: usize>(planes: &[u64; N], masks: &[u32; 32], s: usize, out: &mut [u32])
+    requires { (length out.old ≡ 32) × Masks masks.now 32 × ((s ≤ 32) × (N ≤ 9)) }
     ensures { Wrote planes.now s out.new 32 }
 {
+    // by place: after `iter_mut().zip(masks)` std says nothing of the numbers that were written
     for (c, number) in out.iter_mut().enumerate() {
         *number = column_by(planes, s, masks[c]);
     }
 }
 
 // Returns the numbers of all columns.
-pub(crate) fn spread(planes: &[u64; 9]) -> [u32; 64]
+pub(crate) fn spread<const N: usize>(planes: &[u64; N]) -> [u32; 64]
+    requires { N ≤ 9 }
     ensures { Wrote planes.now 0 result 64 }
 {
     let mut out: [u32; 64] = [0; 64];

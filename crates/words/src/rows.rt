@@ -55,7 +55,7 @@ impl Countable<'_> {
         ensures { result ≡ count (window (flags_of self.now.words.bytes.now) (8 * self.now.words.at) (64 * self.now.words.n)) }
     {
         let mut ones: usize = 0;
-        // a range: where n is 0 the byte may lie past the end, so that no slice of the words is in range; see `Aligned`
+        // a range: see `Aligned` for why its words are no slice
         for i in 0..self.words.n {
             ones += ones_in_word(self.words.word(i));
         }

@@ -32,14 +32,15 @@ fn block_is(flag: bool, words: &Aligned) -> bool
     ensures { result ≡ all_are flag (window (flags_of words.now.bytes.now) (8 * words.now.at) (64 * words.now.n)) }
 {
     let mut others: u64 = 0;
-    // a range: where n is 0 the byte may lie past the end, so that no slice of the words is in range; see `Aligned`
+    // a range: see `Aligned` for why its words are no slice
     for i in 0..words.n {
         others = or_word(others, unlike(flag, words.word(i)));
     }
     !is_set(others)
 }
 
-// The same block by block, with an end at the first that has another flag.
+// The same block by block, with an end at the first that has another flag. `any_whole` of `counts` has the same loop, and says why it
+// is not shared.
 fn words_are(flag: bool, words: &Aligned) -> bool
     ensures { result ≡ all_are flag (window (flags_of words.now.bytes.now) (8 * words.now.at) (64 * words.now.n)) }
 {
@@ -80,14 +81,10 @@ pub fn all_are(flag: bool, bytes: &[u8], start: usize, len: usize) -> bool
     if room(bytes.len(), q) < n {
         return counted_are(flag, bytes, start, len);
     }
-    if !low_are(flag, w, k) {
-        return false;
-    }
     let words = Aligned { bytes, at: q, n };
-    if !words_are(flag, &words) {
-        return false;
-    }
-    low_are(flag, byte_word(bytes, q + 8 * n), (len - k) % 64)
+    low_are(flag, w, k)
+        && words_are(flag, &words)
+        && low_are(flag, byte_word(bytes, q + 8 * n), (len - k) % 64)
 }
 
 // Is another flag than `flag` among those of the first eight bytes; where there are fewer bytes, no. For callers that ask this in their

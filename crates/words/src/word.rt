@@ -61,13 +61,9 @@ pub fn store_whole(out: &mut [u8], at: usize, w: u64)
     ensures { flags_of out.new ≡ cond (leb (at + 8) (length out.old))
         (over_at (flags_of out.old) (8 * at) (word_flags w)) (flags_of out.old) }
 {
-    if out.len() < 8 {
-        return;
+    if 8 <= out.len() && at <= out.len() - 8 {
+        put_word(out, at, w);
     }
-    if out.len() - 8 < at {
-        return;
-    }
-    put_word(out, at, w);
 }
 
 // Loads the eight bytes at `at`, which are in range. The four functions that take a place in range ask for it by `requires`: a type for

@@ -7,8 +7,8 @@ use super::records::*;
 
 /// Whether the flag at `index` is set in the first mask and not in the second. Where not `first_present` there is no first mask,
 /// which stands for all ones; where not `second_present` no second mask, which takes nothing away: record and bytes are then not
-/// read. 5 comes with both masks alone; without any mask nothing is refused. Refuses with 1, 2, 3, 5, 6; every other field is
-/// then 0.
+/// read. 5 comes only where both masks are there; without any mask nothing is refused. Refuses with 1, 2, 3, 5, 6; every other
+/// field is then 0.
 ///
 /// ```
 /// use poruwhina::calls::{and_not_at, try_new};

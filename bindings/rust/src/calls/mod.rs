@@ -10,8 +10,8 @@
 //! This is the one module with `unsafe`. Each use is a call of an export, and the argument is the same for all: an export is
 //! proved to return on every input, reading and writing nothing but the slices lent to it. A slice crosses as its pointer and
 //! its count of elements, an array of fixed size as its pointer, which a Rust reference makes valid for the time of the call,
-//! and exclusive where it is `&mut`; an empty slice has a pointer that is not null and not read. All else crosses by value. A `bool` that comes back is 0 or 1, as
-//! the C interface has it.
+//! and exclusive where it is `&mut`; an empty slice has a pointer that is not null and not read. All else crosses by value. A
+//! `bool` that comes back is 0 or 1, as the C interface has it.
 //!
 //! ```
 //! use poruwhina::calls;

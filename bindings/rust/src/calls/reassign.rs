@@ -7,8 +7,8 @@ use super::records::*;
 
 /// Whether truck number `truck` may be reassigned: its flag in the permission mask, and not in the revocation mask. Where not
 /// `permitted` there is no permission mask, and the answer is no for every truck; where not `revoked` no revocation mask, which
-/// takes nothing away: record and bytes are then not read. 5 comes with both masks alone; without any mask nothing is refused. No
-/// permission mask is the opposite of the none of [`into_opt_validity`](super::into_opt_validity) and of no mask in
+/// takes nothing away: record and bytes are then not read. 5 comes only where both masks are there; without any mask nothing is
+/// refused. No permission mask is the opposite of the none of [`into_opt_validity`](super::into_opt_validity) and of no mask in
 /// [`true_idx_new`](super::true_idx_new), which mean all ones: end the builder of a permission mask with
 /// [`freeze`](super::freeze). Refuses with 1, 2, 3, 5, 6; every other field is then 0.
 ///

@@ -1,9 +1,15 @@
--- The mask's checks, then that of the index: `two-pieces` and `one-check`.
-use mathlib.Core.Path.{refl}
-use Rattle.masks.proofs.CheckLaws.{two-pieces, one-check}
+-- The mask's checks, and where they have passed that of the index, which comes after them: `first-number`, `passed-before`.
+use Rattle.std.proofs.Common.{refl, ◌∙◌}
+use Rattle.masks.specs.Checks.{rank, place_in, span_checks}
+use Rattle.masks.specs.Mask.{mask_checks}
+use Rattle.masks.proofs.CheckLaws.{first-number, one-check, passed-before}
+use Rattle.masks.proofs.RefusalLaws.{number-ne0, exit-number}
 use Rattle.masks.proofs.at_index.check_inside.Goals as goal
 
+pub returns-in_err-check_mask : goal.returns-in_err-check_mask
+unfolding mask_checks span_checks rank place_in
+returns-in_err-check_mask c =
+    exit-number _ _ c.from_residual.ensures.1 ∙ first-number _ _ 5 _ refl c.in_err-check_mask.ensures (number-ne0 _)
+
 pub returns : goal.returns
-returns c =
-    two-pieces _ _ _ _ _ c.earlier.ensures c.check_mask.ensures
-    (one-check _ _ _ _ c.check.ensures refl)
+returns c = passed-before _ _ _ _ c.in_ok-check_mask.ensures refl (one-check _ _ _ _ c.check.ensures refl)

@@ -7,7 +7,7 @@ pub returns : goal.returns
 unfolding piece_checks
 returns c =
     two-pieces _ _ _ _ _ c.earlier-3.ensures c.check_mask.ensures
-    (check-before _ _ _ _ _ _ _ c.earlier-piece.ensures c.check-near.ensures c.within_limit-2.ensures
-    (check-before _ _ _ _ _ _ _ c.earlier-2.ensures c.check-short.ensures c.within_limit.ensures
+    (two-pieces _ _ _ _ _ c.earlier-piece.ensures c.check_limit-near.ensures
+    (two-pieces _ _ _ _ _ c.earlier-2.ensures c.check_limit-short.ensures
     (check-before _ _ _ _ _ _ _ c.earlier.ensures c.check-starts.ensures c.sum_at_most-2.ensures
     (one-check _ _ _ _ c.check-inside.ensures c.sum_at_most.ensures))))

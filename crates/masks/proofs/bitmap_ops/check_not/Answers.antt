@@ -1,8 +1,18 @@
--- The mask's checks, then the output's: `two-pieces`.
+-- The mask's checks, and where they have passed that of the output, which comes after them: `first-number`, `passed-before`.
+use Rattle.std.proofs.Common.{refl, ◌∙◌}
+use Rattle.masks.specs.Checks.{rank, place_in, span_checks}
+use Rattle.masks.specs.Checks.{output_checks}
 use Rattle.masks.specs.Combine.{not_checks}
-use Rattle.masks.proofs.CheckLaws.{two-pieces}
+use Rattle.masks.specs.Mask.{mask_checks}
+use Rattle.masks.proofs.CheckLaws.{first-number, passed-before}
+use Rattle.masks.proofs.RefusalLaws.{number-ne0, exit-number}
 use Rattle.masks.proofs.bitmap_ops.check_not.Goals as goal
+
+pub returns-in_err-check_mask : goal.returns-in_err-check_mask
+unfolding not_checks output_checks mask_checks span_checks rank place_in
+returns-in_err-check_mask c =
+    exit-number _ _ c.from_residual.ensures.1 ∙ first-number _ _ 8 _ refl c.in_err-check_mask.ensures (number-ne0 _)
 
 pub returns : goal.returns
 unfolding not_checks
-returns c = two-pieces _ _ _ _ _ c.earlier.ensures c.check_mask.ensures c.check_output-room.ensures
+returns c = passed-before _ _ _ _ c.in_ok-check_mask.ensures refl c.check_output.ensures

@@ -17,5 +17,6 @@ returns c =
     record {
       answer = pair-given _ _ _ _ _ _ _ c.in_ok-check_pair.ensures _ _ _ _ refl c.pair_shortcut-by.ensures
           c.result_count-unset.ensures c.pair_serial-serial.ensures c.result_mask.ensures;
-      bytes = pair-written _ _ _ _ _ _ _ c.in_ok-check_pair.ensures _ _ refl c.pair_shortcut-by.ensures c.write_result.ensures;
+      bytes = pair-written _ _ _ _ _ _ _ c.in_ok-check_pair.ensures _ _ refl c.pair_shortcut-by.ensures
+          (rw (c.flags-a.ensures.0, c.flags-a.ensures.1, c.flags-b.ensures.0, c.flags-b.ensures.1) at c.write_result.ensures);
     }

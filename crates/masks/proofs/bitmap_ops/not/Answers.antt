@@ -12,5 +12,6 @@ returns-in_err-check_not c =
 pub returns : goal.returns
 returns c =
     let both = each-given _ _ _ _ _ _ c.in_ok-check_not.ensures _ _ _ _ _ refl
-    c.not_counted-unset.ensures (one-serial _) c.result_mask.ensures c.combine_frozen.ensures (not-each _ _ _) in
+    c.not_counted-unset.ensures (one-serial _) c.result_mask.ensures
+    (rw (c.flags-own.ensures.0, c.flags-own.ensures.1) at c.combine_frozen.ensures) (not-each _ _ _) in
     record { answer = both.0; bytes = both.1 }

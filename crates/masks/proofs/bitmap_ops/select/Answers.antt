@@ -1,4 +1,5 @@
--- The number of the checks decides; where all have passed the lengths are equal (`select_lengths`), and the kernel's flags are those chosen.
+-- The number of the checks decides; where all have passed the lengths are equal (`select_lengths`), and the
+-- kernel's flags are those chosen.
 use mathlib.Core.Path.{refl, sym, ◌∙◌}
 use Rattle.masks.proofs.CombineLaws.{each-refused, each-given, select_lengths, select-each}
 use Rattle.masks.proofs.RefusalLaws.{exit-is, number-ne0}
@@ -12,6 +13,10 @@ returns-in_err-check_select c =
 pub returns : goal.returns
 returns c =
     let same = select_lengths _ _ _ _ _ _ _ (sym c.in_ok-check_select.ensures) in
+    let a = c.flags-a.ensures in
+    let b = c.flags-b.ensures in
+    let f = c.flags-c.ensures in
     let both = each-given _ _ _ _ _ _ c.in_ok-check_select.ensures _ _ _ _ _ refl
-    c.not_counted-unset.ensures c.select_serial-serial.ensures c.result_mask.ensures c.combine_frozen.ensures (select-each _ _ _ _ _ _ _ _ _ same.0 same.1) in
+    c.not_counted-unset.ensures c.select_serial-serial.ensures c.result_mask.ensures
+    (rw (a.0, a.1, b.0, b.1, f.0, f.1) at c.combine_frozen.ensures) (select-each _ _ _ _ _ _ _ _ _ same.0 same.1) in
     record { answer = both.0; bytes = both.1 }

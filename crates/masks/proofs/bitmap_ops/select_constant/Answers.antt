@@ -1,4 +1,5 @@
--- The number of the checks decides; where all have passed both masks have one length (`pair_lengths`), so the flags written are the contract's.
+-- The number of the checks decides; where all have passed both masks have one length (`pair_lengths`), so
+-- the flags written are the contract's.
 use mathlib.Core.Path.{refl, sym, ◌∙◌}
 use Rattle.masks.proofs.CombineLaws.{each-refused, each-given, pair_lengths, constant-length}
 use Rattle.masks.proofs.RefusalLaws.{exit-is, number-ne0}
@@ -11,7 +12,9 @@ returns-in_err-check_pair c =
 
 pub returns : goal.returns
 returns c =
+    let a = c.flags-a.ensures in
+    let b = c.flags-b.ensures in
     let both = each-given _ _ _ _ _ _ c.in_ok-check_pair.ensures _ _ _ _ _ refl
-    c.not_counted-unset.ensures c.pair_serial-serial.ensures c.result_mask.ensures c.select_frozen.ensures
+    c.not_counted-unset.ensures c.pair_serial-serial.ensures c.result_mask.ensures (rw (a.0, a.1, b.0, b.1) at c.select_frozen.ensures)
     (constant-length _ _ _ _ _ _ _ (pair_lengths _ _ _ _ _ (sym c.in_ok-check_pair.ensures))) in
     record { answer = both.0; bytes = both.1 }

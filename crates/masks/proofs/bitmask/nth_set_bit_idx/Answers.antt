@@ -13,4 +13,6 @@ returns-in_err-span c = exit-is _ _ c.from_residual.ensures.1 ∙ refused-alike 
 
 pub returns : goal.returns
 unfolding search_from
-returns c = given-alike _ _ _ _ (λ (p : Part). nth_from (stretch p.bytes p.start p.length) c.args.n c.args.from) _ c.in_ok-span.ensures c.search_from.ensures
+returns c =
+    given-alike _ _ _ _ (λ (p : Part). nth_from (stretch p.bytes p.start p.length) c.args.n c.args.from)
+    _ c.in_ok-span.ensures c.search_from.ensures

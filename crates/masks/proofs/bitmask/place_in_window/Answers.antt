@@ -1,12 +1,12 @@
--- By `requires` more than n flags are set, so that the answer is a place (`seen-there`).
-use mathlib.Core.Path.{sym, ◌∙◌}
-use native.Mathlib.Omega.{arith}
-use Rattle.masks.proofs.SearchLaws.{seen-there, seen-only}
+-- By `requires` more than n flags are set, so that the answer is a place (`nth-found`).
+use Rattle.std.proofs.Common.{Ok, ◌≡◌, ◌∙◌, rules}
+use Rattle.words.specs.Flags.{bits}
+use Rattle.words.specs.Nth.{nth_place}
+use Rattle.words.proofs.Plain.{nth-found}
 use Rattle.masks.proofs.bitmask.place_in_window.Goals as goal
 
-pub returns-in-Ok : goal.returns-in-Ok
-returns-in-Ok c = (seen-there _ _ _ (sym c.nth_in_window-seen.ensures ∙ c.in-Ok.is)).place
-
-pub returns-in-Err : goal.returns-in-Err
-returns-in-Err c =
-    absurd (omega (arith, c.requires, (seen-only _ _ _ (sym c.nth_in_window-seen.ensures ∙ c.in-Err.is)).few))
+pub returns : goal.returns
+returns c =
+    let l = bits 32 c.args.w in
+    let there : c.nth_in_window.result ≡ Ok (nth_place l c.args.n) = c.nth_in_window.ensures ∙ nth-found l c.args.n c.requires in
+    search (rules, there)

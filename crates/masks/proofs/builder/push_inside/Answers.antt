@@ -5,4 +5,5 @@ use Rattle.masks.proofs.builder.push_inside.Goals as goal
 
 pub returns : goal.returns
 returns c =
-    λ bytes. grown-way _ _ bytes _ c.grown.ensures (push-within _ bytes _ _ _ _ c.requires c.up.ensures c.or_word-low.ensures (search rules))
+    λ bytes. grown-way _ _ bytes _ c.grown.ensures
+    (push-within _ bytes _ _ _ _ c.requires c.up.ensures c.or_word-low.ensures (search rules))

@@ -1,11 +1,25 @@
--- The limit of both numbers, then that the piece is inside, in order: `check-before` and `one-check`.
+-- Each limit decides where it is passed over (`limit-first`); then that the piece is inside, in order: `passed-before`.
+use Rattle.std.proofs.Common.{refl, ◌∙◌}
 use Rattle.masks.specs.Appends.{inner_checks}
-use Rattle.masks.proofs.CheckLaws.{check-before, one-check}
+use Rattle.masks.specs.Checks.{rank, place_in}
+use Rattle.masks.proofs.CheckLaws.{one-check, passed-before}
+use Rattle.masks.proofs.OrderLaws.{limit-first}
+use Rattle.masks.proofs.RefusalLaws.{number-ne0, exit-number}
 use Rattle.masks.proofs.checks.check_inner.Goals as goal
+
+pub returns-in_err-check_limit : goal.returns-in_err-check_limit
+unfolding inner_checks rank place_in
+returns-in_err-check_limit c =
+    exit-number _ _ c.from_residual.ensures.1 ∙ limit-first _ _ _ refl c.in_err-check_limit.ensures (number-ne0 _)
+
+pub returns-in_err-check_limit-2 : goal.returns-in_err-check_limit-2
+unfolding inner_checks rank place_in
+returns-in_err-check_limit-2 c =
+    exit-number _ _ c.from_residual-in_err-check_limit-2.ensures.1
+    ∙ passed-before _ _ _ _ c.in_ok-check_limit.ensures refl (limit-first _ _ _ refl c.in_err-check_limit-2.ensures (number-ne0 _))
 
 pub returns : goal.returns
 unfolding inner_checks
 returns c =
-    check-before _ _ _ _ _ _ _ c.earlier-2.ensures c.check.ensures c.within_limit.ensures
-    (check-before _ _ _ _ _ _ _ c.earlier.ensures c.check-2.ensures c.within_limit-2.ensures
-    (one-check _ _ _ _ c.check-3.ensures c.sum_at_most.ensures))
+    passed-before _ _ _ _ c.in_ok-check_limit.ensures refl
+    (passed-before _ _ _ _ c.in_ok-check_limit-2.ensures refl (one-check _ _ _ _ c.check.ensures c.sum_at_most.ensures))

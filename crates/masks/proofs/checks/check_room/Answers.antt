@@ -10,4 +10,6 @@ pub returns-then-b : goal.returns-then-b
 returns-then-b c = ones_over _ _ _ (omega (arith, c.div_ceil.ensures, c.if-size-div_ceil.false)) c.requires.1 c.if-b.true
 
 pub returns : goal.returns
-returns c = word-decides _ _ _ (omega (arith, c.div_ceil.ensures, c.if-size-div_ceil.false)) c.requires.1 _ _ c.if-b.false c.check.ensures c.none_from.ensures
+returns c =
+    word-decides _ _ _ (omega (arith, c.div_ceil.ensures, c.if-size-div_ceil.false))
+    c.requires.1 _ _ c.if-b.false c.check.ensures c.none_from.ensures

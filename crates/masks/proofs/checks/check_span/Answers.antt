@@ -1,17 +1,21 @@
--- Where both numbers are within the limit check 2 decides (`span-within`), else 1 is the first that fails (`span-over`).
+-- One number is over the limit, and 1 is the first that fails (`span-refused`), or both are within it and check 2 decides (`span-within`).
 use Rattle.std.proofs.Common.{◌∙◌, ◌&&◌, sym, rules}
 use Rattle.std.proofs.lemmas.Bool.{and_parts}
 use mathlib.Core.Path.{ap₂}
 use borrow.Author.Tests.{leb-true}
-use Rattle.masks.proofs.CheckLaws.{span-over, span-within}
+use Rattle.masks.proofs.CheckLaws.{passed-one, span-refused, span-within}
+use Rattle.masks.proofs.RefusalLaws.{exit-number, number-ne0}
 use Rattle.masks.proofs.checks.check_span.Goals as goal
 
-pub returns-then-short : goal.returns-then-short
-returns-then-short c =
-    span-within _ _ _ _ _
-    (leb-true _ _ (sym c.within_limit.ensures ∙ (and_parts _ _ c.if-short.true).0))
-    (leb-true _ _ (sym c.within_limit-2.ensures ∙ (and_parts _ _ c.if-short.true).1))
-    c.check.ensures (search rules)
+pub returns-in_err-check : goal.returns-in_err-check
+returns-in_err-check c =
+    exit-number _ _ c.from_residual.ensures.1
+    ∙ span-refused _ _ _ _ _ c.in_err-check.ensures (number-ne0 _) (ap₂ ◌&&◌ c.within_limit.ensures c.within_limit-2.ensures)
 
 pub returns : goal.returns
-returns c = span-over _ _ _ (sym (ap₂ ◌&&◌ c.within_limit.ensures c.within_limit-2.ensures) ∙ c.if-short.false)
+returns c =
+    let short = and_parts _ _ (passed-one _ _ (sym c.in_ok-check.ensures)) in
+    span-within _ _ _ _ _
+    (leb-true _ _ (sym c.within_limit.ensures ∙ short.0))
+    (leb-true _ _ (sym c.within_limit-2.ensures ∙ short.1))
+    c.check-2.ensures (search rules)

@@ -15,5 +15,6 @@ returns-then-b-whole c = elim c.if-none_from.branch [
 pub returns-else-b-whole : goal.returns-else-b-whole
 returns-else-b-whole c = elim c.if-none_from.branch [
   | then-none_from w ↦ possible-not _ _ _ (sym (both-tested _ _ _ _ c.none_from.ensures w.if-none_from.true w.value-is)) c.if-b-whole.false
-  | else-none_from w ↦ possible-not _ _ _ (sym (first-tested _ _ _ _ c.none_from.ensures w.if-none_from.false w.value-is)) c.if-b-whole.false
+  | else-none_from w ↦ possible-not _ _ _ (sym (first-tested _ _ _ _ c.none_from.ensures w.if-none_from.false w.value-is))
+      c.if-b-whole.false
 ]

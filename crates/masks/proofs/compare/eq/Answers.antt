@@ -18,11 +18,13 @@ returns-in_err-earlier c =
 pub returns-else-n-rhs : goal.returns-else-n-rhs
 unfolding eq_of
 returns-else-n-rhs c =
-    ap given (ne_eqb _ _ c.if-n-rhs.false ∙ lengths_differ _ _ (λ h. c.if-n-rhs.false (sym (length-window _ _ _) ∙ h ∙ length-window _ _ _)))
+    ap given
+    (ne_eqb _ _ c.if-n-rhs.false ∙ lengths_differ _ _ (λ h. c.if-n-rhs.false (sym (length-window _ _ _) ∙ h ∙ length-window _ _ _)))
     ∙ is-given _ _ _ _ (two-pieces _ _ _ _ _ c.in_ok-earlier.ensures c.check_mask.ensures c.check_mask-2.ensures) refl
 
 pub returns-then-n-rhs : goal.returns-then-n-rhs
 unfolding eq_of
 returns-then-n-rhs c =
-    ap given (same-length-eq _ _ _ _ _ _ _ c.if-n-rhs.true c.equal.ensures)
+    ap given (same-length-eq _ _ _ _ _ _ _ c.if-n-rhs.true
+    (rw (c.flags-a.ensures.0, c.flags-a.ensures.1, c.flags-b.ensures.0, c.flags-b.ensures.1) at c.equal.ensures))
     ∙ is-given _ _ _ _ (two-pieces _ _ _ _ _ c.in_ok-earlier.ensures c.check_mask.ensures c.check_mask-2.ensures) refl

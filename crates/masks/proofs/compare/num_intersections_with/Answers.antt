@@ -1,4 +1,5 @@
--- The number of the checks decides; where all have passed the lengths are equal (`common_lengths`), and the ones of their `and` are counted.
+-- The number of the checks decides; where all have passed the lengths are equal (`common_lengths`), and the
+-- ones of their `and` are counted.
 use mathlib.Core.Path.{refl, sym, ap, ◌∙◌}
 use Rattle.masks.specs.Answer.{given}
 use Rattle.masks.specs.Compare.{common_of, common_checks}
@@ -17,7 +18,10 @@ returns-in_err-earlier c =
 pub returns : goal.returns
 unfolding common_of common_checks
 returns c =
+    let a = c.flags-a.ensures in
+    let b = c.flags-b.ensures in
     let number = two-pieces _ _ _ _ _ c.in_ok-earlier.ensures c.check_mask.ensures
     (two-pieces _ _ _ _ _ c.earlier.ensures c.check_mask-second.ensures
     (one-check _ _ _ _ c.check-same.ensures refl)) in
-    ap given (common-ones _ _ _ _ _ _ _ (common_lengths _ _ _ _ (sym number ∙ refl)) c.count_ones_of.ensures) ∙ is-given _ _ _ _ number refl
+    ap given (common-ones _ _ _ _ _ _ _ (common_lengths _ _ _ _ (sym number ∙ refl)) (rw (a.0, a.1, b.0, b.1) at c.count_ones_of.ensures))
+    ∙ is-given _ _ _ _ number refl

@@ -17,7 +17,8 @@ push_inside-requires c = inside-padded _ _ _ _ _ _ c.requires c.if-fill-n-lt64.t
 
 pub returns-then-fill-n-lt64 : goal.returns-then-fill-n-lt64
 returns-then-fill-n-lt64 c =
-    c.push_inside.ensures _ ∙ ap (appended _) (front-padded _ _ _ (length-copies _ _) (omega (arith, c.if-fill-n-lt64.true)) c.constant_flags.ensures)
+    c.push_inside.ensures _
+    ∙ ap (appended _) (front-padded _ _ _ (length-copies _ _) (omega (arith, c.if-fill-n-lt64.true)) c.constant_flags.ensures)
 
 pub fill_words-filled-requires : goal.fill_words-filled-requires
 fill_words-filled-requires c =

@@ -1,4 +1,5 @@
--- Up to 64 flags are pushed as one word; else `append-three`: up to a full word, whole words and a last word are the stretch (`window-three`).
+-- Up to 64 flags are pushed as one word; else `append-three`: up to a full word, whole words and a last
+-- word are the stretch (`window-three`).
 use Prim.Native.Nat.{◌-◌, ◌*◌, ◌/◌, ◌≤◌}
 use mathlib.Core.Path.{ap, ◌∙◌}
 use native.Mathlib.Omega.{arith}
@@ -21,7 +22,9 @@ copy_words-copied-requires c =
 pub push_flags-requires-2 : goal.push_flags-requires-2
 push_flags-requires-2 c =
     let low : c.to_whole-head.result ≤ 64 = omega arith in
-    let room = room-then _ _ _ _ _ (c.args.span.now.length - c.to_whole-head.result) c.push_flags-started.ensures (length-low _ _ low) c.requires (omega arith) in
+    let room =
+    room-then _ _ _ _ _ (c.args.span.now.length - c.to_whole-head.result) c.push_flags-started.ensures (length-low _ _ low) c.requires
+    (omega arith) in
     (omega arith, room-then _ _ _ _ _ _ c.copy_words-copied.ensures (length-window _ _ _) room (omega arith))
 
 pub returns : goal.returns
@@ -29,5 +32,8 @@ returns c =
     let n = c.args.span.now.length in
     append-three _ _ _ _ _ _ _ _ (c.push_flags-started.ensures
     ∙ ap (appended _) (stretch-front _ _ c.to_whole-head.result _ (omega arith) c.word_from-first.ensures)) c.copy_words-copied.ensures
-    (c.push_flags-2.ensures ∙ ap (appended _) (stretch-front _ _ (n - c.to_whole-head.result - 64 * ((n - c.to_whole-head.result - 1) / 64)) _ (omega arith) c.word_from-last.ensures))
+    (c.push_flags-2.ensures
+    ∙ ap (appended _)
+    (stretch-front _ _ (n - c.to_whole-head.result - 64 * ((n - c.to_whole-head.result - 1) / 64)) _ (omega arith)
+    c.word_from-last.ensures))
     (window-three _ _ _ _ _ _ _ _ (omega arith) (omega arith) (omega arith))

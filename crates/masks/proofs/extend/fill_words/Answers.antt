@@ -11,5 +11,7 @@ use Rattle.masks.proofs.extend.fill_words.Goals as goal
 pub returns : goal.returns
 returns c =
     grown-way _ _ _ _ c.grown.ensures
-    (append-whole _ c.args.buf.now _ c.args.whole _ _ c.requires.0 (length-copies _ _) ((ones-of _ _ _ c.from.ensures).0 ∙ sym (count-copies _ _))
-    (λ i. (c.slice_known-1.given i).fits) (λ i. (c.slice_known-2-1.given i).fits) (over-from _ _ _ _ (words-filled _ _ c.args.whole _ _ (omega arith) c.fill_whole.ensures)))
+    (append-whole _ c.args.buf.now _ c.args.whole _ _ c.requires.0 (length-copies _ _)
+    ((ones-of _ _ _ c.from.ensures).0 ∙ sym (count-copies _ _))
+    (λ i. (c.slice_known-1.given i).fits) (λ i. (c.slice_known-2-1.given i).fits)
+    (over-from _ _ _ _ (words-filled _ _ c.args.whole _ _ (omega arith) c.fill_whole.ensures)))

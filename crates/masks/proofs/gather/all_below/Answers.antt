@@ -7,5 +7,6 @@ use Rattle.masks.proofs.gather.all_below.Goals as goal
 
 pub returns : goal.returns
 returns c =
-    all_from_yields_List (λ i. ltb i c.args.n) _ _ _ c.all.ensures.ran (YieldsList-from_slice c.args.idxs.now cc) (λ x b q k. search (rules, tests))
+    all_from_yields_List (λ i. ltb i c.args.n) _ _ _ c.all.ensures.ran (YieldsList-from_slice c.args.idxs.now cc)
+    (λ x b q k. search (rules, tests))
     ∙ below-is-all _ _

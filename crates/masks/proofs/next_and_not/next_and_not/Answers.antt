@@ -5,13 +5,31 @@ use native.Mathlib.Omega.{arith}
 use Rattle.masks.specs.Answer.{given}
 use Rattle.masks.specs.NextAndNot.{next_and_not_of}
 use Rattle.masks.proofs.CheckLaws.{is-given, is-refused}
-use Rattle.masks.proofs.NextAndNotLaws.{before-allowed, found-ahead, found_before, found_none, free-length, next-allowed}
+use Rattle.masks.proofs.NextAndNotLaws.{before-allowed, found-ahead, found_before, found_none, found-word, free-length, next-allowed}
 use Rattle.masks.proofs.RefusalLaws.{exit-is, number-ne0}
 use Rattle.masks.proofs.next_and_not.next_and_not.Goals as goal
 
 pub returns-in_err-check_next : goal.returns-in_err-check_next
 unfolding next_and_not_of
 returns-in_err-check_next c = exit-is _ _ c.from_residual.ensures.1 ∙ is-refused _ _ _ _ c.in_err-check_next.ensures (number-ne0 _)
+
+pub free_word-word-requires : goal.free_word-word-requires
+free_word-word-requires c =
+    let ok = next-allowed _ _ _ _ _ (sym c.in_ok-check_next.ensures) in
+    record { starts = ok.starts; short = ok.short; beside = ok.beside; ordered = omega arith; inside = ok.inside }
+
+pub next_in_word-requires : goal.next_in_word-requires
+next_in_word-requires c =
+    let ok = next-allowed _ _ _ _ _ (sym c.in_ok-check_next.ensures) in
+    (c.if-length-le64.true, ok.ordered)
+
+pub returns-then-length-le64 : goal.returns-then-length-le64
+unfolding next_and_not_of
+returns-then-length-le64 c =
+    let ok = next-allowed _ _ _ _ _ (sym c.in_ok-check_next.ensures) in
+    ap given
+    (found-word _ _ _ _ _ _ _ _ ok.beside refl (c.free_word-word.ensures _ c.if-length-le64.true (omega arith)) c.next_in_word.ensures)
+    ∙ is-given _ _ _ _ c.in_ok-check_next.ensures refl
 
 pub zeros_ahead-ahead-requires : goal.zeros_ahead-ahead-requires
 zeros_ahead-ahead-requires c = next-allowed _ _ _ _ _ (sym c.in_ok-check_next.ensures)
@@ -25,7 +43,8 @@ pub returns-then-ahead-length : goal.returns-then-ahead-length
 unfolding next_and_not_of
 returns-then-ahead-length c =
     let ok = next-allowed _ _ _ _ _ (sym c.in_ok-check_next.ensures) in
-    ap given (found-ahead _ _ _ _ (free-length _ _ _ _ ok.beside) ok.ordered c.zeros_ahead-ahead.ensures _ _ c.if-ahead-length.true refl refl)
+    ap given
+    (found-ahead _ _ _ _ (free-length _ _ _ _ ok.beside) ok.ordered c.zeros_ahead-ahead.ensures _ _ c.if-ahead-length.true refl refl)
     ∙ is-given _ _ _ _ c.in_ok-check_next.ensures refl
 
 pub overflow_sub-length-2 : goal.overflow_sub-length-2
@@ -47,7 +66,9 @@ pub returns-then-before-from : goal.returns-then-before-from
 unfolding next_and_not_of
 returns-then-before-from c =
     let ok = next-allowed _ _ _ _ _ (sym c.in_ok-check_next.ensures) in
-    ap given (found_before _ _ _ _ (free-length _ _ _ _ ok.beside) ok.ordered c.zeros_ahead-ahead.ensures _ _ c.if-ahead-length.false c.windows_of-passed.ensures
+    ap given
+    (found_before _ _ _ _ (free-length _ _ _ _ ok.beside)
+    ok.ordered c.zeros_ahead-ahead.ensures _ _ c.if-ahead-length.false c.windows_of-passed.ensures
     c.zeros_ahead-before.ensures _ c.if-before-from.true refl)
     ∙ is-given _ _ _ _ c.in_ok-check_next.ensures refl
 
@@ -60,6 +81,8 @@ pub returns : goal.returns
 unfolding next_and_not_of
 returns c =
     let ok = next-allowed _ _ _ _ _ (sym c.in_ok-check_next.ensures) in
-    ap given (found_none _ _ _ _ (free-length _ _ _ _ ok.beside) ok.ordered c.zeros_ahead-ahead.ensures _ _ c.if-ahead-length.false c.windows_of-passed.ensures
+    ap given
+    (found_none _ _ _ _ (free-length _ _ _ _ ok.beside)
+    ok.ordered c.zeros_ahead-ahead.ensures _ _ c.if-ahead-length.false c.windows_of-passed.ensures
     c.zeros_ahead-before.ensures _ _ c.if-before-from.false c.windows_of.ensures refl)
     ∙ is-given _ _ _ _ c.in_ok-check_next.ensures refl

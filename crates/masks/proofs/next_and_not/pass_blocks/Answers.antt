@@ -6,4 +6,5 @@ use Rattle.masks.proofs.next_and_not.pass_blocks.Goals as goal
 pub loop-at-preserved : goal.loop-at-preserved
 loop-at-preserved c =
     let pre = c.requires in
-    passed-block _ _ _ _ _ 1024 (free-length _ _ _ _ pre.beside) pre.inside c.loop-at.invariant (omega arith) _ c.any_free.ensures c.if-any_free.false
+    passed-block _ _ _ _ _ 1024 (free-length _ _ _ _ pre.beside) pre.inside c.loop-at.invariant (omega arith)
+    _ c.any_free.ensures c.if-any_free.false

@@ -1,4 +1,5 @@
--- The invariant: no flag looked for stands before `at`. A word that has none keeps it (`passed-more`), another ends the loop (`passed-stop`).
+-- The invariant: no flag looked for stands before `at`. A word that has none keeps it (`passed-more`),
+-- another ends the loop (`passed-stop`).
 use mathlib.Core.Path.{ap, ◌∙◌}
 use mathlib.Core.Bool.{false}
 use native.Mathlib.Omega.{arith}
@@ -19,7 +20,8 @@ returns-then-same-k c =
     let inv = c.loop-at.invariant in
     let pre = c.requires in
     passed-stop _ _ _ _ _ _ (free-length _ _ _ _ pre.beside) pre.inside inv (omega (arith, few)) _
-    (c.leading_in_word-same.ensures ∙ ap (leading false) (c.free_word.ensures _ (omega (arith, few)) (omega (arith, few, pre.inside)))) c.if-same-k.true
+    (c.leading_in_word-same.ensures ∙ ap (leading false) (c.free_word.ensures _ (omega (arith, few)) (omega (arith, few, pre.inside))))
+    c.if-same-k.true
 
 pub loop-at-preserved : goal.loop-at-preserved
 loop-at-preserved c =
@@ -27,7 +29,8 @@ loop-at-preserved c =
     let inv = c.loop-at.invariant in
     let pre = c.requires in
     passed-more _ _ _ _ _ _ (free-length _ _ _ _ pre.beside) pre.inside inv (omega (arith, few)) _
-    (c.leading_in_word-same.ensures ∙ ap (leading false) (c.free_word.ensures _ (omega (arith, few)) (omega (arith, few, pre.inside)))) c.if-same-k.false
+    (c.leading_in_word-same.ensures ∙ ap (leading false) (c.free_word.ensures _ (omega (arith, few)) (omega (arith, few, pre.inside))))
+    c.if-same-k.false
 
 pub returns : goal.returns
 returns c =

@@ -1,4 +1,5 @@
--- The invariant: no flag looked for stands before `at`. A word that has none keeps it (`passed-more`), another ends the loop (`passed-stop`).
+-- The invariant: no flag looked for stands before `at`. A word that has none keeps it (`passed-more`),
+-- another ends the loop (`passed-stop`).
 use Prim.Native.Nat.{◌-◌}
 use lib.ListN.{take}
 use Rattle.masks.specs.NextAndNot.{free_flags}

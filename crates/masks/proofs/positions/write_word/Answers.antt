@@ -45,7 +45,8 @@ pub loop-done-smaller : goal.loop-done-smaller
 loop-done-smaller c =
     omega (
       arith,
-      shorter _ _ _ _ _ _ _ _ _ _ 0 c.loop-done.invariant.0 c.leading_in_word-zeros.ensures c.down-rest.ensures c.leading_in_word-ones.ensures
+      shorter _ _ _ _ _ _ _ _ _ _ 0 c.loop-done.invariant.0 c.leading_in_word-zeros.ensures c.down-rest.ensures
+          c.leading_in_word-ones.ensures
           _ c.down-w.ensures,
       some-ones _ _ _ _ c.leading_in_word-zeros.ensures c.if-zeros-ge64.false c.down-rest.ensures c.leading_in_word-ones.ensures,
     )
@@ -58,7 +59,8 @@ loop-done-preserved c =
       omega (
         arith,
         c.loop-done.invariant.1,
-        shorter _ _ _ _ _ _ _ _ _ _ 0 u c.leading_in_word-zeros.ensures c.down-rest.ensures c.leading_in_word-ones.ensures _ c.down-w.ensures,
+        shorter _ _ _ _ _ _ _ _ _ _ 0 u c.leading_in_word-zeros.ensures c.down-rest.ensures c.leading_in_word-ones.ensures _
+            c.down-w.ensures,
         some-ones _ _ _ _ c.leading_in_word-zeros.ensures c.if-zeros-ge64.false c.down-rest.ensures c.leading_in_word-ones.ensures,
         lead-within false _ _ c.leading_in_word-zeros.ensures,
         lead-within true _ _ c.leading_in_word-ones.ensures,

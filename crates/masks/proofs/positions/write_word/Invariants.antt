@@ -9,7 +9,8 @@ use Rattle.masks.proofs.positions.write_word.Given as goal
 
 abbrev pub invariant-loop-done : goal.invariant-loop-done
 invariant-loop-done l =
-    UnderWay l.initial.out l.done (ones_from l.first (bits 64 l.word)) l.out l.count (ones_from l.at (bits 64 l.w)) × (l.at + 128 * length (ones_from l.at (bits 64 l.w)) ≤ l.first + 8192)
+    UnderWay l.initial.out l.done (ones_from l.first (bits 64 l.word)) l.out l.count (ones_from l.at (bits 64 l.w))
+    × (l.at + 128 * length (ones_from l.at (bits 64 l.w)) ≤ l.first + 8192)
 
 abbrev pub decreases-loop-done : goal.decreases-loop-done
 decreases-loop-done l = length (ones_from l.at (bits 64 l.w))

@@ -23,7 +23,8 @@ pub loop-at-preserved : goal.loop-at-preserved
 loop-at-preserved c =
     let wrote = c.write_word-count.ensures in (
       omega (arith, c.min-k.ensures, c.loop-at.invariant.0),
-      word-on _ _ _ _ _ _ _ _ _ c.loop-at.invariant.1 _ _ (omega (arith, c.min-k.ensures, c.loop-at.invariant.0)) (omega (arith, c.min-k.ensures))
+      word-on _ _ _ _ _ _ _ _ _ c.loop-at.invariant.1 _ _ (omega (arith, c.min-k.ensures, c.loop-at.invariant.0))
+          (omega (arith, c.min-k.ensures))
           c.flags_word.ensures _ _ wrote.positions wrote.count _ refl,
     )
 

@@ -7,7 +7,8 @@ use Rattle.masks.proofs.positions.write_words.Given as goal
 
 abbrev pub invariant-loop-at : goal.invariant-loop-at
 invariant-loop-at l =
-    (l.at ≤ l.span.length) × UnderWay l.initial.out 0 (ones_left (stretch l.span.bytes.now l.span.start l.span.length) l.place) l.out l.count (ones_left (stretch l.span.bytes.now l.span.start l.span.length) l.at)
+    (l.at ≤ l.span.length) × UnderWay l.initial.out 0 (ones_left (stretch l.span.bytes.now l.span.start l.span.length) l.place)
+    l.out l.count (ones_left (stretch l.span.bytes.now l.span.start l.span.length) l.at)
 
 abbrev pub decreases-loop-at : goal.decreases-loop-at
 decreases-loop-at l = l.span.length - l.at

@@ -7,7 +7,9 @@ use Rattle.masks.proofs.RefusalLaws.{least-number}
 use Rattle.masks.proofs.refusal.earlier.Goals as goal
 
 pub returns-in-Err-Err : goal.returns-in-Err-Err
-returns-in-Err-Err c = ap number c.min.ensures ∙ least-number _ _ ∙ sym (ap₂ (λ p q. earlier_of (failure_of p) (failure_of q)) c.in-Err-Err.is-0 c.in-Err-Err.is-1)
+returns-in-Err-Err c =
+    ap number c.min.ensures ∙ least-number _ _
+    ∙ sym (ap₂ (λ p q. earlier_of (failure_of p) (failure_of q)) c.in-Err-Err.is-0 c.in-Err-Err.is-1)
 
 pub returns-in-Err-Ok : goal.returns-in-Err-Ok
 returns-in-Err-Ok c = sym (earlier-none _) ∙ sym (ap₂ (λ p q. earlier_of (failure_of p) (failure_of q)) c.in-Err-Ok.is-0 c.in-Err-Ok.is-1)

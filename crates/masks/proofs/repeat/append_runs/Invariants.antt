@@ -7,4 +7,5 @@ use Rattle.masks.proofs.repeat.append_runs.Given as goal
 
 abbrev pub invariant-loop-i : goal.invariant-loop-i
 invariant-loop-i l =
-    filling l.grown l.buf ≡ appended (filling l.initial.grown l.initial.buf) (repeated l.repeats (stretch l.span.bytes.now l.span.start l.i))
+    filling l.grown l.buf ≡ appended (filling l.initial.grown l.initial.buf)
+    (repeated l.repeats (stretch l.span.bytes.now l.span.start l.i))

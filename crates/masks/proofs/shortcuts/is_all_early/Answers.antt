@@ -15,7 +15,8 @@ returns-in-Some c = rw (c.in-Some.is, c.zeros_of_all.ensures)
 
 pub returns-else-not-other_early : goal.returns-else-not-other_early
 unfolding zero_count
-returns-else-not-other_early c = rw c.in-None.is (ap not c.if-not-other_early.false ∙ sym (c.other_early.ensures c.if-not-other_early.false))
+returns-else-not-other_early c =
+    rw c.in-None.is (ap not c.if-not-other_early.false ∙ sym (c.other_early.ensures c.if-not-other_early.false))
 
 pub returns-then-not-other_early : goal.returns-then-not-other_early
 unfolding zero_count

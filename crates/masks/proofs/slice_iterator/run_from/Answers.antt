@@ -17,8 +17,10 @@ bytes-preserved-then-byte-bit-eq0 c =
 
 pub bits-preserved : goal.bits-preserved
 bits-preserved c =
-    let inv = c.bits.invariant in
-    (walk-one _ _ _ _ _ _ inv.0 _ _ _ (search rules) inv.1.0 (search rules) refl c.if-byte-bit-eq0.false, (omega arith, (omega arith, omega arith)))
+    let inv = c.bits.invariant in (
+      walk-one _ _ _ _ _ _ inv.0 _ _ _ (search rules) inv.1.0 (search rules) refl c.if-byte-bit-eq0.false,
+      (omega arith, (omega arith, omega arith)),
+    )
 
 pub returns-then-at-span : goal.returns-then-at-span
 returns-then-at-span c = walk_end _ _ _ _ _ _ c.bytes.invariant c.if-at-span.true

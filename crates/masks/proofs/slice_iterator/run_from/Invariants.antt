@@ -9,7 +9,8 @@ use Rattle.masks.proofs.slice_iterator.run_from.Given as goal
 
 abbrev pub invariant-bits : goal.invariant-bits
 invariant-bits l =
-    Walking (stretch l.span.bytes.now l.span.start l.span.length) l.span.length l.place l.first l.at × ((l.span.start + l.at ≡ 8 * (l.flag / 8) + l.bit) × ((l.initial.bit ≤ l.bit) × (l.bit ≤ l.stop)))
+    Walking (stretch l.span.bytes.now l.span.start l.span.length) l.span.length l.place l.first l.at
+    × ((l.span.start + l.at ≡ 8 * (l.flag / 8) + l.bit) × ((l.initial.bit ≤ l.bit) × (l.bit ≤ l.stop)))
 
 abbrev pub decreases-bits : goal.decreases-bits
 decreases-bits l = l.stop - l.bit

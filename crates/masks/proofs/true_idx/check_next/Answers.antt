@@ -1,14 +1,31 @@
--- With a mask the cursor's checks; without one `first_failed` unfolds to the nested `earlier` of the code (congruence).
-use Rattle.masks.specs.Checks.{first_failed}
-use Rattle.masks.specs.Refusal.{failure_of}
+-- With a mask the cursor's checks; without one both limits (`limit-first`) and the place, in order: `passed-before`.
+use Rattle.std.proofs.Common.{refl, ◌∙◌}
+use Rattle.masks.specs.Checks.{rank, place_in}
 use Rattle.masks.specs.TrueIdx.{true_checks}
-use Rattle.masks.proofs.CheckLaws.{earlier-none}
+use Rattle.masks.proofs.CheckLaws.{one-check, passed-before}
+use Rattle.masks.proofs.OrderLaws.{limit-first}
+use Rattle.masks.proofs.RefusalLaws.{number-ne0, exit-number}
 use Rattle.masks.proofs.true_idx.check_next.Goals as goal
 
 pub returns-then-cursor : goal.returns-then-cursor
 unfolding true_checks
 returns-then-cursor c = rw c.if-cursor.true c.check_cursor.ensures
 
+pub returns-in_err-check_limit : goal.returns-in_err-check_limit
+unfolding true_checks rank place_in
+returns-in_err-check_limit c =
+    rw c.if-cursor.false (exit-number _ _ c.from_residual.ensures.1 ∙ limit-first _ _ _ refl c.in_err-check_limit.ensures (number-ne0 _))
+
+pub returns-in_err-check_limit-2 : goal.returns-in_err-check_limit-2
+unfolding true_checks rank place_in
+returns-in_err-check_limit-2 c =
+    rw c.if-cursor.false
+    (exit-number _ _ c.from_residual-in_err-check_limit-2.ensures.1
+    ∙ passed-before _ _ _ _ c.in_ok-check_limit.ensures refl (limit-first _ _ _ refl c.in_err-check_limit-2.ensures (number-ne0 _)))
+
 pub returns : goal.returns
-unfolding first_failed true_checks
-returns c = rw c.if-cursor.false (cc (earlier-none (failure_of c.check-3.result)))
+unfolding true_checks
+returns c =
+    rw c.if-cursor.false
+    (passed-before _ _ _ _ c.in_ok-check_limit.ensures refl
+    (passed-before _ _ _ _ c.in_ok-check_limit-2.ensures refl (one-check _ _ _ _ c.check.ensures refl)))

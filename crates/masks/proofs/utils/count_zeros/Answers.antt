@@ -16,7 +16,8 @@ returns-then-length-eq0 c = is-empty _ _ _ c.if-length-eq0.true
 pub returns-in_err-check_aligned : goal.returns-in_err-check_aligned
 unfolding span_count
 returns-in_err-check_aligned c =
-    exit-is _ _ c.from_residual.ensures.1 ∙ not-empty _ _ _ _ c.if-length-eq0.false (is-refused _ _ _ _ c.in_err-check_aligned.ensures (number-ne0 _))
+    exit-is _ _ c.from_residual.ensures.1
+    ∙ not-empty _ _ _ _ c.if-length-eq0.false (is-refused _ _ _ _ c.in_err-check_aligned.ensures (number-ne0 _))
 
 pub overflow_add-start : goal.overflow_add-start
 overflow_add-start c =

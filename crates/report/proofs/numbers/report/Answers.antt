@@ -15,7 +15,8 @@ returns-then-bytes-gt65536 c = too_long _ c.if-bytes-gt65536.true
 
 pub unwrap-zeros-requires : goal.unwrap-zeros-requires
 unfolding unset_bits_of
-unwrap-zeros-requires c = ap is_ok (ok-given_back _ _ _ _ c.unset_bits.ensures (whole-accepted c.args.bytes.now _ c.if-bytes-gt65536.false refl))
+unwrap-zeros-requires c =
+    ap is_ok (ok-given_back _ _ _ _ c.unset_bits.ensures (whole-accepted c.args.bytes.now _ c.if-bytes-gt65536.false refl))
 
 pub unwrap-edges-requires : goal.unwrap-edges-requires
 unfolding edges_of
@@ -27,6 +28,7 @@ runs_of-runs-requires c = whole-accepted c.args.bytes.now _ c.if-bytes-gt65536.f
 pub returns : goal.returns
 unfolding unset_bits_of edges_of
 returns c =
-    let zeros = ap (λ (r : Recounted). r.zeros) (given-value _ _ _ _ (ap answer_back (sym c.unwrap-zeros.ensures) ∙ c.unset_bits.ensures)) in
+    let zeros =
+    ap (λ (r : Recounted). r.zeros) (given-value _ _ _ _ (ap answer_back (sym c.unwrap-zeros.ensures) ∙ c.unset_bits.ensures)) in
     let edges = given-value _ _ _ _ (ap answer (sym c.unwrap-edges.ensures) ∙ c.num_edges.ensures) in
     numbers-given c.args.bytes.now _ _ _ _ c.if-bytes-gt65536.false refl zeros edges c.runs_of-runs.ensures

@@ -1,44 +1,65 @@
--- The invariant: no flag of the first i words is set. One that is ends the search (`any-exit`); behind n words all are alike (`any-finish`).
-use Rattle.std.proofs.Common.{ap, sym, ◌∙◌, length, arith}
+-- A word with a flag ends the search (`any-exit`); where none has one (`any-passed`), all flags behind n words are alike (`any-finish`).
+use Rattle.std.proofs.Common.{ap, sym, ◌∙◌, length, arith, refl, true, false, rules}
+use Rattle.std.proofs.lemmas.Iterator.{YieldsList-from_range, cases_from_any}
 use Rattle.words.specs.Counts.{any_set}
-use Rattle.words.proofs.AnyFlag.{any-short, any-exit, any-more, any-zero}
+use Rattle.words.specs.Loops.{combined}
+use Rattle.words.proofs.AnyFlag.{any-short, any-exit, any-zero, any-among, none-among, Said}
+use Rattle.std.proofs.lemmas.Bool.{true≢false}
 use Rattle.words.proofs.Behind.{any-finish}
 use Rattle.words.proofs.Combining.{zip-later, length-zip}
 use Rattle.words.proofs.counts.any_set.Goals as goal
+use Rattle.words.proofs.counts.any_set.Goals.{then-any_whole, else-any_whole}
 
 pub returns-then-len-le64 : goal.returns-then-len-le64
 returns-then-len-le64 c = any-short _ _ _ _ (length-zip _ _ _ _ _ _ _ _) c.if-len-le64.true c.triple_word.ensures c.is_set.ensures
 
-pub returns-then-any_whole : goal.returns-then-any_whole
-returns-then-any_whole c =
+pub returns-then-any : goal.returns-then-any
+returns-then-any c =
+    let a = c.args.a.now in
+    let b = c.args.b.now in
+    let d = c.args.c.now in
+    let l = combined c.args.op a.bytes.now a.start b.bytes.now b.start d.bytes.now d.start c.args.len in
     let x = c.new-x.ensures in
     let y = c.new-y.ensures in
     let z = c.new-z.ensures in
     let at = c.new-lanes.ensures in
-    any-exit _ 0 _ _ (c.any_whole.ensures ∙ ap any_set (zip-later _ _ _ _ _ _ _ _ _ _ _ _ _ _ 0 _ (at.a.1 ∙ x.source) (omega (arith, at.a.2, x.start)) (at.b.1 ∙ y.source) (omega (arith, at.b.2, y.start)) (at.c.1 ∙ z.source) (omega (arith, at.c.2, z.start)) (omega arith))) c.if-any_whole.true
+    c.if-any.true ∙ elim c.if-any_whole.branch [
+      | then-any_whole w ↦
+          any-exit _ 0 _ _ (c.any_whole.ensures ∙ ap any_set
+          (zip-later _ _ _ _ _ _ _ _ _ _ _ _ _ _ 0 _ (at.a.1 ∙ x.source) (omega (arith, at.a.2, x.start))
+          (at.b.1 ∙ y.source) (omega (arith, at.b.2, y.start)) (at.c.1 ∙ z.source) (omega (arith, at.c.2, z.start)) (omega arith)))
+          w.if-any_whole.true
+      | else-any_whole w ↦
+          any-among _ _ _ w.any.result
+          (cases_from_any _ _ _ (Said l true) (Said l false) w.any.ensures.ran
+          (YieldsList-from_range c.new-lanes.result.n c.min-n.result _ refl refl)
+          (λ x q k. search rules) (λ x q k. (search rules, search rules)))
+          (sym w.value-is ∙ c.if-any.true)
+    ]
 
-pub loop-i-init : goal.loop-i-init
-loop-i-init c =
+pub returns-else-any : goal.returns-else-any
+returns-else-any c =
+    let a = c.args.a.now in
+    let b = c.args.b.now in
+    let d = c.args.c.now in
+    let l = combined c.args.op a.bytes.now a.start b.bytes.now b.start d.bytes.now d.start c.args.len in
     let x = c.new-x.ensures in
     let y = c.new-y.ensures in
     let z = c.new-z.ensures in
-    let at = c.new-lanes.ensures in (
-      omega (arith, at.a.0, ap length x.source),
-      sym (any-zero _ (sym c.if-any_whole.false ∙ c.any_whole.ensures ∙ ap any_set (zip-later _ _ _ _ _ _ _ _ _ _ _ _ _ _ 0 _ (at.a.1 ∙ x.source) (omega (arith, at.a.2, x.start)) (at.b.1 ∙ y.source) (omega (arith, at.b.2, y.start)) (at.c.1 ∙ z.source) (omega (arith, at.c.2, z.start)) (omega arith)))),
-    )
-
-pub returns-then-is_set : goal.returns-then-is_set
-returns-then-is_set c = any-exit _ _ _ _ (c.is_set-in-loop-i.ensures ∙ ap any_set c.triple_word-in-loop-i.ensures) c.if-is_set.true
-
-pub loop-i-preserved : goal.loop-i-preserved
-loop-i-preserved c = (
-  omega arith,
-  any-more _ _ _ _ _ c.loop-i.invariant.1
-      (c.is_set-in-loop-i.ensures ∙ ap any_set c.triple_word-in-loop-i.ensures) c.if-is_set.false (omega arith),
-)
-
-pub returns : goal.returns
-returns c =
-    any-finish _ _ _ _ _ _ _ _ c.min-n.result
-    (λ h. record { in_a = omega arith; in_b = omega arith; in_c = omega arith })
-    c.loop-i.i _ c.loop-i.invariant.1 c.loop-i.invariant.0 c.loop-i-test.false (c.any_behind.ensures ∙ rw c.past_end.ensures)
+    let at = c.new-lanes.ensures in
+    elim c.if-any_whole.branch [
+      | then-any_whole w ↦ absurd (true≢false (sym w.if-any_whole.true ∙ sym w.value-is ∙ c.if-any.false))
+      | else-any_whole w ↦
+          any-finish _ _ _ _ _ _ _ _ c.min-n.result
+          (λ h. record { in_a = omega arith; in_b = omega arith; in_c = omega arith })
+          c.min-n.result _
+          (none-among l _ _ w.any.result
+          (cases_from_any _ _ _ (Said l true) (Said l false) w.any.ensures.ran
+          (YieldsList-from_range c.new-lanes.result.n c.min-n.result _ refl refl)
+          (λ x q k. search rules) (λ x q k. (search rules, search rules)))
+          (sym w.value-is ∙ c.if-any.false) (omega (arith, at.a.0, ap length x.source))
+          (sym (any-zero _ (sym w.if-any_whole.false ∙ c.any_whole.ensures ∙ ap any_set
+          (zip-later _ _ _ _ _ _ _ _ _ _ _ _ _ _ 0 _ (at.a.1 ∙ x.source) (omega (arith, at.a.2, x.start))
+          (at.b.1 ∙ y.source) (omega (arith, at.b.2, y.start)) (at.c.1 ∙ z.source) (omega (arith, at.c.2, z.start)) (omega arith))))))
+          (omega arith) (omega arith) (c.any_behind.ensures ∙ rw c.past_end.ensures)
+    ]

@@ -13,7 +13,8 @@ pub returns-then-is_set : goal.returns-then-is_set
 returns-then-is_set g c =
     let at = c.part-block.ensures in
     any-exit _ (64 * c.loop-i.i) _ _ (c.is_set.ensures ∙ c.each-all.ensures
-    ∙ ap any_set (zip-later _ _ _ _ _ _ _ _ _ _ _ _ _ _ _ _ at.a.0 at.a.1 at.b.0 at.b.1 at.c.0 at.c.1 (omega (arith, at.n)))) c.if-is_set.true
+    ∙ ap any_set (zip-later _ _ _ _ _ _ _ _ _ _ _ _ _ _ _ _ at.a.0 at.a.1 at.b.0 at.b.1 at.c.0 at.c.1 (omega (arith, at.n))))
+    c.if-is_set.true
 
 pub loop-i-preserved : goal.loop-i-preserved
 loop-i-preserved g c =
@@ -21,7 +22,8 @@ loop-i-preserved g c =
       omega arith,
       any-more _ (64 * c.loop-i.i) (64 * c.part-block.result.n) _ _
           c.loop-i.invariant.1 (c.is_set.ensures ∙ c.each-all.ensures
-          ∙ ap any_set (zip-later _ _ _ _ _ _ _ _ _ _ _ _ _ _ _ _ at.a.0 at.a.1 at.b.0 at.b.1 at.c.0 at.c.1 (omega (arith, at.n)))) c.if-is_set.false (omega (arith, at.n)),
+          ∙ ap any_set (zip-later _ _ _ _ _ _ _ _ _ _ _ _ _ _ _ _ at.a.0 at.a.1 at.b.0 at.b.1 at.c.0 at.c.1 (omega (arith, at.n))))
+          c.if-is_set.false (omega (arith, at.n)),
     )
 
 pub returns : goal.returns

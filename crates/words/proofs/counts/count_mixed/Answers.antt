@@ -7,7 +7,8 @@ use Rattle.words.proofs.RowLaws.{count-first-flags, count-near, count-near-all}
 use Rattle.words.proofs.counts.count_mixed.Goals as goal
 
 -- the three parts of `len` flags, of which n whole words
-parts-sum : (start len r n : ℕ) → 64 - start % 8 < len → n ≡ min ((len - (64 - start % 8)) / 64) r → len ≡ 64 - start % 8 + 64 * n + (len - (64 - start % 8) - 64 * n)
+parts-sum : (start len r n : ℕ) → 64 - start % 8 < len → n ≡ min ((len - (64 - start % 8)) / 64) r
+    → len ≡ 64 - start % 8 + 64 * n + (len - (64 - start % 8) - 64 * n)
 parts-sum start len r n h e = omega arith
 
 parts-fit : (start len r n x y z : ℕ) → 64 - start % 8 < len → n ≡ min ((len - (64 - start % 8)) / 64) r
@@ -33,13 +34,22 @@ pub overflow_add-result-2 : goal.overflow_add-result-2
 overflow_add-result-2 c =
     let a = c.args in
     let x = count-near-all (flags_of a.bytes.now) a.start _ _ _ refl c.near_word-w.ensures c.ones_in_word-first.ensures in
-    let z = count-first-flags _ _ _ _ _ (rest-ends a.bytes.now a.start a.len _ _ c.min-n.ensures c.room.ensures) c.byte_word.ensures c.ones_below-last.ensures in
-    omega (arith, parts-fit a.start a.len _ _ _ _ _ c.if-len-k.false c.min-n.ensures (count-within _ _ _ _ x) (count-within _ _ _ _ c.ones-mid.ensures) (count-within _ _ _ _ z), c.ranges.len.fits)
+    let z =
+    count-first-flags _ _ _ _ _ (rest-ends a.bytes.now a.start a.len _ _ c.min-n.ensures c.room.ensures)
+    c.byte_word.ensures c.ones_below-last.ensures in
+    omega (
+      arith,
+      parts-fit a.start a.len _ _ _ _ _ c.if-len-k.false c.min-n.ensures (count-within _ _ _ _ x)
+          (count-within _ _ _ _ c.ones-mid.ensures) (count-within _ _ _ _ z),
+      c.ranges.len.fits,
+    )
 
 pub returns : goal.returns
 returns c =
     let a = c.args in
     let x = count-near-all (flags_of a.bytes.now) a.start _ _ _ refl c.near_word-w.ensures c.ones_in_word-first.ensures in
-    let z = count-first-flags _ _ _ _ _ (rest-ends a.bytes.now a.start a.len _ _ c.min-n.ensures c.room.ensures) c.byte_word.ensures c.ones_below-last.ensures in
+    let z =
+    count-first-flags _ _ _ _ _ (rest-ends a.bytes.now a.start a.len _ _ c.min-n.ensures c.room.ensures)
+    c.byte_word.ensures c.ones_below-last.ensures in
     count-parts (flags_of a.bytes.now) _ _ _ _ _ _ _ _ _ _ _ x c.ones-mid.ensures z (omega arith) (omega arith) (omega arith)
     (parts-sum a.start a.len _ _ c.if-len-k.false c.min-n.ensures)

@@ -16,7 +16,10 @@ loop-i-init c =
     let z = c.new-z.ensures in
     let at = c.new-lanes.ensures in (
       omega (arith, at.a.0, ap length x.source),
-      c.each-ones.ensures ∙ ap count (zip-later _ _ _ _ _ _ _ _ _ _ _ _ _ _ 0 _ (at.a.1 ∙ x.source) (omega (arith, at.a.2, x.start)) (at.b.1 ∙ y.source) (omega (arith, at.b.2, y.start)) (at.c.1 ∙ z.source) (omega (arith, at.c.2, z.start)) (omega arith)),
+      c.each-ones.ensures
+          ∙ ap count
+          (zip-later _ _ _ _ _ _ _ _ _ _ _ _ _ _ 0 _ (at.a.1 ∙ x.source) (omega (arith, at.a.2, x.start))
+          (at.b.1 ∙ y.source) (omega (arith, at.b.2, y.start)) (at.c.1 ∙ z.source) (omega (arith, at.c.2, z.start)) (omega arith)),
     )
 
 pub overflow_add-ones : goal.overflow_add-ones

@@ -5,4 +5,6 @@ use Rattle.words.specs.Loops.{combined}
 use Rattle.words.proofs.counts.count_ones_of.Given as goal
 
 abbrev pub invariant-loop-i : goal.invariant-loop-i
-invariant-loop-i l = (l.i ≤ l.n) × (l.ones ≡ count (window (combined l.op l.a.bytes.now l.a.start l.b.bytes.now l.b.start l.c.bytes.now l.c.start l.len) 0 (64 * l.i)))
+invariant-loop-i l =
+    (l.i ≤ l.n)
+    × (l.ones ≡ count (window (combined l.op l.a.bytes.now l.a.start l.b.bytes.now l.b.start l.c.bytes.now l.c.start l.len) 0 (64 * l.i)))

@@ -6,4 +6,5 @@ use Rattle.words.proofs.kernels.copy_words.Given as goal
 abbrev pub invariant-loop-i : goal.invariant-loop-i
 invariant-loop-i g l =
     (l.ones ≡ count (window (window (flags_of (g.L.Lane.source l.lane)) (g.L.Lane.start l.lane) (64 * l.n)) 0 (64 * l.i)))
-    × (flags_of l.out ≡ over (flags_of l.initial.out) (window (window (flags_of (g.L.Lane.source l.lane)) (g.L.Lane.start l.lane) (64 * l.n)) 0 (64 * l.i)))
+    × (flags_of l.out ≡ over (flags_of l.initial.out)
+    (window (window (flags_of (g.L.Lane.source l.lane)) (g.L.Lane.start l.lane) (64 * l.n)) 0 (64 * l.i)))

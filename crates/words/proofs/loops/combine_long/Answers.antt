@@ -14,5 +14,7 @@ loop-i-preserved c =
 pub returns : goal.returns
 returns c =
     write-end _ _ _ _ _ _
-    (c.loop-i.invariant.1.1 _ (c.combine_whole-done.ensures.1.1 ∙ ap (over _) (zip-later _ _ _ _ _ _ _ _ _ _ _ _ _ _ 0 _ refl (omega arith) refl (omega arith) refl (omega arith) (omega arith))))
+    (c.loop-i.invariant.1.1 _
+    (c.combine_whole-done.ensures.1.1
+    ∙ ap (over _) (zip-later _ _ _ _ _ _ _ _ _ _ _ _ _ _ 0 _ refl (omega arith) refl (omega arith) refl (omega arith) (omega arith))))
     (length-flags _) (length-zip _ _ _ _ _ _ _ _) (λ l. omega arith) (omega arith)

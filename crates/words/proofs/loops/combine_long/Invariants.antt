@@ -6,5 +6,9 @@ use Rattle.words.proofs.loops.combine_long.Given as goal
 
 abbrev pub invariant-loop-i : goal.invariant-loop-i
 invariant-loop-i l =
-    (l.i ≤ l.n) × ((length l.out ≡ length l.initial.out) × ((F : List Bool) → flags_of l.initial.out ≡ over F (window (combined l.op l.a.bytes.now l.a.start l.b.bytes.now l.b.start l.c.bytes.now l.c.start l.len) 0 (64 * l.initial.i))
-    → flags_of l.out ≡ over F (window (combined l.op l.a.bytes.now l.a.start l.b.bytes.now l.b.start l.c.bytes.now l.c.start l.len) 0 (64 * l.i))))
+    (l.i ≤ l.n)
+    × ((length l.out ≡ length l.initial.out)
+    × ((F : List Bool) → flags_of l.initial.out ≡ over F
+    (window (combined l.op l.a.bytes.now l.a.start l.b.bytes.now l.b.start l.c.bytes.now l.c.start l.len) 0 (64 * l.initial.i))
+    → flags_of l.out ≡ over F
+    (window (combined l.op l.a.bytes.now l.a.start l.b.bytes.now l.b.start l.c.bytes.now l.c.start l.len) 0 (64 * l.i))))

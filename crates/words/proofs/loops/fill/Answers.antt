@@ -9,7 +9,8 @@ use Rattle.words.proofs.loops.fill.Goals as goal
 pub returns-then-done-len : goal.returns-then-done-len
 returns-then-done-len c =
     write-end _ _ _ _ _ _
-    (write_step _ _ _ _ _ _ (fill-front _ _ _ _ _ (omega arith) refl c.fill_bytes.ensures ∙ ap (over _) (copies-window _ _ 0 _ (omega arith)))
+    (write_step _ _ _ _ _ _
+    (fill-front _ _ _ _ _ (omega arith) refl c.fill_bytes.ensures ∙ ap (over _) (copies-window _ _ 0 _ (omega arith)))
     (copies-cut _ _ _ _ _ (omega arith) c.constant_word.ensures c.low_flags.ensures)
     c.store_at.ensures)
     (length-flags _) (length-copies _ _) (λ l. omega arith) (omega arith)

@@ -3,4 +3,5 @@ use Rattle.words.proofs.Combining.{cut_word}
 use Rattle.words.proofs.loops.triple_word.Goals as goal
 
 pub returns : goal.returns
-returns c = cut_word _ _ _ _ _ _ _ _ _ _ _ _ _ _ c.word-x.ensures c.word-y.ensures c.word-z.ensures c.combine_word.ensures c.low_flags.ensures
+returns c =
+    cut_word _ _ _ _ _ _ _ _ _ _ _ _ _ _ c.word-x.ensures c.word-y.ensures c.word-z.ensures c.combine_word.ensures c.low_flags.ensures

@@ -16,7 +16,8 @@ pub descend-requires : goal.descend-requires
 descend-requires t c =
     omega (
       arith,
-      half-fits c.args.width (c.args.width / 2) c.args.w c.args.n _ _ _ (omega arith) (ones_low 64 (c.args.width / 2) c.args.w (omega arith))
+      half-fits c.args.width (c.args.width / 2) c.args.w c.args.n _ _ _ (omega arith)
+          (ones_low 64 (c.args.width / 2) c.args.w (omega arith))
           c.if_behind-skip.ensures c.if_behind-passed.ensures c.requires.1,
     )
 

@@ -6,4 +6,5 @@ use Rattle.words.proofs.ops.select_word.Goals as goal
 
 pub returns : goal.returns
 returns c =
-    simp (bits-or, bits-and, bits-not 64 _ c.ranges.x.fits) (select-flags _ _ _ (length-bits 64 _ ∙ sym (length-bits 64 _)) (length-bits 64 _ ∙ sym (length-bits 64 _)))
+    simp (bits-or, bits-and, bits-not 64 _ c.ranges.x.fits)
+    (select-flags _ _ _ (length-bits 64 _ ∙ sym (length-bits 64 _)) (length-bits 64 _ ∙ sym (length-bits 64 _)))

@@ -4,20 +4,21 @@ use Rattle.words.proofs.PlaneReads.{digits_none, digits_all, column_more, sum_mo
 use Rattle.words.proofs.planes.column_by.Goals as goal
 
 pub loop-i-init : goal.loop-i-init
-loop-i-init c = (omega arith, λ col h e. digits_none _ _)
+loop-i-init g c = (omega arith, λ col h e. digits_none _ _)
 
 pub overflow_add-sum : goal.overflow_add-sum
-overflow_add-sum c =
+overflow_add-sum g c =
     let more = sum_more _ _ _ _ c.loop-i.invariant.0 (omega arith) c.digit_by.ensures.1 refl in
     omega (arith, more.1)
 
 pub loop-i-preserved : goal.loop-i-preserved
-loop-i-preserved c =
+loop-i-preserved g c =
     let more = sum_more _ _ _ _ c.loop-i.invariant.0 (omega arith) c.digit_by.ensures.1 refl in (
       more.0,
-      λ col h e. column_more _ _ _ _ _ _ _ _ c.told-planes (omega arith) c.requires h e (c.loop-i.invariant.1 col h e) refl
+      λ col h e. column_more _ _ _ _ _ _ _ _
+          (omega (arith, c.told-planes, c.requires.1)) (omega (arith, c.told-planes)) c.requires.0 h e (c.loop-i.invariant.1 col h e) refl
           c.digit_by.ensures.0,
     )
 
 pub returns : goal.returns
-returns c = λ col h e. digits_all _ _ _ _ (omega arith) (c.loop-i.invariant.1 col h e)
+returns g c = λ col h e. digits_all _ _ _ _ (omega arith) (c.loop-i.invariant.1 col h e)

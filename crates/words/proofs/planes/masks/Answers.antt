@@ -1,11 +1,12 @@
--- The invariant: the first c numbers are written (`masks_more`).
-use Rattle.std.proofs.Common.{◌∙◌, refl, length-set, arith}
-use Rattle.words.proofs.PlaneReads.{masks_none, masks_more, mask_value}
+-- Each number is what the closure gives of its column (`mask_value`).
+use Rattle.std.proofs.Common.{◌≡◌, ◌*◌, ◌^◌, ◌%◌, ◌∙◌, rules, get_or}
+use Rattle.words.specs.Planes.{Masks}
+use Rattle.words.proofs.PlaneReads.{mask_value}
 use Rattle.words.proofs.planes.masks.Goals as goal
 
-pub loop-c-init : goal.loop-c-init
-loop-c-init c = (refl, masks_none _)
-
-pub loop-c-preserved : goal.loop-c-preserved
-loop-c-preserved c =
-    (length-set _ _ _ ∙ c.loop-c.invariant.0, masks_more _ _ _ (omega arith) c.loop-c.invariant.1 (mask_value _ (omega arith)))
+pub returns : goal.returns
+unfolding Masks
+returns c i h =
+    let (p, q, k) = c.from_fn.ensures.items.at i 0 h in
+    let e : get_or c.from_fn.result i 0 ≡ 1 * 2 ^ i % 2 ^ 32 = search rules in
+    e ∙ mask_value i h

@@ -4,6 +4,6 @@ use Rattle.words.proofs.PlaneLaws.{wrote_halves}
 use Rattle.words.proofs.planes.spread.Goals as goal
 
 pub returns : goal.returns
-returns c =
+returns g c =
     let long : length c.spread_half.new.out ≡ 32 = search rules in
     wrote_halves _ _ _ _ long refl c.spread_half.ensures c.spread_half-2.ensures

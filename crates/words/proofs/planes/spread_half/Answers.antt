@@ -5,9 +5,9 @@ use Rattle.words.proofs.PlaneReads.{mask_of}
 use Rattle.words.proofs.planes.spread_half.Goals as goal
 
 pub loop-c-init : goal.loop-c-init
-loop-c-init c = wrote_none _ _ _
+loop-c-init g c = wrote_none _ _ _
 
 pub loop-c-preserved : goal.loop-c-preserved
-loop-c-preserved c =
+loop-c-preserved g c =
     wrote_step _ _ _ _ _ (omega arith) c.loop-c.invariant
     (c.column_by.ensures _ (omega arith) (mask_of _ _ c.requires.1 (omega arith)))

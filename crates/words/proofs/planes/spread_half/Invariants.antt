@@ -3,4 +3,4 @@ use Rattle.words.specs.Planes.{Wrote}
 use Rattle.words.proofs.planes.spread_half.Given as goal
 
 abbrev pub invariant-loop-c : goal.invariant-loop-c
-invariant-loop-c l = Wrote l.planes l.s l.out l.c
+invariant-loop-c g l = Wrote l.planes l.s l.out l.c

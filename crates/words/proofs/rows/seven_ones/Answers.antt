@@ -15,7 +15,12 @@ overflow_mul-result-2 c = omega (arith, count_word _ _ c.ones_in_word-fours.ensu
 
 pub overflow_add-result-2 : goal.overflow_add-result-2
 overflow_add-result-2 c =
-    omega (arith, count_word _ _ c.ones_in_word-ones.ensures, count_word _ _ c.ones_in_word-twos.ensures, count_word _ _ c.ones_in_word-fours.ensures)
+    omega (
+      arith,
+      count_word _ _ c.ones_in_word-ones.ensures,
+      count_word _ _ c.ones_in_word-twos.ensures,
+      count_word _ _ c.ones_in_word-fours.ensures,
+    )
 
 pub returns : goal.returns
 returns c = search seven_sum

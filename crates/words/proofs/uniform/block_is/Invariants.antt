@@ -7,4 +7,5 @@ use Rattle.words.proofs.uniform.block_is.Given as goal
 
 abbrev pub invariant-loop-i : goal.invariant-loop-i
 invariant-loop-i l =
-    any_set (bits 64 l.others) ≡ any_set (window (map (xor l.flag) (window (flags_of l.words.bytes.now) (8 * l.words.at) (64 * l.words.n))) 0 (64 * l.i))
+    any_set (bits 64 l.others)
+    ≡ any_set (window (map (xor l.flag) (window (flags_of l.words.bytes.now) (8 * l.words.at) (64 * l.words.n))) 0 (64 * l.i))

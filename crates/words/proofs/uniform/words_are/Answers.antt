@@ -8,7 +8,8 @@ pub loop-i-init : goal.loop-i-init
 loop-i-init c = (omega arith, all-empty _ _ _)
 
 pub returns-then-not-block_is : goal.returns-then-not-block_is
-returns-then-not-block_is c = all-exit _ _ _ _ _ _ _ (rw c.part-block.ensures.0 at c.block_is.ensures) c.if-not-block_is.true (omega arith) (omega arith)
+returns-then-not-block_is c =
+    all-exit _ _ _ _ _ _ _ (rw c.part-block.ensures.0 at c.block_is.ensures) c.if-not-block_is.true (omega arith) (omega arith)
 
 pub loop-i-preserved : goal.loop-i-preserved
 loop-i-preserved c = (

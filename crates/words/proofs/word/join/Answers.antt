@@ -7,7 +7,9 @@ pub loop-i-init : goal.loop-i-init
 loop-i-init c = up_none _
 
 pub loop-i-preserved : goal.loop-i-preserved
-loop-i-preserved c = up_step _ _ _ _ c.requires c.loop-i-test.true c.loop-i.invariant (c.from.ensures, omega (arith, c.from.ensures, c.type_inv.part c.loop-i.i))
+loop-i-preserved c =
+    up_step _ _ _ _ c.requires c.loop-i-test.true c.loop-i.invariant
+    (c.from.ensures, omega (arith, c.from.ensures, c.type_inv.part c.loop-i.i))
 
 pub returns : goal.returns
 returns c = search up-all

@@ -15,7 +15,8 @@ returns-then-length-eq0 c = ap given (search rules) ∙ is-empty _ _ _ c.if-leng
 pub returns-in_err-check_aligned : goal.returns-in_err-check_aligned
 unfolding aligned_of
 returns-in_err-check_aligned c =
-    exit-is _ _ c.from_residual.ensures.1 ∙ not-empty _ _ _ _ c.if-length-eq0.false (is-refused _ _ _ _ c.in_err-check_aligned.ensures (number-ne0 _))
+    exit-is _ _ c.from_residual.ensures.1
+    ∙ not-empty _ _ _ _ c.if-length-eq0.false (is-refused _ _ _ _ c.in_err-check_aligned.ensures (number-ne0 _))
 
 pub invariant_of-span : goal.invariant_of-span
 invariant_of-span c =

@@ -3,8 +3,7 @@ use Rattle.std.proofs.Common.{rules, Ok, Err, ◌≡◌}
 use native.Mathlib.Omega.{arith}
 use Rattle.masks.proofs.MaskLaws.{cut-error, piece-allowed, slice-refused, slice_wrong, slice-right}
 use mathlib.Core.Path.{sym, ap, ◌∙◌}
-use Rattle.masks.specs.Answer.{given}
-use Rattle.masks.specs.Answer.{refused}
+use Rattle.masks.specs.Answer.{given, refused}
 use Rattle.masks.specs.Mask.{cut_zeros}
 use Rattle.masks.specs.Refusal.{number}
 use Rattle.masks.specs.declared.refusal.Refusal.{Refusal}

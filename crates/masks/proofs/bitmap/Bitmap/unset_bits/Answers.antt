@@ -1,6 +1,5 @@
 -- The number of the mask's checks decides; where all have passed, the span is within the limit (`mask-allowed`), as `zero_count` asks.
-use Rattle.std.proofs.Common.{rules, Err, ◌≡◌}
-use Rattle.std.proofs.Common.{arith, ◌≡◌, ℕ, Option}
+use Rattle.std.proofs.Common.{rules, Err, ◌≡◌, arith, ◌≡◌, ℕ, Option}
 use mathlib.Core.Path.{sym, ap, ◌∙◌}
 use Rattle.masks.specs.declared.bitmap.Bitmap.{Bitmap}
 use Rattle.masks.specs.Answer.{given}

@@ -29,16 +29,22 @@ pub returns-in_err-map_err : goal.returns-in_err-map_err
 unfolding constant_checks
 returns-in_err-map_err c =
     let was : Err c.in_err-map_err.field-0.0 ≡ with_state c.earlier.result c.args.self = search rules in
-    let both = refused-way _ _ _ _ (two-pieces _ _ _ _ _ c.earlier.ensures c.check_builder.ensures c.check_limit.ensures) _ _ (failed-back _ _ _ was) in
+    let both =
+    refused-way _ _ _ _ (two-pieces _ _ _ _ _ c.earlier.ensures c.check_builder.ensures c.check_limit.ensures) _ _
+    (failed-back _ _ _ was) in
     record { answer = back-is _ _ _ was _ c.from_residual.ensures.1 ∙ both.0; bytes = both.1 }
 
 pub append_copies-requires : goal.append_copies-requires
 append_copies-requires c =
-    room_of _ _ _ (sym c.check_builder.ensures ∙ passed-left _ _ (sym c.earlier.ensures ∙ (passed-back _ _ _ c.map_err.ensures.variant c.in_ok-map_err.was)))
+    room_of _ _ _
+    (sym c.check_builder.ensures
+    ∙ passed-left _ _ (sym c.earlier.ensures ∙ (passed-back _ _ _ c.map_err.ensures.variant c.in_ok-map_err.was)))
 
 pub returns : goal.returns
 unfolding constant_checks
 returns c =
-    let both = append-way _ _ _ _ _ _ _ _ (two-pieces _ _ _ _ _ c.earlier.ensures c.check_builder.ensures c.check_limit.ensures) (passed-back _ _ _ c.map_err.ensures.variant c.in_ok-map_err.was)
+    let both =
+    append-way _ _ _ _ _ _ _ _ (two-pieces _ _ _ _ _ c.earlier.ensures c.check_builder.ensures c.check_limit.ensures)
+    (passed-back _ _ _ c.map_err.ensures.variant c.in_ok-map_err.was)
     c.append_copies.ensures in
     record { answer = both.0; bytes = both.1 }

@@ -13,7 +13,9 @@ pub returns-in_err-map_err : goal.returns-in_err-map_err
 unfolding span_grow_checks
 returns-in_err-map_err c =
     let was : Err c.in_err-map_err.field-0.0 ≡ with_state c.earlier.result c.args.self = search rules in
-    let both = refused-way _ _ _ _ (two-pieces _ _ _ _ _ c.earlier.ensures c.check_span.ensures c.check_product.ensures) _ _ (failed-back _ _ _ was) in
+    let both =
+    refused-way _ _ _ _ (two-pieces _ _ _ _ _ c.earlier.ensures c.check_span.ensures c.check_product.ensures) _ _
+    (failed-back _ _ _ was) in
     record { answer = back-is _ _ _ was _ c.from_residual.ensures.1 ∙ both.0; bytes = both.1 }
 
 pub invariant_of-span : goal.invariant_of-span
@@ -30,6 +32,8 @@ append_repeated-requires c =
 pub returns : goal.returns
 unfolding span_grow_checks
 returns c =
-    let both = append-way _ _ _ _ _ _ _ _ (two-pieces _ _ _ _ _ c.earlier.ensures c.check_span.ensures c.check_product.ensures) (passed-back _ _ _ c.map_err.ensures.variant c.in_ok-map_err.was)
+    let both =
+    append-way _ _ _ _ _ _ _ _ (two-pieces _ _ _ _ _ c.earlier.ensures c.check_span.ensures c.check_product.ensures)
+    (passed-back _ _ _ c.map_err.ensures.variant c.in_ok-map_err.was)
     c.append_repeated.ensures in
     record { answer = both.0; bytes = both.1 }

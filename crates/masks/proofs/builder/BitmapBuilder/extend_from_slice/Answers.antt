@@ -1,5 +1,5 @@
--- The number of the checks decides: `refused-way` or `append-way`; flags of one load for which the word in progress has room by themselves, more by
--- the worker.
+-- The number of the checks decides: `refused-way` or `append-way`; flags of one load for which the word in
+-- progress has room by themselves, more by the worker.
 use Rattle.std.proofs.Common.{rules, Err, ◌≡◌}
 use Prim.Native.Nat.{◌≤◌}
 use mathlib.Core.Path.{ap, ◌∙◌}
@@ -37,7 +37,9 @@ returns-then-stays_inside c =
     let few = (few-inside a.self a.n _ c.stays_inside.ensures c.if-stays_inside.true).0 in
     let most : a.n ≤ 64 = omega arith in
     let both = append-way _ _ _ _ _ _ _ _ c.check_span_grow.ensures (passed-back _ _ _ c.map_err.ensures.variant c.in_ok-map_err.was)
-    (c.push_inside.ensures _ ∙ ap (appended _) (front-padded _ _ _ (length-low _ _ most) most c.low_flags.ensures ∙ near-first _ _ _ _ (omega (arith, few)) c.near_word.ensures)) in
+    (c.push_inside.ensures _
+    ∙ ap (appended _) (front-padded _ _ _ (length-low _ _ most) most c.low_flags.ensures
+    ∙ near-first _ _ _ _ (omega (arith, few)) c.near_word.ensures)) in
     record { answer = both.0; bytes = both.1 }
 
 pub invariant_of-span : goal.invariant_of-span

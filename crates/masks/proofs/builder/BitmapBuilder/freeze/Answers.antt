@@ -17,9 +17,12 @@ pub finish-requires : goal.finish-requires
 finish-requires c = room_of _ _ _ (sym c.check_builder.ensures ∙ (passed-back _ _ _ c.map_err.ensures.variant c.in_ok-map_err.was))
 
 pub frozen_mask-requires : goal.frozen_mask-requires
-frozen_mask-requires c = ones-fit _ _ _ (room_of _ _ _ (sym c.check_builder.ensures ∙ (passed-back _ _ _ c.map_err.ensures.variant c.in_ok-map_err.was)))
+frozen_mask-requires c =
+    ones-fit _ _ _ (room_of _ _ _ (sym c.check_builder.ensures ∙ (passed-back _ _ _ c.map_err.ensures.variant c.in_ok-map_err.was)))
 
 pub returns : goal.returns
 returns c =
-    let both = given-way _ _ _ _ (same-checks _ _ _ c.check_builder.ensures) _ _ _ _ (passed-back _ _ _ c.map_err.ensures.variant c.in_ok-map_err.was) c.frozen_mask.ensures c.finish.ensures in
+    let both =
+    given-way _ _ _ _ (same-checks _ _ _ c.check_builder.ensures) _ _ _ _
+    (passed-back _ _ _ c.map_err.ensures.variant c.in_ok-map_err.was) c.frozen_mask.ensures c.finish.ensures in
     record { answer = both.0; bytes = both.1 }

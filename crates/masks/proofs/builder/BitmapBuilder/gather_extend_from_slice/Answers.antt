@@ -22,13 +22,17 @@ returns-in_err-map_err c =
 
 pub invariant_of-span : goal.invariant_of-span
 invariant_of-span c =
-    let none = sym c.earlier.ensures ∙ passed-left _ _ (sym c.earlier-2.ensures ∙ (passed-back _ _ _ c.map_err.ensures.variant c.in_ok-map_err.was)) in
+    let none =
+    sym c.earlier.ensures
+    ∙ passed-left _ _ (sym c.earlier-2.ensures ∙ (passed-back _ _ _ c.map_err.ensures.variant c.in_ok-map_err.was)) in
     let span = span-allowed _ _ _ (sym c.check_span.ensures ∙ passed-left _ _ none) in
     record { ends = omega (arith, span.starts, span.short); short = span.short; inside = span.inside }
 
 pub append_gathered-requires : goal.append_gathered-requires
 append_gathered-requires c =
-    let none = sym c.earlier.ensures ∙ passed-left _ _ (sym c.earlier-2.ensures ∙ (passed-back _ _ _ c.map_err.ensures.variant c.in_ok-map_err.was)) in
+    let none =
+    sym c.earlier.ensures
+    ∙ passed-left _ _ (sym c.earlier-2.ensures ∙ (passed-back _ _ _ c.map_err.ensures.variant c.in_ok-map_err.was)) in
     room_of _ _ _ (sym c.check_builder.ensures ∙ passed-right _ _ none)
 
 pub returns : goal.returns

@@ -16,7 +16,8 @@ returns-in_err-map_err c =
     record { answer = back-is _ _ _ was _ c.from_residual.ensures.1 ∙ both.0; bytes = both.1 }
 
 pub push_flags-requires : goal.push_flags-requires
-push_flags-requires c = (omega arith, room_of _ _ _ (sym c.check_builder.ensures ∙ (passed-back _ _ _ c.map_err.ensures.variant c.in_ok-map_err.was)))
+push_flags-requires c =
+    (omega arith, room_of _ _ _ (sym c.check_builder.ensures ∙ (passed-back _ _ _ c.map_err.ensures.variant c.in_ok-map_err.was)))
 
 pub returns : goal.returns
 returns c =

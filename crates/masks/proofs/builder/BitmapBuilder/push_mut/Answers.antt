@@ -9,7 +9,9 @@ use Rattle.masks.proofs.builder.BitmapBuilder.push_mut.Goals as goal
 pub returns-in-Ok : goal.returns-in-Ok
 returns-in-Ok c =
     let a = c.args in record {
-      answer = renewed_done a.self.now _ a.flag a.buf.now _ _ _ _ c.builder_under-own.ensures _ (ap answer_back (sym c.in-Ok.is) ∙ c.push.ensures.answer);
+      answer =
+          renewed_done a.self.now _ a.flag a.buf.now _ _ _ _ c.builder_under-own.ensures _
+          (ap answer_back (sym c.in-Ok.is) ∙ c.push.ensures.answer);
       bytes = c.push.ensures.bytes ∙ ap (λ (b : BitmapBuilder). append_bytes (push_flag a.flag) b a.buf.now) c.builder_under-own.ensures;
     }
 

@@ -1,4 +1,5 @@
--- The number of the checks decides: `refused-way` or `append-way`; where all have passed k is at most 64 (`word-allowed`), and there is room.
+-- The number of the checks decides: `refused-way` or `append-way`; where all have passed k is at most 64
+-- (`word-allowed`), and there is room.
 use Rattle.std.proofs.Common.{rules, Err, ◌≡◌}
 use mathlib.Core.Path.{sym, ◌∙◌}
 use Rattle.masks.specs.Appends.{word_checks}
@@ -12,17 +13,23 @@ pub returns-in_err-map_err : goal.returns-in_err-map_err
 unfolding word_checks
 returns-in_err-map_err c =
     let was : Err c.in_err-map_err.field-0.0 ≡ with_state c.earlier.result c.args.self = search rules in
-    let both = refused-way _ _ _ _ (two-pieces _ _ _ _ _ c.earlier.ensures c.check_builder.ensures c.check_word.ensures) _ _ (failed-back _ _ _ was) in
+    let both =
+    refused-way _ _ _ _ (two-pieces _ _ _ _ _ c.earlier.ensures c.check_builder.ensures c.check_word.ensures) _ _
+    (failed-back _ _ _ was) in
     record { answer = back-is _ _ _ was _ c.from_residual.ensures.1 ∙ both.0; bytes = both.1 }
 
 pub push_flags-requires : goal.push_flags-requires
 push_flags-requires c =
-    let none = sym c.earlier.ensures ∙ (passed-back _ _ _ c.map_err.ensures.variant c.in_ok-map_err.was) in
-    (word-allowed _ _ (sym c.check_word.ensures ∙ passed-right _ _ none), room_of _ _ _ (sym c.check_builder.ensures ∙ passed-left _ _ none))
+    let none = sym c.earlier.ensures ∙ (passed-back _ _ _ c.map_err.ensures.variant c.in_ok-map_err.was) in (
+      word-allowed _ _ (sym c.check_word.ensures ∙ passed-right _ _ none),
+      room_of _ _ _ (sym c.check_builder.ensures ∙ passed-left _ _ none),
+    )
 
 pub returns : goal.returns
 unfolding word_checks
 returns c =
-    let both = append-way _ _ _ _ _ _ _ _ (two-pieces _ _ _ _ _ c.earlier.ensures c.check_builder.ensures c.check_word.ensures) (passed-back _ _ _ c.map_err.ensures.variant c.in_ok-map_err.was)
+    let both =
+    append-way _ _ _ _ _ _ _ _ (two-pieces _ _ _ _ _ c.earlier.ensures c.check_builder.ensures c.check_word.ensures)
+    (passed-back _ _ _ c.map_err.ensures.variant c.in_ok-map_err.was)
     c.push_flags.ensures in
     record { answer = both.0; bytes = both.1 }

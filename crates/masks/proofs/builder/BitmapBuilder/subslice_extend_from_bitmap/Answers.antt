@@ -31,7 +31,11 @@ invariant_of-span c =
     let none = sym c.earlier-2.ensures ∙ (passed-back _ _ _ c.map_err.ensures.variant c.in_ok-map_err.was) in
     let rest = sym c.earlier.ensures ∙ passed-right _ _ none in
     let ok = inner-allowed _ _ _ _ (sym c.check_mask.ensures ∙ passed-left _ _ none) (sym c.check_inner.ensures ∙ passed-left _ _ rest) in
-    record { ends = omega (arith, ok.starts, ok.short, ok.inside); short = omega (arith, ok.short, ok.inside); inside = omega (arith, ok.lent, ok.inside) }
+    record {
+      ends = omega (arith, ok.starts, ok.short, ok.inside);
+      short = omega (arith, ok.short, ok.inside);
+      inside = omega (arith, ok.lent, ok.inside);
+    }
 
 pub append_stretch-requires : goal.append_stretch-requires
 append_stretch-requires c =
@@ -47,6 +51,7 @@ returns c =
     let rest = sym c.earlier.ensures ∙ passed-right _ _ none in
     let ok = inner-allowed _ _ _ _ (sym c.check_mask.ensures ∙ passed-left _ _ none) (sym c.check_inner.ensures ∙ passed-left _ _ rest) in
     let both = append-way _ _ _ _ _ _ _ _ (two-pieces _ _ _ _ _ c.earlier-2.ensures c.check_mask.ensures
-    (two-pieces _ _ _ _ _ c.earlier.ensures c.check_inner.ensures c.check_builder.ensures)) (passed-back _ _ _ c.map_err.ensures.variant c.in_ok-map_err.was)
+    (two-pieces _ _ _ _ _ c.earlier.ensures c.check_inner.ensures c.check_builder.ensures))
+    (passed-back _ _ _ c.map_err.ensures.variant c.in_ok-map_err.was)
     (c.append_stretch.ensures ∙ ap (appended _) (sym (in_window _ _ _ _ _ ok.inside))) in
     record { answer = both.0; bytes = both.1 }

@@ -19,7 +19,9 @@ returns-in_err-map_err c =
 
 pub returns-then-self : goal.returns-then-self
 unfolding next_chunk
-returns-then-self c = ap given (no_word _ _ c.if-self.true) ∙ is-given _ _ _ _ c.check_cursor.ensures (passed-back _ _ _ c.map_err.ensures.variant c.in_ok-map_err.was)
+returns-then-self c =
+    ap given (no_word _ _ c.if-self.true)
+    ∙ is-given _ _ _ _ c.check_cursor.ensures (passed-back _ _ _ c.map_err.ensures.variant c.in_ok-map_err.was)
 
 pub invariant_of-span : goal.invariant_of-span
 invariant_of-span c =

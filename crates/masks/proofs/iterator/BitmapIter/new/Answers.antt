@@ -14,7 +14,8 @@ returns-then-length-eq0 c = ap given (search rules) ∙ is-empty _ _ _ c.if-leng
 pub returns-in_err-check_span : goal.returns-in_err-check_span
 unfolding new_iter
 returns-in_err-check_span c =
-    exit-is _ _ c.from_residual.ensures.1 ∙ not-empty _ _ _ _ c.if-length-eq0.false (is-refused _ _ _ _ c.in_err-check_span.ensures (number-ne0 _))
+    exit-is _ _ c.from_residual.ensures.1
+    ∙ not-empty _ _ _ _ c.if-length-eq0.false (is-refused _ _ _ _ c.in_err-check_span.ensures (number-ne0 _))
 
 pub returns : goal.returns
 unfolding new_iter

@@ -19,13 +19,15 @@ returns-in_err-map_err c =
     step-refused _ _ _ was _ c.from_residual.ensures.1 _ c.check_cursor.ensures _
 
 pub overflow_sub-self : goal.overflow_sub-self
-overflow_sub-self c = (cursor-allowed _ _ _ _ (sym c.check_cursor.ensures ∙ (passed-back _ _ _ c.map_err.ensures.variant c.in_ok-map_err.was))).reached
+overflow_sub-self c =
+    (cursor-allowed _ _ _ _ (sym c.check_cursor.ensures ∙ (passed-back _ _ _ c.map_err.ensures.variant c.in_ok-map_err.was))).reached
 
 pub returns-then-n-self : goal.returns-then-n-self
 unfolding nth_flag
 returns-then-n-self c =
     let span = cursor-allowed _ _ _ _ (sym c.check_cursor.ensures ∙ (passed-back _ _ _ c.map_err.ensures.variant c.in_ok-map_err.was)) in
-    ap (λ (d : BitmapIter). given (ended d)) c.moved.ensures ∙ ap given (no_flag _ _ _ span.reached c.if-n-self.true) ∙ is-given _ _ _ _ c.check_cursor.ensures (passed-back _ _ _ c.map_err.ensures.variant c.in_ok-map_err.was)
+    ap (λ (d : BitmapIter). given (ended d)) c.moved.ensures ∙ ap given (no_flag _ _ _ span.reached c.if-n-self.true)
+    ∙ is-given _ _ _ _ c.check_cursor.ensures (passed-back _ _ _ c.map_err.ensures.variant c.in_ok-map_err.was)
 
 pub overflow_add-self : goal.overflow_add-self
 overflow_add-self c =
@@ -35,4 +37,6 @@ overflow_add-self c =
 pub returns : goal.returns
 unfolding nth_flag
 returns c =
-    ap (λ (d : BitmapIter). given (item c.flag_at-flag.result d)) c.moved-2.ensures ∙ ap given (a-flag _ _ _ _ c.if-n-self.false c.flag_at-flag.ensures) ∙ is-given _ _ _ _ c.check_cursor.ensures (passed-back _ _ _ c.map_err.ensures.variant c.in_ok-map_err.was)
+    ap (λ (d : BitmapIter). given (item c.flag_at-flag.result d)) c.moved-2.ensures
+    ∙ ap given (a-flag _ _ _ _ c.if-n-self.false c.flag_at-flag.ensures)
+    ∙ is-given _ _ _ _ c.check_cursor.ensures (passed-back _ _ _ c.map_err.ensures.variant c.in_ok-map_err.was)

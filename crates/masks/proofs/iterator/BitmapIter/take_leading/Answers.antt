@@ -33,4 +33,5 @@ unfolding take_leading
 returns c =
     let me = c.args.self in
     ap (λ (d : BitmapIter). given (c.leading_from-taken.result, d)) c.moved.ensures
-    ∙ ap (λ (k : ℕ). given (k, moved_to me (me.place + k))) c.leading_from-taken.ensures ∙ is-given _ _ _ _ c.check_cursor.ensures (passed-back _ _ _ c.map_err.ensures.variant c.in_ok-map_err.was)
+    ∙ ap (λ (k : ℕ). given (k, moved_to me (me.place + k))) c.leading_from-taken.ensures
+    ∙ is-given _ _ _ _ c.check_cursor.ensures (passed-back _ _ _ c.map_err.ensures.variant c.in_ok-map_err.was)

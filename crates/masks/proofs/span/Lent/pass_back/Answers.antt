@@ -1,4 +1,5 @@
--- The invariant: the search for `left` down from `below` is the one asked for. A window that is passed over has too few set flags (`turn-down`).
+-- The invariant: the search for `left` down from `below` is the one asked for. A window that is passed over
+-- has too few set flags (`turn-down`).
 use mathlib.Core.Path.{◌∙◌}
 use native.Mathlib.Omega.{arith}
 use Rattle.masks.proofs.BitmaskLaws.{window-whole}
@@ -12,7 +13,8 @@ returns-then-left-ones c =
       same = inv.1;
       inside = inv.0;
       stops = λ few. absurd
-          (enough _ _ _ _ _ _ _ few (window-whole _ _ _ _ _ _ c.word_window.ensures (omega arith) (omega arith)) c.ones_in_window-ones.ensures c.if-left-ones.true);
+          (enough _ _ _ _ _ _ _ few (window-whole _ _ _ _ _ _ c.word_window.ensures (omega arith) (omega arith))
+          c.ones_in_window-ones.ensures c.if-left-ones.true);
     }
 
 pub loop-below-preserved : goal.loop-below-preserved

@@ -12,7 +12,8 @@ returns-then-left-ones c =
       same = inv.1;
       inside = inv.0;
       stops = λ few. absurd
-          (enough _ _ _ _ _ _ _ few (window-whole _ _ _ _ _ _ c.word_window.ensures (omega arith) (omega arith)) c.ones_in_window-ones.ensures c.if-left-ones.true);
+          (enough _ _ _ _ _ _ _ few (window-whole _ _ _ _ _ _ c.word_window.ensures (omega arith) (omega arith))
+          c.ones_in_window-ones.ensures c.if-left-ones.true);
     }
 
 pub loop-at-preserved : goal.loop-at-preserved

@@ -7,7 +7,9 @@ use Rattle.masks.proofs.span.Lent.pass_windows.Given as goal
 
 abbrev pub invariant-loop-at : goal.invariant-loop-at
 invariant-loop-at l =
-    (l.at < l.self.length) × (nth_from (stretch l.self.bytes.now l.self.start l.self.length) l.left l.at ≡ nth_from (stretch l.self.bytes.now l.self.start l.self.length) l.n l.from)
+    (l.at < l.self.length)
+    × (nth_from (stretch l.self.bytes.now l.self.start l.self.length) l.left l.at
+    ≡ nth_from (stretch l.self.bytes.now l.self.start l.self.length) l.n l.from)
 
 abbrev pub decreases-loop-at : goal.decreases-loop-at
 decreases-loop-at l = l.inner - l.at

@@ -15,10 +15,14 @@ overflow_cast-result c =
     let k = c.min-k.result in
     record {
       fits =
-          narrow _ _ k 32 _ (near-value _ _ k _ _ (search rules) (omega (arith, few)) (near-first _ _ k _ (omega (arith, few)) c.near_word.ensures) c.low_flags.ensures) (omega (arith, few));
+          narrow _ _ k 32 _
+          (near-value _ _ k _ _ (search rules) (omega (arith, few)) (near-first _ _ k _ (omega (arith, few)) c.near_word.ensures)
+          c.low_flags.ensures) (omega (arith, few));
     }
 
 pub returns : goal.returns
 returns c =
     let few = c.min-k.ensures in
-    window-value _ _ _ _ _ _ few (near-value _ _ _ _ _ (search rules) (omega (arith, few)) (near-first _ _ _ _ (omega (arith, few)) c.near_word.ensures) c.low_flags.ensures)
+    window-value _ _ _ _ _ _ few
+    (near-value _ _ _ _ _ (search rules) (omega (arith, few)) (near-first _ _ _ _ (omega (arith, few)) c.near_word.ensures)
+    c.low_flags.ensures)

@@ -8,12 +8,16 @@ use Rattle.masks.proofs.span.Lent.zeros_cut.Goals as goal
 
 pub overflow_add-result : goal.overflow_add-result
 overflow_add-result c =
+    let front = c.front-before.ensures in
     omega (
       arith,
+      front.1.1,
       zeros-most _ _ _ (length-window _ _ _) c.zeros.ensures,
       zeros-most _ _ _ (length-window _ _ _) c.zeros-2.ensures,
       c.requires,
     )
 
 pub returns : goal.returns
-returns c = ap₂ (λ (x y : ℕ). x + y) c.zeros.ensures c.zeros-2.ensures
+returns c =
+    let front = c.front-before.ensures in
+    ap₂ (λ (x y : ℕ). x + y) (rw (front.0, front.1.0, front.1.1) at c.zeros.ensures) c.zeros-2.ensures

@@ -32,10 +32,12 @@ pub returns-then-position-self : goal.returns-then-position-self
 unfolding next_true
 returns-then-position-self c =
     ap (λ (d : TrueIdxIter). given (ended d)) c.moved.ensures
-    ∙ ap given (no_one _ _ _ c.zeros_next.ensures c.if-position-self.true) ∙ is-given _ _ _ _ c.check_next.ensures (passed-back _ _ _ c.map_err.ensures.variant c.in_ok-map_err.was)
+    ∙ ap given (no_one _ _ _ c.zeros_next.ensures c.if-position-self.true)
+    ∙ is-given _ _ _ _ c.check_next.ensures (passed-back _ _ _ c.map_err.ensures.variant c.in_ok-map_err.was)
 
 pub returns : goal.returns
 unfolding next_true
 returns c =
     ap (λ (d : TrueIdxIter). given (item (c.args.self.place + c.zeros_next.result) d)) c.moved-2.ensures
-    ∙ ap given (a_one _ _ _ c.zeros_next.ensures c.if-position-self.false) ∙ is-given _ _ _ _ c.check_next.ensures (passed-back _ _ _ c.map_err.ensures.variant c.in_ok-map_err.was)
+    ∙ ap given (a_one _ _ _ c.zeros_next.ensures c.if-position-self.false)
+    ∙ is-given _ _ _ _ c.check_next.ensures (passed-back _ _ _ c.map_err.ensures.variant c.in_ok-map_err.was)

@@ -18,5 +18,7 @@ returns c =
     let some : 0 < chunks_size w.0.from = omega arith in
     let counted = (c.chunks.ensures.runs w.0 w.0.seen some).1 w.2 in
     let many : length w.0.items ≡ (length c.args.bytes.now + 7) / 8 =
-    sym w.0.long ∙ counted ∙ ap (λ k. chunk_count (length (chunks_rest w.0.from)) k) size ∙ ap (λ l. chunk_count (length l) 8) rest ∙ part-count (length c.args.bytes.now) in
-    folded ∙ taken ∙ ap (λ n. parts_mixed n c.args.self (chunks_rest w.0.from)) many ∙ ap (λ l. parts_mixed ((length c.args.bytes.now + 7) / 8) c.args.self l) rest
+    sym w.0.long ∙ counted ∙ ap (λ k. chunk_count (length (chunks_rest w.0.from)) k) size ∙ ap (λ l. chunk_count (length l) 8) rest
+    ∙ part-count (length c.args.bytes.now) in
+    folded ∙ taken ∙ ap (λ n. parts_mixed n c.args.self (chunks_rest w.0.from)) many
+    ∙ ap (λ l. parts_mixed ((length c.args.bytes.now + 7) / 8) c.args.self l) rest

@@ -8,4 +8,5 @@ pub overflow_add-result : goal.overflow_add-result
 overflow_add-result c = omega (arith, count-within _ _ _ _ c.ones_rows-rows.ensures, count-within _ _ _ _ c.ones_single-rest.ensures)
 
 pub returns : goal.returns
-returns c = rows-rest _ _ _ _ _ _ _ _ c.ones_rows-rows.ensures (rw c.part.ensures.0 at c.ones_single-rest.ensures) (omega arith) (omega arith)
+returns c =
+    rows-rest _ _ _ _ _ _ _ _ c.ones_rows-rows.ensures (rw c.part.ensures.0 at c.ones_single-rest.ensures) (omega arith) (omega arith)

@@ -1,0 +1,17 @@
+-- A window whose arrays are lent: its record, and what a call answers beside the arrays. Assumes nothing.
+use Rattle.std.specs.Prelude.{ℕ, List}
+use Rattle.activity.specs.Window.{Answer}
+use Rattle.activity.specs.declared.lent.Numbers.{Numbers}
+use Rattle.activity.specs.declared.window.ActivityWindow.{ActivityWindow}
+
+-- the record of these arrays and numbers
+abbrev pub window_at : List ℕ → List ℕ → Numbers → ActivityWindow
+window_at words counts at = record { words = words; counts = counts; place = at.place; fill = at.fill; width = at.width }
+
+-- the numbers of an answered window, whose arrays stand where they were lent
+abbrev pub numbers_of : Answer ActivityWindow → Answer Numbers
+numbers_of a =
+    record {
+      value = record { place = a.value.place; fill = a.value.fill; width = a.value.width };
+      refusal = a.refusal;
+    }

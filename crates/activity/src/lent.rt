@@ -1,0 +1,60 @@
+// The calls over arrays that the caller keeps and lends: nothing of the window is copied.
+ghost use Rattle.std.specs.Prelude.{◌≡◌};
+ghost use Rattle.activity.specs.Lent.{window_at, numbers_of};
+ghost use Rattle.activity.specs.Window.{zeros, answer, minute_on, push_of, counts_of};
+ghost use Rattle.activity.specs.Workers.{Good};
+
+use crate::checks::left_by_minutes;
+use crate::exchange::exchange;
+use crate::window::{Refused, check};
+
+// The numbers of a window: where the next word goes, how many are kept, and how many are kept at most.
+#[derive(Clone, Copy)]
+pub struct Numbers {
+    pub place: usize,
+    pub fill: usize,
+    pub width: usize,
+}
+
+// Puts the word of the next minute into a window that a run of minutes leaves. Where not all places are taken the word at the place is
+// zero, so the oldest word's flags are taken off in either case.
+fn minute_in(words: &mut [u64; 256], counts: &mut [u32; 64], at: Numbers, word: u64) -> Numbers
+    requires { Good (window_at words.old counts.old at) }
+    ensures { window_at words.new counts.new result ≡ minute_on (window_at words.old counts.old at) word }
+{
+    let oldest = words[at.place];
+    words[at.place] = word;
+    exchange(counts, oldest, word);
+    Numbers {
+        place: (at.place + 1) % at.width,
+        fill: (at.fill + 1).min(at.width),
+        width: at.width,
+    }
+}
+
+// Puts the word of the next minute into the window of the lent arrays, and returns its numbers. Refused by 16 where no run of minutes
+// leaves the window: the arrays stay as they are.
+#[tactic(auto, unfolding(crate::specs::Window::push_of))]
+pub fn push_minute(
+    words: &mut [u64; 256],
+    counts: &mut [u32; 64],
+    at: Numbers,
+    word: u64,
+) -> Result<Numbers, Refused>
+    ensures answer { answer at result ≡ numbers_of (push_of (window_at words.old counts.old at) word) }
+    ensures words { words.new ≡ (push_of (window_at words.old counts.old at) word).value.words }
+    ensures counts { counts.new ≡ (push_of (window_at words.old counts.old at) word).value.counts }
+{
+    check(left_by_minutes(words, counts, at))?;
+    Ok(minute_in(words, counts, at, word))
+}
+
+// Returns for each flag how many of the kept words of the lent arrays have it set. Refused by 16 where no run of minutes leaves the
+// window: the answer is then read as 64 zeros.
+#[tactic(auto, unfolding(crate::specs::Window::counts_of))]
+pub fn counts(words: &[u64; 256], counts: &[u32; 64], at: Numbers) -> Result<[u32; 64], Refused>
+    ensures { answer (zeros 64) result ≡ counts_of (window_at words.now counts.now at) }
+{
+    check(left_by_minutes(words, counts, at))?;
+    Ok(*counts)
+}

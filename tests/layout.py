@@ -1,0 +1,78 @@
+"""Says which lines are too long, and which imports nothing uses; the status is 1 where there is one.
+
+    python3 tests/layout.py            reads this repository
+    python3 tests/layout.py FOLDER     reads another copy of it
+
+A line of a source, a proof, a script or a page has at most 140 characters; the row of a table may have more, and an attribute of a .rt
+file, which `rt fmt` writes on one line.
+
+The imports are those of .antt files, and those that .rt files make for clauses by `ghost use`. One is used if its name stands elsewhere
+in the file, outside comments; an operator such as `◌+◌` if each of its symbols does. So a name that a variable has too counts as used.
+What `pub use` brings is passed on, and is not asked for."""
+import os
+import pathlib
+import re
+import sys
+
+ROOT = pathlib.Path(__file__).resolve().parent.parent
+MOST = 140
+SUFFIXES = (".antt", ".rt", ".rs", ".c", ".h", ".py", ".md")
+# What a line begins with that may have more: a row of a table, an attribute.
+MAY_BE_LONG = {".md": ("|",), ".rt": ("#[", "#![")}
+BRINGS = r"([^\s{;]+?)(?:\.\{([^}]*)\})?(?: as (\S+))?"
+USE = {
+    ".antt": re.compile(rf"(?m)^((?:unfoldable )?pub )?use {BRINGS}$"),
+    ".rt": re.compile(rf"(?m)^(pub )?ghost use {BRINGS};$"),
+}
+COMMENT = {".antt": r"(?m)(?:^|(?<=\s))--.*$", ".rt": r"//.*"}
+BETWEEN = re.compile(r'[\s(){}.;,@"«»⟦⟧]+')
+
+
+def files(root):
+    """The files that are read: those of SUFFIXES, and scripts that have no suffix. What is made, in out/ and target/, is not."""
+    for folder, below, names in os.walk(root):
+        below[:] = sorted(name for name in below if name not in ("out", "target") and (name[0] != "." or name == ".ci"))
+        for path in (pathlib.Path(folder, name) for name in sorted(names)):
+            if path.suffix in SUFFIXES or path.suffix == "" and path.read_bytes()[:2] == b"#!":
+                yield path
+
+
+def long_lines(path, text):
+    for number, line in enumerate(text.split("\n"), 1):
+        if len(line) > MOST and not line.lstrip().startswith(MAY_BE_LONG.get(path.suffix, ())):
+            yield f"line {number} has {len(line)} characters"
+
+
+def brought(use):
+    """The names that an import brings."""
+    _, path, names, other = use.groups()
+    if names is None:
+        return [other or path.split(".")[-1]]
+    return [name.split()[-1].split(".")[-1] for name in names.split(",") if name.strip()]
+
+
+def unused_imports(path, text):
+    text = re.sub(COMMENT[path.suffix], "", text)
+    words = set(BETWEEN.split(USE[path.suffix].sub("", text)))
+    words |= {part for word in words for part in word.split("◌")}
+    for use in USE[path.suffix].finditer(text):
+        for name in brought(use):
+            if not use[1] and name not in words and not ("◌" in name and all(part in words for part in name.split("◌") if part)):
+                yield f"{name} of {use[2]} is imported and not used"
+
+
+def main():
+    root = pathlib.Path(sys.argv[1]).resolve() if len(sys.argv) > 1 else ROOT
+    read = complaints = 0
+    for path in files(root):
+        text, read = path.read_text(encoding="utf-8"), read + 1
+        found = [*long_lines(path, text), *(unused_imports(path, text) if path.suffix in USE else ())]
+        complaints += len(found)
+        for complaint in found:
+            print(f"{path.relative_to(root)}: {complaint}")
+    print(f"{read} files, {complaints} complaints of lines and imports")
+    return 1 if complaints or not read else 0
+
+
+if __name__ == "__main__":
+    sys.exit(main())
