@@ -1,4 +1,4 @@
-"""Holds docs/CALLS.md to the crates: its tables name every public function and say what the sources say.
+"""Compares docs/CALLS.md with the crates: its tables must name every public function and agree with the sources.
 
     python3 tests/calls_page.py            prints what differs, and fails if anything does
     python3 tests/calls_page.py --write    writes these cells anew
@@ -6,9 +6,9 @@
 Taken from the sources: a call's arguments and the definitions that its `ensures` cite (src/*.rt), the numbers by which it may
 refuse (specs/Refusals.antt), the wrong answers tried (specs/Wrong*.antt), and how many lines a file has: those with definitions
 and comments, without imports and empty lines. Written by hand are the column `answer`, the order of the rows, and the table of
-edits. Checked besides: that the first table has just the files that public contracts reach, that these define nothing that no
+edits. Also checked: that the first table has exactly the files that public contracts reach, that these define nothing that no
 contract reaches, that each file of specs/ is named, that specs/Witnesses.antt names each call that may refuse, and that the wrong
-answer of each edit is one of its call's row. The sum of the first table is said in the pages of TOTAL."""
+answer of each edit is one of its call's row. The pages of SAID_IN contain the sum of the first table."""
 import glob
 import os
 import re
@@ -35,7 +35,7 @@ def specs(crate, pattern):
 
 
 def definitions():
-    """The files of definitions, save the lists of modules."""
+    """Returns the files of definitions, without the lists of modules."""
     found = glob.glob(os.path.join(ROOT, "crates", "*", "specs", "*.antt"))
     paths = sorted(os.path.relpath(path, os.path.join(ROOT, "crates")) for path in found)
     return [path for path in paths if not path.endswith("/Lib.antt")]
@@ -45,7 +45,7 @@ def definitions():
 
 
 def head_of(text, at):
-    """A function's head, from its name to the brace that opens its body; clauses have braces of their own."""
+    """Returns a function's head, from its name to the brace that opens its body; clauses have braces of their own."""
     depth, start = 0, at
     while True:
         if text[at] == "{":
@@ -63,7 +63,7 @@ def arguments(head):
 
 
 def promised(head):
-    """The text of each `ensures`."""
+    """Yields the text of each `ensures`."""
     for clause in re.finditer(r"\bensures(?:\s+\w+)?\s*\{", head):
         at, depth = clause.end(), 1
         while depth:
@@ -73,7 +73,7 @@ def promised(head):
 
 
 def cited(head):
-    """What each `ensures` says the result or a lent buffer equals; lent bytes by their names alone."""
+    """Returns for each `ensures` what the result or a lent buffer equals; lent bytes are only their names."""
     out = []
     for clause in promised(head):
         side = clause.split("≡", 1)[-1].strip()
@@ -82,7 +82,7 @@ def cited(head):
 
 
 def source(path):
-    """A source with no comments, where a name that is brought as another stands as it is defined."""
+    """Returns a source without comments; a name that is imported as another is replaced by its own name."""
     text = re.sub(r"//[^\n]*", "", read(path))
     for line in re.findall(r"ghost use[^;]*;", text):
         for name, other in re.findall(r"(\w+) as (\w+)", line):
@@ -91,7 +91,7 @@ def source(path):
 
 
 def functions(crate):
-    """Name, arguments and definitions of each public function: methods with their type's name."""
+    """Returns name, arguments and definitions of each public function: methods with their type's name."""
     found = {}
     for path in sorted(glob.glob(os.path.join(ROOT, "crates", crate, "src", "*.rt"))):
         text = source(path)
@@ -111,14 +111,14 @@ def functions(crate):
 
 
 def uses(text):
-    """The files of definitions that a source or such a file uses, with the names taken from each."""
+    """Returns the files of definitions that a source or such a file uses, with the names taken from each."""
     found = re.findall(r"use Rattle\.(\w+)\.specs\.([A-Z]\w*)\.\{([^}]*)\}", text)
     files = [(f"{crate}/specs/{name}.antt", {n.split(" as ")[-1].strip() for n in names.split(",")}) for crate, name, names in found]
     return [(file, names) for file, names in files if os.path.isfile(os.path.join(ROOT, "crates", file))]
 
 
 def clauses():
-    """For each source file its text, and the names that the clauses of its public functions have."""
+    """Yields for each source file its text, and the names that the clauses of its public functions have."""
     for crate in CRATES:
         for path in glob.glob(os.path.join(ROOT, "crates", crate, "src", "*.rt")):
             text = source(path)
@@ -127,7 +127,7 @@ def clauses():
 
 
 def reached():
-    """The files that the clauses of public functions cite, and what these use in turn."""
+    """Returns the files that the clauses of public functions cite, and those that these use in turn."""
     waiting = [file for text, words in clauses() for file, names in uses(text) if names & words]
     found = set()
     while waiting:
@@ -139,7 +139,7 @@ def reached():
 
 
 def parts(file):
-    """The definitions of a file by name, each with its text, without comments."""
+    """Returns the definitions of a file by name, each with its text, without comments."""
     text = re.sub(r"--[^\n]*", "", read("crates", file))
     starts = list(re.finditer(rf"(?m)^(?:unfoldable |abbrev )?pub (?:record |data )?(?!use |mod )({NAME})", text))
     ends = [start.start() for start in starts[1:]] + [len(text)]
@@ -147,7 +147,7 @@ def parts(file):
 
 
 def unreached(files):
-    """The definitions of these files that no clause of a public function reaches, by the names alone."""
+    """Returns a complaint for each definition of these files that no clause of a public function reaches, compared only by name."""
     known, waiting, found = {}, set(), set()
     for file in files:
         for name, text in parts(file).items():
@@ -166,7 +166,7 @@ def unreached(files):
 
 
 def refusals(crate):
-    """The numbers that `may_give` lists, by the calls named in the comment above them; without names, of the whole crate."""
+    """Returns the numbers that `may_give` lists, by the calls named in the comment above them; without names, for the whole crate."""
     found = {}
     for text in specs(crate, "Refusals.antt"):
         table = text[text.index("abbrev pub may_give") :]
@@ -183,7 +183,7 @@ def refusals(crate):
 
 
 def wrong_answers(crate):
-    """The faults named in the tables of wrong answers, by call, two for each row."""
+    """Returns the faults named in the tables of wrong answers, by call, two for each row."""
     found = {}
     for text in specs(crate, "Wrong*.antt"):
         faults = []
@@ -205,7 +205,7 @@ def witnessed(crate):
 
 
 def facts():
-    """The cells of each call's row, by column; and complaints."""
+    """Returns the cells of each call's row, by column; and complaints."""
     rows, complaints = {}, []
     order = re.findall(r"\d+", re.search(r"(?m)^order =(.*?)^$", read("crates", "masks", "specs", "Checks.antt"), re.S)[1])
     for crate in CRATES:
@@ -227,7 +227,7 @@ def facts():
 
 
 def size_of(path):
-    """The lines of a file, without imports and empty lines; of a crate's src the clauses of its public functions."""
+    """Counts the lines of a file, without imports and empty lines; for a crate's src, the clauses of its public functions."""
     if path.endswith("/src"):
         return str(sum(len(definitions) for _, definitions in functions(path.split("/")[0]).values()))
     if not os.path.isfile(os.path.join(ROOT, "crates", path)):
@@ -240,7 +240,7 @@ def cells_of(line):
 
 
 def renewed(line, columns, rows, seen, complaints):
-    """A line of a table with the cells that the sources decide."""
+    """Returns a line of a table with the cells that come from the sources."""
     cells = cells_of(line)
     if len(cells) != len(columns):
         complaints.append(f"{len(cells)} cells under {len(columns)} columns: {line}")

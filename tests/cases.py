@@ -6,9 +6,9 @@
 The answers are those of tests/document01.py. A difference is printed with its line; the exit status is 1 if there is one.
 
 A line lends bytes (`x`, `y`, `z` to read, `o` to write) or numbers (`i`), or is a request with its answer, `NAME ARGUMENT .. = ANSWER ..`,
-and behind `|` what the output holds after the call. A range has several values for some arguments, with commas or as `A..B`, and
-for its answer the number of calls and a checksum over all answers and outputs. `@K` stands for the last K numbers of the last
-answer, `@` for the bytes that the last call left, `+` for an output that goes on where the last call left it."""
+and after `|` what the output holds after the call. A range has several values for some arguments, with commas or as `A..B`, and as its
+answer the number of calls and a checksum over all answers and outputs. `@K` means the last K numbers of the last answer, `@` the bytes
+that the last call left, `+` an output that continues where the last call left it."""
 import struct
 import sys
 from itertools import product
@@ -20,7 +20,7 @@ SHOWN = 20
 
 
 # The calls by their names: the arguments (n a number, M a mask, O a mask or none, B a builder, W a window's place, fill and width), and
-# the answer from these and what is lent. A call that has an output gives it beside its answer.
+# the answer from these and what is lent. A call that has an output returns it after its answer.
 
 
 def sides(l):
@@ -166,7 +166,7 @@ LISTERS = {"next_chunk", "counts"}  # these write numbers
 WRITERS |= LISTERS
 
 
-# The serial of the record that a call gives stands before its three numbers: 0 of a new one; that of the builder or of the mask; the
+# The serial of the record that a call returns comes before its three numbers: 0 for a new record; that of the builder or of the mask; the
 # largest of the masks combined, each of which has one.
 
 NEW = {"BitmapBuilder::new", "Bitmap::new", "new_zeroed", "try_new"}
@@ -193,7 +193,7 @@ def token(text):
 
 
 def values(text):
-    """The values of an argument."""
+    """Returns the values of an argument."""
     row = []
     for item in text.split(","):
         first, dots, end = item.partition("..")
@@ -212,7 +212,7 @@ def numbers_in(pieces):
 
 
 def taken(h, symbols):
-    """The checksum h with symbols taken in."""
+    """Returns the checksum h with the symbols added."""
     for symbol in symbols:
         h = h + symbol & WORD
         h ^= h << 13 & WORD
@@ -239,11 +239,11 @@ def output_symbols(out):
 
 
 class Lents:
-    """What is lent to one call, and what of the output is not."""
+    """What is lent to one call, and the rest of the output, which is not lent."""
 
 
 def arranged(spec):
-    """How many arguments there are, and a function that puts them together as their kinds say."""
+    """Returns the number of arguments, and a function that groups them by their kinds."""
     at, parts = 0, []
     for kind in spec:
         one = {"n": "row[{0}]", "O": "row[{0} + 1 : {0} + 4] if row[{0}] else None"}.get(kind, "row[{0} : {0} + 3]")
@@ -269,7 +269,7 @@ class Reader:
         self.parts = {key: lent for key, lent in self.parts.items() if key[0] != letter}
 
     def part(self, letter, size):
-        """The first bytes of x, y or z, taken apart once."""
+        """Returns the first bytes of x, y or z as a Lent, which is made once."""
         if (letter, size) not in self.parts:
             self.parts[letter, size] = Lent(self.bytes[letter][:size])
         return self.parts[letter, size]
@@ -284,7 +284,7 @@ class Reader:
         return l
 
     def call(self, name, row, l):
-        """The answer of one call, and what its output holds then, or None."""
+        """Makes one call. Returns its answer, and what its output then holds, or None if it has no output."""
         self.calls += 1
         out = None
         try:
@@ -304,7 +304,7 @@ class Reader:
         return answer, out
 
     def request(self, text):
-        """Whether a request's answer is right, and what it should be."""
+        """Makes a request. Returns whether its answer is right, and what it should be."""
         asked, _, told = text.partition(" = ")
         if asked.startswith("+ "):
             self.lend("o", ["@"])
@@ -323,7 +323,7 @@ class Reader:
         return (self.range if told[0] == "#" else self.single)(name, rows, letters, told)
 
     def choices(self, name, rows, letters):
-        """Each choice of the values, the last one fastest, with what is lent."""
+        """Yields each choice of the values, the last one changing fastest, with what is lent."""
         many, lents = len(rows) - len(letters), {}
         for row in product(*rows):
             sizes = row[many:]

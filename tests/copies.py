@@ -1,11 +1,11 @@
 #!/usr/bin/env python3
-"""Runs requests over damaged copies of the sources, unproved, and compares what is printed with what such damage must print.
+"""Runs requests on damaged copies of the sources, unproved, and compares the output with the output expected of that damage.
 
     python3 tests/copies.py [--write] [NAME..]
 
-Of each NAME in tests/copies there are three files: NAME.edit, the damage, in the form that tests/test_copy.py takes; NAME.stdin, requests
-with their right answers (docs/REQUESTS.md), which tests/cases.py works out again; NAME.stdout, what the program `cases` prints of them over
-the damaged copy: the lines that differ, with the wrong answers, and the totals. Over the sources as they are no request of NAME.stdin may
+For each NAME in tests/copies there are three files: NAME.edit, the damage, in the form that tests/test_copy.py takes; NAME.stdin, requests
+with their right answers (docs/REQUESTS.md), which tests/cases.py computes again; NAME.stdout, what the program `cases` prints for them on
+the damaged copy: the lines that differ, with the wrong answers, and the totals. On the undamaged sources no request of NAME.stdin may
 differ. --write writes NAME.stdout anew. The exit status is 1 if a program printed something else, 2 if an edit does not fit or a copy does
 not compile.
 """
@@ -22,7 +22,7 @@ RIGHT = re.compile(r"^total: [1-9]\d* requests, \d+ calls, 0 differ\nrequests wi
 
 
 def damaged(edit, write):
-    """Whether the copy printed what it must."""
+    """Returns whether the damaged copy printed what it must."""
     expected = edit.with_suffix(".stdout")
     stdin = edit.with_suffix(".stdin")
     got = printed([edit], PROGRAM, [stdin])[stdin]
@@ -36,7 +36,7 @@ def damaged(edit, write):
 
 
 def undamaged(edits):
-    """Whether the sources as they are answer every request as its line says, and tests/cases.py too."""
+    """Returns whether the undamaged sources answer every request as its line says, and whether tests/cases.py does."""
     model = [sys.executable, ROOT / "tests" / "cases.py"]
     right = all([subprocess.run([*model, edit.with_suffix(".stdin")], check=False).returncode == 0 for edit in edits])
     for stdin, printed_there in printed([], PROGRAM, [edit.with_suffix(".stdin") for edit in edits]).items():

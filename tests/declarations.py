@@ -1,15 +1,15 @@
-"""Holds the declarations in C and Rust to the exports of crates/capi, and writes them.
+"""Compares the declarations in C and Rust with the exports of crates/capi, and writes them.
 
-    python3 tests/declarations.py            prints what differs, and fails if anything does (--check is the same)
-    python3 tests/declarations.py --write    writes them anew; for whoever adds a call
+    python3 tests/declarations.py            prints what differs, and fails if anything does (--check does the same)
+    python3 tests/declarations.py --write    writes them anew, after a call was added
 
-Written are the records and functions of include/poruwhina.h (in_c.py), the declarations of the Rust crate with a safe function for each
-(in_rust.py), and include/interface.txt. Compared are the records of the Rust crate and the named numbers. Nothing else compares these: a
+It writes the records and functions of include/poruwhina.h (in_c.py), the declarations of the Rust crate with a safe function for each
+(in_rust.py), and include/interface.txt. It compares the records of the Rust crate and the named numbers. Nothing else compares these: a
 program that declares an export otherwise links, and then reads the wrong bytes.
 
-include/interface.txt holds the version of the interface and a digest of every record, function and number. Under one version a digest
-does not change and does not go: where it would, the version must be raised, in the name of the symbol that crates/capi/src/interface.rt
-exports. What is added needs no new version. Where a number's words change and not its meaning, `--write --reworded` takes the new ones."""
+include/interface.txt holds the version of the interface and a digest of every record, function and number. Under one version no digest
+may change or disappear: if one would, the version must be raised, in the name of the symbol that crates/capi/src/interface.rt exports.
+Additions need no new version. If a number's words change and not its meaning, `--write --reworded` accepts the new words."""
 import hashlib
 import re
 import sys
@@ -21,7 +21,7 @@ from exports import ROOT, exports, interface, lowered, records, records_of, refu
 INTERFACE = ROOT / "include/interface.txt"
 CHECKS = "crates/masks/specs/"
 
-# Each named number, and the line of a definition or a source that it is taken from.
+# Each named number, and the line of a definition or a source from which it is taken.
 NUMBERS = {
     "PW_FLAG_LIMIT": ("crates/masks/src/bitmap.rt", r"pub const LIMIT: usize = (\d+);"),
     "PW_REFUSED_ABOVE_LIMIT": (CHECKS + "Checks.antt", r"check (\d+) \(leb n limit\)"),
@@ -67,7 +67,7 @@ def differences(where, declared, wanted):
 
 
 def digests():
-    """Each record, function and number with a digest of what a program relies on."""
+    """Returns each record, function and number with a digest of what a program relies on."""
     found = {}
     for name, (_, fields) in records().items():
         found[f"record {name}"] = fields
@@ -80,7 +80,7 @@ def digests():
 
 
 def recorded():
-    """The version and the digests of include/interface.txt."""
+    """Returns the version and the digests of include/interface.txt."""
     if not INTERFACE.exists():
         return 0, {}
     lines = [line.split() for line in INTERFACE.read_text().splitlines() if line and not line.startswith("#")]
@@ -88,7 +88,7 @@ def recorded():
 
 
 def raised(reworded):
-    """What may not change under the version that is recorded."""
+    """Returns a complaint for each change that the recorded version does not allow."""
     version, before = recorded()
     now = digests()
     if interface() < version:
@@ -106,7 +106,7 @@ def interface_text():
 
 
 def compared():
-    """What the script does not write: the numbers, and the Rust crate's records and list of modules."""
+    """Compares what the script does not write: the numbers, and the Rust crate's records and list of modules."""
     numbers = source_numbers()
     yield from differences("the header", {name: number for name, (number, _) in in_c.numbers().items()}, numbers)
     yield from differences("the Rust crate", rust_numbers(), numbers)
@@ -116,7 +116,7 @@ def compared():
     for name in sorted({path.stem for path in in_rust.CALLS.glob("*.rs")} - {"mod"}):
         if not re.search(rf"^mod {name};$", (in_rust.CALLS / "mod.rs").read_text(), re.M):
             yield f"bindings/rust/src/calls/mod.rs does not have the module {name}"
-    # an export that gives a u8 gives the number itself
+    # an export that returns a u8 returns the number itself
     answers = {"u8", *(name for name, (_, fields) in records().items() if fields[0][0] == "refusal")}
     for export in exports():
         if (export.name in refusals()) != (export.result in answers):

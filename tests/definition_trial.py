@@ -1,4 +1,4 @@
-"""Has the checker try wrong definitions on copies of the crates: for tests/wrong_definitions.py, which says how it goes."""
+"""Runs the checker over wrong definitions on copies of the crates, for tests/wrong_definitions.py, whose docstring has the method."""
 import fnmatch
 import os
 import pathlib
@@ -11,23 +11,23 @@ import tempfile
 from source_types import types_only
 
 NAMED = re.compile(r"\bRattle\.(\w+)\.(specs|proofs)\.([A-Z]\w*)\b")
-CONTROLS = 100000  # from here on the variants are unedited
+CONTROLS = 100000  # variants with this number or a larger one are unedited
 
 
 def fail(text):
-    """Says why nothing could be tried, and ends."""
+    """Prints why nothing could be tried, and exits with 2."""
     print(f"wrong_definitions: {text}")
     sys.exit(2)
 
 
 def read_crates(root):
-    """For each crate of crates.txt, the libraries that it names."""
+    """Returns, for each crate of crates.txt, the libraries that it names."""
     lines = (line.split("#")[0].partition(":") for line in (root / "crates.txt").read_text(encoding="utf-8").split("\n"))
     return {name.split()[0]: rest.split() for name, colon, rest in lines if colon}
 
 
 def below(crates, names):
-    """The crates and those of the repository that they use, the used ones first."""
+    """Returns the crates and those of the repository that they use, directly or not, the used ones first."""
     seen = []
 
     def visit(name):
@@ -43,12 +43,12 @@ def below(crates, names):
 
 
 def toolchain():
-    """The folder of the Rattle kit."""
+    """Returns the folder of the Rattle kit."""
     return pathlib.Path(os.path.realpath(shutil.which("rt") or fail("no rt"))).parent.parent
 
 
 class Refusal:
-    """A declaration that the checker refused, or did not try since it uses a refused one. A file NAME_vN is the variant N of NAME."""
+    """A declaration that the checker refused, or did not try because it uses a refused one. A file NAME_vN is the variant N of NAME."""
 
     def __init__(self, crate, part, file, text):
         self.crate, self.part = crate, part
@@ -66,7 +66,7 @@ class Refusal:
 
 
 def refusals(said):
-    """What the checker refused, each declaration once."""
+    """Returns what the checker refused, each declaration once."""
     found = {}
     for match in re.finditer(r"(?m)^(?:\S*/)?(\w+)/(specs|proofs)/([^\s:]+)\.antt:\d+:\d+: error:? ?(.*(?:\n  .*)*)", said):
         refusal = Refusal(*match.groups())
@@ -75,7 +75,7 @@ def refusals(said):
 
 
 class Trial:
-    """Copies of the crates in a temporary folder, and what the checker says of them."""
+    """Copies of the crates in a temporary folder, and the checker's output for them."""
 
     def __init__(self, root, crates, scratch, logs):
         self.root, self.crates, self.scratch, self.logs = root, crates, pathlib.Path(scratch), logs
@@ -89,7 +89,7 @@ class Trial:
                 self.uses[module] = set(NAMED.findall(self.texts[module]))
 
     def all_used(self, modules):
-        """These modules and all that they use, of specs/ and of proofs/."""
+        """Returns these modules and all that they use, directly or not, of specs/ and of proofs/."""
         found, waiting = set(), list(modules)
         while waiting:
             module = waiting.pop()
@@ -99,7 +99,7 @@ class Trial:
         return found
 
     def needed(self, places):
-        """The files of proofs/ that these places use, themselves included: pairs of crate and name. Other proofs are of no account."""
+        """Returns the files of proofs/ that these places use, themselves included: pairs of crate and name. Other proofs are not needed."""
         for crate, name in places:
             if (crate, "proofs", name) not in self.texts:
                 fail(f"there is no crates/{crate}/proofs/{name}.antt")
@@ -107,8 +107,8 @@ class Trial:
         return {(crate, name) for crate, part, name in used if part == "proofs"}
 
     def between(self, place, edited):
-        """The modules that the place uses and that themselves use an edited one, the edited ones among them: those that an edit of these
-        changes for the place. Empty where the place does not use them."""
+        """Returns the modules that the place uses and that use an edited one, including the edited ones: those that the edit changes for
+        the place. Empty if the place does not use them."""
         used = self.all_used([(place[0], "proofs", place[1])])
         return {module for module in used if edited & self.all_used([module])}
 
@@ -133,7 +133,7 @@ class Trial:
         (folder / "top" / "src" / "lib.rt").write_text("// Nothing: what is checked are the libraries.\n", encoding="utf-8")
 
     def check(self, folder, names, kept):
-        """Runs the checker on a copy. Returns its status and what it said."""
+        """Runs the checker on a copy. Returns its status and its output."""
         kit = toolchain()
         words = [f"{kit}/bin/rattle", "check", "--crate-name", "top", "top/src/lib.rt"]
         for crate in names:
@@ -146,7 +146,7 @@ class Trial:
         return done.returncode, done.stdout.decode("utf-8", "replace")
 
     def control(self, places):
-        """Checks the unedited copy with all that the places use; its modules are kept."""
+        """Checks the unedited copy with all that the places use, and keeps its modules."""
         files = self.needed(places)
         names = below(self.crates, sorted({crate for crate, _ in files}, key=list(self.crates).index))
         folder = self.scratch / "control"
@@ -158,8 +158,8 @@ class Trial:
             fail("the unedited copy is not accepted, so that a refusal would show nothing")
 
     def run(self, crates, places, edit, log):
-        """Checks a copy of these crates and of what the places use, once `edit` has changed it, beside the modules that were kept.
-        Returns what is wrong with the edit or with the run, or the refusals."""
+        """Checks a copy of these crates and of what the places use, after `edit` has changed it, with the modules that were kept. Returns
+        what is wrong with the edit or with the run, or the refusals."""
         files = self.needed(places)
         names = below(self.crates, [crate for crate in self.crates if crate in crates or any(crate == other for other, _ in files)])
         folder = pathlib.Path(tempfile.mkdtemp(dir=self.scratch))
@@ -168,7 +168,7 @@ class Trial:
             bad = edit(folder / "crates")
             if bad:
                 return bad
-            # the checker puts a new file in the place of an old one and does not write into it, so links will do
+            # the checker replaces an old file by a new one and does not write into it, so links are enough
             shutil.copytree(self.kept, folder / "kept", copy_function=os.link)
             status, said = self.check(folder / "crates", names, folder / "kept")
         finally:
@@ -182,7 +182,7 @@ class Trial:
         return found
 
     def alone(self, entry, places):
-        """Tries one entry by itself, in the files' own places. Returns the refusals, or what is wrong with the entry."""
+        """Tries one entry by itself, under the files' own names. Returns the refusals, or what is wrong with the entry."""
 
         def edit(folder):
             changed = entry.changed(self.texts)
@@ -195,7 +195,7 @@ class Trial:
         return accepted_specs(self.run({entry.crate}, places, edit, entry.number))
 
     def put_variant(self, folder, number, texts):
-        """Adds a variant of these modules to a copy: files NAME_vN, which name each other by these names and other modules as they are."""
+        """Adds a variant of these modules to a copy: files NAME_vN, which use each other by these names and other modules unchanged."""
         for (crate, part, name), text in texts.items():
             text = NAMED.sub(lambda use: f"{use[0]}_v{number}" if use.groups() in texts else use[0], text)
             (folder / crate / part / f"{name}_v{number}.antt").write_text(text, encoding="utf-8")
@@ -204,7 +204,7 @@ class Trial:
 
     def together(self, entries):
         """Tries entries in one run: for each a variant of the modules between its place and its edited files; and for each such set of
-        modules an unedited variant, which must be accepted, else its entries are tried alone. Returns, by the entries' numbers, the
+        modules an unedited variant. If that is not accepted, its entries are tried one by one. Returns, by the entries' numbers, the
         refusals or what is wrong with an entry."""
         results, variants, controls = {}, {}, {}
         for entry in entries:
@@ -235,7 +235,7 @@ class Trial:
 
 
 def accepted_specs(found):
-    """The refusals of an entry, or that a definition is not accepted, which shows nothing."""
+    """Returns the refusals of an entry, or that a definition is not accepted, in which case the refusal shows nothing."""
     if not isinstance(found, str) and any(refusal.part == "specs" for refusal in found):
         return "a definition is not accepted: " + next(refusal.where() for refusal in found if refusal.part == "specs")
     return found

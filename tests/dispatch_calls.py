@@ -1,18 +1,18 @@
-"""Says which calls of masks the sources of dispatch use, and fails on one that is no combination and no search.
+"""Prints which calls of masks the sources of dispatch use, and fails on one that is neither a combination nor a search.
 
     python3 tests/dispatch_calls.py            reads crates/dispatch/src
     python3 tests/dispatch_calls.py FOLDER     reads the sources of that folder instead
 
-Document 01 has dispatch cite only masks' combinations and searches. A call is found by its name where it is imported (`use
-masks::module::name;`, or among others in braces) or written with its path, a method by its name behind a dot or behind its type. Of masks'
-types only those may be named that a combination or a search takes or gives. Of words nothing may be used."""
+By document 01 dispatch uses only combinations and searches of masks. A call is found by its name where it is imported (`use
+masks::module::name;`, or among others in braces) or written with its path, a method by its name after a dot or after its type. Of the
+types of masks, only those may be named that a combination or a search takes or returns. Nothing of words may be used."""
 import pathlib
 import re
 import sys
 
 ROOT = pathlib.Path(__file__).resolve().parent.parent
 
-# By module of masks: the calls that dispatch may use. A later one joins here.
+# By module of masks: the calls that dispatch may use. Add a new one here.
 COMBINATIONS = {
     "bitmap_ops": ("and", "and_not", "or", "or_not", "xor", "not", "select", "select_constant"),
     "at_index": ("and_not_at",),
@@ -24,7 +24,7 @@ ITEM = re.compile(r"(?m)^impl (\w+)|^(\})|^pub(?:\(crate\))? (?:struct|enum) (\w
 
 
 def code_of(path):
-    """A source without its comments and its imports for clauses, each other import with a path for each name."""
+    """Returns a source without its comments and its imports for clauses; each other import has a path for each name."""
     text = re.sub(r"//[^\n]*", "", path.read_text(encoding="utf-8"))
     text = re.sub(r"(?m)^ghost use [^;]*;", "", text)
     return re.sub(
@@ -35,7 +35,7 @@ def code_of(path):
 
 
 def kinds():
-    """`module::name` of each call that is allowed: what kind of call it is."""
+    """Returns, for `module::name` of each call that is allowed, what kind of call it is."""
     found = {}
     for kind, table in (("combination", COMBINATIONS), ("search", SEARCHES)):
         for module, names in table.items():
@@ -44,7 +44,7 @@ def kinds():
 
 
 def masks():
-    """The public functions of masks by `module::name` with their heads, its types by `module::name`, and its public methods."""
+    """Returns the public functions of masks by `module::name` with their heads, its types by `module::name`, and its public methods."""
     functions, types, methods = {}, set(), {}
     for path in sorted((ROOT / "crates/masks/src").glob("*.rt")):
         text, owner = code_of(path), ""

@@ -1,8 +1,8 @@
-"""The calls of the library as document 01 tells them, and paper 02 of the window of minutes, for tests/cases.py.
+"""The calls of the library by document 01, and the window of minutes by paper 02, for tests/cases.py.
 
 A list of flags is one number here: flag j of it is bit j. Arrow numbers flag j of a buffer as bit j mod 8 of byte j div 8, the least
 significant bit first, so that the bytes read as one number, the first byte lowest, have flag j at bit j. Everything else is
-document 01's: its checks by their numbers, and what each call answers, as a list; a call that has an output gives it beside the list.
+document 01's: its checks by their numbers, and what each call answers, as a list; a call that has an output returns it after the list.
 Sums and products are exact. Nothing here is taken from the library or from the model that writes the case file."""
 import struct
 from functools import lru_cache
@@ -14,7 +14,7 @@ RANK = {number: rank for rank, number in enumerate([16, 10, 1, 11, 2, 13, 3, 14,
 
 
 class Refused(Exception):
-    """The number of a failed check, and the record that the call got."""
+    """The number of a failed check, and the record that the call was passed."""
 
 
 def check(checks, came=()):
@@ -38,7 +38,7 @@ def full(n):
 
 
 def piece(lent, start, n):
-    """n flags from a flag on; those past the end of the bytes are 0."""
+    """Returns n flags, the first of which is flag `start`; those past the end of the bytes are 0."""
     return lent.flags >> start & full(n) if start < 8 * lent.size else 0
 
 
@@ -47,7 +47,7 @@ def zeros(x, n):
 
 
 def at_front(x, n, flag):
-    """How many of the n flags equal `flag` before the first one that does not."""
+    """Counts the flags equal to `flag` before the first one of the n flags that differs."""
     other = x ^ full(n) if flag else x
     return (other & -other).bit_length() - 1 if other else n
 
@@ -62,12 +62,12 @@ def places(x):
 
 
 def words_of(x, n):
-    """The bytes of n flags in whole words, zeros behind the last flag."""
+    """Returns the bytes of n flags in whole words, with zeros after the last flag."""
     return x.to_bytes(8 * -(-n // 64), "little")
 
 
 def over(out, data, at=0):
-    """The bytes of an output with others written over it; what does not fit is left out."""
+    """Returns the bytes of an output with `data` written over it, starting at `at`; what does not fit is left out."""
     return (out[:at] + data + out[at + len(data) :])[: len(out)]
 
 
@@ -83,7 +83,7 @@ def span_checks(lent, start, n):
 
 
 def mask_checks(mask, lent):
-    """1, 2 and 3: a known count is that of the flags, which are counted only where they lie in the bytes and the limit."""
+    """Makes checks 1, 2 and 3: a known count is that of the flags, which are counted only if they lie in the bytes and the limit."""
     start, n, known = mask
     inside = span_checks(lent, start, n)
     counted = known is None or not all(held for _, held in inside) or known == zeros(piece(lent, start, n), n)
@@ -123,18 +123,18 @@ def merged(current, following, offset):
 
 
 def found(row, k):
-    """Entry k of a list, counted from 0, or none."""
+    """Returns entry k of a list, counted from 0, or none."""
     return row[k] if 0 <= k < len(row) else MISSING
 
 
 def set_bit(word, n):
-    """Where set bit n is, counted from 0; or none, and the number of set bits (paper 02, (f))."""
+    """Returns the place of set bit n, counted from 0; or none, and the number of set bits (paper 02, (f))."""
     ones = word.bit_count()
     return [places(word)[n]] if n < ones else [MISSING, ones]
 
 
 def read(op, masks, n):
-    """The first flags of up to three stretches combined, their number, and what all later ones of the n are."""
+    """Returns the first flags of up to three stretches combined, their number, and the value of all later ones of the n."""
     most = min(n, max(max(8 * lent.size - start, 0) for lent, start in masks))
     x, y, z = [piece(lent, start, most) for lent, start in masks]
     return OPS[op](x, y, z, most), most, OPS[op](0, 0, 0, 1)
@@ -146,7 +146,7 @@ def count_of(op, masks, n):
 
 
 def written(op, masks, n, out):
-    """Over the front of an output as whole words, zeros behind the last flag."""
+    """Returns an output with n combined flags written over its front, as whole words, with zeros after the last flag."""
     n_out = min(n, 8 * len(out))
     x, most, rest = read(op, masks, n_out)
     x |= (full(n_out) ^ full(most)) * rest
@@ -212,11 +212,11 @@ def search(lent, start, n, k, at, back):
     return [found(places(x), below - 1 - k if back else below + k)]
 
 
-# The builder: its length, word in progress and ones of finished words. An append gives the new one and the buffer.
+# The builder: its length, word in progress and ones of finished words. An append returns the new builder and the buffer.
 
 
 def append(builder, buf, checks, more, flags):
-    """`flags` gives the list of `more` flags, which is made only once the checks have passed."""
+    """Appends the `more` flags that `flags` returns, which is called only after the checks have passed."""
     check(checks + builder_checks(builder, buf, more), builder)
     n, word, ones = builder
     row = word | flags() << n % 64
@@ -266,7 +266,7 @@ def into_opt_validity(builder, buf):
 
 
 def brought(mask, lent):
-    """The count that a mask brings."""
+    """Returns the zero count of a mask: the known one, else that of its flags."""
     start, n, known = mask
     return zeros(piece(lent, start, n), n) if known is None else known
 
@@ -305,7 +305,7 @@ def slice_of(mask, lent, offset, n):
 
 
 def constant(op, n, left, right):
-    """The flag of a result that is constant by the counts, or None."""
+    """Returns the flag of a result that is constant by the counts, or None."""
     if op == AND and n in (left, right):
         return 0
     if op == OR and 0 in (left, right):
@@ -316,7 +316,7 @@ def constant(op, n, left, right):
 
 
 def combine(op, masks, out, third=None):
-    """The masks come with their bytes; of select_constant `third` is the flag that stands for the third list."""
+    """Combines masks, which come with their bytes; for select_constant `third` is the flag of the third list."""
     n = masks[0][0][1]
     checks = [one for mask, lent in masks for one in mask_checks(mask, lent) + [(5, mask[1] == n)]]
     check(checks + room_checks(out, n))
@@ -347,7 +347,7 @@ def num_intersections(first, a, second, b):
 
 
 def and_not_at(first, a, second, b, index):
-    """An absent mask is None."""
+    """Returns whether flag `index` is set in the first mask and not in the second. An absent mask is None."""
     masks = [(mask, lent) for mask, lent in ((first, a), (second, b)) if mask is not None]
     checks = [one for mask, lent in masks for one in mask_checks(mask, lent) + [(5, mask[1] == masks[0][0][1]), (6, index < mask[1])]]
     check(checks)
@@ -357,7 +357,7 @@ def and_not_at(first, a, second, b, index):
 
 
 def may_reassign(permission, p, revocation, r, truck):
-    """Paper 02 (d): an operator with no permission mask may reassign nothing; the checks are those of `and_not_at`."""
+    """By paper 02 (d) an operator with no permission mask may reassign nothing; the checks are those of `and_not_at`."""
     flag = and_not_at(permission, p, revocation, r, truck)
     return [0] if permission is None else flag
 
@@ -366,7 +366,7 @@ def may_reassign(permission, p, revocation, r, truck):
 
 
 def superseding(first, a, s, second, b, t):
-    """Whether the second wins, the part of the winner's bytes from a byte to before another, its serial, and its record over that part."""
+    """Returns whether the second wins, the first byte and the end of the winner's part, its serial, and its record over that part."""
     lists = [(mask[1], piece(lent, *mask[:2])) for mask, lent in ((first, a), (second, b)) if max(mask[:2]) <= LIMIT]
     check(mask_checks(first, a) + mask_checks(second, b) + [(14, s != t or len(lists) == 2 and lists[0] == lists[1])])
     serial, mask = (t, second) if t > s else (s, first)
@@ -375,7 +375,7 @@ def superseding(first, a, s, second, b, t):
 
 
 def superseding_bytes(first, a, s, second, b, t):
-    """The winner's bytes; after a refusal none of the first slice."""
+    """Returns the winner's bytes; after a refusal an empty part of the first slice."""
     try:
         later, start, end, *_ = superseding(first, a, s, second, b, t)
     except Refused:
@@ -384,7 +384,7 @@ def superseding_bytes(first, a, s, second, b, t):
 
 
 def next_and_not(first, a, second, b, place):
-    """Paper 02 (m): the first position at or after the place, else the first from 0 on; and the windows up to the one that holds it."""
+    """Returns, by paper 02 (m), the first position at or after the place, else the first from 0; and the windows up to the one with it."""
     n = first[1]
     checks = mask_checks(first, a) + [(6, place <= n)]
     if second is not None:
@@ -407,7 +407,7 @@ def lowest(x):
 
 
 def offer(permission, p, revocation, r, cursor):
-    """An absent mask is None; with no permission mask there is no truck, and a revocation mask is only checked."""
+    """Offers a truck. An absent mask is None; with no permission mask there is no truck, and a revocation mask is only checked."""
     try:
         if permission is None:
             check([] if revocation is None else mask_checks(revocation, r))
@@ -418,7 +418,7 @@ def offer(permission, p, revocation, r, cursor):
     return [truck, cursor if truck == MISSING else truck + 1, windows]
 
 
-# Cursors: start, length, place; the one over positions has a mask or not.
+# Cursors: start, length, place; the one over positions also has whether there is a mask.
 
 
 def new_runs(mask, lent):
@@ -458,7 +458,7 @@ def true_new(n, mask, lent):
 
 
 def positions(lent, start, n, place, masked, most):
-    """The next positions of ones, at most so many, and the place behind them."""
+    """Returns the next positions of ones, at most `most`, and the place after them."""
     check(cursor_checks(lent, start, n, place, masked), [start, n, place, masked])
     left = n - place
     x = piece(lent, start + place, left) if masked else full(left)
@@ -484,7 +484,7 @@ def next_chunk(lent, start, n, place, masked, out):
 
 
 def busy(words):
-    """For each of 64 flags how many of the words have it set."""
+    """Counts, for each of 64 flags, the words that have it set."""
     return [sum(word >> flag & 1 for word in words) for flag in range(64)]
 
 
@@ -493,7 +493,7 @@ def window_bytes(words, counts):
 
 
 def window(data, record, came):
-    """The words and the counts of a window that minutes leave."""
+    """Returns the words and the counts of a window; refuses by 16 if no run of minutes leaves it."""
     numbers = struct.unpack("<256Q64I", data)
     words, counts = list(numbers[:256]), list(numbers[256:])
     place, fill, width = record
@@ -510,7 +510,7 @@ def activity_new(width):
 
 
 def push_minutes(data, record, minutes):
-    """The minute that comes k-th goes k places on from the place, round the width."""
+    """Pushes minutes: minute k of them, counted from 0, goes to place + k mod the width."""
     place, fill, width = record
     words, _ = window(data, record, [record])
     for k, word in enumerate(minutes):

@@ -1,4 +1,4 @@
-"""Reads the exports of crates/capi: what crosses to C and Rust, taken from the sources alone."""
+"""Reads the exports of crates/capi, the functions that C and Rust call, only from the sources."""
 import pathlib
 import re
 import sys
@@ -6,25 +6,25 @@ import sys
 ROOT = pathlib.Path(__file__).resolve().parent.parent
 CAPI = ROOT / "crates/capi"
 
-# The order in which the modules are declared; a module that is not named here comes behind these.
+# The order in which the modules are declared; a module that is not named here comes after these.
 ORDER = ["word", "spans", "search", "chunks", "builder", "mask", "superseding", "combine", "at_index", "next_and_not", "cursors"]
 ORDER += ["reassign", "offer", "window"]
 
-# What a refused export gives back, by its name or by the encoding that its contract names; of every other all fields are 0.
+# What a refused export returns, by its name or by the encoding that its contract names; from every other one all fields are 0.
 KEPT = {
     "pw_activity_new": "every other field is then 0, and both arrays stay as they are",
-    "pw_activity_push_minute": "the window is then the one that came: place, fill, width and both arrays",
+    "pw_activity_push_minute": "the window is unchanged: place, fill, width and both arrays",
     "pw_activity_counts": "`out` then stays as it is",
-    "as_same_mask": "the mask is then the one that came, every field as it came",
-    "as_zeros": "the mask is then the one that came, every field as it came, and `zeros` 0",
-    "as_builder": "the builder is then the one that came",
-    "as_offer": "`cursor` is then the one that came, every other field 0",
-    **dict.fromkeys(("as_word", "as_bit", "as_run", "as_taken", "as_remainder"), "`place` is then the one that came, every other field 0"),
+    "as_same_mask": "the mask is unchanged, every field of it",
+    "as_zeros": "the mask is unchanged, every field of it, and `zeros` is 0",
+    "as_builder": "the builder is unchanged",
+    "as_offer": "`cursor` is unchanged, and every other field is 0",
+    **dict.fromkeys(("as_word", "as_bit", "as_run", "as_taken", "as_remainder"), "`place` is unchanged, and every other field is 0"),
 }
 
 
 class Export:
-    """A function that crosses: its module, its name, its arguments as pairs of name and type, its result and its comment."""
+    """An exported function: its module, its name, its arguments as pairs of name and type, its result and its comment."""
 
     def __init__(self, module, comment, name, arguments, result, contract):
         self.module, self.name, self.result = module, name, result
@@ -35,7 +35,7 @@ class Export:
         self.numbers = refusals().get(name)
 
     def sentences(self):
-        """What the export does, and how it refuses."""
+        """Returns what the export does and how it refuses, in sentences."""
         if self.numbers is None:
             return self.comment
         if not self.numbers:
@@ -44,17 +44,17 @@ class Export:
 
 
 def said(comment):
-    """A comment's lines as one text."""
+    """Returns a comment's lines as one text."""
     return " ".join(line.lstrip("/").strip() for line in comment.strip().split("\n") if line.strip("/ "))
 
 
 def pairs(text):
-    """`name: type` pairs, separated by commas."""
+    """Returns the `name: type` pairs of a text, where they are separated by commas."""
     return [tuple(re.sub(r"\s+", " ", side.strip()) for side in part.split(":", 1)) for part in text.split(",") if part.strip()]
 
 
 def lowered(arguments):
-    """What crosses: a slice is a pointer and the number of its elements, an array behind a reference a pointer."""
+    """Yields arguments as they are passed: a slice as a pointer and the number of its elements, a reference to an array as a pointer."""
     for name, kind in arguments:
         lent = re.fullmatch(r"&(mut )?\[(\w+)(; \d+)?\]", kind)
         pointer = lent and ("*mut " if lent[1] else "*const ")
@@ -68,7 +68,7 @@ def lowered(arguments):
 
 
 def wrapped(arguments, width):
-    """Arguments with commas behind them, on lines of this width; none is broken."""
+    """Returns arguments, each followed by a comma, on lines of this width; none is broken."""
     lines = [""]
     for argument in arguments:
         longer = f"{lines[-1]} {argument},".strip()
@@ -84,7 +84,7 @@ def source(module):
 
 
 def modules():
-    """The modules with exports, in the order of the declarations, each with what its first comment says."""
+    """Yields the modules with exports, in the order of the declarations, each with the text of its first comment."""
     found = [path.stem for path in sorted((CAPI / "src").glob("*.rt")) if "#[unsafe(no_mangle)]" in path.read_text()]
     for module in sorted(found, key=lambda m: (ORDER.index(m) if m in ORDER else len(ORDER), m)):
         comment = re.match(r"(?://[^\n]*\n)+", source(module))[0].split("\n//\n")[0]
@@ -93,7 +93,7 @@ def modules():
 
 
 def exports():
-    """All exports in the order of the declarations."""
+    """Returns all exports in the order of the declarations."""
     shape = r'((?:^//[^\n]*\n)+)#\[unsafe\(no_mangle\)\]\npub extern "C" fn (\w+)\((.*?)\)\s*(?:->\s*(\w+)\s*)?((?:ensures.*?)?)^\{'
     found = []
     for module, _ in modules():
@@ -106,7 +106,7 @@ def exports():
 
 
 def records_of(text):
-    """The repr(C) structs of Rattle or Rust: each name, with what stands before it as a comment, and its fields in order."""
+    """Returns the repr(C) structs of Rattle or Rust: each name, with the comment before it and its fields in order."""
     shape = r"((?:^//[^\n]*\n)*)#\[repr\(C\)\]\s*(?:#\[[^\]]*\]\s*)*pub(?:\([a-z]+\))? struct (\w+)\s*\{(.*?)\}"
     found = {}
     for comment, name, body in re.findall(shape, text, re.S | re.M):
@@ -120,7 +120,7 @@ def records():
 
 
 def refusals():
-    """The numbers that specs/Refusals.antt lists for each export that can refuse."""
+    """Returns the numbers that specs/Refusals.antt lists for each export that can refuse."""
     found = {}
     for field in re.split(r"\n  pub ", (CAPI / "specs/Refusals.antt").read_text()):
         listed = re.match(r"(pw_\w+) :.*?\b(?:Gives\w*|Appends|Combines|Counts) (?:\(([\d ∷]+)\[\]\)|\[\])", field, re.S)
@@ -130,5 +130,5 @@ def refusals():
 
 
 def interface():
-    """The version of the interface, by the name of its symbol."""
+    """Returns the version of the interface, from the name of its symbol."""
     return int(re.search(r"fn pw_interface_(\d+)\(", source("interface"))[1])

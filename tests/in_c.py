@@ -1,4 +1,4 @@
-"""The exports of crates/capi in C: what include/poruwhina.h has below its mark."""
+"""Makes the exports of crates/capi in C: the part of include/poruwhina.h below its mark."""
 import re
 import textwrap
 
@@ -10,12 +10,12 @@ TYPES = {"usize": "size_t", "u8": "uint8_t", "u32": "uint32_t", "u64": "uint64_t
 
 
 def c_name(record):
-    """The name of a record in C: pw_mask_answer for MaskAnswer."""
+    """Returns the name of a record in C: pw_mask_answer for MaskAnswer."""
     return "pw" + re.sub(r"([A-Z])", lambda m: "_" + m.group(1).lower(), record)
 
 
 def declared(name, kind):
-    """An argument or a field."""
+    """Returns the declaration of an argument or a field."""
     lent = re.fullmatch(r"\*(const|mut) (\w+)", kind)
     array = re.fullmatch(r"(?:\*(const|mut) )?\[(\w+); (\d+)\]", kind)
     if lent:
@@ -43,12 +43,12 @@ def prototype(export):
 
 
 def with_serial():
-    """A builder that keeps its serial, and for each export that takes a builder's numbers a function that takes it by pointer."""
+    """Returns a builder that keeps its serial, and for each export that takes a builder's numbers a function that takes it by pointer."""
     parts = [
         comment("---- A builder with its serial, by pointer: so that no serial is lost between a builder and its mask."),
         comment("A builder and the serial that its mask will have.")
         + "typedef struct {\n    pw_builder builder;\n    uint32_t serial;\n} pw_serial_builder;\n",
-        comment("The builder of no flags under a serial.")
+        comment("Returns a builder with no flags and this serial.")
         + "static inline pw_serial_builder pw_serial_builder_new(uint32_t serial) {\n"
         + "    pw_serial_builder b = {pw_builder_new(), serial};\n    return b;\n}\n",
     ]
@@ -60,7 +60,8 @@ def with_serial():
 
 
 def by_pointer(export, rest):
-    """An append changes the builder where it is not refused, and gives the number; what ends a builder gives the export's answer."""
+    """Returns the function by pointer of an export. An append changes the builder unless it is refused, and returns the number; a call
+    that ends a builder returns the export's answer."""
     appends = export.result == "BuilderAnswer"
     taken = [declared(*argument) for argument in rest if argument[0] != "serial"]
     given = [f"b->builder.{field}" for field in ("length", "word", "ones")]
@@ -77,12 +78,12 @@ def by_pointer(export, rest):
         lines += f"    return {called}}}\n"
     told = "The builder stays as it is."
     if appends:
-        told = "Gives 0, or the number of a refusal, after which the builder is the one that came."
+        told = "Returns 0, or the number of a refusal, after which the builder is unchanged."
     return comment(f"{export.name} of the builder and its serial. {told}") + lines
 
 
 def version():
-    """The reference that makes a library of another version fail to link."""
+    """Returns the reference that makes a library of another version fail to link."""
     symbol = f"pw_interface_{interface()}"
     return (
         comment(
@@ -102,7 +103,7 @@ def version():
 
 
 def below():
-    """What stands below the mark."""
+    """Returns the part of the header below the mark."""
     parts = ["/* ---- records */\n", *(record(name, *this) for name, this in records().items())]
     found = exports()
     for module, heading in modules():
@@ -115,12 +116,12 @@ def below():
 
 
 def text():
-    """The header: what stands above its mark as it is, and what the sources say below it."""
+    """Returns the header: unchanged above its mark, and below it as the sources say."""
     above, mark, _ = HEADER.read_text().partition(MARK)
     return above + MARK + "\n" + below()
 
 
 def numbers():
-    """The named numbers of the header, and what the comment above each says."""
+    """Returns the named numbers of the header, each with the text of the comment above it."""
     found = re.findall(r"((?:/\*(?:(?!\*/).)*\*/\s*)?)#define (PW_\w+) (\d+)", HEADER.read_text(), re.S)
     return {name: (int(number), re.sub(r"\s*\n \* ", " ", said).strip("/* \n")) for said, name, number in found}

@@ -1,8 +1,7 @@
-"""The exports of crates/capi in Rust: the declarations of bindings/rust/src/calls, and a safe function for each of them.
+"""Makes the exports of crates/capi in Rust: the declarations of bindings/rust/src/calls, and a safe function for each of them.
 
-Where an export's first numbers are the fields of a builder or a cursor, the function takes the record; where the export gives the
-place of a cursor, the function gives the cursor. The examples of the functions are written by hand: they are taken from the files
-that are there."""
+If an export's first numbers are the fields of a builder or a cursor, the function takes the record; if the export returns the place of
+a cursor, the function returns the cursor. The examples of the functions are written by hand: they are taken from the existing files."""
 import re
 import textwrap
 
@@ -13,7 +12,7 @@ WIDTH = 140
 
 
 def examples():
-    """The example of each function, from what is there."""
+    """Returns the example of each function, from the existing files."""
     found = {}
     for path in sorted(CALLS.glob("*.rs")):
         for said, name in re.findall(r"((?:^///[^\n]*\n)+)#\[inline\]\npub fn (\w+)", path.read_text(), re.M):
@@ -24,7 +23,7 @@ def examples():
 
 
 def compressed(head, arguments, tail, indent=""):
-    """A function's head: on one line where it fits, else its arguments on lines of their own, as many as fit on each."""
+    """Returns a function's head: on one line if it fits, else with its arguments on lines of their own, as many as fit on each."""
     one = f"{indent}{head}({', '.join(arguments)}){tail}"
     if len(one) <= WIDTH:
         return one + "\n"
@@ -38,7 +37,7 @@ def declaration(export):
 
 
 def taken(export):
-    """The function's own arguments, and what the export is given for them."""
+    """Returns the function's own arguments, and what is passed to the export for them."""
     arguments, given, rest = [], [], export.arguments
     for record in ("Builder", "Cursor"):
         fields = records()[record][1]
@@ -60,7 +59,7 @@ def taken(export):
 
 
 def call(name, given, before, after):
-    """The call of an export: on one line where it fits, else in a block, else with each argument on a line."""
+    """Returns the call of an export: on one line if it fits, else in a block, else with each argument on a line."""
     one = f"exports::{name}({', '.join(given)})"
     if len(f"    {before}unsafe {{ {one} }}{after}") <= WIDTH:
         return f"    {before}unsafe {{ {one} }}{after}\n"
@@ -73,13 +72,13 @@ def call(name, given, before, after):
 
 
 def linked(text, own):
-    """A text whose exports are links; one of another module by its path."""
+    """Returns a text in which exports are links; one of another module by its path."""
     return re.sub(r"\bpw_(\w+)", lambda found: f"[`{found[1]}`]" + ("" if found[0] in own else f"(super::{found[1]})"), text)
 
 
 def function(export, example, own):
     name = export.name.removeprefix("pw_")
-    doc = linked(export.sentences(), own).replace("`place` is then the one", "the cursor is then the one")
+    doc = linked(export.sentences(), own).replace("`place` is unchanged", "the cursor is unchanged")
     text = "".join(f"/// {line}\n" for line in textwrap.wrap(doc, 126, break_on_hyphens=False))
     text += f"///\n{example}" if example else ""
     arguments, given = taken(export)
@@ -93,7 +92,7 @@ def function(export, example, own):
 
 
 def files():
-    """Each file that is written, and the functions that have no example."""
+    """Returns each file that is written, and the functions that have no example."""
     found, shown, lacking = exports(), examples(), []
     symbol = f"pw_interface_{interface()}"
     written = {
@@ -109,7 +108,7 @@ def files():
             continue
         heading = re.sub(r"\bpw_(\w+)", r"[`\1`]", heading)
         lines = "".join(f"//! {line}\n" for line in textwrap.wrap(heading, 126, break_on_hyphens=False))
-        parts = [f"{lines}//!\n//! Written by tests/declarations.py from crates/capi, save for the examples, which it keeps.\n"]
+        parts = [f"{lines}//!\n//! Written by tests/declarations.py from crates/capi, except the examples, which it keeps.\n"]
         parts += ["use super::exports;\nuse super::records::*;\n"]
         own = {export.name for export in found if export.module == module}
         for export in found:

@@ -1,14 +1,14 @@
-"""Says which lines are too long, and which imports nothing uses; the status is 1 where there is one.
+"""Prints which lines are too long and which imports are not used; the status is 1 if there are any.
 
     python3 tests/layout.py            reads this repository
     python3 tests/layout.py FOLDER     reads another copy of it
 
-A line of a source, a proof, a script or a page has at most 140 characters; the row of a table may have more, and an attribute of a .rt
-file, which `rt fmt` writes on one line.
+A line of a source, a proof, a script or a page has at most 140 characters. Longer ones are allowed for the row of a table and for an
+attribute of a .rt file, which `rt fmt` writes on one line.
 
-The imports are those of .antt files, and those that .rt files make for clauses by `ghost use`. One is used if its name stands elsewhere
-in the file, outside comments; an operator such as `◌+◌` if each of its symbols does. So a name that a variable has too counts as used.
-What `pub use` brings is passed on, and is not asked for."""
+The imports are those of .antt files, and those that .rt files make for clauses by `ghost use`. An import is used if its name occurs
+elsewhere in the file, outside comments; an operator such as `◌+◌` if each of its symbols does. So a name that a variable also has counts
+as used. A name imported by `pub use` is passed on, and is not checked."""
 import os
 import pathlib
 import re
@@ -17,7 +17,7 @@ import sys
 ROOT = pathlib.Path(__file__).resolve().parent.parent
 MOST = 140
 SUFFIXES = (".antt", ".rt", ".rs", ".c", ".h", ".py", ".md")
-# What a line begins with that may have more: a row of a table, an attribute.
+# How lines begin that may be longer: a row of a table, an attribute.
 MAY_BE_LONG = {".md": ("|",), ".rt": ("#[", "#![")}
 BRINGS = r"([^\s{;]+?)(?:\.\{([^}]*)\})?(?: as (\S+))?"
 USE = {
@@ -29,7 +29,7 @@ BETWEEN = re.compile(r'[\s(){}.;,@"«»⟦⟧]+')
 
 
 def files(root):
-    """The files that are read: those of SUFFIXES, and scripts that have no suffix. What is made, in out/ and target/, is not."""
+    """Yields the files that are read: those of SUFFIXES, and scripts that have no suffix; not those that are made, in out/ and target/."""
     for folder, below, names in os.walk(root):
         below[:] = sorted(name for name in below if name not in ("out", "target") and (name[0] != "." or name == ".ci"))
         for path in (pathlib.Path(folder, name) for name in sorted(names)):
@@ -44,7 +44,7 @@ def long_lines(path, text):
 
 
 def brought(use):
-    """The names that an import brings."""
+    """Returns the names that an import brings."""
     _, path, names, other = use.groups()
     if names is None:
         return [other or path.split(".")[-1]]

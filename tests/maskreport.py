@@ -1,11 +1,11 @@
 #!/usr/bin/env python3
-"""Writes what the program maskreport is run on, and what it must print then:
+"""Writes the input of the program maskreport, and the output that it must print for it:
 
     python3 tests/maskreport.py CASE stdin > crates/CRATE/stdin
     python3 tests/maskreport.py CASE stdout > crates/CRATE/stdout
 
-CASE is `example`, document 01's byte, for the crate maskreport; `empty`, `full` and `over`, none, the most and one more of the
-bytes that it takes, for maskreport_empty, maskreport_full and maskreport_over. The numbers are counted over the list of flags."""
+CASE is `example`, document 01's byte, for the crate maskreport; `empty`, `full` and `over`, that is no bytes, as many as it takes at
+most, and one more, for maskreport_empty, maskreport_full and maskreport_over. The numbers are counted over the list of flags."""
 import sys
 from itertools import groupby
 
@@ -13,7 +13,7 @@ MOST = 65536
 
 
 def mixed(size):
-    """Bytes that look drawn."""
+    """Returns bytes that look random."""
     rows = [(i * 167 + 886) * 2654435761 % 2**32 for i in range(size)]
     return [(y // 32768 + y % 32768) * 2246822519 // 65536 % 256 for y in rows]
 
@@ -22,7 +22,7 @@ CASES = {"example": [0x2D], "empty": [], "full": mixed(MOST), "over": mixed(MOST
 
 
 def flags_of(data):
-    """Flag j is bit j mod 8 of byte j div 8, the least significant first."""
+    """Returns the flags: flag j is bit j mod 8 of byte j div 8, the least significant first."""
     return [data[j // 8] >> j % 8 & 1 == 1 for j in range(8 * len(data))]
 
 

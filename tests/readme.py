@@ -1,11 +1,11 @@
-"""Runs what README.md shows, as pasted, and compares what it prints.
+"""Runs the code blocks of README.md as pasted, and compares their output.
 
     python3 tests/readme.py
 
-The code blocks are taken in order. A block `sh` is run in the repository's root, save the gate itself; `toml` and `rust` make a crate
-beside a link to the repository named `poruwhina`; `c` is written to sample.c in a folder with links to `include` and `target`, where
-the next block `sh` is run. A paragraph after a block that begins with 'prints' has what it must print, each line between backquotes. A
-block whose compiler is not at hand is left out, and a line says so."""
+The code blocks are taken in order. A block `sh` is run in the repository's root, except the gate itself; `toml` and `rust` make a crate
+next to a link to the repository named `poruwhina`; `c` is written to sample.c in a folder with links to `include` and `target`, where
+the next block `sh` is run. If a paragraph that begins with 'prints' follows a block, it has what the block must print, each line between
+backquotes. A block whose compiler is not installed is left out, and a line is printed about it."""
 import os
 import re
 import shutil
@@ -20,14 +20,14 @@ PACKAGE = '[package]\nname = "sample"\nversion = "0.1.0"\nedition = "2024"\n\n'
 
 
 def blocks():
-    """Language, text and expected lines of each code block."""
+    """Returns language, text and expected lines of each code block."""
     with open(os.path.join(ROOT, "README.md"), encoding="utf-8") as file:
         found = BLOCK.findall(file.read())
     return [(kind, text, re.findall(r"`([^`]+)`", said)) for kind, text, said in found]
 
 
 def run(words, where, want, shown):
-    """Runs a command; fails where its status is not 0 or it does not print the lines wanted."""
+    """Runs a command; exits with 1 if its status is not 0 or it does not print the lines `want`."""
     done = subprocess.run(words, cwd=where, stdin=subprocess.DEVNULL, capture_output=True, text=True, shell=isinstance(words, str))
     lines = done.stdout.splitlines()
     if done.returncode != 0 or (want and lines != want):

@@ -1,4 +1,4 @@
-"""Source files of a crate cut down to their types: what tests/wrong_definitions.py checks in place of functions and their proofs."""
+"""Cuts source files of a crate down to their types, which tests/wrong_definitions.py checks instead of functions and their proofs."""
 import re
 
 KIND = re.compile(
@@ -7,13 +7,13 @@ KIND = re.compile(
 
 
 def blank(text):
-    """The text with comments, strings and byte literals blanked, at the same positions."""
+    """Returns the text with comments, strings and byte literals blanked, at the same positions."""
     literal = r"""//[^\n]*|/\*.*?\*/|"(?:\\.|[^"\\])*"|'(?:\\x[0-9A-Fa-f]{2}|\\.|[^'\\\n])'"""
     return re.sub(literal, lambda found: re.sub(r"[^\n]", " ", found[0]), text, flags=re.S)
 
 
 def items(code, at, end):
-    """Where each item of code[at:end] begins and ends: at a semicolon, or at the brace that closes its body."""
+    """Yields where each item of code[at:end] begins and ends: at a semicolon, or at the brace that closes its body."""
     while True:
         while at < end and code[at].isspace():
             at += 1
@@ -37,13 +37,13 @@ def items(code, at, end):
 
 
 def kind(code):
-    """What an item declares."""
+    """Returns what an item declares: `struct`, `use`, .., or an empty text."""
     found = KIND.match(code)
     return re.sub(r"\s+", " ", found[1]) if found else ""
 
 
 def imported(item):
-    """The names that a `use` item brings, each with an item that brings it alone."""
+    """Yields the names that a `use` item brings, each with an item that brings only this name."""
     head, names = re.fullmatch(r"(.*?)(?:\{(.*)\})?\s*;", item, re.S).groups()
     for name in names.split(",") if names is not None else [""]:
         path = " ".join(f"{head}{name}".split())
@@ -52,8 +52,8 @@ def imported(item):
 
 
 def types_only(text):
-    """A source file's modules, structs, enums, traits, type names and constants, and the imports that these need: those of clauses too
-    where one of these has a ghost field or member."""
+    """Returns a source file's modules, structs, enums, traits, type names and constants, and the imports that these need; also those
+    of clauses if one of these has a ghost field or member."""
     text = re.sub(r"(?m)^#!\[[^\n]*\]\n", "", text)
     code, kept, imports, ghosts = blank(text), [], [], []
     for start, end in items(code, 0, len(code)):
@@ -61,7 +61,7 @@ def types_only(text):
         if what in ("mod", "struct", "enum", "trait", "type", "const"):
             kept.append(text[start:end])
         elif what == "ghost use":
-            # laws of the repository are named by `impl` blocks alone, which are cut away
+            # only `impl` blocks, which are cut away, name laws of the repository
             if not re.search(r"\bRattle\.(?!core\b|std\b)\w+\.proofs\.", text[start:end]):
                 ghosts.append(text[start:end])
         elif what == "use":

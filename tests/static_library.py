@@ -1,11 +1,11 @@
 #!/usr/bin/env python3
-"""Holds crates/capi_c to crates/capi, or writes it anew.
+"""Compares crates/capi_c with crates/capi, or writes it anew.
 
     python3 tests/static_library.py [--write]
 
 crates/capi_c is the static library that C and Rust link. Each of its functions has the name, the arguments and the clauses of a function
-of capi, and calls that one: a crate is a library or a static library, and a static library exports its own functions alone. Without
---write the sources are compared, but for white space; with it they are written, and `rt fmt` lays them out."""
+of capi, and calls that one: a crate is a library or a static library, and a static library exports only its own functions. Without
+--write the sources are compared, except for white space; with it they are written, and `rt fmt` lays them out."""
 import pathlib
 import re
 import subprocess
@@ -31,7 +31,7 @@ ROOT_FILE = """\
 
 
 def brought(text, start):
-    """The names that `use` lines bring, as pairs of module and name; the lines begin with `start`."""
+    """Yields the names that `use` lines bring, as pairs of module and name; the lines begin with `start`."""
     for module, names, name in re.findall(rf"^{start} ([\w:.]+?)(?:::|\.)(?:\{{([^}}]*)\}}|(\w+));", text, re.M):
         for one in (names or name).split(","):
             if one.strip():
@@ -39,14 +39,14 @@ def brought(text, start):
 
 
 def used(name, text):
-    """Whether a text uses a name, or the one that it is brought as, or an operator."""
+    """Returns whether a text uses a name, or the one that it is imported as, or an operator."""
     name = name.split(" as ")[-1]
     operator = OPERATOR.fullmatch(name)
     return operator[1] in text if operator else re.search(rf"(?<![\w.]){re.escape(name)}(?!\w)", text) is not None
 
 
 def rows(head, names):
-    """The `use` lines of a module's names, none longer than tests/layout.py lets a line be."""
+    """Returns the `use` lines of a module's names, none longer than tests/layout.py allows."""
     found = []
     for name in names:
         if found and len(f"{head}{{{', '.join([*found[-1], name])}}};") <= MOST:
@@ -57,7 +57,7 @@ def rows(head, names):
 
 
 def lines(start, join, pairs, text):
-    """The `use` lines of the names that a text uses."""
+    """Returns the `use` lines of the names that a text uses."""
     modules = {}
     for module, name in pairs:
         if used(name, text):
@@ -68,7 +68,7 @@ def lines(start, join, pairs, text):
 
 
 def thin(module):
-    """The source of a module of capi_c, and none where the module of capi exports nothing."""
+    """Returns the source of a module of capi_c, or None if the module of capi exports nothing."""
     text = (FROM / f"{module}.rt").read_text(encoding="utf-8")
     exports = list(EXPORT.finditer(text))
     if not exports:

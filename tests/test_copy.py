@@ -1,18 +1,18 @@
 #!/usr/bin/env python3
-"""Runs programs over an edited copy of the sources, unproved, and compares what they print with what is expected of the copy.
+"""Runs programs on an edited copy of the sources, unproved, and compares what they print with what is expected of the copy.
 
     python3 tests/test_copy.py [--expect FILE] [--stdin FILE] [--show] PROGRAM[,PROGRAM..] EDIT..
-    python3 tests/test_copy.py replay                         with no edit: is what is printed crates/replay/stdout?
-    python3 tests/test_copy.py cases,replay crates/*/must-fail/*.edit        a table: which edit is seen by which program
+    python3 tests/test_copy.py replay                         with no edit: compares the output with crates/replay/stdout
+    python3 tests/test_copy.py cases,replay crates/*/must-fail/*.edit        a table: which program detects which edit
 
-An EDIT is a file in the form of the must-fail edits: `file: src/x.rt`, then pairs of `old:` and `new:` lines, each old text standing once
-in the file. A `file:` of an edit below crates/NAME is of that crate; elsewhere it is written from the repository on
+An EDIT is a file in the form of the must-fail edits: `file: src/x.rt`, then pairs of `old:` and `new:` lines; each old text occurs once
+in the file. A `file:` of an edit below crates/NAME is of that crate; elsewhere its path begins at the repository
 (`file: crates/masks/src/x.rt`). Several edits are tried one by one, each in a fresh copy; `A.edit+B.edit` applies two together. An edit
 that touches no file of src/ is left out.
 
-A copy has src/ and specs/ alone. `rt try --cases` compiles the program there with no proof, and with tests of what a proof would show (an
-index out of bounds, an overflow), and runs it on its file `stdin` (or FILE). What it prints is compared with the file `stdout` of the
-repository (or --expect FILE, `-` for what the unedited sources print). --show prints the first differing lines.
+A copy has only src/ and specs/. `rt try --cases` compiles the program there with no proof, and with run-time checks of what a proof would
+show (an index out of bounds, an overflow), and runs it on its file `stdin` (or FILE). What it prints is compared with the file `stdout` of
+the repository (or --expect FILE, `-` for what the unedited sources print). --show prints the first differing lines.
 
 The exit status is 0 if every program printed what is expected of every copy, 1 if one did not, 2 if an edit does not fit or does not
 compile.
@@ -28,7 +28,7 @@ import time
 
 ROOT = pathlib.Path(__file__).resolve().parent.parent
 LIMIT = 1200  # seconds that a program may run
-STEPS = 1  # of the interpreter, which is not waited for: it knows no call that reads input by parts
+STEPS = 1  # of the interpreter, whose run is cut short: it has no call that reads input in parts
 
 
 def dependencies(root):
@@ -42,7 +42,7 @@ def dependencies(root):
 
 
 def reached(root, program):
-    """The crates of the repository that a program uses, directly or through others, and itself."""
+    """Returns the crates of the repository that a program uses, directly or through others, and the program itself."""
     table = dependencies(root)
     found, todo = [], [program]
     while todo:
@@ -58,7 +58,7 @@ class Unfit(Exception):
 
 
 def pairs(edit):
-    """The (file, old, new) of an edit that are of sources, files from the repository on."""
+    """Yields the (file, old, new) of an edit that are for sources, with the file's path in the repository."""
     edit = edit.resolve()
     base = ""
     if ROOT / "crates" in edit.parents:
@@ -74,7 +74,7 @@ def pairs(edit):
 
 
 def apply(copy, edits):
-    """Applies the edits to a copy. A crate that is not in it is one that the program does not reach."""
+    """Applies the edits to a copy. Skips a crate that is not in it, which the program does not use."""
     for edit in edits:
         for file, old, new in pairs(edit):
             path = copy / file
@@ -87,7 +87,7 @@ def apply(copy, edits):
 
 
 def lay_out(copy, name):
-    """Copies the program and the crates below it, listed in a crates.txt of the copy's own."""
+    """Copies the program and the crates below it, and writes a crates.txt that lists these."""
     wanted = reached(ROOT, name)
     lines = (ROOT / "crates.txt").read_text().splitlines()
     listed = [line for line in lines if ":" in line.split("#")[0] and line.split(":")[0].split()[0] in wanted]
@@ -99,7 +99,7 @@ def lay_out(copy, name):
 
 
 def outputs(said, stdins):
-    """What the program printed on each input, from what `rt try --cases` says."""
+    """Returns what the program printed on each input, from the output of `rt try --cases`."""
     found = {}
     for stdin in stdins:
         _, mark, rest = said.partition(f"== {stdin.stem}\n".encode())
@@ -113,7 +113,7 @@ def outputs(said, stdins):
 
 @contextlib.contextmanager
 def made_copy(edits, name):
-    """A copy of the sources with these edits."""
+    """Returns a copy of the sources with these edits."""
     with tempfile.TemporaryDirectory(prefix="test-copy-") as folder:
         copy = pathlib.Path(folder)
         lay_out(copy, name)
@@ -122,7 +122,7 @@ def made_copy(edits, name):
 
 
 def printed(edits, name, stdins):
-    """What the program prints over a copy with these edits, on each of these inputs."""
+    """Returns what the program prints on a copy with these edits, for each of these inputs."""
     with made_copy(edits, name) as copy:
         cases = copy / "cases"
         cases.mkdir()

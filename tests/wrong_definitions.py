@@ -1,45 +1,45 @@
 #!/usr/bin/env python3
-"""Tries wrong definitions: each must be refused by a table or by a theorem, not only by laws that serve the functions' proofs.
+"""Tries wrong definitions: a table or a theorem must refuse each, not only laws that serve the functions' proofs.
 
     tests/wrong_definitions.py [--alone] [--find [--tables]] [--open] [--jobs N] [--logs DIR]
                                [CRATE | DEFINITION ..]
     tests/wrong_definitions.py --page [--write]
 
-A contract says that a call equals a definition, so a wrong definition makes a wrong library provable: code and laws would be
-changed along with it. What shuts it out are computed tables and theorems that say what the definition is for. The wrong definitions
-are in tests/wrong/CRATE.txt, with an empty line between two; each has these lines:
+A contract states that a call equals a definition, so a wrong definition makes a wrong library provable: code and laws would be
+changed with it. Computed tables and theorems that state what the definition is for rule it out. The wrong definitions are in
+tests/wrong/CRATE.txt, with an empty line between two; each has these lines:
 
     definition: NAME      what is edited
     says: TEXT            what is wrong, in plain words
-    file: PATH            the file, below crates/CRATE; left out, that of the entry before it
-    old: TEXT             text that is in the file just once; `\\n` for a line's end
+    file: PATH            the file, below crates/CRATE; if left out, that of the entry before it
+    old: TEXT             text that is in the file exactly once; `\\n` for a line's end
     new: TEXT             the wrong text; more pairs of `old:` and `new:` may follow
-    table: CRATE/FILE     crates/CRATE/proofs/FILE.antt is a computed table, and a row of it is then false; or
-    theorem: CRATE/FILE NAME    the proof of this theorem then fails, in which the definition is read in plain words
+    table: CRATE/FILE     crates/CRATE/proofs/FILE.antt is a computed table, of which a row is then false; or
+    theorem: CRATE/FILE NAME    the proof of this theorem, which states the definition in plain words, then fails
 
-How it goes. A law, a theorem or a table needs the definitions and the types, not the functions. So each crate is copied with src/ cut
+The method. A law, a theorem or a table needs the definitions and the types, not the functions. So each crate is copied with src/ cut
 down to its types, with specs/, and with those files of proofs/ that the table or the theorem uses. The copy is first checked
-unedited, and must be accepted. Then the wrong definitions are tried, some in one run, beside the modules that were checked: what an edit
-changes for its place, the edited file and those that read it, stands in the copy a second time under other names (NAME_vN), with
-the edit; and once more without it, which must be accepted, else the entry is tried alone. What is said of an entry:
+unedited, and must be accepted. Then the wrong definitions are tried, several in one run, with the modules that were checked: the files
+that an edit changes for its place, the edited file and those that use it, are added to the copy under other names (NAME_vN), once with
+the edit and once without it. The latter must be accepted, else the entry is tried by itself. What is printed for an entry:
 
     refused at PLACE      the table or theorem of the entry refuses it
     ELSEWHERE             it is refused, but not there
-    NOT REFUSED           nothing of what was checked refuses it
-    BAD                   the text is not in the file just once, or a definition is not accepted: it shows nothing
+    NOT REFUSED           nothing that was checked refuses it
+    BAD                   the text is not in the file exactly once, or a definition is not accepted: it shows nothing
     OPEN                  the entry has no place yet
 
-    --page        compare the table of docs/CONTRACTS.md with the entries, or with --write write it anew; nothing is tried
-    --alone       each entry in a run of its own, in the files' own places
-    --open        those that have no place
-    --find        look through all tables and theorems of all crates, and print what refuses; with --write an entry that has no place
+    --page        compares the table of docs/CONTRACTS.md with the entries, or with --write writes it anew; nothing is tried
+    --alone       tries each entry in a run of its own, under the files' own names
+    --open        tries only entries that have no place
+    --find        tries all tables and theorems of all crates, and prints what refuses; with --write an entry that has no place
                   gets the first table that refuses it, or the first theorem
-    --tables      with --find: through the tables alone, which takes a second or two an entry
-    --jobs N      how many are tried at a time; otherwise RT_JOBS, or the processors, at most 4
-    --logs DIR    keeps what the checker said
-    --root DIR    another copy of the repository
+    --tables      with --find: tries only the tables, which takes a second or two for each entry
+    --jobs N      how many are tried at a time; otherwise RT_JOBS, or the number of processors, at most 4
+    --logs DIR    keeps the output of the checker
+    --root DIR    reads another copy of the repository
 
-The status is 1 where one was not refused as it must be or is open, and 2 where the unedited copy is not accepted."""
+The status is 1 if an entry was not refused as it must be or is open, and 2 if the unedited copy is not accepted."""
 import argparse
 import concurrent.futures
 import fnmatch
@@ -60,7 +60,7 @@ TOGETHER = 20
 
 
 class Entry:
-    """A wrong definition: where it is, what it says, its pairs of texts, and the place that must refuse it."""
+    """A wrong definition: its file, what is wrong, its pairs of texts, and the place that must refuse it."""
 
     def __init__(self, crate, lines, file, number):
         self.crate, self.number, self.pairs, self.file, self.lines = crate, number, [], file, lines
@@ -90,11 +90,11 @@ class Entry:
 
     @property
     def at(self):
-        """The crate and the file of its place."""
+        """Returns the crate and the file of its place."""
         return tuple(self.place.split(" ")[0].split("/"))
 
     def changed(self, texts):
-        """The modules that it edits with their new texts, from all texts by module. Or what is wrong with it."""
+        """Returns the modules that it edits with their new texts, from all texts by module; or what is wrong with the entry."""
         found = {}
         for file, old, new in self.pairs:
             module = (self.crate, *file.removesuffix(".antt").split("/"))
@@ -118,7 +118,7 @@ def entries(root, crates):
 
 
 def judge(entry, found):
-    """Whether an entry passes, and what to print."""
+    """Returns whether an entry passes, and what to print."""
     if isinstance(found, str):
         return False, f"BAD: {found}"
     refused = [refusal for refusal in found if not refusal.blocked]
@@ -132,7 +132,7 @@ def judge(entry, found):
 
 
 def sort_out(found):
-    """What refuses an edit, where all tables and theorems were tried: one line, the tables first."""
+    """Returns a line with what refuses an edit when all tables and theorems were tried, the tables first."""
     if isinstance(found, str):
         return f"BAD: {found}"
     tables = [r.where() for r in found if not r.blocked and r.among(TABLES)]
@@ -144,7 +144,7 @@ def sort_out(found):
 
 
 def give_place(root, entry, found):
-    """Writes into the list of an entry's crate what refuses it: a table, or else a theorem."""
+    """Writes what refuses an entry into the list of its crate: a table, or else a theorem."""
     refused = [r for r in found if not r.blocked] if not isinstance(found, str) else []
     tables, theorems = [r for r in refused if r.among(TABLES[:-1])], [r for r in refused if r.among(THEOREMS)]
     path, block = root / "tests" / "wrong" / f"{entry.crate}.txt", "\n".join(entry.lines)
@@ -159,7 +159,7 @@ def give_place(root, entry, found):
 
 
 def page_lines(found):
-    """The rows of the table of docs/CONTRACTS.md: for each file the definitions, with how many wrong ones are tried, and what refuses."""
+    """Yields the rows of the table of docs/CONTRACTS.md: for each file the definitions, how many wrong ones of each, and what refuses."""
     files = {}
     for entry in found:
         file = f"{entry.crate}/{entry.pairs[0][0]}" if len({pair[0] for pair in entry.pairs}) == 1 else "several files"

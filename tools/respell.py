@@ -1,13 +1,13 @@
 #!/usr/bin/env python3
-"""Respells this repository's definitions and lemmas: `wordFlags` becomes `word_flags`, as the table beside this script says.
+"""Respells this repository's definitions and lemmas: `wordFlags` becomes `word_flags`, by the table respell.tsv in this folder.
 
 usage: python3 tools/respell.py [ROOT]     after port.py, once; ROOT is the top of the checkout, and the current folder if it is left out
 
-Each row of respell.tsv has the old name, the new one and, where a name is meant in some files alone, the ends of their paths. Whole names
-turn, in definitions, lemmas, proofs, clauses, comments, edits and documents; a name with a dash turns in antt files, edits and code spans
-alone. A row with paths goes first, and leaves what a dot stands before. port.py has turned some names in crates/: their rows are for
-documents and edits. ALIASES are names under which clauses bring another. Functions of src/, exported names, strings, inputs and outputs
-keep their names."""
+Each row of respell.tsv has the old name, the new one and, if the row is only for some files, the ends of their paths. Whole names are
+replaced, in definitions, lemmas, proofs, clauses, comments, edits and documents; a name with a dash only in antt files, edits and code
+spans. A row with paths is applied first, and leaves a name that follows a dot. port.py has replaced some names in crates/: their rows are
+for documents and edits. ALIASES are names under which clauses import another. Functions of src/, exported names, strings, inputs and
+outputs keep their names."""
 import os
 import re
 import sys

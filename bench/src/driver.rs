@@ -6,14 +6,14 @@ use crate::cases::spans;
 use crate::inputs::{Input, Kind};
 use crate::timing::{measure, Effort, Side};
 
-/// The programs compared on one case. `plain` is a word loop by hand, where one makes sense.
+/// The programs compared on one case. `plain` is a word loop by hand, if one makes sense.
 pub struct Sides<'a> {
     pub ours: Box<dyn Side + 'a>,
     pub original: Option<Box<dyn Side + 'a>>,
     pub plain: Option<Box<dyn Side + 'a>>,
 }
 
-/// What a line is about: the call, its flags, where they start, and how many they are.
+/// The label of a line: the call, the kind of flags, where they start, and how many they are.
 pub struct Label<'a> {
     pub call: &'a str,
     pub kind: &'a str,
@@ -21,23 +21,25 @@ pub struct Label<'a> {
     pub length: usize,
 }
 
+/// The settings of a run.
 pub struct Driver {
     effort: Effort,
     names: Vec<String>,
 }
 
 impl Driver {
-    /// `names` pick the calls whose name contains one of them; none picks all.
+    /// Returns a driver of the calls whose name contains one of `names`; of all calls if there are no names.
     pub fn new(quick: bool, names: Vec<String>) -> Self {
         let (millis, batches) = if quick { (1, 3) } else { (2, 15) };
         Driver { effort: Effort { batch: Duration::from_millis(millis), batches }, names }
     }
 
+    /// Returns whether the run has this call.
     pub fn wants(&self, call: &str) -> bool {
         self.names.is_empty() || self.names.iter().any(|name| call.contains(name.as_str()))
     }
 
-    /// One case: the sides must agree, then each is timed. A line has nanoseconds per call, `-` for a side that is not there.
+    /// Checks that the sides of a case agree, times each and prints the line: nanoseconds per call, `-` for an absent side.
     pub fn case(&self, label: Label, sides: Sides) {
         let Label { call, kind, at, length } = label;
         let mut present = vec![sides.ours];
@@ -52,7 +54,7 @@ impl Driver {
         println!("{call}\t{kind}\t{at}\t{length}\t{:.2}\t{}\t{}", times[0], shown(at_original), shown(at_plain));
     }
 
-    /// A case for each start bit and size, with a mask for each seed; equal seeds give equal flags.
+    /// Runs a case for each start bit and size, with a mask for each seed; equal seeds make equal flags.
     pub fn each(&self, call: &str, kind: Kind, seeds: &[u64], sides: impl for<'a> Fn(&'a [Input]) -> Sides<'a>) {
         if !self.wants(call) {
             return;
@@ -65,6 +67,7 @@ impl Driver {
     }
 }
 
+/// Appends an item and returns its index.
 fn push<T>(list: &mut Vec<T>, item: T) -> usize {
     list.push(item);
     list.len() - 1

@@ -1,16 +1,18 @@
-//! The inputs: masks of given length, start bit and kind of flags, the same for every side.
+//! The inputs: masks of a chosen length, start bit and kind of flags, equal for every side.
 
 use original::bitmap::Bitmap;
 use poruwhina::calls::Mask;
 
-/// A small generator of words (xorshift), so that every run has the same inputs.
+/// A small generator of numbers (xorshift), so that every run has the same inputs.
 pub struct Words(u64);
 
 impl Words {
+    /// Returns the generator of a seed.
     pub fn new(seed: u64) -> Self {
         Words(seed.wrapping_mul(0x9E37_79B9_7F4A_7C15) | 1)
     }
 
+    /// Returns the next number, below `limit`.
     pub fn below(&mut self, limit: u64) -> u64 {
         self.0 ^= self.0 << 13;
         self.0 ^= self.0 >> 7;
@@ -19,11 +21,11 @@ impl Words {
     }
 }
 
-/// Which flags a mask has.
+/// The kinds of flags of a mask.
 #[derive(Clone, Copy, PartialEq)]
 pub enum Kind {
     Half,
-    /// Runs of ones and of zeros in turn, each of 1 to 63 flags.
+    /// Alternating runs of zeros and ones, each of 1 to 63 flags.
     Runs,
     /// One flag in 64 is set.
     Sparse,
@@ -34,6 +36,7 @@ pub enum Kind {
 }
 
 impl Kind {
+    /// Returns the name in the table.
     pub fn name(self) -> &'static str {
         match self {
             Kind::Half => "half set",
@@ -45,6 +48,7 @@ impl Kind {
         }
     }
 
+    /// Returns `length` flags of this kind.
     fn flags(self, length: usize, words: &mut Words) -> Vec<bool> {
         if self == Kind::Runs {
             let mut flags = Vec::with_capacity(length + 63);
@@ -67,14 +71,14 @@ impl Kind {
     }
 }
 
-/// A mask for every side: bytes with a span of them for ours and the plain loops, a bitmap of the same bytes for the original.
+/// A mask for every side: bytes with a span of them for ours and the plain loops, a bitmap of equal bytes for the original.
 pub struct Input {
     padded: Vec<u8>,
     lent: usize,
     pub start: usize,
     pub length: usize,
     pub zeros: usize,
-    /// The mask without its count, as the Rust crate hands it in, and the one with it.
+    /// The mask with its count unknown, as the Rust crate passes it to the library; in `counted`, with its count.
     pub mask: Mask,
     pub counted: Mask,
     pub bitmap: Bitmap,
@@ -85,7 +89,7 @@ pub struct Input {
 }
 
 impl Input {
-    /// The bits around the span are set, so that a side that reads them answers differently.
+    /// Returns a mask of drawn flags. The bits around the span are set, so that a side that reads them answers differently.
     pub fn new(kind: Kind, start: usize, length: usize, seed: u64) -> Self {
         let flags = kind.flags(length, &mut Words::new(seed));
         let lent = (start + length).div_ceil(64) * 8;
@@ -106,18 +110,18 @@ impl Input {
         Input { padded, lent, start, length, zeros, mask, counted, bitmap, held, uncounted_bitmap }
     }
 
-    /// The bytes lent: whole words, as a frozen mask has them.
+    /// Returns the bytes lent: whole words, as a frozen mask has them.
     pub fn bytes(&self) -> &[u8] {
         &self.padded[..self.lent]
     }
 
-    /// The same bytes with a further word behind them, which spares the plain loops the care at the end.
+    /// Returns the bytes lent with two more words after them, so that the plain loops need no care at the end.
     pub fn padded(&self) -> &[u8] {
         &self.padded
     }
 }
 
-/// The flags of a span as words, zero above the last flag: what two sides that wrote the same flags have in common.
+/// Returns the flags of a span as words, zeros after the last flag: equal for two sides that wrote equal flags.
 pub fn words_of(bytes: &[u8], start: usize, length: usize) -> Vec<u64> {
     let mut words = vec![0; length.div_ceil(64)];
     for j in 0..length {
@@ -127,7 +131,7 @@ pub fn words_of(bytes: &[u8], start: usize, length: usize) -> Vec<u64> {
     words
 }
 
-/// The flags of a bitmap of the original as words.
+/// Returns the flags of a bitmap of the original as words.
 pub fn words_of_bitmap(bitmap: &Bitmap) -> Vec<u64> {
     let (bytes, start, length) = bitmap.as_slice();
     words_of(bytes, start, length)

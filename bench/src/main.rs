@@ -1,8 +1,8 @@
-//! Times the calls of the library beside the original Rust and plain word loops, on the same inputs.
+//! Times the calls of the library, of the original Rust and plain word loops, on the same inputs.
 //!
 //! `bench [--quick] [NAME..]` prints a line for each case whose call has one of the names in it: call, flags, start bit, number of flags,
 //! then nanoseconds per call of ours, of the original and of the plain loop, with tabs between. `bench table BASELINE NATIVE [DOCUMENT]`
-//! makes a markdown table of two such outputs, and puts it into the document where one is named.
+//! makes a markdown table of two such outputs, and writes it into the document if one is named.
 
 mod cases;
 mod driver;

@@ -1,8 +1,8 @@
-//! Plain word loops: what one would write by hand with no checks, as a measure of what the machine gives.
+//! Plain word loops: what one would write by hand with no checks, as a measure of what the machine can do.
 //!
-//! A span's range is tested once, when it is made; the loops then read whole words, also past the last flag, and cut the last one.
+//! A span's range is checked once, when it is made; the loops then read whole words, also past the last flag, and cut the last one.
 
-/// A span, with at least one further byte behind its words.
+/// A span with at least one more byte after its words.
 #[derive(Clone, Copy)]
 pub struct Span<'a> {
     bytes: &'a [u8],
@@ -11,6 +11,7 @@ pub struct Span<'a> {
 }
 
 impl<'a> Span<'a> {
+    /// Returns the span of `length` flags that starts at flag `start`. Panics if no byte follows its words.
     pub fn new(bytes: &'a [u8], start: usize, length: usize) -> Self {
         let bytes = &bytes[start / 8..];
         assert!(8 * length.div_ceil(64) < bytes.len());
@@ -21,10 +22,10 @@ impl<'a> Span<'a> {
         self.length.div_ceil(64)
     }
 
-    /// Word number i, below the number of words. Where the span starts inside a byte, two loads one byte apart cover the 64 flags.
+    /// Returns word number i, below the number of words. If the span starts inside a byte, two loads one byte apart cover the 64 flags.
     #[inline(always)]
     fn word<const BYTE_START: bool>(self, i: usize) -> u64 {
-        // SAFETY: `new` tested that the bytes go one byte past the last word.
+        // SAFETY: `new` checked that the bytes go one byte past the last word.
         let load = |at: usize| unsafe { u64::from_le(self.bytes.as_ptr().add(at).cast::<u64>().read_unaligned()) };
         if BYTE_START {
             return load(8 * i);
@@ -32,12 +33,13 @@ impl<'a> Span<'a> {
         load(8 * i) >> self.shift | load(8 * i + 1) << (8 - self.shift)
     }
 
+    /// Returns the first word. Panics if the span is empty.
     pub fn first_word(self) -> u64 {
         assert!(self.length > 0);
         self.word::<false>(0)
     }
 
-    /// The bits of word number i that are flags.
+    /// Returns a mask of the bits of word number i that are flags.
     fn cut(self, i: usize) -> u64 {
         u64::MAX >> (64 - (self.length - 64 * i).min(64))
     }
@@ -47,6 +49,7 @@ fn put(out: &mut [u8], i: usize, word: u64) {
     out[8 * i..8 * i + 8].copy_from_slice(&word.to_le_bytes());
 }
 
+/// Writes the frozen bytes of `op` over three spans of equal lengths, all at byte starts if `BYTE_STARTS`.
 #[inline(always)]
 fn write<const BYTE_STARTS: bool>([a, b, c]: [Span; 3], out: &mut [u8], op: impl Fn(u64, u64, u64) -> u64) {
     let word = |i| op(a.word::<BYTE_STARTS>(i), b.word::<BYTE_STARTS>(i), c.word::<BYTE_STARTS>(i));
@@ -58,7 +61,7 @@ fn write<const BYTE_STARTS: bool>([a, b, c]: [Span; 3], out: &mut [u8], op: impl
     }
 }
 
-/// The frozen bytes of `op` over three spans of one length.
+/// Writes the frozen bytes of `op` over three spans of equal lengths.
 pub fn combine_three(spans: [Span; 3], out: &mut [u8], op: impl Fn(u64, u64, u64) -> u64) {
     assert!(spans.iter().all(|span| span.length == spans[0].length));
     if spans.iter().all(|span| span.shift == 0) {
@@ -68,11 +71,12 @@ pub fn combine_three(spans: [Span; 3], out: &mut [u8], op: impl Fn(u64, u64, u64
     }
 }
 
-/// The same over two.
+/// Writes the frozen bytes of `op` over two spans of equal lengths.
 pub fn combine(a: Span, b: Span, out: &mut [u8], op: impl Fn(u64, u64) -> u64) {
     combine_three([a, b, b], out, |x, y, _| op(x, y))
 }
 
+/// Writes the frozen bytes of `op` over one span.
 pub fn map(a: Span, out: &mut [u8], op: impl Fn(u64) -> u64) {
     combine(a, a, out, |x, _| op(x))
 }
@@ -85,7 +89,7 @@ fn ones<const BYTE_STARTS: bool>(a: Span, b: Span, op: impl Fn(u64, u64) -> u64)
     before as usize + (word(end) & a.cut(end)).count_ones() as usize
 }
 
-/// The ones of `op` over two spans of one length.
+/// Counts the ones of `op` over two spans of equal lengths.
 pub fn count(a: Span, b: Span, op: impl Fn(u64, u64) -> u64) -> usize {
     assert_eq!(a.length, b.length);
     if a.shift == 0 && b.shift == 0 {
@@ -102,6 +106,7 @@ fn equal<const BYTE_STARTS: bool>(a: Span, b: Span) -> bool {
     (0..end).all(|i| differ(i) == 0) && differ(end) & a.cut(end) == 0
 }
 
+/// Returns whether two spans have equal lengths and flags.
 pub fn eq(a: Span, b: Span) -> bool {
     if a.length != b.length {
         return false;
@@ -113,7 +118,7 @@ pub fn eq(a: Span, b: Span) -> bool {
     }
 }
 
-/// The position of the n-th set flag: words are counted and left behind, the one that has it loses its lower ones.
+/// Returns the position of set flag n: skips words by their counts, then clears the lower ones of the word that has it.
 pub fn nth_set_bit(a: Span, mut n: usize) -> Option<usize> {
     for i in 0..a.words() {
         let mut word = a.word::<false>(i) & a.cut(i);
@@ -129,8 +134,8 @@ pub fn nth_set_bit(a: Span, mut n: usize) -> Option<usize> {
     None
 }
 
-/// The next flag that is set in `a` and not in `b`, from a place on and round from 0, word by word; and the windows of 32 flags up to
-/// the one that holds it, or all.
+/// Returns the first flag at or after `from`, else the first before it, that is set in one mask and not in the other; and the number of
+/// windows of 32 flags up to the one that holds it, or of all. Reads word by word.
 pub fn next_and_not(bytes: [&[u8]; 2], starts: [usize; 2], length: usize, from: usize) -> (Option<usize>, usize) {
     if let Some(zeros) = zeros_before(bytes, starts.map(|start| start + from), length - from) {
         return (Some(from + zeros), zeros / 32 + 1);
@@ -142,7 +147,7 @@ pub fn next_and_not(bytes: [&[u8]; 2], starts: [usize; 2], length: usize, from: 
     }
 }
 
-/// How many flags stand before the first one, if there is one among `length`.
+/// Counts the flags before the first that is set in one mask and not in the other, if there is one among `length`.
 fn zeros_before(bytes: [&[u8]; 2], starts: [usize; 2], length: usize) -> Option<usize> {
     let [a, b] = [0, 1].map(|i| Span::new(bytes[i], starts[i], length));
     for i in 0..a.words() {

@@ -7,7 +7,7 @@ use crate::cases::SIZES;
 const BEGIN: &str = "<!-- the table of bench/run begins -->";
 const END: &str = "<!-- the table of bench/run ends -->";
 
-/// One line of the driver: nanoseconds per call of each side that is there.
+/// One line of the driver: nanoseconds per call of each side that is present.
 struct Line {
     case: [String; 3],
     length: usize,
@@ -33,7 +33,7 @@ fn line(text: &str) -> Line {
     }
 }
 
-/// One decimal below 10, else a whole number with commas between thousands.
+/// Returns the text of a time: one decimal below 10, else a whole number with commas between thousands.
 fn nanoseconds(value: f64) -> String {
     if value < 9.95 {
         return format!("{value:.1}");
@@ -53,7 +53,8 @@ fn ratio(ours: f64, other: Option<f64>) -> String {
     other.map_or("-".into(), |other| format!("{:.2}", ours / other))
 }
 
-/// Ours in nanoseconds, then the ratios to the original at baseline, to the original at native, and to the plain loop at baseline.
+/// Returns a cell: ours in nanoseconds, then the ratios to the original at baseline, to the original at native, and to the plain loop at
+/// baseline.
 fn cell(baseline: &Line, native: Option<&Line>) -> String {
     let to_native = native.map_or("-".into(), |native| ratio(native.ours, native.original));
     let to_original = ratio(baseline.ours, baseline.original);
@@ -75,7 +76,7 @@ fn table(baseline: &[Line], native: &[Line]) -> String {
     text
 }
 
-/// The table of the lines in two files, and how busy the machine was.
+/// Returns the table of the lines in two files, and how busy the machine was.
 pub fn make(baseline: &str, native: &str) -> String {
     format!("{}\n{}\n", table(&lines(baseline), &lines(native)), load())
 }
@@ -87,7 +88,7 @@ fn load() -> String {
     format!("Load averages at the end of the runs: {}; processors: {processors}.", averages.join(", "))
 }
 
-/// Puts the table between the two marks of a document.
+/// Writes the table between the two marks of a document.
 pub fn write(document: &str, table: &str) {
     let text = fs::read_to_string(document).unwrap_or_else(|error| panic!("{document}: {error}"));
     let (before, rest) = text.split_once(BEGIN).expect("the document has the first mark");

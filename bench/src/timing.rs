@@ -1,4 +1,4 @@
-//! Timing: the sides of one case run in turn, so that noise of a shared machine falls on all of them, and the best batch counts.
+//! Timing: the sides of one case run alternately, so that noise of a shared machine falls on all of them, and the best batch counts.
 //!
 //! The clock is the processor time of this thread: time in which other programs have the processor does not count. Linux only.
 
@@ -25,12 +25,14 @@ fn processor_time() -> Duration {
     Duration::new(time.seconds as u64, time.nanoseconds as u32)
 }
 
-/// What a call answers and writes, as words, so that the sides can be compared before they are timed.
+/// The answer of a call and what it writes, as words, so that the sides can be compared before they are timed.
 pub type Answer = Vec<u64>;
 
 /// One side of a case: the same work done by one of the programs compared.
 pub trait Side {
+    /// Makes one call and returns its answer.
     fn answer(&mut self) -> Answer;
+    /// Makes `calls` calls and returns the time that they took.
     fn batch(&mut self, calls: u64) -> Duration;
 }
 
@@ -61,7 +63,7 @@ impl<S, O, R: FnMut(&mut S) -> O, A: FnMut(&mut S, O) -> Answer> Side for Statef
     }
 }
 
-/// A side with a state that the call may change, such as the output lent to it.
+/// Returns a side with a state that the call may change, such as the output lent to it.
 pub fn side<'a, S: 'a, O: 'a>(
     state: S,
     run: impl FnMut(&mut S) -> O + 'a,
@@ -70,7 +72,7 @@ pub fn side<'a, S: 'a, O: 'a>(
     Box::new(Stateful { state, run, answer })
 }
 
-/// A side that answers one number.
+/// Returns a side that answers one number.
 pub fn number<'a, T>(input: &'a T, mut call: impl FnMut(&T) -> usize + 'a) -> Box<dyn Side + 'a> {
     side(input, move |input| call(input), |_, n| vec![n as u64])
 }
@@ -97,19 +99,19 @@ impl<'a, T, I: Iterator<Item = u64>, M: FnMut(&'a T) -> (u64, I)> Side for Walk<
     }
 }
 
-/// A side that goes through all items of an iterator, after a first number: timed with their sum, compared item by item.
+/// Returns a side that takes all items of an iterator, after a first number: timed with their sum, compared item by item.
 pub fn walk<'a, T, I: Iterator<Item = u64> + 'a>(input: &'a T, make: impl FnMut(&'a T) -> (u64, I) + 'a) -> Box<dyn Side + 'a> {
     Box::new(Walk { input, make })
 }
 
-/// How long a batch lasts at least, and how many there are of each side.
+/// The least time of a batch, and how many batches there are of each side.
 #[derive(Clone, Copy)]
 pub struct Effort {
     pub batch: Duration,
     pub batches: u32,
 }
 
-/// Nanoseconds per call of each side, the best of its batches.
+/// Returns the nanoseconds per call of each side, the best of its batches.
 pub fn measure(sides: &mut [Box<dyn Side + '_>], effort: Effort) -> Vec<f64> {
     let calls: Vec<u64> = sides.iter_mut().map(|s| calls_for(s.as_mut(), effort.batch)).collect();
     let mut best = vec![f64::INFINITY; sides.len()];
@@ -122,7 +124,7 @@ pub fn measure(sides: &mut [Box<dyn Side + '_>], effort: Effort) -> Vec<f64> {
     best
 }
 
-/// The number of calls that fill a batch; finding it warms the side up.
+/// Returns the number of calls that fill a batch; finding it warms the side up.
 fn calls_for(side: &mut dyn Side, batch: Duration) -> u64 {
     let mut calls = 1;
     loop {

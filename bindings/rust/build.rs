@@ -1,5 +1,5 @@
 //! Finds the static library: in the folder that the environment variable PORUWHINA_LIB names, else where the repository
-//! builds it. Without it the build stops and says how to make it.
+//! builds it. If the library is missing, the build stops with a message on how to make it.
 
 use std::env;
 use std::path::PathBuf;
@@ -19,7 +19,7 @@ fn main() {
         );
         return;
     }
-    // A relative folder would be looked for in another place by the compiler.
+    // The compiler would look for a relative folder in another place.
     let folder = folder.canonicalize().expect("the folder of a file that is there");
     println!("cargo::rustc-link-search=native={}", folder.display());
     println!("cargo::rustc-link-lib=static=poruwhina");

@@ -1,7 +1,7 @@
 //! Lays out the crate's source: the original's files, checked against sha256.txt, with the files of `missing` between them.
 //!
-//! The original's files are looked for in the folder that PORUWHINA_ORIGINAL names, by default `../shared/docs/src` beside the
-//! repository. They are copied to the build folder, since `utils/mod.rs` names files that must stand beside it and are not at hand.
+//! The original's files are read from the folder that PORUWHINA_ORIGINAL names, by default `../shared/docs/src` beside the repository.
+//! They are copied to the build folder, since `utils/mod.rs` names files that must lie next to it and are missing.
 
 use std::fs;
 use std::path::{Path, PathBuf};
@@ -31,7 +31,7 @@ fn main() {
     fs::write(out.join("modules.rs"), text).unwrap();
 }
 
-/// Stops the build where a file is absent or is not the one that was compared.
+/// Stops the build if a file is absent or is not the one that was compared.
 fn check(folder: &Path, sums: &Path) {
     if !folder.is_dir() {
         panic!("no folder {}: set PORUWHINA_ORIGINAL to the one that holds src/bitmap of polars-arrow 0.55.2", folder.display());

@@ -1,6 +1,6 @@
-/* Uses every export from C, through include/poruwhina.h. The answers were worked out by hand: "example N" is an example of document 01,
- * "edge" one of its edges. Prints a line for each wrong answer, then the totals; exits with 1 if one is wrong. tests/c/run builds and
- * runs it. */
+/* Uses every export from C, through include/poruwhina.h. The expected answers were computed by hand: "example N" is an example of
+ * document 01, "edge" one of its edges. Prints a line for each wrong answer, then the totals; exits with 1 if one is wrong. tests/c/run
+ * builds and runs it. */
 #include "poruwhina.h"
 
 #include <stdio.h>
@@ -22,20 +22,20 @@ static void check(bool holds, const char *what, int line) {
 static const uint8_t A[1] = {0x2D};
 static const pw_mask MASK_A = {0, 6, 0, 0, 0};
 
-/* An output of 24 bytes that no call wrote holds 0xEE throughout. */
+/* An output of 24 bytes that no call wrote is all 0xEE. */
 enum { OUT = 24 };
 static uint8_t out[OUT];
 
 static void clean(void) { memset(out, 0xEE, OUT); }
 
-/* Whether the output holds these bytes, then zeros up to byte `end`, and from there on what it held before. */
+/* Returns whether the output holds these bytes, then zeros up to byte `end`, and unchanged bytes after that. */
 static bool holds(const uint8_t *front, size_t n, size_t end) {
     for (size_t i = 0; i < OUT; i++)
         if (out[i] != (i < n ? front[i] : i < end ? 0x00 : 0xEE)) return false;
     return true;
 }
 
-/* The same of a single byte and of one frozen word. */
+/* Returns whether the output holds one frozen word, which begins with a single byte. */
 static bool holds_word(uint8_t first) { return holds(&first, 1, 8); }
 
 static bool untouched(void) { return holds(NULL, 0, 0); }
@@ -44,7 +44,7 @@ static bool is_mask(pw_mask m, size_t start, size_t length, size_t zeros, uint8_
     return m.start == start && m.length == length && m.zeros == zeros && m.known == known;
 }
 
-/* The numbers of a record, as they go in. */
+/* The numbers of a record, as they are passed. */
 #define BUILDER(b) (b).length, (b).word, (b).ones
 #define CURSOR(c) (c).start, (c).length, (c).place
 
@@ -70,7 +70,7 @@ static bool is_bit(pw_nth_answer a, uint32_t value) { return a.refusal == 0 && a
 
 static bool has_only(pw_nth_answer a, uint32_t ones) { return a.refusal == 0 && !a.found && a.value == 0 && a.ones == ones; }
 
-/* Whether an append to a new builder freezes to these first flags. */
+/* Returns whether an append to a new builder freezes to these first flags. */
 static bool freezes_to(pw_builder_answer a, uint8_t first) {
     if (a.refusal != 0 || !untouched()) return false;
     pw_mask_answer frozen = pw_freeze(BUILDER(a.builder), out, OUT, 0);
@@ -79,7 +79,7 @@ static bool freezes_to(pw_builder_answer a, uint8_t first) {
     return right;
 }
 
-/* A planner's edit, by pointer: the serial stays with the builder, and meets the mask before the edit as 14 or wins. */
+/* Tests a planner's edit, by pointer: the builder keeps its serial. With equal serials the edit gives 14, else the larger one wins. */
 static void superseding(void) {
     const uint8_t stored[3] = {0, 0xF0, 0x0F};
     pw_mask first = pw_try_new(stored, 3, 12, 12).mask;
@@ -224,7 +224,7 @@ static void masks(void) {
     CHECK(is_mask(pw_slice(of_200, half, 25, 0, 160).mask, 0, 160, 80, 1));
     CHECK(is_mask(pw_slice(of_200, half, 25, 0, 159).mask, 0, 159, 0, 0));
 
-    const uint8_t shifted[1] = {0xB4}; /* A from bit 2 on */
+    const uint8_t shifted[1] = {0xB4}; /* A, starting at bit 2 */
     pw_mask from_2 = {2, 6, 2, 1, 0};
     CHECK(pw_eq(MASK_A, A, 1, from_2, shifted, 1).value);
     CHECK(pw_eq(MASK_A, A, 1, cut.mask, A, 1).refusal == 0 && !pw_eq(MASK_A, A, 1, cut.mask, A, 1).value);
@@ -291,7 +291,7 @@ static void cursors(void) {
     CHECK(is_cursor(c, 0, 2, 0, 0) && is_step(pw_true_idx_next(CURSOR(c), c.masked, NULL, 0), 0, 0, 1));
 }
 
-/* An output of positions that no call wrote holds 99 throughout. */
+/* An output of positions that no call wrote is all 99. */
 enum { ROOM = 6 };
 static uint32_t room[ROOM];
 
@@ -300,7 +300,7 @@ static pw_step_answer positions_of(pw_cursor c, const uint8_t *bytes, size_t n, 
     return pw_true_idx_next_chunk(CURSOR(c), c.masked, bytes, n, room, many);
 }
 
-/* Whether the output holds these positions, and behind them what it held before. */
+/* Returns whether the output holds these positions, and after them unchanged entries. */
 static bool has(const uint32_t *positions, size_t n) {
     for (size_t i = 0; i < ROOM; i++)
         if (room[i] != (i < n ? positions[i] : 99)) return false;
@@ -311,7 +311,7 @@ static void position_chunks(void) {
     const uint32_t ones[4] = {0, 2, 3, 5}, last[1] = {5}, all[3] = {0, 1, 2}, from_4[3] = {4, 5, 6};
     pw_cursor c = pw_true_idx_new(6, true, MASK_A, A, 1).cursor;
     CHECK(is_step(positions_of(c, A, 1, 3), 0, 3, 4) && has(ones, 3)); /* full, with one more to come */
-    CHECK(is_step(positions_of(c, A, 1, 4), 0, 4, 6) && has(ones, 4)); /* just full */
+    CHECK(is_step(positions_of(c, A, 1, 4), 0, 4, 6) && has(ones, 4)); /* exactly full */
     CHECK(is_step(positions_of(c, A, 1, 6), 0, 4, 6) && has(ones, 4)); /* room for two more */
     CHECK(is_step(positions_of(c, A, 1, 0), 0, 0, 0) && has(NULL, 0));
     CHECK(is_step(pw_true_idx_next_chunk(CURSOR(c), c.masked, A, 1, NULL, 0), 0, 0, 0));
@@ -321,7 +321,7 @@ static void position_chunks(void) {
     c.place = 6;
     CHECK(is_step(positions_of(c, A, 1, 2), 0, 0, 6) && has(NULL, 0));
 
-    const uint8_t long_run[10] = {0, 0, 0, 0, 0, 0, 0, 0xE0, 0x07, 0}; /* ones at bits 61 to 66, the mask from bit 3 on */
+    const uint8_t long_run[10] = {0, 0, 0, 0, 0, 0, 0, 0xE0, 0x07, 0}; /* ones at bits 61 to 66, the mask starts at bit 3 */
     const uint32_t across[6] = {58, 59, 60, 61, 62, 63};
     pw_cursor from_3 = {3, 77, 0, 1};
     CHECK(is_step(positions_of(from_3, long_run, 10, 6), 0, 6, 64) && has(across, 6));
@@ -342,7 +342,7 @@ static void position_chunks(void) {
         pw_step_answer s = positions_of(refused[i], A, 1, ROOM);
         CHECK(s.refusal == numbers[i] && !s.found && s.value == 0 && s.count == 0 && s.place == refused[i].place && has(NULL, 0));
     }
-    pw_cursor outside = {3, 6, 0, 0}; /* without a mask the bytes are not asked for */
+    pw_cursor outside = {3, 6, 0, 0}; /* without a mask the bytes are not checked */
     CHECK(is_step(positions_of(outside, A, 1, 3), 0, 3, 3) && has(all, 3));
 }
 
@@ -369,7 +369,7 @@ static void dispatch(void) {
     CHECK(pw_may_reassign(true, MASK_A, A, 1, true, MASK_A, revoked, 1, 6).refusal == PW_REFUSED_OUTSIDE_MASK);
 }
 
-/* Trucks 0, 2, 3, 5 are permitted and truck 2 is revoked: from each cursor on, round to truck 0. */
+/* Tests offers where trucks 0, 2, 3, 5 are permitted and truck 2 is revoked: from a cursor, going round to truck 0. */
 static void offering(void) {
     const uint8_t revoked[1] = {0x04};
     pw_offer_answer got = pw_offer(true, MASK_A, A, 1, true, MASK_A, revoked, 1, 1);
@@ -389,8 +389,7 @@ static void offering(void) {
     CHECK(pw_next_and_not(MASK_A, A, 1, false, MASK_A, NULL, 0, 7).refusal == PW_REFUSED_OUTSIDE_MASK);
 }
 
-/* Each number, beside the nearest arguments that pass; a refusal gives the record back and writes nothing. */
-/* A window of width 2, three minutes and three trucks. */
+/* Tests a window of width 2 with three minutes and three trucks. */
 static void activity(void) {
     uint64_t kept[256];
     uint32_t counts[64], counted[64];
@@ -409,11 +408,11 @@ static void activity(void) {
     CHECK(w.refusal == 0 && w.place == 1 && w.fill == 1 && w.width == 2 && kept[0] == 5);
     w = pw_activity_push_minute(kept, counts, w.place, w.fill, w.width, 1);
     CHECK(w.refusal == 0 && w.place == 0 && w.fill == 2 && counts[0] == 2 && counts[1] == 0 && counts[2] == 1);
-    w = pw_activity_push_minute(kept, counts, w.place, w.fill, w.width, 2); /* the first minute goes */
+    w = pw_activity_push_minute(kept, counts, w.place, w.fill, w.width, 2); /* the first minute is dropped */
     CHECK(w.refusal == 0 && w.place == 1 && w.fill == 2 && kept[0] == 2 && kept[1] == 1);
     CHECK(pw_activity_counts(kept, counts, w.place, w.fill, w.width, counted) == 0);
     CHECK(counted[0] == 1 && counted[1] == 1 && counted[2] == 0 && counted[63] == 0);
-    counts[63] = UINT32_MAX; /* a count that is off, and a stray word */
+    counts[63] = UINT32_MAX; /* a wrong count; below, a word at an unused place */
     CHECK(pw_activity_counts(kept, counts, 1, 2, 2, counted) == PW_REFUSED_IMPOSSIBLE_WINDOW && counted[63] == 0);
     w = pw_activity_push_minute(kept, counts, 1, 2, 2, 9);
     CHECK(w.refusal == PW_REFUSED_IMPOSSIBLE_WINDOW && w.place == 1 && w.fill == 2 && w.width == 2);
@@ -423,6 +422,7 @@ static void activity(void) {
     CHECK(pw_activity_counts(kept, counts, 1, 2, 2, counted) == PW_REFUSED_IMPOSSIBLE_WINDOW);
 }
 
+/* Tests each number, with the nearest arguments that pass; a refusal returns the record unchanged and writes nothing. */
 static void refusals(void) {
     clean();
     CHECK(pw_extend_constant(0, 0, 0, out, OUT, PW_FLAG_LIMIT + 1, true).refusal == PW_REFUSED_ABOVE_LIMIT);
@@ -432,7 +432,7 @@ static void refusals(void) {
     CHECK(made.refusal == PW_REFUSED_OUTSIDE_BYTES && is_mask(made.mask, 0, 0, 0, 0));
     pw_mask counted = {0, 6, 7, 255, 0};
     pw_zeros_answer zeros = pw_unset_bits(counted, A, 1);
-    CHECK(zeros.refusal == PW_REFUSED_FALSE_COUNT && is_mask(zeros.mask, 0, 6, 7, 255)); /* as it came */
+    CHECK(zeros.refusal == PW_REFUSED_FALSE_COUNT && is_mask(zeros.mask, 0, 6, 7, 255)); /* unchanged */
     counted.zeros = 3; /* a stale count: A has two zeros */
     CHECK(pw_unset_bits(counted, A, 1).refusal == PW_REFUSED_FALSE_COUNT);
     counted.zeros = 2;
@@ -443,7 +443,7 @@ static void refusals(void) {
     CHECK(pw_and(MASK_A, A, 1, five, A, 1, out, OUT).refusal == PW_REFUSED_UNEQUAL_LENGTHS);
     made = pw_slice(MASK_A, A, 1, 3, 4);
     CHECK(made.refusal == PW_REFUSED_OUTSIDE_MASK && is_mask(made.mask, 0, 6, 0, 0));
-    const pw_mask odd = {3, 6, 77, 0, 0}; /* the number beside an unknown count is not read, and comes back */
+    const pw_mask odd = {3, 6, 77, 0, 0}; /* the number of an unknown count is not read, and is returned */
     made = pw_slice(odd, A, 1, 0, 1);
     CHECK(made.refusal == PW_REFUSED_OUTSIDE_BYTES && is_mask(made.mask, 3, 6, 77, 0));
     zeros = pw_unset_bits(odd, A, 1);

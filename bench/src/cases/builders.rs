@@ -1,5 +1,5 @@
 //! Appends to a builder. Ours starts from a record and writes to a lent buffer; the original's builder is cleared and keeps its
-//! allocation, but for the last case, in which both begin with nothing.
+//! allocation, except in the last case, in which both begin with nothing.
 
 use original::bitmap::{Bitmap, BitmapBuilder};
 use poruwhina::calls::{self, Builder, BuilderAnswer};
@@ -10,13 +10,13 @@ use crate::inputs::{words_of, words_of_bitmap, Input, Kind, Words};
 use crate::plain::{self, Span};
 use crate::timing::{side, Answer, Side};
 
-/// What an append has to do with: a mask to append from, indices into it, and the flags that the builder has before.
+/// The inputs of an append: a mask to append from, indices into it, single flags, and how many flags the builder has before.
 struct Source {
     mask: Input,
     indices: Vec<u32>,
     flags: Vec<bool>,
     before: usize,
-    /// The builder of ours: so many ones, fewer than 64.
+    /// Our builder: `before` ones, fewer than 64.
     builder: Builder,
 }
 
@@ -67,7 +67,7 @@ fn plainly<'a>(source: &'a Source, length: usize, write: impl Fn(&Source, &mut [
     side((source, out), move |(source, out)| write(source, out), move |(_, out), ()| words_of(out, 0, length))
 }
 
-/// A case for each size, where the builder ends with that many flags.
+/// Runs a case for each size, in which the builder ends with as many flags.
 fn each(
     driver: &Driver,
     (call, kind, at): (&str, Kind, &str),
@@ -102,7 +102,7 @@ pub fn run(driver: &Driver) {
     from_nothing(driver);
 }
 
-/// The builder's flags and the mask's behind them, copied word by word and not counted.
+/// Copies the builder's flags and the mask's after them word by word, without counting.
 fn copy(source: &Source, out: &mut [u8]) {
     let (mask, before) = (&source.mask, source.before);
     if before == 0 {
@@ -183,7 +183,7 @@ fn gather(driver: &Driver) {
     }
 }
 
-/// A new builder, an extension from a span and the freezing: the original allocates its result.
+/// Runs the cases of a new builder, an extension from a span and freezing: the original allocates its result.
 fn from_nothing(driver: &Driver) {
     for start in STARTS {
         let at = format!("source {start}");

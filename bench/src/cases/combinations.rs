@@ -11,7 +11,7 @@ use crate::inputs::{words_of, words_of_bitmap, Input, Kind};
 use crate::plain;
 use crate::timing::{side, Side};
 
-/// A side that writes its result into a lent output and answers a refusal, 0 for none.
+/// Returns a side that writes its result into a lent output and answers a refusal, 0 for none.
 fn writing<'a>(m: &'a [Input], run: impl Fn(&[Input], &mut [u8]) -> u8 + 'a) -> Box<dyn Side + 'a> {
     let length = m[0].length;
     let out = vec![0u8; length.div_ceil(64) * 8];
@@ -36,6 +36,7 @@ fn allocating<'a>(m: &'a [Input], run: impl Fn(&[Input]) -> Bitmap + 'a) -> Box<
     side(m, move |m| run(m), |_, bitmap| words_of_bitmap(&bitmap))
 }
 
+/// Runs the cases of a combination of two masks with unknown counts.
 fn pair(
     driver: &Driver,
     call: &str,
@@ -50,7 +51,7 @@ fn pair(
     });
 }
 
-/// The same with counts that the library checks.
+/// Runs the cases of a combination of two masks with known counts, which the library checks.
 fn known(
     driver: &Driver,
     call: &str,

@@ -23,7 +23,7 @@ fn end(
     });
 }
 
-/// A count over two masks, or whether they are equal as 1 or 0.
+/// Returns a side that answers a count over two masks, or 1 or 0 for whether they are equal.
 fn of_two<'a>(m: &'a [Input], call: impl Fn(&Input, &Input) -> usize + 'a) -> Box<dyn Side + 'a> {
     side((&m[0], &m[1]), move |(a, b)| call(a, b), |_, n| vec![n as u64])
 }
@@ -75,7 +75,7 @@ fn plain_edges(m: &Input) -> usize {
     plain::count(here, next, |x, y| x ^ y)
 }
 
-/// How many bytes the winner's part has.
+/// Returns how many bytes the winner's part has.
 fn part(answer: calls::PartAnswer) -> usize {
     answer.to - answer.from
 }

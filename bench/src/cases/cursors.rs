@@ -1,4 +1,4 @@
-//! Cursors and iterators gone through to their end. Each step of ours is a call, but for positions, of which a call can give many; the
+//! Cursors and iterators read to their end. Each step of ours is a call, except for positions, of which a call can return many; the
 //! original's `next` is inlined.
 
 use original::bitmap::iterator::TrueIdxIter;
@@ -9,7 +9,7 @@ use crate::driver::{Driver, Sides};
 use crate::inputs::{Input, Kind};
 use crate::timing::{side, walk, Answer, Side};
 
-/// The answers of a cursor up to the first that has none.
+/// Returns the steps of a cursor up to the first that finds nothing.
 fn steps<'a>(mut cursor: Cursor, bytes: &'a [u8], next: impl Fn(Cursor, &[u8]) -> Step + 'a) -> impl Iterator<Item = Step> + 'a {
     std::iter::from_fn(move || {
         let step = next(cursor, bytes);
@@ -18,6 +18,7 @@ fn steps<'a>(mut cursor: Cursor, bytes: &'a [u8], next: impl Fn(Cursor, &[u8]) -
     })
 }
 
+/// Returns a run as one word.
 fn run_of(start: usize, length: usize) -> u64 {
     start as u64 ^ (length as u64) << 32
 }
@@ -26,7 +27,7 @@ fn original_positions(m: &Input) -> (u64, impl Iterator<Item = u64> + '_) {
     (0, TrueIdxIter::new(m.length, Some(&m.bitmap)).map(|at| at as u64))
 }
 
-/// A side that writes all positions of the mask to a buffer that has just the room for them, and says how many.
+/// Returns a side that writes all positions of the mask to a buffer of exactly their number, and returns how many it wrote.
 fn written<'a>(m: &'a Input, write: impl Fn(&Input, &mut [u32]) -> usize + 'a) -> Box<dyn Side + 'a> {
     let out = vec![u32::MAX; m.length - m.zeros];
     side((m, out), move |(m, out)| write(m, out), |(_, out), count| -> Answer { out[..count].iter().map(|at| u64::from(*at)).collect() })

@@ -1,4 +1,4 @@
-//! A minute pushed into a full window, whose record the library checks, beside a plain version that counts the kept words afresh.
+//! A minute pushed into a full window, whose record the library checks, compared with a plain version that counts the kept words afresh.
 
 use poruwhina::calls;
 
@@ -45,7 +45,7 @@ impl Window {
     }
 }
 
-/// A side whose window is full.
+/// Returns a side whose window is full.
 fn full(width: usize, push: fn(&mut Window)) -> Box<dyn Side> {
     let mut window = Window::new(width);
     (0..width).for_each(|_| push(&mut window));

@@ -1,4 +1,4 @@
-//! Searches, slices, the dispatcher's question, and what a foreign call costs.
+//! Searches, slices, the calls of dispatch, and the cost of a foreign call.
 
 use original::bitmap::bitmask::BitMask;
 use poruwhina::calls;
@@ -9,7 +9,7 @@ use crate::inputs::{Input, Kind};
 use crate::plain;
 use crate::timing::{number, side};
 
-/// The number of the middle one of the set flags.
+/// Returns the number of the middle one of the set flags.
 fn middle(m: &Input) -> usize {
     (m.length - m.zeros) / 2
 }
@@ -26,7 +26,7 @@ fn ours_found(p: calls::Position) -> usize {
     found(p.found.then_some(p.value))
 }
 
-/// A tenth of the mask is cut off at each end: the zeros of the rest are counted by way of the two ends.
+/// Returns the offset and length of a slice without a tenth of the mask at each end: its zeros are counted from those of the two ends.
 fn cut(m: &Input) -> (usize, usize) {
     (m.length / 10, m.length - m.length / 5)
 }
@@ -78,7 +78,7 @@ pub fn run(driver: &Driver) {
     });
 }
 
-/// Every permitted truck revoked: all windows are read, from the middle on and round.
+/// Asks for a truck, from the middle, when every permitted truck is revoked: all windows are read.
 fn offer(permission: &Input, revocation: &Input) -> [u64; 2] {
     let answer = calls::offer(true, permission.mask, permission.bytes(), true, revocation.mask, revocation.bytes(), permission.length / 2);
     [answer.found.into(), answer.windows as u64]
@@ -100,7 +100,7 @@ fn may_reassign_counted(permission: &Input, revocation: &Input) -> bool {
     calls::may_reassign(true, permission.counted, permission.bytes(), true, revocation.counted, revocation.bytes(), truck).value
 }
 
-/// A call that does next to nothing, beside the same two shifts in place.
+/// Times a call that does almost nothing, compared with the same two shifts in place.
 pub fn boundary(driver: &Driver) {
     let call = "merge_reversed";
     if !driver.wants(call) {

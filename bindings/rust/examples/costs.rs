@@ -1,6 +1,6 @@
-//! What calls of this crate cost, in nanoseconds: `cargo run --release --example costs`.
+//! The cost of calls of this crate, in nanoseconds: `cargo run --release --example costs`.
 //!
-//! Each row is the least of nine rounds. The flags are half ones, from a fixed generator.
+//! Each row is the least of nine rounds. Half of the flags are ones, from a fixed generator.
 
 use std::hint::black_box;
 use std::time::Instant;
@@ -11,7 +11,7 @@ const FLAGS: usize = 1_000_000;
 const SHORT: usize = 40;
 const CALLS: usize = 100_000;
 
-/// Prints what one of the `items` that `run` goes through costs.
+/// Prints the cost of one of the `items` that `run` processes.
 fn cost<T>(what: &str, items: usize, mut run: impl FnMut() -> T) {
     let nanoseconds = (0..9)
         .map(|_| {
@@ -24,7 +24,7 @@ fn cost<T>(what: &str, items: usize, mut run: impl FnMut() -> T) {
     println!("{what:<32}{:>8.1}", nanoseconds as f64 / items as f64);
 }
 
-/// The cost of a call that is too short to be measured alone.
+/// Prints the cost of a call that is too short to be measured by itself.
 fn call_cost<T>(what: &str, mut call: impl FnMut() -> T) {
     cost(what, CALLS, || {
         for _ in 0..CALLS {

@@ -1,10 +1,10 @@
-//! Masks from an importer, each with the zero count that came with it: `cargo run --example import`.
+//! Masks from an importer, each with its stated zero count: `cargo run --example import`.
 //!
-//! A record whose count is false is refused with 3 and goes back to where it came from; its flags are not used.
+//! A record whose count is false is refused with 3 and sent back to its source; its flags are not used.
 
 use poruwhina::{Bitmap, Permission, Refusal, may_reassign};
 
-/// What a file of an importer has for an operator.
+/// The record of an operator in an importer's file.
 struct Record {
     operator: &'static str,
     bytes: &'static [u8],

@@ -1,7 +1,7 @@
 //! A shift planner edits runs, not flags, and saves: `cargo run --example planner`.
 //!
 //! No method reads a run list. The screen takes the runs from the mask, edits them and makes the calls itself: `extend_constant` for each
-//! gap's zeros, for each run's ones and once for the zeros up to the length. It is proved that this comes to the list of flags with these
+//! gap's zeros, for each run's ones and once for the zeros up to the length. It is proved that this makes the list of flags with these
 //! runs, and that there is exactly one such list.
 
 use poruwhina::{Bitmap, BitmapBuilder, Refusal};
@@ -9,14 +9,14 @@ use poruwhina::{Bitmap, BitmapBuilder, Refusal};
 /// The first truck of a run and its length.
 type Run = (usize, usize);
 
-/// Whether the runs are at least one truck long, rising, with at least one truck between neighbours, and inside the length. Exactly these
-/// lists are the runs of a mask.
+/// Returns whether the runs are at least one truck long, rising, with at least one truck between neighbours, and inside the length.
+/// Exactly these lists are the runs of a mask.
 fn is_run_list(length: usize, runs: &[Run]) -> bool {
     runs.iter().all(|&(start, trucks)| trucks > 0 && start < length && trucks <= length - start)
         && runs.windows(2).all(|two| two[0].0 + two[0].1 < two[1].0)
 }
 
-/// The mask of `length` trucks that has these runs, which are a run list.
+/// Returns the mask of `length` trucks that has these runs, which are a run list.
 fn save(length: usize, runs: &[Run]) -> Result<Bitmap, Refusal> {
     let mut builder = BitmapBuilder::with_capacity(length);
     for &(start, trucks) in runs {
@@ -28,13 +28,13 @@ fn save(length: usize, runs: &[Run]) -> Result<Bitmap, Refusal> {
 }
 
 fn main() -> Result<(), Refusal> {
-    // Of forty trucks the operator may reassign 4 to 11 and 20 to 31.
+    // The operator may reassign trucks 4 to 11 and 20 to 31, of forty.
     let trucks = 40;
     let mask: Bitmap = (0..trucks).map(|truck| (4..12).contains(&truck) || (20..32).contains(&truck)).collect();
     let mut runs: Vec<Run> = mask.slices().collect();
     println!("runs {runs:?}");
 
-    // Saved as they are they give the mask back.
+    // The unedited runs, saved, make the same mask.
     assert_eq!(save(trucks, &runs)?, mask);
 
     // The second run begins three trucks earlier.
@@ -45,7 +45,7 @@ fn main() -> Result<(), Refusal> {
     assert!(saved.slices().eq(runs.iter().copied()));
     println!("saved {runs:?}, {} trucks", saved.set_bits());
 
-    // One that begins where the first ends is no run list: the two would be one run.
+    // A list whose second run begins where the first ends is no run list: the two would be one run.
     runs[1] = (12, 20);
     assert!(!is_run_list(trucks, &runs));
     println!("refused by the screen {runs:?}");

@@ -1,11 +1,11 @@
 //! A planner edits a stored mask by its runs and saves it: `cargo run --example superseding`.
 //!
-//! Saved under the serial that the mask was stored under, the edit meets the stored mask as 14, and nobody wins unseen; saved under a
-//! larger one it wins. A mask that is rebuilt has serial 0 until whoever saves it sets it.
+//! If the edit is saved under the serial of the stored mask, comparing the two is refused with 14, and neither wins unseen. Saved under a
+//! larger serial the edit wins. A mask that is rebuilt has serial 0 until its serial is set.
 
 use poruwhina::{Bitmap, BitmapBuilder, Refusal};
 
-/// The mask of these runs of ones, each a start and a length.
+/// Returns the mask of these runs of ones, each a start and a length.
 fn rebuilt(runs: &[(usize, usize)], trucks: usize) -> Result<Bitmap, Refusal> {
     let mut builder = BitmapBuilder::new();
     for &(start, length) in runs {

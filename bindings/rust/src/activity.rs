@@ -1,14 +1,14 @@
-//! Who was busy lately.
+//! The window of minutes: in how many of the last minutes each truck was busy.
 
 use std::fmt;
 
 use crate::calls;
 use crate::refusal::{Refusal, check, check_passed};
 
-/// The words of the last minutes, a flag for each of up to 64 trucks, and for each truck how many of them have its flag set.
+/// The words of the last minutes, with a flag for each of up to 64 trucks, and for each truck the number of words that have its flag set.
 ///
-/// The fields are private, and come from the library's own answers: every window is one that a run of minutes leaves, so that only
-/// [`new`](ActivityWindow::new) can be refused. The library checks the window at each call all the same.
+/// The fields are private and come from the library's own answers. So every window is one that a run of minutes leaves, and only
+/// [`new`](ActivityWindow::new) can be refused. The library still checks the window at each call.
 ///
 /// ```
 /// use poruwhina::{ActivityWindow, Refusal};
@@ -34,7 +34,7 @@ pub struct ActivityWindow {
 }
 
 impl ActivityWindow {
-    /// A window over the last `width` minutes, of which none has come yet. Refused with 16 where the width is 0 or above 256.
+    /// Returns an empty window, which keeps the words of the last `width` minutes. Refused with 16 if `width` is 0 or above 256.
     ///
     /// ```
     /// use poruwhina::{ActivityWindow, Refusal};
@@ -50,8 +50,8 @@ impl ActivityWindow {
         Ok(ActivityWindow { words, counts, place: made.place, fill: made.fill, width: made.width })
     }
 
-    /// Puts the word of the next minute into the window: bit `truck` of it says whether that truck was busy. Where the window has
-    /// the words of `width` minutes, the oldest goes.
+    /// Adds the word of the next minute to the window: bit j is set if truck j was busy in it. If the window already has the words of
+    /// `width` minutes, the oldest one is dropped.
     ///
     /// ```
     /// let mut window = poruwhina::ActivityWindow::new(60).unwrap();
@@ -64,7 +64,7 @@ impl ActivityWindow {
         (self.place, self.fill) = (after.place, after.fill);
     }
 
-    /// For each of 64 trucks, in how many of the last minutes it was busy.
+    /// Returns, for each of 64 trucks, in how many of the last minutes it was busy.
     ///
     /// ```
     /// let mut window = poruwhina::ActivityWindow::new(60).unwrap();
@@ -78,7 +78,7 @@ impl ActivityWindow {
         out
     }
 
-    /// In how many of the last minutes this truck was busy; none for a truck from 64 on.
+    /// Returns in how many of the last minutes `truck` was busy, or none if `truck` is 64 or more.
     ///
     /// ```
     /// let mut window = poruwhina::ActivityWindow::new(60).unwrap();
@@ -90,7 +90,7 @@ impl ActivityWindow {
     }
 }
 
-/// The width, how many minutes are in the window, and the counts.
+/// Shows the width, the number of minutes in the window, and the counts.
 impl fmt::Debug for ActivityWindow {
     fn fmt(&self, f: &mut fmt::Formatter<'_>) -> fmt::Result {
         f.debug_struct("ActivityWindow").field("width", &self.width).field("minutes", &self.fill).field("counts", &self.counts).finish()

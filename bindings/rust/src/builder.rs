@@ -7,10 +7,10 @@ use crate::bitmap::{Bitmap, frozen_len};
 use crate::calls;
 use crate::refusal::{Refusal, check, check_passed};
 
-/// Flags in the making: appended by one, by runs, words and spans, and then frozen to a [`Bitmap`].
+/// A builder of a [`Bitmap`]: single flags, runs, words and spans are appended, and then frozen to the mask.
 ///
-/// Each append is refused with 1 where it would come above [`Bitmap::LIMIT`] flags; other numbers stand with the calls. After
-/// a refusal the builder has the flags that it had. The buffer grows with the flags, so there is no refusal for want of room.
+/// Each append is refused with 1 if it would lead to more than [`Bitmap::LIMIT`] flags; its other refusals are listed with it. After
+/// a refusal the builder is unchanged. The buffer grows with the flags, so no append is refused for lack of room.
 ///
 /// ```
 /// use poruwhina::BitmapBuilder;
@@ -26,8 +26,8 @@ use crate::refusal::{Refusal, check, check_passed};
 #[derive(Clone)]
 #[repr(C)]
 pub struct BitmapBuilder {
-    // The library's record. `word` stands apart, so that an answer is taken over number by number: a compiler makes one load of two
-    // neighbours, which the processor cannot serve from the two stores that the call has just made.
+    // The library's record. `word` is kept apart, so that the numbers of an answer are copied one by one: a compiler makes one load of
+    // two neighbours, which the processor cannot serve from the two stores that the call has just made.
     length: usize,
     ones: usize,
     buffer: Vec<u8>,
@@ -36,7 +36,7 @@ pub struct BitmapBuilder {
 }
 
 impl BitmapBuilder {
-    /// The builder of no flags.
+    /// Returns a builder with no flags.
     ///
     /// ```
     /// assert!(poruwhina::BitmapBuilder::new().is_empty());
@@ -45,7 +45,7 @@ impl BitmapBuilder {
         BitmapBuilder::with_capacity(0)
     }
 
-    /// The builder of no flags, with memory for so many.
+    /// Returns a builder with no flags, and with memory for `flags` flags, at most [`Bitmap::LIMIT`].
     ///
     /// ```
     /// assert!(poruwhina::BitmapBuilder::with_capacity(1_000).is_empty());
@@ -56,7 +56,7 @@ impl BitmapBuilder {
         BitmapBuilder { length, ones, buffer: Vec::with_capacity(bytes), word, serial: 0 }
     }
 
-    /// The number of flags.
+    /// Returns the number of flags.
     ///
     /// ```
     /// let mut builder = poruwhina::BitmapBuilder::new();
@@ -68,7 +68,7 @@ impl BitmapBuilder {
         self.length
     }
 
-    /// Are there no flags.
+    /// Returns whether there are no flags.
     ///
     /// ```
     /// let mut builder = poruwhina::BitmapBuilder::new();
@@ -80,8 +80,8 @@ impl BitmapBuilder {
         self.length == 0
     }
 
-    /// The serial that the frozen mask will have: 0, unless [`with_serial`](BitmapBuilder::with_serial) set it. No append changes it,
-    /// also not one that copies a mask under another serial.
+    /// Returns the serial that the frozen mask will have: 0, unless [`with_serial`](BitmapBuilder::with_serial) set it. No append changes
+    /// it, not even one that copies a mask with another serial.
     ///
     /// ```
     /// use poruwhina::{Bitmap, BitmapBuilder};
@@ -95,7 +95,7 @@ impl BitmapBuilder {
         self.serial
     }
 
-    /// The same builder under another serial.
+    /// Returns the builder with its serial changed to `serial`.
     ///
     /// ```
     /// assert_eq!(poruwhina::BitmapBuilder::new().with_serial(6).freeze().serial(), 6);
@@ -104,7 +104,7 @@ impl BitmapBuilder {
         BitmapBuilder { serial, ..self }
     }
 
-    /// Appends a flag.
+    /// Appends `flag`. Refused with 1 if the builder would have more than [`Bitmap::LIMIT`] flags.
     ///
     /// ```
     /// use poruwhina::{Bitmap, BitmapBuilder};
@@ -120,7 +120,7 @@ impl BitmapBuilder {
         self.append(1, |record, buffer| calls::push(record, buffer, flag))
     }
 
-    /// Appends `length` copies of a flag.
+    /// Appends `length` copies of `flag`. Refused with 1 if the builder would have more than [`Bitmap::LIMIT`] flags.
     ///
     /// ```
     /// use poruwhina::{Bitmap, BitmapBuilder, Refusal};
@@ -135,8 +135,8 @@ impl BitmapBuilder {
         self.append(length, |record, buffer| calls::extend_constant(record, buffer, length, flag))
     }
 
-    /// Appends the first `length` flags of a word, lowest bit first. Refused with 6 for a length above 64 and where a bit from
-    /// there on is set.
+    /// Appends the lowest `length` bits of `word`, bit 0 first. Refused with 6 if `length` is above 64 or a higher bit is set, with 1 if
+    /// the builder would have more than [`Bitmap::LIMIT`] flags.
     ///
     /// ```
     /// use poruwhina::{Bitmap, BitmapBuilder, Refusal};
@@ -151,7 +151,8 @@ impl BitmapBuilder {
         self.append(length, |record, buffer| calls::push_word_with_len_unchecked(record, buffer, word, length))
     }
 
-    /// Appends `length` flags of the bytes from bit `start` on. Refused with 2 where they do not lie there.
+    /// Appends the `length` flags of `bytes` that start at bit `start`. Refused with 2 if they are not in the bytes, with 1 if `start` or
+    /// the builder's new length is above [`Bitmap::LIMIT`].
     ///
     /// ```
     /// use poruwhina::{Bitmap, BitmapBuilder, Refusal};
@@ -166,8 +167,8 @@ impl BitmapBuilder {
         self.append(length, |record, buffer| calls::extend_from_slice(record, buffer, bytes, start, length))
     }
 
-    /// Appends each of `length` flags of the bytes from bit `start` on, `repeats` times in turn. Refused with 2 where they do
-    /// not lie there.
+    /// Appends `repeats` copies of each of the `length` flags of `bytes` that start at bit `start`, one flag after the other. Refused with
+    /// 2 if the flags are not in the bytes, with 1 if `start`, `length` or the builder's new length is above [`Bitmap::LIMIT`].
     ///
     /// ```
     /// use poruwhina::{Bitmap, BitmapBuilder};
@@ -183,7 +184,7 @@ impl BitmapBuilder {
         })
     }
 
-    /// Appends the flags of a mask.
+    /// Appends the flags of `mask`. Refused with 1 if the builder would have more than [`Bitmap::LIMIT`] flags.
     ///
     /// ```
     /// use poruwhina::{Bitmap, BitmapBuilder};
@@ -199,7 +200,8 @@ impl BitmapBuilder {
         self.subslice_extend_from_bitmap(mask, 0, mask.len())
     }
 
-    /// Appends `length` flags of a mask from its flag `start` on. Refused with 6 where they do not lie in it.
+    /// Appends the `length` flags of `mask` that start at its flag `start`. Refused with 6 if they are not in the mask, with 1 if `start`,
+    /// `length` or the builder's new length is above [`Bitmap::LIMIT`].
     ///
     /// ```
     /// use poruwhina::{Bitmap, BitmapBuilder, Refusal};
@@ -215,8 +217,9 @@ impl BitmapBuilder {
         self.append(length, |record, buffer| calls::subslice_extend_from_bitmap(record, buffer, mask.record(), mask.bytes(), start, length))
     }
 
-    /// Appends the flag at each index, of `length` flags of the bytes from bit `start` on. Refused with 2 where these do not lie
-    /// there, with 6 where an index is at or past their length.
+    /// Appends, for each index in `idxs`, that flag of the `length` flags of `bytes` that start at bit `start`. Refused with 2 if these
+    /// are not in the bytes, with 6 if an index is not below `length`, with 1 if `start`, `length` or the builder's new length is above
+    /// [`Bitmap::LIMIT`].
     ///
     /// ```
     /// use poruwhina::{Bitmap, BitmapBuilder, Refusal};
@@ -231,8 +234,9 @@ impl BitmapBuilder {
         self.append(idxs.len(), |record, buffer| calls::gather_extend_from_slice(record, buffer, bytes, start, length, idxs))
     }
 
-    /// Appends the flag at each index as [`gather_extend_from_slice`](BitmapBuilder::gather_extend_from_slice) does, and 0 for
-    /// an index at or past the length. Refused with 2.
+    /// Appends, for each index in `idxs`, that flag of the `length` flags of `bytes` that start at bit `start`, or 0 if the index is not
+    /// below `length`. Refused with 2 if the flags are not in the bytes, with 1 if `start`, `length` or the builder's new length is above
+    /// [`Bitmap::LIMIT`].
     ///
     /// ```
     /// use poruwhina::{Bitmap, BitmapBuilder};
@@ -246,7 +250,7 @@ impl BitmapBuilder {
         self.append(idxs.len(), |record, buffer| calls::opt_gather_extend_from_slice(record, buffer, bytes, start, length, idxs))
     }
 
-    /// The mask of the flags, with its zero count known. The buffer becomes the mask's bytes.
+    /// Returns the mask of the flags, with its zero count known and the builder's serial. The buffer becomes the mask's bytes.
     ///
     /// ```
     /// let mut builder = poruwhina::BitmapBuilder::new();
@@ -261,12 +265,12 @@ impl BitmapBuilder {
         self.frozen(answer.mask)
     }
 
-    /// The mask of the flags, or none where all are set, as of an empty builder: Arrow's validity.
+    /// Returns the mask of the flags, or none if all flags are set, also if there are no flags: Arrow's validity.
     ///
-    /// **Not for a permission mask.** This none means all ones, as in Arrow. [`may_reassign`](crate::may_reassign) takes no
-    /// permission mask for *no truck*, the opposite: an operator with every truck would lose them all. End the builder of a
-    /// permission mask with [`freeze`](BitmapBuilder::freeze). An `Option<Bitmap>` does not turn into a
-    /// [`Permission`](crate::Permission), so handing it on does not compile.
+    /// **Not for a permission mask.** No mask means all ones here, as in Arrow. In [`may_reassign`](crate::may_reassign) no
+    /// permission mask means the opposite, *no truck*: an operator with every truck would lose them all. End the builder of a
+    /// permission mask with [`freeze`](BitmapBuilder::freeze). An `Option<Bitmap>` does not convert to a
+    /// [`Permission`](crate::Permission), so passing it on does not compile.
     ///
     /// ```
     /// use poruwhina::{Bitmap, BitmapBuilder};
@@ -284,13 +288,13 @@ impl BitmapBuilder {
         answer.present.then(|| self.frozen(answer.mask))
     }
 
-    /// The mask over the frozen bytes, which stand at the front of the buffer.
+    /// Returns the mask over the frozen bytes, which are at the start of the buffer.
     fn frozen(mut self, mask: calls::Mask) -> Bitmap {
         self.buffer.truncate(frozen_len(mask.length));
         Bitmap::from_record(Arc::new(self.buffer), 0, mask)
     }
 
-    /// Makes room for `more` flags, unless they come above the limit, and lets `call` append them.
+    /// Makes room for `more` flags, unless they would exceed the limit, and appends them by `call`.
     #[inline]
     fn append(&mut self, more: usize, call: impl FnOnce(calls::Builder, &mut [u8]) -> calls::BuilderAnswer) -> Result<(), Refusal> {
         let length = self.length.saturating_add(more);
@@ -311,7 +315,7 @@ impl BitmapBuilder {
     }
 }
 
-/// The builder of no flags.
+/// The default is a builder with no flags.
 ///
 /// ```
 /// assert_eq!(poruwhina::BitmapBuilder::default().len(), 0);
@@ -322,7 +326,7 @@ impl Default for BitmapBuilder {
     }
 }
 
-/// The flags as the `Debug` of a [`Bitmap`] shows them.
+/// Shows the flags as the `Debug` of a [`Bitmap`] does.
 ///
 /// ```
 /// let mut builder = poruwhina::BitmapBuilder::new();

@@ -5,11 +5,11 @@ use crate::calls;
 use crate::iterator::record_or_absent;
 use crate::refusal::{Refusal, check};
 
-/// An operator's permission mask, or that there is none.
+/// An operator's permission mask, or the fact that the operator has none.
 ///
 /// It is a type of its own because no mask means two opposite things: here *no truck*; in
 /// [`BitmapBuilder::into_opt_validity`](crate::BitmapBuilder::into_opt_validity) and [`TrueIdxIter::new`](crate::TrueIdxIter::new)
-/// *all ones*, as in Arrow. So the `Option` of the one does not turn into the other: end the builder of a permission mask with
+/// *all ones*, as in Arrow. So an `Option` of a mask does not convert to this type: end the builder of a permission mask with
 /// [`BitmapBuilder::freeze`](crate::BitmapBuilder::freeze).
 ///
 /// ```compile_fail,E0308
@@ -22,7 +22,7 @@ use crate::refusal::{Refusal, check};
 /// # Ok::<(), poruwhina::Refusal>(())
 /// ```
 ///
-/// Nor does `into` make one of it:
+/// `into` does not convert it either:
 ///
 /// ```compile_fail,E0277
 /// use poruwhina::{BitmapBuilder, Permission};
@@ -39,7 +39,7 @@ pub enum Permission<'a> {
 }
 
 impl<'a> Permission<'a> {
-    /// The mask, for the exports, which take whether there is one beside its record.
+    /// Returns the mask, if there is one, for the exports, which take a record and whether it is present.
     pub(crate) fn mask(self) -> Option<&'a Bitmap> {
         match self {
             Permission::Mask(mask) => Some(mask),
@@ -48,8 +48,9 @@ impl<'a> Permission<'a> {
     }
 }
 
-/// May the truck be reassigned: it is permitted and not revoked. With [`Permission::NoMask`] no truck may be; an absent
-/// revocation mask takes nothing away. Refused with 5 where the masks differ in length, with 6 for a truck at or past it.
+/// Returns whether the truck may be reassigned: it is permitted and not revoked. With [`Permission::NoMask`] the answer is no for every
+/// truck; with no revocation mask no truck is revoked. Refused with 5 if the masks differ in length, with 6 if `truck` is not below the
+/// length of a mask that is present.
 ///
 /// It reads one flag of each mask. The mask of all such trucks is [`Bitmap::and_not`].
 ///

@@ -1,5 +1,5 @@
-//! Cursors over a borrowed mask: its flags, runs of ones, positions of ones and words. Each step is a call of the library, but for
-//! positions, of which a call gives many.
+//! Iterators over a borrowed mask: its flags, runs of ones, positions of ones and words. Each step is a call of the library, except for
+//! positions, of which a call returns many.
 
 use std::iter::FusedIterator;
 
@@ -20,12 +20,12 @@ impl<'a> Cursor<'a> {
         Ok(Cursor { bytes, record: answer.cursor })
     }
 
-    /// A cursor over a whole mask, which no check refuses.
+    /// Returns the cursor of an answer for a whole mask, which no check refuses.
     fn over(bytes: &'a [u8], answer: calls::CursorAnswer) -> Cursor<'a> {
         Cursor::new(bytes, answer).expect("a mask of this crate passes its checks")
     }
 
-    /// Takes the cursor on to where the answer left it.
+    /// Moves the cursor to where the answer left it, and returns the answer.
     #[inline]
     fn took(&mut self, answer: calls::Step) -> calls::Step {
         check_passed(answer.refusal);
@@ -39,7 +39,7 @@ impl<'a> Cursor<'a> {
         answer.found.then_some(answer)
     }
 
-    /// Writes the next positions to the front of `out` and says how many. At the end no call is made.
+    /// Writes the next positions to the start of `out` and returns how many. At the end no call is made.
     fn positions(&mut self, out: &mut [u32]) -> usize {
         if out.is_empty() || self.rest() == 0 {
             return 0;
@@ -47,15 +47,15 @@ impl<'a> Cursor<'a> {
         self.took(calls::true_idx_next_chunk(self.record, self.bytes, out)).count
     }
 
-    /// The flags not passed yet.
+    /// Returns the number of flags after the cursor's place.
     fn rest(&self) -> usize {
         self.record.length - self.record.place
     }
 }
 
-/// The flags of a mask, by [`Bitmap::iter`].
+/// An iterator over the flags of a mask, made by [`Bitmap::iter`].
 ///
-/// [`nth`](Iterator::nth) and so `skip` and `step_by` are one call, however many flags they pass over.
+/// [`nth`](Iterator::nth), and so a step of `skip` or `step_by`, is one call of the library, however many flags it skips.
 ///
 /// ```
 /// let mask = poruwhina::Bitmap::from([true, false, true, true]);
@@ -69,7 +69,7 @@ pub struct BitmapIter<'a> {
 }
 
 impl BitmapIter<'_> {
-    /// Passes over the ones that stand next, and says how many.
+    /// Skips the ones up to the next zero, or to the end, and returns how many there were; 0, if the next flag is a zero.
     ///
     /// ```
     /// let mask = poruwhina::Bitmap::from([true, true, false]);
@@ -80,7 +80,7 @@ impl BitmapIter<'_> {
         self.cursor.took(calls::take_leading_ones(self.cursor.record, self.cursor.bytes)).count
     }
 
-    /// Passes over the zeros that stand next, and says how many.
+    /// Skips the zeros up to the next one, or to the end, and returns how many there were; 0, if the next flag is a one.
     ///
     /// ```
     /// let mask = poruwhina::Bitmap::from([false, false, true]);
@@ -114,7 +114,7 @@ impl Iterator for BitmapIter<'_> {
 impl ExactSizeIterator for BitmapIter<'_> {}
 impl FusedIterator for BitmapIter<'_> {}
 
-/// The maximal runs of ones of a mask as (start, length), rising, by [`Bitmap::slices`].
+/// An iterator over the maximal runs of ones of a mask as (start, length), in rising order, made by [`Bitmap::slices`].
 ///
 /// ```
 /// let mask = poruwhina::Bitmap::from([true, false, true, true, false, true]);
@@ -140,13 +140,13 @@ impl Iterator for SlicesIterator<'_> {
 
 impl FusedIterator for SlicesIterator<'_> {}
 
-/// How many positions a call is asked for.
+/// The number of positions that a call is to return.
 const CHUNK: usize = 64;
 
-/// The positions of the ones of a mask, rising, by [`Bitmap::true_idx_iter`].
+/// An iterator over the positions of the ones of a mask, in rising order, made by [`Bitmap::true_idx_iter`].
 ///
-/// A call of the library gives up to 64 positions, which are kept and handed out one by one; the first costs as much as all of
-/// them. For a single position there is [`Bitmap::nth_set_bit_idx`], for many at once
+/// A call of the library returns up to 64 positions, which are kept and returned one by one; the first costs as much as all of
+/// them. For a single position use [`Bitmap::nth_set_bit_idx`], for many at once
 /// [`next_chunk`](TrueIdxIter::next_chunk).
 ///
 /// ```
@@ -155,18 +155,18 @@ const CHUNK: usize = 64;
 /// ```
 #[derive(Clone, Debug)]
 pub struct TrueIdxIter<'a> {
-    /// Behind the positions kept.
+    /// The cursor, past the positions kept.
     cursor: Cursor<'a>,
-    /// The positions that the last call gave stand at the front, up to `end`; those before `next` have been handed out.
+    /// The positions that the last call returned, up to `end`; those before `next` have been returned.
     kept: [u32; CHUNK],
     next: usize,
     end: usize,
 }
 
 impl<'a> TrueIdxIter<'a> {
-    /// The positions below `length` of the ones of a mask of that length, or all of them where there is no mask: as in Arrow, no
-    /// mask means all ones here, while [`Permission::NoMask`](crate::Permission::NoMask) means no truck. Refused with 5 for a
-    /// mask of another length, with 1 for a length above [`Bitmap::LIMIT`].
+    /// Returns an iterator over the positions of the ones of a mask of `length` flags, or over every position below `length` if there is
+    /// no mask: as in Arrow, no mask means all ones here, while [`Permission::NoMask`](crate::Permission::NoMask) means no truck. Refused
+    /// with 5 if the mask has another length, with 1 if `length` is above [`Bitmap::LIMIT`].
     ///
     /// ```
     /// use poruwhina::{Bitmap, Refusal, TrueIdxIter};
@@ -183,8 +183,8 @@ impl<'a> TrueIdxIter<'a> {
         Ok(TrueIdxIter { cursor, kept: [0; CHUNK], next: 0, end: 0 })
     }
 
-    /// Writes the next positions to the front of `out`, as many as there are and it has room for, and says how many. The rest of
-    /// `out` stays. Less than its length says that there are no more.
+    /// Writes the next positions to the start of `out`, as many as there are and it has room for, and returns how many. The rest of
+    /// `out` is unchanged. If fewer than its length are written, there are no more.
     ///
     /// ```
     /// let mask = poruwhina::Bitmap::from([true, false, true, true, false, true]);
@@ -201,7 +201,7 @@ impl<'a> TrueIdxIter<'a> {
         first + self.cursor.positions(&mut out[first..])
     }
 
-    /// Fills the empty buffer; false at the end.
+    /// Fills the empty buffer, and returns false if there are no more positions.
     fn refill(&mut self) -> bool {
         self.next = 0;
         self.end = self.cursor.positions(&mut self.kept);
@@ -209,7 +209,7 @@ impl<'a> TrueIdxIter<'a> {
     }
 }
 
-/// The record and the bytes of a mask that may be absent; the library looks at neither where it is.
+/// Returns the record and the bytes of a mask, or an empty record and no bytes if it is absent: the library does not read those.
 pub(crate) fn record_or_absent(mask: Option<&Bitmap>) -> (calls::Mask, &[u8]) {
     mask.map_or((calls::Mask::default(), &[]), |mask| (mask.record(), mask.bytes()))
 }
@@ -222,7 +222,7 @@ impl Iterator for TrueIdxIter<'_> {
         if self.next == self.end && !self.refill() {
             return None;
         }
-        // below `end`, so that the remainder changes nothing: it is quicker than the test of an index
+        // `next` is below `end`, so the remainder changes nothing: it is quicker than the check of an index
         let position = self.kept[self.next % CHUNK];
         self.next += 1;
         Some(position as usize)
@@ -249,7 +249,7 @@ impl Iterator for TrueIdxIter<'_> {
 
 impl FusedIterator for TrueIdxIter<'_> {}
 
-/// The whole words of a mask, 64 flags each, the first in the lowest bit, by [`Bitmap::chunks`].
+/// An iterator over the whole words of a mask, 64 flags each, the first in the lowest bit, made by [`Bitmap::chunks`].
 ///
 /// ```
 /// let mask = poruwhina::Bitmap::try_from_span([0xFF; 9], 3, 69)?;
@@ -264,7 +264,8 @@ pub struct BitChunks<'a> {
 }
 
 impl BitChunks<'_> {
-    /// The flags behind the last whole word as a word, zero above them.
+    /// Returns the flags after the last whole word as a word, the first in the lowest bit, zero above them. It does not depend on the
+    /// words returned so far.
     ///
     /// ```
     /// assert_eq!(poruwhina::Bitmap::from([true, false, true]).chunks().remainder(), 0b101);
@@ -273,7 +274,7 @@ impl BitChunks<'_> {
         self.rest().value
     }
 
-    /// How many flags stand behind the last whole word.
+    /// Returns the number of flags after the last whole word: the length mod 64.
     ///
     /// ```
     /// assert_eq!(poruwhina::Bitmap::new_zeroed(66)?.chunks().remainder_len(), 2);
@@ -308,7 +309,7 @@ impl ExactSizeIterator for BitChunks<'_> {}
 impl FusedIterator for BitChunks<'_> {}
 
 impl Bitmap {
-    /// The flags in their order.
+    /// Returns an iterator over the flags in their order.
     ///
     /// ```
     /// let mask = poruwhina::Bitmap::from([true, false]);
@@ -319,7 +320,7 @@ impl Bitmap {
         BitmapIter { cursor: Cursor::over(bytes, calls::iter_new(bytes, start, length)) }
     }
 
-    /// The maximal runs of ones as (start, length), rising.
+    /// Returns an iterator over the maximal runs of ones as (start, length), in rising order.
     ///
     /// ```
     /// let mask = poruwhina::Bitmap::from([false, true, true]);
@@ -329,7 +330,7 @@ impl Bitmap {
         SlicesIterator { cursor: Cursor::over(self.bytes(), calls::slices_new(self.record(), self.bytes())) }
     }
 
-    /// The positions of the ones, rising.
+    /// Returns an iterator over the positions of the ones, in rising order.
     ///
     /// ```
     /// let mask = poruwhina::Bitmap::from([false, true, true]);
@@ -339,7 +340,7 @@ impl Bitmap {
         TrueIdxIter::new(self.len(), Some(self)).expect("a mask has its own length")
     }
 
-    /// The flags as words of 64, and the rest.
+    /// Returns an iterator over the flags as whole words of 64, which also has the remaining flags.
     ///
     /// ```
     /// let mask = poruwhina::Bitmap::new_zeroed(130)?;

@@ -1,10 +1,10 @@
 //! Permission masks: lists of flags, one for each haul truck that an operator may reassign, over a library whose every call is
 //! proved against its contract.
 //!
-//! A [`Bitmap`] is made from bytes, from flags or by a [`BitmapBuilder`], cut, combined with others, counted, searched and
-//! walked; [`may_reassign`] answers for one truck, [`offer`] gives the next one. An [`ActivityWindow`] counts who was busy in the
-//! last minutes. The names are those of polars-arrow's bitmap module, of which the library is a port. What a call cannot do it
-//! refuses, by a [`Refusal`] with its number and words, and nothing has changed then.
+//! A [`Bitmap`] is made from bytes, from flags or by a [`BitmapBuilder`]. It can be sliced, combined with others, counted, searched
+//! and iterated over. [`may_reassign`] answers for one truck, [`offer`] returns the next one. An [`ActivityWindow`] counts in how many
+//! of the last minutes each truck was busy. The names are those of polars-arrow's bitmap module, of which the library is a port. A call
+//! that cannot be carried out returns a [`Refusal`], which has a number and a message, and has changed nothing.
 //!
 //! ```
 //! use poruwhina::{Bitmap, BitmapBuilder, Permission, may_reassign};
@@ -32,26 +32,26 @@
 //! # Why safe code cannot break what is proved
 //!
 //! What is proved of a call holds for every record and every slice. What is proved of a mask's whole history (that its flags,
-//! counts, runs, searches and combinations are those of the plain list of flags, however it came about) presumes three things,
-//! and this crate's types see to them:
+//! counts, runs, searches and combinations are those of the plain list of flags, however it was made) presumes three things,
+//! which this crate's types ensure:
 //!
 //! - **A record stays with the bytes that it was made for.** Both are private fields of one value, and are read together.
-//! - **Nobody alters the bytes.** A `Bitmap` takes them by value, hands them out as `&[u8]` alone and has no method that writes
-//!   them. Clones and slices share them in an [`Arc`](std::sync::Arc) that is never handed out.
-//! - **A known count is exact.** It comes from the library's own answers for these bytes; a caller cannot reach the field, and one
-//!   that is stated ([`Bitmap::try_from_counted_span`]) is refused unless it is exact. So the calls get masks without their counts:
-//!   no answer but that of `slice` depends on them, and nothing is counted again.
+//! - **The bytes are never altered.** A `Bitmap` takes them by value, lends them only as `&[u8]` and has no method that writes
+//!   them. Clones and slices share them in a private [`Arc`](std::sync::Arc).
+//! - **A known count is exact.** It comes from the library's own answers for these bytes. A caller cannot reach the field, and a
+//!   stated count ([`Bitmap::try_from_counted_span`]) is refused unless it is exact. So masks are passed to calls without their
+//!   counts: only the answer of `slice` depends on them, and nothing is counted again.
 //!
-//! Beside these, what each call needs from its caller:
+//! In addition, the crate does for each call what its caller must do:
 //!
 //! - **Outputs and inputs do not overlap.** A result is written to a new `Vec`, a builder's flags to the builder's own, borrowed
 //!   `&mut` for the call.
-//! - **Lengths.** Each length that safe code gives is put to the library's checks; the crate computes sizes only from lengths
-//!   that it has first bounded by [`Bitmap::LIMIT`], so no sum wraps and no size is asked for that is not needed.
-//! - **Threads.** The library has no state of its own: calls read and write the slices lent to them alone. [`Bitmap`] and the
-//!   iterators are `Send` and `Sync` by what they are made of. The one field that changes behind `&self` is the kept count, in
-//!   a [`OnceLock`](std::sync::OnceLock): a thread sees it unset or whole, and every thread would set the same number.
-//! - **`unsafe`** stands in the module [`calls`] alone, which says why each use is sound.
+//! - **Lengths.** The library checks each length that safe code passes. The crate computes sizes only from lengths that it has
+//!   first bounded by [`Bitmap::LIMIT`], so no sum wraps and no memory is allocated that is not needed.
+//! - **Threads.** The library has no state of its own: calls read and write only the slices lent to them. [`Bitmap`] and the
+//!   iterators are `Send` and `Sync` since their fields are. The only field that changes through `&self` is the kept count, in
+//!   a [`OnceLock`](std::sync::OnceLock): a thread reads it unset or complete, and every thread would set the same number.
+//! - **`unsafe`** is used only in the module [`calls`], whose documentation says why each use is sound.
 //!
 //! ```
 //! # use poruwhina::{Bitmap, BitmapBuilder, BitmapIter, SlicesIterator, TrueIdxIter, BitChunks};
@@ -60,7 +60,7 @@
 //! shared::<(BitmapIter, SlicesIterator, TrueIdxIter, BitChunks)>();
 //! ```
 //!
-//! Bytes that went into a mask are out of reach:
+//! Bytes that a mask was made from cannot be reached:
 //!
 //! ```compile_fail,E0382
 //! let mut bytes = vec![0x2D];
@@ -68,7 +68,7 @@
 //! bytes[0] = 0xFF;
 //! ```
 //!
-//! and those that it lends cannot be written:
+//! and the bytes that a mask lends cannot be written:
 //!
 //! ```compile_fail,E0594
 //! let mask = poruwhina::Bitmap::try_new(vec![0x2D], 6).unwrap();
@@ -91,7 +91,7 @@
 //! flags.count();
 //! ```
 //!
-//! A frozen builder cannot write on in the mask's bytes:
+//! A frozen builder cannot write to the mask's bytes:
 //!
 //! ```compile_fail,E0382
 //! let mut builder = poruwhina::BitmapBuilder::new();
@@ -101,15 +101,15 @@
 //!
 //! # What is not proved
 //!
-//! The Rust of this crate. It keeps records and bytes, and positions that a call gave until they are asked for, allocates, computes
-//! how many bytes so many flags take, subtracts the zeros from the length for [`Bitmap::set_bits`] and a place from a length for the
-//! iterators' `size_hint`, and turns answers into `Option`, `Result` and text. It reads and
-//! writes no flag by itself. The README has what must be believed beside it.
+//! The Rust of this crate is not proved. It keeps records and bytes, keeps the positions that a call returned until they are requested,
+//! allocates memory, and computes the number of bytes for a number of flags. It subtracts the zeros from the length for
+//! [`Bitmap::set_bits`] and a place from a length for the iterators' `size_hint`, and makes `Option`, `Result` and text from answers. It
+//! never reads or writes a flag itself. The README lists what else must be believed.
 //!
 //! # What a call costs
 //!
-//! Every step of an iterator is one call of the library, which checks its cursor anew, rather than a shortcut in Rust that
-//! nothing proves; of positions a call gives up to 64. Measured by `examples/costs.rs` on one x86-64 machine, shared with other
+//! Every step of an iterator is one call of the library, which checks its cursor again, rather than a shortcut in unproved Rust. A
+//! call for positions returns up to 64. Measured by `examples/costs.rs` on one x86-64 machine, shared with other
 //! work, in nanoseconds:
 //!
 //! | call | cost |
@@ -117,15 +117,15 @@
 //! | [`Bitmap::iter`], per flag | 3 |
 //! | [`Bitmap::slices`], per run, half the flags ones at random | 15 |
 //! | [`Bitmap::true_idx_iter`], per position, half the flags ones at random | 5 |
-//! | the same, 63 in 64 flags ones: a loop, [`sum`](Iterator::sum) and the like | 0.7, 0.4 |
-//! | [`TrueIdxIter::next_chunk`], per position, of the two | 4, 0.1 |
+//! | [`Bitmap::true_idx_iter`], per position, 63 in 64 flags ones: a loop, [`sum`](Iterator::sum) and the like | 0.7, 0.4 |
+//! | [`TrueIdxIter::next_chunk`], per position, of these two masks | 4, 0.1 |
 //! | [`Bitmap::chunks`], per word of 64 flags | 3 |
 //! | [`BitmapBuilder::push`], per flag | 5 |
 //! | [`Bitmap::get`], [`may_reassign`], of 1,000,000 flags | 6, 21 |
 //! | [`Bitmap::sliced`], of 40 flags | 29 |
 //! | [`Bitmap::and`], of 40 and of 1,000,000 flags | 78, 3,800 |
 //!
-//! Whoever goes through many flags takes runs, positions or words where these will do, and appends by spans and words.
+//! To process many flags, prefer runs, positions or words to single flags, and append spans or words.
 #![deny(unsafe_code, missing_docs)]
 
 mod activity;

@@ -1,4 +1,4 @@
-//! The next truck that an operator may reassign, from a cursor on and round to truck 0.
+//! The next truck that an operator may reassign, starting at a cursor and wrapping around to truck 0.
 
 use crate::bitmap::Bitmap;
 use crate::calls;
@@ -6,23 +6,23 @@ use crate::dispatch::Permission;
 use crate::iterator::record_or_absent;
 use crate::refusal::{Refusal, check};
 
-/// What [`offer`] gives.
+/// The answer of [`offer`].
 #[derive(Clone, Copy, Debug, PartialEq, Eq)]
 pub struct Offer {
-    /// The truck, or none where no truck is permitted and not revoked.
+    /// The truck, or none if no truck is permitted and not revoked.
     pub truck: Option<usize>,
-    /// The cursor for the next call: one past the truck; where there is none, as it came.
+    /// The cursor for the next call: one past the truck, or unchanged if there is no truck.
     pub cursor: usize,
-    /// How many windows of 32 flags were read: at most ceil(length / 32) + 1 of the permission mask.
+    /// The number of windows of 32 flags read: at most ceil(length / 32) + 1, for the length of the permission mask.
     pub windows: usize,
 }
 
-/// The first truck at or after the cursor that is permitted and not revoked; if there is none, the first from truck 0 on. With
-/// [`Permission::NoMask`] there is none at each cursor, and no window is read. Refused with 5 where the masks differ in length,
-/// with 6 for a cursor above it; a cursor at the length is allowed.
+/// Returns the first truck at or after `cursor` that is permitted and not revoked, else the first one from truck 0. With
+/// [`Permission::NoMask`] there is no such truck for any cursor, and no window is read. Refused with 5 if the masks differ in length,
+/// with 6 if `cursor` is above the length; a cursor equal to it is allowed.
 ///
-/// The caller keeps the cursor: while the masks do not change and each call gets the cursor that the one before gave, as many
-/// calls as there are such trucks offer each of them once.
+/// The caller keeps the cursor. If the masks do not change and each call is passed the cursor that the one before returned, n calls
+/// offer each of n such trucks once.
 ///
 /// ```
 /// use poruwhina::{Bitmap, Offer, Permission, Refusal, offer};
@@ -46,8 +46,8 @@ pub fn offer(permission: Permission<'_>, revocation: Option<&Bitmap>, cursor: us
     Ok(Offer { truck: answer.found.then_some(answer.truck), cursor: answer.cursor, windows: answer.windows })
 }
 
-/// Every truck that is permitted and not revoked, once, beginning at the cursor and going round to truck 0. Refused as
-/// [`offer`] is.
+/// Returns an iterator over every truck that is permitted and not revoked, once each, which begins at `cursor` and wraps around to truck
+/// 0. Refused with 5 if the masks differ in length, with 6 if `cursor` is above the length.
 ///
 /// ```
 /// use poruwhina::{Bitmap, Permission, Refusal, offers};
@@ -64,21 +64,21 @@ pub fn offers<'a>(permission: Permission<'a>, revocation: Option<&'a Bitmap>, cu
     Ok(Offers { permission, revocation, cursor, first: next.truck, next })
 }
 
-/// The iterator that [`offers`] gives: one call of the library for each truck.
+/// The iterator that [`offers`] returns: one call of the library for each truck.
 #[derive(Clone, Debug)]
 pub struct Offers<'a> {
     permission: Permission<'a>,
     revocation: Option<&'a Bitmap>,
-    /// One past the truck handed out last, or as it came.
+    /// One past the truck returned last; before the first one, the caller's cursor.
     cursor: usize,
     /// The truck with which the round began, at which it ends.
     first: Option<usize>,
-    /// What is handed out next; no truck where the round has ended.
+    /// The offer that is returned next; without a truck if the round has ended.
     next: Offer,
 }
 
 impl Offers<'_> {
-    /// The cursor behind the truck that was given last, for a later call; before the first it is the one that came.
+    /// Returns the cursor for a later call: one past the truck returned last, or before the first one the cursor passed to [`offers`].
     pub fn cursor(&self) -> usize {
         self.cursor
     }

@@ -1,15 +1,16 @@
-//! The numbers by which the library refuses, with their words.
+//! The numbers by which the library refuses, with their messages.
 
 use std::error::Error;
 use std::fmt;
 
-/// Why a call was refused: the first of the library's questions that was answered no. They are put in one order for all
-/// calls, that of their numbers, save that 14 comes after 3. After a refusal nothing has changed.
+/// Why a call was refused: the first of the library's checks that failed. All calls make their checks in one order, that of the
+/// numbers, except that 14 comes after 3. A refused call has changed nothing.
 ///
-/// From [`Bitmap`](crate::Bitmap), [`BitmapBuilder`](crate::BitmapBuilder) and what stands beside them come 1, 2, 5 and 6 alone, and 3
-/// from [`try_from_counted_span`](crate::Bitmap::try_from_counted_span): the types keep their records true and give each call the
-/// room that it needs. 14 comes from [`superseding`](crate::Bitmap::superseding) alone. From
-/// [`ActivityWindow`](crate::ActivityWindow) comes 16 alone. [`calls`](crate::calls) can give every number but 7.
+/// [`Bitmap`](crate::Bitmap), [`BitmapBuilder`](crate::BitmapBuilder) and the other types of this crate refuse only with 1, 2, 5 and 6,
+/// since they keep their records true and provide the room that each call needs. There are three exceptions:
+/// [`try_from_counted_span`](crate::Bitmap::try_from_counted_span) also refuses with 3, [`superseding`](crate::Bitmap::superseding) with
+/// 14, and [`ActivityWindow`](crate::ActivityWindow) only with 16. The functions of [`calls`](crate::calls) can refuse with every number
+/// except 7.
 ///
 /// ```
 /// use poruwhina::{Bitmap, Refusal};
@@ -23,31 +24,31 @@ use std::fmt;
 #[repr(u8)]
 #[derive(Clone, Copy, Debug, PartialEq, Eq, Hash)]
 pub enum Refusal {
-    /// 1: Is each start and length of a span, mask, cursor or inner piece, each stated length, the builder's length, and the
-    /// resulting start and length at most 4,194,304?
+    /// 1: a start or a length is above 4,194,304: of a span, mask, cursor, builder or inner piece, a stated length, or a resulting
+    /// start or length.
     AboveLimit = 1,
-    /// 2: Is start + length at most 8 × the bytes lent?
+    /// 2: start + length is above 8 × the bytes lent.
     OutsideBytes = 2,
-    /// 3: Is a known zero count the number of zeros among the flags? Each call that takes a mask counts a known one again.
+    /// 3: a known zero count is not the number of zeros among the flags. Each call that takes a mask counts a known one again.
     FalseCount = 3,
-    /// 4: Is the builder possible: no bit in its word from length mod 64 up, ones at most 64 × (length div 64), buffer at least
-    /// 8 × (length div 64) bytes?
+    /// 4: the builder is not possible: its word has a bit set at or above length mod 64, its ones are above 64 × (length div 64), or
+    /// its buffer has fewer than 8 × (length div 64) bytes.
     ImpossibleBuilder = 4,
-    /// 5: Are the masks combined, or a mask and the length stated for it, equal in length?
+    /// 5: the masks combined, or a mask and the length stated for it, differ in length.
     UnequalLengths = 5,
-    /// 6: Does the inner piece lie in its mask: slice end and split point at most the length, a cursor's place too, gather
-    /// index and truck below it, pushed word of at most 64 flags with none beyond?
+    /// 6: a slice's end, a split point or a cursor's place is above the length, an index or a truck is not below it, or a pushed word
+    /// has more than 64 flags or a bit set after them.
     OutsideMask = 6,
-    /// 7: Where a slice recounts, is the known count at least the zeros cut off, and the rest at most the new length? No call gives
-    /// this number: a known count is exact, since 3 comes before.
+    /// 7: when a slice recounts, the known count is below the zeros cut off, or the rest of it is above the new length. No call returns
+    /// this number: a known count is exact, since check 3 comes first.
     CountNotOfSlice = 7,
-    /// 8: Is the address remainder at most 7?
+    /// 8: the address remainder is above 7.
     AddressRemainder = 8,
-    /// 9: Does the output, the builder's buffer included, hold 8 × ceil(new length / 64) bytes?
+    /// 9: the output, or the builder's buffer, has fewer than 8 × ceil(new length / 64) bytes.
     OutputTooSmall = 9,
-    /// 14: Of two masks with equal serials, are the flags equal too? It comes after 3.
+    /// 14: two masks with equal serials have different flags or lengths. This check comes after 3.
     SerialConflict = 14,
-    /// 16: Is the width of the window of minutes 1 to 256, and the window one that a run of minutes at its width leaves?
+    /// 16: the width of the window of minutes is not 1 to 256, or no run of minutes at its width leaves the window.
     ImpossibleWindow = 16,
 }
 
@@ -66,7 +67,7 @@ const ALL: [Refusal; 11] = [
 ];
 
 impl Refusal {
-    /// The number, 1 to 9, 14 or 16.
+    /// Returns the refusal's number: 1 to 9, 14 or 16.
     ///
     /// ```
     /// assert_eq!(poruwhina::Refusal::OutputTooSmall.number(), 9);
@@ -75,8 +76,8 @@ impl Refusal {
         self as u8
     }
 
-    /// The refusal of a number that a record of [`calls`](crate::calls) carries; none for 0, which says that all checks
-    /// passed, and for a number that no check has.
+    /// Returns the refusal with the number in the field `refusal` of an answer of [`calls`](crate::calls); none for 0, which means
+    /// that all checks passed, and for a number that no check has.
     ///
     /// ```
     /// use poruwhina::{calls, Refusal};
@@ -113,7 +114,7 @@ impl fmt::Display for Refusal {
 
 impl Error for Refusal {}
 
-/// What the field `refusal` of an answer says.
+/// Returns the error for the field `refusal` of an answer, if it is not 0.
 #[inline]
 pub(crate) fn check(number: u8) -> Result<(), Refusal> {
     match number {
@@ -127,7 +128,7 @@ fn refusal(number: u8) -> Refusal {
     Refusal::from_number(number).unwrap_or_else(|| panic!("no check has the number {number}"))
 }
 
-/// For calls that cannot be refused, because the records of this crate's types pass every check that they make.
+/// Panics unless the field `refusal` is 0: for calls that cannot be refused, since the records of this crate's types pass their checks.
 #[inline]
 pub(crate) fn check_passed(number: u8) {
     check(number).expect("a record of this crate passes its checks");

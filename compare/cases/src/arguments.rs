@@ -1,10 +1,10 @@
-//! The arguments of a request, taken one by one as what the call wants them to be.
+//! The arguments of a request, taken one by one. Each method takes what its name says: a number or a record of several.
 
 use crate::token::Token;
 use model::loops::{Stretch, WordOp};
 use model::{Builder, Cursor, Mask, Span};
 
-/// The arguments that are not yet taken, and the serials of the records that are not.
+/// The arguments that are not yet taken, and the serials of the records that are not yet taken.
 pub struct Args<'a>(pub &'a [Token], pub &'a [u32]);
 
 impl Args<'_> {
@@ -14,7 +14,7 @@ impl Args<'_> {
         first
     }
 
-    /// The serial of the next record.
+    /// Takes the serial of the next record.
     fn serial(&mut self) -> u32 {
         let (&first, rest) = self.1.split_first().expect("a serial is missing");
         self.1 = rest;

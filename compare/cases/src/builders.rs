@@ -1,4 +1,4 @@
-//! The builder's calls: every fill of the word in progress, every alignment, and buffers of every size.
+//! The builder's calls: words in progress of many lengths, every alignment, and buffers of every size.
 
 use crate::builders_outside;
 use crate::file::File;
@@ -33,7 +33,7 @@ pub fn write(f: &mut File) {
     builders_outside::write(f);
 }
 
-/// A builder with one finished word and so many flags in progress; the buffer holds the word, and other bytes behind it.
+/// Lends a buffer of `size` bytes, a finished word and then other bytes, and returns a builder with that word and `fill` flags in progress.
 pub fn prepared(f: &mut File, fill: u64, size: u64) -> String {
     let mut buf = paint(7, size);
     buf[..8].copy_from_slice(&FINISHED.to_le_bytes());
@@ -41,7 +41,7 @@ pub fn prepared(f: &mut File, fill: u64, size: u64) -> String {
     format!("{} {} {}", 64 + fill, show(low(PROGRESS, fill)), FINISHED.count_ones())
 }
 
-/// Steps from a new builder on, each with the builder and the buffer that the one before gave, then both ends.
+/// Makes the steps, from a new builder, each with the builder and the buffer that the one before left, then both ends.
 fn steps(f: &mut File, steps: &[String]) {
     f.ask("BitmapBuilder::new");
     for (i, step) in steps.iter().enumerate() {
@@ -51,7 +51,7 @@ fn steps(f: &mut File, steps: &[String]) {
     ends(f);
 }
 
-/// What freezing gives, both ways, from the builder and the buffer that the last call gave.
+/// Freezes, both ways, the builder that the last call returned, in the buffer that it left.
 pub fn ends(f: &mut File) {
     let builder: Vec<String> = f.last[f.last.len() - 3..].iter().map(|token| token.to_string()).collect();
     f.ask("+ freeze @3");
@@ -118,7 +118,7 @@ fn words(f: &mut File) {
     }
 }
 
-/// The appends that read a span or its like, with these starts and lengths.
+/// Returns the appends of many flags, with these starts and lengths; `#` is the place of the builder.
 fn forms(starts: &str, lengths: &str) -> Vec<String> {
     let mut all = vec![format!("extend_from_slice # {starts} {lengths}"), format!("{PIECE} # 4 288 ? {starts} {lengths}")];
     all.extend((0..4).map(|repeats| format!("{REPEAT} # {starts} {lengths} {repeats}")));
@@ -149,7 +149,7 @@ fn alignments(f: &mut File) {
     }
 }
 
-/// Indices inside, at, past and far past the length, in the first, in the last and in no place.
+/// Returns `many` indices of a kind: all inside, at, past or far past the length n, inside except for the first or the 65th, or mixed.
 pub fn indices(kind: usize, n: u64, many: u64) -> Vec<u32> {
     let inside = |i: u64| if n == 0 { 0 } else { (7 * i + 3) % n };
     let index = |i: u64| match kind {

@@ -1,4 +1,4 @@
-//! The builder's calls on builders from outside, with arguments that fail checks beside them, at far numbers and at the flag limit.
+//! The builder's calls on builders from outside, with arguments that fail checks too, at far numbers and at the flag limit.
 
 use crate::builders::{GATHER, OPT_GATHER, PIECE, REPEAT, WORD, ends, indices, prepared};
 use crate::file::File;
@@ -16,7 +16,7 @@ pub fn write(f: &mut File) {
     limits(f);
 }
 
-/// Builders that appends give, and such that none does.
+/// Builders that appends return, and builders that none returns.
 const BUILDERS: [(u64, u64, u64); 24] = [
     (0, 0, 0),
     (63, (1 << 63) - 1, 0),
@@ -44,7 +44,7 @@ const BUILDERS: [(u64, u64, u64); 24] = [
     (MAX, MAX, MAX),
 ];
 
-/// The arguments of each append behind the builder, plain ones and such that fail its checks, one by one and several.
+/// Returns each append with its arguments after the builder: good ones, and ones that fail its checks, one or several.
 fn faults() -> Vec<(&'static str, Vec<String>)> {
     let spans = [(2, 5), (MOST + 1, 5), (2, MOST + 1), (2, 319), (MAX, MAX)].map(|(start, n)| format!("{} {}", show(start), show(n)));
     let repeated = |repeats: u64| spans.clone().map(|span| format!("{span} {}", show(repeats)));
@@ -100,7 +100,7 @@ fn far(f: &mut File) {
     f.ask(&format!("{REPEAT} {builder} 0 {all} {all}"));
 }
 
-/// Appends up to and past the limit, to a builder that has so many ones.
+/// Appends up to and past the limit, each time to a builder of ones.
 fn limits(f: &mut File) {
     f.lend_pattern('x', &paint(25, 509), 524_352);
     f.lend_numbers(&[0; 5]);

@@ -1,4 +1,4 @@
-//! The calls by their names: a request's arguments handed to the model, and its answer as the tokens of a line.
+//! The calls by their names: the model is called with a request's arguments, and its answer becomes the tokens of a line.
 
 use crate::arguments::Args;
 use crate::minutes;
@@ -8,7 +8,7 @@ use model::loops::{self, Stretch, WordOp};
 use model::spans::{self, Count};
 use model::{Answer, Builder, Cursor, Lent, Mask, Span, State, builder, cursors, dispatch, mask, next, superseding, words};
 
-/// What is lent to one call.
+/// The bytes and numbers lent to one call.
 pub struct Lents<'a> {
     pub x: &'a [u8],
     pub y: &'a [u8],
@@ -17,7 +17,7 @@ pub struct Lents<'a> {
     pub i: &'a mut [u32],
 }
 
-/// What a call may write to.
+/// The output that a call writes to: none, the bytes o or the numbers i.
 #[derive(Clone, Copy, PartialEq, Eq)]
 pub enum Output {
     None,
@@ -25,21 +25,23 @@ pub enum Output {
     Numbers,
 }
 
+/// The tokens of an answer, and the output that is compared.
 pub struct Reply {
     pub tokens: Vec<Token>,
     pub output: Output,
 }
 
-/// An answer of fixed shape: the refusal or 0, then the values, then the record, its serial first.
+/// Returns an answer of fixed shape: the refusal or 0, then the values, then the record, its serial first.
 fn gave(answer: Answer) -> Reply {
     reply(answer, false, false)
 }
 
-/// An answer whose values are missing where nothing is found.
+/// Returns an answer whose values are missing if nothing is found.
 fn found(answer: Answer) -> Reply {
     reply(answer, true, false)
 }
 
+/// Returns an answer: missing values are `-` if `may_miss`, and a cursor ends in whether it has a mask if `marks`.
 fn reply(answer: Answer, may_miss: bool, marks: bool) -> Reply {
     let mut tokens = vec![Token::Number(answer.refusal.into())];
     if answer.refusal == 0 && may_miss && answer.values.is_empty() {
@@ -64,19 +66,19 @@ fn reply(answer: Answer, may_miss: bool, marks: bool) -> Reply {
     Reply { tokens, output: Output::None }
 }
 
-/// A call that has an output.
+/// Returns the answer of a call that writes to o.
 fn wrote(answer: Answer) -> Reply {
     Reply { output: Output::Bytes, ..gave(answer) }
 }
 
-/// A builder that is ended; refused, it comes back, which the model leaves out.
+/// Returns the answer of ending a builder; a refusal carries the builder, which the model leaves out.
 fn ended(answer: Answer, builder: Builder, may_miss: bool) -> Reply {
     let state = if answer.refusal == 0 { answer.state } else { State::Builder(builder) };
     let missing = may_miss && state == State::None;
     Reply { output: Output::Bytes, ..reply(Answer { state, ..answer }, missing, false) }
 }
 
-/// The answer of the call of that name.
+/// Returns the model's answer to the call of that name. Panics if there is no such call or an argument is left over.
 pub fn answer(name: &str, mut args: Args, mut lents: Lents) -> Reply {
     let a = &mut args;
     let reply = minutes::answer(name, a, &mut lents)
@@ -160,7 +162,7 @@ fn of_spans(name: &str, a: &mut Args, x: &[u8]) -> Option<Reply> {
     }))
 }
 
-/// A search's answer: the values, the first of which is missing where nothing is found; refused, what came.
+/// Returns a search's answer: its values, with `-` before them if they are fewer than `values`; a refusal keeps its own.
 fn searched(answer: Answer, values: usize) -> Reply {
     let missing = answer.refusal == 0 && answer.values.len() < values;
     let mut reply = gave(answer);
@@ -188,7 +190,7 @@ fn of_cursors(name: &str, a: &mut Args, l: &Lents) -> Option<Reply> {
     })
 }
 
-/// The calls on masks that have no output.
+/// Answers the calls on masks that have no output.
 fn of_masks(name: &str, a: &mut Args, l: &Lents) -> Option<Reply> {
     let first = |mask: Mask| Lent { mask, bytes: l.x };
     let second = |mask: Mask| Lent { mask, bytes: l.y };
@@ -217,7 +219,7 @@ fn of_masks(name: &str, a: &mut Args, l: &Lents) -> Option<Reply> {
     }))
 }
 
-/// The calls that have an output.
+/// Answers the calls that have an output.
 fn of_outputs(name: &str, a: &mut Args, l: Lents) -> Reply {
     match name {
         "next_chunk" => {

@@ -1,4 +1,4 @@
-//! Masks combined: every start bit, counts of every kind, true and false, outputs of every size, refusals of masks combined and compared.
+//! Masks combined: every start bit, counts of every kind, true and false, outputs of every size, refusals of masks combined or compared.
 
 use crate::file::File;
 use crate::masks::brought;
@@ -9,7 +9,7 @@ const LENGTHS: [u64; 8] = [0, 1, 8, 63, 64, 65, 128, 129];
 const PAIRS: [&str; 5] = ["and", "and_not", "or", "or_not", "xor"];
 const KINDS: [u64; 3] = [0, 1, 8];
 
-/// Masks that fail each check by itself and several at once, over 32 bytes, beside one that fails none.
+/// Masks over 32 bytes: one that fails no check, then masks that fail each check by itself or several at once.
 const FAULTS: [(u64, u64, &str); 8] = [
     (3, 70, "?"),
     (MOST + 1, 70, "?"),
@@ -33,14 +33,14 @@ pub fn write(f: &mut File) {
     refusals(f);
 }
 
-/// A combination's arguments: masks from these starts on with these counts, and the flag of `select_constant`.
+/// Returns a combination's mask arguments, with these starts and counts and n flags each.
 pub fn masks(name: &str, starts: [&str; 3], n: &str, counts: [&str; 3]) -> String {
     let many = if name == "not" { 1 } else { 2 + usize::from(name == "select") };
     let texts: Vec<String> = (0..many).map(|k| format!("{} {n} {}", starts[k], counts[k])).collect();
     texts.join(" ")
 }
 
-/// The combinations, `select_constant` with each flag.
+/// Returns the combinations, each with the text of its flag: `select_constant` comes with both flags, the others with none.
 pub fn combinations() -> Vec<(&'static str, &'static str)> {
     let mut all: Vec<(&str, &str)> = PAIRS.iter().map(|name| (*name, "")).collect();
     all.extend([("not", ""), ("select", ""), ("select_constant", " 0"), ("select_constant", " 1")]);
@@ -112,7 +112,7 @@ fn rooms(f: &mut File) {
     }
 }
 
-/// All pairs of counts over all pairs of constant and mixed masks.
+/// Asks with all pairs of counts over all pairs of constant and mixed masks.
 fn counts(f: &mut File) {
     f.lend('o', &paint(7, 16));
     f.lend('z', &paint(6, 40));
@@ -134,7 +134,7 @@ fn counts(f: &mut File) {
     }
 }
 
-/// Every start bit of both masks.
+/// Asks at every start bit of the first mask and some of the second.
 fn all(f: &mut File) {
     f.lend('o', &paint(7, 24));
     for (first, second) in KINDS.iter().flat_map(|first| KINDS.map(|second| (*first, second))) {

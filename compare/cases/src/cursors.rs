@@ -1,4 +1,4 @@
-//! Cursors and searches: every place of spans at every start bit, whole walks, positions many at once, refusals, the flag limit.
+//! Cursors and searches: every place of spans at every start bit, walks to the end, many positions at once, refusals, the flag limit.
 
 use crate::file::File;
 use crate::patterns::{MAX, MOST, paint, stripes};
@@ -8,7 +8,7 @@ const STARTS: [u64; 10] = [0, 1, 2, 3, 4, 5, 6, 7, 69, 131];
 const LENGTHS: [u64; 14] = [0, 1, 7, 8, 9, 31, 32, 33, 63, 64, 65, 127, 128, 129];
 const STEPS: [&str; 4] = ["SlicesIterator::next", "BitmapIter::next", "take_leading_ones", "take_leading_zeros"];
 
-/// Cursors and arguments that fail each check, alone and with others, over 32 bytes; the first two fail none.
+/// Cursors and arguments that fail each check, by itself and with others, over 32 bytes; the first two fail no check.
 const FAULTS: [(u64, u64, u64); 16] = [
     (3, 70, 5),
     (3, 70, 70),
@@ -51,7 +51,7 @@ fn pattern(kind: u64, size: u64) -> Vec<u8> {
     if kind == 4 { stripes(size) } else { paint(kind, size) }
 }
 
-/// Arguments at and around the ends of a span.
+/// Returns arguments at and around the ends of a span.
 fn near(length: u64) -> String {
     let mut near = vec![0, 1, length / 3, length / 2, length.saturating_sub(1), length, length.saturating_add(1), MAX];
     near.sort_unstable();
@@ -93,7 +93,7 @@ fn places(f: &mut File) {
     }
 }
 
-/// Each cursor made new and followed to its end, and a call past it.
+/// Makes each cursor and moves it to its end, with a call past it.
 fn walks(f: &mut File) {
     f.lend('x', &pattern(4, 40));
     for start in STARTS {

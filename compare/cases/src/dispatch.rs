@@ -8,7 +8,7 @@ const LENGTHS: [u64; 8] = [0, 1, 8, 40, 63, 64, 65, 129];
 const NAMES: [&str; 2] = ["and_not_at", "may_reassign"];
 const ABSENT: &str = "0 0 0 ?";
 
-/// Masks that fail each check, over 32 and 20 bytes; the first is absent, the second fails none.
+/// Masks that fail each check, over 32 and 20 bytes; the first is absent, the second fails no check.
 const FAULTS: [&str; 10] = [
     ABSENT,
     "1 3 70 ?",
@@ -31,7 +31,7 @@ pub fn write(f: &mut File) {
     limits(f);
 }
 
-/// Both masks, the first alone, the second alone, none.
+/// Returns the arguments of two masks: both present for kind 0, only the first for 1, only the second for 2, none for 3.
 fn masks(kind: u64, first: &str, second: &str, n: u64) -> String {
     let one = |present: bool, start: &str, counts: &str| match present {
         true => format!("1 {start} {n} {counts}"),

@@ -1,4 +1,4 @@
-//! The case file: lent bytes, requests and the model's answers, line by line, and how many of each call there are.
+//! The case file: lent bytes, requests and the model's answers, line by line, and how many requests of each call there are.
 
 use crate::arguments::Args;
 use crate::calls::{Lents, Output, Reply, answer};
@@ -6,10 +6,10 @@ use crate::token::{Checksum, Token, values};
 use std::collections::BTreeMap;
 use std::fmt::Write;
 
-/// Outputs of more bytes are written as their checksum.
+/// The longest output that is written byte by byte; a longer one is written as its checksum.
 const SHOWN: usize = 56;
 
-/// How often a call was requested, how many single calls these were, and how many of them were refused.
+/// How many requests a call has, how many single calls these make, and how many of those are refused.
 #[derive(Clone, Copy, Default)]
 pub struct Tally {
     pub requests: usize,
@@ -17,23 +17,24 @@ pub struct Tally {
     pub refusals: usize,
 }
 
+/// The text of the file so far, and what its lines leave in force.
 #[derive(Default)]
 pub struct File {
     pub text: String,
-    /// x, y, z and o as they are lent, and the numbers i.
+    /// x, y, z and o as they are lent, and in `numbers` i.
     bytes: [Vec<u8>; 4],
     numbers: Vec<u32>,
-    /// What the last call answered and left in o.
+    /// The answer of the last call, and in `left` what it left in o.
     pub last: Vec<Token>,
     pub left: Vec<u8>,
     pub tallies: BTreeMap<String, Tally>,
 }
 
-/// One choice of the arguments of a line.
+/// One choice of the values of a line: a single call.
 struct Choice<'a> {
     name: &'a str,
     arguments: Vec<Token>,
-    /// How many are lent of x, y, z, o and i.
+    /// How many bytes of x, y, z and o and numbers of i are lent.
     sizes: [usize; 5],
     /// The serials s, t and u of the records, in their order.
     serials: [u32; 3],
@@ -47,6 +48,7 @@ enum Part {
 }
 
 impl File {
+    /// Writes a comment line.
     pub fn note(&mut self, text: &str) {
         writeln!(self.text, "# {text}").unwrap();
     }
@@ -56,7 +58,7 @@ impl File {
         self.lend_pieces(letter, bytes, &pieces(bytes));
     }
 
-    /// Lends a pattern again and again up to a size.
+    /// Lends a pattern repeated up to a size as x, y, z or o.
     pub fn lend_pattern(&mut self, letter: char, pattern: &[u8], size: usize) {
         let bytes: Vec<u8> = pattern.iter().copied().cycle().take(size).collect();
         let mut text = format!("{}*{}", hex(pattern), size / pattern.len());
@@ -74,13 +76,14 @@ impl File {
         }
     }
 
-    /// Lends what the last call left in o.
+    /// Lends the bytes that the last call left in o as x, y, z or o.
     pub fn lend_left(&mut self, letter: char) {
         let place = "xyzo".find(letter).expect("x, y, z or o");
         self.bytes[place] = self.left.clone();
         self.line(&format!("{letter} @"));
     }
 
+    /// Lends the numbers i.
     pub fn lend_numbers(&mut self, numbers: &[u32]) {
         if self.numbers != numbers {
             self.numbers = numbers.to_vec();
@@ -94,7 +97,7 @@ impl File {
         self.text.push('\n');
     }
 
-    /// Writes a request, or a range of them, with the model's answer.
+    /// Writes a request, or a range of them, with the model's answer. After `+` the output goes on as the last call left it.
     pub fn ask(&mut self, request: &str) {
         let go_on = request.starts_with("+ ");
         if go_on {
@@ -151,7 +154,7 @@ impl File {
         format!("#{calls} x{:x}", sum.0)
     }
 
-    /// Makes one call: its answer, and what o and i hold then.
+    /// Makes one call and returns its answer and what o and i hold after it.
     fn call(&mut self, choice: Choice) -> (Reply, Vec<u8>, Vec<u32>) {
         let (mut bytes, mut numbers) = (self.bytes[3].clone(), self.numbers.clone());
         let [x, y, z, o, i] = choice.sizes;
@@ -183,7 +186,7 @@ impl Part {
     }
 }
 
-/// Choice `number` of the values: the last part runs fastest.
+/// Returns choice `number` of the values: the last part changes fastest.
 fn choice<'a>(name: &'a str, parts: &[Part], number: usize) -> Choice<'a> {
     let mut rest = number;
     let mut picked = Vec::new();
@@ -208,7 +211,7 @@ fn hex(bytes: &[u8]) -> String {
     bytes.iter().map(|byte| format!("{byte:02x}")).collect()
 }
 
-/// What an output holds after a call.
+/// Returns the text of an output after a call: `same`, its pieces or its checksum.
 fn after(before: &[u8], bytes: &[u8]) -> String {
     if before == bytes {
         return "same".to_string();
@@ -221,7 +224,7 @@ fn after(before: &[u8], bytes: &[u8]) -> String {
     format!("#x{:x}", sum.0)
 }
 
-/// Bytes as pieces: those that stand at least four times in a row are counted.
+/// Returns bytes as pieces: a byte that comes at least four times in a row is written once, with their number.
 fn pieces(bytes: &[u8]) -> String {
     let mut texts: Vec<String> = Vec::new();
     let mut plain = String::new();
@@ -237,7 +240,7 @@ fn pieces(bytes: &[u8]) -> String {
     texts.join(" ")
 }
 
-/// Numbers as pieces.
+/// Returns numbers as pieces: one that comes several times in a row is written once, with their number.
 fn counted(numbers: &[u32]) -> String {
     let runs = numbers.chunk_by(|a, b| a == b);
     let texts: Vec<String> =

@@ -1,26 +1,27 @@
 //! Histories: forty that end in one list, as spans of bytes, as whole words and parts of them, by every append, slice and combination,
 //! from other lists too, with refused calls in between; five that begin with an imported mask and end in the same list; and ten whose
-//! lists freeze alike and differ in length.
+//! lists freeze to equal bytes and differ in length.
 //!
-//! A step is a letter and three numbers x, y and z of three digits; 999 stands for one past the flag limit. `LENT` bytes are lent to all.
+//! A step is a letter and three numbers x, y and z of three digits; 999 means one past the flag limit. The bytes of `lent` serve all.
 //!
-//!     t  try_new: y flags from x on of the history's own bytes, instead of the new builder that a history starts with
-//!     l  unset_bits of an imported mask: y flags from x on of the history's own bytes, whose count z says: 0 unknown, 1 exact, and
-//!        three stale ones, which are refused, so that the history has not begun: 2 one zero too many, 3 none, 4 all
-//!     p  push: flag x of the lent bytes; m the same by push_mut
+//!     t  try_new: y flags starting at x of the history's own bytes, instead of the new builder that a history starts with
+//!     l  unset_bits of an imported mask: y flags starting at x of the history's own bytes, with count z: 0 unknown, 1 exact, and three
+//!        stale ones, which are refused, so that the history has not begun: 2 one zero too many, 3 none, 4 all
+//!     p  push: flag x of the lent bytes; m push_mut: flag x too
 //!     c  extend_constant: x flags, all of them y
-//!     w  push_word_with_len_unchecked: y flags from x on; where z is not 0 the word has 64, also those past y
-//!     e  extend_from_slice: y flags from x on
-//!     r  extend_each_repeated_from_slice_unchecked: the same, each z times
-//!     b  subslice_extend_from_bitmap: y flags from x on of the mask of 200 flags from 32 on, counted where z is not 0
-//!     g  gather_extend_from_slice: of the 100 flags from z on those at the y indices x, x + 1, ..
-//!     h  opt_gather_extend_from_slice: the same
-//!     f  freeze     v  into_opt_validity     s  slice: y flags from x on     u  unset_bits
+//!     w  push_word_with_len_unchecked: y flags starting at x; if z is not 0, the word has 64 flags, also those past y
+//!     e  extend_from_slice: y flags starting at x
+//!     r  extend_each_repeated_from_slice_unchecked: y flags starting at x, each z times
+//!     b  subslice_extend_from_bitmap: y flags starting at x of the mask of 200 flags that starts at 32, counted if z is not 0
+//!     g  gather_extend_from_slice: of the 100 flags starting at z those at the y indices x, x + 1, ..
+//!     h  opt_gather_extend_from_slice: as g, with 0 for an index of 100 or more
+//!     f  freeze     v  into_opt_validity     s  slice: y flags starting at x     u  unset_bits
 //!     a and, d and_not, o or, q or_not, x xor, n not, i select, j and k select_constant with 0 and with 1
 //!
-//! The digits of z say which mask each argument of a combination is: 0 the history's own; then, over the lent bytes and as long as the
-//! own one, 1 from x on, 2 the same counted, 3 from y on, 4 the same counted; and two that are refused, 5 from x on with one flag more,
-//! 6 from x on with a stale count, one zero too many. A capital letter is the same call with only the first eight bytes of its output lent.
+//! Each digit of z is the mask of one argument of a combination: 0 the history's own; then, over the lent bytes and as long as the own
+//! one, 1 starting at x, 2 starting at x and counted, 3 starting at y, 4 starting at y and counted; and two that are refused, 5 starting
+//! at x with one more flag, 6 starting at x with a stale count, one zero too many. A capital letter is the call of the small letter with
+//! only the first eight bytes of its output lent.
 
 use crate::file::File;
 use crate::patterns::{MOST, low, paint, zeros};
@@ -89,7 +90,7 @@ const ZEROS: [&str; 6] = [
 const ZEROS_BEHIND: [&str; 4] =
     ["e037100000 f000000000", "e037100000 c001000000 f000000000", "e037100000 r256014002 v000000000", "e037101000 f000000000 s000100000"];
 
-/// 256 flags that look drawn, 256 zeros, 256 ones.
+/// Returns the lent bytes: 256 flags that look drawn, 256 zeros, 256 ones.
 fn lent() -> Vec<u8> {
     [paint(27, 32), paint(0, 32), paint(1, 32)].concat()
 }
@@ -109,17 +110,18 @@ pub fn write(f: &mut File) {
     }
 }
 
+/// A history that is being written.
 struct History<'a> {
     f: &'a mut File,
     lent: Vec<u8>,
-    /// The mask and its bytes, and the bytes that the next combination writes to.
+    /// The mask, its bytes in `own`, and in `other` the bytes that the next combination writes to.
     mask: [Token; 3],
     own: Vec<u8>,
     other: Vec<u8>,
     begun: bool,
 }
 
-/// Writes a history; its frozen bytes and length.
+/// Writes a history and returns the frozen bytes and the length that it ends in.
 fn told(f: &mut File, steps: &str) -> String {
     f.note(steps);
     f.lend('o', &paint(27, 32));
@@ -169,7 +171,7 @@ impl History<'_> {
         }
     }
 
-    /// The mask's three tokens, as the last answer's where they are.
+    /// Returns the mask's three tokens, as `@3` if the last answer ends in them.
     fn own_mask(&self) -> String {
         if self.f.last.len() > 3 && self.f.last[self.f.last.len() - 3..] == self.mask {
             return "@3".to_string();
@@ -177,7 +179,7 @@ impl History<'_> {
         self.mask.map(|token| token.to_string()).join(" ")
     }
 
-    /// Takes the mask that a call gave, and its bytes where they were written.
+    /// Takes the mask from the last answer, and its bytes if the call wrote them; nothing after a refusal.
     fn took(&mut self, written: bool) {
         if self.f.last[0] != Token::Number(0) {
             return;
@@ -215,7 +217,7 @@ impl History<'_> {
         self.begun = true;
     }
 
-    /// Argument number k of a combination, whose bytes are lent as letter k.
+    /// Lends the bytes of argument k of a combination as x, y or z, and returns its mask.
     fn argument(&mut self, k: usize, kind: u64, x: u64, y: u64) -> String {
         let letter = ['x', 'y', 'z'][k];
         let bytes = if kind == 0 { self.own.clone() } else { self.lent.clone() };
@@ -256,7 +258,7 @@ impl History<'_> {
         }
     }
 
-    /// What is compared: the frozen bytes, the zeros, the runs, and flags and positions by their numbers.
+    /// Asks for the frozen bytes, the zeros, the runs, and flags and positions by their numbers; returns the frozen bytes and the length.
     fn end(&mut self) -> String {
         let own = self.own.clone();
         self.f.lend('x', &own);

@@ -1,11 +1,11 @@
-//! Writes requests of every call, with the answers of the model, for crates/cases to make again and compare.
+//! Writes requests of every call, with the answers of the model, for crates/cases to repeat and compare.
 //!
 //!     cargo run --release -p cases -- ../crates/cases
 //!
-//! writes two files into that folder: `stdin`, the requests, and `stdout`, what the program must print of them: how many requests and
-//! single calls of each call there are, and that none differs. With `--check` behind the folder nothing is written; the files are
-//! compared with what would be. Nothing is drawn by chance: each run gives the same bytes. With `--refusals` how many calls were refused
-//! is printed too.
+//! writes two files into that folder: `stdin`, the requests, and `stdout`, what the program must print: how many requests and single
+//! calls of each call there are, and that none differs. With `--check` after the folder it writes nothing and compares the files with
+//! what it would write. Nothing is drawn by chance: each run writes the same bytes. With `--refusals` it also prints how many calls were
+//! refused. Function `write` of a module below writes the requests that the module's first comment names.
 
 mod arguments;
 mod builders;
@@ -32,7 +32,7 @@ use std::fmt::Write;
 use std::path::PathBuf;
 use std::process::ExitCode;
 
-/// The calls in the order in which the program has them.
+/// The calls in the order in which the program prints them.
 const ORDER: &str = "merge_reversed nth_set_bit_u32 nth_set_bit_u64 low_flags down up behind constant_word constant_flags ones_in_word \
     ones_below none_from leading_in_word trailing_in_word combine_word and_word and_not_word or_word or_not_word xor_word not_word \
     select_word load_padded_le_u64 byte_word word_from flag_at count_ones equal count_ones_of any_set \
@@ -92,7 +92,7 @@ fn requests() -> File {
     file
 }
 
-/// What the program prints of the requests.
+/// Returns what the program prints for the requests.
 fn told(file: &File) -> String {
     let mut text = String::new();
     let (mut requests, mut calls) = (0, 0);

@@ -21,7 +21,7 @@ pub fn write(f: &mut File) {
     limits(f);
 }
 
-/// The counts that a mask may bring: unknown, true, 0, its length, others, and three that are false for sure.
+/// Returns the zero counts to give a mask of n flags: unknown, true, 0, n, others, and two that are never true.
 pub fn brought(bytes: &[u8], start: u64, n: u64) -> Vec<String> {
     let mut counts = vec!["?".to_string()];
     let known = if (start + n) <= 8 * bytes.len() as u64 { zeros(bytes, start, n) } else { 0 };
@@ -32,7 +32,7 @@ pub fn brought(bytes: &[u8], start: u64, n: u64) -> Vec<String> {
     counts
 }
 
-/// Lengths of a slice around the border between recounted and unknown.
+/// Returns lengths of a slice around the border between recounted and unknown.
 fn cuts(old: u64) -> Vec<u64> {
     let mut cuts = vec![0, 1, old.saturating_sub(33), old.saturating_sub(32), old.saturating_sub(31)];
     cuts.extend([old - old / 5, (old - old / 5).saturating_sub(1), old.saturating_sub(1), old, old + 1]);

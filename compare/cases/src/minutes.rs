@@ -1,6 +1,6 @@
-//! The window of minutes: runs of minutes at widths around a word and around the most, its counts, and records that no run leaves.
+//! The window of minutes: runs of minutes at widths around a word and around the largest, its counts, and records that no run leaves.
 //!
-//! The arrays of a window lie in bytes, little-endian: its 256 words, then its 64 counts.
+//! The arrays of a window are lent as bytes, little-endian: its 256 words, then its 64 counts.
 
 use crate::arguments::Args;
 use crate::calls::{Lents, Output, Reply};
@@ -14,7 +14,7 @@ const WIDTHS: [u64; 6] = [1, 2, 63, 64, 255, 256];
 /// The first word of a run and the step from each to the next: words that look drawn, no flag, all flags, and few.
 const RUNS: [(u64, u64); 4] = [(0x0123_4567_89AB_CDEF, 0x9E37_79B9_7F4A_7C15), (0, 0), (MAX, 0), (1, 1)];
 
-/// The answer of a call of the window, if the name is one's.
+/// Returns the answer of the call if its name is that of a call of the window.
 pub fn answer(name: &str, a: &mut Args, l: &mut Lents) -> Option<Reply> {
     let (window, refusal) = match name {
         "ActivityWindow::new" => activity::new(a.number()),
@@ -38,7 +38,7 @@ pub fn answer(name: &str, a: &mut Args, l: &mut Lents) -> Option<Reply> {
     Some(Reply { tokens: numbers.map(Token::Number).to_vec(), output: Output::Bytes })
 }
 
-/// Pushes minutes up to the first that is refused.
+/// Pushes minutes up to the first that is refused, and returns the window and the number.
 fn pushed(mut window: Window, words: impl Iterator<Item = u64>) -> (Window, u8) {
     for word in words {
         let (next, refusal) = activity::push_minute(&window, word);
@@ -50,7 +50,7 @@ fn pushed(mut window: Window, words: impl Iterator<Item = u64>) -> (Window, u8) 
     (window, 0)
 }
 
-/// The window of three arguments and its arrays.
+/// Reads a window from its arrays and from three arguments.
 fn window(a: &mut Args, bytes: &[u8]) -> Window {
     let (words, counts) = bytes.split_at(2048);
     Window {
@@ -62,6 +62,7 @@ fn window(a: &mut Args, bytes: &[u8]) -> Window {
     }
 }
 
+/// Returns the arrays of a window as bytes.
 fn arrays(window: &Window) -> Vec<u8> {
     let words = window.words.iter().flat_map(|word| word.to_le_bytes());
     words.chain(window.counts.iter().flat_map(|count| count.to_le_bytes())).collect()
@@ -92,7 +93,7 @@ pub fn write(f: &mut File) {
     damaged(f, &activity::left_by(256, &[MAX; 255]));
 }
 
-/// Minutes one short of the width, one by one over it, and more; the counts after each.
+/// Pushes one minute fewer than the width, then two more one by one, then many; asks for the counts after each.
 fn run(f: &mut File, width: u64, first: u64, step: u64) {
     f.lend('o', &[0xAA; 2304]);
     f.ask(&format!("ActivityWindow::new {width}"));
@@ -111,12 +112,12 @@ fn run(f: &mut File, width: u64, first: u64, step: u64) {
     }
 }
 
-/// The place, the fill and the width that the last call gave.
+/// Returns the place, the fill and the width in the last call's answer.
 fn numbers(f: &File) -> String {
     f.last[1..].iter().map(Token::to_string).collect::<Vec<String>>().join(" ")
 }
 
-/// Asks for the counts of the window that the last call gave, and leaves its numbers the last answer.
+/// Asks for the counts of the window that the last call left, and keeps that call's answer as the last one.
 fn counted(f: &mut File) {
     let (last, record) = (f.last.clone(), numbers(f));
     f.lend_left('x');
@@ -124,7 +125,7 @@ fn counted(f: &mut File) {
     f.last = last;
 }
 
-/// The window with each of its numbers wrong, a stray word or a false count; each comes back as it was.
+/// Asks for the window, then for it with each of its numbers wrong, a stray word or a false count, which come back unchanged.
 fn damaged(f: &mut File, good: &Window) {
     let mut records = vec![good.clone()];
     for width in [0, 257, usize::MAX] {

@@ -1,4 +1,4 @@
-//! The search by windows, `next_and_not`, and dispatch's `offer`: windows that cursors cut, trucks before and after the cursor, none.
+//! The search by windows, `next_and_not`, and dispatch's `offer`: windows that cursors cut, trucks before and after the cursor, no truck.
 
 use crate::file::File;
 use crate::patterns::{MAX, MOST, paint};
@@ -7,7 +7,7 @@ use crate::token::show;
 const LENGTHS: [u64; 14] = [0, 1, 8, 31, 32, 33, 40, 63, 64, 65, 95, 96, 97, 129];
 const ABSENT: &str = "0 0 0 ?";
 
-/// Masks of `dispatch.rs` that fail each check; the first is absent, the second fails none.
+/// Masks of `dispatch.rs` that fail each check; the first is absent, the second fails no check.
 const FAULTS: [&str; 9] = [
     ABSENT,
     "1 3 70 ?",
@@ -43,22 +43,22 @@ pub fn write(f: &mut File) {
     limits(f);
 }
 
-/// One truck permitted, none revoked, at each place against each cursor: before it, in the window that it cuts, after it.
+/// Asks for one permitted truck, none revoked, at each place with each cursor: before it, in the window that it cuts, after it.
 fn single(f: &mut File) {
     f.note("offers: one truck");
     f.lend('y', &[0; 16]);
     for truck in [0, 1, 30, 31, 32, 33, 63, 64, 69] {
         let mut bytes = vec![0; 10];
         bytes[(truck + 3) / 8] |= 1 << ((truck + 3) % 8);
-        bytes[9] |= 0xFC; // behind the 70 flags
-        bytes[0] |= 0x07; // and before them
+        bytes[9] |= 0xFC; // after the 70 flags
+        bytes[0] |= 0x07; // before them
         f.lend('x', &bytes);
         f.ask("next_and_not 3 70 ? 0 0 0 ? 0..72");
         f.ask("offer 1 3 70 ? 1 2 70 ? 0..72");
     }
 }
 
-/// Every permitted truck revoked, and no truck permitted.
+/// Asks with every permitted truck revoked, and with no truck permitted.
 fn none(f: &mut File) {
     f.note("offers: none");
     f.lend('x', &paint(9, 18));
@@ -87,7 +87,7 @@ fn refusals(f: &mut File) {
     }
 }
 
-/// Blocks passed over, and the flag limit.
+/// Asks for trucks far past the cursor, over long masks, and at the flag limit.
 fn limits(f: &mut File) {
     f.note("offers: long masks and the flag limit");
     f.lend_pattern('x', &[0, 0, 0, 0, 0, 0, 0, 0, 0, 0x10], 524_352);

@@ -1,4 +1,4 @@
-//! Run lists: masks taken apart into their runs and rebuilt by `extend_constant` alone, as they were and with a run's start moved.
+//! Run lists: masks taken apart into their runs and rebuilt by `extend_constant` only, unchanged and with a run's start moved.
 
 use crate::file::File;
 use crate::patterns::whole;
@@ -18,7 +18,7 @@ pub fn write(f: &mut File) {
     }
 }
 
-/// Run lists inside n flags: none, one over all, at the front, at the end, at both, two inside, and one in every third flag.
+/// Returns run lists inside n flags: no run, one over all, at the front, at the end, at both, two inside, and single flags three apart.
 fn lists(n: u64) -> Vec<Vec<Run>> {
     let part = n.div_ceil(3);
     let mut lists = vec![
@@ -35,12 +35,13 @@ fn lists(n: u64) -> Vec<Vec<Run>> {
     lists
 }
 
-/// At least one flag long, rising, with at least one flag between neighbours, inside n flags.
+/// Returns whether the runs are at least one flag long, rising, at least one flag apart, and inside n flags.
 fn is_run_list(n: u64, runs: &[Run]) -> bool {
     runs.iter().all(|&(start, length)| length > 0 && start + length <= n) && runs.windows(2).all(|two| two[0].0 + two[0].1 < two[1].0)
 }
 
-/// A mask with these runs taken apart and rebuilt; then each run's start moved by one flag to either side, where that is a run list.
+/// Takes a mask with these runs apart and rebuilds it; then moves the start of its first and its last run by one flag to either side, if
+/// that is a run list.
 fn rebuild(f: &mut File, n: u64, runs: &[Run], odd: bool) {
     let mask = lend(f, n, runs, odd);
     assert_eq!(listed(f, &mask), runs);
@@ -59,7 +60,7 @@ fn rebuild(f: &mut File, n: u64, runs: &[Run], odd: bool) {
     }
 }
 
-/// Edited runs saved, compared with the mask that they came from, and taken apart again.
+/// Saves edited runs, compares them with the mask that they came from, and takes them apart again.
 fn edit(f: &mut File, n: u64, mask: &str, runs: &[Run], moved: &[Run], odd: bool) {
     save(f, n, moved, !odd);
     let saved = tokens(&f.last[f.last.len() - 3..]);
@@ -71,7 +72,7 @@ fn edit(f: &mut File, n: u64, mask: &str, runs: &[Run], moved: &[Run], odd: bool
     lend(f, n, runs, odd);
 }
 
-/// Lends a mask with these runs, with ones before and after it: from bit 3 on and counted, or from bit 0 on and not counted.
+/// Lends a mask with these runs, with ones before and after it: counted and starting at bit 3, or neither. Returns it.
 fn lend(f: &mut File, n: u64, runs: &[Run], counted: bool) -> String {
     let first = if counted { 3 } else { 0 };
     let mut bytes = vec![0xFF; (first + n).div_ceil(8) as usize];
@@ -87,7 +88,7 @@ fn lend(f: &mut File, n: u64, runs: &[Run], counted: bool) -> String {
     tokens(&f.last[f.last.len() - 3..])
 }
 
-/// The runs that a new cursor gives until none.
+/// Returns the runs that a new cursor returns until there is none.
 fn listed(f: &mut File, mask: &str) -> Vec<Run> {
     let mut runs = Vec::new();
     f.ask(&format!("SlicesIterator::new {mask}"));
@@ -100,8 +101,8 @@ fn listed(f: &mut File, mask: &str) -> Vec<Run> {
     }
 }
 
-/// Zeros for each gap, ones for each run and zeros for the rest, in an output that is just large enough. The call of an empty gap is made
-/// or left out.
+/// Appends zeros for each gap, ones for each run and zeros for the rest, in an output of exactly the size needed, and freezes them. With
+/// `leave_out` an empty gap has no call.
 fn save(f: &mut File, n: u64, runs: &[Run], leave_out: bool) {
     f.lend('o', &vec![0xAA; whole(n) as usize]);
     f.ask("BitmapBuilder::new");
@@ -120,7 +121,7 @@ fn save(f: &mut File, n: u64, runs: &[Run], leave_out: bool) {
     f.ask(&format!("{go_on}freeze @3"));
 }
 
-/// The last three numbers of an answer, which are its record.
+/// Returns the last three numbers of an answer, its record, as text.
 fn tokens(record: &[Token]) -> String {
     record.iter().map(Token::to_string).collect::<Vec<String>>().join(" ")
 }

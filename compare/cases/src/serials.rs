@@ -1,4 +1,4 @@
-//! Serials: which of two masks wins, its part and its record; and the serial of every record that a call gives.
+//! Serials: which of two masks wins, its part and its record; and the serial of every record that a call returns.
 
 use crate::combinations::{combinations, masks};
 use crate::file::File;
@@ -10,7 +10,7 @@ const CALLS: [&str; 3] = ["superseding_part", "superseding", "superseding_bytes"
 /// Serials around the ends of their range.
 const SERIALS: &str = "0,1,2147483648,4294967294,4294967295";
 
-/// Appends of a few flags to a builder under a serial; the mask of one of them is under another.
+/// Appends of a few flags to a builder with a serial; the mask of one of them has another serial.
 const APPENDS: [&str; 9] = [
     "push 63 5 0 1",
     "push_mut 63 5 0 1",
@@ -35,7 +35,7 @@ pub fn write(f: &mut File) {
     edit(f);
 }
 
-/// Every start bit, lengths around a byte and a word, serials below, equal and above.
+/// Asks at every start bit, for lengths around a byte and a word, with serials below, equal and above.
 fn wins(f: &mut File) {
     f.lend('x', &paint(7, 24));
     f.lend('y', &paint(8, 24));
@@ -47,7 +47,7 @@ fn wins(f: &mut File) {
     }
 }
 
-/// Equal serials: equal lists at other starts, and lists that differ in length or in one flag.
+/// Asks with equal serials: equal lists at other starts, and lists that differ in length or in one flag.
 fn equal(f: &mut File) {
     f.lend('x', &[0xFF; 16]);
     f.lend('y', &[0xFF; 16]);
@@ -64,7 +64,7 @@ fn equal(f: &mut File) {
     }
 }
 
-/// The limit, exactly full bytes and one short, lengths of 0 at every start bit.
+/// Asks at the limit, with exactly full bytes and one fewer, and for lengths of 0 at every start bit.
 fn edges(f: &mut File) {
     f.lend('x', &paint(9, 16));
     f.lend('y', &paint(10, 16));
@@ -82,7 +82,7 @@ fn edges(f: &mut File) {
     }
 }
 
-/// Each check by itself, 1, 2 and 3 of either mask before 14, and the largest numbers.
+/// Asks with each check failing by itself, 1, 2 and 3 of either mask together with 14, and with the largest numbers.
 fn refusals(f: &mut File) {
     let bytes = paint(7, 24);
     let known = zeros(&bytes, 3, 70);
@@ -133,8 +133,8 @@ fn masks_of(name: &str) -> usize {
     }
 }
 
-/// A mask of runs is rebuilt with one flag moved: under the old serial it meets the mask before the edit as 14, under a larger one it
-/// wins, also in the first place.
+/// Rebuilds a mask of runs with one flag moved: with the old serial it and the mask before the edit are refused by 14, with a larger one
+/// it wins.
 fn edit(f: &mut File) {
     f.lend('x', &[0xF0, 0x0F, 0, 0, 0, 0, 0, 0]);
     f.lend('o', &[0; 8]);

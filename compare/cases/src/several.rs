@@ -1,10 +1,10 @@
-//! Several checks that fail in one call: each check by itself, each two of them, all of them, and every choice of them as a range.
+//! Several checks that fail in one call: each check by itself, each pair of them, all of them, and every choice of them as a range.
 
 use crate::file::File;
 use crate::patterns::paint;
 use crate::token::Token;
 
-/// A request with places that fail a check: `{good|bad|number}`. Long bytes are lent, so that a start past the limit lies in them.
+/// Requests with places that can fail a check: `{good|bad|number}`. Long bytes are lent, so that a start past the limit lies in them.
 const SPANS: [&str; 12] = [
     "AlignedBitmapSlice::new {3|4194305|1} 70 {7|8|8} x:{524352|9|2}",
     "count_zeros {3|4194305|1} 70 {7|8|8} x:{524352|9|2}",
@@ -46,12 +46,12 @@ const MASKS: [&str; 6] = [
     "not {3|4194305|1} 70 {?|1|3} x:{524352|9|2} o:{16|15|9}",
 ];
 
-/// Two masks of 70 flags, and what stands behind them in a call.
+/// Two masks of 70 flags, the sizes that follow them, and two masks that may be absent with an index.
 const TWO: &str = "{3|4194305|1} 70 {?|1|3} {5|4194305|1} {70|69|5} {?|1|3}";
 const TWO_SIZES: &str = "x:{524352|9|2} y:{524352|9|2}";
 const OPTIONAL: &str = "1 {3|4194305|1} 70 {?|1|3} 1 {5|4194305|1} {70|69|5} {?|1|3} {64|70|6}";
 
-/// Requests with a stale count and other checks that fail, and the number that decides.
+/// Requests with a stale count and other checks that fail, and the number that refuses them.
 const STALE: [(&str, u64); 8] = [
     ("slice 3 70 1 66 5 x:524352", 3),
     ("slice 3 70 1 66 4194305 x:524352", 1),
@@ -123,7 +123,7 @@ pub fn write(f: &mut File) {
     f.lend('o', &[]);
 }
 
-/// The places of a template: its text between them, and each good and bad value with the number that the bad one fails.
+/// Returns the texts between the places of a template, and each good and bad value with the number of the check that the bad one fails.
 fn places(template: &str) -> (Vec<&str>, Vec<[&str; 3]>) {
     let mut texts = Vec::new();
     let mut all = Vec::new();
@@ -139,6 +139,7 @@ fn places(template: &str) -> (Vec<&str>, Vec<[&str; 3]>) {
     (texts, all)
 }
 
+/// Asks with no bad value, all of them, each one and each pair, and with every choice as a range.
 fn choices(f: &mut File, template: &str) {
     let (texts, places) = places(template);
     let request = |value: &dyn Fn(usize) -> String| {

@@ -120,7 +120,7 @@ fn windows(f: &mut File) {
     f.ask("get_u32 3 200 0..240,xffffffffffffffe0,xffffffffffffffdf,xffffffffffffffff");
 }
 
-/// Every call over a span.
+/// Asks every call over a span.
 fn every(f: &mut File, start: u64, length: u64, address: u64) {
     let span = format!("{} {}", show(start), show(length));
     f.ask(&format!("AlignedBitmapSlice::new {span} {address}"));

@@ -1,5 +1,6 @@
-//! The numbers of a line: how they are written, and the lists of them in a range.
+//! The tokens of a line: how they are written, and the lists of them in a range.
 
+/// A number of a line, or what is written in its place.
 #[derive(Clone, Copy, Debug, PartialEq, Eq)]
 pub enum Token {
     Number(u64),
@@ -30,7 +31,7 @@ impl std::fmt::Display for Token {
     }
 }
 
-/// The values of an argument: `7`, `?`, `0..8`, or several of these with commas.
+/// Returns the values of an argument: `7`, `?`, `0..8`, or several of these with commas.
 pub fn values(text: &str) -> Vec<Token> {
     text.split(',').flat_map(item).collect()
 }
@@ -43,26 +44,29 @@ fn item(text: &str) -> Vec<Token> {
     }
 }
 
-/// Numbers as the values of one argument.
+/// Returns numbers as the text of one argument with these values.
 pub fn list(numbers: &[u64]) -> String {
     let texts: Vec<String> = numbers.iter().map(|&number| Token::Number(number).to_string()).collect();
     texts.join(",")
 }
 
+/// Returns a number as it is written in a line.
 pub fn show(number: u64) -> String {
     Token::Number(number).to_string()
 }
 
-/// The checksum of a range and of an output: each step is a bijection of the sum and of the symbol taken in, so that a change of one
+/// The checksum of a range and of an output. Each step is a bijection of the sum and of the symbol taken in, so that a change of one
 /// symbol changes the sum.
 #[derive(Clone, Copy)]
 pub struct Checksum(pub u64);
 
 impl Checksum {
+    /// Returns the checksum of no symbol.
     pub fn new() -> Self {
         Self(0xcbf2_9ce4_8422_2325)
     }
 
+    /// Takes in one symbol.
     pub fn take(&mut self, symbol: u64) {
         let mut h = self.0.wrapping_add(symbol);
         h ^= h << 13;
@@ -71,6 +75,7 @@ impl Checksum {
         self.0 = h;
     }
 
+    /// Takes in how many tokens there are, then the kind and the value of each.
     pub fn take_tokens(&mut self, tokens: &[Token]) {
         self.take(tokens.len() as u64);
         for token in tokens {
@@ -84,7 +89,7 @@ impl Checksum {
         }
     }
 
-    /// Bytes as words, the last one padded with zeros.
+    /// Takes in bytes as words, the last one padded with zeros.
     pub fn take_bytes(&mut self, bytes: &[u8]) {
         for part in bytes.chunks(8) {
             let mut word = [0; 8];

@@ -33,7 +33,7 @@ fn lengths() -> String {
     format!("{},{}", list(&NEAR_LENGTHS), list(&FAR_LENGTHS))
 }
 
-/// The last set bit of a word, the one past it, and one past the largest word's.
+/// Asks for the last set bit of a word, for the one past it, and for one past any word's.
 fn last_set_bit(f: &mut File, name: &str, word: u64) {
     let ones = word.count_ones();
     for n in [ones.saturating_sub(1), ones, 65] {
@@ -122,17 +122,17 @@ fn stores(f: &mut File) {
     }
 }
 
-/// Three starts that differ.
+/// Returns three starts that differ.
 fn near(i: usize) -> String {
     format!("{} {} {}", STARTS[i], STARTS[(i + 1) % 6], STARTS[(i + 2) % 6])
 }
 
-/// Three sizes that differ.
+/// Returns three sizes that differ.
 fn sizes(j: usize) -> String {
     format!("x:{} y:{} z:{}", SIZES[j], SIZES[(j + 1) % 8], SIZES[(j + 2) % 8])
 }
 
-/// Outputs of no byte, exactly the flags' bytes or words, one byte less, and more.
+/// Returns output sizes: no byte, exactly the flags' bytes or words, one byte fewer, and more.
 fn rooms(length: u64) -> String {
     let (flags, words) = (length.div_ceil(8), whole(length));
     let mut rooms = vec![0, flags, flags.saturating_sub(1), words, words.saturating_sub(1), words + 5];
@@ -166,7 +166,7 @@ fn combining(f: &mut File) {
     }
 }
 
-/// Starts and lengths near the largest number.
+/// Returns three starts: all of them far, only the second, or none.
 fn far(i: usize, which: usize) -> String {
     let later = |k: usize| show(FAR_STARTS[(i + k).min(6)]);
     match which {

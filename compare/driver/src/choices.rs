@@ -1,7 +1,8 @@
-//! Where the numbers of a request come from: every combination in turn, or chance by a seed.
+//! The choices that make the numbers of a request: every combination one after another, or chance by a seed.
 
+/// A source of choices.
 pub trait Choices {
-    /// A number below `n`, which is at least 1.
+    /// Returns a number below `n`, which is at least 1.
     fn below(&mut self, n: usize) -> usize;
 
     fn flip(&mut self) -> bool {
@@ -13,8 +14,8 @@ pub trait Choices {
     }
 }
 
-/// Every combination of choices, one after another. Who makes the choices begins anew for each combination; how many choices there are
-/// to a number may depend on the earlier ones.
+/// Every combination of choices, one after another. The caller makes its choices again for each combination; how many there are for a
+/// number may depend on the earlier ones.
 #[derive(Default)]
 pub struct Every {
     path: Vec<(usize, usize)>,
@@ -22,7 +23,7 @@ pub struct Every {
 }
 
 impl Every {
-    /// Moves on to the next combination; false after the last.
+    /// Moves to the next combination; returns false after the last.
     pub fn advance(&mut self) -> bool {
         self.at = 0;
         while let Some((chosen, n)) = self.path.pop() {
@@ -45,15 +46,17 @@ impl Choices for Every {
     }
 }
 
-/// Numbers by chance (splitmix64), the same for the same seed.
+/// Numbers by chance (splitmix64); equal seeds and indices make equal numbers.
 pub struct Random(u64);
 
 impl Random {
+    /// Returns the numbers of request `index` of a seed.
     pub fn new(seed: u64, index: u64) -> Self {
         let mut first = Self(seed.wrapping_mul(0xD134_2543_DE82_EF95) ^ index);
         Self(first.word())
     }
 
+    /// Returns the next word.
     pub fn word(&mut self) -> u64 {
         self.0 = self.0.wrapping_add(0x9E37_79B9_7F4A_7C15);
         let mixed = (self.0 ^ (self.0 >> 30)).wrapping_mul(0xBF58_476D_1CE4_E5B9);
@@ -61,7 +64,7 @@ impl Random {
         mixed ^ (mixed >> 31)
     }
 
-    /// Once in `n`.
+    /// Returns true once in `n` times.
     pub fn once_in(&mut self, n: usize) -> bool {
         self.below(n) == 0
     }

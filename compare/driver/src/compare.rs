@@ -1,4 +1,4 @@
-//! One request put to the library, the model and the original, and their answers compared.
+//! One request made of the library, the model and the original, and their answers compared.
 
 use crate::listed::{Listed, Met};
 use crate::request::{Bytes, Request};
@@ -7,21 +7,21 @@ use crate::theirs::{self, Outcome, Theirs};
 use model::{Answer, Cursor, State};
 use std::panic::{AssertUnwindSafe, catch_unwind};
 
-/// What was compared of one call.
+/// The counts of one call: how many requests were compared.
 #[derive(Clone, Copy, Debug, Default)]
 pub struct Counts {
     pub requests: u64,
-    /// How many were refused, by number.
+    /// The number of refused requests, by check.
     pub refused: [u64; 10],
-    /// How many the original answered too.
+    /// The number of requests that the original answered too.
     pub theirs: u64,
 }
 
-/// A difference that is on no list: who differs from the library, and how.
+/// A difference that is on no list: which side differs from the library, and how.
 #[derive(Debug)]
 pub struct Difference(pub String);
 
-/// Reports a panic of any side as a difference.
+/// Runs the work and returns a panic of any side as a difference.
 pub fn guarded<T>(work: impl FnOnce() -> Result<T, Difference>) -> Result<T, Difference> {
     catch_unwind(AssertUnwindSafe(work)).unwrap_or_else(|panic| {
         let text = panic.downcast_ref::<String>().cloned();
@@ -30,7 +30,7 @@ pub fn guarded<T>(work: impl FnOnce() -> Result<T, Difference>) -> Result<T, Dif
     })
 }
 
-/// The bytes as hexadecimal digits, the middle of many left out.
+/// Returns the bytes as hexadecimal digits; of more than 160, only the first and the last 64.
 pub fn hex(bytes: &[u8]) -> String {
     let digits = |bytes: &[u8]| bytes.iter().map(|byte| format!("{byte:02x}")).collect::<String>();
     match bytes.len() {
@@ -43,7 +43,7 @@ fn unequal(side: &str, ours: impl std::fmt::Debug, other: impl std::fmt::Debug) 
     Difference(format!("ours  {ours:?}\n{side} {other:?}"))
 }
 
-/// The library's answer and output, where all sides agree.
+/// Returns the library's answer and output if all sides agree, else the difference.
 pub fn compare(call: &Call, request: &Request, counts: &mut Counts, met: &mut Met) -> Result<(Answer, Bytes), Difference> {
     let lent = request.clone();
     let mut out = request.out.clone();
@@ -79,7 +79,7 @@ pub fn compare(call: &Call, request: &Request, counts: &mut Counts, met: &mut Me
     Ok((ours, out))
 }
 
-/// The original's answer, where it is asked and defines one.
+/// Returns the original's answer, if it is asked and defines one.
 fn ask_original(call: &Call, request: &Request, refusal: u8, met: &mut Met) -> Option<Outcome> {
     if let Theirs::Refusing(answer) = call.theirs {
         return answer(request, refusal, met);
@@ -110,7 +110,7 @@ fn ask_original(call: &Call, request: &Request, refusal: u8, met: &mut Met) -> O
     }
 }
 
-/// The library's answer against the original's, and the output: what the original writes, and behind it what was there.
+/// Compares the library's answer with the original's, and the output: what the original writes, and after it the bytes of before.
 fn agree(ours: &Answer, before: &[u8], after: &[u8], theirs: &Outcome) -> Result<(), Difference> {
     let same_record = theirs.record.is_none_or(|record| record == ours.state);
     if ours.refusal != theirs.refusal || ours.values != theirs.values || !same_record {
@@ -125,9 +125,9 @@ fn agree(ours: &Answer, before: &[u8], after: &[u8], theirs: &Outcome) -> Result
     Ok(())
 }
 
-/// Our cursor, held against the original's answers one by one.
+/// Our cursor, whose answers are compared with the original's one by one.
 struct Stepped<'a> {
-    /// The last answer, with the cursor behind it.
+    /// The last answer, with the cursor after it.
     answer: Answer,
     bytes: &'a [u8],
     step: fn(Cursor, &[u8]) -> Answer,
@@ -135,7 +135,7 @@ struct Stepped<'a> {
 }
 
 impl Stepped<'_> {
-    /// Our next answer must be this one; no number stands for the end.
+    /// Checks that our next answer is this one; no numbers mean the end.
     fn gives(&mut self, theirs: &[u64]) {
         let (Ok(listed), State::Cursor(cursor)) = (&mut self.listed, self.answer.state) else {
             return;

@@ -4,7 +4,7 @@ use crate::choices::{Choices, Random};
 use crate::request::{Bytes, Request};
 use crate::wide::extreme;
 
-/// A number near the old one, or at a limit.
+/// Returns a number near the old one, or at a limit.
 fn changed(old: usize, random: &mut Random) -> usize {
     match random.below(6) {
         0 => old.wrapping_add(1),
@@ -15,7 +15,7 @@ fn changed(old: usize, random: &mut Random) -> usize {
     }
 }
 
-/// Changes one to three things of the request, whether its call reads them or not.
+/// Changes one to three parts of the request, whether its call reads them or not.
 pub fn damage(r: &mut Request, random: &mut Random) {
     for _ in 0..=random.below(3) {
         let i = random.below(r.pieces.len());

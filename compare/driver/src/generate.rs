@@ -4,9 +4,10 @@ use crate::request::{Args, Bytes, Kind, Piece, Request, Shape, Target};
 use crate::style::Style;
 use model::{Builder, LIMIT, Mask, frozen_size, zeros};
 
-/// The most bytes that an output is given, however much is asked for.
+/// The most bytes of an output, however many are needed.
 const MOST: u128 = LIMIT as u128 / 8 + 64;
 
+/// Returns a request of a shape, drawn in a style.
 pub fn generate(shape: Shape, style: &mut impl Style) -> Request {
     let mut r = Request { masked: true, ..Request::default() };
     let length = if shape.pieces > 0 { style.length() } else { 0 };
@@ -38,7 +39,7 @@ pub fn generate(shape: Shape, style: &mut impl Style) -> Request {
     r
 }
 
-/// How many positions a cursor gives, or about so many where it is refused.
+/// Returns how many positions a cursor has left, or about as many if it is refused.
 fn ones_left(r: &Request) -> usize {
     if r.masked && r.pieces[0].inside() {
         return r.lent(0).flags().into_iter().skip(r.place).filter(|&flag| flag).count();
@@ -46,18 +47,18 @@ fn ones_left(r: &Request) -> usize {
     r.cursor().length.saturating_sub(r.place)
 }
 
-/// The frozen bytes of so many flags, no more than a limit's.
+/// Returns how many bytes the frozen bytes of `length` flags take, at most `MOST`.
 fn bytes_for(length: u128) -> usize {
     frozen_size(length).min(MOST) as usize
 }
 
-/// An output for so many bytes, or near it, of any content.
+/// Returns an output of about `needed` bytes of any content.
 pub fn output(needed: usize, style: &mut impl Style) -> Bytes {
     let many = style.room(needed);
     Bytes::new(&style.fill(many), style.address())
 }
 
-/// A span or a mask of so many flags.
+/// Returns a piece whose span or mask has `length` flags.
 pub fn piece(kind: Kind, length: usize, style: &mut impl Style) -> Piece {
     let start = style.start();
     let bytes = Bytes::new(&style.bytes(start, length), style.address());
@@ -69,7 +70,7 @@ pub fn piece(kind: Kind, length: usize, style: &mut impl Style) -> Piece {
     piece
 }
 
-/// Draws the call's numbers; gives how many flags it appends.
+/// Draws the call's numbers and returns how many flags it appends if it is an append.
 pub fn arguments(shape: Shape, length: usize, r: &mut Request, style: &mut impl Style) -> u128 {
     match shape.args {
         Args::None => return if shape.pieces > 0 { length as u128 } else { u128::from(shape.flag) },
@@ -113,7 +114,7 @@ pub fn arguments(shape: Shape, length: usize, r: &mut Request, style: &mut impl 
     0
 }
 
-/// Offset and length of a piece of a mask, mostly inside.
+/// Returns the offset and length of a piece of a mask, mostly inside.
 fn inner(length: usize, style: &mut impl Style) -> (usize, usize) {
     if let Some(kept) = style.kept(length) {
         return (style.below(length - kept + 1), kept);
@@ -122,7 +123,7 @@ fn inner(length: usize, style: &mut impl Style) -> (usize, usize) {
     (offset, style.inside(length.saturating_sub(offset)))
 }
 
-/// A builder with true ones, in a buffer for the flags to be appended, or near it.
+/// Draws a builder with true ones, and a buffer of about the size for the flags to be appended.
 fn builder(r: &mut Request, appended: u128, style: &mut impl Style) {
     let length = style.builder_length();
     let word = style.word() & ((1 << (length % 64)) - 1);

@@ -1,5 +1,5 @@
-//! Histories: a builder, then a mask, through many calls, refused ones included. Each call is compared by itself; and after each the
-//! library's state is held against document 01's reference list and against a builder or bitmap of the original that has gone the same way.
+//! Histories: a builder, then a mask, through many calls, refused ones included. Each call is compared by itself. After each call the
+//! library's state is compared with document 01's reference list and with a builder or bitmap of the original after equal calls.
 
 use crate::choices::{Choices, Random};
 use crate::compare::{Counts, Difference, compare};
@@ -14,14 +14,15 @@ use crate::wide::Wide;
 use model::{Answer, Builder, Mask, State, flag_at, frozen, frozen_size, word_flags, zeros};
 use original::bitmap::{Bitmap, BitmapBuilder};
 
-/// What a history has come to, in the library and in the original.
+/// The state of a history, in the library and in the original.
 enum Stage {
     Building(Builder, BitmapBuilder),
     Masked(Mask, Bitmap),
-    /// `into_opt_validity` gave none: the history ends.
+    /// `into_opt_validity` returned none: the history has ended.
     Over,
 }
 
+/// A history: its state, and the reference list.
 pub struct History<'a> {
     calls: &'a [Call],
     stage: Stage,
@@ -30,19 +31,20 @@ pub struct History<'a> {
     list: Vec<bool>,
 }
 
-/// A call of a history, with its number in the table, and what was handed to it.
+/// A call of a history: its number in the table, and its request.
 pub struct Step {
     pub call: usize,
     pub request: Request,
 }
 
 impl<'a> History<'a> {
+    /// Starts a history, mostly with a new builder, else with a mask.
     pub fn new(calls: &'a [Call], random: &mut Random) -> Self {
         let mut style = Wide { random, longest: 1_000 };
         if style.random.once_in(4) {
             let Piece { mask, bytes } = piece(Kind::Span, style.length(), &mut style);
             let zeros = zeros(&model::Lent { mask, bytes: &bytes }.flags());
-            // as `try_new` gives it, or an imported mask with its count
+            // as `try_new` returns it, or an imported mask with its count
             let known = mask.length == 0 || style.random.once_in(2);
             let mask = Mask { zeros: known.then_some(zeros), ..mask };
             let lent = model::Lent { mask, bytes: &bytes };
@@ -54,11 +56,12 @@ impl<'a> History<'a> {
         Self { calls, stage, bytes: Bytes::new(&style.fill(many), style.address()), list: Vec::new() }
     }
 
+    /// Returns whether the history has ended.
     pub fn over(&self) -> bool {
         matches!(self.stage, Stage::Over)
     }
 
-    /// Chooses the next call and what it gets besides the state.
+    /// Chooses the next call and its arguments other than the state.
     pub fn next_step(&self, random: &mut Random) -> Step {
         let ends = random.once_in(8);
         let fits = |call: &Call| match (&self.stage, &call.theirs) {
@@ -83,8 +86,8 @@ impl<'a> History<'a> {
         Step { call, request }
     }
 
-    /// Puts the state into a request: the builder with its buffer, or the mask in one of the places, beside masks of its length that
-    /// have no count or a true one, and now and then a false one, which the call refuses.
+    /// Puts the state into a request: the builder with its buffer, or the mask in one of the places. The other masks have its length and
+    /// an unknown or a true count, and now and then any count, which the call refuses if it is false.
     fn lend(&self, request: &mut Request, pieces: usize, random: &mut Random) {
         match self.stage {
             Stage::Building(builder, _) => {
@@ -112,7 +115,7 @@ impl<'a> History<'a> {
         Piece { mask, bytes: self.bytes.clone() }
     }
 
-    /// Makes the call on all sides and holds the new state against the list and the original.
+    /// Makes the call on all sides and compares the new state with the list and the original.
     pub fn take(&mut self, step: &Step, counts: &mut Counts, met: &mut Met) -> Result<(), Difference> {
         let call = &self.calls[step.call];
         let (answer, out) = compare(call, &step.request, counts, met)?;
@@ -159,7 +162,7 @@ impl<'a> History<'a> {
                 self.bytes = out;
                 return Stage::Masked(ours, combine(request, &masks));
             }
-            // Of the calls that give a mask `slice` and `unset_bits` are left.
+            // The only other calls that return a mask are `slice` and `unset_bits`.
             _ if call.name == "slice" => {
                 bitmap.slice(request.n, request.m);
                 self.list = self.list[request.n..request.n + request.m].to_vec();
@@ -169,7 +172,7 @@ impl<'a> History<'a> {
         Stage::Masked(ours, bitmap)
     }
 
-    /// Whether the library's state is that of the list and of the original.
+    /// Compares the library's state with the list and with the original.
     fn held(&self) -> Result<(), Difference> {
         let (flags, known, same) = match &self.stage {
             Stage::Over => return Ok(()),
@@ -195,7 +198,7 @@ impl<'a> History<'a> {
     }
 }
 
-/// A mask with no count or a true one.
+/// Returns a mask with an unknown or a true count.
 fn true_piece(length: usize, style: &mut impl Style) -> Piece {
     let mut other = piece(Kind::Span, length, style);
     if style.flip() {
@@ -204,7 +207,7 @@ fn true_piece(length: usize, style: &mut impl Style) -> Piece {
     other
 }
 
-/// The flags that a call appends: those that it leaves in a new builder.
+/// Returns the flags that a call appends: those that it leaves in a new builder.
 fn appended(call: &Call, request: &Request) -> Vec<bool> {
     let alone = Request { builder: Builder::default(), ..request.clone() };
     let mut out = vec![0; 1 << 16];
@@ -215,7 +218,7 @@ fn appended(call: &Call, request: &Request) -> Vec<bool> {
     finished.chain(word_flags(builder.word).into_iter().take(builder.length % 64)).collect()
 }
 
-/// The flags of a combination in which the reference list stands where the history's mask does.
+/// Returns the flags of a combination with the reference list in each place of the history's mask.
 fn combined(call: &Call, request: &Request, own: &Piece, list: &[bool]) -> Vec<bool> {
     let mut plain = request.clone();
     for piece in plain.pieces.iter_mut().filter(|piece| *piece == own) {

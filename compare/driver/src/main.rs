@@ -1,6 +1,6 @@
-//! `compare --seed N --requests M [--call NAME] [--index I]`: requests by chance, `compare --every [--call NAME]`: every short one.
+//! `compare --seed N --requests M [--call NAME] [--index I]` makes requests by chance, `compare --every [--call NAME]` every short one.
 //!
-//! Prints each difference that is on no list, with its input, then what was compared; exits with 1 where there was one.
+//! Prints each difference that is on no list, with its input, then what was compared; exits with 1 if there was one.
 
 use driver::choices::{Choices, Every, Random};
 use driver::compare::{Counts, Difference, compare, guarded};
@@ -15,7 +15,7 @@ use driver::wide::Wide;
 use model::LIMIT;
 use std::time::Instant;
 
-/// After so many differences the run stops.
+/// The number of differences after which a run stops.
 const ENOUGH: usize = 10;
 
 struct Options {
@@ -48,7 +48,7 @@ fn usage() -> ! {
     std::process::exit(2)
 }
 
-/// What a run has come to.
+/// The counts of a run so far.
 struct Run {
     calls: Vec<Call>,
     counts: Vec<Counts>,
@@ -58,7 +58,7 @@ struct Run {
 }
 
 impl Run {
-    /// The counts of all calls together.
+    /// Returns the counts of all calls together.
     fn all(&self) -> Counts {
         self.counts.iter().fold(Counts::default(), |sum, counts| Counts {
             requests: sum.requests + counts.requests,
@@ -79,7 +79,7 @@ impl Run {
         }
     }
 
-    /// Every short request of a call.
+    /// Makes every short request of a call.
     fn every(&mut self, call: usize) {
         let mut every = Every::default();
         let shape = self.calls[call].shape;
@@ -92,7 +92,7 @@ impl Run {
         }
     }
 
-    /// A history of up to 20 calls.
+    /// Makes a history of up to 20 calls.
     fn history(&mut self, place: &str, random: &mut Random) {
         self.histories += 1;
         let calls = std::mem::take(&mut self.calls);
@@ -115,7 +115,7 @@ impl Run {
         }
     }
 
-    /// The request, or the history, number `index` of a seed.
+    /// Makes request number `index` of a seed, or a history in its place. Requests are of the calls `these`; histories need all calls.
     fn chance(&mut self, seed: u64, index: u64, these: &[usize]) {
         let random = &mut Random::new(seed, index);
         let place = &format!("--seed {seed} --index {index}");

@@ -1,4 +1,4 @@
-//! The library's records and answers as the model's.
+//! The library's records and answers as the model's. A function without a comment converts the record or answer of its name.
 //!
 //! What a refusal or an absence leaves out must be 0 in the library's record; anything else is reported as a difference, by a panic
 //! that the comparison catches.
@@ -6,7 +6,8 @@
 use model::{Answer, Builder, Cursor, Mask, State};
 use poruwhina::calls;
 
-/// Any number but 0 marks a known count, and the number beside an unknown one is not read: both vary here.
+/// Returns the library's record of a mask. Any number except 0 marks a known count, and the number of an unknown one is not read: both
+/// vary here.
 pub fn mask(mask: Mask) -> calls::Mask {
     let (zeros, known) = match mask.zeros {
         Some(zeros) => (zeros, if zeros % 2 == 0 { 1 } else { 255 }),
@@ -33,7 +34,7 @@ fn cursor_state(cursor: calls::Cursor) -> State {
     State::Cursor(Cursor { start: cursor.start, length: cursor.length, place: cursor.place, masked: cursor.masked == 1 })
 }
 
-/// The numbers of an answer that is there, none of one that is not.
+/// Returns the values if they are there, else none; then all must be 0.
 fn there(there: bool, values: Vec<u64>) -> Vec<u64> {
     if there {
         return values;
@@ -63,7 +64,7 @@ pub fn position(a: calls::Position) -> Answer {
     Answer { refusal: a.refusal, values: there(a.found, vec![a.value as u64]), state: State::None }
 }
 
-/// Where there is no such bit, how many there are is the record, which the original does not give.
+/// Returns the answer of a search in a word. If there is no such bit, the record is how many are set, which the original does not return.
 pub fn set_bit(a: calls::NthAnswer) -> Answer {
     assert!(!a.found || a.ones == 0, "a number beside a position: {a:?}");
     let state = if a.found { State::None } else { State::Ones(a.ones as usize) };
@@ -88,7 +89,7 @@ pub fn builder_state(b: calls::Builder) -> State {
     State::Builder(Builder { length: b.length, word: b.word, ones: b.ones, serial: 0 })
 }
 
-/// A mask that a call makes: none where it is refused.
+/// Returns the answer of a call that makes a mask: no mask after a refusal.
 pub fn made(a: calls::MaskAnswer) -> Answer {
     validity(calls::ValidityAnswer { refusal: a.refusal, present: a.refusal == 0, mask: a.mask })
 }
@@ -105,7 +106,7 @@ pub fn new_mask(mask: calls::Mask) -> Answer {
     answer(0, &[], mask_state(mask))
 }
 
-/// A mask that a call changes. Where it is refused the record is the very one that it got, what was not read of it included.
+/// Returns the mask after a call that changes `came`. After a refusal its record must be unchanged, what was not read of it included.
 fn kept(refusal: u8, came: Mask, gave: calls::Mask) -> State {
     if refusal == 0 {
         return mask_state(gave);
@@ -124,7 +125,7 @@ pub fn counted(came: Mask, call: impl Fn(calls::Mask) -> calls::ZerosAnswer) -> 
     answer(a.refusal, &[a.zeros], kept(a.refusal, came, a.mask))
 }
 
-/// A new cursor: none where it is refused.
+/// Returns the answer of a call that makes a cursor: no cursor after a refusal.
 pub fn new_cursor(a: calls::CursorAnswer) -> Answer {
     if a.refusal == 0 {
         return answer(0, &[], cursor_state(a.cursor));
@@ -133,24 +134,24 @@ pub fn new_cursor(a: calls::CursorAnswer) -> Answer {
     answer(a.refusal, &[], State::None)
 }
 
-/// A step whose number stands in `value`; `count` is not used.
+/// Returns the answer of a step whose number is in `value`; `count` is not used.
 pub fn step(a: calls::Step) -> Answer {
     assert_eq!(a.count, 0, "a count where there is none");
     Answer { refusal: a.refusal, values: there(a.found, vec![a.value]), state: cursor_state(a.cursor) }
 }
 
-/// A step with both numbers: a run.
+/// Returns the answer of a step with both numbers: a run.
 pub fn run(a: calls::Step) -> Answer {
     Answer { refusal: a.refusal, values: there(a.found, vec![a.value, a.count as u64]), state: cursor_state(a.cursor) }
 }
 
-/// A step whose number stands in `count`; `value` is not used.
+/// Returns the answer of a step whose number is in `count`; `value` is not used.
 pub fn taken(a: calls::Step) -> Answer {
     assert_eq!(a.value, 0, "a value where there is none");
     Answer { refusal: a.refusal, values: there(a.found, vec![a.count as u64]), state: cursor_state(a.cursor) }
 }
 
-/// The remainder: the call moves no cursor; document 01 has it given back on a refusal alone.
+/// Returns the remainder. The call moves no cursor; by document 01 it returns the cursor only with a refusal.
 pub fn remainder(a: calls::Step) -> Answer {
     if a.refusal != 0 {
         return run(a);

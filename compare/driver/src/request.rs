@@ -1,9 +1,9 @@
-//! A request: what is handed to a call. One record serves all calls; each takes of it what its shape names.
+//! A request: the arguments of a call. One record serves all calls; each takes from it what its shape names.
 
 use model::{Builder, Cursor, Lent, Mask, Span};
 use std::ops::{Deref, DerefMut};
 
-/// Lent bytes. Up to 7 others stand before them, so that they begin at any address, and some behind them.
+/// Lent bytes. Up to 7 others lie before them, so that they begin at any address, and some after them.
 #[derive(Clone, Default)]
 pub struct Bytes {
     room: Vec<u8>,
@@ -12,15 +12,17 @@ pub struct Bytes {
 }
 
 impl Bytes {
+    /// Returns a copy of the bytes with `before` others, at most 7, before them.
     pub fn new(bytes: &[u8], before: usize) -> Self {
         Self { room: [&[0xEE; 7][..before], bytes, &[0xEE; 8]].concat(), before, many: bytes.len() }
     }
 
+    /// Cuts the lent bytes to the first `many`; the rest then lie outside.
     pub fn truncate(&mut self, many: usize) {
         self.many = self.many.min(many);
     }
 
-    /// What stands before and behind the lent bytes.
+    /// Returns the bytes before and after the lent ones.
     pub fn outside(&self) -> (&[u8], &[u8]) {
         (&self.room[..self.before], &self.room[self.before + self.many..])
     }
@@ -52,7 +54,7 @@ impl std::fmt::Debug for Bytes {
     }
 }
 
-/// A mask or a span with the bytes lent beside it.
+/// A mask or a span with the bytes lent for it.
 #[derive(Clone, Debug, PartialEq, Default)]
 pub struct Piece {
     pub mask: Mask,
@@ -60,20 +62,22 @@ pub struct Piece {
 }
 
 impl Piece {
+    /// Returns the mask with its bytes.
     pub fn lent(&self) -> Lent<'_> {
         Lent { mask: self.mask, bytes: &self.bytes }
     }
 
-    /// Whether the span lies in its bytes.
+    /// Returns whether the span lies in its bytes.
     pub fn inside(&self) -> bool {
         self.mask.start as u128 + self.mask.length as u128 <= 8 * self.bytes.len() as u128
     }
 }
 
+/// The arguments of a call, as its shape names them.
 #[derive(Clone, Debug, PartialEq, Default)]
 pub struct Request {
     pub pieces: [Piece; 3],
-    /// Whether the mask of a piece is there, where a call may do without.
+    /// Whether the mask of a piece is present, if the call may be without it.
     pub present: [bool; 2],
     /// The place of a cursor over the first piece, and whether it has a mask.
     pub place: usize,
@@ -90,23 +94,28 @@ pub struct Request {
 }
 
 impl Request {
+    /// Returns the mask of piece i with its bytes.
     pub fn lent(&self, i: usize) -> Lent<'_> {
         self.pieces[i].lent()
     }
 
+    /// Returns the span of the first piece.
     pub fn span(&self) -> Span<'_> {
         self.lent(0).span()
     }
 
+    /// Returns the bytes of the first piece.
     pub fn bytes(&self) -> &[u8] {
         &self.pieces[0].bytes
     }
 
+    /// Returns the cursor over the first piece.
     pub fn cursor(&self) -> Cursor {
         let Mask { start, length, .. } = self.pieces[0].mask;
         Cursor { start, length, place: self.place, masked: self.masked }
     }
 
+    /// Returns the mask of piece i with its bytes, if it is present.
     pub fn optional(&self, i: usize) -> Option<Lent<'_>> {
         self.present[i].then(|| self.lent(i))
     }
@@ -118,11 +127,11 @@ pub enum Args {
     None,
     /// n is the remainder of the first byte's address.
     Address,
-    /// n is a position of any size: an index, places on.
+    /// n is a position of any size: an index, or how many places to skip.
     Position,
     /// n is a position in the mask: a split point, a truck.
     Inside,
-    /// n is how many set flags to pass over, m where to begin.
+    /// n is how many set flags to skip, m where to begin.
     Search,
     /// n is a stated length.
     Length,
@@ -132,7 +141,7 @@ pub enum Args {
     Inner,
     /// The flags of words[0] up to n.
     Word,
-    /// n is how often each flag is appended.
+    /// n is how many times each flag is appended.
     Repeats,
     /// The indices of a gather.
     Indices,
@@ -142,7 +151,7 @@ pub enum Args {
     Nth,
 }
 
-/// What the first piece is: bytes with a span, with a mask, or with a cursor.
+/// The kind of the first piece: bytes with a span, with a mask, or with a cursor.
 #[derive(Clone, Copy, Debug, PartialEq, Eq)]
 pub enum Kind {
     Span,
@@ -150,7 +159,7 @@ pub enum Kind {
     Cursor,
 }
 
-/// What is lent to be written.
+/// The kind of what is lent to be written.
 #[derive(Clone, Copy, Debug, PartialEq, Eq)]
 pub enum Target {
     None,
@@ -160,6 +169,7 @@ pub enum Target {
     Entries,
 }
 
+/// What a call takes.
 #[derive(Clone, Copy, Debug)]
 pub struct Shape {
     pub pieces: usize,
@@ -205,7 +215,7 @@ impl Shape {
         Shape { optional, ..self }
     }
 
-    /// Of a builder: what it appends is read from one piece.
+    /// Returns the shape with one piece, from which a builder's append reads.
     pub const fn from(self, kind: Kind) -> Shape {
         Shape { pieces: 1, kind, ..self }
     }

@@ -4,7 +4,7 @@ use crate::choices::Choices;
 use crate::request::{Args, Shape, Target};
 use crate::style::Style;
 
-/// Every short request of a shape, as far as the choices go.
+/// The style of short requests of a shape, each part by a choice.
 pub struct Short<'a, C> {
     choices: &'a mut C,
     shape: Shape,
@@ -13,17 +13,18 @@ pub struct Short<'a, C> {
 }
 
 impl<'a, C: Choices> Short<'a, C> {
+    /// Returns the style for a shape. If that has pieces, the first choice is whether the bits around a span are set.
     pub fn new(shape: Shape, choices: &'a mut C) -> Self {
         let around = shape.pieces > 0 && choices.flip();
         Self { choices, shape, around }
     }
 
-    /// Whether the request is one piece, read, and no other bytes.
+    /// Returns whether the request lends one piece to read and no bytes to write, except for entries.
     fn alone(&self) -> bool {
         self.shape.pieces == 1 && matches!(self.shape.target, Target::None | Target::Entries)
     }
 
-    /// The most flags: few enough for all combinations with the other choices.
+    /// Returns the most flags of a piece: few enough for all combinations with the other choices.
     fn most(&self) -> usize {
         match (self.shape.pieces, self.shape.target, self.shape.args) {
             (3, ..) | (2, _, Args::Inside) | (1, Target::Builder, Args::Indices | Args::Inner) => 3,

@@ -1,4 +1,4 @@
-//! The original at a request: its bitmaps and builders made from our records, and its answers as the model's.
+//! The original's side of a request: its bitmaps and builders made from our records, and its answers as the model's.
 
 use crate::listed::{Listed, Met};
 use crate::request::Request;
@@ -7,8 +7,8 @@ use original::SharedStorage;
 use original::bitmap::bitmask::BitMask;
 use original::bitmap::{Bitmap, BitmapBuilder};
 
-/// What the original answers: its numbers; its record, where it has one to compare; and the bytes that it writes from the output's
-/// first on, where it writes.
+/// The answer of the original: its numbers; its record, if it has one to compare; and the bytes that it writes at the start of the
+/// output, if it writes.
 #[derive(Debug, Default)]
 pub struct Outcome {
     pub refusal: u8,
@@ -18,59 +18,66 @@ pub struct Outcome {
 }
 
 impl Outcome {
+    /// Returns an accepted answer with these numbers.
     pub fn words(values: impl IntoIterator<Item = u64>) -> Self {
         Self { values: values.into_iter().collect(), ..Self::default() }
     }
 
+    /// Returns an accepted answer with these numbers.
     pub fn values(values: impl IntoIterator<Item = usize>) -> Self {
         Self::words(values.into_iter().map(|value| value as u64))
     }
 
+    /// Returns the answer with this record.
     pub fn record(self, state: State) -> Self {
         Self { record: Some(state), ..self }
     }
 
+    /// Returns an accepted answer with the record of a bitmap.
     pub fn mask(bitmap: &Bitmap) -> Self {
         Self::default().record(State::Mask(mask(bitmap)))
     }
 }
 
-/// Gets the answers of a cursor, one after another.
+/// A function that takes the answers of a cursor, one after another.
 pub type Visit<'a> = &'a mut dyn FnMut(&[u64]);
 
-/// How the original is asked for a call. Save for `Refusing` it is asked only where the model accepts the request.
+/// How the original is asked for a call. Except for `Refusing`, it is asked only if the model accepts the request.
 pub enum Theirs {
-    /// The original has no such call, or its text is not at hand.
+    /// The original has no such call, or its text is missing.
     Absent,
-    /// Its own answer; none where the request is outside of what the original defines.
+    /// Its own answer; none if the request is outside of what the original defines.
     Answer(fn(&Request, &mut Met) -> Option<Outcome>),
-    /// The same, asked with the model's refusal: none where the request is refused in a case that the original does not answer.
+    /// Its own answer to a request and the model's refusal; none if the original does not answer such a refusal.
     Refusing(fn(&Request, u8, &mut Met) -> Option<Outcome>),
     /// The flags appended to a builder.
     Append(fn(&Request, &mut BitmapBuilder)),
-    /// A builder's end; none where all flags are set.
+    /// A builder's end; none if `into_opt_validity` finds all flags set.
     Finish(fn(BitmapBuilder) -> Option<Bitmap>),
-    /// A new cursor: our step, and the original's answers from first to last, each handed to the visitor.
+    /// A new cursor: our step, and the original's answers from first to last, each passed to the visitor.
     Cursor(fn(Cursor, &[u8]) -> Answer, fn(&Request, &mut Met, Visit)),
     /// A bitmap made from as many bitmaps as the call takes masks.
     Combine(fn(&Request, &[Bitmap]) -> Bitmap),
 }
 
+/// Returns the original's bitmap of a mask, over a copy of its bytes.
 pub fn bitmap(lent: Lent) -> Bitmap {
     let storage = SharedStorage::from_vec(lent.bytes.to_vec());
     // SAFETY: the span lies in the bytes and the count is exact or unknown, which accepted requests have.
     unsafe { Bitmap::from_inner_unchecked(storage, lent.mask.start, lent.mask.length, lent.mask.zeros) }
 }
 
+/// Returns the original's bit mask of a mask's span.
 pub fn bit_mask<'a>(lent: &Lent<'a>) -> BitMask<'a> {
     BitMask::new(lent.bytes, lent.mask.start, lent.mask.length)
 }
 
+/// Returns the record of the original's bitmap, with serial 0.
 pub fn mask(bitmap: &Bitmap) -> Mask {
     Mask { start: original::offset(bitmap), length: bitmap.len(), zeros: bitmap.lazy_unset_bits(), serial: 0 }
 }
 
-/// A result: its record, and its bytes as frozen ones, with what they have of other bits and of another size noted.
+/// Returns a result: its record, and its bytes as frozen bytes. Notes in `met` set bits past the end and another size.
 pub fn result(bitmap: &Bitmap, met: &mut Met) -> Outcome {
     let length = bitmap.len();
     let mut bytes = original::storage(bitmap).to_vec();
@@ -90,7 +97,7 @@ pub fn result(bitmap: &Bitmap, met: &mut Met) -> Outcome {
     Outcome { written: Some(bytes), ..Outcome::mask(bitmap) }
 }
 
-/// The original's builder in the state of a record; none where the record's ones are not those of the finished words, since the
+/// Returns the original's builder in the state of a record; none if the record's ones are not those of the finished words, since the
 /// original counts them itself.
 pub fn builder(b: Builder, buf: &[u8]) -> Option<BitmapBuilder> {
     let words = b.length / 64;
@@ -106,7 +113,7 @@ pub fn builder(b: Builder, buf: &[u8]) -> Option<BitmapBuilder> {
     Some(theirs)
 }
 
-/// A builder's record, and the bytes of its finished words; it is frozen to see them.
+/// Returns a builder's record, and the bytes of its finished words; it is frozen to see them.
 pub fn built(theirs: BitmapBuilder) -> Outcome {
     let (length, ones) = (theirs.len(), theirs.set_bits());
     let mut bytes = original::storage(&theirs.freeze()).to_vec();
@@ -118,10 +125,10 @@ pub fn built(theirs: BitmapBuilder) -> Outcome {
     Outcome { record: Some(state), written: Some(bytes), ..Outcome::default() }
 }
 
-/// Calls `f` with the bytes at an address of the given remainder by 8.
+/// Calls `f` with a copy of the bytes at an address with this remainder by 8.
 pub fn at_address<T>(bytes: &[u8], address: usize, f: impl FnOnce(&[u8]) -> T) -> T {
     let mut room = vec![0u64; bytes.len() / 8 + 2];
-    // SAFETY: the room has 8 bytes for each word, and they lie beside one another.
+    // SAFETY: the room has 8 bytes for each word, one after another.
     let room = unsafe { std::slice::from_raw_parts_mut(room.as_mut_ptr().cast::<u8>(), 8 * room.len()) };
     let placed = &mut room[address..address + bytes.len()];
     placed.copy_from_slice(bytes);

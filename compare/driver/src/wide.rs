@@ -8,7 +8,7 @@ const BORDERS: [usize; 14] = [0, 1, 7, 8, 9, 31, 32, 33, 63, 64, 65, 127, 128, 1
 const EXTREMES: [usize; 9] =
     [LIMIT - 1, LIMIT, LIMIT + 1, u32::MAX as usize, 1 << 63, usize::MAX - 63, usize::MAX - 32, usize::MAX - 31, usize::MAX];
 
-/// A number at a limit of the interface or of the machine.
+/// Returns a number at a limit of the interface or of the machine.
 pub fn extreme(random: &mut Random) -> usize {
     random.one_of(&EXTREMES)
 }
@@ -16,7 +16,7 @@ pub fn extreme(random: &mut Random) -> usize {
 /// Requests by chance: mostly short spans and borders of bytes and words, sometimes thousands of flags, rarely up to the limit.
 pub struct Wide<'a> {
     pub random: &'a mut Random,
-    /// How many flags the longest spans have, which are drawn once in ten thousand.
+    /// The number of flags of the longest spans, which are drawn once in ten thousand times.
     pub longest: usize,
 }
 
@@ -59,7 +59,7 @@ impl Style for Wide<'_> {
         self.fill(many)
     }
 
-    /// Half of the bits set, few, nearly all, none, all, or runs of some words.
+    /// Returns bytes with half of the bits set, few, nearly all, none, all, or runs of some words.
     fn fill(&mut self, many: usize) -> Vec<u8> {
         let kind = self.below(8);
         let mut run = 0;
@@ -107,7 +107,7 @@ impl Style for Wide<'_> {
         if self.random.once_in(8) { self.position(length) } else { self.below(length + 1) }
     }
 
-    /// Just so much that a slice counts again, or one flag more or less.
+    /// Returns once in three times the fewest flags for which a slice counts again, or one more or fewer.
     fn kept(&mut self, length: usize) -> Option<usize> {
         let border = length.saturating_sub((length / 5).max(32));
         self.random.once_in(3).then(|| (border + 1).saturating_sub(self.below(3)).min(length))
@@ -125,7 +125,7 @@ impl Style for Wide<'_> {
         needed + self.one_of(&[0, 0, 0, 1, 8, 24])
     }
 
-    /// Just enough, too few or too many.
+    /// Returns exactly as many entries as are needed, too few or too many.
     fn entries(&mut self, many: usize) -> usize {
         match self.below(4) {
             0 => many,

@@ -1,4 +1,4 @@
-//! Every call at the most flags and at one more, with bytes and outputs for them, on all three sides.
+//! Every call over a span or of a stated length, at the limit and at one more flag, with bytes and outputs for them, on all three sides.
 
 use driver::choices::Random;
 use driver::compare::{Counts, compare};
@@ -10,7 +10,7 @@ use driver::table::{Call, calls};
 use driver::wide::Wide;
 use model::{Builder, LIMIT, Mask};
 
-/// A request in which each piece, or each stated length, is of `length` flags; what a call appends goes to a builder with no flags.
+/// Returns a request in which each piece, or each stated length, has `length` flags. An append gets a builder with no flags.
 fn long(call: &Call, length: usize, random: &mut Random) -> Request {
     let shape = call.shape;
     let mut style = Wide { random, longest: LIMIT };

@@ -1,4 +1,4 @@
-//! The window of the last minutes, as paper 02 (l) tells it: over the list of minutes, every count made afresh.
+//! The window of the last minutes, as paper 02 (l) defines it: over the list of minutes, every count made afresh.
 
 /// The one number of these calls.
 pub const REFUSED: u8 = 16;
@@ -13,7 +13,7 @@ pub struct Window {
     pub width: usize,
 }
 
-/// Returns the window that a run of minutes leaves: minute k, counted from 0, stands at k mod width.
+/// Returns the window that a run of minutes leaves: minute k, counted from 0, is kept at k mod width.
 pub fn left_by(width: usize, minutes: &[u64]) -> Window {
     let mut words = vec![0; 256];
     for (k, &word) in minutes.iter().enumerate() {
@@ -24,8 +24,8 @@ pub fn left_by(width: usize, minutes: &[u64]) -> Window {
     Window { words, counts, place: minutes.len() % width, fill: last.len(), width }
 }
 
-/// Returns a run of minutes that leaves the window, if there is one: its words as they stand, and those before the place once
-/// more where all places are taken. The run is made again and its window compared.
+/// Returns a run of minutes that leaves the window, if there is one: its words in order, and those before the place once more if
+/// all places are taken. The run's window is made again and compared.
 pub fn run_of(window: &Window) -> Option<Vec<u64>> {
     if !(1..=256).contains(&window.width) || window.fill > window.width || window.place >= window.width {
         return None;
@@ -37,12 +37,12 @@ pub fn run_of(window: &Window) -> Option<Vec<u64>> {
     (left_by(window.width, &minutes) == *window).then_some(minutes)
 }
 
-/// `ActivityWindow::new`: the window and 0, or a window of zeros and the number.
+/// Returns what `ActivityWindow::new` answers: the window and 0, or a window of zeros and the number.
 pub fn new(width: usize) -> (Window, u8) {
     if (1..=256).contains(&width) { (left_by(width, &[]), 0) } else { (Window { width: 0, ..left_by(1, &[]) }, REFUSED) }
 }
 
-/// `ActivityWindow::push_minute`: the window one minute on and 0, or the window as it came and the number.
+/// Returns what `ActivityWindow::push_minute` answers: the window one minute later and 0, or the window unchanged and the number.
 pub fn push_minute(window: &Window, word: u64) -> (Window, u8) {
     match run_of(window) {
         Some(mut minutes) => {
@@ -53,7 +53,7 @@ pub fn push_minute(window: &Window, word: u64) -> (Window, u8) {
     }
 }
 
-/// `ActivityWindow::counts`: the 64 counts and 0, or 64 zeros and the number.
+/// Returns what `ActivityWindow::counts` answers: the 64 counts and 0, or 64 zeros and the number.
 pub fn counts(window: &Window) -> (Vec<u32>, u8) {
     match run_of(window) {
         Some(_) => (window.counts.clone(), 0),

@@ -1,4 +1,5 @@
-//! The builder's calls. Each append makes checks 1, 4 and 9 besides its own.
+//! The builder's calls. Each append makes checks 1, 4 and 9 in addition to its own. A public function without a comment models the call
+//! of its name.
 
 use crate::{Answer, Builder, Checks, Lent, Mask, Span, State, flag_at, flags_word, word_flags};
 
@@ -57,7 +58,7 @@ pub fn subslice_extend_from_bitmap(b: Builder, buf: &mut [u8], lent: Lent, start
     append(checks, b, buf, many, || Span { start: lent.mask.start + start, length: n, ..lent.span() }.flags())
 }
 
-/// The span's flag at an index, 0 at or past its length.
+/// Returns the span's flag at an index; 0 at or past its length.
 fn gathered(span: Span, index: u32) -> bool {
     (index as usize) < span.length && flag_at(span.bytes, span.start + index as usize)
 }
@@ -73,7 +74,7 @@ pub fn opt_gather_extend_from_slice(b: Builder, buf: &mut [u8], span: Span, idxs
     append(checks, b, buf, idxs.len() as u128, || idxs.iter().map(|&index| gathered(span, index)).collect())
 }
 
-/// Writes the word in progress behind the finished words; `given` gets the mask and whether all flags are set.
+/// Writes the word in progress after the finished words; `given` takes the mask and whether all flags are set, and returns the record.
 fn finish(b: Builder, buf: &mut [u8], given: impl FnOnce(Mask, bool) -> State) -> Answer {
     let checks = Checks::default().builder(b, buf).holds(buf, b.length as u128);
     checks.answer(State::None, || {
@@ -91,7 +92,7 @@ pub fn freeze(b: Builder, buf: &mut [u8]) -> Answer {
     finish(b, buf, |mask, _| State::Mask(mask))
 }
 
-/// None exactly when all flags are set.
+/// Freezes the builder; returns no mask if and only if all flags are set.
 pub fn into_opt_validity(b: Builder, buf: &mut [u8]) -> Answer {
     finish(b, buf, |mask, all| if all { State::None } else { State::Mask(mask) })
 }

@@ -1,4 +1,4 @@
-//! The combinations: flag by flag into frozen bytes.
+//! The combinations: flag by flag into frozen bytes. A public function without a comment models the call of its name.
 
 use crate::mask::zero_count;
 use crate::{Answer, Checks, Lent, Mask, State, flag_at, write_frozen};
@@ -14,6 +14,7 @@ pub enum Op {
 }
 
 impl Op {
+    /// Applies the operation to two flags.
     pub fn flag(self, left: bool, right: bool) -> bool {
         match self {
             Op::And => left && right,
@@ -24,7 +25,7 @@ impl Op {
         }
     }
 
-    /// The constant that a shortcut gives, by the counts that the masks bring.
+    /// Returns the flag that a shortcut fills the result with, chosen by the zero counts of the masks; none if no shortcut applies.
     fn shortcut(self, lhs: Lent, rhs: Lent) -> Option<bool> {
         let length = lhs.mask.length;
         let counts = || (zero_count(lhs), zero_count(rhs));
@@ -47,8 +48,8 @@ impl Op {
     }
 }
 
-/// The checks of masks combined, 1, 2, 3, 5 and 9, and the result. `flags` gives the result's flags and whether a shortcut of `and`
-/// or `xor` made all of them zero.
+/// Makes the checks of masks combined, 1, 2, 3, 5 and 9, and writes the result. `flags` returns the result's flags and whether a shortcut
+/// of `and` or `xor` made all of them zero.
 fn combined(masks: &[Lent], out: &mut [u8], flags: impl FnOnce() -> (Vec<bool>, bool)) -> Answer {
     let length = masks[0].mask.length;
     let mut checks = Checks::default();
@@ -64,6 +65,7 @@ fn combined(masks: &[Lent], out: &mut [u8], flags: impl FnOnce() -> (Vec<bool>, 
     })
 }
 
+/// Combines two masks under `op`.
 pub fn combine(op: Op, lhs: Lent, rhs: Lent, out: &mut [u8]) -> Answer {
     combined(&[lhs, rhs], out, || match op.shortcut(lhs, rhs) {
         Some(constant) => (vec![constant; lhs.mask.length], !constant),
@@ -88,8 +90,8 @@ pub fn select_constant(selector: Lent, truthy: Lent, flag: bool, out: &mut [u8])
     })
 }
 
-/// The flag of `and_not` at one index: that of the first mask and not that of the second; an absent first mask is all ones, an absent
-/// second one all zeros. With one mask check 5 is not made, with none no check is.
+/// Returns the flag of `and_not` at one index: that of the first mask and not that of the second. An absent first mask is all ones, an
+/// absent second one all zeros. With one mask check 5 is not made, with none no check is.
 pub fn and_not_at(first: Option<Lent>, second: Option<Lent>, index: usize) -> Answer {
     let mut checks = Checks::default();
     for lent in first.iter().chain(&second) {

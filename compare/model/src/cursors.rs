@@ -1,14 +1,15 @@
-//! The cursors over runs, flags and positions. Flags before the place do not count.
+//! The cursors over runs, flags and positions. Flags before the place do not count. A public function without a comment models the call
+//! of its name.
 
 use crate::{Answer, Checks, Cursor, Lent, Span, State, run_at_front};
 
-/// A cursor at place 0.
+/// Returns a cursor at place 0.
 fn at_front(start: usize, length: usize, masked: bool) -> Answer {
     Answer::record(State::Cursor(Cursor { start, length, place: 0, masked }))
 }
 
-/// A step: `find` gets the flags from the place on, and gives the answer's numbers and how far the cursor moves; nothing found moves it
-/// to the length.
+/// Makes a step: `find` takes the flags that start at the place, and returns the values of the answer and how far the cursor moves. If
+/// it finds nothing, the cursor moves to the length.
 fn step(cursor: Cursor, bytes: &[u8], find: impl FnOnce(Vec<bool>) -> Option<(Vec<usize>, usize)>) -> Answer {
     Checks::default().cursor(cursor, bytes).answer(State::Cursor(cursor), || {
         let left = cursor.length - cursor.place;
@@ -25,7 +26,7 @@ pub fn slices_new(lent: Lent) -> Answer {
     Checks::default().mask(lent).answer(State::None, || at_front(lent.mask.start, lent.mask.length, true))
 }
 
-/// The next maximal run of ones: its start and length.
+/// Returns the next maximal run of ones, its start and length.
 pub fn slices_next(cursor: Cursor, bytes: &[u8]) -> Answer {
     step(cursor, bytes, |flags| {
         let gap = run_at_front(&flags, false);
@@ -34,7 +35,7 @@ pub fn slices_next(cursor: Cursor, bytes: &[u8]) -> Answer {
     })
 }
 
-/// With length 0 a cursor of all zeros, before any check.
+/// Returns a cursor over flags; if the length is 0, one of all zeros, before any check.
 pub fn iter_new(span: Span) -> Answer {
     if span.length == 0 {
         return at_front(0, 0, true);
@@ -42,7 +43,7 @@ pub fn iter_new(span: Span) -> Answer {
     Checks::default().span(span).answer(State::None, || at_front(span.start, span.length, true))
 }
 
-/// The flag n places on.
+/// Returns the flag n places after the next one.
 pub fn iter_nth(cursor: Cursor, bytes: &[u8], n: usize) -> Answer {
     step(cursor, bytes, |flags| flags.get(n).map(|&flag| (vec![usize::from(flag)], n + 1)))
 }
@@ -51,7 +52,7 @@ pub fn iter_next(cursor: Cursor, bytes: &[u8]) -> Answer {
     iter_nth(cursor, bytes, 0)
 }
 
-/// How many flags that equal `flag` stand next.
+/// Counts the next flags that equal `flag` in a row and moves the cursor past them.
 pub fn take_leading(flag: bool, cursor: Cursor, bytes: &[u8]) -> Answer {
     step(cursor, bytes, |flags| {
         let run = run_at_front(&flags, flag);
@@ -59,6 +60,7 @@ pub fn take_leading(flag: bool, cursor: Cursor, bytes: &[u8]) -> Answer {
     })
 }
 
+/// Returns a cursor over the positions of ones; with no mask over every position below the length.
 pub fn true_idx_new(length: usize, mask: Option<Lent>) -> Answer {
     let checks = Checks::default().limited(&[length as u128]);
     match mask {
@@ -69,7 +71,7 @@ pub fn true_idx_new(length: usize, mask: Option<Lent>) -> Answer {
     }
 }
 
-/// The next position of a one; with no mask every position.
+/// Returns the next position of a one; with no mask the next position.
 pub fn true_idx_next(cursor: Cursor, bytes: &[u8]) -> Answer {
     step(cursor, bytes, |flags| {
         let gap = run_at_front(&flags, false);
@@ -77,8 +79,8 @@ pub fn true_idx_next(cursor: Cursor, bytes: &[u8]) -> Answer {
     })
 }
 
-/// The next positions of ones, as many as there are and the output has entries, from its first entry on, and how many; later entries
-/// stay. The flag just past the last of them is next; the end where entries are left over; with no entry nothing moves.
+/// Writes the next positions of ones, as many as there are and the output has entries, at the start of the output, and returns how many;
+/// later entries stay. The cursor moves past the last of them; to the length if entries are left over; not at all if there are none.
 pub fn true_idx_next_chunk(cursor: Cursor, bytes: &[u8], out: &mut [u32]) -> Answer {
     step(cursor, bytes, |flags| {
         let (mut written, mut passed) = (0, 0);

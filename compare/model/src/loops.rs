@@ -1,5 +1,6 @@
 //! The loops over words, as lists of flags: stretches of lent bytes read, combined and written. No check is made: a stretch reads false
-//! past the end of its bytes, what does not fit an output is left out, and what an output has behind the answer stays.
+//! past the end of its bytes, what does not fit an output is left out, and the bytes of an output after the answer stay. A public
+//! function without a comment models the call of its name.
 
 use crate::{Answer, flag_at};
 
@@ -18,6 +19,7 @@ pub enum WordOp {
 impl WordOp {
     pub const ALL: [WordOp; 7] = [WordOp::And, WordOp::AndNot, WordOp::Or, WordOp::OrNot, WordOp::Xor, WordOp::Not, WordOp::Select];
 
+    /// Applies the operation to three flags; an operation on fewer ignores the later ones.
     pub fn flag(self, first: bool, second: bool, third: bool) -> bool {
         match self {
             WordOp::And => first && second,
@@ -39,17 +41,18 @@ pub struct Stretch<'a> {
 }
 
 impl Stretch<'_> {
-    /// How many of `length` flags lie in the bytes.
+    /// Returns how many of `length` flags lie in the bytes.
     fn inside(self, length: usize) -> usize {
         length.min((8 * self.bytes.len()).saturating_sub(self.start))
     }
 
+    /// Returns flag `j`, counted from the start; false past the end of the bytes.
     fn flag(self, j: usize) -> bool {
         j < self.inside(j + 1) && flag_at(self.bytes, self.start + j)
     }
 }
 
-/// A list of flags that may be longer than memory: `flags`, and behind them `more` that are all `rest`.
+/// A list of flags that may be longer than memory: `flags`, and after them `more` that all equal `rest`.
 struct Row {
     flags: Vec<bool>,
     rest: bool,
@@ -76,7 +79,7 @@ impl Row {
         self.flags.iter().filter(|&&flag| flag).count() + if self.rest { self.more } else { 0 }
     }
 
-    /// Over the front of the output as whole words, zeros behind the last flag.
+    /// Writes the flags at the start of the output as whole words, zeros after the last flag.
     fn write(&self, out: &mut [u8]) {
         let length = self.flags.len() as u128 + self.more as u128;
         let whole = 64 * length.div_ceil(64);
@@ -107,12 +110,12 @@ pub fn fill(flag: bool, length: usize, out: &mut [u8]) -> Answer {
     Answer::values([])
 }
 
-/// As many whole words of the flag as are asked for and fit.
+/// Writes `words` whole words of `flag`, or as many as fit.
 pub fn fill_whole(flag: bool, words: usize, out: &mut [u8]) -> Answer {
     fill(flag, 64 * words.min(out.len() / 8), out)
 }
 
-/// A copy, and how many of its flags are set, those that did not fit too.
+/// Copies as `copy` does, and counts the set flags, those that did not fit too.
 pub fn copy_count(stretch: Stretch, length: usize, out: &mut [u8]) -> Answer {
     copy(stretch, length, out);
     count_ones(stretch, length)
@@ -130,7 +133,7 @@ pub fn any_set(op: WordOp, stretches: [Stretch; 3], length: usize) -> Answer {
     Answer::values([usize::from(Row::combined(op, stretches, length).ones() > 0)])
 }
 
-/// Whether two stretches have the same flags.
+/// Returns whether the first `length` flags of two stretches are equal.
 pub fn equal(a: Stretch, b: Stretch, length: usize) -> Answer {
     let read = a.inside(length).max(b.inside(length));
     Answer::values([usize::from((0..read).all(|j| a.flag(j) == b.flag(j)))])

@@ -1,4 +1,4 @@
-//! The calls that make a mask, cut it, count it and compare it.
+//! The calls that make a mask, cut it, count it and compare it. A public function without a comment models the call of its name.
 
 use crate::{Answer, Checks, Lent, Mask, Span, State, write_frozen, zeros};
 
@@ -20,12 +20,14 @@ pub fn try_new(span: Span) -> Answer {
     Checks::default().span(span).answer(State::None, || Answer::record(State::Mask(mask)))
 }
 
-/// Whether a slice counts a known count again: it is neither 0 nor the old length, and nearly all of the mask is kept.
+/// Returns whether a slice of `length` flags counts the zeros again: the known count is neither 0 nor the old length, and nearly all of
+/// the mask is kept.
 fn recounts(mask: Mask, length: usize) -> bool {
     let mixed = mask.zeros.is_some_and(|zeros| zeros != 0 && zeros != mask.length);
     mixed && length + (mask.length / 5).max(32) >= mask.length
 }
 
+/// Returns the mask of the flags that start at `offset`; its zero count is known if it is 0, all, or counted again.
 pub fn slice(lent: Lent, offset: usize, length: usize) -> Answer {
     let mask = lent.mask;
     let (from, many) = (offset as u128, length as u128);
@@ -52,7 +54,7 @@ pub fn slice(lent: Lent, offset: usize, length: usize) -> Answer {
     })
 }
 
-/// The count that a mask brings: the known one, else the zeros counted.
+/// Returns the known zero count of a mask, else counts its zeros.
 pub fn zero_count(lent: Lent) -> usize {
     lent.mask.zeros.unwrap_or_else(|| zeros(&lent.flags()))
 }

@@ -3,7 +3,7 @@
 use crate::checks::Checks;
 use crate::{Answer, Lent, State};
 
-/// The position, where there is one, and behind it the number of windows read.
+/// Returns the position, if there is one, and after it the number of windows read.
 pub fn next_and_not(first: Lent, second: Option<Lent>, from: usize) -> Answer {
     let length = first.mask.length;
     let mut checks = Checks::default().mask(first).check(6, from <= length);
@@ -20,7 +20,8 @@ pub fn next_and_not(first: Lent, second: Option<Lent>, from: usize) -> Answer {
     })
 }
 
-/// Windows begin at the place and every 32 flags on below the length, then at 0 and every 32 flags on below the place.
+/// Returns the first set flag at or after `from`, else the first before it, and the number of windows read. Windows begin at `from` and
+/// every 32 flags below the length, then at 0 and every 32 flags below `from`.
 fn round(free: &[bool], from: usize) -> (Option<usize>, usize) {
     let mut read = 0;
     for start in (from..free.len()).step_by(32).chain((0..from).step_by(32)) {
@@ -33,7 +34,7 @@ fn round(free: &[bool], from: usize) -> (Option<usize>, usize) {
     (None, read)
 }
 
-/// The truck, where there is one, the cursor for the next call and the number of windows read; refused, the cursor.
+/// Returns the truck, if there is one, the cursor for the next call and the number of windows read; after a refusal, the cursor.
 pub fn offer(permission: Option<Lent>, revocation: Option<Lent>, cursor: usize) -> Answer {
     let answer = match (permission, revocation) {
         (Some(permission), _) => next_and_not(permission, revocation, cursor),

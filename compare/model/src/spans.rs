@@ -1,4 +1,4 @@
-//! The calls over bare spans.
+//! The calls over bare spans. A public function without a comment models the call of its name.
 
 use crate::{Answer, Checks, Cursor, Span, State, flags_word, run_at_front, zeros};
 
@@ -12,7 +12,7 @@ pub enum Count {
     TrailingOnes,
 }
 
-/// 1, 2 and 8; with length 0 `empty` is the answer before any check.
+/// Makes checks 1, 2 and 8 and returns the values that `given` makes of the flags. If the length is 0, returns `empty` before any check.
 fn addressed(span: Span, address: usize, empty: &[usize], given: impl FnOnce(Vec<bool>) -> Vec<u64>) -> Answer {
     if span.length == 0 {
         return Answer::values(empty.iter().copied());
@@ -24,8 +24,8 @@ fn addressed(span: Span, address: usize, empty: &[usize], given: impl FnOnce(Vec
     })
 }
 
-/// Prefix and its length, first byte and number of the whole words, suffix and its length. A span that fits one word from its first
-/// byte on is all prefix; else the words begin at the first byte at or after the start whose address is a multiple of 8.
+/// Returns the prefix and its length, the first byte and number of the whole words, the suffix and its length. A span that fits one
+/// word from its first byte is all prefix; else the words begin at the first byte at or after the start whose address is a multiple of 8.
 pub fn aligned_new(span: Span, address: usize) -> Answer {
     addressed(span, address, &[0; 6], |flags| {
         if span.start % 8 + span.length <= 64 {
@@ -39,6 +39,7 @@ pub fn aligned_new(span: Span, address: usize) -> Answer {
     })
 }
 
+/// Returns one of the five counts of a span; it does not depend on the address.
 pub fn count(what: Count, span: Span, address: usize) -> Answer {
     addressed(span, address, &[0], |flags| {
         let number = match what {
@@ -52,7 +53,7 @@ pub fn count(what: Count, span: Span, address: usize) -> Answer {
     })
 }
 
-/// A cursor over the span's words.
+/// Returns a cursor over the span's words.
 pub fn chunks_new(span: Span) -> Answer {
     let cursor = Cursor { start: span.start, length: span.length, place: 0, masked: true };
     Checks::default().span(span).answer(State::None, || Answer::record(State::Cursor(cursor)))
@@ -70,7 +71,7 @@ pub fn chunks_next(cursor: Cursor, bytes: &[u8]) -> Answer {
     })
 }
 
-/// The last length mod 64 flags as a word, and their number.
+/// Returns the last length mod 64 flags as a word, and their number.
 pub fn chunks_remainder(cursor: Cursor, bytes: &[u8]) -> Answer {
     Checks::default().cursor(cursor, bytes).answer(State::Cursor(cursor), || {
         let whole = cursor.length / 64 * 64;
@@ -79,14 +80,14 @@ pub fn chunks_remainder(cursor: Cursor, bytes: &[u8]) -> Answer {
     })
 }
 
-/// The spans before and behind flag `at`, each as its start and length.
+/// Returns the spans before flag `at` and from it to the end, each as its start and length.
 pub fn split_at_unchecked(span: Span, at: usize) -> Answer {
     let second = span.start as u128 + at as u128;
     let checks = Checks::default().span(span).limited(&[second]).check(6, at <= span.length);
     checks.answer(State::None, || Answer::values([span.start, at, span.start + at, span.length - at]))
 }
 
-/// 32 flags from `index` on, zeros past the end.
+/// Returns the 32 flags that start at `index`, zeros past the end.
 pub fn get_u32(span: Span, index: usize) -> Answer {
     Checks::default().span(span).answer(State::None, || {
         let from = index.min(span.length);
@@ -95,6 +96,7 @@ pub fn get_u32(span: Span, index: usize) -> Answer {
     })
 }
 
+/// Makes checks 1 and 2 and returns the position that `find` picks among those of the set flags, if any.
 fn search(span: Span, find: impl FnOnce(&mut dyn DoubleEndedIterator<Item = usize>) -> Option<usize>) -> Answer {
     Checks::default().span(span).answer(State::None, || {
         let flags = span.flags();
@@ -102,12 +104,12 @@ fn search(span: Span, find: impl FnOnce(&mut dyn DoubleEndedIterator<Item = usiz
     })
 }
 
-/// The position, at or after `from`, of the n-th set flag.
+/// Returns the position of set flag n, counted from 0, among those at or after `from`.
 pub fn nth_set_bit_idx(span: Span, n: usize, from: usize) -> Answer {
     search(span, |ones| ones.filter(|&j| j >= from).nth(n))
 }
 
-/// The position of the n-th set flag counted down from below `end`.
+/// Returns the position of set flag n, counted from 0 and downward, among those below `end`.
 pub fn nth_set_bit_idx_rev(span: Span, n: usize, end: usize) -> Answer {
     search(span, |ones| ones.rev().filter(|&j| j < end).nth(n))
 }

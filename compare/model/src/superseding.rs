@@ -1,4 +1,4 @@
-//! The later revocation wins: of two masks of one operator the one with the larger serial, and the part of its bytes that holds it.
+//! The later revocation wins: the mask with the larger serial of two masks of one operator, and the part of its bytes that holds it.
 
 use crate::{Answer, Checks, Lent, Mask, State};
 
@@ -10,7 +10,7 @@ pub struct Won {
     pub mask: Mask,
 }
 
-/// 1, 2 and 3 of both masks, and 14: equal serials with different lists.
+/// Makes checks 1, 2 and 3 of both masks and 14, equal serials have equal lists, and returns the winner.
 fn won(first: Lent, second: Lent) -> Result<Won, u8> {
     let checks = Checks::default().mask(first).mask(second);
     let same = || first.mask.length == second.mask.length && first.flags() == second.flags();
@@ -26,10 +26,12 @@ fn won(first: Lent, second: Lent) -> Result<Won, u8> {
     Ok(Won { second: later, from, to, mask: Mask { start: mask.start % 8, ..mask } })
 }
 
+/// Returns an answer with only a refusal.
 fn refused(number: u8) -> Answer {
     Answer { refusal: number, values: Vec::new(), state: State::None }
 }
 
+/// Returns whether the winner is the second mask, the first byte and the end of its part, and its record over that part.
 pub fn superseding_part(first: Lent, second: Lent) -> Answer {
     match won(first, second) {
         Ok(Won { second, from, to, mask }) => Answer::given([second.into(), from, to], State::Mask(mask)),
@@ -37,6 +39,7 @@ pub fn superseding_part(first: Lent, second: Lent) -> Answer {
     }
 }
 
+/// Returns the record of the winner over its part of the bytes.
 pub fn superseding(first: Lent, second: Lent) -> Answer {
     match won(first, second) {
         Ok(Won { mask, .. }) => Answer::record(State::Mask(mask)),
@@ -44,7 +47,7 @@ pub fn superseding(first: Lent, second: Lent) -> Answer {
     }
 }
 
-/// After a refusal an empty part of the first slice.
+/// Returns the winner's part of its bytes; after a refusal an empty part of the first slice.
 pub fn superseding_bytes<'a>(first: Lent<'a>, second: Lent<'a>) -> &'a [u8] {
     match won(first, second) {
         Ok(Won { second: later, from, to, .. }) => &(if later { second.bytes } else { first.bytes })[from..to],

@@ -1,4 +1,4 @@
-//! Document 01's examples and edges, held against the model.
+//! The examples and edges of document 01, compared with the model.
 
 use model::combine::{Op, combine, select};
 use model::spans::{Count, count, nth_set_bit_idx, nth_set_bit_idx_rev};
@@ -11,14 +11,14 @@ fn lent(bytes: &[u8], length: usize) -> Lent<'_> {
     Lent { mask: Mask { start: 0, length, zeros: None, serial: 0 }, bytes }
 }
 
-/// The builder after an append to a new one.
+/// Returns the builder that an append left.
 fn appended(answer: Answer) -> Builder {
     let State::Builder(builder) = answer.state else { panic!("no builder") };
     assert_eq!(answer.refusal, 0);
     builder
 }
 
-/// The first byte that freezing leaves, and the zeros.
+/// Freezes a builder; returns the first byte and the zero count.
 fn frozen(b: Builder, buf: &mut [u8]) -> (u8, Option<usize>) {
     let State::Mask(mask) = builder::freeze(b, buf).state else { panic!("no mask") };
     (buf[0], mask.zeros)

@@ -1,4 +1,4 @@
-//! The builder: flags of z are pushed, then comes one append, then it is frozen.
+//! The builder: flags of z are pushed, then one append is made, then it is frozen.
 
 use crate::draw::{Draw, KINDS, Kind};
 use crate::list::{List, Numbers};
@@ -6,9 +6,10 @@ use crate::masks::{bitmap, mask};
 use original::bitmap::BitmapBuilder;
 use original::bitmap::bitmask::BitMask;
 
-/// How many flags are pushed before the append: a word in progress of every sort, with whole words before it or not.
+/// How many flags are pushed before the append: words in progress of many lengths, with and without whole words before them.
 const FILLS: [usize; 12] = [0, 1, 7, 8, 31, 32, 63, 64, 65, 127, 128, 150];
 
+/// Records the builder's calls.
 pub fn record(list: &mut List, draw: &mut Draw) {
     for (i, kind) in KINDS.into_iter().enumerate() {
         let x = draw.bytes(kind, 40);
@@ -22,7 +23,7 @@ pub fn record(list: &mut List, draw: &mut Draw) {
     long(list, draw);
 }
 
-/// The records of a builder that begins with some flags of z.
+/// The records of a builder that begins with `fill` flags of z.
 struct Record<'a> {
     list: &'a mut List,
     fill: usize,
@@ -30,6 +31,7 @@ struct Record<'a> {
 }
 
 impl Record<'_> {
+    /// Returns a builder with the first `fill` flags of z.
     fn filled(&self) -> BitmapBuilder {
         let mut builder = BitmapBuilder::new();
         let flags = BitMask::new(self.z, 0, self.fill);
@@ -37,7 +39,7 @@ impl Record<'_> {
         builder
     }
 
-    /// A record of one append: its arguments behind the number of flags before it.
+    /// Records one append: the number of flags before it, its arguments, and the mask that the builder freezes to.
     fn append(&mut self, call: &str, request: impl Fn(Numbers) -> Numbers, append: impl Fn(&mut BitmapBuilder)) {
         let mut builder = self.filled();
         append(&mut builder);
@@ -70,7 +72,7 @@ impl Record<'_> {
                 |all| all.word(word).number(n),
                 |builder| {
                     builder.reserve(n);
-                    // SAFETY: there is room for n flags, n is at most 64, and the word has no bit from n on.
+                    // SAFETY: there is room for n flags, n is at most 64, and the word has no bit set at or above n.
                     unsafe { builder.push_word_with_len_unchecked(word, n) }
                 },
             );
@@ -126,7 +128,7 @@ impl Record<'_> {
     }
 }
 
-/// Some hundred words at once.
+/// Records appends of some hundred words at once.
 fn long(list: &mut List, draw: &mut Draw) {
     let x = draw.bytes(Kind::Random, 1000);
     let z = draw.bytes(Kind::Random, 20);

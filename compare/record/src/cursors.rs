@@ -6,6 +6,7 @@ use crate::masks::bitmap;
 use original::bitmap::iterator::TrueIdxIter;
 use original::bitmap::utils::{BitmapIter, SlicesIterator};
 
+/// Records the iterators over spans of x.
 pub fn record(list: &mut List, draw: &mut Draw, x: &[u8]) {
     for _ in 0..50 {
         let (start, length) = draw.span(x.len());
@@ -31,7 +32,7 @@ fn positions(iter: TrueIdxIter<'_>) -> Numbers {
     iter.fold(Numbers::default(), |all, position| all.number(position))
 }
 
-/// Some steps of one iterator, until past its end at times.
+/// Records some steps of one iterator, at times past its end.
 fn flags(list: &mut List, draw: &mut Draw, x: &[u8]) {
     let (start, length) = draw.span(x.len());
     let mut iter = BitmapIter::new(x, start, length);

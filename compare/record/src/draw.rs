@@ -3,7 +3,7 @@
 /// Lengths at and around whole bytes, half words and words.
 pub const LENGTHS: [usize; 22] = [0, 1, 2, 7, 8, 9, 31, 32, 33, 63, 64, 65, 66, 127, 128, 129, 191, 192, 193, 255, 256, 257];
 
-/// Kinds of flags: all zero, all one, alternating, each at random, few ones, few zeros, runs.
+/// The kinds of flags: all zero, all one, alternating, each at random, few ones, few zeros, runs.
 #[derive(Clone, Copy, PartialEq)]
 pub enum Kind {
     Zeros,
@@ -17,6 +17,7 @@ pub enum Kind {
 
 pub const KINDS: [Kind; 7] = [Kind::Zeros, Kind::Ones, Kind::Alternating, Kind::Random, Kind::FewOnes, Kind::FewZeros, Kind::Runs];
 
+/// The state of the generator.
 pub struct Draw(u64);
 
 impl Draw {
@@ -24,6 +25,7 @@ impl Draw {
         Self(seed)
     }
 
+    /// Returns the next word.
     pub fn word(&mut self) -> u64 {
         self.0 = self.0.wrapping_add(0x9e37_79b9_7f4a_7c15);
         let mut z = self.0;
@@ -32,7 +34,7 @@ impl Draw {
         z ^ z >> 31
     }
 
-    /// A number below n.
+    /// Returns a number below n.
     pub fn below(&mut self, n: usize) -> usize {
         (self.word() % n as u64) as usize
     }
@@ -41,11 +43,12 @@ impl Draw {
         self.below(2) == 1
     }
 
+    /// Returns one of the values.
     pub fn pick<T: Copy>(&mut self, values: &[T]) -> T {
         values[self.below(values.len())]
     }
 
-    /// A length of at most `most`: half of them at the edges of LENGTHS, or all there is.
+    /// Returns a length of at most `most`: half of the time one of `LENGTHS`, at times `most`.
     pub fn length(&mut self, most: usize) -> usize {
         match self.below(8) {
             0 => most,
@@ -54,13 +57,13 @@ impl Draw {
         }
     }
 
-    /// A start and a length inside `size` bytes.
+    /// Returns a start and a length inside `size` bytes.
     pub fn span(&mut self, size: usize) -> (usize, usize) {
         let start = self.below(8 * size.min(10) + 1).min(8 * size);
         (start, self.length(8 * size - start))
     }
 
-    /// Words with few and with many ones too.
+    /// Returns a word, at times one with few or many ones.
     pub fn mixed_word(&mut self) -> u64 {
         match self.below(6) {
             0 => 0,
@@ -72,6 +75,7 @@ impl Draw {
         }
     }
 
+    /// Returns `size` bytes whose flags are of a kind.
     pub fn bytes(&mut self, kind: Kind, size: usize) -> Vec<u8> {
         let flags: Vec<bool> = self.flags(kind, 8 * size);
         flags.chunks(8).map(|part| part.iter().rev().fold(0, |byte, &flag| byte << 1 | flag as u8)).collect()

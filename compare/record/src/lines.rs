@@ -1,18 +1,18 @@
 //! The lines of a record, in the form that crates/requests reads: requests with all their arguments, and the Rust's answer as the records
-//! of this library. What the Rust gives as flags is held here to the bytes that were lent, or becomes the bytes of the output.
+//! of this library. Flags that the Rust returns are compared here with the bytes lent, or become the bytes of the output.
 
 use std::fmt::Write;
 
 /// A number of a record, or a zero count that is not known.
 pub type Token = Option<u64>;
 
-/// The serial of a mask and of a builder, which stands before their numbers in an answer: the Rust has none.
+/// The serial of a mask and of a builder, which comes before their numbers in an answer: the Rust has no serials.
 const SERIAL: Token = Some(0);
 
-/// The output has so many bytes, all ones but for a builder's finished words.
+/// The number of bytes of the output, which are all ones except for a builder's finished words.
 pub const OUTPUT: usize = 1024;
 
-/// What was lent to the records, and what the output holds.
+/// The bytes lent to the records, and those of the output.
 #[derive(Default)]
 pub struct Lent {
     pub x: Vec<u8>,
@@ -46,19 +46,19 @@ impl Lines {
         }
     }
 
-    /// A request whose answer is a position or none, behind which the library says how many there are: the Rust does not.
+    /// Writes a request whose answer is a position, or none and `_`: there the library says how many bits are set, and the Rust does not.
     fn uncounted(&mut self, call: &'static str, request: &[Token], answer: &[Token]) {
         self.request(call, request, answer);
         self.text.push_str(if answer.is_empty() { " - _\n" } else { "\n" });
     }
 
-    /// A request whose answer is these numbers, or none.
+    /// Writes a request whose answer is these numbers, or none.
     fn plain(&mut self, call: &'static str, request: &[Token], answer: &[Token]) {
         self.request(call, request, answer);
         self.text.push_str(if answer.is_empty() { " -\n" } else { "\n" });
     }
 
-    /// A step of a cursor: what it gives, or none, and the cursor behind it.
+    /// Writes a step of a cursor: its item, or none, and the cursor after it.
     fn step(&mut self, call: &'static str, request: &[Token], given: &[Token], cursor: &[Token]) {
         self.request(call, request, given);
         self.text.push_str(if given.is_empty() { " -" } else { "" });
@@ -66,7 +66,7 @@ impl Lines {
         self.text.push('\n');
     }
 
-    /// A request that gives these numbers, or none, and writes these bytes to the front of the output, which was `before`.
+    /// Writes a request that returns these numbers, or none, and writes these bytes at the start of the output, which was `before`.
     fn written(&mut self, call: &'static str, request: &[Token], answer: &[Token], bytes: &[u8], before: &[u8]) {
         self.request(call, request, answer);
         let mut after = before.to_vec();
@@ -75,7 +75,7 @@ impl Lines {
         self.bytes(&after);
     }
 
-    /// Bytes in hexadecimal, the ones behind them together.
+    /// Writes bytes in hexadecimal, those of all ones at their end as one piece.
     fn bytes(&mut self, bytes: &[u8]) {
         let ones = bytes.iter().rev().take_while(|&&byte| byte == 255).count();
         let front = &bytes[..bytes.len() - ones];
@@ -95,13 +95,13 @@ fn flag(bytes: &[u8], at: usize) -> bool {
     bytes[at / 8] >> (at % 8) & 1 == 1
 }
 
-/// The first flags of words.
+/// Returns the first `length` flags of words.
 fn flags(words: &[Token], length: usize) -> Vec<bool> {
     assert_eq!(words.len(), length.div_ceil(64));
     (0..length).map(|i| words[i / 64].expect("a word") >> (i % 64) & 1 == 1).collect()
 }
 
-/// The frozen bytes of flags: whole words of 64, zeros above the last flag.
+/// Returns the frozen bytes of flags: whole words of 64, zeros after the last flag.
 fn frozen(flags: &[bool]) -> Vec<u8> {
     let mut bytes = vec![0; 8 * flags.len().div_ceil(64)];
     for (i, _) in flags.iter().enumerate().filter(|&(_, &set)| set) {
@@ -110,7 +110,7 @@ fn frozen(flags: &[bool]) -> Vec<u8> {
     bytes
 }
 
-/// A builder of flags: its length, its word in progress, the ones of its finished words; and the bytes of these.
+/// Returns a builder of flags, its length, its word in progress and the ones of its finished words, and the bytes of these words.
 fn builder(flags: &[bool]) -> ([Token; 3], Vec<u8>) {
     let finished = flags.len() / 64 * 64;
     let word = flags[finished..].iter().rev().fold(0, |w, &set| w << 1 | set as u64);
@@ -118,7 +118,7 @@ fn builder(flags: &[bool]) -> ([Token; 3], Vec<u8>) {
     ([Some(flags.len() as u64), Some(word), Some(ones as u64)], frozen(&flags[..finished]))
 }
 
-/// The calls whose numbers are written as they are.
+/// The calls whose numbers are written unchanged.
 const PLAIN: [&str; 11] = [
     "merge_reversed",
     "count_zeros",
@@ -152,7 +152,7 @@ fn named(call: &str, names: &[&'static str]) -> Option<&'static str> {
     names.iter().find(|&&name| name == call).copied()
 }
 
-/// Masks with all their numbers: a second and a third one have the first one's length.
+/// Returns masks with all their numbers: a second and a third one have the first one's length.
 fn whole(masks: &[Token]) -> Vec<Token> {
     let mut all = masks[..3].to_vec();
     for mask in masks[3..].chunks(2) {
@@ -162,7 +162,7 @@ fn whole(masks: &[Token]) -> Vec<Token> {
 }
 
 impl Lent {
-    /// Writes a record: a call's name and its numbers, as the modules of this program give them.
+    /// Returns the lines of a record: a call's name and its numbers, as the modules of this program record them.
     pub fn lines(&mut self, call: &str, request: &[Token], answer: &[Token]) -> Lines {
         let mut lines = Lines::default();
         if let Some(name) = named(call, &PLAIN) {
@@ -201,7 +201,7 @@ impl Lent {
         }
     }
 
-    /// The whole words lie behind the prefix, and are the bytes there. Where the prefix is all there is, none lies anywhere.
+    /// Writes a split whose whole words must be the bytes after the prefix. If there is only a prefix, the first byte is 0.
     fn aligned(&self, lines: &mut Lines, request: &[Token], answer: &[Token]) {
         let (ends, words) = answer.split_at(4);
         let first = (number(request[0]) + number(ends[1])) / 8;
@@ -213,7 +213,7 @@ impl Lent {
         lines.plain("AlignedBitmapSlice::new", request, &answer);
     }
 
-    /// The flags of a span of x are those of an answer.
+    /// Checks that the flags of a span of x are those of an answer.
     fn hold(&self, start: usize, length: usize, words: &[Token]) {
         assert!(flags(words, length).iter().enumerate().all(|(i, &set)| set == flag(&self.x, start + i)));
     }
@@ -227,13 +227,13 @@ impl Lent {
         lines.plain("split_at_unchecked", request, &[request[0], first[0], Some((start + at) as u64), second[0]]);
     }
 
-    /// A mask over x: its flags lie from `start` on.
+    /// Writes a call that returns a mask over x whose flags start at `start`.
     fn cut(&self, lines: &mut Lines, call: &'static str, request: &[Token], start: usize, answer: &[Token]) {
         self.hold(start, number(answer[0]), &answer[2..]);
         lines.plain(call, request, &[SERIAL, Some(start as u64), answer[0], answer[1]]);
     }
 
-    /// The output before the records that follow, where it is another.
+    /// Lends the output of the records that follow, if it differs from the last.
     fn output(&mut self, lines: &mut Lines, front: &[u8]) {
         let mut output = vec![255; OUTPUT];
         output[..front.len()].copy_from_slice(front);
@@ -255,7 +255,7 @@ impl Lent {
         lines.written(call, &request, &[SERIAL, Some(0), answer[0], answer[1]], &bytes, &self.output);
     }
 
-    /// The builder of the first flags of z, whose finished words stand in the output.
+    /// Returns the builder of the first `fill` flags of z, and lends an output with its finished words.
     fn filled(&mut self, lines: &mut Lines, fill: usize) -> [Token; 3] {
         let flags: Vec<bool> = (0..fill).map(|i| flag(&self.z, i)).collect();
         let (builder, finished) = builder(&flags);
@@ -274,7 +274,7 @@ impl Lent {
         }
     }
 
-    /// An append: what it leaves is the builder of all flags that the Rust froze.
+    /// Writes an append, which leaves the builder of all flags that the Rust froze.
     fn appended(&mut self, lines: &mut Lines, call: &'static str, request: &[Token], answer: &[Token]) {
         let start = self.filled(lines, number(request[0]));
         let mut arguments = [&start, &request[1..]].concat();
@@ -291,7 +291,7 @@ fn cursor(start: usize, length: usize, place: usize) -> [Token; 3] {
     [start, length, place].map(|n| Some(n as u64))
 }
 
-/// Each word, then that there is none, then the remainder.
+/// Writes a step for each word, then one with no word, then the remainder.
 fn chunks(lines: &mut Lines, new: &'static str, request: &[Token], answer: &[Token]) {
     let (start, length) = if request.len() == 1 { (0, number(request[0])) } else { (number(request[0]), number(request[1])) };
     let (words, rest) = answer.split_at(answer.len() - 2);
@@ -316,7 +316,7 @@ fn runs(lines: &mut Lines, request: &[Token], answer: &[Token]) {
     lines.step("SlicesIterator::next", &place, &[], &cursor(start, length, length));
 }
 
-/// Steps of one cursor: 0 take_leading_ones, 1 take_leading_zeros, n + 2 nth(n).
+/// Writes the steps of one cursor: 0 take_leading_ones, 1 take_leading_zeros, n + 2 nth(n).
 fn steps(lines: &mut Lines, request: &[Token], answer: &[Token]) {
     let (start, length) = (number(request[0]), number(request[1]));
     let mut place = 0;

@@ -1,4 +1,4 @@
-//! The list: its lines, and how many records of each call there are.
+//! The list: its lines, and how many requests of each call there are.
 
 use crate::lines::{Lent, Token};
 use std::fmt::Write;
@@ -56,26 +56,29 @@ const CALLS: [&str; 49] = [
     "opt_gather_extend_from_slice",
 ];
 
-/// Numbers in a row.
+/// A row of numbers.
 #[derive(Default)]
 pub struct Numbers(Vec<Token>);
 
 impl Numbers {
+    /// Returns a row of these numbers.
     pub fn of(numbers: &[usize]) -> Self {
         numbers.iter().fold(Self::default(), |all, &n| all.number(n))
     }
 
+    /// Appends a number.
     pub fn number(mut self, n: usize) -> Self {
         self.0.push(Some(n as u64));
         self
     }
 
+    /// Appends a word.
     pub fn word(mut self, w: u64) -> Self {
         self.0.push(Some(w));
         self
     }
 
-    /// A zero count, or that it is not known.
+    /// Appends a zero count, known or not.
     pub fn count(mut self, zeros: Option<usize>) -> Self {
         match zeros {
             Some(zeros) => self.number(zeros),
@@ -86,7 +89,7 @@ impl Numbers {
         }
     }
 
-    /// Flags as words of 64, zeros above the last one.
+    /// Appends flags as words of 64, zeros after the last flag.
     pub fn flags(mut self, flags: impl Iterator<Item = bool>) -> Self {
         let flags: Vec<bool> = flags.collect();
         for part in flags.chunks(64) {
@@ -96,6 +99,7 @@ impl Numbers {
     }
 }
 
+/// The text of the list, and its requests counted.
 pub struct List {
     text: String,
     lent: Lent,
@@ -107,11 +111,12 @@ impl List {
         Self { text: String::new(), lent: Lent::default(), requests: [0; CALLS.len()] }
     }
 
+    /// Writes a comment line.
     pub fn comment(&mut self, text: &str) {
         writeln!(self.text, "# {text}").unwrap();
     }
 
-    /// The bytes that the records below are asked about: x, y or z.
+    /// Lends bytes to the records that follow as x, y or z.
     pub fn lend(&mut self, letter: char, bytes: &[u8]) {
         match letter {
             'x' => self.lent.x = bytes.to_vec(),
@@ -128,6 +133,7 @@ impl List {
         self.text.push('\n');
     }
 
+    /// Writes the lines of a record and counts their requests.
     pub fn record(&mut self, call: &str, request: Numbers, answer: Numbers) {
         let lines = self.lent.lines(call, &request.0, &answer.0);
         for call in lines.calls {
@@ -140,7 +146,7 @@ impl List {
         &self.text
     }
 
-    /// What the program prints where no answer differs.
+    /// Returns what the program prints if no answer differs.
     pub fn totals(&self) -> String {
         let mut totals = String::new();
         for (call, requests) in CALLS.iter().zip(self.requests) {

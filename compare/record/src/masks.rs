@@ -4,7 +4,7 @@ use crate::draw::{Draw, KINDS, Kind};
 use crate::list::{List, Numbers};
 use original::bitmap::{self as rust, Bitmap};
 
-/// A mask over a span of the bytes, its zeros counted or not.
+/// Returns a mask over a span of the bytes, its zeros counted or not.
 pub fn bitmap(bytes: &[u8], start: usize, length: usize, counted: bool) -> Bitmap {
     let whole = Bitmap::try_new(bytes.to_vec(), 8 * bytes.len()).expect("so many flags");
     let mask = whole.sliced(start, length);
@@ -14,11 +14,12 @@ pub fn bitmap(bytes: &[u8], start: usize, length: usize, counted: bool) -> Bitma
     mask
 }
 
-/// A mask that a call gave: its length, its zero count, its flags.
+/// Returns the numbers of a mask that a call made: its length, its zero count, its flags.
 pub fn mask(mask: &Bitmap) -> Numbers {
     Numbers::of(&[mask.len()]).count(mask.lazy_unset_bits()).flags(mask.iter())
 }
 
+/// Records the calls on masks.
 pub fn record(list: &mut List, draw: &mut Draw) {
     for _ in 0..100 {
         let length = draw.length(600);
@@ -41,25 +42,25 @@ pub fn record(list: &mut List, draw: &mut Draw) {
     }
 }
 
-/// The bytes of x, y and z. Where x and y are of one kind, the flags of y are those of x, `shift` places on.
+/// The bytes of x, y and z. If x and y are of one kind, flag j + `shift` of y is flag j of x.
 struct Lent {
     bytes: [Vec<u8>; 3],
     shift: Option<usize>,
 }
 
-/// A mask of the request, as it is written and as the Rust has it.
+/// A mask of a request: its start in the bytes lent, and the Rust's mask.
 struct Argument {
     start: usize,
     mask: Bitmap,
 }
 
 impl Argument {
-    /// Its start, its length and its count.
+    /// Appends its start, its length and its count.
     fn whole(&self, all: Numbers) -> Numbers {
         all.number(self.start).number(self.mask.len()).count(self.mask.lazy_unset_bits())
     }
 
-    /// Its start and its count, where the length is that of the first mask.
+    /// Appends its start and its count, for a mask as long as the first.
     fn further(&self, all: Numbers) -> Numbers {
         all.number(self.start).count(self.mask.lazy_unset_bits())
     }
@@ -148,7 +149,7 @@ impl Lent {
         list.record("unset_bits", a.whole(Numbers::default()), Numbers::of(&[a.mask.unset_bits()]));
     }
 
-    /// Lengths around the ones from which on a known count is counted again, and others.
+    /// Records slices of lengths around the least for which a known count is counted again, and of others.
     fn slices(&self, list: &mut List, draw: &mut Draw, length: usize) {
         let edge = length.saturating_sub((length / 5).max(32));
         for n in [length, edge, edge.saturating_sub(1), draw.below(length + 1)] {

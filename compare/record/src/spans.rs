@@ -8,6 +8,7 @@ use original::bitmap::aligned::AlignedBitmapSlice;
 use original::bitmap::bitmask::BitMask;
 use original::bitmap::utils::{self, BitChunkIterExact, BitChunks, BitChunksExact};
 
+/// Records the calls over spans of x, and the iterators.
 pub fn record(list: &mut List, draw: &mut Draw) {
     for kind in KINDS {
         for size in [40, 43] {
@@ -28,7 +29,7 @@ pub fn record(list: &mut List, draw: &mut Draw) {
     long(list, draw);
 }
 
-/// Bytes whose first one stands at an address of a given remainder by 8.
+/// Bytes that begin at an address with a given remainder by 8.
 struct Placed {
     space: Vec<u8>,
     first: usize,
@@ -58,7 +59,7 @@ const COUNTS: [(&str, Count); 5] = [
     ("trailing_ones", utils::trailing_ones),
 ];
 
-/// Every start of the first two bytes, and some around a word, at every address in turn.
+/// Records counts at every start of the first two bytes and some around a word, at drawn addresses.
 fn counts(list: &mut List, draw: &mut Draw, x: &[u8]) {
     for start in (0..=16).chain([63, 64, 65]).filter(|&start| start <= 8 * x.len()) {
         for _ in 0..4 {
@@ -120,7 +121,7 @@ fn searches(list: &mut List, draw: &mut Draw, x: &[u8]) {
     }
 }
 
-/// Some hundred words.
+/// Records calls over some hundred words.
 fn long(list: &mut List, draw: &mut Draw) {
     for kind in [Kind::Random, Kind::FewOnes, Kind::FewZeros, Kind::Runs] {
         let x = draw.bytes(kind, 1000);

@@ -4,6 +4,7 @@ use crate::draw::Draw;
 use crate::list::{List, Numbers};
 use original::bitmap::bitmask::{nth_set_bit_u32, nth_set_bit_u64};
 
+/// Records the calls on words.
 pub fn record(list: &mut List, draw: &mut Draw) {
     for offset in (1..64).cycle().take(1008) {
         let (current, next) = (draw.mixed_word(), draw.mixed_word());
@@ -24,7 +25,7 @@ pub fn record(list: &mut List, draw: &mut Draw) {
     }
 }
 
-/// A position, or nothing.
+/// Returns a position as a row of one number, or an empty row.
 pub fn found(position: Option<usize>) -> Numbers {
     position.map_or_else(Numbers::default, |p| Numbers::of(&[p]))
 }

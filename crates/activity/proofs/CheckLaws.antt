@@ -1,4 +1,4 @@
--- The test of a record: its folds, and what it says fact by fact. Assumes nothing.
+-- The check of a record: its folds, and what it states fact by fact.
 use Rattle.std.proofs.Common.{◌≡◌, ◌∙◌, ◌-◌, ◌≤◌, ◌==◌, ◌&&◌, ◌∷◌, [], ℕ, zero, suc, Bool, true, false, List, refl, sym, ap, ap₂, arith}
 use Rattle.std.proofs.Common.{eqb, fold, length, take, drop, replicate, length-take, length-drop, eq-eqb}
 use Rattle.std.proofs.Math.Bool.{and_assoc, and-true}
@@ -23,21 +23,21 @@ first-not r t u e h = ap (λ (y : Bool). y && u) (sym h ∙ e)
 
 -- ---- the folds
 
--- two words joined are zero if both are
+-- two words joined by `or` are zero if and only if both are
 joined-zero : (a b : ℕ) → eqb (bit_or a b) 0 ≡ (eqb a 0 && eqb b 0)
 joined-zero zero b = ap (λ (x : ℕ). eqb x 0) (or_zero_l b)
 joined-zero (suc a) b =
     ne_eqb (bit_or (suc a) b) 0 (λ h. absurd (omega (arith, le_or_l (suc a) b)))
     ∙ sym (ap (λ (t : Bool). t && eqb b 0) (ne_eqb (suc a) 0 (λ h. absurd (omega arith))))
 
--- over the words behind the kept ones; z joins those before
+-- the fold over the words after the kept ones; z joins those before
 pub zero-fold : (l : List ℕ) (z : ℕ) → eqb (fold (λ all w. bit_or all w) z l) 0 ≡ (eqb z 0 && all_zero l)
 unfolding all_zero
 zero-fold [] z = sym (and-true (eqb z 0))
 zero-fold (w ∷ l) z = zero-fold l (bit_or z w) ∙ ap (λ (t : Bool). t && all_zero l) (joined-zero z w)
     ∙ and_assoc (eqb z 0) (eqb w 0) (all_zero l)
 
--- over the counts; s says whether those before were the same
+-- the fold over the counts; s is whether those before were the same
 pub same-fold : (a b : List ℕ) (s : Bool) → length a ≡ length b
     → fold (λ (s : Bool) (p : ℕ × ℕ). s && (p.0 == p.1)) s (zip a b) ≡ (s && same_numbers a b)
 unfolding same_numbers
@@ -46,7 +46,7 @@ same-fold [] (n ∷ b) s h = absurd (omega arith)
 same-fold (m ∷ a) [] s h = absurd (omega arith)
 same-fold (m ∷ a) (n ∷ b) s h = same-fold a b (s && eqb m n) (omega arith) ∙ and_assoc s (eqb m n) (same_numbers a b)
 
--- ---- what the parts say
+-- ---- what the parts state
 
 pub zero-words : (l : List ℕ) → all_zero l ≡ true → l ≡ replicate (length l) 0
 unfolding all_zero
@@ -60,7 +60,7 @@ unfolding all_zero
 zeros-zero zero = refl
 zeros-zero (suc n) = and_from (eqb 0 0) (all_zero (replicate n 0)) (eq-eqb 0 0 refl) (zeros-zero n)
 
--- fewer words are looked at
+-- if all words after the first m are zero, all after more are
 pub zero-later : (l : List ℕ) (m n : ℕ) → m ≤ n → all_zero (drop m l) ≡ true → all_zero (drop n l) ≡ true
 unfolding all_zero
 zero-later l zero zero p h = h
@@ -83,12 +83,11 @@ unfolding same_numbers
 same-itself [] = refl
 same-itself (n ∷ a) = and_from (eqb n n) (same_numbers a a) (eq-eqb n n refl) (same-itself a)
 
--- at most 511 words are counted whole
+-- at most 511 words are all counted
 pub counted-whole : (l : List ℕ) (n : ℕ) → n ≤ 511 → column_counts (take 511 (take n l)) ≡ column_counts (take n l)
 counted-whole l n h = ap column_counts (take_all 511 (take n l) (omega (arith, length-take n l)))
 
--- the counts of the part that is lent
--- the words behind the kept ones, as they are lent
+-- the words after the kept ones, as they are lent
 pub zero-rest : (words : List ℕ) (fill : ℕ) (z : Bool) → length words ≡ 256
     → z ≡ eqb (fold (λ all w. bit_or all w) 0 (take (256 - fill) (drop fill words))) 0 → z ≡ all_zero (drop fill words)
 zero-rest words fill z long e =
@@ -117,7 +116,7 @@ pub fill-most : (place fill width : ℕ) → numbers_fit place fill width ≡ tr
 unfolding numbers_fit inside_fits width_fits
 fill-most place fill width h = grind (arith, nat_tests)
 
--- ---- the whole test
+-- ---- the whole check
 
 pub good_of : (a : ActivityWindow) → left_by_minutes a ≡ true → Good a
 unfolding left_by_minutes numbers_fit inside_fits place_fits width_fits words_fit

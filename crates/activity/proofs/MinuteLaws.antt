@@ -1,5 +1,5 @@
--- A run of minutes, one minute after the other: the record stays good, and the kept words in the order of their minutes are the
--- last of the run. Assumes nothing.
+-- A run of minutes, one minute after the other: the record stays good, and the kept words in the order of their minutes are the last of the
+-- run.
 use Rattle.std.proofs.Common.{◌≡◌, refl, sym, ap, ◌∙◌, subst, Bool, cond, List, [], ◌∷◌, ◌++◌, append-nil, append_assoc, ⊎_elim, ℕ, suc}
 use Rattle.std.proofs.Common.{◌+◌, ◌-◌, ◌%◌, ◌≤◌, ◌<◌, min, mod-lt, mod-eq_of_lt, zero-add, add-one, arith, length, take, drop, get_or}
 use Rattle.std.proofs.Common.{set, replicate, length-set, length-append, length-take, length-drop, drop_of_length-le, take-append-drop}
@@ -21,7 +21,7 @@ use Rattle.activity.proofs.WindowLaws.{same_parts, still-zero}
 
 -- ---- the kept words in the order of their minutes
 
--- the oldest stands at the place where the next goes
+-- the kept words in order: the oldest is at the place where the next goes, if all places are taken
 abbrev pub in_order : List ℕ → ℕ → ℕ → List ℕ
 in_order words place fill = drop place (take fill words) ++ take place words
 
@@ -39,7 +39,7 @@ module _ (words : List ℕ) (p f w m : ℕ) (inside : p < w) (long : w ≤ lengt
   length_front : length (take p words) ≡ p
   length_front = length-take-le p words (omega arith)
 
-  -- what the order is where the next place is p + 1, and where it is 0
+  -- the order if the next place is p + 1, and if it is 0
   order-next : (n : ℕ) → (p + 1) % w ≡ p + 1
       → in_order (set words p m) ((p + 1) % w) n ≡ drop (p + 1) (take n (set words p m)) ++ (take p words ++ (m ∷ []))
   order-next n e =
@@ -115,7 +115,7 @@ module _ (words : List ℕ) (p f w m : ℕ) (inside : p < w) (long : w ≤ lengt
       ∙ ap (λ (n : ℕ). last_of w (in_order words p n ++ (m ∷ []))) (sym e))
       (cases_lt f w)
 
--- the last of the last and one more
+-- the last words of a run and one more minute are those of its last words and this minute
 pub last-last : (w : ℕ) (done : List ℕ) (m : ℕ) → last_of w (last_of w done ++ (m ∷ [])) ≡ last_of w (done ++ (m ∷ []))
 last-last w done m =
     let l : length (last_of w done) ≡ length done - (length done - w) = length-drop (length done - w) done in
@@ -141,7 +141,7 @@ order-counts words p f h =
     ∙ count-append (column (drop p (take f words)) c) (column (take p words) c) in
     omega arith)
 
--- ---- one minute more of a run
+-- ---- one more minute of a run
 
 pub length-placed : (w k : ℕ) (minutes words : List ℕ) → length (placed w k minutes words) ≡ length words
 unfolding placed
@@ -187,7 +187,7 @@ left-none w =
     same_parts (zeros 256) (column_counts (take (min 0 w) (zeros 256))) (zeros 64) (0 % w) 0 (min 0 w) 0 w
     (ap (λ (n : ℕ). column_counts (take n (zeros 256))) z ∙ sym no_counts) (zero-mod w) z
 
--- ---- what holds of a record that a run leaves
+-- ---- what holds for a record that a run leaves
 
 pub record After (w : ℕ) (done : List ℕ) : Type 0 where
   pub good : Good (left_by w done)

@@ -1,4 +1,4 @@
--- The theorems on runs of minutes (`Statements` of specs/Minutes.antt). Assumes nothing.
+-- The theorems on runs of minutes (`Statements` of specs/Minutes.antt).
 use Rattle.std.proofs.Common.{◌≡◌, refl, sym, ap, ap₂, ◌∙◌, Bool, true, cond, List, [], ◌∷◌, ◌++◌, ⊎_elim, ℕ, zero, suc, ◌+◌, ◌-◌, ◌%◌}
 use Rattle.std.proofs.Common.{◌≤◌, ◌<◌, min, mod-eq_of_lt, zero-add, arith, length, take, drop, set, replicate, length-append}
 use Rattle.std.proofs.Common.{length-drop, take-append-drop, length-take-le}
@@ -17,7 +17,7 @@ use Rattle.activity.proofs.CheckLaws.{width_of, good_of, good-passes, zero-words
 use Rattle.activity.proofs.WindowLaws.{made}
 use Rattle.activity.proofs.MinuteLaws.{After, after_run, left-none, pushes-from, placed-append, order-counts, same-holding}
 
--- ---- from a new record on
+-- ---- starting with a new record
 
 new-accepted : (w : ℕ) → width_fits w ≡ true → new_of w ≡ accepted (left_by w [])
 unfolding new_of
@@ -54,7 +54,7 @@ fresh-counts w minutes h =
     ∙ ap (λ (t : Bool). cond t (accepted (left_by w minutes).counts) uncounted) (run-passes w minutes h)
     ∙ ap accepted (left-counts w minutes (after_run w b.0 b.1 minutes))
 
--- ---- a run that leaves a record: its words as they stand, and where all places are taken those before the place once more
+-- ---- a run that leaves a record: its words in their places, and if all places are taken, those before the place once more
 
 words_take : (n : ℕ) (l : List ℕ) → Words l → Words (take n l)
 words_take zero [] h = tt
@@ -66,7 +66,7 @@ words_append : (a b : List ℕ) → Words a → Words b → Words (a ++ b)
 words_append [] b p q = q
 words_append (w ∷ a) b p q = (p.0, words_append a b p.1 q)
 
--- minutes that do not go round are stores from k on; q is where a round begins
+-- minutes that do not go round are stores starting at place k; q is where a round begins
 placed-sets : (w q : ℕ) → ((j : ℕ) → j < w → (q + j) % w ≡ j) → (k : ℕ) (minutes words : List ℕ) → k + length minutes ≤ w
     → placed w (q + k) minutes words ≡ sets words k minutes
 unfolding placed
@@ -77,7 +77,7 @@ placed-sets w q r k (m ∷ minutes) words h =
     ∙ ap (λ (n : ℕ). placed w n minutes (set words k m)) e
     ∙ placed-sets w q r (suc k) minutes (set words k m) (omega arith)
 
--- one such round from the first place on
+-- one such round, starting at place 0
 one-round : (w q : ℕ) → ((j : ℕ) → j < w → (q + j) % w ≡ j) → (minutes words : List ℕ) → length minutes ≤ w → w ≤ length words
     → placed w q minutes words ≡ minutes ++ drop (length minutes) words
 one-round w q r minutes words h l =

@@ -1,4 +1,4 @@
--- The number of each call is decided by its one test. Assumes nothing.
+-- The number of each call is that of its one check.
 use Rattle.std.proofs.Common.{◌≡◌, refl, Bool, true, false, cond}
 use Rattle.activity.specs.Checks.{width_fits, inside_fits, numbers_fit, left_by_minutes}
 use Rattle.activity.specs.Refusals.{Refusals}

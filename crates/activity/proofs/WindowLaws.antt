@@ -1,5 +1,4 @@
--- One minute more: the words behind the kept ones stay zero, and the counts that are exchanged are those of the new words.
--- Assumes nothing.
+-- One more minute: the words after the kept ones stay zero, and the counts that are exchanged are those of the new words.
 use Rattle.std.proofs.Common.{◌≡◌, sym, ap, ◌∙◌, true, List, ◌++◌, ⊎_elim, ℕ, ◌+◌, ◌%◌, ◌≤◌, ◌<◌, min, arith, length, take, drop, get_or}
 use Rattle.std.proofs.Common.{set, take-append-drop, drop-set-lt, get_or-set_same, get_or-set_other}
 use Rattle.std.proofs.Common.{zero-add, ap₂, ◌-◌, [], append-nil, length-append, length-take, length-drop, drop_of_length-le}
@@ -29,7 +28,7 @@ same_parts words counts counts' place place' fill fill' width e f g =
 
 -- ---- kept words and all words
 
--- words behind the kept ones are zero and count nothing
+-- words after the kept ones are zero and count nothing
 pub kept-counts : (words : List ℕ) (n : ℕ) → all_zero (drop n words) ≡ true → column_counts (take n words) ≡ column_counts words
 kept-counts words n h =
     sym (ap column_counts (sym (take-append-drop n words) ∙ ap (λ (l : List ℕ). take n words ++ l) (zero-words (drop n words) h))
@@ -41,7 +40,7 @@ module _ (a : ActivityWindow) (g : Good a) (long : length a.words ≡ 256) where
   count-all c p =
       ap (λ (l : List ℕ). get_or l c 0) (g.counted ∙ kept-counts a.words a.fill g.unused) ∙ at-columns a.words c p
 
-  -- so the flags of the word at the place are counted, of a word that is not kept too
+  -- so the flags of the word at the place are counted, even if it is not kept
   pub holds_oldest : Holds a.counts 0 64 (get_or a.words a.place 0)
   unfolding Holds
   holds_oldest c p =
@@ -86,7 +85,7 @@ module _ (a : ActivityWindow) (g : Good a) (long : length a.words ≡ 256) where
 
 -- ---- the loop over the counts
 
--- a count more is exchanged
+-- one more count is exchanged
 module _ (counts out : List ℕ) (s old new k v plus minus : ℕ) (p : k < length out) (e : minus ≡ digit_of old (s + k))
     (f : plus ≡ digit_of new (s + k)) (moved : v + minus ≡ get_or out k 0 + plus)
     (rest : (j : ℕ) → k ≤ j → get_or out j 0 ≡ get_or counts j 0)
@@ -107,7 +106,7 @@ module _ (counts out : List ℕ) (s old new k v plus minus : ℕ) (p : k < lengt
 
 -- ---- two halves
 
--- what holds of the counts holds of the first half,
+-- the first half of the counts fulfils what all do,
 pub holds-low : (counts : List ℕ) (w : ℕ) → Holds counts 0 64 w → Holds (take 32 counts) 0 32 w
 unfolding Holds
 holds-low counts w h c p =
@@ -128,7 +127,7 @@ module _ (counts low : List ℕ) (long : length low ≡ 32) where
       let e : length (drop 32 (low ++ drop 32 counts)) ≡ length (drop 32 counts) = ap length behind-low in
       omega (arith, length-take 32 (drop 32 (low ++ drop 32 counts)), length-drop 32 counts)
 
-  -- and of the second
+  -- and so does the second
   pub holds-high : (w : ℕ) → Holds counts 0 64 w → Holds (take 32 (drop 32 (low ++ drop 32 counts))) 32 32 w
   unfolding Holds
   holds-high w h c p =

@@ -1,4 +1,4 @@
--- The rows of `specs/Witnesses.antt`, by computation. Assumes nothing.
+-- The rows of `specs/Witnesses.antt`, by computation.
 use Rattle.std.proofs.Common.{◌≡◌, refl, ap, Bool, true, false, cond}
 use Rattle.words.specs.Flags.{bits, count}
 use Rattle.words.specs.Columns.{column, columns_from, column_counts}
@@ -7,7 +7,7 @@ use Rattle.activity.specs.Window.{zeros, no_minute, minute_on, accepted, refused
 use Rattle.activity.specs.Witnesses.{Refused, Accepted, Witnessed}
 use Rattle.activity.specs.declared.window.ActivityWindow.{ActivityWindow}
 
--- a record that does not pass the test is refused
+-- a record that does not pass the check is refused
 bad : (a : ActivityWindow) → left_by_minutes a ≡ false → Refused a
 unfolding push_of counts_of
 bad a h =

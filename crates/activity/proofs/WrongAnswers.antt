@@ -1,4 +1,4 @@
--- The wrong answers of `specs/WrongAnswers.antt` are ruled out, by computation. Assumes nothing.
+-- The wrong answers of `specs/WrongAnswers.antt` are ruled out, by computation.
 use Rattle.std.proofs.Common.{ℕ, refl, List, ◌∷◌, ◌++◌, take}
 use Rattle.words.proofs.WrongAnswers.{same_code, tried}
 use Rattle.words.specs.Flags.{bits, count}

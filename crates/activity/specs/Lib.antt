@@ -1,4 +1,4 @@
--- What the contracts of this crate mean. `Window` is read first.
+-- What the contracts of this crate mean. Read `Window` first.
 pub mod Checks
 pub mod Lent
 pub mod Minutes

@@ -1,4 +1,4 @@
--- By which number the calls may refuse, and what a refusal gives. Assumes nothing.
+-- The number by which the calls may refuse, and the value of a refused answer.
 use Rattle.std.specs.Prelude.{ℕ, ◌≡◌, false, cond, List, [], ◌∷◌}
 use Rattle.activity.specs.Checks.{width_fits, left_by_minutes}
 use Rattle.activity.specs.Window.{zeros, no_minute, new_of, push_of, counts_of}
@@ -8,8 +8,8 @@ use Rattle.activity.specs.declared.window.ActivityWindow.{ActivityWindow}
 abbrev pub may_give : List ℕ
 may_give = 16 ∷ []
 
--- Each call gives 0 or 16, by the one test that it makes. Refused, `new` gives a record of zeros, `push_minute` the record as it came,
--- and `counts` 64 zeros.
+-- Each call answers with the number 0 or 16, by the one check that it makes. If it is 16, the value of `new` is a record of zeros, that of
+-- `push_minute` the caller's record unchanged, and that of `counts` 64 zeros.
 pub record Refusals : Type 0 where
   pub new-number : (width : ℕ) → (new_of width).refusal ≡ cond (width_fits width) 0 16
   pub new-refused : (width : ℕ) → (new_of width).refusal ≡ 16 → (new_of width).value ≡ no_minute 0
@@ -17,5 +17,5 @@ pub record Refusals : Type 0 where
   pub push-refused : (a : ActivityWindow) (w : ℕ) → (push_of a w).refusal ≡ 16 → (push_of a w).value ≡ a
   pub counts-number : (a : ActivityWindow) → (counts_of a).refusal ≡ cond (left_by_minutes a) 0 16
   pub counts-refused : (a : ActivityWindow) → (counts_of a).refusal ≡ 16 → (counts_of a).value ≡ zeros 64
-  -- what `new` gives where it refuses is refused by the other two
+  -- the record of zeros of a refused `new` is refused by the other two
   pub zeros-refused : left_by_minutes (no_minute 0) ≡ false

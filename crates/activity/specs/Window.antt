@@ -1,4 +1,4 @@
--- A window of the last minutes and what its calls answer. Assumes nothing.
+-- A window of the last minutes and the answers of its calls.
 --
 -- The record has 256 words, of which the first `fill` are kept, 64 counts, the place where the next word goes, and the width:
 -- how many words it keeps at most.
@@ -12,16 +12,16 @@ use Rattle.activity.specs.declared.window.Refused.TheVariants.{ImpossibleWindow}
 unfoldable pub zeros : ℕ → List ℕ
 zeros n = replicate n 0
 
--- the record of these words: each count is the number of kept words with its flag set
+-- the record of these words and numbers: each count is the number of kept words with its flag set
 abbrev pub holding : List ℕ → ℕ → ℕ → ℕ → ActivityWindow
 holding words place fill width =
     record { words = words; counts = column_counts (take fill words); place = place; fill = fill; width = width }
 
--- the record of no minute
+-- the record of no minute, at this width
 unfoldable pub no_minute : ℕ → ActivityWindow
 no_minute width = record { words = zeros 256; counts = zeros 64; place = 0; fill = 0; width = width }
 
--- the record one minute on: the word at its place, in the stead of the oldest where all places are taken
+-- the record a after one more minute: w at the record's place, in place of the oldest word if all places are taken
 unfoldable pub minute_on : ActivityWindow → ℕ → ActivityWindow
 minute_on a w = holding (set a.words a.place w) ((a.place + 1) % a.width) (min (a.fill + 1) a.width) a.width
 
@@ -44,20 +44,20 @@ uncounted = refused (zeros 64)
 abbrev pub number : Refused → ℕ
 number ImpossibleWindow = 16
 
--- What a call's result says. Refused, it has the value that is named first: a window of zeros for `new`, the window as it came for
+-- A call's result as an answer. A refusal has as its value the first argument: a window of zeros for `new`, the caller's window for
 -- `push_minute`, and 64 zeros for `counts`.
 abbrev pub answer : {A : Type 0} → A → Result A Refused → Answer A
 answer back (Ok a) = accepted a
 answer back (Err e) = record { value = back; refusal = number e }
 
--- refused: a record of zeros, whose width every call refuses
+-- the answer of `new`: refused, a record of zeros, whose width every call refuses
 unfoldable pub new_of : ℕ → Answer ActivityWindow
 new_of width = cond (width_fits width) (accepted (no_minute width)) (refused (no_minute 0))
 
--- refused: the record as it came
+-- the answer of `push_minute`: refused, the record unchanged
 unfoldable pub push_of : ActivityWindow → ℕ → Answer ActivityWindow
 push_of a w = cond (left_by_minutes a) (accepted (minute_on a w)) (refused a)
 
--- refused: 64 zeros
+-- the answer of `counts`: refused, 64 zeros
 unfoldable pub counts_of : ActivityWindow → Answer (List ℕ)
 counts_of a = cond (left_by_minutes a) (accepted a.counts) uncounted

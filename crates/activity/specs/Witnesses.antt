@@ -1,4 +1,4 @@
--- Records that no run of minutes leaves, each wrong at one place, and what the calls answer. Assumes nothing.
+-- Records that no run of minutes leaves, each wrong at one place, and the answers of the calls.
 --
 -- `ActivityWindow::new` is witnessed by widths, `ActivityWindow::push_minute` and `ActivityWindow::counts` by records.
 -- `proofs/Witnesses.antt` computes the rows.
@@ -8,7 +8,7 @@ use Rattle.activity.specs.Window.{zeros, no_minute, accepted, refused, uncounted
 use Rattle.activity.specs.declared.window.ActivityWindow.{ActivityWindow}
 use Rattle.activity.specs.declared.window.Refused.TheVariants.{ImpossibleWindow}
 
--- n numbers, zero from the end of the list on
+-- n numbers: those of the list, then zeros
 abbrev pub padded : ℕ → List ℕ → List ℕ
 padded n l = l ++ zeros (n - length l)
 
@@ -16,11 +16,11 @@ abbrev pub window_of : List ℕ → List ℕ → ℕ → ℕ → ℕ → Activit
 window_of words counts place fill width =
     record { words = padded 256 words; counts = padded 64 counts; place = place; fill = fill; width = width }
 
--- the words of three minutes, 4, 1 and 3, at width 2: minute 2 stands at 0, in the stead of minute 0
+-- the words of three minutes, 4, 1 and 3, at width 2: minute 2 is at place 0, instead of minute 0
 abbrev pub three_minutes : ActivityWindow
 three_minutes = window_of (3 ∷ 1 ∷ []) (2 ∷ 1 ∷ []) 1 2 2
 
--- refused by 16: the record comes back as it is, and the counts are zeros
+-- the record a is refused by 16: it comes back unchanged, and the counts are zeros
 pub record Refused (a : ActivityWindow) : Type 0 where
   pub push : (w : ℕ) → push_of a w ≡ refused a
   pub counts : counts_of a ≡ uncounted
@@ -63,13 +63,13 @@ pub record Witnessed : Type 0 where
   -- more kept words than places
   pub fill-above : Refused (window_of (3 ∷ 1 ∷ []) (2 ∷ 1 ∷ []) 1 3 2)
   pub fill_largest : Refused (window_of (3 ∷ 1 ∷ []) (2 ∷ 1 ∷ []) 1 0xFFFFFFFFFFFFFFFF 2)
-  -- one word kept, and the next to go on top of it
+  -- one word kept, and the place of the next on top of it
   pub place-not-fill : Refused (window_of (3 ∷ []) (1 ∷ 1 ∷ []) 0 1 2)
-  -- a word behind the kept ones, below the width, behind it, and at the last place
+  -- a word after the kept ones: below the width, at the width, and at the last place
   pub stray_below-width : Refused (window_of (3 ∷ 1 ∷ []) (1 ∷ 1 ∷ []) 1 1 2)
   pub stray_behind-width : Refused (window_of (3 ∷ 1 ∷ 8 ∷ []) (2 ∷ 1 ∷ []) 1 2 2)
   pub stray_last : Refused (window_of (3 ∷ 1 ∷ zeros 253 ++ (1 ∷ [])) (2 ∷ 1 ∷ []) 1 2 2)
-  -- a count one more and one less, that of the last flag, and the largest of 32 bits
+  -- a count one too large, one too small, one for the last flag, and the largest of 32 bits
   pub count-more : Refused (window_of (3 ∷ 1 ∷ []) (3 ∷ 1 ∷ []) 1 2 2)
   pub count_less : Refused (window_of (3 ∷ 1 ∷ []) (2 ∷ 0 ∷ []) 1 2 2)
   pub count-last : Refused (window_of (3 ∷ 1 ∷ []) (2 ∷ 1 ∷ zeros 61 ++ (1 ∷ [])) 1 2 2)

@@ -1,6 +1,6 @@
--- Wrong answers that the contracts rule out. Assumes nothing.
+-- Wrong answers that the contracts rule out.
 --
--- Rows as in `WrongAnswers` of words: the definition at one input, what it gives, and two answers of a faulty call.
+-- Rows as in `WrongAnswers` of words: the definition at one input, its value there, and two answers of a faulty call.
 use Rattle.std.specs.Prelude.{[], ◌∷◌, ◌++◌}
 use Rattle.words.specs.WrongAnswers.{Tried}
 use Rattle.activity.specs.Window.{no_minute, accepted, refused, uncounted, new_of, push_of, counts_of}
@@ -26,12 +26,12 @@ pub record WrongAnswers : Type 0 where
       (accepted (window_of (3 ∷ 4 ∷ []) (1 ∷ 1 ∷ 1 ∷ []) 0 2 2))
       -- the oldest word's flags not taken off
       (accepted (window_of (3 ∷ 4 ∷ []) (2 ∷ 1 ∷ 1 ∷ []) 0 2 2))
-      -- the latest word in the stead of the oldest
+      -- the latest word replaced instead of the oldest
       (accepted (window_of (4 ∷ 1 ∷ []) (1 ∷ 0 ∷ 1 ∷ []) 0 2 2))
   -- `ActivityWindow::push_minute` of 1 after one minute at width 2
   pub push-second : Tried (push_of (window_of (3 ∷ []) (1 ∷ 1 ∷ []) 1 1 2) 1)
       (accepted (window_of (3 ∷ 1 ∷ []) (2 ∷ 1 ∷ []) 0 2 2))
-      -- the place not round to the first
+      -- the place not taken back to the first
       (accepted (window_of (3 ∷ 1 ∷ []) (2 ∷ 1 ∷ []) 2 2 2))
       -- the number of kept words not raised
       (accepted (window_of (3 ∷ 1 ∷ []) (2 ∷ 1 ∷ []) 0 1 2))
@@ -47,5 +47,5 @@ pub record WrongAnswers : Type 0 where
       uncounted
       -- the counts of the record believed
       (accepted (padded 64 (3 ∷ 1 ∷ [])))
-      -- the counts made anew
+      -- the counts computed again
       (accepted (padded 64 (2 ∷ 1 ∷ [])))

@@ -1,4 +1,4 @@
-// Is a record one that a run of minutes leaves: its numbers, its words and its counts.
+// Whether a run of minutes leaves a record: its numbers, its words and its counts.
 ghost use Rattle.std.specs.Prelude.{◌≡◌, ℕ, ◌≤◌, Bool, true, ◌&&◌, ◌==◌, fold, eqb};
 ghost use Rattle.std.specs.Int.Bits.{bit_or};
 ghost use Rattle.std.specs.List.{zip};
@@ -8,7 +8,7 @@ ghost use Rattle.activity.specs.Lent.{window_at};
 use crate::lent::Numbers;
 use words::columns::column_counts;
 
-// A window keeps 1 to 256 words.
+// Returns whether a window can have this width, 1 to 256.
 #[tactic(auto, unfolding(crate::specs::Checks::width_fits))]
 pub(crate) fn width_fits(width: usize) -> bool
     ensures { result ≡ width_fits width }
@@ -16,8 +16,8 @@ pub(crate) fn width_fits(width: usize) -> bool
     1 <= width && width <= 256
 }
 
-// Is the place one of the window's, and the number of kept words no larger than that of its places. While fewer words are kept than
-// there are places, the next goes behind them.
+// Returns whether the width is allowed, the place is one of the window's, and at most `width` words are kept. While fewer words are kept
+// than there are places, the place must be the one after them.
 #[tactic(auto, unfolding(crate::specs::Checks::numbers_fit, crate::specs::Checks::inside_fits, crate::specs::Checks::place_fits))]
 fn numbers_fit(place: usize, fill: usize, width: usize) -> bool
     ensures { result ≡ numbers_fit place fill width }
@@ -25,23 +25,23 @@ fn numbers_fit(place: usize, fill: usize, width: usize) -> bool
     width_fits(width) && place < width && fill <= width && (width <= fill || place == fill)
 }
 
-// Are all words zero. The fold joins the words, so that it is vectorised: compared with 0 one by one, 255 words take 1.8 times the
-// instructions.
+// Returns whether all words are zero. The fold joins the words, so that it is vectorised: compared with 0 one by one, 255 words take 1.8
+// times the instructions.
 fn all_zero(words: &[u64]) -> bool
     ensures { result ≡ eqb (fold (λ all w. bit_or all w) 0 words.now) 0 }
 {
     words.iter().fold(0, |all, w| all | *w) == 0
 }
 
-// Are two lists of as many numbers the same. This fold reads each pair too: with `all` it takes 3.4 times the instructions, and with `==`
-// of the arrays `push_minute` takes 1.04 times.
+// Returns whether two lists of 64 numbers are equal. This fold reads each pair: with `all` it takes 3.4 times the instructions, and with
+// `==` of the arrays `push_minute` takes 1.04 times.
 fn same_numbers(a: &[u32; 64], b: &[u32; 64]) -> bool
     ensures { result ≡ fold (λ (same : Bool) (p : ℕ × ℕ). same && (p.0 == p.1)) true (zip a.now b.now) }
 {
     a.iter().zip(b).fold(true, |same, (x, y)| same & (*x == *y))
 }
 
-// Are the words behind the kept ones zero, and the counts those of the kept ones.
+// Returns whether the words after the first `fill` are zero, and the counts are those of the first `fill`.
 #[tactic(auto, unfolding(crate::specs::Checks::words_fit))]
 fn words_fit(words: &[u64; 256], counts: &[u32; 64], fill: usize) -> bool
     requires { fill ≤ 256 }
@@ -50,7 +50,7 @@ fn words_fit(words: &[u64; 256], counts: &[u32; 64], fill: usize) -> bool
     all_zero(&words[fill..]) && same_numbers(counts, &column_counts(&words[..fill]))
 }
 
-// Does a run of minutes leave this record.
+// Returns whether a run of minutes leaves this record.
 #[tactic(auto, unfolding(crate::specs::Checks::left_by_minutes))]
 pub(crate) fn left_by_minutes(words: &[u64; 256], counts: &[u32; 64], at: Numbers) -> bool
     ensures { result ≡ left_by_minutes (window_at words.now counts.now at) }

@@ -16,8 +16,8 @@ pub struct Numbers {
     pub width: usize,
 }
 
-// Puts the word of the next minute into a window that a run of minutes leaves. Where not all places are taken the word at the place is
-// zero, so the oldest word's flags are taken off in either case.
+// Puts the word of the next minute into a window that a run of minutes leaves. If not all places are taken the word at the place is zero,
+// so that in either case the flags of the word there are taken off.
 fn minute_in(words: &mut [u64; 256], counts: &mut [u32; 64], at: Numbers, word: u64) -> Numbers
     requires { Good (window_at words.old counts.old at) }
     ensures { window_at words.new counts.new result ≡ minute_on (window_at words.old counts.old at) word }
@@ -32,8 +32,8 @@ fn minute_in(words: &mut [u64; 256], counts: &mut [u32; 64], at: Numbers, word: 
     }
 }
 
-// Puts the word of the next minute into the window of the lent arrays, and returns its numbers. Refused by 16 where no run of minutes
-// leaves the window: the arrays stay as they are.
+// Puts the word of the next minute into the window of the lent arrays, and returns its numbers. Refuses by 16 if no run of minutes leaves
+// the window: the arrays are unchanged.
 #[tactic(auto, unfolding(crate::specs::Window::push_of))]
 pub fn push_minute(
     words: &mut [u64; 256],
@@ -49,8 +49,8 @@ pub fn push_minute(
     Ok(minute_in(words, counts, at, word))
 }
 
-// Returns for each flag how many of the kept words of the lent arrays have it set. Refused by 16 where no run of minutes leaves the
-// window: the answer is then read as 64 zeros.
+// Returns for each flag how many of the kept words of the lent arrays have it set. Refuses by 16 if no run of minutes leaves the window:
+// the answer is then read as 64 zeros.
 #[tactic(auto, unfolding(crate::specs::Window::counts_of))]
 pub fn counts(words: &[u64; 256], counts: &[u32; 64], at: Numbers) -> Result<[u32; 64], Refused>
     ensures { answer (zeros 64) result ≡ counts_of (window_at words.now counts.now at) }

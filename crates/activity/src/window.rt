@@ -8,8 +8,8 @@ use crate::lent::{self, Numbers};
 use std::error::Error;
 use std::fmt;
 
-// Minute k, counted from 0, stands at k mod width. Unused words are zero. `place` is where the next word goes, and `fill` the
-// number of words kept. The words are an array with their number beside it, since there is no heap and C lends arrays of this length.
+// A window of minutes. Minute k, counted from 0, is kept at k mod width. Unused words are zero. `place` is where the next word goes, and
+// `fill` the number of words kept. The words are an array and their number, since there is no heap and C lends arrays of this length.
 #[derive(Clone, Copy)]
 pub struct ActivityWindow {
     pub words: [u64; 256],
@@ -19,10 +19,10 @@ pub struct ActivityWindow {
     pub width: usize,
 }
 
-// Why a call refused.
+// The reason for a refusal.
 #[derive(Clone, Copy, Debug, PartialEq, Eq)]
 pub enum Refused {
-    // No run of minutes leaves the window, or there is no window of the width.
+    // No run of minutes leaves the window, or no window has the width.
     ImpossibleWindow,
 }
 
@@ -36,7 +36,7 @@ impl fmt::Display for Refused {
 
 impl Error for Refused {}
 
-// The number of the check that refused.
+// The number of the check that failed.
 impl From<Refused> for u8 {
     ghost from_gives = { λ e n. n ≡ number e };
 
@@ -48,8 +48,8 @@ impl From<Refused> for u8 {
 }
 
 impl ActivityWindow {
-    // Returns a window that keeps `width` words, 1 to 256, and has none yet. Refused by 16, the answer is read as a window of zeros,
-    // which every call refuses.
+    // Returns a window that keeps up to `width` words, 1 to 256, and has none yet. Refuses any other width by 16: the answer is then read
+    // as a window of zeros, which every call refuses.
     #[tactic(auto, unfolding(crate::specs::Window::new_of))]
     pub fn new(width: usize) -> Result<ActivityWindow, Refused>
         ensures { answer (no_minute 0) result ≡ new_of width }
@@ -58,8 +58,8 @@ impl ActivityWindow {
         Ok(no_minute(width))
     }
 
-    // Returns the window one minute on, with the word of that minute in it. Refused by 16 where no run of minutes leaves this
-    // window: the caller's stays as it is.
+    // Returns the window after one more minute, with `word` as the word of that minute. Refuses by 16 if no run of minutes leaves this
+    // window: the caller's is unchanged.
     #[tactic(auto, unfolding(crate::specs::Window::push_of))]
     pub fn push_minute(self, word: u64) -> Result<ActivityWindow, Refused>
         ensures { answer self result ≡ push_of self word }
@@ -82,8 +82,8 @@ impl ActivityWindow {
         })
     }
 
-    // Returns for each flag how many of the kept words have it set. Refused by 16 where no run of minutes leaves this window: the
-    // answer is then read as 64 zeros.
+    // Returns for each flag how many of the kept words have it set. Refuses by 16 if no run of minutes leaves this window: the answer is
+    // then read as 64 zeros.
     #[tactic(auto, unfolding(crate::specs::Window::counts_of))]
     pub fn counts(self) -> Result<[u32; 64], Refused>
         ensures { answer (zeros 64) result ≡ counts_of self }
@@ -97,7 +97,7 @@ impl ActivityWindow {
     }
 }
 
-// Refuses by 16 where the test failed.
+// Refuses by 16 unless the check has passed.
 pub(crate) fn check(passed: bool) -> Result<(), Refused>
     ensures { result ≡ cond passed (Ok tt) (Err ImpossibleWindow) }
 {
@@ -108,7 +108,7 @@ pub(crate) fn check(passed: bool) -> Result<(), Refused>
     }
 }
 
-// Returns the window of no minute.
+// Returns the window of no minute that keeps up to `width` words.
 #[tactic(auto, unfolding(crate::specs::Window::no_minute, crate::specs::Window::zeros))]
 fn no_minute(width: usize) -> ActivityWindow
     ensures { result ≡ no_minute width }

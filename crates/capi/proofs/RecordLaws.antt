@@ -1,4 +1,4 @@
--- A record that crosses and comes back is the same: nothing of it is lost on the way. Assumes nothing.
+-- A record of masks that is returned to C and passed back is unchanged: nothing of it is lost.
 use Rattle.std.specs.Prelude.{Option, Some, None}
 use Rattle.std.proofs.Common.{◌≡◌, refl, ap, ◌∙◌, Bool, true, false, List, ℕ, zero, suc}
 use Rattle.masks.specs.Answer.{checked, decided, kept}
@@ -31,12 +31,12 @@ pub mask-back : (m : Bitmap) → mask_in (mask_out m) ≡ m
 unfolding mask_out
 mask-back m = mask-with m.serial m.start m.length m.unset
 
--- a builder, whose serial the caller keeps
+-- a builder that is returned and passed back with the serial that the caller kept is unchanged
 pub builder-back : (b : BitmapBuilder) → serial_builder_in (builder_out b).length (builder_out b).word (builder_out b).ones b.serial ≡ b
 unfolding serial_builder_in builder_out
 builder-back b = refl
 
--- ---- an append gives the same numbers and bytes whatever the serial is: so it need not cross
+-- ---- an append returns the same numbers and bytes whatever the serial is: so the serial need not be passed
 
 as-builder : (k : ℕ) (s t x y : BitmapBuilder) → builder_out s ≡ builder_out t → builder_out x ≡ builder_out y
     → as_builder (decided k s x) ≡ as_builder (decided k t y)

@@ -1,6 +1,6 @@
--- Each export refuses by the numbers listed for it alone, and gives back what came. Assumes nothing.
+-- Each export refuses only by the numbers listed for it, and then returns unchanged what was passed.
 --
--- An encoding keeps the answer's number, so that what masks, dispatch and activity say of the answer holds of the record that crosses.
+-- An encoding keeps the answer's number, so the laws of masks, dispatch and activity on the answer hold of the record that is returned.
 use Rattle.std.specs.Prelude.{Option, Some, None}
 use Rattle.std.proofs.Common.{ℕ, ◌≡◌, refl, sym, ap, subst, ◌∙◌, Bool, true, false, not, cond, List, [], ◌∷◌}
 use borrow.Author.Tests.{ne_eqb}
@@ -38,16 +38,16 @@ use Rattle.capi.specs.declared.records.Cursor.{Cursor}
 use Rattle.capi.specs.declared.records.Mask.{Mask}
 use Rattle.capi.proofs.WindowLaws.{stays}
 
--- are these all numbers of refusals
+-- each of ns is a number of a refusal
 abbrev Listed : List ℕ → Type 0
 Listed ns = all_among ns numbers ≡ true
 
--- the number of an answer, 0 where it refuses nothing
+-- the number of an answer, 0 if it is no refusal
 abbrev number_in : {S A : Type 0} → Answer S A → ℕ
 number_in (given a) = 0
 number_in (refused k s) = k
 
--- ---- what is said of an answer is said of its number
+-- ---- what holds of an answer holds of its number
 
 no_number : (ns : List ℕ) → Listed ns → Gives ns 0
 no_number ns l = record { listed = l; number = λ h. absurd (h refl) }
@@ -67,7 +67,7 @@ unwritten-in : {S A : Type 0} (ns : List ℕ) (s : S) (a : Answer S A) (before a
 unwritten-in ns s (given x) before after r h = absurd (h refl)
 unwritten-in ns s (refused k t) before after r h = r.unwritten k t refl
 
--- of an encoding that keeps the number
+-- laws of an encoding that keeps the number: a is the answer, k the number in its record
 module _ {S A : Type 0} (ns : List ℕ) (s : S) (l : Listed ns) (a : Answer S A) (k : ℕ) (e : k ≡ number_in a) where
   gives : Refuses ns s a → Gives ns k
   gives r = subst (λ (n : ℕ). Gives ns n) (sym e) (number-in ns s l a r)
@@ -151,7 +151,7 @@ unfolding as_nth all_among
 nth-gives (Ok p) = no_number [] refl
 nth-gives (Err k) = no_number [] refl
 
--- ---- what comes back
+-- ---- what is returned unchanged
 
 module _ (ns : List ℕ) (l : Listed ns) where
   mask-back : {S : Type 0} (m : Mask) (s : S) (a : Answer S Bitmap) → Refuses ns s a
@@ -224,13 +224,13 @@ module _ (ns : List ℕ) (l : Listed ns) where
         unwritten = unwritten ns _ l _ _ (of-builder (append_answer a (builder_in n word ones) buf)) buf _ r;
       }
 
--- ---- a cursor over positions: a number other than 0 says that there is a mask
+-- ---- a cursor over positions has a mask if `masked` is not 0
 
 true_in_lem : (start n place masked : ℕ) → (masked ≡ 0 → ⊥) → true_in start n place masked ≡ true_at start n place true
 unfolding true_in
 true_in_lem start n place masked h = ap (λ (x : Bool). true_at start n place (not x)) (ne_eqb masked 0 h)
 
--- ---- a window of minutes, whose one number is 16
+-- ---- a window of minutes, whose only number is 16
 
 sixteen : (x : Bool) (k : ℕ) → k ≡ cond x 0 16 → (k ≡ 0 → ⊥) → k ≡ 16
 sixteen true k e h = absurd (h e)

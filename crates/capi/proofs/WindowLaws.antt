@@ -1,4 +1,4 @@
--- The laws of the exports of a window of minutes. Assumes nothing.
+-- The laws of the exports of a window of minutes.
 use Rattle.std.proofs.Common.{ℕ, ◌≡◌, sym, ap, Bool, cond, List}
 use borrow.Author.Tests.{ne_eqb}
 use Rattle.capi.specs.Window.{unless_refused}

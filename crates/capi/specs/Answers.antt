@@ -1,7 +1,7 @@
--- The records in which answers cross, defined by what an answer holds and not call by call. Assumes nothing.
+-- The records in which answers are returned to C and Rust, defined by what an answer holds and not call by call.
 --
--- `refusal` is 0, or the number of the refusing check. On refusal what the call got and gives back stands there as it came: a mask, a
--- builder, a cursor's place, the cursor of an offer, a window's numbers. Every other field is then 0.
+-- `refusal` is 0, or the number of the check that failed. On refusal the record has what the call would have changed, unchanged: a mask,
+-- a builder, a cursor's place, the cursor of an offer, a window's numbers. Every other field is then 0.
 use Rattle.std.specs.Prelude.{ℕ, Bool, true, false, Option, Some, None, Result, Ok, Err}
 use Rattle.words.specs.Flags.{digit}
 use Rattle.masks.specs.declared.next_and_not.Found.{Found}
@@ -59,7 +59,7 @@ as_position (given (Some p)) = position_of 0 true p
 as_position (given None) = position_of 0 false 0
 as_position (refused k s) = position_of k false 0
 
--- the set bit of a word, whose call refuses nothing
+-- the answer of a search for a set bit of a word, which refuses nothing
 unfoldable pub as_nth : Result ℕ ℕ → NthAnswer
 as_nth (Ok p) = record { refusal = 0; found = true; value = p; ones = 0 }
 as_nth (Err k) = record { refusal = 0; found = false; value = 0; ones = k }
@@ -95,12 +95,12 @@ as_offer (refused k cursor) = offer_record k false 0 cursor 0
 abbrev pub mask_answer : ℕ → Mask → MaskAnswer
 mask_answer k m = record { refusal = k; mask = m }
 
--- of a call that got no mask, or gives none back
+-- the answer of a call that returns a mask, and none on refusal
 unfoldable pub as_mask : {S : Type 0} → Answer S Bitmap → MaskAnswer
 as_mask (given m) = mask_answer 0 (mask_out m)
 as_mask (refused k s) = mask_answer k no_mask
 
--- of a call that gives the mask that it got back: the record itself, as it came
+-- the answer of a slice: on refusal the record that was passed, with every number unchanged
 unfoldable pub as_same_mask : {S : Type 0} → Mask → Answer S Bitmap → MaskAnswer
 as_same_mask came (given m) = mask_answer 0 (mask_out m)
 as_same_mask came (refused k s) = mask_answer k came
@@ -120,7 +120,7 @@ unfoldable pub as_zeros : {S : Type 0} → Mask → Answer S Recounted → Zeros
 as_zeros came (given r) = zeros_of 0 r.zeros (mask_out r.mask)
 as_zeros came (refused k s) = zeros_of k 0 came
 
--- which of two slices holds the winner of two masks, the part of it that does, and the winner's record over that part
+-- whether the winner of two masks is in the second slice, the part of its slice that holds it, and its record over that part
 abbrev pub part_answer : ℕ → Bool → ℕ → ℕ → Mask → PartAnswer
 part_answer k second from to m = record { refusal = k; second = second; from = from; to = to; mask = m }
 
@@ -137,7 +137,7 @@ unfoldable pub as_builder : Answer BitmapBuilder BitmapBuilder → BuilderAnswer
 as_builder (given b) = builder_answer 0 (builder_out b)
 as_builder (refused k b) = builder_answer k (builder_out b)
 
--- ---- a cursor, and what it gives
+-- ---- a cursor, and what its steps return
 
 abbrev pub cursor_answer : ℕ → Cursor → CursorAnswer
 cursor_answer k c = record { refusal = k; cursor = c }
@@ -149,13 +149,13 @@ as_cursor out (refused k s) = cursor_answer k no_cursor
 abbrev pub step_of : ℕ → Bool → ℕ → ℕ → ℕ → StepAnswer
 step_of k found value n place = record { refusal = k; found = found; value = value; count = n; place = place }
 
--- an item as `value` and `count`, and where the cursor behind it stands
+-- an item as `value` and `count`, and the place of the cursor after the step
 unfoldable pub as_step : {C A : Type 0} → (A → ℕ) → (A → ℕ) → (C → ℕ) → Answer C (Step C A) → StepAnswer
 as_step value count place (given (item a c)) = step_of 0 true (value a) (count a) (place c)
 as_step value count place (given (ended c)) = step_of 0 false 0 0 (place c)
 as_step value count place (refused k c) = step_of k false 0 0 (place c)
 
--- the item is a number (a word, a position), a flag, a run
+-- steps whose item is a number (a word, a position), a flag, a run
 unfoldable pub as_word : {C : Type 0} → (C → ℕ) → Answer C (Step C ℕ) → StepAnswer
 as_word place a = as_step (λ (n : ℕ). n) (λ (n : ℕ). 0) place a
 
@@ -165,17 +165,17 @@ as_bit place a = as_step digit (λ (x : Bool). 0) place a
 unfoldable pub as_run : {C : Type 0} → (C → ℕ) → Answer C (Step C Run) → StepAnswer
 as_run place a = as_step (λ (r : Run). r.start) (λ (r : Run). r.length) place a
 
--- a number of flags as `count`, and where the cursor past them stands
+-- a number of flags or positions as `count`, and the place of the cursor past them
 unfoldable pub as_taken : {C : Type 0} → (C → ℕ) → Answer C (ℕ × C) → StepAnswer
 as_taken place (given (n, c)) = step_of 0 true 0 n (place c)
 as_taken place (refused k c) = step_of k false 0 0 (place c)
 
--- a word as `value`, the number of its flags as `count`; the call moves no cursor, which stays at its place
+-- a word as `value`, the number of its flags as `count`, and the place that was passed: the call moves no cursor
 unfoldable pub as_remainder : {C : Type 0} → ℕ → Answer C (ℕ × ℕ) → StepAnswer
 as_remainder place (given (w, n)) = step_of 0 true w n place
 as_remainder place (refused k c) = step_of k false 0 0 place
 
--- ---- a span cut in parts
+-- ---- a span split in parts
 
 abbrev pub split_of : ℕ → ℕ → ℕ → ℕ → ℕ → ℕ → ℕ → SplitAnswer
 split_of k prefix prefix_len bulk_start_of bulk_len suffix suffix_len =

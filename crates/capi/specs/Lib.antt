@@ -1,4 +1,4 @@
--- What the contracts of this crate mean: how records and answers cross as numbers, and by which numbers each
+-- What the contracts of this crate mean: how records and answers are passed as numbers, and by which numbers each
 -- export may refuse.
 -- What a call answers is defined in words, activity, masks and dispatch.
 pub mod Answers

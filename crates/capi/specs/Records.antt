@@ -1,4 +1,4 @@
--- The records that cross, and what each is as a record of masks. Assumes nothing.
+-- The records that are passed to and from C and Rust, and the record of masks that each one is.
 use Rattle.std.specs.Prelude.{ℕ, Bool, not, cond, eqb, Option, Some, None}
 use Rattle.words.specs.Flags.{digit}
 use Rattle.masks.specs.Builder.{builder_under}
@@ -16,14 +16,14 @@ use Rattle.capi.specs.declared.records.Mask.{Mask}
 
 -- ---- the mask
 
--- the count is read where `known` is not 0
+-- a zero count, which is read only if `known` is not 0
 unfoldable pub count_in : ℕ → ℕ → Option ℕ
 count_in zeros known = cond (eqb known 0) None (Some zeros)
 
 unfoldable pub mask_in : Mask → Bitmap
 mask_in m = mask_under m.serial m.start m.length (count_in m.zeros m.known)
 
--- an unknown count is given as 0
+-- a mask's record, in which an unknown count is 0
 abbrev pub mask_with : ℕ → ℕ → ℕ → Option ℕ → Mask
 mask_with serial start n (Some z) = record { start = start; length = n; zeros = z; known = 1; serial = serial }
 mask_with serial start n None = record { start = start; length = n; zeros = 0; known = 0; serial = serial }
@@ -31,35 +31,35 @@ mask_with serial start n None = record { start = start; length = n; zeros = 0; k
 unfoldable pub mask_out : Bitmap → Mask
 mask_out m = mask_with m.serial m.start m.length m.unset
 
--- in place of a mask where there is none
+-- the record in place of a mask if there is no mask
 abbrev pub no_mask : Mask
 no_mask = mask_with 0 0 0 None
 
--- a mask that may be absent: its record is not read where it is
+-- a mask that may be absent: the record of an absent one is not read
 unfoldable pub optional_in : Bool → Mask → Option Bitmap
 optional_in present m = cond present (Some (mask_in m)) None
 
 -- ---- the builder
 
--- with the serial that its caller kept
+-- a builder with the serial that the caller kept
 unfoldable pub serial_builder_in : ℕ → ℕ → ℕ → ℕ → BitmapBuilder
 serial_builder_in n word ones serial = builder_under serial n word ones
 
--- to append to: its serial does not cross, and 0 stands for it
+-- a builder to append to: its serial is 0, since an export that appends is not passed one
 unfoldable pub builder_in : ℕ → ℕ → ℕ → BitmapBuilder
 builder_in n word ones = builder_under 0 n word ones
 
 unfoldable pub builder_out : BitmapBuilder → Builder
 builder_out b = record { length = b.length; word = b.word; ones = b.ones }
 
--- ---- the cursors: one record for all, of which only that over positions says whether there is a mask
+-- ---- the cursors: one record for all; only in that over positions can `masked` be 0, if there is no mask
 --
--- A cursor goes in as its numbers. A call that moves it gives its new place alone: what else it holds stays.
+-- A cursor is passed as its numbers. A call that moves it returns only its new place: its other numbers do not change.
 
 abbrev pub cursor_of : ℕ → ℕ → ℕ → ℕ → Cursor
 cursor_of start n place masked = record { start = start; length = n; place = place; masked = masked }
 
--- in place of a cursor where there is none
+-- the record in place of a cursor if there is no cursor
 abbrev pub no_cursor : Cursor
 no_cursor = cursor_of 0 0 0 0
 
@@ -78,7 +78,7 @@ true_in start n place masked = true_at start n place (not (eqb masked 0))
 unfoldable pub true_out : TrueIdxIter → Cursor
 true_out c = cursor_of c.start c.length c.place (digit c.masked)
 
--- where a cursor stands
+-- the place of a cursor
 
 abbrev pub chunks_place : BitChunks → ℕ
 chunks_place c = c.place

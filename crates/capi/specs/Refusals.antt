@@ -1,8 +1,8 @@
--- By which numbers each export may refuse, and what it then gives back. Assumes nothing.
+-- By which numbers each export may refuse, and what it then returns unchanged.
 --
--- A field for each export that can refuse, through the definition that its contract cites; the numbers listed are those that the header
--- has for it. Exports that are not here give no number: `pw_load_padded_le_u64`, `pw_merge_reversed`, `pw_builder_new`,
--- `pw_bitmap_new` and `pw_interface_3`.
+-- There is a field for each export that returns a refusal's number or 0, stated with the definition that its contract cites; the numbers
+-- listed are those that the header has for it. Exports that are not here return no such number: `pw_load_padded_le_u64`,
+-- `pw_merge_reversed`, `pw_builder_new`, `pw_bitmap_new` and `pw_interface_3`.
 use Rattle.std.specs.Prelude.{ℕ, ◌≡◌, Bool, true, false, List, [], ◌∷◌, length}
 use Rattle.words.specs.Ends.{leading, trailing}
 use Rattle.words.specs.Flags.{bits}
@@ -40,28 +40,28 @@ use Rattle.capi.specs.Window.{as_window, unless_refused, window_in}
 use Rattle.capi.specs.declared.records.Builder.{Builder}
 use Rattle.capi.specs.declared.records.Mask.{Mask}
 
--- ---- what is said of an export
+-- ---- the statements on an export
 
 -- the numbers by which a call may refuse
 abbrev pub numbers : List ℕ
 numbers = 1 ∷ 2 ∷ 3 ∷ 4 ∷ 5 ∷ 6 ∷ 7 ∷ 8 ∷ 9 ∷ 14 ∷ 16 ∷ []
 
--- the number k that comes out is 0 or one of these
+-- the number k that is returned is 0 or one of ns
 pub record Gives (ns : List ℕ) (k : ℕ) : Type 0 where
   pub listed : all_among ns numbers ≡ true
   pub number : (k ≡ 0 → ⊥) → among k ns ≡ true
 
--- besides, where it is not 0, what came is given back as it came: a record, a cursor's place, the elements of a buffer
+-- in addition, if k is not 0, what was passed is unchanged: a record, a cursor's place, the elements of a buffer
 pub record GivesBack {A : Type 0} (ns : List ℕ) (k : ℕ) (came back : A) : Type 0 where
   pub gives : Gives ns k
   pub same : (k ≡ 0 → ⊥) → back ≡ came
 
--- a record or a place, and a buffer
+-- in addition, if k is not 0, a record or a place is returned unchanged and a buffer is unchanged
 pub record GivesBoth {A : Type 0} (ns : List ℕ) (k : ℕ) (came back : A) (before after : List ℕ) : Type 0 where
   pub gives : GivesBack ns k came back
   pub unwritten : (k ≡ 0 → ⊥) → after ≡ before
 
--- the record of a builder whose numbers went in
+-- the record of a builder that was passed as its numbers
 abbrev pub builder_of : ℕ → ℕ → ℕ → Builder
 builder_of n word ones = record { length = n; word = word; ones = ones }
 
@@ -181,7 +181,7 @@ pub record Refusals : Type 0 where
       → Gives (1 ∷ 2 ∷ 3 ∷ 5 ∷ []) (as_cursor true_out (new_true n (optional_in true m) bytes)).refusal
   pub absent-true_idx_new : (n : ℕ) (m : Mask) (bytes : List ℕ)
       → Gives (1 ∷ []) (as_cursor true_out (new_true n (optional_in false m) bytes)).refusal
-  -- with a mask, which a number other than 0 says, and with none
+  -- with a mask, if `masked` is not 0, and with none
   pub pw_true_idx_next : (start n place masked : ℕ) (bytes : List ℕ) → (masked ≡ 0 → ⊥)
       → let r = as_word true_place (next_true (true_in start n place masked) bytes) in GivesBack (1 ∷ 2 ∷ 6 ∷ []) r.refusal place r.place
   pub absent-true_idx_next : (start n place : ℕ) (bytes : List ℕ)
@@ -201,7 +201,7 @@ pub record Refusals : Type 0 where
       → Gives (1 ∷ 2 ∷ 3 ∷ 6 ∷ []) (as_flag (and_not_at_of (optional_in false p) p_bytes (optional_in true q) q_bytes i)).refusal
   pub no-first-no-second : (p : Mask) (p_bytes : List ℕ) (q : Mask) (q_bytes : List ℕ) (i : ℕ)
       → Gives [] (as_flag (and_not_at_of (optional_in false p) p_bytes (optional_in false q) q_bytes i)).refusal
-  -- the search by windows: with both masks, with the first alone
+  -- the search by windows: with both masks, with only the first
   pub pw_next_and_not : (p : Mask) (p_bytes : List ℕ) (q : Mask) (q_bytes : List ℕ) (from : ℕ)
       → Gives (1 ∷ 2 ∷ 3 ∷ 5 ∷ 6 ∷ []) (as_next (next_and_not_of (mask_in p) p_bytes (optional_in true q) q_bytes from)).refusal
   pub next-and-not-alone : (p : Mask) (p_bytes : List ℕ) (q : Mask) (q_bytes : List ℕ) (from : ℕ)
@@ -215,7 +215,7 @@ pub record Refusals : Type 0 where
       → Gives (1 ∷ 2 ∷ 3 ∷ 6 ∷ []) (as_flag (may_reassign (optional_in false p) p_bytes (optional_in true q) q_bytes truck)).refusal
   pub neither : (p : Mask) (p_bytes : List ℕ) (q : Mask) (q_bytes : List ℕ) (truck : ℕ)
       → Gives [] (as_flag (may_reassign (optional_in false p) p_bytes (optional_in false q) q_bytes truck)).refusal
-  -- an offer, whose cursor is given back: with both masks, with one, with none
+  -- an offer, whose cursor is returned unchanged: with both masks, with one, with none
   pub pw_offer : (p : Mask) (p_bytes : List ℕ) (q : Mask) (q_bytes : List ℕ) (cursor : ℕ)
       → let r = as_offer (offer_of (optional_in true p) p_bytes (optional_in true q) q_bytes cursor) in
       GivesBack (1 ∷ 2 ∷ 3 ∷ 5 ∷ 6 ∷ []) r.refusal cursor r.cursor
@@ -228,7 +228,7 @@ pub record Refusals : Type 0 where
   pub offer-neither : (p : Mask) (p_bytes : List ℕ) (q : Mask) (q_bytes : List ℕ) (cursor : ℕ)
       → let r = as_offer (offer_of (optional_in false p) p_bytes (optional_in false q) q_bytes cursor) in
       GivesBack [] r.refusal cursor r.cursor
-  -- a window of minutes: a new one, of which both arrays stay; one minute on, where the window stays; its counts, where the output stays
+  -- a window of minutes: unchanged are both arrays of a new one, the window to which a minute is pushed, and the output of its counts
   pub pw_activity_new : (width : ℕ) (words counts : List ℕ) → let r = new_of width in
       GivesBoth (16 ∷ []) (as_window r).refusal words (unless_refused r.refusal words r.value.words)
       counts (unless_refused r.refusal counts r.value.counts)

@@ -1,4 +1,4 @@
--- A window of minutes as it crosses: its two arrays are lent, and its numbers go in and come back beside them. Assumes nothing.
+-- A window of minutes in the C interface: its two arrays are lent, and its numbers are passed and returned with them.
 use Rattle.std.specs.Prelude.{ℕ, cond, List, eqb}
 use Rattle.activity.specs.Window.{Answer}
 use Rattle.activity.specs.declared.window.ActivityWindow.{ActivityWindow}
@@ -10,6 +10,6 @@ window_in words counts place fill width = record { words = words; counts = count
 unfoldable pub as_window : Answer ActivityWindow → WindowAnswer
 as_window a = record { refusal = a.refusal; place = a.value.place; fill = a.value.fill; width = a.value.width }
 
--- an array that a call writes: refused, it stays as it came
+-- an array that a call writes, unchanged on refusal
 unfoldable pub unless_refused : ℕ → List ℕ → List ℕ → List ℕ
 unless_refused k came new = cond (eqb k 0) new came

@@ -1,9 +1,9 @@
-// The records in which answers cross to C and Rust. `refusal` is 0, or the number of the refusing check. On refusal the fields for what the
-// call got and gives back (a mask, a builder, a cursor's place, the cursor of an offer, a window's numbers) hold it as it came; every other
-// field is 0. A number for a refusal and a flag beside a value stand here, and in the parameters of the exports, since C has neither
-// `Result` nor `Option`.
+// The records in which answers are passed to C and Rust. `refusal` is 0, or the number of the check that failed. On refusal the fields for
+// what the call would have changed (a mask, a builder, a cursor's place, the cursor of an offer, a window's numbers) hold it unchanged;
+// every other field is 0. The answers, and the parameters of the exports, have a number for a refusal and a flag next to a value, since C
+// has neither `Result` nor `Option`.
 //
-// The `From` of most answers, here and beside exports, has one shape: a value goes into its fields, a refusal into a record of zeros. One
+// The `From` of most answers, here and next to exports, has one shape: a value goes into its fields, a refusal into a record of zeros. One
 // generic impl cannot name the fields, since C has no generics and each answer is a record of its own. Over a trait each record would
 // still write both arms, as two functions.
 ghost use Rattle.std.specs.Prelude.{◌≡◌};
@@ -22,7 +22,7 @@ pub struct Number {
     pub value: usize,
 }
 
-// A flag, or yes and no.
+// A flag, or the answer yes or no.
 #[repr(C)]
 #[derive(Clone, Copy, Default)]
 pub struct Flag {
@@ -30,7 +30,7 @@ pub struct Flag {
     pub value: bool,
 }
 
-// A position, where `found`.
+// A position, if `found`; else `value` is 0.
 #[repr(C)]
 #[derive(Clone, Copy, Default)]
 pub struct Position {
@@ -39,7 +39,7 @@ pub struct Position {
     pub value: usize,
 }
 
-// The position of a set bit of a word, where `found`; else, in `ones`, how many bits of the word are set.
+// The position of a set bit of a word in `value`, if `found`; else the number of set bits of the word in `ones`.
 #[repr(C)]
 #[derive(Clone, Copy, Default)]
 pub struct NthAnswer {
@@ -49,7 +49,7 @@ pub struct NthAnswer {
     pub ones: u32,
 }
 
-// A position, where `found`, and the number of windows of 32 flags read.
+// A position, if `found`, and the number of windows of 32 flags read.
 #[repr(C)]
 #[derive(Clone, Copy, Default)]
 pub struct NextAnswer {
@@ -59,7 +59,7 @@ pub struct NextAnswer {
     pub windows: usize,
 }
 
-// A truck, where `found`; the cursor for the next call; and the number of windows of 32 flags read.
+// A truck, if `found`; the cursor for the next call; and the number of windows of 32 flags read.
 #[repr(C)]
 #[derive(Clone, Copy, Default)]
 pub struct OfferAnswer {
@@ -78,7 +78,7 @@ pub struct MaskAnswer {
     pub mask: Mask,
 }
 
-// A mask, where `present`; without one all flags are set.
+// A mask, if `present`. If it is false and nothing is refused, all flags are set.
 #[repr(C)]
 #[derive(Clone, Copy, Default)]
 pub struct ValidityAnswer {
@@ -87,7 +87,7 @@ pub struct ValidityAnswer {
     pub mask: Mask,
 }
 
-// The zeros of a mask, and the mask.
+// The number of zeros of a mask, and the mask with that count stored.
 #[repr(C)]
 #[derive(Clone, Copy)]
 pub struct ZerosAnswer {
@@ -96,8 +96,8 @@ pub struct ZerosAnswer {
     pub mask: Mask,
 }
 
-// The winner of two masks: `second` where it is the second one, and its bytes are those from `from` to before `to` of the slice that it
-// came with. `mask` is its record over these. On refusal they are none of the first slice.
+// The winner of two masks. It is the second one if `second` is true, else the first. Its bytes are those from `from` to before `to` of the
+// slice passed with it, and `mask` is its record over them. On refusal they are an empty part of the first slice.
 #[repr(C)]
 #[derive(Clone, Copy, Default)]
 pub struct PartAnswer {
@@ -108,7 +108,7 @@ pub struct PartAnswer {
     pub mask: Mask,
 }
 
-// The builder to go on with.
+// The builder after the append, unchanged on refusal.
 #[repr(C)]
 #[derive(Clone, Copy)]
 pub struct BuilderAnswer {
@@ -124,9 +124,9 @@ pub struct CursorAnswer {
     pub cursor: Cursor,
 }
 
-// What a cursor gives where `found`, and the place at which it then stands; its start and length stay. `value` is a word, a run's
-// start, a flag as 0 or 1, or a position; `count` is a run's length, the flags of a remainder, the flags taken or the positions
-// written.
+// The item that a cursor returns, if `found`, and the cursor's new place; its start and length do not change. `value` is a word, a run's
+// start, a flag as 0 or 1, or a position; `count` is a run's length, the number of flags of a remainder, of flags counted or of
+// positions written.
 #[repr(C)]
 #[derive(Clone, Copy, Default)]
 pub struct StepAnswer {
@@ -137,7 +137,7 @@ pub struct StepAnswer {
     pub place: usize,
 }
 
-// A span cut in three: lengths in flags, `bulk_start` as a byte of the buffer, `bulk_len` as a number of words.
+// A span split in three: the lengths are in flags, `bulk_start` is a byte of the buffer, `bulk_len` is a number of words.
 #[repr(C)]
 #[derive(Clone, Copy, Default)]
 pub struct SplitAnswer {
@@ -161,7 +161,7 @@ pub struct SpansAnswer {
     pub second_length: usize,
 }
 
-// A window of minutes without its arrays: the place where its next word goes, how many words it keeps now, and its width.
+// A window of minutes without its arrays: the place of its next word, the number of words that it has, and its width.
 #[repr(C)]
 #[derive(Clone, Copy, Default)]
 pub struct WindowAnswer {
@@ -219,7 +219,7 @@ impl From<Result<Bitmap, Refusal>> for MaskAnswer {
     }
 }
 
-// Of a call that gives a record back when it refuses: it is not given, since the caller has it.
+// For a call whose refusal has the caller's record: the answer leaves it out, since the caller has it.
 #[tactic(auto, unfolding(crate::specs::Answers::as_mask))]
 impl<S: Copy> From<Result<Bitmap, Refused<S>>> for MaskAnswer {
     ghost from_gives = { λ r a. a ≡ as_mask (answer_back r) };

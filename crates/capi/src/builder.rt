@@ -1,5 +1,5 @@
-// Exported to C and Rust: the builder. Each call appends to `buf` and gives the builder to go on with. Finished words are written
-// to the buffer, and nothing else of it; pw_freeze and pw_into_opt_validity write the frozen bytes over its front.
+// Exported to C and Rust: the builder. Each append writes finished words to `buf`, leaves its other bytes unchanged, and returns the
+// builder after it; pw_freeze and pw_into_opt_validity write the frozen bytes at the start of `buf`.
 ghost use Rattle.std.specs.Prelude.{◌≡◌};
 ghost use Rattle.masks.specs.Answer.{answer_back};
 ghost use Rattle.masks.specs.Appends.{append_answer, append_bytes, extend_bitmap, extend_constant, extend_gather, extend_opt_gather};
@@ -61,7 +61,7 @@ pub extern "C" fn pw_builder_new() -> Builder
     BitmapBuilder::new().into()
 }
 
-// Appends a flag.
+// Appends `flag`.
 #[unsafe(no_mangle)]
 pub extern "C" fn pw_push(
     length: usize,
@@ -76,7 +76,7 @@ pub extern "C" fn pw_push(
     builder_in(length, word, ones).push(buf, flag).into()
 }
 
-// Appends `n` copies of a flag.
+// Appends `n` copies of `flag`.
 #[unsafe(no_mangle)]
 pub extern "C" fn pw_extend_constant(
     length: usize,
@@ -94,7 +94,7 @@ pub extern "C" fn pw_extend_constant(
         .into()
 }
 
-// Appends the first `n` flags of a word, whose bits from there on must be 0.
+// Appends the lowest `n` bits of `flags`, bit 0 first. `n` must be at most 64, and all higher bits 0.
 #[unsafe(no_mangle)]
 pub extern "C" fn pw_push_word_with_len_unchecked(
     length: usize,
@@ -112,7 +112,7 @@ pub extern "C" fn pw_push_word_with_len_unchecked(
         .into()
 }
 
-// Appends a span.
+// Appends the `n` flags of `bytes` that start at bit `start`.
 #[unsafe(no_mangle)]
 pub extern "C" fn pw_extend_from_slice(
     length: usize,
@@ -133,7 +133,7 @@ pub extern "C" fn pw_extend_from_slice(
         .into()
 }
 
-// Appends each flag of a span, `repeats` times in turn.
+// Appends `repeats` copies of each of the `n` flags of `bytes` that start at bit `start`, one flag after the other.
 #[unsafe(no_mangle)]
 pub extern "C" fn pw_extend_each_repeated_from_slice_unchecked(
     length: usize,
@@ -155,7 +155,7 @@ pub extern "C" fn pw_extend_each_repeated_from_slice_unchecked(
         .into()
 }
 
-// Appends `n` flags of a mask from its flag `start` on.
+// Appends the `n` flags of `mask` that start at its flag `start`.
 #[unsafe(no_mangle)]
 pub extern "C" fn pw_subslice_extend_from_bitmap(
     length: usize,
@@ -178,7 +178,7 @@ pub extern "C" fn pw_subslice_extend_from_bitmap(
         .into()
 }
 
-// Appends the flag of a span at each index, all of them below its length.
+// Appends, for each index in `idxs`, that flag of the `n` flags of `bytes` that start at bit `start`. Each index must be below `n`.
 #[unsafe(no_mangle)]
 pub extern "C" fn pw_gather_extend_from_slice(
     length: usize,
@@ -201,7 +201,7 @@ pub extern "C" fn pw_gather_extend_from_slice(
         .into()
 }
 
-// Appends the flag of a span at each index, 0 for one at or past the span's length.
+// Appends, for each index in `idxs`, that flag of the `n` flags of `bytes` that start at bit `start`, or 0 if the index is `n` or more.
 #[unsafe(no_mangle)]
 pub extern "C" fn pw_opt_gather_extend_from_slice(
     length: usize,
@@ -224,8 +224,8 @@ pub extern "C" fn pw_opt_gather_extend_from_slice(
         .into()
 }
 
-// The mask of the builder's flags, its zeros counted, over their frozen bytes, under the builder's serial, which the caller kept. The
-// builder is not given back: the caller has it.
+// Writes the frozen bytes of the builder's flags at the start of `buf` and returns the mask over them, with its zero count known from
+// `ones` and `word`, and with the builder's `serial`, which the caller kept. The builder is not returned: it does not change.
 #[unsafe(no_mangle)]
 pub extern "C" fn pw_freeze(
     length: usize,
@@ -242,9 +242,9 @@ pub extern "C" fn pw_freeze(
         .into()
 }
 
-// The bytes and the mask that pw_freeze gives, under the serial that the caller kept; no mask where all flags are set, so for no flags
-// too. As in Arrow, no mask means all ones here; pw_may_reassign takes no permission mask for no truck: end the builder of a permission
-// mask with pw_freeze.
+// Writes the frozen bytes of the builder's flags at the start of `buf` and returns the mask that pw_freeze returns, or no mask if all
+// flags are set, also if there are no flags. As in Arrow, no mask means all ones here; in pw_may_reassign no permission mask means no
+// truck: end the builder of a permission mask with pw_freeze.
 #[unsafe(no_mangle)]
 pub extern "C" fn pw_into_opt_validity(
     length: usize,

@@ -1,4 +1,4 @@
-// Exported to C and Rust: the words of a span, and the flags behind the last whole one.
+// Exported to C and Rust: the words of a span, and the flags after the last whole one.
 #![tactic(auto, unfolding(crate::specs::Answers::as_word))]
 
 ghost use Rattle.std.specs.Prelude.{◌≡◌};
@@ -28,7 +28,7 @@ pub extern "C" fn pw_chunks_new(bytes: &[u8], start: usize, length: usize) -> Cu
     BitChunks::new(bytes, start, length).into()
 }
 
-// A cursor at the first word of the first `length` flags of the bytes.
+// Returns a cursor at the first word of the first `length` flags of `bytes`.
 #[unsafe(no_mangle)]
 pub extern "C" fn pw_chunks_new_exact(bytes: &[u8], length: usize) -> CursorAnswer
     ensures { result ≡ as_cursor chunks_out (new_chunks bytes.now 0 length) }
@@ -36,7 +36,8 @@ pub extern "C" fn pw_chunks_new_exact(bytes: &[u8], length: usize) -> CursorAnsw
     BitChunksExact::new(bytes, length).into()
 }
 
-// The next word in `value`; none from word length div 64 on, where the cursor stays.
+// Returns the next word in `value` and moves the cursor one word on. After the last whole word `found` is false and the cursor does not
+// move.
 #[unsafe(no_mangle)]
 pub extern "C" fn pw_chunks_next(
     start: usize,
@@ -49,8 +50,8 @@ pub extern "C" fn pw_chunks_next(
     chunks_in(start, length, place).next(bytes).into()
 }
 
-// The last length mod 64 flags as a word in `value`, and their number in `count`, wherever the cursor stands. The cursor stays
-// there: its place is given as it came.
+// Returns the last length mod 64 flags of the span as a word in `value`, zero above them, and their number in `count`. `found` is true.
+// The result does not depend on the place, and the cursor does not move.
 #[unsafe(no_mangle)]
 pub extern "C" fn pw_chunks_remainder(
     start: usize,

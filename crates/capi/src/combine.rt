@@ -1,4 +1,4 @@
-// Exported to C and Rust: the combinations. Each writes frozen bytes over the front of `out` and gives the mask over them.
+// Exported to C and Rust: the combinations of masks of equal lengths. The mask returned has start 0 and the largest of their serials.
 ghost use Rattle.std.specs.Prelude.{◌≡◌};
 ghost use Rattle.masks.specs.Combine.{And, AndNot, Or, OrNot, Xor, pair_bytes, pair_of};
 ghost use Rattle.masks.specs.Combine.{not_bytes, not_of, select_bytes, select_constant_bytes, select_constant_of, select_of};
@@ -9,7 +9,7 @@ use crate::answers::MaskAnswer;
 use crate::records::Mask;
 use masks::bitmap_ops::{and, and_not, not, or, or_not, select, select_constant, xor};
 
-// The flags that are set in both masks.
+// Writes which flags are set in both masks, as frozen bytes at the start of `out`, and returns the mask over them.
 #[unsafe(no_mangle)]
 pub extern "C" fn pw_and(
     lhs: Mask,
@@ -26,7 +26,8 @@ pub extern "C" fn pw_and(
     and(lhs.into(), left, rhs.into(), right, out).into()
 }
 
-// The flags that are set in the first mask and not in the second.
+// Writes which flags are set in the first mask and not in the second, as frozen bytes at the start of `out`, and returns the mask over
+// them.
 #[unsafe(no_mangle)]
 pub extern "C" fn pw_and_not(
     lhs: Mask,
@@ -43,7 +44,7 @@ pub extern "C" fn pw_and_not(
     and_not(lhs.into(), left, rhs.into(), right, out).into()
 }
 
-// The flags that are set in either mask.
+// Writes which flags are set in at least one of two masks, as frozen bytes at the start of `out`, and returns the mask over them.
 #[unsafe(no_mangle)]
 pub extern "C" fn pw_or(
     lhs: Mask,
@@ -60,7 +61,8 @@ pub extern "C" fn pw_or(
     or(lhs.into(), left, rhs.into(), right, out).into()
 }
 
-// The flags that are set in the first mask or not in the second.
+// Writes which flags are set in the first mask or not set in the second, as frozen bytes at the start of `out`, and returns the mask
+// over them.
 #[unsafe(no_mangle)]
 pub extern "C" fn pw_or_not(
     lhs: Mask,
@@ -77,7 +79,7 @@ pub extern "C" fn pw_or_not(
     or_not(lhs.into(), left, rhs.into(), right, out).into()
 }
 
-// The flags in which the masks differ.
+// Writes which flags differ between two masks, as frozen bytes at the start of `out`, and returns the mask over them.
 #[unsafe(no_mangle)]
 pub extern "C" fn pw_xor(
     lhs: Mask,
@@ -94,7 +96,7 @@ pub extern "C" fn pw_xor(
     xor(lhs.into(), left, rhs.into(), right, out).into()
 }
 
-// Each flag inverted.
+// Writes each flag of a mask inverted, as frozen bytes at the start of `out`, and returns the mask over them.
 #[unsafe(no_mangle)]
 pub extern "C" fn pw_not(mask: Mask, bytes: &[u8], out: &mut [u8]) -> MaskAnswer
     ensures answer { result ≡ as_mask (not_of (mask_in mask) bytes.now out.old) }
@@ -103,7 +105,8 @@ pub extern "C" fn pw_not(mask: Mask, bytes: &[u8], out: &mut [u8]) -> MaskAnswer
     not(mask.into(), bytes, out).into()
 }
 
-// The flag of `truthy` where the selector's is set, else that of `falsy`.
+// Writes the flag of `truthy` where the selector's is set, else that of `falsy`, as frozen bytes at the start of `out`, and returns the
+// mask over them.
 #[unsafe(no_mangle)]
 pub extern "C" fn pw_select(
     selector: Mask,
@@ -131,7 +134,8 @@ pub extern "C" fn pw_select(
     .into()
 }
 
-// The flag of `truthy` where the selector's is set, else `flag`.
+// Writes the flag of `truthy` where the selector's is set, else `flag`, as frozen bytes at the start of `out`, and returns the mask over
+// them.
 #[unsafe(no_mangle)]
 pub extern "C" fn pw_select_constant(
     selector: Mask,

@@ -1,4 +1,4 @@
-// Exported to C and Rust: the calls that make a mask, cut it, count it and compare it.
+// Exported to C and Rust: the calls that make, slice, count and compare masks.
 ghost use Rattle.std.specs.Prelude.{◌≡◌};
 ghost use Rattle.masks.specs.Answer.{answer_back};
 ghost use Rattle.masks.specs.Compare.{common_of, edges_of, eq_of};
@@ -13,8 +13,8 @@ use masks::bitmap::{Bitmap, Recounted};
 use masks::compare::{eq, num_edges, num_intersections_with};
 use masks::refusal::Refused;
 
-// `came` is the export's own record: a refusal gives it back to the last number. The `Bitmap` in `Refused` will not do: it has lost a stray
-// count beside an unknown one. Since `came` stands beside the result, this and the next are no `From`.
+// Returns the answer of a slice; a refused one has `came`, the export's own record, with every number unchanged. The `Bitmap` in `Refused`
+// will not do: it has lost `zeros` if `known` is 0. Since `came` is a second argument, this function and the next are no `From`.
 #[tactic(auto, unfolding(crate::specs::Answers::as_same_mask))]
 fn sliced_out(came: Mask, r: Result<Bitmap, Refused<Bitmap>>) -> MaskAnswer
     ensures { result ≡ as_same_mask came (answer_back r) }
@@ -31,7 +31,7 @@ fn sliced_out(came: Mask, r: Result<Bitmap, Refused<Bitmap>>) -> MaskAnswer
     }
 }
 
-// `came` is the export's own record.
+// Returns the answer of a count of zeros; a refused one has `came`, the export's own record, with every number unchanged.
 #[tactic(auto, unfolding(crate::specs::Answers::as_zeros))]
 fn counting_out(came: Mask, r: Result<Recounted, Refused<Bitmap>>) -> ZerosAnswer
     ensures { result ≡ as_zeros came (answer_back r) }
@@ -50,7 +50,7 @@ fn counting_out(came: Mask, r: Result<Recounted, Refused<Bitmap>>) -> ZerosAnswe
     }
 }
 
-// Returns the empty mask.
+// Returns the mask of no flags, its zero count known as 0.
 #[unsafe(no_mangle)]
 pub extern "C" fn pw_bitmap_new() -> Mask
     ensures { result ≡ mask_out empty_mask }
@@ -58,7 +58,7 @@ pub extern "C" fn pw_bitmap_new() -> Mask
     Bitmap::new().into()
 }
 
-// A mask of `length` zeros, whose frozen bytes are written over the front of `out`.
+// Writes the frozen bytes of `length` zeros at the start of `out` and returns the mask over them, its zero count known.
 #[unsafe(no_mangle)]
 pub extern "C" fn pw_new_zeroed(length: usize, out: &mut [u8]) -> MaskAnswer
     ensures answer { result ≡ as_mask (new_zeroed_of length out.old) }
@@ -67,7 +67,8 @@ pub extern "C" fn pw_new_zeroed(length: usize, out: &mut [u8]) -> MaskAnswer
     Bitmap::new_zeroed(length, out).into()
 }
 
-// The mask of a span, its zeros not counted.
+// Returns the mask of the `length` flags of `bytes` that start at bit `start`. Its zero count is unknown, or known as 0 if `length` is
+// 0.
 #[unsafe(no_mangle)]
 pub extern "C" fn pw_try_new(bytes: &[u8], start: usize, length: usize) -> MaskAnswer
     ensures { result ≡ as_mask (try_new_of bytes.now start length) }
@@ -75,7 +76,8 @@ pub extern "C" fn pw_try_new(bytes: &[u8], start: usize, length: usize) -> MaskA
     Bitmap::try_new(bytes, start, length).into()
 }
 
-// The piece of `length` flags from flag `offset` on.
+// Returns the mask of the `length` flags of `mask` that start at its flag `offset`, over the same bytes. Its zero count may be unknown
+// although that of `mask` is known.
 #[unsafe(no_mangle)]
 pub extern "C" fn pw_slice(mask: Mask, bytes: &[u8], offset: usize, length: usize) -> MaskAnswer
     ensures { result ≡ as_same_mask mask (slice_of (mask_in mask) bytes.now offset length) }
@@ -83,7 +85,7 @@ pub extern "C" fn pw_slice(mask: Mask, bytes: &[u8], offset: usize, length: usiz
     sliced_out(mask, Bitmap::from(mask).slice(bytes, offset, length))
 }
 
-// Returns the number of zeros, and the mask with that count stored.
+// Returns the number of zeros of `mask`, and the mask with that count stored.
 #[unsafe(no_mangle)]
 pub extern "C" fn pw_unset_bits(mask: Mask, bytes: &[u8]) -> ZerosAnswer
     ensures { result ≡ as_zeros mask (unset_bits_of (mask_in mask) bytes.now) }
@@ -91,7 +93,7 @@ pub extern "C" fn pw_unset_bits(mask: Mask, bytes: &[u8]) -> ZerosAnswer
     counting_out(mask, Bitmap::from(mask).unset_bits(bytes))
 }
 
-// Whether lengths and flags are equal.
+// Returns whether two masks have equal lengths and equal flags. Unequal lengths are not refused, and serials are ignored.
 #[unsafe(no_mangle)]
 pub extern "C" fn pw_eq(lhs: Mask, left: &[u8], rhs: Mask, right: &[u8]) -> Flag
     ensures { result ≡ as_flag (eq_of (mask_in lhs) left.now (mask_in rhs) right.now) }
@@ -99,7 +101,7 @@ pub extern "C" fn pw_eq(lhs: Mask, left: &[u8], rhs: Mask, right: &[u8]) -> Flag
     eq(lhs.into(), left, rhs.into(), right).into()
 }
 
-// How many flags differ from the next one.
+// Counts the flags of a mask that differ from the next flag.
 #[unsafe(no_mangle)]
 pub extern "C" fn pw_num_edges(mask: Mask, bytes: &[u8]) -> Number
     ensures { result ≡ as_number (edges_of (mask_in mask) bytes.now) }
@@ -107,7 +109,7 @@ pub extern "C" fn pw_num_edges(mask: Mask, bytes: &[u8]) -> Number
     num_edges(mask.into(), bytes).into()
 }
 
-// How many flags are set in both masks.
+// Counts the flags that are set in both of two masks of equal lengths.
 #[unsafe(no_mangle)]
 pub extern "C" fn pw_num_intersections_with(
     lhs: Mask,

@@ -30,11 +30,11 @@ impl From<Result<Offering, NoOffer>> for OfferAnswer {
     }
 }
 
-// The first truck at or after the cursor that is permitted and not revoked, going round to truck 0 once, and the cursor one past it for
-// the next call. Where none is found no such truck exists, and the cursor is the one that came. `windows` counts windows of 32 flags as
-// pw_next_and_not does, at most ceil(length / 32) + 1. Where not `permitted` there is no permission mask: none is found at each cursor,
-// with 0 windows; where not `revoked` no revocation mask, which takes nothing away: record and bytes are then not read. 5 comes only with
-// both masks, and 6 only with a permission mask: the cursor is above its length.
+// Returns the first truck at or after `cursor` that is permitted and not revoked, else the first one from truck 0, and in `cursor` the
+// number after that truck, for the next call. If there is no such truck, `found` is false and `cursor` is unchanged. `windows` counts
+// windows of 32 flags as pw_next_and_not does, at most ceil(length / 32) + 1. If `permitted` is false there is no permission mask: no
+// truck is found, and `windows` is 0. If `revoked` is false there is no revocation mask, and no truck is revoked. The record and bytes
+// of an absent mask are not read. Refusal 5 occurs only with both masks; 6 only with a permission mask, if `cursor` is above its length.
 #[unsafe(no_mangle)]
 pub extern "C" fn pw_offer(
     permitted: bool,

@@ -1,9 +1,9 @@
-// The records that cross to C and Rust, and what each is as a record of masks.
+// The records that are passed to and from C and Rust, and the record of masks that each one is.
 //
-// A builder and a cursor are given as a record and go in again as its numbers, which stay in registers: a record that is handed on
+// A builder and a cursor are returned as a record and passed again as its numbers, which stay in registers: a record that is passed
 // from call to call through memory costs several times the call.
 //
-// `known` is a flag beside a value, since C has no `Option`. It and `masked` are numbers, since a record may come damaged and a `bool`
+// `known` is a flag next to a value, since C has no `Option`. It and `masked` are numbers, since a record may be damaged and a `bool`
 // other than 0 and 1 is undefined in C and in Rust.
 ghost use Rattle.std.specs.Prelude.{◌≡◌};
 ghost use Rattle.capi.specs.Records.{builder_in, builder_out, mask_in, mask_out, optional_in, serial_builder_in};
@@ -11,8 +11,8 @@ ghost use Rattle.capi.specs.Records.{builder_in, builder_out, mask_in, mask_out,
 use masks::bitmap::Bitmap;
 use masks::builder::BitmapBuilder;
 
-// A mask: a span of its bytes, its zero count, and the serial of the revocation list that it was drawn up under. The count is read
-// where `known` is not 0; an unknown one is given as 0.
+// A mask: a span of its bytes, its zero count, and the serial of the revocation list that it was drawn up under. `zeros` is read only if
+// `known` is not 0; an unknown count is returned as 0.
 #[repr(C)]
 #[derive(Clone, Copy, Default)]
 pub struct Mask {
@@ -23,8 +23,8 @@ pub struct Mask {
     pub serial: u32,
 }
 
-// A builder: its length, the word in progress and the ones in the finished words, which stand in its buffer. Its serial is not here,
-// since no append changes it: the caller keeps it beside the builder and hands it to pw_freeze and pw_into_opt_validity.
+// A builder: its length, the word in progress and the number of ones in the finished words, which are in its buffer. It has no serial,
+// since no append changes it: the caller keeps the serial with the builder and passes it to pw_freeze and pw_into_opt_validity.
 #[repr(C)]
 #[derive(Clone, Copy)]
 pub struct Builder {
@@ -33,8 +33,8 @@ pub struct Builder {
     pub ones: usize,
 }
 
-// A cursor: a span and the next place in it, counted in flags, for pw_chunks_ in words. `masked` is read by pw_true_idx_next and
-// pw_true_idx_next_chunk alone, for which 0 says that there is no mask; every other call gives it as 1.
+// A cursor: a span and the next place in it, counted in flags, or in words for pw_chunks_. `masked` is 0 for a cursor that
+// pw_true_idx_new makes without a mask, else 1; only pw_true_idx_next and pw_true_idx_next_chunk read it.
 #[repr(C)]
 #[derive(Clone, Copy, Default)]
 pub struct Cursor {
@@ -73,7 +73,7 @@ impl From<Bitmap> for Mask {
     }
 }
 
-// Returns the mask if `present`. The record of an absent mask is not read.
+// Returns the mask if `present`, else none. The record of an absent mask is not read.
 #[tactic(auto, unfolding(crate::specs::Records::optional_in))]
 pub(crate) fn optional_in(present: bool, m: Mask) -> Option<Bitmap>
     ensures { result ≡ optional_in present m }
@@ -81,7 +81,7 @@ pub(crate) fn optional_in(present: bool, m: Mask) -> Option<Bitmap>
     present.then(|| m.into())
 }
 
-// A builder to append to: its serial does not cross, and 0 stands for it.
+// Makes a builder to append to. Its serial is 0, since an export that appends is not passed one.
 #[tactic(auto, unfolding(crate::specs::Records::builder_in, crate::specs::Records::serial_builder_in))]
 pub(crate) fn builder_in(length: usize, word: u64, ones: usize) -> BitmapBuilder
     ensures { result ≡ builder_in length word ones }
@@ -89,7 +89,7 @@ pub(crate) fn builder_in(length: usize, word: u64, ones: usize) -> BitmapBuilder
     serial_builder_in(length, word, ones, 0)
 }
 
-// A builder to freeze, with the serial that the caller kept.
+// Makes a builder to freeze, with the serial that the caller kept.
 #[tactic(auto, unfolding(crate::specs::Records::serial_builder_in))]
 pub(crate) fn serial_builder_in(length: usize, word: u64, ones: usize, serial: u32) -> BitmapBuilder
     ensures { result ≡ serial_builder_in length word ones serial }

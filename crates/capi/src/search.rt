@@ -27,7 +27,8 @@ impl From<Result<Option<usize>, Refusal>> for Position {
     }
 }
 
-// Returns the position of the n-th set flag at or after `from`, counting from 0.
+// Returns the position of the n-th set flag at or after `from`, counting from 0. `found` is false if at most `n` flags are set there.
+// `from` may exceed the length.
 #[unsafe(no_mangle)]
 pub extern "C" fn pw_nth_set_bit_idx(
     bytes: &[u8],
@@ -41,7 +42,8 @@ pub extern "C" fn pw_nth_set_bit_idx(
     nth_set_bit_idx(bytes, start, length, n, from).into()
 }
 
-// The position of the n-th set flag counted down from below `end`, which may exceed the length.
+// Returns the position of the n-th set flag before `end`, counting down from 0: number 0 is the set flag nearest to `end`. `found` is
+// false if at most `n` flags are set there. `end` may exceed the length.
 #[unsafe(no_mangle)]
 pub extern "C" fn pw_nth_set_bit_idx_rev(
     bytes: &[u8],

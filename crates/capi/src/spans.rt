@@ -1,4 +1,4 @@
-// Exported to C and Rust: the calls over bare spans, which are the aligned split, the counts, a span cut in two and a window.
+// Exported to C and Rust: the calls over spans without a mask: the aligned split, the counts, a span split in two, 32 flags as a number.
 ghost use Rattle.std.specs.Prelude.{◌≡◌, true, false};
 ghost use Rattle.masks.specs.Answer.{answer};
 ghost use Rattle.masks.specs.Aligned.{aligned_of};
@@ -58,8 +58,8 @@ impl From<Result<(Span, Span), Refusal>> for SpansAnswer {
     }
 }
 
-// The span cut in a prefix, whole words at addresses divisible by 8, and a suffix. `address` is the remainder by 8 of the address
-// of the first byte. With length 0 all is 0, before any test.
+// Splits a span into a prefix, whole words at addresses divisible by 8, and a suffix. `address` is the remainder by 8 of the address of
+// the first byte. A span that lies in eight bytes is all prefix. With length 0 every field is 0, without any check.
 #[unsafe(no_mangle)]
 pub extern "C" fn pw_aligned_new(
     bytes: &[u8],
@@ -72,7 +72,8 @@ pub extern "C" fn pw_aligned_new(
     AlignedBitmapSlice::new(bytes, start, length, address).into()
 }
 
-// How many flags of a span are zero, whatever `address` is. With length 0 it is 0, before any test.
+// Counts the zeros of a span. `address` is the remainder by 8 of the address of the first byte; the count does not depend on it. With
+// length 0 returns 0 without any check.
 #[unsafe(no_mangle)]
 pub extern "C" fn pw_count_zeros(
     bytes: &[u8],
@@ -86,7 +87,8 @@ pub extern "C" fn pw_count_zeros(
     count_zeros(bytes, start, length, address).into()
 }
 
-// How many zeros stand before the first one of a span, whatever `address` is. With length 0 it is 0, before any test.
+// Counts the zeros before the first one of a span, or the whole length if no flag is set. `address` is the remainder by 8 of the address
+// of the first byte; the count does not depend on it. With length 0 returns 0 without any check.
 #[unsafe(no_mangle)]
 pub extern "C" fn pw_leading_zeros(
     bytes: &[u8],
@@ -100,7 +102,8 @@ pub extern "C" fn pw_leading_zeros(
     leading_zeros(bytes, start, length, address).into()
 }
 
-// How many ones stand before the first zero of a span, whatever `address` is. With length 0 it is 0, before any test.
+// Counts the ones before the first zero of a span, or the whole length if every flag is set. `address` is the remainder by 8 of the
+// address of the first byte; the count does not depend on it. With length 0 returns 0 without any check.
 #[unsafe(no_mangle)]
 pub extern "C" fn pw_leading_ones(
     bytes: &[u8],
@@ -114,7 +117,8 @@ pub extern "C" fn pw_leading_ones(
     leading_ones(bytes, start, length, address).into()
 }
 
-// How many zeros stand behind the last one of a span, whatever `address` is. With length 0 it is 0, before any test.
+// Counts the zeros after the last one of a span, or the whole length if no flag is set. `address` is the remainder by 8 of the address
+// of the first byte; the count does not depend on it. With length 0 returns 0 without any check.
 #[unsafe(no_mangle)]
 pub extern "C" fn pw_trailing_zeros(
     bytes: &[u8],
@@ -128,7 +132,8 @@ pub extern "C" fn pw_trailing_zeros(
     trailing_zeros(bytes, start, length, address).into()
 }
 
-// How many ones stand behind the last zero of a span, whatever `address` is. With length 0 it is 0, before any test.
+// Counts the ones after the last zero of a span, or the whole length if every flag is set. `address` is the remainder by 8 of the
+// address of the first byte; the count does not depend on it. With length 0 returns 0 without any check.
 #[unsafe(no_mangle)]
 pub extern "C" fn pw_trailing_ones(
     bytes: &[u8],
@@ -142,7 +147,8 @@ pub extern "C" fn pw_trailing_ones(
     trailing_ones(bytes, start, length, address).into()
 }
 
-// The spans of the flags before flag `at` and from it on.
+// Returns two spans: the first `at` flags, and the flags starting at `at`. `at` may equal the length; above it the call is refused with
+// 6.
 #[unsafe(no_mangle)]
 pub extern "C" fn pw_split_at_unchecked(
     bytes: &[u8],
@@ -155,7 +161,7 @@ pub extern "C" fn pw_split_at_unchecked(
     split_at_unchecked(bytes, start, length, at).into()
 }
 
-// 32 flags from `index` on, the first in the lowest bit, zeros past the span's end.
+// Returns 32 flags starting at `index`, the first in the lowest bit, with zeros past the end of the span. `index` may be any number.
 #[unsafe(no_mangle)]
 pub extern "C" fn pw_get_u32(bytes: &[u8], start: usize, length: usize, index: usize) -> Number
     ensures { result ≡ as_number (window_at bytes.now start length index) }

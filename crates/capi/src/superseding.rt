@@ -1,5 +1,5 @@
-// Exported to C and Rust: which of two masks supersedes the other. A reference does not cross: the part of the bytes is given by its
-// slice, its first byte and the byte past its last.
+// Exported to C and Rust: which of two masks supersedes the other. The C interface has no references: the part of the bytes is returned
+// as the slice that it is of, its first byte and the byte past its last.
 #![tactic(auto, unfolding(crate::specs::Answers::as_part))]
 
 ghost use Rattle.std.specs.Prelude.{◌≡◌, cond};
@@ -33,8 +33,9 @@ impl From<Result<Part, Refusal>> for PartAnswer {
     }
 }
 
-// The mask with the larger serial of two of one operator, over the part of its bytes that holds it. Equal serials with equal flags give
-// the first, with other flags 14. Both masks are tested, the loser too.
+// Returns the winner of two masks of one operator, the one with the larger serial, over the part of its bytes that holds it. With equal
+// serials and equal flags the first wins; with equal serials and different flags the call is refused with 14. Both masks are checked,
+// the loser too.
 #[unsafe(no_mangle)]
 pub extern "C" fn pw_superseding(
     first: Mask,

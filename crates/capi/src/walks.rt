@@ -1,4 +1,4 @@
-// The cursors of masks and the items that they give, as they cross.
+// The cursors of masks and the items that they return, as records and numbers of the C interface.
 ghost use Rattle.std.specs.Prelude.{ℕ, ◌≡◌};
 ghost use Rattle.words.specs.Flags.{digit};
 ghost use Rattle.masks.specs.Answer.{answer, answer_back};
@@ -17,21 +17,22 @@ use masks::refusal::{Refusal, Refused};
 use masks::slice_iterator::{Run, SlicesIterator};
 use masks::true_idx::TrueIdxIter;
 
-// A cursor of masks: `out` is the record that crosses when it is new, `place` the number that crosses after a step.
+// A cursor of masks. A new one is returned as the record `out`, and after a step only as the number `place`.
 pub(crate) trait Walk: Copy {
     ghost crossing: { Self → Cursor };
 
     ghost standing: { Self → ℕ };
 
+    // Returns the cursor's record.
     fn out(self) -> Cursor
         ensures { result ≡ crossing self };
 
-    // `out` holds it too, but a step's contract names the place alone, so that no export has to unfold the record.
+    // Returns the cursor's place. `out` has it too, but a step's contract names only the place, so that no export has to unfold the record.
     fn place(self) -> usize
         ensures { result ≡ standing self };
 }
 
-// What a cursor gives, as `value` and `count` of a step: by `as`, since a u64 has no `From` of a `usize`.
+// An item that a cursor returns. `parts` returns it as `value` and `count` of a step: by `as`, since a u64 has no `From` of a `usize`.
 pub(crate) trait Item: Copy {
     ghost valued: { Self → ℕ };
 
@@ -41,7 +42,7 @@ pub(crate) trait Item: Copy {
         ensures { result ≡ (valued self, counted self) };
 }
 
-// Makes a cursor's record, for the four impls below. It is no default body: that cannot read the fields, and each impl unfolds its own
+// Returns a cursor's record, for the four impls below. It is no default body: that cannot read the fields, and each impl unfolds its own
 // definition.
 fn cursor_of(start: usize, length: usize, place: usize, masked: u8) -> Cursor
     ensures { result ≡ cursor_of start length place masked }
@@ -205,7 +206,7 @@ impl<T: Item, C: Walk> From<Result<Step<T, C>, Refused<C>>> for StepAnswer {
     }
 }
 
-// How many flags were taken, or how many positions written.
+// The number of flags passed over, or of positions written.
 #[tactic(auto, unfolding(crate::specs::Answers::as_taken))]
 impl<C: Walk> From<Result<(usize, C), Refused<C>>> for StepAnswer {
     ghost from_gives = { λ r a. a ≡ as_taken C.standing (answer_back r) };
@@ -227,7 +228,7 @@ impl<C: Walk> From<Result<(usize, C), Refused<C>>> for StepAnswer {
     }
 }
 
-// A word of so many flags, from a cursor that stands at `place` and stays there. The place came beside the result, so this is no `From`.
+// Returns the step of a remainder, whose cursor stays at `place`. Since `place` is a second argument, this is no `From`.
 #[tactic(auto, unfolding(crate::specs::Answers::as_remainder))]
 pub(crate) fn remainder_out(place: usize, r: Result<(u64, usize), Refused<BitChunks>>) -> StepAnswer
     ensures { result ≡ as_remainder place (answer_back r) }

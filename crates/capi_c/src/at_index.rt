@@ -7,9 +7,9 @@ ghost use Rattle.capi.specs.Records.{optional_in};
 use capi::answers::Flag;
 use capi::records::Mask;
 
-// Whether the flag at `index` is set in the first mask and not in the second. Where not `first_present` there is no first mask, which
-// stands for all ones; where not `second_present` no second mask, which takes nothing away: record and bytes are then not read. 5 comes
-// only where both masks are there; without any mask nothing is refused.
+// Returns whether the flag at `index` is set in the first mask and not in the second. If `first_present` is false there is no first
+// mask, which means all ones; if `second_present` is false there is no second mask, which means all zeros. The record and bytes of an
+// absent mask are not read. Refusal 5 occurs only with both masks; without any mask nothing is refused.
 #[unsafe(no_mangle)]
 pub extern "C" fn pw_and_not_at(
     first_present: bool,

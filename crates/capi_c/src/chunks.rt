@@ -1,4 +1,4 @@
-// Exported to C and Rust: the words of a span, and the flags behind the last whole one.
+// Exported to C and Rust: the words of a span, and the flags after the last whole one.
 ghost use Rattle.std.specs.Prelude.{◌≡◌};
 ghost use Rattle.masks.specs.Chunks.{chunks_at, chunks_remainder, new_chunks, next_chunk};
 ghost use Rattle.capi.specs.Answers.{as_cursor, as_remainder, as_word};
@@ -14,7 +14,7 @@ pub extern "C" fn pw_chunks_new(bytes: &[u8], start: usize, length: usize) -> Cu
     capi::chunks::pw_chunks_new(bytes, start, length)
 }
 
-// A cursor at the first word of the first `length` flags of the bytes.
+// Returns a cursor at the first word of the first `length` flags of `bytes`.
 #[unsafe(no_mangle)]
 pub extern "C" fn pw_chunks_new_exact(bytes: &[u8], length: usize) -> CursorAnswer
     ensures { result ≡ as_cursor chunks_out (new_chunks bytes.now 0 length) }
@@ -22,7 +22,8 @@ pub extern "C" fn pw_chunks_new_exact(bytes: &[u8], length: usize) -> CursorAnsw
     capi::chunks::pw_chunks_new_exact(bytes, length)
 }
 
-// The next word in `value`; none from word length div 64 on, where the cursor stays.
+// Returns the next word in `value` and moves the cursor one word on. After the last whole word `found` is false and the cursor does not
+// move.
 #[unsafe(no_mangle)]
 pub extern "C" fn pw_chunks_next(
     start: usize,
@@ -35,8 +36,8 @@ pub extern "C" fn pw_chunks_next(
     capi::chunks::pw_chunks_next(start, length, place, bytes)
 }
 
-// The last length mod 64 flags as a word in `value`, and their number in `count`, wherever the cursor stands. The cursor stays
-// there: its place is given as it came.
+// Returns the last length mod 64 flags of the span as a word in `value`, zero above them, and their number in `count`. `found` is true.
+// The result does not depend on the place, and the cursor does not move.
 #[unsafe(no_mangle)]
 pub extern "C" fn pw_chunks_remainder(
     start: usize,

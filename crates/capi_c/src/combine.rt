@@ -1,4 +1,4 @@
-// Exported to C and Rust: the combinations. Each writes frozen bytes over the front of `out` and gives the mask over them.
+// Exported to C and Rust: the combinations of masks of equal lengths. The mask returned has start 0 and the largest of their serials.
 ghost use Rattle.std.specs.Prelude.{◌≡◌};
 ghost use Rattle.masks.specs.Combine.{And, AndNot, Or, OrNot, Xor, pair_bytes, pair_of, not_bytes, not_of, select_bytes};
 ghost use Rattle.masks.specs.Combine.{select_constant_bytes, select_constant_of, select_of};
@@ -8,7 +8,7 @@ ghost use Rattle.capi.specs.Records.{mask_in};
 use capi::answers::MaskAnswer;
 use capi::records::Mask;
 
-// The flags that are set in both masks.
+// Writes which flags are set in both masks, as frozen bytes at the start of `out`, and returns the mask over them.
 #[unsafe(no_mangle)]
 pub extern "C" fn pw_and(
     lhs: Mask,
@@ -25,7 +25,8 @@ pub extern "C" fn pw_and(
     capi::combine::pw_and(lhs, left, rhs, right, out)
 }
 
-// The flags that are set in the first mask and not in the second.
+// Writes which flags are set in the first mask and not in the second, as frozen bytes at the start of `out`, and returns the mask over
+// them.
 #[unsafe(no_mangle)]
 pub extern "C" fn pw_and_not(
     lhs: Mask,
@@ -42,7 +43,7 @@ pub extern "C" fn pw_and_not(
     capi::combine::pw_and_not(lhs, left, rhs, right, out)
 }
 
-// The flags that are set in either mask.
+// Writes which flags are set in at least one of two masks, as frozen bytes at the start of `out`, and returns the mask over them.
 #[unsafe(no_mangle)]
 pub extern "C" fn pw_or(
     lhs: Mask,
@@ -59,7 +60,8 @@ pub extern "C" fn pw_or(
     capi::combine::pw_or(lhs, left, rhs, right, out)
 }
 
-// The flags that are set in the first mask or not in the second.
+// Writes which flags are set in the first mask or not set in the second, as frozen bytes at the start of `out`, and returns the mask
+// over them.
 #[unsafe(no_mangle)]
 pub extern "C" fn pw_or_not(
     lhs: Mask,
@@ -76,7 +78,7 @@ pub extern "C" fn pw_or_not(
     capi::combine::pw_or_not(lhs, left, rhs, right, out)
 }
 
-// The flags in which the masks differ.
+// Writes which flags differ between two masks, as frozen bytes at the start of `out`, and returns the mask over them.
 #[unsafe(no_mangle)]
 pub extern "C" fn pw_xor(
     lhs: Mask,
@@ -93,7 +95,7 @@ pub extern "C" fn pw_xor(
     capi::combine::pw_xor(lhs, left, rhs, right, out)
 }
 
-// Each flag inverted.
+// Writes each flag of a mask inverted, as frozen bytes at the start of `out`, and returns the mask over them.
 #[unsafe(no_mangle)]
 pub extern "C" fn pw_not(mask: Mask, bytes: &[u8], out: &mut [u8]) -> MaskAnswer
     ensures answer { result ≡ as_mask (not_of (mask_in mask) bytes.now out.old) }
@@ -102,7 +104,8 @@ pub extern "C" fn pw_not(mask: Mask, bytes: &[u8], out: &mut [u8]) -> MaskAnswer
     capi::combine::pw_not(mask, bytes, out)
 }
 
-// The flag of `truthy` where the selector's is set, else that of `falsy`.
+// Writes the flag of `truthy` where the selector's is set, else that of `falsy`, as frozen bytes at the start of `out`, and returns the
+// mask over them.
 #[unsafe(no_mangle)]
 pub extern "C" fn pw_select(
     selector: Mask,
@@ -121,7 +124,8 @@ pub extern "C" fn pw_select(
     capi::combine::pw_select(selector, by, truthy, yes, falsy, no, out)
 }
 
-// The flag of `truthy` where the selector's is set, else `flag`.
+// Writes the flag of `truthy` where the selector's is set, else `flag`, as frozen bytes at the start of `out`, and returns the mask over
+// them.
 #[unsafe(no_mangle)]
 pub extern "C" fn pw_select_constant(
     selector: Mask,

@@ -1,4 +1,4 @@
-// Exported to C and Rust: the cursors over runs, flags and positions. A step that finds nothing gives the length as the place.
+// Exported to C and Rust: the cursors over runs, flags and positions. A step that finds nothing moves the cursor to the length.
 ghost use Rattle.std.specs.Prelude.{◌≡◌, true, false, length as list_length};
 ghost use Rattle.masks.specs.Iterator.{iter_at, new_iter, nth_flag, take_leading};
 ghost use Rattle.masks.specs.Positions.{positions_over, next_positions};
@@ -10,7 +10,7 @@ ghost use Rattle.capi.specs.Records.{iter_out, iter_place, mask_in, optional_in,
 use capi::answers::{CursorAnswer, StepAnswer};
 use capi::records::Mask;
 
-// A cursor before the first run of ones of a mask.
+// Returns a cursor before the first run of ones of a mask.
 #[unsafe(no_mangle)]
 pub extern "C" fn pw_slices_new(mask: Mask, bytes: &[u8]) -> CursorAnswer
     ensures { result ≡ as_cursor slices_out (new_slices (mask_in mask) bytes.now) }
@@ -18,7 +18,8 @@ pub extern "C" fn pw_slices_new(mask: Mask, bytes: &[u8]) -> CursorAnswer
     capi::cursors::pw_slices_new(mask, bytes)
 }
 
-// The next run of ones, its start in `value` and its length in `count`.
+// Returns the next run of ones, its start in `value` and its length in `count`, and moves the cursor past it. If there is no further
+// run, `found` is false and the place is the length.
 #[unsafe(no_mangle)]
 pub extern "C" fn pw_slices_next(
     start: usize,
@@ -31,7 +32,7 @@ pub extern "C" fn pw_slices_next(
     capi::cursors::pw_slices_next(start, length, place, bytes)
 }
 
-// A cursor before the first flag of a span. With length 0 its start, length and place are 0, before any test.
+// Returns a cursor before the first flag of a span. With length 0 its start, length and place are 0, without any check.
 #[unsafe(no_mangle)]
 pub extern "C" fn pw_iter_new(bytes: &[u8], start: usize, length: usize) -> CursorAnswer
     ensures { result ≡ as_cursor iter_out (new_iter bytes.now start length) }
@@ -39,7 +40,7 @@ pub extern "C" fn pw_iter_new(bytes: &[u8], start: usize, length: usize) -> Curs
     capi::cursors::pw_iter_new(bytes, start, length)
 }
 
-// The next flag, 0 or 1 in `value`.
+// Returns the next flag, 0 or 1, in `value` and moves the cursor past it. At the end `found` is false and the cursor does not move.
 #[unsafe(no_mangle)]
 pub extern "C" fn pw_iter_next(
     start: usize,
@@ -52,7 +53,8 @@ pub extern "C" fn pw_iter_next(
     capi::cursors::pw_iter_next(start, length, place, bytes)
 }
 
-// The flag that stands `n` behind the next one, 0 or 1 in `value`.
+// Skips `n` flags, returns the following one, 0 or 1, in `value` and moves the cursor past it. If there is no such flag, `found` is
+// false and the place is the length.
 #[unsafe(no_mangle)]
 pub extern "C" fn pw_iter_nth(
     start: usize,
@@ -66,7 +68,8 @@ pub extern "C" fn pw_iter_nth(
     capi::cursors::pw_iter_nth(start, length, place, bytes, n)
 }
 
-// How many ones stand next, in `count`; the cursor moves past them.
+// Counts the ones from the cursor up to the next zero, or to the end, returns their number in `count` and moves the cursor past them.
+// `found` is true, also if `count` is 0.
 #[unsafe(no_mangle)]
 pub extern "C" fn pw_take_leading_ones(
     start: usize,
@@ -79,7 +82,8 @@ pub extern "C" fn pw_take_leading_ones(
     capi::cursors::pw_take_leading_ones(start, length, place, bytes)
 }
 
-// How many zeros stand next, in `count`; the cursor moves past them.
+// Counts the zeros from the cursor up to the next one, or to the end, returns their number in `count` and moves the cursor past them.
+// `found` is true, also if `count` is 0.
 #[unsafe(no_mangle)]
 pub extern "C" fn pw_take_leading_zeros(
     start: usize,
@@ -92,8 +96,9 @@ pub extern "C" fn pw_take_leading_zeros(
     capi::cursors::pw_take_leading_zeros(start, length, place, bytes)
 }
 
-// A cursor before the first position of a one in a mask of `length` flags. Where not `present` there is no mask: record and bytes
-// are not read, every position is given, as in Arrow, and 1 is the only refusal. For pw_may_reassign no permission mask means no truck.
+// Returns a cursor before the first position of a one in a mask of `length` flags. If `present` is false there is no mask: its record
+// and bytes are not read, the cursor has every position below `length`, as in Arrow, and 1 is the only refusal. In pw_may_reassign no
+// permission mask means no truck.
 #[unsafe(no_mangle)]
 pub extern "C" fn pw_true_idx_new(
     length: usize,
@@ -106,7 +111,8 @@ pub extern "C" fn pw_true_idx_new(
     capi::cursors::pw_true_idx_new(length, present, mask, bytes)
 }
 
-// The next position of a one, in `value`. Without a mask 2 does not come.
+// Returns the next position of a one in `value` and moves the cursor past it. If there is no further one, `found` is false and the place
+// is the length. If `masked` is 0 there is no mask: every position is returned, and refusal 2 does not occur.
 #[unsafe(no_mangle)]
 pub extern "C" fn pw_true_idx_next(
     start: usize,
@@ -120,9 +126,10 @@ pub extern "C" fn pw_true_idx_next(
     capi::cursors::pw_true_idx_next(start, length, place, masked, bytes)
 }
 
-// The next positions of ones, as many as there are and `out` has room for, over its front, and their number in `count`: what as
-// many calls of pw_true_idx_next give. The place is just past the last of them, where there was room for more the length; with no
-// room the cursor stays. `found` is true. Without a mask 2 does not come.
+// Writes the next positions of ones at the start of `out`, as many as there are and it has room for, and returns their number in
+// `count`. They are what as many calls of pw_true_idx_next return; the rest of `out` is unchanged. The cursor moves past the last of
+// them, or to the length if `out` is not filled; if `out` is empty it does not move. `found` is true. If `masked` is 0 there is no mask:
+// every position is written, and refusal 2 does not occur.
 #[unsafe(no_mangle)]
 pub extern "C" fn pw_true_idx_next_chunk(
     start: usize,

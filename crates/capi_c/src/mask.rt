@@ -1,4 +1,4 @@
-// Exported to C and Rust: the calls that make a mask, cut it, count it and compare it.
+// Exported to C and Rust: the calls that make, slice, count and compare masks.
 ghost use Rattle.std.specs.Prelude.{◌≡◌};
 ghost use Rattle.masks.specs.Compare.{common_of, edges_of, eq_of};
 ghost use Rattle.masks.specs.Mask.{empty_mask, new_zeroed_bytes, new_zeroed_of, slice_of, try_new_of, unset_bits_of};
@@ -8,7 +8,7 @@ ghost use Rattle.capi.specs.Records.{mask_in, mask_out};
 use capi::answers::{Flag, MaskAnswer, Number, ZerosAnswer};
 use capi::records::Mask;
 
-// Returns the empty mask.
+// Returns the mask of no flags, its zero count known as 0.
 #[unsafe(no_mangle)]
 pub extern "C" fn pw_bitmap_new() -> Mask
     ensures { result ≡ mask_out empty_mask }
@@ -16,7 +16,7 @@ pub extern "C" fn pw_bitmap_new() -> Mask
     capi::mask::pw_bitmap_new()
 }
 
-// A mask of `length` zeros, whose frozen bytes are written over the front of `out`.
+// Writes the frozen bytes of `length` zeros at the start of `out` and returns the mask over them, its zero count known.
 #[unsafe(no_mangle)]
 pub extern "C" fn pw_new_zeroed(length: usize, out: &mut [u8]) -> MaskAnswer
     ensures answer { result ≡ as_mask (new_zeroed_of length out.old) }
@@ -25,7 +25,8 @@ pub extern "C" fn pw_new_zeroed(length: usize, out: &mut [u8]) -> MaskAnswer
     capi::mask::pw_new_zeroed(length, out)
 }
 
-// The mask of a span, its zeros not counted.
+// Returns the mask of the `length` flags of `bytes` that start at bit `start`. Its zero count is unknown, or known as 0 if `length` is
+// 0.
 #[unsafe(no_mangle)]
 pub extern "C" fn pw_try_new(bytes: &[u8], start: usize, length: usize) -> MaskAnswer
     ensures { result ≡ as_mask (try_new_of bytes.now start length) }
@@ -33,7 +34,8 @@ pub extern "C" fn pw_try_new(bytes: &[u8], start: usize, length: usize) -> MaskA
     capi::mask::pw_try_new(bytes, start, length)
 }
 
-// The piece of `length` flags from flag `offset` on.
+// Returns the mask of the `length` flags of `mask` that start at its flag `offset`, over the same bytes. Its zero count may be unknown
+// although that of `mask` is known.
 #[unsafe(no_mangle)]
 pub extern "C" fn pw_slice(mask: Mask, bytes: &[u8], offset: usize, length: usize) -> MaskAnswer
     ensures { result ≡ as_same_mask mask (slice_of (mask_in mask) bytes.now offset length) }
@@ -41,7 +43,7 @@ pub extern "C" fn pw_slice(mask: Mask, bytes: &[u8], offset: usize, length: usiz
     capi::mask::pw_slice(mask, bytes, offset, length)
 }
 
-// Returns the number of zeros, and the mask with that count stored.
+// Returns the number of zeros of `mask`, and the mask with that count stored.
 #[unsafe(no_mangle)]
 pub extern "C" fn pw_unset_bits(mask: Mask, bytes: &[u8]) -> ZerosAnswer
     ensures { result ≡ as_zeros mask (unset_bits_of (mask_in mask) bytes.now) }
@@ -49,7 +51,7 @@ pub extern "C" fn pw_unset_bits(mask: Mask, bytes: &[u8]) -> ZerosAnswer
     capi::mask::pw_unset_bits(mask, bytes)
 }
 
-// Whether lengths and flags are equal.
+// Returns whether two masks have equal lengths and equal flags. Unequal lengths are not refused, and serials are ignored.
 #[unsafe(no_mangle)]
 pub extern "C" fn pw_eq(lhs: Mask, left: &[u8], rhs: Mask, right: &[u8]) -> Flag
     ensures { result ≡ as_flag (eq_of (mask_in lhs) left.now (mask_in rhs) right.now) }
@@ -57,7 +59,7 @@ pub extern "C" fn pw_eq(lhs: Mask, left: &[u8], rhs: Mask, right: &[u8]) -> Flag
     capi::mask::pw_eq(lhs, left, rhs, right)
 }
 
-// How many flags differ from the next one.
+// Counts the flags of a mask that differ from the next flag.
 #[unsafe(no_mangle)]
 pub extern "C" fn pw_num_edges(mask: Mask, bytes: &[u8]) -> Number
     ensures { result ≡ as_number (edges_of (mask_in mask) bytes.now) }
@@ -65,7 +67,7 @@ pub extern "C" fn pw_num_edges(mask: Mask, bytes: &[u8]) -> Number
     capi::mask::pw_num_edges(mask, bytes)
 }
 
-// How many flags are set in both masks.
+// Counts the flags that are set in both of two masks of equal lengths.
 #[unsafe(no_mangle)]
 pub extern "C" fn pw_num_intersections_with(
     lhs: Mask,

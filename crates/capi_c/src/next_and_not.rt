@@ -7,10 +7,11 @@ ghost use Rattle.capi.specs.Records.{mask_in, optional_in};
 use capi::answers::NextAnswer;
 use capi::records::Mask;
 
-// The first position at or after `from` that is set in the first mask and not in the second, and if there is none the first from 0 on.
-// Where not `second_present` there is no second mask, which takes nothing away: record and bytes are then not read, and 5 does not come.
-// `windows` counts windows of 32 flags that begin at `from` and every 32 flags on below the length, then at 0 and every 32 flags on below
-// `from`, up to the one that holds the position, or all of them. A `from` at the length is allowed, above it 6.
+// Returns the first position at or after `from` that is set in the first mask and not in the second, else the first one at or after 0;
+// `found` is false if there is no such position. If `second_present` is false there is no second mask, which means all zeros: its record
+// and bytes are not read, and refusal 5 does not occur. `windows` counts the windows of 32 flags read: they begin at `from` and every 32
+// flags after it, below the length, then at 0 and every 32 flags after it, below `from`; the last one read holds the position, or all
+// are read. A `from` equal to the length is allowed; above it the call is refused with 6.
 #[unsafe(no_mangle)]
 pub extern "C" fn pw_next_and_not(
     first: Mask,

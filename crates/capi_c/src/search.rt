@@ -5,7 +5,8 @@ ghost use Rattle.capi.specs.Answers.{as_position};
 
 use capi::answers::Position;
 
-// Returns the position of the n-th set flag at or after `from`, counting from 0.
+// Returns the position of the n-th set flag at or after `from`, counting from 0. `found` is false if at most `n` flags are set there.
+// `from` may exceed the length.
 #[unsafe(no_mangle)]
 pub extern "C" fn pw_nth_set_bit_idx(
     bytes: &[u8],
@@ -19,7 +20,8 @@ pub extern "C" fn pw_nth_set_bit_idx(
     capi::search::pw_nth_set_bit_idx(bytes, start, length, n, from)
 }
 
-// The position of the n-th set flag counted down from below `end`, which may exceed the length.
+// Returns the position of the n-th set flag before `end`, counting down from 0: number 0 is the set flag nearest to `end`. `found` is
+// false if at most `n` flags are set there. `end` may exceed the length.
 #[unsafe(no_mangle)]
 pub extern "C" fn pw_nth_set_bit_idx_rev(
     bytes: &[u8],

@@ -1,5 +1,5 @@
--- What `may_reassign` answers, mask by mask: with no permission mask no, for every truck and whether or not there is a revocation
--- mask; with both masks flag t of the combination `and_not`; with a permission mask alone that mask's flag. Assumes nothing.
+-- The answer of `may_reassign`, mask by mask: with no permission mask no, for every truck and whether or not there is a revocation mask;
+-- with both masks flag t of the combination `and_not`; with only a permission mask that mask's flag.
 use Rattle.std.specs.Prelude.{Option, Some, None}
 use mathlib.Core.Path.{◌≡◌, refl, sym, ◌∙◌}
 use mathlib.Core.Bool.{true, false}
@@ -20,13 +20,13 @@ use Rattle.dispatch.proofs.DispatchLaws.{is-and-not-at}
 
 -- ---- no permission mask
 
--- no truck may be reassigned: with a revocation mask or without one, an accepted call answers no
+-- no truck may be reassigned: with a revocation mask or without one, the answer of an accepted call is no
 pub no-permission : (p_bytes : List ℕ) (revocation : Option Bitmap) (r_bytes : List ℕ) (t : ℕ)
     → may_reassign None p_bytes revocation r_bytes t ≡ checked (and_not_at_checks None p_bytes revocation r_bytes t) tt false
 unfolding may_reassign reassignable
 no-permission p_bytes revocation r_bytes t = refl
 
--- so yes is never answered
+-- so the answer is never yes
 pub never_permitted : (p_bytes : List ℕ) (revocation : Option Bitmap) (r_bytes : List ℕ) (t : ℕ)
     → may_reassign None p_bytes revocation r_bytes t ≡ given true → ⊥
 never_permitted p_bytes revocation r_bytes t e =
@@ -44,11 +44,11 @@ no_mask p_bytes r_bytes t = refl
 
 module _ (p : Bitmap) (p_bytes : List ℕ) (r : Bitmap) (r_bytes : List ℕ) (t : ℕ)
     (accepted : first_failed (and_not_at_checks (Some p) p_bytes (Some r) r_bytes t) ≡ 0) where
-  -- flag t of the flags that `and_not` makes of the two masks
+  -- the answer is flag t of the combination `and_not` of the two masks
   pub flag-of-and-not : may_reassign (Some p) p_bytes (Some r) r_bytes t ≡ given (get_or (pair_flags AndNot p p_bytes r r_bytes) t false)
   flag-of-and-not = sym (is-and-not-at p p_bytes (Some r) r_bytes t) ∙ at-and-not p p_bytes r r_bytes t accepted
 
-  -- and so flag t of the mask that it gives, in the bytes that it writes to an output that holds them
+  -- and so it is flag t of the mask that `and_not` returns, in the bytes that it writes to an output that holds them
   pub flag-of-written : (out : List ℕ) → first_failed (pair_checks p p_bytes r r_bytes (length out)) ≡ 0
       → may_reassign (Some p) p_bytes (Some r) r_bytes t
       ≡ given (get_or (mask_flags (pair_mask AndNot p p_bytes r r_bytes) (pair_bytes AndNot p p_bytes r r_bytes out)) t false)

@@ -1,4 +1,4 @@
--- The answers of `may_reassign` and `offer` stand for what `specs/AnswerPlain.antt` says. Assumes nothing.
+-- The answers of `may_reassign` and `offer` have the plain reading of `specs/AnswerPlain.antt`.
 use mathlib.Core.Path.{refl}
 use Rattle.dispatch.specs.AnswerPlain.{AnswerPlain, OfferPlain}
 

@@ -1,5 +1,5 @@
 -- `may_reassign` has the checks of `and_not_at`. With a permission mask it is that call; with none an accepted call answers by the
--- rule for none. Assumes nothing.
+-- rule for none.
 use Rattle.std.specs.Prelude.{Option, Some, None}
 use Rattle.std.specs.Option.{is_some}
 use Rattle.std.proofs.lemmas.Bool.{true≢false}
@@ -21,13 +21,13 @@ pub is-and-not-at : (p : Bitmap) (p_bytes : List ℕ) (R : Option Bitmap) (r_byt
 unfolding and_not_at_of may_reassign reassignable
 is-and-not-at p p_bytes R r_bytes t = refl
 
--- with a permission mask the flag of the two masks is the answer
+-- with a permission mask the answer is the flag of the two masks
 pub flag-given : (P : Option Bitmap) (p_bytes : List ℕ) (R : Option Bitmap) (r_bytes : List ℕ) (t : ℕ) (x : Bool) → is_some P ≡ true
     → given x ≡ and_not_at_of P p_bytes R r_bytes t → given x ≡ may_reassign P p_bytes R r_bytes t
 flag-given (Some p) p_bytes R r_bytes t x here e = e ∙ is-and-not-at p p_bytes R r_bytes t
 flag-given None p_bytes R r_bytes t x here e = absurd (true≢false (sym here))
 
--- with none the answer is what the definition has for none, whatever that flag
+-- with none the answer is that of the definition for none, whatever that flag
 pub rule-given : (P : Option Bitmap) (p_bytes : List ℕ) (R : Option Bitmap) (r_bytes : List ℕ) (t : ℕ) (x y : Bool) → is_some P ≡ false
     → given x ≡ and_not_at_of P p_bytes R r_bytes t → y ≡ reassignable None p_bytes R r_bytes t
     → given y ≡ may_reassign P p_bytes R r_bytes t

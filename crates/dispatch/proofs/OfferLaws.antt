@@ -1,5 +1,4 @@
--- `offer` by the search `next_and_not`: the number of windows that the search gives is the one in the paper's words, and at most
--- ceil(length / 32) + 1. Assumes nothing.
+-- `offer` by the search `next_and_not`: its number of windows is the one in the paper's words, at most ceil(length / 32) + 1.
 use Rattle.std.specs.Prelude.{Option, Some, None}
 use Rattle.std.proofs.lemmas.Bool.{cases_lt}
 use Rattle.std.proofs.lemmas.Option.{none-some, same_Some}
@@ -46,7 +45,7 @@ beginning-length (suc most) from end h = ⊎_elim
     (λ (b : end ≤ from). rw (le-ltb from end b) (omega arith))
     (cases_lt from end)
 
--- the one that holds a truck from the first one on
+-- the number of the window that holds a truck at or after the first window's beginning
 up_to_there : (most from end t : ℕ) (more : List ℕ) → end - from ≤ 32 * most → from ≤ t → t < end
     → up_to t (beginning most from end ++ more) ≡ (t - from) / 32 + 1
 unfolding beginning up_to
@@ -59,7 +58,7 @@ up_to_there (suc most) from end t more h a b = ⊎_elim
     (let ih = up_to_there most (from + 32) end t more (omega arith) n b in omega (arith, ih)))
     (cases_lt t (from + 32))
 
--- none of those that begin after it
+-- no window that begins after a truck holds it
 up_to_past : (most from end t : ℕ) (more : List ℕ) → t < from
     → up_to t (beginning most from end ++ more) ≡ length (beginning most from end) + up_to t more
 unfolding beginning up_to
@@ -70,16 +69,16 @@ up_to_past (suc most) from end t more h = ⊎_elim
     (λ (b : end ≤ from). rw (le-ltb from end b) (omega arith))
     (cases_lt from end)
 
--- ---- the number that the search gives
+-- ---- the number of windows of the search
 
 abbrev pub offered : ℕ → Option ℕ → ℕ → Offering
 offered cursor t k = record { truck = t; cursor = moved_to t cursor; windows = k }
 
--- what the search gives, as an offer
+-- what the search finds, as an offer
 abbrev pub as-offer : ℕ → Found → Offering
 as-offer cursor F = offered cursor F.position F.windows
 
--- the same with the next cursor as a number
+-- what the search finds, as an offer with the next cursor as a number
 abbrev pub offer-then : ℕ → Found → Offering
 offer-then next F = record { truck = F.position; cursor = next; windows = F.windows }
 
@@ -105,7 +104,7 @@ module _ (n cursor : ℕ) (inside : cursor ≤ n) where
       ∙ ap₂ (λ (x y : ℕ). x + y) (beginning-length n cursor n (omega arith)) (beginning-length cursor 0 cursor (omega arith) ∙ z))
 
   module _ (l : List Bool) (long : length l ≡ n) where
-    -- where each of the two searches came to
+    -- the places to which the two searches have come
     round-here : (A B : Option ℕ) → nth_from l 0 cursor ≡ A → nth_from l 0 0 ≡ B
         → as-offer cursor (going_round n cursor A B) ≡ offered cursor (or_else A B) (windows_read n cursor (or_else A B))
     unfolding going_round
@@ -116,7 +115,7 @@ module _ (n cursor : ℕ) (inside : cursor ≤ n) where
         ap (offered cursor (Some t)) (read-before t (some-before l cursor t e f))
     round-here None None e f = ap (offered cursor None) read_all
 
-    -- the search's answer as an offer
+    -- what the search finds is the offer
     pub as_offered : (F : Found) → F ≡ next_set n l cursor → as-offer cursor F ≡ offering n l cursor
     unfolding next_set offering next_truck
     as_offered F e =
@@ -129,7 +128,7 @@ module _ (n cursor : ℕ) (inside : cursor ≤ n) where
     bound-here None (Some t) e f = let at = some-before l cursor t e f in omega arith
     bound-here None None e f = omega arith
 
-    -- and its bound
+    -- the bound on the windows of the search
     pub search-bound : (F : Found) → F ≡ next_set n l cursor → F.windows ≤ (n + 31) / 32 + 1
     unfolding next_set
     search-bound F e =
@@ -142,7 +141,7 @@ module _ (n cursor : ℕ) (inside : cursor ≤ n) where
     inside-here None (Some p) t e f g = omega (arith, (some-ahead l 0 p f).1, same_Some p t g)
     inside-here None None t e f g = absurd (none-some t g)
 
-    -- a truck that is found is one of them
+    -- a truck that is found is one of the n
     pub search-inside : (F : Found) (t : ℕ) → F ≡ next_set n l cursor → F.position ≡ Some t → t < n
     unfolding next_set
     search-inside F t e g =
@@ -198,7 +197,7 @@ module _ (p : Bitmap) (p_bytes : List ℕ) (R : Option Bitmap) (r_bytes : List �
       is-refused k number cursor (offered_of (Some p) p_bytes R r_bytes cursor) same
       (λ z. refused-failed k number tt tt found e (sym same ∙ z))
 
--- without one: the search over a revocation mask asks the checks of that mask
+-- without one: the search over a revocation mask makes the checks of that mask
 lone-number : (r : Bitmap) (r_bytes p_bytes : List ℕ)
     → first_failed (next_checks r r_bytes None p_bytes 0) ≡ first_failed (mask_checks r r_bytes)
 unfolding next_checks other_checks
@@ -230,13 +229,13 @@ module _ (p_bytes : List ℕ) (R : Option Bitmap) (r : Bitmap) (r_bytes : List �
       (λ z. refused-failed k lone tt tt v e (sym same ∙ z))
       ∙ ap (λ (o : Option Bitmap). offer_of None p_bytes o r_bytes cursor) (sym here)
 
--- with no mask at all
+-- with no mask at all no truck is offered
 pub no-mask-way : (p_bytes : List ℕ) (R : Option Bitmap) (r_bytes : List ℕ) (cursor : ℕ) → R ≡ None
     → given (offered cursor None 0) ≡ offer_of None p_bytes R r_bytes cursor
 unfolding offer_of offer_checks offered_of first_failed decided
 no-mask-way p_bytes R r_bytes cursor gone = ap (λ (o : Option Bitmap). offer_of None p_bytes o r_bytes cursor) (sym gone)
 
--- the exit of a `?` gives the refusal and the cursor
+-- the exit of a `?` returns the refusal and the cursor
 pub offer-exit : (result : Result Offering NoOffer) (x : NoOffer) → IsErrAnd result (λ (y : NoOffer). y ≡ x) → (cursor : ℕ)
     → x.cursor ≡ cursor
     → offer_answer result ≡ refused (number_of x.refusal) cursor

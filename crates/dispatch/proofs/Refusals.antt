@@ -1,4 +1,4 @@
--- `may_reassign` and `offer` refuse by the numbers listed for them alone, and each of these has an input. Assumes nothing.
+-- `may_reassign` and `offer` refuse only by the numbers listed for them, and each of these has an input.
 use Rattle.std.specs.Prelude.{Some, None}
 use mathlib.Core.Path.{refl}
 use Rattle.masks.specs.Answer.{decided}

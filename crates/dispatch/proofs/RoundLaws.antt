@@ -1,5 +1,5 @@
--- The trucks around a cursor: those from it on, then those before it. A call offers the first of them, and around the cursor that it
--- leaves are the others and then this one. Assumes nothing.
+-- The trucks around a cursor: those at or after it, then those before it. A call offers the first of them, and around the cursor that it
+-- leaves are the others and then this one.
 use Rattle.std.proofs.lemmas.Bool.{cases_lt}
 use mathlib.Core.Path.{◌≡◌, refl, sym, ap, ap₂, ◌∙◌}
 use mathlib.Core.Bool.{Bool, true, false, cond, ◌&&◌}
@@ -33,7 +33,7 @@ ones-add f a (suc m) k =
     ∙ cond-append (f a) a (ones f (suc a) (m + k)) (ones f (suc a) m) (ones f (a + suc m) k)
     (ones-add f (suc a) m k ∙ ap (λ (x : ℕ). ones f (suc a) m ++ ones f x k) e)
 
--- a range that starts with t: none before it, and the rest behind it
+-- a range in which t is the first one: none before it, and the rest after it
 pub record Starts (f : ℕ → Bool) (a m t : ℕ) (rest : List ℕ) : Type 0 where
   pub low : a ≤ t
   pub high : t < a + m
@@ -98,7 +98,7 @@ none-set f a (suc m) e j p q =
 abbrev pub around : (ℕ → Bool) → ℕ → ℕ → List ℕ
 around f n c = ones f c (n - c) ++ ones f 0 c
 
--- the trucks in their order are those before the cursor and those from it on
+-- the trucks in their order are those before the cursor and those at or after it
 in_order_lem : (f : ℕ → Bool) (n c : ℕ) → c ≤ n → ones f 0 n ≡ ones f 0 c ++ ones f c (n - c)
 in_order_lem f n c h =
     let z : n ≡ c + (n - c) = omega arith in
@@ -109,7 +109,7 @@ head_around : (X Y : List ℕ) → or_else (head_of X) (head_of (Y ++ X)) ≡ he
 head_around [] Y = ap head_of (append-nil Y)
 head_around (t ∷ X) Y = refl
 
--- the first of them is the first from the cursor on, else the first of all
+-- the first of them is the first at or after the cursor, else the first of all
 pub around_first : (f : ℕ → Bool) (n c : ℕ) → c ≤ n → or_else (head_of (ones f c (n - c))) (head_of (ones f 0 n)) ≡ head_of (around f n c)
 around_first f n c h =
     ap (λ (l : List ℕ). or_else (head_of (ones f c (n - c))) (head_of l)) (in_order_lem f n c h)
@@ -119,7 +119,7 @@ one_set : (f : ℕ → Bool) (u : ℕ) → f u ≡ true → ones f u 1 ≡ u ∷
 unfolding ones
 one_set f u h = ap (λ (x : Bool). cond x (u ∷ []) []) h
 
--- those up to and with t, where none stands between c and t
+-- those up to and with t, if none is between c and t
 up_to : (f : ℕ → Bool) (c t : ℕ) → c ≤ t → ones f c (t - c) ≡ [] → f t ≡ true → ones f 0 (t + 1) ≡ ones f 0 c ++ (t ∷ [])
 up_to f c t low e h =
     let z : t + 1 ≡ c + (t - c + 1) = omega arith in
@@ -192,7 +192,7 @@ none_around f n c h e j q =
     (λ (b : c ≤ j). none-set f c (n - c) both.0 j b (omega arith))
     (cases_lt j c)
 
--- ---- how many, and how often
+-- ---- how many, and how many times
 
 one_more : (f : ℕ → Bool) (n : ℕ) (x : Bool) (s : List ℕ) → length (s ++ cond x (n ∷ []) []) ≡ cond x (suc (length s)) (length s)
 one_more f n true s = length-append s (n ∷ []) ∙ (let z : length s + 1 ≡ suc (length s) = omega arith in z)
@@ -254,7 +254,7 @@ times-in f a (suc m) t p q = ⊎_elim
     ∙ once-here t (f t) (ones f (suc t) m) (times-low f (suc t) m t (omega arith)))
     (cases_lt a t)
 
--- each truck below n that f has, once
+-- each truck below n for which f is true, once
 pub around_times : (f : ℕ → Bool) (n c t : ℕ) → c ≤ n → times t (around f n c) ≡ cond (ltb t n && f t) 1 0
 around_times f n c t h = times-append t (ones f c (n - c)) (ones f 0 c) ∙ ⊎_elim
     (λ (b : t < n). ⊎_elim

@@ -1,4 +1,4 @@
--- What `offer` means for trucks: `right` of one call, `round` of as many calls as there are trucks that may be reassigned. Assumes nothing.
+-- `offer` for trucks: `right` for one call, `round` for as many calls as there are trucks that may be reassigned.
 use Rattle.std.specs.Prelude.{Option, Some}
 use Rattle.std.proofs.lemmas.Option.{none-some, same_Some}
 use Rattle.std.proofs.lemmas.Bool.{true≢false}
@@ -26,7 +26,7 @@ use Rattle.dispatch.proofs.RoundLaws.{around, around_first, around_many, around_
 
 -- ---- one call
 
--- of an offer that is the first truck around the cursor
+-- an offer that is the first truck around the cursor
 module _ (f : ℕ → Bool) (n c : ℕ) (inside : c ≤ n) (o : Offering) (moved : o.cursor ≡ moved_to o.truck c) where
   right_by : (L : List ℕ) → around f n c ≡ L → o.truck ≡ head_of L → Right f n c o
   right_by [] a e = record {

@@ -1,5 +1,4 @@
 -- The theorem on counts for `may_reassign`, proved: its checks are those with the mask's count unknown, and its flag reads no count.
--- Assumes nothing.
 use Rattle.std.specs.Prelude.{Option, Some, None}
 use Prim.Native.Nat.{ℕ}
 use mathlib.Core.Path.{◌≡◌, refl, ap, ◌∙◌}

@@ -1,4 +1,4 @@
--- The wrong answers of `specs/WrongAnswers.antt` are ruled out, by computation. Assumes nothing.
+-- The wrong answers of `specs/WrongAnswers.antt` are ruled out, by computation.
 use mathlib.Core.Path.{refl}
 use Rattle.masks.proofs.WrongAnswers.{same_code, tried, plain, flag, bits, count, flags_of, window}
 use Rattle.masks.specs.Answer.{decided}

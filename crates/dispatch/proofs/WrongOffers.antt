@@ -1,4 +1,4 @@
--- The wrong answers of `specs/WrongOffers.antt` are ruled out, by computation. Assumes nothing.
+-- The wrong answers of `specs/WrongOffers.antt` are ruled out, by computation.
 use mathlib.Core.Path.{refl}
 use mathlib.Core.List.{◌++◌}
 use Rattle.masks.proofs.WrongAnswers.{answer, bits, Code, flags_of, number, option, same_code, tried, window}

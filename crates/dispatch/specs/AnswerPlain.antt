@@ -1,4 +1,4 @@
--- What the answers of `may_reassign` and `offer` stand for: what they carry, or the number. Assumes nothing.
+-- The plain reading of the answers of `may_reassign` and `offer`: their value, or the number.
 use Rattle.std.specs.Prelude.{◌≡◌, Bool, Result, Ok, Err}
 use Rattle.masks.specs.Answer.{Answer, given, refused, answer}
 use Rattle.masks.specs.Refusal.{number}
@@ -7,7 +7,7 @@ use Rattle.dispatch.specs.declared.offer.NoOffer.{NoOffer}
 use Rattle.dispatch.specs.declared.offer.Offering.{Offering}
 use Rattle.dispatch.specs.Offer.{offer_answer}
 
--- the definition by which its contract reads a result
+-- the definition by which the contract of `may_reassign` reads a result
 abbrev pub reassign_answer : Result Bool Refusal → Answer (Unit {0}) Bool
 reassign_answer r = answer r
 
@@ -15,7 +15,7 @@ pub record AnswerPlain : Type 0 where
   pub gives : (x : Bool) → reassign_answer (Ok x) ≡ given x
   pub refuses : (r : Refusal) → reassign_answer (Err r) ≡ refused (number r) tt
 
--- a refused offer gives the cursor back
+-- a refused offer has its number and the cursor
 pub record OfferPlain : Type 0 where
   pub gives : (o : Offering) → offer_answer (Ok o) ≡ given o
   pub refuses : (e : NoOffer) → offer_answer (Err e) ≡ refused (number e.refusal) e.cursor

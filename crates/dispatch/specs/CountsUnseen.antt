@@ -1,4 +1,4 @@
--- The theorem on counts for `may_reassign`: where a mask's checks pass, the answer is that with its count unknown. Assumes nothing.
+-- The theorem on counts for `may_reassign`: if a mask's checks pass, the answer is that with its count unknown.
 use Rattle.std.specs.Prelude.{ℕ, ◌≡◌, List, Option, Some}
 use Rattle.masks.specs.Checks.{first_failed}
 use Rattle.masks.specs.CountsUnseen.{Unseen}

@@ -1,4 +1,4 @@
--- Whether truck t may be reassigned: with no permission mask, no truck may. Assumes nothing.
+-- Whether truck t may be reassigned: with no permission mask, no truck may.
 use Rattle.std.specs.Prelude.{ℕ, Bool, false, List, Option, Some, None}
 use Rattle.masks.specs.declared.bitmap.Bitmap.{Bitmap}
 use Rattle.masks.specs.Answer.{Answer, checked}
@@ -10,7 +10,7 @@ unfoldable pub reassignable : Option Bitmap → List ℕ → Option Bitmap → L
 reassignable (Some p) p_bytes revocation r_bytes t = and_not_flag (Some p) p_bytes revocation r_bytes t
 reassignable None p_bytes revocation r_bytes t = false
 
--- 1 to 3 of each mask that is there, 5 where there are two, and 6: the truck's number is below the length. Without a mask there is none.
+-- Checks 1 to 3 of each mask that is present, 5 if both are, and 6: the truck's number is below the length. No checks without a mask.
 unfoldable pub may_reassign : Option Bitmap → List ℕ → Option Bitmap → List ℕ → ℕ → Answer (Unit {0}) Bool
 may_reassign permission p_bytes revocation r_bytes t =
     checked (and_not_at_checks permission p_bytes revocation r_bytes t) tt (reassignable permission p_bytes revocation r_bytes t)

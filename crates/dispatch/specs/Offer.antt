@@ -1,5 +1,5 @@
 -- Which truck is offered next: the first at or after a cursor that is permitted and not revoked, going round to truck 0 once; and how
--- many windows of 32 flags are read for it, in the words of paper 02 (m). Assumes nothing.
+-- many windows of 32 flags are read for it, in the words of paper 02 (m).
 use Rattle.std.specs.Prelude.{ℕ, zero, suc, ◌+◌, ◌/◌, Bool, cond, ◌&&◌, List, [], ◌∷◌, ◌++◌, leb, ltb, length, Option, Some, None, Result}
 use Rattle.std.specs.Prelude.{Ok, Err}
 use Rattle.masks.specs.declared.bitmap.Bitmap.{Bitmap}
@@ -12,55 +12,55 @@ use Rattle.masks.specs.Refusal.{number}
 use Rattle.dispatch.specs.declared.offer.NoOffer.{NoOffer}
 use Rattle.dispatch.specs.declared.offer.Offering.{Offering}
 
--- a refusal carries the cursor that came
+-- a result as an answer; a refusal has the caller's cursor
 abbrev pub offer_answer : Result Offering NoOffer → Answer ℕ Offering
 offer_answer (Ok o) = given o
 offer_answer (Err e) = refused (number e.refusal) e.cursor
 
 -- ---- the truck and the cursor
 
--- the first where there is one, else the second
+-- the first if it is a truck, else the second
 abbrev pub or_else : Option ℕ → Option ℕ → Option ℕ
 or_else (Some t) other = Some t
 or_else None other = other
 
--- of the flags of trucks that are permitted and not revoked: the first truck at or after the cursor, else the first from truck 0 on
+-- in l, the flags of trucks that are permitted and not revoked: the first truck at or after the cursor, else the first of all
 unfoldable pub next_truck : List Bool → ℕ → Option ℕ
 next_truck l cursor = or_else (nth_from l 0 cursor) (nth_from l 0 0)
 
--- the cursor moves one past the truck; where none is offered it stays
+-- the cursor: one past the truck, or unchanged if none is offered
 abbrev pub moved_to : Option ℕ → ℕ → ℕ
 moved_to (Some t) cursor = t + 1
 moved_to None cursor = cursor
 
 -- ---- the windows
 
--- the windows beginning at a place and every 32 flags on below an end, given by where they begin: at most so many
+-- at most `most` windows, by the flags at which they begin: `from` and every 32 flags after it, below `end`
 unfoldable pub beginning : ℕ → ℕ → ℕ → List ℕ
 beginning zero from end = []
 beginning (suc most) from end = cond (ltb from end) (from ∷ beginning most (from + 32) end) []
 
--- first those beginning at the cursor and every 32 flags on below the length n, then those beginning at 0 and every 32 below the cursor
+-- for n flags and the cursor, the windows: at the cursor and every 32 flags after it below n, then at 0 and every 32 below the cursor
 unfoldable pub in_order : ℕ → ℕ → List ℕ
 in_order n cursor = beginning n cursor n ++ beginning cursor 0 cursor
 
--- does the window that begins at w hold truck t
+-- whether truck t is in the window that begins at w
 abbrev pub holds : ℕ → ℕ → Bool
 holds t w = leb w t && ltb t (w + 32)
 
--- how many there are up to the one holding truck t
+-- for truck t, how many windows there are up to and with the one that holds it
 unfoldable pub up_to : ℕ → List ℕ → ℕ
 up_to t [] = 0
 up_to t (w ∷ ws) = cond (holds t w) 1 (suc (up_to t ws))
 
--- up to the one holding the truck, or all where none is offered
+-- of n flags, starting at the cursor, how many windows are read: up to and with the one that holds the truck, or all if none is offered
 unfoldable pub windows_read : ℕ → ℕ → Option ℕ → ℕ
 windows_read n cursor (Some t) = up_to t (in_order n cursor)
 windows_read n cursor None = length (in_order n cursor)
 
 -- ---- the call
 
--- of n flags of trucks
+-- of n trucks, with l as the flags of those that are permitted and not revoked, the offer at the cursor
 unfoldable pub offering : ℕ → List Bool → ℕ → Offering
 offering n l cursor = record {
   truck = next_truck l cursor;
@@ -68,8 +68,8 @@ offering n l cursor = record {
   windows = windows_read n cursor (next_truck l cursor);
 }
 
--- With a permission mask the checks are those of `next_and_not`: 1 to 3 of each mask that is there, 5 where there are two, and 6: the
--- cursor is at most the length. With none a revocation mask that is there is put to 1 to 3, and nothing else is asked.
+-- With a permission mask the checks are those of `next_and_not`: 1 to 3 of each mask that is present, 5 if both are, and 6: the cursor is
+-- at most the length. Without one, checks 1 to 3 apply to a revocation mask that is present, and there are no others.
 unfoldable pub offer_checks : Option Bitmap → List ℕ → Option Bitmap → List ℕ → ℕ → List Check
 offer_checks (Some p) p_bytes revocation r_bytes cursor = next_checks p p_bytes revocation r_bytes cursor
 offer_checks None p_bytes (Some r) r_bytes cursor = mask_checks r r_bytes
@@ -86,7 +86,7 @@ offer_of permission p_bytes revocation r_bytes cursor =
 
 -- ---- the bound on the windows
 
--- how many windows an answer says were read
+-- the number of windows read, of a result; 0 of a refusal
 abbrev pub windows_in : Result Offering NoOffer → ℕ
 windows_in (Ok o) = o.windows
 windows_in (Err e) = 0

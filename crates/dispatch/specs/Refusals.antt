@@ -1,4 +1,4 @@
--- By which numbers `may_reassign` and `offer` may refuse, and an input for each of them. Assumes nothing.
+-- The numbers by which `may_reassign` and `offer` may refuse, and an input for each of them.
 use Rattle.std.specs.Prelude.{ℕ, ◌≡◌, List, [], ◌∷◌, ◌++◌, Option, Some, None}
 use Rattle.masks.specs.declared.bitmap.Bitmap.{Bitmap}
 use Rattle.masks.specs.Refusals.{Refuses}
@@ -6,21 +6,21 @@ use Rattle.masks.specs.Witnesses.{number_of, byte, whole, shorter, at_masks}
 use Rattle.dispatch.specs.Dispatch.{may_reassign}
 use Rattle.dispatch.specs.Offer.{offer_of}
 
--- with both masks, with one, with none
+-- of `may_reassign`: with both masks, with one, with none
 abbrev pub may_give : Option Bitmap → Option Bitmap → List ℕ
 may_give (Some p) (Some r) = 1 ∷ 2 ∷ 3 ∷ 5 ∷ 6 ∷ []
 may_give (Some p) None = 1 ∷ 2 ∷ 3 ∷ 6 ∷ []
 may_give None (Some r) = 1 ∷ 2 ∷ 3 ∷ 6 ∷ []
 may_give None None = []
 
--- of `offer`: without a permission mask the cursor is not asked about, and a revocation mask is put to 1, 2 and 3
+-- of `offer`: without a permission mask the cursor is not checked, and checks 1, 2 and 3 apply to a revocation mask
 abbrev pub offer_gives : Option Bitmap → Option Bitmap → List ℕ
 offer_gives (Some p) (Some r) = 1 ∷ 2 ∷ 3 ∷ 5 ∷ 6 ∷ []
 offer_gives (Some p) None = 1 ∷ 2 ∷ 3 ∷ 6 ∷ []
 offer_gives None (Some r) = 1 ∷ 2 ∷ 3 ∷ []
 offer_gives None None = []
 
--- the statements; a refused `offer` gives back the cursor that came
+-- the statements; a refused `offer` has the caller's cursor
 abbrev pub Refusals : Type 0
 Refusals = (permission : Option Bitmap) (p_bytes : List ℕ) (revocation : Option Bitmap) (r_bytes : List ℕ) (truck : ℕ)
     → Refuses (may_give permission revocation) tt (may_reassign permission p_bytes revocation r_bytes truck)
@@ -34,7 +34,7 @@ OfferRefusals = (permission : Option Bitmap) (p_bytes : List ℕ) (revocation : 
 abbrev pub number_at : Option Bitmap → Option Bitmap → ℕ → ℕ
 number_at permission revocation truck = number_of (may_reassign permission byte revocation byte truck)
 
--- the numbers that come out are all that may: of two masks where either is refused, of one, and of none
+-- the numbers that come out are all that may: of two masks with either refused, and of one mask
 pub record Witnessed : Type 0 where
   pub first : at_masks (λ m. number_at (Some m) (Some whole) 0)
       ++ (number_at (Some shorter) (Some whole) 0 ∷ number_at (Some whole) (Some whole) 8 ∷ [])
@@ -45,7 +45,7 @@ pub record Witnessed : Type 0 where
   pub permission : at_masks (λ m. number_at (Some m) None 0) ++ (number_at (Some whole) None 8 ∷ []) ≡ may_give (Some whole) None
   pub revocation : at_masks (λ m. number_at None (Some m) 0) ++ (number_at None (Some whole) 8 ∷ []) ≡ may_give None (Some whole)
 
--- the same of `offer`; with no permission mask at a cursor of any size
+-- the number of `offer`; with no permission mask it is tried at a cursor past the length
 abbrev pub offer_at : Option Bitmap → Option Bitmap → ℕ → ℕ
 offer_at permission revocation cursor = number_of (offer_of permission byte revocation byte cursor)
 

@@ -1,6 +1,6 @@
--- Wrong answers that the contract of `offer` rules out. Assumes nothing.
+-- Wrong answers that the contract of `offer` rules out.
 --
--- Rows as in `WrongAnswers` of words: the definition at one input, what it gives, and two answers of a faulty call.
+-- Rows as in `WrongAnswers` of words: the definition at one input, its value there, and two answers of a faulty call.
 use Rattle.std.specs.Prelude.{ℕ, [], Some, None, Ok}
 use Rattle.masks.specs.Answer.{given, refused}
 use Rattle.masks.specs.WrongMasks.{Tried}
@@ -42,16 +42,16 @@ pub record WrongOffers : Type 0 where
       (given (truck_at 35 36 2))
       -- the cursor left at the truck
       (given (truck_at 35 35 2))
-      -- the window with revoked trucks alone not counted
+      -- the window with only revoked trucks not counted
       (given (truck_at 35 36 1))
-  -- `offer` from cursor 32 where every truck is revoked
+  -- `offer` from cursor 32 with every truck revoked
   pub nothing : Tried (offer_of (Some some40) some40_bytes (Some some40) some40_bytes 32)
       (given (none_at 32 2))
       -- one window too many at a cursor divisible by 32
       (given (none_at 32 3))
-      -- the cursor moved on none
+      -- the cursor moved though no truck is offered
       (given (none_at 0 2))
-  -- `offer` from cursor 39 where every truck is revoked: as many windows as 40 flags can take
+  -- `offer` from cursor 39 with every truck revoked: as many windows as 40 flags can take
   pub most-read : Tried (offer_of (Some some40) some40_bytes (Some some40) some40_bytes 39)
       (given (none_at 39 3))
       -- no second round
@@ -65,31 +65,31 @@ pub record WrongOffers : Type 0 where
       2
       -- bounded by the windows of two rounds
       4
-  -- and with no permission mask
+  -- the bound on the windows, with no permission mask
   pub bound-absent : Tried (most_windows None)
       0
       -- a window allowed with no permission mask
       1
       -- two windows allowed with no permission mask
       2
-  -- the windows that an answer says were read
+  -- the number of windows read, of an answer
   pub said : Tried (windows_in (Ok (none_at 39 3)))
       3
-      -- no window said to be read
+      -- no window counted as read
       0
-      -- the cursor given as the number of windows
+      -- the cursor as the number of windows
       39
   -- `offer` from cursor 41
   pub outside : Tried (offer_of (Some some40) some40_bytes None [] 41)
       (refused 6 41)
       -- the cursor taken for the length
       (given (truck_at 3 4 1))
-      -- the cursor not given back
+      -- the cursor not returned
       (refused 6 0)
   -- `offer` from cursor 41 with no permission mask
   pub no-permission : Tried (offer_of None [] (Some taken40) taken40_bytes 41)
       (given (none_at 41 0))
       -- no permission mask taken for all ones
       (given (truck_at 0 1 1))
-      -- the cursor held to the revocation's length
+      -- the cursor checked against the revocation's length
       (refused 6 41)

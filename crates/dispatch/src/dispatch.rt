@@ -1,9 +1,9 @@
-// May a truck be reassigned: its flag in the permission mask, and not in the revocation mask. Either mask may be absent; with no
-// permission mask no truck may be reassigned.
+// Whether a truck may be reassigned: its flag is set in the permission mask, and not in the revocation mask. Either mask may be absent;
+// with no permission mask no truck may be reassigned.
 //
-// Of masks only combinations and searches are used: `tests/dispatch_calls.py` holds the sources of this crate to that.
-// A mask and its bytes are two parameters, as in the calls of masks: a `Bitmap` holds no bytes, the caller lends them beside it, and
-// lends them too where the mask is absent. No struct joins them: it would be made at each call and taken apart for `and_not_at` again.
+// This crate uses only combinations and searches of masks, which `tests/dispatch_calls.py` checks in its sources. A mask and its bytes are
+// two parameters, as in the calls of masks: a `Bitmap` holds no bytes, and the caller lends them separately, also if the mask is absent. No
+// struct joins them: it would be made at each call and taken apart for `and_not_at` again.
 ghost use Rattle.std.specs.Prelude.{◌≡◌};
 ghost use Rattle.masks.specs.Answer.{answer};
 ghost use Rattle.dispatch.specs.Dispatch.{may_reassign};
@@ -12,9 +12,9 @@ use masks::at_index::and_not_at;
 use masks::bitmap::Bitmap;
 use masks::refusal::Refusal;
 
-// Returns whether truck number `truck` may be reassigned. An absent permission mask means no for every truck, unlike an absent mask
-// of `TrueIdxIter` and the none of `into_opt_validity`, which stand for all ones; an absent revocation mask takes nothing away. The
-// checks are those of `and_not_at`, so a revocation mask alone is still put to 1, 2, 3 and 6.
+// Returns whether truck number `truck` may be reassigned. If the permission mask is absent, the answer is no for every truck; an absent
+// mask of `TrueIdxIter` and the none of `into_opt_validity` mean all ones. An absent revocation mask takes nothing away. The checks are
+// those of `and_not_at`, so checks 1, 2, 3 and 6 apply to a revocation mask also without a permission mask.
 pub fn may_reassign(
     permission: Option<Bitmap>,
     permission_bytes: &[u8],

@@ -1,4 +1,4 @@
-// Who may reassign which truck: what the dispatch software asks of permission and revocation masks.
+// Which trucks may be reassigned, by the permission and revocation masks of the dispatch software.
 #![tactic(auto)]
 
 pub mod dispatch;

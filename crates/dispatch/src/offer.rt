@@ -1,5 +1,5 @@
-// The next truck that may be reassigned: from a cursor on the first that is permitted and not revoked, going round to truck 0 once.
-// A mask and its bytes are two parameters, as in `dispatch.rt`.
+// The next truck that may be reassigned: the first at or after a cursor that is permitted and not revoked, going round to truck 0 once. A
+// mask and its bytes are two parameters, as in `dispatch.rt`.
 ghost use Rattle.std.specs.Prelude.{◌≡◌, ◌≤◌};
 ghost use Rattle.dispatch.specs.Offer.{most_windows, offer_answer, offer_of, windows_in};
 
@@ -7,7 +7,7 @@ use masks::bitmap::Bitmap;
 use masks::next_and_not::next_and_not;
 use masks::refusal::Refusal;
 
-// A truck and the cursor one past it, or none and the cursor as it came; and the number of windows read.
+// A truck and the cursor one past it, or none and the cursor unchanged; and the number of windows read.
 #[derive(Clone, Copy, PartialEq, Eq, Debug)]
 pub struct Offering {
     pub truck: Option<usize>,
@@ -15,16 +15,16 @@ pub struct Offering {
     pub windows: usize,
 }
 
-// The refusal of a check, and the cursor as it came. Not masks' `Refused`: of the types of masks this crate names only those that
-// combinations and searches take or give.
+// The refusal of a check, and the cursor unchanged. Not masks' `Refused`: of the types of masks this crate names only those that
+// combinations and searches take or return.
 #[derive(Clone, Copy, PartialEq, Eq, Debug)]
 pub struct NoOffer {
     pub refusal: Refusal,
     pub cursor: usize,
 }
 
-// Returns the first truck at or after the cursor that is permitted and not revoked, or the first from truck 0 on. With no permission mask
-// no truck is offered and no window read; a revocation mask is still put to 1, 2 and 3. A refusal gives back the cursor as it came.
+// Returns the first truck at or after the cursor that is permitted and not revoked, else the first one of all. Without a permission mask no
+// truck is offered and no window read, but checks 1, 2 and 3 apply to a revocation mask. A refusal has the cursor unchanged.
 pub fn offer(
     permission: Option<Bitmap>,
     permission_bytes: &[u8],
@@ -41,7 +41,7 @@ pub fn offer(
     }
 }
 
-// With a permission mask.
+// Makes an offer with a permission mask: the truck that `next_and_not` finds.
 fn offer_next(
     permission: Bitmap,
     permission_bytes: &[u8],
@@ -72,7 +72,7 @@ fn offer_next(
     })
 }
 
-// Without one. A search over the revocation mask makes its checks; what it finds is not used.
+// Makes an offer without a permission mask: none. A search over the revocation mask makes its checks; what it finds is not used.
 fn offer_none(
     permission_bytes: &[u8],
     revocation: Option<Bitmap>,

@@ -1,5 +1,5 @@
--- A mask that stands for a list agrees with it in all that is compared, and lists that differ differ in length or in frozen
--- bytes. Assumes nothing.
+-- A mask that represents a list (`Stands`) agrees with it in all that is compared, and if two lists differ, their lengths or their
+-- frozen bytes differ.
 use Rattle.std.specs.Prelude.{Some, None}
 use mathlib.Core.Path.{◌≡◌, refl, sym, ap, ap₂, ◌∙◌, subst}
 use mathlib.Core.Bool.{Bool, true, false, cond}
@@ -55,14 +55,14 @@ length-frozen : (l : List Bool) → length (frozen l) ≡ frozen_size (length l)
 unfolding frozen
 length-frozen l = length-packed (frozen_size (length l)) l
 
--- the flags of frozen bytes, as many as the list has, are the list
+-- the flags of a list's frozen bytes, cut to the list's length, are the list
 frozen-back : (l : List Bool) → window (flags_of (frozen l)) 0 (length l) ≡ l
 unfolding frozen
 frozen-back l =
     ap (λ (t : List Bool). window t 0 (length l)) (flags-packed (frozen_size (length l)) l)
     ∙ in_window l 0 (8 * frozen_size (length l)) 0 (length l) (omega arith) ∙ window-all l
 
--- lists of one length with the same frozen bytes are the same
+-- lists of equal lengths with equal frozen bytes are equal
 pub frozen_same : (a b : List Bool) → length a ≡ length b → frozen a ≡ frozen b → a ≡ b
 frozen_same a b e f = sym (frozen-back a) ∙ ap₂ (λ (x : List ℕ) (n : ℕ). window (flags_of x) 0 n) f e ∙ frozen-back b
 
@@ -98,7 +98,7 @@ nth-there bytes start size n e =
     ∙ ap₂ (λ (i k : ℕ). Some (cond (ltb i k) (Some (get_or (stretch bytes start size) i false)) None)) same
     (sym (length-window (flags_of bytes) start size))
 
--- a new cursor: over no flags it is all 0
+-- `nth` of a new cursor returns flag n of the span; a new cursor over no flags is all 0
 new-nth : (bytes : List ℕ) (start size n : ℕ) → 0 ≡ first_failed (span_checks start size (length bytes))
     → nth_of (new_iter bytes start size) bytes n ≡ Some (flag_of (stretch bytes start size) n)
 unfolding new_iter unless_empty window
@@ -157,7 +157,7 @@ module _ (m : Bitmap) (bytes : List ℕ) (l : List Bool) (s : Stands m bytes l) 
   whole-flags =
       ap (window (mask_flags m bytes) 0) (sym (length-window (flags_of bytes) m.start m.length)) ∙ window-all (mask_flags m bytes)
 
-  -- a builder with the mask appended, frozen: the bytes that are written
+  -- freezing a builder with the mask appended writes the list's frozen bytes
   refrozen-bytes : (f : Filling) (buf : List ℕ) → Builds f l → length f.bytes ≡ length buf → frozen_size m.length ≤ length buf
       → then_frozen m.length f.bytes (given f.builder) ≡ Some (frozen l)
   unfolding frozen_over

@@ -1,5 +1,5 @@
--- Every combination of sound masks of one length, in an output that is large enough, is accepted and writes the reference list's
--- flags. Assumes nothing.
+-- Every combination of sound masks of equal lengths, in an output that is large enough, is accepted and writes the reference list's
+-- flags.
 use mathlib.Core.Path.{◌≡◌, refl, sym, ap, ◌∙◌}
 use mathlib.Core.Bool.{Bool}
 use mathlib.Core.List.{List, [], ◌∷◌, ◌++◌}
@@ -28,7 +28,7 @@ use Rattle.histories.specs.Rows.{Argument, own, other, Every, Lent, Tuple, Write
 use Rattle.histories.proofs.MaskRowLaws.{combination_lawful, constant_writable, not_writable, pair_writable, select_writable}
 use Rattle.histories.proofs.RowLaws.{flags-all}
 
--- ---- what a call gives whose checks pass
+-- ---- the answer of a call whose checks pass
 
 given-mask : (cs : List Check) (m : Bitmap) → 0 ≡ first_failed cs → checked cs (tt {0}) m ≡ given m
 given-mask cs m e = sym (is-given 0 (first_failed cs) tt m e refl)

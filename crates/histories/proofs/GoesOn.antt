@@ -1,4 +1,4 @@
--- The table of histories by computation, and which calls a history never has refused. Assumes nothing.
+-- The table of histories (`specs/GoesOn.antt`) by computation, and the calls that a history never has refused.
 use Rattle.std.specs.Prelude.{Option, Some, None}
 use mathlib.Core.Path.{◌≡◌, refl, subst}
 use mathlib.Core.Bool.{Bool, true, xor}

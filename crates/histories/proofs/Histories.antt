@@ -1,5 +1,5 @@
--- Demand 3, proved: whatever calls a history is made of, the mask that it has come to agrees with its reference list in all that is
--- compared; so two histories with equal lists agree, and where the lists differ, length or frozen bytes differ. Assumes nothing.
+-- Demand 3, proved: whatever calls a history is made of, the mask in which it ends agrees with its reference list in all that is
+-- compared. So two histories with equal lists agree, and if the lists differ, the lengths or the frozen bytes differ.
 use Rattle.std.specs.Prelude.{Option, Some, None}
 use mathlib.Core.Path.{◌≡◌, refl, sym, ap, ◌∙◌, subst}
 use mathlib.Core.Bool.{Bool}
@@ -27,7 +27,7 @@ use Rattle.histories.proofs.ReferenceLaws.{mask-flags}
 use Rattle.histories.proofs.RowLaws.{row-flags}
 use Rattle.histories.proofs.TruthfulLaws.{step-truthful}
 
--- two masks that agree with one list
+-- two masks that agree with the same list are alike
 module _ (m m' : Bitmap) (bytes bytes' : List ℕ) (l : List Bool) (a : Agrees m bytes l) (a' : Agrees m' bytes' l) where
   long : m.length ≡ m'.length
   long = a.long ∙ sym a'.long
@@ -58,7 +58,7 @@ abbrev bytes-shown : List ℕ → Option (List ℕ) → List ℕ
 bytes-shown d (Some b) = b
 bytes-shown d None = d
 
--- masks of one length whose frozen bytes are the same stand for the same list
+-- if masks of equal lengths have equal frozen bytes, the lists with which they agree are equal
 told-apart : (m m' : Bitmap) (bytes bytes' : List ℕ) (l l' : List Bool) → Agrees m bytes l → Agrees m' bytes' l' → m.length ≡ m'.length
     → (buf : List ℕ) → frozen_size m.length ≤ length buf → refrozen m bytes buf ≡ refrozen m' bytes' buf → l ≡ l'
 told-apart m m' bytes bytes' l l' a a' e buf h f =
@@ -68,7 +68,7 @@ told-apart m m' bytes bytes' l l' a a' e buf h f =
 stands : {m : Bitmap} {bytes : List ℕ} {l : List Bool} → Agrees m bytes l → Stands m bytes l
 stands a = record { sound = a.sound; flags = a.flags }
 
--- an imported mask, whose checks pass or not
+-- an imported mask is the start if its checks pass; if not, nothing is there yet
 import_accepted : (m : Bitmap) (bytes : List ℕ) → first_failed (mask_checks m bytes) ≡ 0 → start_of (from_mask m bytes) ≡ masked m bytes
 unfolding decided
 import_accepted m bytes e = ap (λ (k : ℕ). (after_try bytes (decided k tt m)).state) e
@@ -78,7 +78,7 @@ unfolding decided
 import_refused zero m bytes h = absurd (h refl)
 import_refused (suc k) m bytes h = refl
 
--- the theorem, for any table whose rows are lawful
+-- the theorem for any table whose rows are lawful
 module _ {Code : Type 0} (call_of : Code → RowCall) (lawful : (c : Code) → Lawful (call_of c)) where
   comes-to : (h : History Code) (m : Bitmap) (bytes : List ℕ) → ComesTo call_of h m bytes → Agrees m bytes (list_of call_of h)
   comes-to h m bytes c =
@@ -104,7 +104,7 @@ module _ {Code : Type 0} (call_of : Code → RowCall) (lawful : (c : Code) → L
             ∙ sym (row-flags m' bytes' (list_of call_of h') (stands (comes-to h' m' bytes' c')) (call_of d) (lawful d) t');
       }
 
--- the table of all lawful calls there are
+-- the table of all lawful calls
 abbrev pub lawful_call : ((c : RowCall) × Lawful c) → RowCall
 lawful_call x = x.0
 

@@ -1,4 +1,4 @@
--- What holds between the state of a history and its reference list; through appends and freezing. Assumes nothing.
+-- The invariant between the state of a history and its reference list, kept by appends and freezing.
 use Rattle.std.specs.Prelude.{Some, None}
 use mathlib.Core.Path.{◌≡◌, refl, sym, ap, ◌∙◌, subst}
 use mathlib.Core.Bool.{Bool, true, false, cond, ◌&&◌}
@@ -54,7 +54,7 @@ sized : (b : BitmapBuilder) (n m size : ℕ) → m ≡ n → first_failed (build
     → first_failed (builder_checks b (b.length + m) size) ≡ 0
 sized b n m size p e = ap (λ (x : ℕ). first_failed (builder_checks b (b.length + x) size)) p ∙ e
 
--- every append has passed the builder's checks for its own flags
+-- an append whose checks pass has passed the builder's checks for its own flags
 grows : (a : Append) (b : BitmapBuilder) (buf : List ℕ) → first_failed (append_checks a b buf) ≡ 0
     → first_failed (builder_checks b (b.length + length (append_flags a)) (length buf)) ≡ 0
 unfolding constant_checks word_checks span_grow_checks subslice_checks gather_checks

@@ -1,5 +1,5 @@
--- Whatever calls a history is made of, if what is owed for the rows of its table is proved, the mask it comes to is that of its
--- reference list: its length, its flags, its known count. Assumes nothing.
+-- If each row of the table is lawful (`Owed`), the mask in which a history ends is that of its reference list, whatever calls made it:
+-- its length, its flags, its known count.
 use mathlib.Core.Path.{◌≡◌, refl, sym}
 use mathlib.Core.Bool.{Bool, cond}
 use mathlib.Core.List.{List, [], ◌∷◌}
@@ -33,7 +33,7 @@ use Rattle.histories.proofs.RowLaws.{row-holds}
 
 -- ---- one call
 
--- a span that `try_new` accepts
+-- after a `try_new` call, accepted or refused, the invariant holds
 span-holds : (bytes : List ℕ) (start n k : ℕ) (l : List Bool) → k ≡ first_failed (span_checks start n (length bytes))
     → let o = after_try bytes (decided k tt (mask_of start n (uncounted n))) in
     Holds o.state (cond o.accepted (span_flags bytes start n) l)
@@ -83,20 +83,20 @@ module _ {Code : Type 0} (call_of : Code → RowCall) (lawful : (c : Code) → L
 
 -- ---- the starts
 
--- a new builder with any buffer,
+-- the invariant holds of a new builder with any buffer,
 pub new-holds : (buf : List ℕ) → Holds (building (filling new_builder buf)) []
 unfolding builder_flags in_progress window count any_set bits
 new-holds buf =
     record { room = record { short = omega arith; low = refl; few = omega arith; holds = omega arith }; flags = refl; ones = refl }
 
--- an imported mask whose checks pass,
+-- of the state after an import, whether the checks of the mask pass or not,
 import_holds : (m : Bitmap) (bytes : List ℕ) (k : ℕ) → k ≡ first_failed (mask_checks m bytes)
     → Holds (after_try bytes (decided k tt m)).state (flags_in m bytes)
 unfolding decided
 import_holds m bytes zero e = record { sound = mask-sound m bytes (sym e); flags = sym (mask-flags m bytes) }
 import_holds m bytes (suc k) e = tt
 
--- and nothing, before the first accepted span
+-- and so of every start
 pub start-holds : (s : Start) → Holds (start_of s) (first_list s)
 start-holds (from_builder buf) = new-holds buf
 start-holds from_span = tt

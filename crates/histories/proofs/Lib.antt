@@ -1,4 +1,4 @@
--- The theorem on histories, and its laws; the theorem on run lists.
+-- The theorem on histories with its laws, and the theorem on run lists.
 pub mod AgreementLaws
 pub mod CombinedLaws
 pub mod GoesOn

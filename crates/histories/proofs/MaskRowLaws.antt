@@ -1,4 +1,4 @@
--- The rows of masks are lawful: `slice`, `unset_bits` and the eight combinations. Assumes nothing.
+-- The rows of masks are lawful: `slice`, `unset_bits` and the eight combinations.
 use Rattle.std.specs.Prelude.{Some}
 use Rattle.std.proofs.lemmas.List.{length-map}
 use mathlib.Core.Path.{◌≡◌, refl, sym, ap₂, ◌∙◌, subst}
@@ -114,7 +114,7 @@ count_left m bytes k g e =
 pub count_lawful : LawfulKeeps count_row
 count_lawful = record { made = count_made; left = count_left }
 
--- ---- the masks of an accepted combination have no count or a true one
+-- ---- the masks of an accepted combination have unknown or true counts
 
 passed : (cs : List Check) (m g : Bitmap) → checked cs (tt {0}) m ≡ given g → first_failed cs ≡ 0
 passed cs m g e = sym (given-number (first_failed cs) tt g m (sym e))
@@ -150,7 +150,7 @@ three-honest x y z size e =
 
 -- ---- two masks
 
--- the five operations: what the code's do, flag by flag, is what the reference list says
+-- the five operations of the contracts are, flag by flag, those of the reference list
 same_flag : (op : Pair) (x y : Bool) → op_of (pair_op op) x y y ≡ pair_flag op x y
 unfolding exclusive
 same_flag and x y = refl
@@ -176,7 +176,7 @@ module _ (op : Op) (a : Bitmap) (a_b : List ℕ) (b : Bitmap) (b_b : List ℕ) (
   unfolding pair_flags
   pair-true = result-true (pair_shortcut op a a_b b b_b) a.length (pair_each op a a_b b b_b) (each-length a a_b b b_b e op)
 
--- what the checks of two masks give of the first's length
+-- if the checks of two masks pass, the first's length is within the limit and its frozen bytes fit the output
 two-room : (a : Bitmap) (a_b : List ℕ) (b : Bitmap) (b_b out : List ℕ) → first_failed (pair_checks a a_b b b_b (length out)) ≡ 0
     → (a.length ≤ limit) × (8 * ((a.length + 63) / 64) ≤ length out)
 unfolding pair_checks
@@ -226,7 +226,7 @@ pair_lawful op out =
           (pair_writable op x y out);
     }
 
--- ---- combinations with no shortcut: their count is unknown, save 0 for no flags
+-- ---- combinations with no shortcut: their count is unknown, except 0 for no flags
 
 pub not_writable : (x : Lent) (out : List ℕ) → first_failed (not_checks x.mask x.bytes (length out)) ≡ 0
     → Writable x.mask.length (uncounted x.mask.length) (not_flags x.mask x.bytes) (inverted (lent_flags x)) out

@@ -1,5 +1,5 @@
--- The reference list's own words say what the definitions of the contracts say: spans, masks, pieces and, where the append is
--- accepted, what it adds. Assumes nothing.
+-- The reference list's own words agree with the definitions of the contracts: spans, masks, pieces and, if the append is accepted,
+-- the flags that it adds.
 use Rattle.std.proofs.lemmas.Bool.{and_parts}
 use mathlib.Core.Path.{◌≡◌, refl, sym, ap, ap₂, ◌∙◌}
 use mathlib.Core.Bool.{Bool, true, false, cond, ◌&&◌}

@@ -1,5 +1,5 @@
--- What holds through a call that makes a mask from masks, from what is owed for its row; and what serves every row that writes flags
--- behind a list of checks. Assumes nothing.
+-- A call that makes a mask from masks keeps the invariant if its row is lawful; and laws for every row that checks its arguments and
+-- then writes flags.
 use Rattle.std.specs.Prelude.{Option}
 use Rattle.std.proofs.lemmas.Bool.{false≢true}
 use mathlib.Core.Path.{◌≡◌, refl, sym, ap, ap₂, ◌∙◌, subst}
@@ -27,7 +27,7 @@ use Rattle.histories.specs.Rows.{Argument, own, other, Keeps, RowCall, Tuple, Wr
 use Rattle.histories.proofs.HistoryLaws.{Holds}
 use Rattle.histories.proofs.ReferenceLaws.{mask-flags}
 
--- ---- the masks that a call is given
+-- ---- the masks that a call takes
 
 abbrev joined : {A : Type 0} (n : ℕ) → A → Tuple A n → Tuple A (suc n)
 joined n x t = (x, t)
@@ -61,7 +61,7 @@ module _ (m : Bitmap) (bytes : List ℕ) (l : List Bool) (s : Stands m bytes l) 
   row-holds (keep r) w = kept-holds r w (r.answer m bytes) refl
   row-holds (write r a) w = written-holds r a w (written_answer m bytes r a) refl
 
-  -- ---- the flags that an accepted call gives
+  -- ---- the flags of an accepted call's mask
 
   kept-flags : (r : Keeps) → LawfulKeeps r → (x : Answer Bitmap Bitmap) → r.answer m bytes ≡ x → (after_kept bytes x).accepted ≡ true
       → state_flags (after_kept bytes x).state ≡ r.flags l
@@ -79,9 +79,9 @@ module _ (m : Bitmap) (bytes : List ℕ) (l : List Bool) (s : Stands m bytes l) 
   row-flags (keep r) w t = kept-flags r w (r.answer m bytes) refl t
   row-flags (write r a) w t = written-flags r a w (written_answer m bytes r a) refl t
 
--- ---- rows that write flags behind a list of checks
+-- ---- rows that write flags if a list of checks passes
 
--- a mask of flags frozen over the front of an output that holds them; its record is made by `result_mask` alone
+-- flags frozen over the front of an output that holds them: the mask made by `result_mask` over it represents them
 pub made-stands : (from : List Bitmap) (n : ℕ) (u : Option ℕ) (F l : List Bool) (out : List ℕ) → length F ≡ n → n ≤ limit
     → 8 * ((n + 63) / 64) ≤ length out → F ≡ l → TrueCount u F
     → Stands (result_mask from n u) (over out (frozen F)) l
@@ -98,7 +98,7 @@ made-stands from n u F l out e h r p t =
       flags = same ∙ p;
     }
 
--- what passed checks have to give: n flags F, within the limit and the output, with this count true, that are G
+-- what must follow from passed checks: F has n flags, within the limit and the output, count u is true of F, and F equals G
 pub record Writable (n : ℕ) (u : Option ℕ) (F G : List Bool) (out : List ℕ) : Type 0 where
   pub long : length F ≡ n
   pub short : n ≤ limit

@@ -1,4 +1,4 @@
--- The runs of every list of flags are a run list, and of every run list there is exactly one list of flags. Assumes nothing.
+-- The runs of every list of flags are a run list, and each run list is that of exactly one list of flags.
 use Rattle.std.proofs.lemmas.Bool.{and_parts}
 use mathlib.Core.Path.{◌≡◌, refl, sym, ap, ◌∙◌, subst}
 use mathlib.Core.Bool.{Bool, true, false}
@@ -17,8 +17,8 @@ use Rattle.histories.specs.RunLists.{HasRuns, RunList, every_run, is_apart, is_c
 
 -- ---- run lists, run by run
 
--- A run list inside n flags, from the flag p on: each run is at least one flag long and ends at n or before; the runs rise, and at
--- least one flag lies between two neighbours.
+-- A run list inside n flags that starts at flag p or later: each run is at least one flag long and ends at n or before; the runs
+-- rise, and at least one flag lies between two neighbours.
 pub data RunsIn (n : ℕ) : ℕ → List Run → Type 0 where
   no_more : {p : ℕ} → RunsIn n p []
   then-run : {p : ℕ} {r : Run} {more : List Run} → p ≤ r.start → 0 < r.length → r.start + r.length ≤ n
@@ -39,7 +39,7 @@ long-run r e = omega (arith, leb-true _ r.length e)
 inside-run : (n : ℕ) (r : Run) → is_inside n r ≡ true → r.start + r.length ≤ n
 inside-run n r e = omega (arith, leb-true (r.start + r.length) _ e)
 
--- by its tests,
+-- runs that pass the tests of `RunList` are such a list,
 tested : (n p : ℕ) (rs : List Run) → FirstAt p rs → every_run is_long rs ≡ true → is_apart rs ≡ true → every_run (is_inside n) rs ≡ true
     → RunsIn n p rs
 unfolding every_run is_apart
@@ -58,7 +58,7 @@ any-first (r ∷ rs) = omega arith
 pub run-by-run : (n : ℕ) (rs : List Run) → RunList n rs → RunsIn n 0 rs
 run-by-run n rs h = tested n 0 rs (any-first rs) h.long h.apart h.inside
 
--- and its tests
+-- and such a list passes the tests
 is-clear : {n : ℕ} (r : Run) (more : List Run) → RunsIn n (suc (r.start + r.length)) more → is_clear r more ≡ true
 is-clear r [] no_more = refl
 is-clear r (s ∷ rs) (then-run a b d e) = lt-ltb (r.start + r.length) s.start (omega arith)
@@ -81,7 +81,7 @@ all-inside {n} (then-run {r = r} a b d e) = rw (le-leb (r.start + r.length) n d)
 pub in-tests : (n : ℕ) (rs : List Run) → RunsIn n 0 rs → RunList n rs
 in-tests n rs h = record { long = all-long h; apart = all_apart h; inside = all-inside h }
 
--- a run list from a later flag on is one from an earlier one on
+-- a run list that starts at p or later starts at q or later, if q is at most p
 weaker : {n p q : ℕ} {rs : List Run} → q ≤ p → RunsIn n p rs → RunsIn n q rs
 weaker h no_more = no_more
 weaker {q = q} h (then-run {r = r} a b d e) = then-run {p = q} {r = r} (omega arith) b d e
@@ -92,7 +92,7 @@ joins : (k : ℕ) (r : Run) (rs : List Run) → r.start ≡ suc k → with_one k
 unfolding with_one
 joins k r rs h = rw (eq-eqb r.start (suc k) h)
 
--- with a flag between it is a run of its own
+-- a one with a zero between it and the next run is a run of its own
 single : {n : ℕ} (k p : ℕ) {rs : List Run} → suc k < p → RunsIn n p rs → with_one k rs ≡ run_of k 1 ∷ rs
 unfolding with_one
 single k p h no_more = refl
@@ -127,12 +127,12 @@ runs-in k n (true ∷ l) e = one_more (omega arith) (runs-in (suc k) n l (omega 
 
 -- ---- the flags of a run list
 
--- from flag k up to n: before each run its gap of zeros, then its ones, and zeros for the rest
+-- the flags k up to n: before each run its gap of zeros, then its ones, and zeros for the rest
 unfoldable pub laid_out : ℕ → ℕ → List Run → List Bool
 laid_out k n [] = copies (n - k) false
 laid_out k n (r ∷ rs) = copies (r.start - k) false ++ (copies r.length true ++ laid_out (r.start + r.length) n rs)
 
--- ---- a list's runs give it back
+-- ---- a list is laid out again from its runs
 
 copies-less : (a b : ℕ) (x : Bool) → a ≡ suc b → copies a x ≡ x ∷ copies b x
 unfolding copies
@@ -192,7 +192,7 @@ back k n (false ∷ l) e =
     zero-first (omega arith) (runs-in (suc k) n l (omega arith)) ∙ ap (λ (x : List Bool). false ∷ x) (back (suc k) n l (omega arith))
 back k n (true ∷ l) e = with-one n k (runs_from (suc k) l) ∙ ap (λ (x : List Bool). true ∷ x) (back (suc k) n l (omega arith))
 
--- the one list of n flags with these runs
+-- `laid_out` is the one list of n flags with these runs
 pub laid_same : (n : ℕ) (rs : List Run) (l : List Bool) → HasRuns n rs l → laid_out 0 n rs ≡ l
 laid_same n rs l h = ap (laid_out 0 n) (sym h.runs) ∙ back 0 n l (omega (arith, h.long))
 

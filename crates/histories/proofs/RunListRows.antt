@@ -1,5 +1,5 @@
--- The table of lists of runs, computed: no list of flags has a run list that breaks a condition, by going through all lists of its
--- length. Assumes nothing.
+-- The table of lists of runs (`specs/RunListRows.antt`) by computation. That no list of flags has the runs of a row is shown by going
+-- through all lists of its length.
 use Rattle.std.proofs.lemmas.Bool.{or_parts, true≢false}
 use mathlib.Core.Path.{◌≡◌, refl, ap, ◌∙◌, sym}
 use mathlib.Core.Bool.{Bool, true, false, ◌&&◌, ◌||◌}
@@ -16,7 +16,7 @@ use Rattle.histories.specs.RunListRows.{NoRunList, RunListRows}
 
 -- ---- all lists of n flags, gone through
 
--- does a list of n flags pass the test
+-- whether some list of n flags passes the test
 unfoldable some_pass : ℕ → (List Bool → Bool) → Bool
 some_pass zero test = test []
 some_pass (suc n) test = some_pass n (λ (l : List Bool). test (false ∷ l)) || some_pass n (λ (l : List Bool). test (true ∷ l))

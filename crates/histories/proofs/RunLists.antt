@@ -1,5 +1,4 @@
--- The theorem on run lists: a list of flags and its runs determine each other, and saving the runs, call by call, comes to the flags.
--- Assumes nothing.
+-- The theorem on run lists: a list of flags and its runs determine each other, and saving the runs, call by call, makes these flags.
 use Rattle.std.specs.Prelude.{Some}
 use Rattle.std.proofs.lemmas.Bool.{and_parts}
 use mathlib.Core.Path.{◌≡◌, refl, sym, ap, ◌∙◌, subst}
@@ -52,7 +51,7 @@ unfolding kept decided
 appends f g zero e = refl
 appends f g (suc k) e = absurd (omega arith)
 
--- with room for its flags `extend_constant` is accepted
+-- `extend_constant` is accepted by a builder with room for its flags
 constant-step : (f : Filling) (j : ℕ) (x : Bool) → Room f.builder j (length f.bytes)
     → step library_call (building f) (constant j x) ≡ outcome (building (appended f (copies j x))) true
 constant-step f j x r =
@@ -61,7 +60,7 @@ constant-step f j x r =
 
 -- ---- all calls
 
--- from a builder on the calls are all accepted and come to a builder with the flags l
+-- all calls are accepted, starting at builder f, and end in a builder with the flags l
 record Ends (f : Filling) (calls : List (Call LibraryCall)) (l : List Bool) : Type 0 where
   pub accepted : map (λ (a : Fed LibraryCall). a.accepted) (trace library_call (building f) calls)
       ≡ map (λ (c : Call LibraryCall). true) calls
@@ -83,7 +82,7 @@ then-ends f g c cs l e rest =
       holds = rest.holds;
     }
 
--- what later calls need of a builder: it has the flags l, and room for m flags more
+-- what later calls need of a builder: its flags are l, and it has room for m more
 record Ready (f : Filling) (l : List Bool) (m : ℕ) : Type 0 where
   pub holds : Builds f l
   pub room : Room f.builder m (length f.bytes)
@@ -106,7 +105,7 @@ constant-ends f l j m x cs all h r more =
     then-ends f g (constant j x) cs all (constant-step f j x (room-less f.builder j m (length f.bytes) h r.room))
     (more g (ready-after f l j m x h r))
 
--- a gap, its call left out or not
+-- the call for a gap, left out or not, and the calls after it
 gap_ends : (leaves : ℕ → Bool) (f : Filling) (l : List Bool) (k end m : ℕ) (cs : List (Call LibraryCall)) (all : List Bool)
     → end - k ≤ m → Ready f l m → ((g : Filling) → Ready g (l ++ copies (end - k) false) (m - (end - k)) → Ends g cs all)
     → Ends f (gap_calls leaves k end ++ cs) all
@@ -124,7 +123,7 @@ gap_ends leaves f l k end m cs all h r more = go (eqb k end && leaves end) refl
     go true e = more f (left_out (eqb-true k end (and_parts _ _ e).0))
     go false e = constant-ends f l (end - k) m false cs all h r more
 
--- gap by gap and run by run, and once for the rest
+-- the calls for all gaps, runs and the rest end in a builder with all flags
 saves-from : {n p : ℕ} {rs : List Run} → RunsIn n p rs → (leaves : ℕ → Bool) (k : ℕ) → k ≤ p → k ≤ n → (f : Filling) (l all : List Bool)
     → Ready f l (n - k) → l ++ laid_out k n rs ≡ all → Ends f (saving_from leaves n k rs) all
 unfolding saving_from laid_out

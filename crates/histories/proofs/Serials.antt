@@ -1,4 +1,4 @@
--- Serials and histories: `specs/Serials.antt`, from what histories mean of any imported mask. Assumes nothing.
+-- Serials and histories: the statement of `specs/Serials.antt`, which follows from the theorem on any imported mask.
 use Prim.Native.Nat.{ℕ}
 use mathlib.Core.Path.{sym, ◌∙◌}
 use mathlib.Core.List.{List}
@@ -31,6 +31,6 @@ module _ {Code : Type 0} (call_of : Code → RowCall) (means : OneMeaning call_o
             let begun = means.imported p.mask _ won.accepted in (begun.0, begun.1 ∙ won.flags);
       }
 
--- of the library's table
+-- the statement for the library's table
 pub library_serials : SerialsApart library_call
 library_serials = serials-apart library_call demand_3

@@ -1,5 +1,5 @@
--- Each other mask that an accepted call takes has no count or a true one: of appends by the checks of the mask, of calls that make a
--- mask from masks by what is owed for their rows. Assumes nothing.
+-- Each other mask that an accepted call takes has an unknown or a true count: for appends by the checks of the mask, for calls that make
+-- a mask from masks because their rows are lawful.
 use Rattle.std.proofs.lemmas.Bool.{false≢true}
 use mathlib.Core.Path.{◌≡◌, refl}
 use mathlib.Core.Bool.{true}

@@ -1,5 +1,5 @@
--- A history goes on, so that the theorem is not about nothing: for each kind of call a history in which it is accepted, and for each
--- kind that a history can have refused one in which it is; all come to a mask. Which kinds are never refused. Assumes nothing.
+-- Histories exist, so the theorem is not vacuous: for each kind of call a history in which it is accepted, and for each kind that can be
+-- refused a history in which it is refused; each ends in a mask. Also the kinds that are never refused.
 use Rattle.std.specs.Prelude.{ℕ, ◌≡◌, true, false, List, [], ◌∷◌, ◌++◌, map, replicate, Some, None}
 use Rattle.words.specs.Flags.{is_one}
 use Rattle.masks.specs.Appends.{Append, push_flag, extend_constant, push_word, extend_slice}
@@ -16,7 +16,7 @@ use Rattle.histories.specs.MaskRows.{pair, invert, select, select_constant, Mask
 use Rattle.histories.specs.ReferenceList.{and, and_not, or, or_not, xor}
 use Rattle.histories.specs.Rows.{Argument, own, other, RowCall, one, two, three}
 
--- ---- a row: a history, which of its calls are accepted, the mask and bytes that it comes to, and its list; 1 stands for yes and set
+-- ---- a row: a history, which of its calls are accepted, the mask and bytes in which it ends, and its list; 1 means yes and set
 
 pub record Comes (h : History LibraryCall) (accepted : List ℕ) (m : Bitmap) (bytes : List ℕ) (flags : List ℕ) : Type 0 where
   pub answers : map (λ (f : Fed LibraryCall). f.accepted) (trace library_call (start_of h.start) h.calls) ≡ map is_one accepted
@@ -25,18 +25,18 @@ pub record Comes (h : History LibraryCall) (accepted : List ℕ) (m : Bitmap) (b
 
 -- ---- histories
 
--- a new builder over eight lent bytes 0xAA, these appends, and how it becomes a mask
+-- a new builder over eight lent bytes 0xAA, these appends, and the call that makes a mask of it
 abbrev pub built : List Append → Call LibraryCall → History LibraryCall
 built appends last = record { start = from_builder (lent 8); calls = map append appends ++ (last ∷ []) }
 
--- A = 1,0,1,1,0,1 from its byte, and calls on it
+-- A = 1,0,1,1,0,1 over its byte, and calls on it
 abbrev pub A : List ℕ
 A = 0x2D ∷ []
 
 abbrev pub on_a : List MaskCall → History LibraryCall
 on_a calls = record { start = from_span; calls = try_new A 0 6 ∷ map (λ (c : MaskCall). make (masks c)) calls }
 
--- B = 0,1,1,0,0,1 from the flag 3 on, C = 1,1,0,0,1,1, and five flags
+-- B = 0,1,1,0,0,1 starting at bit 3 of its bytes, C = 1,1,0,0,1,1, and a mask of five flags
 abbrev pub B : Argument
 B = other (mask_of 3 6 None) (0x37 ∷ 0xFF ∷ [])
 
@@ -55,7 +55,7 @@ pub record AcceptedKinds : Type 0 where
   pub span : Comes (built (extend_slice A 2 4 ∷ []) freeze) (1 ∷ 1 ∷ []) (mask_of 0 4 (Some 1)) (first 0x0B) (1 ∷ 1 ∷ 0 ∷ 1 ∷ [])
   pub repeats : Comes (built (extend_repeated A 2 4 2 ∷ []) freeze) (1 ∷ 1 ∷ []) (mask_of 0 8 (Some 2)) (first 0xCF)
       (1 ∷ 1 ∷ 1 ∷ 1 ∷ 0 ∷ 0 ∷ 1 ∷ 1 ∷ [])
-  -- of 0,1,1,0,1 the second to the fourth
+  -- the second to the fourth flag of 0,1,1,0,1
   pub piece : Comes (built (extend_bitmap (mask_of 1 5 None) A 1 3 ∷ []) freeze) (1 ∷ 1 ∷ []) (mask_of 0 3 (Some 1)) (first 0x03)
       (1 ∷ 1 ∷ 0 ∷ [])
   pub gather : Comes (built (extend_gather A 0 6 (5 ∷ 4 ∷ 0 ∷ []) ∷ []) freeze) (1 ∷ 1 ∷ []) (mask_of 0 3 (Some 1)) (first 0x05)
@@ -64,12 +64,12 @@ pub record AcceptedKinds : Type 0 where
       (1 ∷ 0 ∷ 1 ∷ [])
   pub freezes : Comes (built [] freeze) (1 ∷ []) (mask_of 0 0 (Some 0)) (lent 8) []
   pub validity : Comes (built (push_flag false ∷ []) into_opt_validity) (1 ∷ 1 ∷ []) (mask_of 0 1 (Some 1)) (first 0x00) (0 ∷ [])
-  -- a list that comes to a none is no history
+  -- a list of calls that ends in the none of `into_opt_validity` has no mask
   pub no-validity : end_of library_call (built (push_flag true ∷ []) into_opt_validity) ≡ no_mask
   pub try-new : Comes (on_a []) (1 ∷ []) (mask_of 0 6 None) A (1 ∷ 0 ∷ 1 ∷ 1 ∷ 0 ∷ 1 ∷ [])
   pub slices : Comes (on_a (slice 2 4 ∷ [])) (1 ∷ 1 ∷ []) (mask_of 2 4 None) A (1 ∷ 1 ∷ 0 ∷ 1 ∷ [])
   pub counts : Comes (on_a (unset_bits ∷ [])) (1 ∷ 1 ∷ []) (mask_of 0 6 (Some 2)) A (1 ∷ 0 ∷ 1 ∷ 1 ∷ 0 ∷ 1 ∷ [])
-  -- of a counted mask
+  -- `and` of a counted mask
   pub ands : Comes (on_a (unset_bits ∷ combine (pair and) (lent 8) (two own B) ∷ [])) (1 ∷ 1 ∷ 1 ∷ []) (mask_of 0 6 None) (first 0x24)
       (0 ∷ 0 ∷ 1 ∷ 0 ∷ 0 ∷ 1 ∷ [])
   pub and_nots : Comes (on_a (combine (pair and_not) (lent 8) (two own B) ∷ [])) (1 ∷ 1 ∷ []) (mask_of 0 6 None) (first 0x09)
@@ -86,7 +86,7 @@ pub record AcceptedKinds : Type 0 where
       (0 ∷ 1 ∷ 1 ∷ 0 ∷ 1 ∷ 1 ∷ [])
   pub selects-constant : Comes (on_a (combine (select_constant true) (lent 8) (two B own) ∷ [])) (1 ∷ 1 ∷ []) (mask_of 0 6 None)
       (first 0x3D) (1 ∷ 0 ∷ 1 ∷ 1 ∷ 1 ∷ 1 ∷ [])
-  -- the history's own mask in both places, and a call on what that gave
+  -- the history's own mask in both places, and a call on the result
   pub own-twice : Comes (on_a (combine (pair xor) (lent 8) (two own own) ∷ combine invert (lent 8) (one own) ∷ [])) (1 ∷ 1 ∷ 1 ∷ [])
       (mask_of 0 6 None) (first 0x3F) (1 ∷ 1 ∷ 1 ∷ 1 ∷ 1 ∷ 1 ∷ [])
   -- an imported mask, its count true or unknown
@@ -95,9 +95,9 @@ pub record AcceptedKinds : Type 0 where
   pub imports-uncounted : Comes (record { start = from_mask (mask_of 2 4 None) A; calls = make (masks (slice 1 2)) ∷ [] }) (1 ∷ [])
       (mask_of 3 2 None) A (1 ∷ 0 ∷ [])
 
--- ---- each kind of call that a history can have refused: the mask and the list are those without it
+-- ---- each kind of call that a history can have refused: the mask and the list are the same without it
 
--- a one, an append that is refused, and `freeze`
+-- a push of one set flag, an append that is refused, and `freeze`
 abbrev pub RefusedAppend : Append → Type 0
 RefusedAppend a = Comes (built (push_flag true ∷ a ∷ []) freeze) (1 ∷ 0 ∷ 1 ∷ []) (mask_of 0 1 (Some 0)) (first 0x01) (1 ∷ [])
 
@@ -121,10 +121,10 @@ pub record RefusedKinds : Type 0 where
   -- an index at the span's length
   pub gather : RefusedAppend (extend_gather A 0 6 (6 ∷ []))
   pub opt_gather : RefusedAppend (extend_opt_gather A 0 9 (0 ∷ []))
-  -- then a span inside its bytes
+  -- a span past its bytes, then one inside them
   pub try-new : Comes (record { start = from_span; calls = try_new A 2 7 ∷ try_new A 2 4 ∷ [] }) (0 ∷ 1 ∷ []) (mask_of 2 4 None) A
       (1 ∷ 1 ∷ 0 ∷ 1 ∷ [])
-  -- an imported mask with a stale count, or past its byte, is no start: then a span
+  -- an imported mask with a stale count, or past its byte, is no start; a span after it is
   pub import_stale : Comes (record { start = from_mask (mask_of 0 6 (Some 3)) A; calls = try_new A 2 4 ∷ [] }) (1 ∷ []) (mask_of 2 4 None) A
       (1 ∷ 1 ∷ 0 ∷ 1 ∷ [])
   pub import_past : Comes (record { start = from_mask (mask_of 2 7 None) A; calls = make (masks unset_bits) ∷ try_new A 2 4 ∷ [] })
@@ -133,7 +133,7 @@ pub record RefusedKinds : Type 0 where
   pub piece_stale : RefusedAppend (extend_bitmap (mask_of 0 6 (Some 3)) A 0 3)
   pub slices : RefusedOnA (slice 3 4)
   pub and_stale : RefusedOnA (combine (pair and) (lent 8) (two own (other (mask_of 0 6 (Some 0)) (0x33 ∷ []))))
-  -- masks of two lengths, or no byte to write to
+  -- masks of different lengths, or an output of no bytes
   pub ands : RefusedOnA (combine (pair and) (lent 8) (two own five))
   pub and_nots : RefusedOnA (combine (pair and_not) [] (two own B))
   pub ors : RefusedOnA (combine (pair or) (lent 8) (two five own))
@@ -143,8 +143,8 @@ pub record RefusedKinds : Type 0 where
   pub selects : RefusedOnA (combine select (lent 8) (three own B five))
   pub selects-constant : RefusedOnA (combine (select_constant true) [] (two B own))
 
--- ---- the other kinds are never refused: `freeze` and `into_opt_validity` of a builder that a history has come to; `unset_bits` of a
--- mask that it has come to is `counted` of `Agreement`
+-- ---- the other kinds are never refused: `freeze` and `into_opt_validity` of a builder in which a history ends; for `unset_bits` of a
+-- mask in which one ends this is `counted` of `Agreement`
 
 pub record NeverRefused {Code : Type 0} (call_of : Code → RowCall) : Type 0 where
   pub freezes : (h : History Code) (f : Filling) → end_of call_of h ≡ building f

@@ -1,9 +1,8 @@
--- Histories: lists of calls, the state they come to, and the reference list beside them (document 01's plain list). Assumes
--- nothing.
+-- Histories: lists of calls, the state in which they end, and the reference list kept with them (document 01's plain list).
 --
--- A step is made of the definitions that the contracts cite. The reference list is fed the arguments of the calls, save the
--- history's own record and bytes, and which calls were refused; its words are those of `ReferenceList` and of the rows. Which
--- calls make a mask from masks is a table: codes, and the row that each stands for.
+-- A step is made of the definitions that the contracts cite. The reference list gets the arguments of the calls, except the
+-- history's own record and bytes, and which calls were refused; its words are those of `ReferenceList` and of the rows. A table
+-- lists the calls that make a mask from masks: codes, and the row of each code.
 use Rattle.std.specs.Prelude.{ℕ, Bool, true, false, cond, List, [], ◌∷◌, ◌++◌, Option, Some, None}
 use Rattle.masks.specs.Answer.{Answer, given, refused, checked}
 use Rattle.masks.specs.Appends.{Append, append_answer, append_bytes}
@@ -15,7 +14,7 @@ use Rattle.masks.specs.declared.builder.BitmapBuilder.{BitmapBuilder}
 use Rattle.histories.specs.ReferenceList.{added, flags_in, span_flags}
 use Rattle.histories.specs.Rows.{Argument, own, other, Lent, RowCall, Tuple, Writes, each, keep, with_bytes, write}
 
--- ---- the calls, with their arguments save the history's own record and bytes
+-- ---- the calls, with their arguments except the history's own record and bytes
 
 pub data Call (Code : Type 0) : Type 0 where
   -- bytes, start and length
@@ -28,20 +27,20 @@ pub data Call (Code : Type 0) : Type 0 where
 
 -- ---- the state that calls leave
 
--- nothing yet: no span was accepted; a builder with its buffer; a mask with its bytes; no mask, after `into_opt_validity` gave none
+-- `waiting`: no span is accepted yet; a builder with its buffer; a mask with its bytes; no mask, after the none of `into_opt_validity`
 pub data State : Type 0 where
   waiting : State
   building : Filling → State
   masked : Bitmap → List ℕ → State
   no_mask : State
 
--- a history begins with a new builder and any buffer, with `try_new` calls, up to the first accepted one, or with an imported mask
+-- a history begins with a new builder and any buffer, with `try_new` calls up to the first accepted one, or with an imported mask
 pub data Start : Type 0 where
   from_builder : List ℕ → Start
   from_span : Start
   from_mask : Bitmap → List ℕ → Start
 
--- what a call leaves, and whether it was accepted
+-- the state after a call, and whether the call was accepted
 pub record Outcome : Type 0 where
   pub state : State
   pub accepted : Bool
@@ -75,12 +74,12 @@ abbrev pub after_kept : List ℕ → Answer Bitmap Bitmap → Outcome
 after_kept bytes (given m) = outcome (masked m bytes) true
 after_kept bytes (refused k m) = outcome (masked m bytes) false
 
--- one that writes: refused, it leaves the history's own mask as it is
+-- a call that writes; a refused one leaves the history's own mask unchanged
 abbrev pub after_written : Bitmap → List ℕ → List ℕ → Answer (Unit {0}) Bitmap → Outcome
 after_written m bytes out (given r) = outcome (masked r out) true
 after_written m bytes out (refused k s) = outcome (masked m bytes) false
 
--- what it answers and writes, where the history's own mask is m
+-- the answer and the bytes of a row's call, if the history's own mask is m
 abbrev pub lent_at : Bitmap → List ℕ → Argument → Lent
 lent_at m bytes own = with_bytes m bytes
 lent_at m bytes (other n its) = with_bytes n its
@@ -97,15 +96,15 @@ step_row m bytes (write r a) = after_written m bytes (written_bytes m bytes r a)
 
 -- ---- where a history begins
 
--- an imported mask is put to the checks that each call puts a mask to; where one fails it is no start, and nothing is there yet
+-- each call's checks of a mask apply to an imported mask; if one fails, the mask is no start and the state is `waiting`
 abbrev pub start_of : Start → State
 start_of (from_builder buf) = building (filling new_builder buf)
 start_of from_span = waiting
 start_of (from_mask m bytes) = (after_try bytes (checked (mask_checks m bytes) tt m)).state
 
--- ---- one call, a list of calls, and what the reference list is fed of them
+-- ---- one call, a list of calls, and what the reference list gets of them
 
--- a call that does not fit the state stands for none: it leaves the state, and is not accepted
+-- a call that does not fit the state is not accepted and leaves the state unchanged
 abbrev pub step_waiting : {Code : Type 0} → Call Code → Outcome
 step_waiting (try_new bytes start n) = after_try bytes (try_new_of bytes start n)
 step_waiting (append a) = outcome waiting false
@@ -151,7 +150,7 @@ trace call_of s (c ∷ cs) = fed c (step call_of s c).accepted ∷ trace call_of
 
 -- ---- the reference list
 
--- it stands where the history's own mask does; other masks give the flags in their bytes
+-- the list takes the place of the history's own mask; other masks contribute the flags in their bytes
 abbrev pub flags_at : List Bool → Argument → List Bool
 flags_at l own = l
 flags_at l (other m bytes) = flags_in m bytes
@@ -163,7 +162,7 @@ abbrev pub row_flags : List Bool → RowCall → List Bool
 row_flags l (keep r) = r.flags l
 row_flags l (write r a) = written_flags l r a
 
--- what an accepted call makes of the list
+-- the list after an accepted call
 abbrev pub list_after : {Code : Type 0} → (Code → RowCall) → List Bool → Call Code → List Bool
 list_after call_of l (try_new bytes start n) = span_flags bytes start n
 list_after call_of l (append a) = l ++ added a
@@ -171,7 +170,7 @@ list_after call_of l freeze = l
 list_after call_of l into_opt_validity = l
 list_after call_of l (make c) = row_flags l (call_of c)
 
--- a refused call leaves it
+-- a refused call leaves the list unchanged
 abbrev pub list_step : {Code : Type 0} → (Code → RowCall) → List Bool → Fed Code → List Bool
 list_step call_of l s = cond s.accepted (list_after call_of l s.call) l
 
@@ -188,7 +187,7 @@ pub record History (Code : Type 0) : Type 0 where
 abbrev pub end_of : {Code : Type 0} → (Code → RowCall) → History Code → State
 end_of call_of h = run call_of (start_of h.start) h.calls
 
--- the list begins empty, or with the flags in the imported mask's bytes; an accepted span's flags take its place
+-- the list begins empty, or with the flags in the imported mask's bytes; the flags of an accepted span replace it
 abbrev pub first_list : Start → List Bool
 first_list (from_builder buf) = []
 first_list from_span = []

@@ -1,6 +1,6 @@
--- What the theorem on histories says: `ReferenceList`, `Rows`, `MaskRows`, `History`, `Agreement` and `Library`, in this order;
--- `Owed` for whoever adds a row; `GoesOn`, a table of histories. What the theorem on run lists says: `RunLists`, with a table,
--- `RunListRows`.
+-- The statement of the theorem on histories: `ReferenceList`, `Rows`, `MaskRows`, `History`, `Agreement` and `Library`, in this order.
+-- `Owed` is for engineers who add a row; `GoesOn` is a table of histories; `Serials` is about masks with unequal serials. The
+-- statement of the theorem on run lists: `RunLists`, with a table, `RunListRows`.
 pub mod Agreement
 pub mod GoesOn
 pub mod History

@@ -1,9 +1,9 @@
--- The calls of the library that make a mask from masks, as one closed table, and demand 3 with them. Assumes nothing.
+-- The calls of the library that make a mask from masks, as one closed table, and the statement of demand 3 for it.
 use Rattle.histories.specs.Agreement.{OneMeaning}
 use Rattle.histories.specs.MaskRows.{MaskCall, mask_call}
 use Rattle.histories.specs.Rows.{RowCall}
 
--- a crate above masks adds a constructor for its own table
+-- A crate above masks adds a constructor for its own table.
 pub data LibraryCall : Type 0 where
   masks : MaskCall → LibraryCall
 

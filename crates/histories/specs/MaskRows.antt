@@ -1,4 +1,4 @@
--- The calls of masks that make a mask from masks, as rows: `slice`, `unset_bits` and the eight combinations. Assumes nothing.
+-- The calls of masks that make a mask from masks, as rows: `slice`, `unset_bits` and the eight combinations.
 use Rattle.std.specs.Prelude.{ℕ, Bool, List}
 use Rattle.words.specs.declared.ops.Op.{Op}
 use Rattle.words.specs.declared.ops.Op.TheVariants.{And, AndNot, Or, OrNot, Xor}
@@ -10,12 +10,12 @@ use Rattle.masks.specs.declared.bitmap.Bitmap.{Bitmap}
 use Rattle.histories.specs.ReferenceList.{Pair, and, and_not, or, or_not, xor, inverted, flag_by_flag, piece, selected, selected_or}
 use Rattle.histories.specs.Rows.{Argument, Keeps, Lent, RowCall, Tuple, Writes, keep, write, of_one, of_two, of_three}
 
--- ---- `slice` keeps its piece; `unset_bits` leaves the list
+-- ---- `slice` keeps its piece of the list; `unset_bits` leaves the list unchanged
 
 abbrev pub slice_row : ℕ → ℕ → Keeps
 slice_row offset n = record { answer = λ m bytes. slice_of m bytes offset n; flags = piece offset n }
 
--- the mask that `unset_bits` hands back
+-- the mask that `unset_bits` returns
 abbrev pub recounted : Answer Bitmap Recounted → Answer Bitmap Bitmap
 recounted (given r) = given r.mask
 recounted (refused k m) = refused k m
@@ -85,7 +85,7 @@ combination_row (select_constant x) out = constant_row x out
 pub data MaskCall : Type 0 where
   slice : ℕ → ℕ → MaskCall
   unset_bits : MaskCall
-  -- with the output, and the masks that it is given
+  -- a combination, its output and its masks
   combine : (c : Combination) (out : List ℕ) → Tuple Argument (combination_row c out).masks → MaskCall
 
 abbrev pub mask_call : MaskCall → RowCall

@@ -1,5 +1,5 @@
--- What is owed for a row, of its call alone: no history, no state and no reference list is named here. The statement of demand 3 does
--- not cite this file; its proof takes what stands here and knows no call by name. Assumes nothing.
+-- What must be proved of a row's call; no history, no state and no reference list is named here. The statement of demand 3 does not
+-- cite this file; its proof uses these definitions and knows no call by name.
 use Rattle.std.specs.Prelude.{ℕ, ◌≡◌, Bool, List}
 use Rattle.masks.specs.Answer.{given, refused}
 use Rattle.masks.specs.Mask.{mask_flags}
@@ -19,13 +19,13 @@ pub record Stands (m : Bitmap) (bytes : List ℕ) (l : List Bool) : Type 0 where
   pub sound : Sound m bytes
   pub flags : mask_flags m bytes ≡ l
 
--- where the call is accepted: each of its masks has no count or a true one; and it gives a sound mask, with the row's flags of theirs
+-- if the call is accepted, its masks have unknown or true counts, and its result is sound, with the flags that the row makes of theirs
 pub record LawfulWrites (r : Writes) : Type 0 where
   pub honest : (a : Tuple Lent r.masks) (m : Bitmap) → r.answer a ≡ given m → Every Honest r.masks a
   pub made : (a : Tuple Lent r.masks) (m : Bitmap) → r.answer a ≡ given m
       → Stands m (r.bytes a) (r.flags (each lent_flags r.masks a))
 
--- the same of a sound mask in its bytes; and a refusal hands back what came
+-- an accepted call on a sound mask returns a sound mask in the same bytes, with the row's flags; a refusal returns the mask unchanged
 pub record LawfulKeeps (r : Keeps) : Type 0 where
   pub made : (m : Bitmap) (bytes : List ℕ) → Sound m bytes → (g : Bitmap) → r.answer m bytes ≡ given g
       → Stands g bytes (r.flags (mask_flags m bytes))

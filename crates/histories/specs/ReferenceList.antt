@@ -1,8 +1,8 @@
--- The reference list's own words (document 01's plain list): what spans, other masks and appends give it, and what the operations make
--- of flags. Assumes nothing.
+-- The reference list's own words (document 01's plain list): what spans, other masks and appends add to it, and what the operations
+-- make of flags.
 --
--- Written from document 01 and Arrow's numbering: `flag_at bytes j` is bit j mod 8 of byte j div 8, `bit_at w j` is bit j of w. No
--- definition stands here that the contract of a history's call cites; that the two say the same is proved (`ReferenceLaws`).
+-- Written from document 01 and Arrow's numbering: `flag_at bytes j` is bit j mod 8 of byte j div 8, `bit_at w j` is bit j of w. This file
+-- has no definition that the contract of a history's call cites; `ReferenceLaws` proves that both say the same.
 use Rattle.std.specs.Prelude.{ℕ, zero, suc, ◌+◌, Bool, false, cond, not, ◌&&◌, ◌||◌, ltb, drop, replicate, take}
 use mathlib.Core.List.{List, [], ◌∷◌, flat_map, map, zip, zip_with}
 use Rattle.words.specs.Flags.{bit_at, flag_at}
@@ -10,7 +10,7 @@ use Rattle.masks.specs.Appends.{Append, push_flag, extend_constant, push_word, e
 use Rattle.masks.specs.Appends.{extend_repeated, extend_bitmap, extend_gather, extend_opt_gather}
 use Rattle.masks.specs.declared.bitmap.Bitmap.{Bitmap}
 
--- n numbers, from the first on
+-- n consecutive numbers that begin with `first`
 abbrev pub up_from : ℕ → ℕ → List ℕ
 up_from first zero = []
 up_from first (suc n) = first ∷ up_from (suc first) n
@@ -23,12 +23,12 @@ span_flags bytes start n = map (flag_at bytes) (up_from start n)
 abbrev pub flags_in : Bitmap → List ℕ → List Bool
 flags_in m bytes = span_flags bytes m.start m.length
 
--- n flags of a list, behind so many
+-- n flags of a list, after the first `offset`
 abbrev pub piece : ℕ → ℕ → List Bool → List Bool
 piece offset n l = take n (drop offset l)
 
 -- ---- what an append adds: `push` its flag, `extend_constant` copies of one, a word its flags from bit 0, both span calls their
--- piece, the repeating one each flag so often in turn, gathers the flag at each index, the optional one 0 at or past the span's length
+-- piece, the repeating one each flag k times in a row, gathers the flag at each index, the optional one 0 at or past the span's length
 
 abbrev pub added : Append → List Bool
 added (push_flag x) = x ∷ []
@@ -45,7 +45,7 @@ added (extend_opt_gather bytes start n idxs) = map (λ (i : ℕ). cond (ltb i n)
 pub data Pair : Type 0 where
   and and_not or or_not xor : Pair
 
--- `and_not` and `or_not` first invert the second's
+-- `and_not` and `or_not` first invert the flag of the second mask
 abbrev pub pair_flag : Pair → Bool → Bool → Bool
 pair_flag and x y = x && y
 pair_flag and_not x y = x && not y
@@ -59,10 +59,10 @@ flag_by_flag op l m = zip_with (pair_flag op) l m
 abbrev pub inverted : List Bool → List Bool
 inverted l = map not l
 
--- `select` takes the second's at a 1 of the first, else the third's,
+-- `select` takes the flag of the second list if that of the first is set, else that of the third,
 abbrev pub selected : List Bool → List Bool → List Bool → List Bool
 selected s t f = zip_with (λ (x : Bool) (p : Bool × Bool). cond x p.0 p.1) s (zip t f)
 
--- or the constant
+-- or the constant c
 abbrev pub selected_or : Bool → List Bool → List Bool → List Bool
 selected_or c s t = zip_with (λ (x y : Bool). cond x y c) s t

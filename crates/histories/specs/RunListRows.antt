@@ -1,5 +1,5 @@
 -- Lists of runs that keep all conditions of `RunList` but one: each is the run list of no list of flags, so that each condition is
--- needed. Beside them run lists, the lists of flags that they stand for, and the calls that save one. Assumes nothing.
+-- needed. Then run lists with their lists of flags, and the calls that save one.
 use Rattle.std.specs.Prelude.{ℕ, ◌≡◌, Bool, true, false, List, [], ◌∷◌, map}
 use Rattle.words.specs.Flags.{is_one}
 use Rattle.masks.specs.Appends.{extend_constant}
@@ -8,19 +8,19 @@ use Rattle.masks.specs.declared.slice_iterator.Run.{Run}
 use Rattle.histories.specs.History.{append}
 use Rattle.histories.specs.RunLists.{HasRuns, every_run, is_apart, is_inside, is_long, saving_from}
 
--- no list of n flags has these runs; whether they are long enough, apart and inside
+-- no list of n flags has these runs; x, y, z: whether the runs are long enough, apart and inside n flags
 pub record NoRunList (n : ℕ) (rs : List Run) (x y z : Bool) : Type 0 where
   pub long : every_run is_long rs ≡ x
   pub apart : is_apart rs ≡ y
   pub inside : every_run (is_inside n) rs ≡ z
   pub none : (l : List Bool) → HasRuns n rs l → ⊥
 
--- the n flags, 1 for set, have these runs
+-- the runs of these n flags (1 for set) are rs
 abbrev pub Has : List Run → ℕ → List ℕ → Type 0
 Has rs n flags = HasRuns n rs (map is_one flags)
 
 pub record RunListRows : Type 0 where
-  -- an empty run: alone, before another one and after it
+  -- an empty run: the only one, before another one and after it
   pub empty : NoRunList 4 (run_of 1 0 ∷ []) false true true
   pub empty-first : NoRunList 4 (run_of 0 0 ∷ run_of 1 1 ∷ []) false true true
   pub empty-last : NoRunList 4 (run_of 0 1 ∷ run_of 4 0 ∷ []) false true true
@@ -33,7 +33,7 @@ pub record RunListRows : Type 0 where
   pub past : NoRunList 4 (run_of 0 1 ∷ run_of 2 3 ∷ []) true true false
   pub at-end : NoRunList 4 (run_of 4 1 ∷ []) true true false
   pub no-flags : NoRunList 0 (run_of 0 1 ∷ []) true true false
-  -- the same mended
+  -- lists that keep all conditions, each close to one above
   pub one : Has (run_of 1 1 ∷ []) 4 (0 ∷ 1 ∷ 0 ∷ 0 ∷ [])
   pub rising : Has (run_of 0 1 ∷ run_of 2 1 ∷ []) 4 (1 ∷ 0 ∷ 1 ∷ 0 ∷ [])
   pub to_the_end : Has (run_of 0 1 ∷ run_of 2 2 ∷ []) 4 (1 ∷ 0 ∷ 1 ∷ 1 ∷ [])

@@ -1,5 +1,5 @@
-// Ties each row of `MaskRows` to its call: a function here makes one call of masks and nothing else, and its contract is the row's
-// answer and the row's bytes. Nobody calls them; a row of another call would leave its function unproved.
+// Ties each row of `MaskRows` to its call: each function here makes one call of masks and nothing else, and its contract is the row's
+// answer and the row's bytes. Nobody calls these functions; a row for another call would leave its function unproved.
 ghost use Rattle.std.specs.Prelude.{◌≡◌};
 ghost use Rattle.masks.specs.Answer.{answer, answer_back};
 ghost use Rattle.histories.specs.MaskRows.{constant_row, count_row, not_row, pair_row, recounted, select_row, slice_row};
@@ -10,7 +10,7 @@ use masks::bitmap::{Bitmap, Recounted};
 use masks::bitmap_ops::{and, and_not, not, or, or_not, select, select_constant, xor};
 use masks::refusal::{Refusal, Refused};
 
-// Answers as the row of `slice` does.
+// Calls `slice`; answers as the row of `slice` does.
 pub fn slice_row(
     mask: Bitmap,
     bytes: &[u8],
@@ -22,14 +22,14 @@ pub fn slice_row(
     mask.slice(bytes, offset, length)
 }
 
-// Answers as the row of `unset_bits` does, which hands the mask on and not the count.
+// Calls `unset_bits`; answers as its row does. The row keeps the mask and drops the count.
 pub fn count_row(mask: Bitmap, bytes: &[u8]) -> Result<Recounted, Refused<Bitmap>>
     ensures { recounted (answer_back result) ≡ count_row.answer mask bytes.now }
 {
     mask.unset_bits(bytes)
 }
 
-// Answers and writes as the row of `and` does.
+// Calls `and`; answers and writes as the row of `and` does.
 pub fn and_row(
     lhs: Bitmap,
     left: &[u8],
@@ -45,7 +45,7 @@ pub fn and_row(
     and(lhs, left, rhs, right, out)
 }
 
-// Answers and writes as the row of `and_not` does.
+// Calls `and_not`; answers and writes as the row of `and_not` does.
 pub fn and_not_row(
     lhs: Bitmap,
     left: &[u8],
@@ -61,7 +61,7 @@ pub fn and_not_row(
     and_not(lhs, left, rhs, right, out)
 }
 
-// Answers and writes as the row of `or` does.
+// Calls `or`; answers and writes as the row of `or` does.
 pub fn or_row(
     lhs: Bitmap,
     left: &[u8],
@@ -77,7 +77,7 @@ pub fn or_row(
     or(lhs, left, rhs, right, out)
 }
 
-// Answers and writes as the row of `or_not` does.
+// Calls `or_not`; answers and writes as the row of `or_not` does.
 pub fn or_not_row(
     lhs: Bitmap,
     left: &[u8],
@@ -93,7 +93,7 @@ pub fn or_not_row(
     or_not(lhs, left, rhs, right, out)
 }
 
-// Answers and writes as the row of `xor` does.
+// Calls `xor`; answers and writes as the row of `xor` does.
 pub fn xor_row(
     lhs: Bitmap,
     left: &[u8],
@@ -109,7 +109,7 @@ pub fn xor_row(
     xor(lhs, left, rhs, right, out)
 }
 
-// Answers and writes as the row of `not` does.
+// Calls `not`; answers and writes as the row of `not` does.
 pub fn not_row(mask: Bitmap, bytes: &[u8], out: &mut [u8]) -> Result<Bitmap, Refusal>
     ensures answer { answer result ≡ (not_row out.old).answer (one (with_bytes mask bytes.now)) }
     ensures bytes { out.new ≡ (not_row out.old).bytes (one (with_bytes mask bytes.now)) }
@@ -117,7 +117,7 @@ pub fn not_row(mask: Bitmap, bytes: &[u8], out: &mut [u8]) -> Result<Bitmap, Ref
     not(mask, bytes, out)
 }
 
-// Answers and writes as the row of `select` does.
+// Calls `select`; answers and writes as the row of `select` does.
 pub fn select_row(
     selector: Bitmap,
     by: &[u8],
@@ -135,7 +135,7 @@ pub fn select_row(
     select(selector, by, truthy, yes, falsy, no, out)
 }
 
-// Answers and writes as the row of `select_constant` does.
+// Calls `select_constant`; answers and writes as the row of `select_constant` does.
 pub fn constant_row(
     selector: Bitmap,
     by: &[u8],

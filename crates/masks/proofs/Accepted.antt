@@ -1,5 +1,5 @@
--- What is accepted: a span in its bytes and within the limit, with no count or a true one, passes the checks of a mask; so do the
--- masks that calls give. And the whole words of a split begin at an address divisible by 8. Assumes nothing.
+-- What is accepted, for theorems that make calls: a span in its bytes and within the limit, with an unknown or a true count, passes the
+-- checks of a mask; so do the masks that calls return. Also: the whole words of a split begin at an address divisible by 8.
 use mathlib.Core.Path.{◌≡◌, refl}
 use mathlib.Core.Bool.{Bool, true, false, cond}
 use mathlib.Core.List.{List, [], ◌∷◌, ◌++◌}
@@ -28,7 +28,7 @@ pub span-accepted : (start n size : ℕ) → start ≤ limit → n ≤ limit →
 unfolding span_checks first_failed earlier
 span-accepted start n size a b c = rw (le-leb start limit a, le-leb n limit b, le-leb (start + n) (8 * size) c)
 
--- and so is a mask over it with no count or a true one
+-- and so is a mask over it with an unknown or a true count
 pub mask-accepted : (m : Bitmap) (bytes : List ℕ) → m.start ≤ limit → m.length ≤ limit → m.start + m.length ≤ 8 * length bytes
     → Truthful m bytes
     → 0 ≡ first_failed (mask_checks m bytes)
@@ -38,7 +38,7 @@ mask-accepted m bytes a b c t =
     (span-accepted m.start m.length (length bytes) a b c) refl
     (rw (true-valid m.unset (mask_flags m bytes) t))
 
--- the mask that `try_new` gives
+-- the mask that `try_new` returns is accepted
 pub new-accepted : (bytes : List ℕ) (start n : ℕ) → first_failed (span_checks start n (length bytes)) ≡ 0
     → 0 ≡ first_failed (mask_checks (mask_of start n (uncounted n)) bytes)
 new-accepted bytes start n e =
@@ -52,7 +52,7 @@ inner-accepted : (start n whole : ℕ) → start ≤ limit → n ≤ limit → s
 unfolding inner_checks first_failed earlier
 inner-accepted start n whole a b c = rw (le-leb start limit a, le-leb n limit b, le-leb (start + n) whole c)
 
--- a builder with room for n flags more passes the checks of a call that appends so many
+-- a builder with room for n more flags passes the checks of a call that appends n flags
 pub builder-accepted : (b : BitmapBuilder) (n size : ℕ) → Room b n size → 0 ≡ first_failed (builder_checks b (b.length + n) size)
 unfolding builder_checks possible output_checks first_failed earlier
 builder-accepted b n size r =
@@ -66,7 +66,7 @@ builder-accepted b n size r =
       le-leb (8 * ((b.length + n + 63) / 64)) size r.holds,
     )
 
--- the whole of a mask, appended
+-- appending a whole mask is accepted by a builder with room for it
 pub whole-accepted : (b : BitmapBuilder) (buf : List ℕ) (m : Bitmap) (bytes : List ℕ) → 0 ≡ first_failed (mask_checks m bytes)
     → m.length ≤ limit → Room b m.length (length buf)
     → 0 ≡ first_failed (subslice_checks b buf m bytes 0 m.length)
@@ -79,7 +79,7 @@ whole-accepted b buf m bytes a short r =
 
 -- ---- the split
 
--- the whole words of a span that does not fit one word begin where the address is divisible by 8
+-- the whole words of a span that does not fit one word begin at an address divisible by 8
 pub bulk_aligned : (start n address : ℕ) → 64 < start % 8 + n → (address + bulk_start_of start n address) % 8 ≡ 0
 unfolding bulk_start_of bulk_offset bytes_to_aligned
 bulk_aligned start n address h = rw (lt-leb (start % 8 + n) 64 h) (go (leb (start % 8) (8 * bytes_to_aligned start address)))

@@ -1,5 +1,5 @@
--- `and_not_at` of two masks gives the flag at the index of what `and_not` makes of them; where one is absent it gives the other's
--- flag, or its inverse; where both are it gives true. Assumes nothing.
+-- `and_not_at` of two masks returns the flag at the index of the flags that `and_not` makes of them; of one mask it returns that
+-- mask's flag, or its inverse; of none it returns true.
 use Rattle.std.specs.Prelude.{Some, None}
 use Rattle.std.proofs.Math.Bool.{and-true}
 use mathlib.Core.Path.{◌≡◌, refl, sym, ap, ◌∙◌, subst}
@@ -29,7 +29,7 @@ at-accepted m bytes i p inside =
     passed-before (mask_checks m bytes) (index_inside i m ∷ []) 0 0 p refl
     (one-check 0 6 true (ltb i m.length) refl (sym (lt-ltb i m.length inside)))
 
--- and so are two of one length
+-- and so are two masks of equal lengths
 pub both-accepted : (a : Bitmap) (a_bytes : List ℕ) (b : Bitmap) (b_bytes : List ℕ) (i : ℕ)
     → 0 ≡ first_failed (mask_checks a a_bytes) → 0 ≡ first_failed (mask_checks b b_bytes)
     → a.length ≡ b.length → i < a.length → 0 ≡ first_failed (and_not_at_checks (Some a) a_bytes (Some b) b_bytes i)
@@ -63,7 +63,7 @@ module _ (a : Bitmap) (a_bytes : List ℕ) (b : Bitmap) (b_bytes : List ℕ) (i 
       (get_or (mask_flags a a_bytes) i false && not (get_or (mask_flags b b_bytes) i false)) (sym accepted) refl)
       ∙ ap given (sym (at-and-not a a_bytes b b_bytes one-length i inside))
 
-  -- and so that of the mask that it gives, in the bytes that it writes to an output that holds them
+  -- and the flag at the index of the mask that `and_not` returns, in the bytes that it writes to an output that holds them
   pub flag-of-written : (out : List ℕ) → first_failed (pair_checks a a_bytes b b_bytes (length out)) ≡ 0
       → and_not_at_of (Some a) a_bytes (Some b) b_bytes i
       ≡ given (get_or (mask_flags (pair_mask AndNot a a_bytes b b_bytes) (pair_bytes AndNot a a_bytes b b_bytes out)) i false)

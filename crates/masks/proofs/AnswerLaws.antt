@@ -1,4 +1,4 @@
--- What an answer says of the number of its checks and of its value, for whoever calls. Assumes nothing.
+-- What a caller can infer from an answer: the number of the checks, and the value. For theorems on calls.
 use mathlib.Core.Path.{◌≡◌, refl}
 use Prim.Native.Nat.{ℕ, zero, suc}
 use native.Mathlib.Omega.{arith}

@@ -1,4 +1,4 @@
--- Each answer stands for what `specs/AnswerPlain.antt` says. Assumes nothing.
+-- The statements of `specs/AnswerPlain.antt`: what each answer means.
 use mathlib.Core.Path.{refl}
 use Rattle.masks.specs.Answer.{decided}
 use Rattle.masks.specs.AnswerPlain.{AnswersPlain}

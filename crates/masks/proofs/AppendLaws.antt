@@ -1,4 +1,4 @@
--- Appending to a builder: nothing, one list after another, and what the builder's flags and its count become. Assumes nothing.
+-- Appending to a builder: nothing, or one list after another; the builder's flags and its count afterwards. For all appends.
 use mathlib.Core.Path.{◌≡◌, refl, sym, ap, ap₂, ◌∙◌}
 use mathlib.Core.Bool.{Bool, true, false}
 use mathlib.Core.List.{List, [], ◌∷◌, ◌++◌, append_assoc, append-nil}
@@ -46,15 +46,15 @@ pub progress-of : (b : BitmapBuilder) (n : ℕ) (r : List Bool) (ones : ℕ) →
 unfolding in_progress
 progress-of b n r ones e = word_back r (n % 64) e (omega arith)
 
--- ---- one way to say what appending gives
+-- ---- one form for the builder after an append
 
--- the flags in progress and the new ones in a row are `front`, q whole words, and `rest`, less than a word
+-- the flags in progress followed by the new ones are `front`, q whole words, and `rest`, less than a word
 pub record Parts (f : Filling) (l : List Bool) (q : ℕ) (front rest : List Bool) : Type 0 where
   pub row : in_progress f.builder ++ l ≡ front ++ rest
   pub whole : length front ≡ 64 * q
   pub less : length rest < 64
 
--- n flags more, of which `front` is written
+-- the builder with n more flags, of which `front` is written
 abbrev pub grown : Filling → ℕ → ℕ → List Bool → List Bool → Filling
 grown f n q front rest =
     filling (rebuilt f.builder (f.builder.length + n) (word_of rest) (f.builder.ones + count front))
@@ -86,7 +86,7 @@ appended-grown f l q front rest p =
     let w : length (in_progress f.builder ++ l) / 64 ≡ q = omega arith in
     ap₂ (made f (length l)) w row ∙ made-grown f (length l) q front rest full
 
--- the parts that every appending has
+-- the parts for any list that is appended
 pub parts-of : (f : Filling) (l : List Bool)
     → Parts f l (length (in_progress f.builder ++ l) / 64)
     (take (64 * (length (in_progress f.builder ++ l) / 64)) (in_progress f.builder ++ l))
@@ -99,7 +99,7 @@ parts-of f l =
       less = omega (arith, length-drop (64 * (length all / 64)) all);
     }
 
--- how many flags the parts are
+-- the number of flags in the parts
 pub parts-long : (f : Filling) (l : List Bool) (q : ℕ) (front rest : List Bool) → Parts f l q front rest
     → f.builder.length % 64 + length l ≡ 64 * q + length rest
 parts-long f l q front rest p =
@@ -165,7 +165,7 @@ module _ (f : Filling) (a b : List Bool) (q : ℕ) (front rest : List Bool) (p :
       ∙ appended-grown (grown f (length a) q front rest) b r front2 rest2 next-parts
       ∙ grown-grown ∙ sym (appended-grown f (a ++ b) (q + r) (front ++ front2) rest2 both-parts)
 
--- appending one list, then another, is appending both in a row
+-- appending one list, then another, equals appending the two joined
 pub append-append : (f : Filling) (a b : List Bool) → appended (appended f a) b ≡ appended f (a ++ b)
 append-append f a b =
     let all = in_progress f.builder ++ a in
@@ -188,7 +188,7 @@ low-list zero l e = sym (none-zero l e)
 low-list (suc k) [] e = refl
 low-list (suc k) (x ∷ l) e = ap (λ (n : ℕ). n * 2 + digit x) (low-list k l e)
 
--- a word with no flag from k on is that of its first flags
+-- a word with no set flag at k or above is the word of its first k flags
 pub low_word : (k w : ℕ) → w < 2 ^ 64 → none_from w k ≡ true → word_of (take k (bits 64 w)) ≡ w
 low_word k w h e = low-list k (bits 64 w) (not-true (any_set (drop k (bits 64 w))) e) ∙ word_of_bits 64 w h
 
@@ -231,7 +231,7 @@ append-none f h e =
     (progress-word f.builder h e)
     (ap (over_from f.bytes (8 * (f.builder.length / 64))) (no_bytes []) ∙ over_from-none f.bytes (8 * (f.builder.length / 64)))
 
--- ---- the promises of a call that appends
+-- ---- the two clauses of a call that appends: its answer and its bytes
 
 pub append-way : (r m : ℕ) (s b : BitmapBuilder) (old out : List ℕ) (f : Filling) (l : List Bool) → r ≡ m → r ≡ 0
     → filling b out ≡ appended f l
@@ -240,20 +240,20 @@ append-way r m s b old out f l e h p =
     given-way r m s old e b (appended f l).builder out (appended f l).bytes h (ap (λ (x : Filling). x.builder) p)
     (ap (λ (x : Filling). x.bytes) p)
 
--- a record that was given: the same answer as a number and the record that is left
+-- an answer that returns a record equals the answer made of number 0 and that record
 pub change-done : {S : Type 0} (b : S) (r : Answer S S) → given b ≡ r → decided 0 b b ≡ r
 unfolding decided
 change-done b r e = e
 
--- a record that is left as it was
+-- a refusal leaves the record unchanged
 pub refused-kept : {S : Type 0} (n m : ℕ) (b s a : S) → refused n b ≡ decided m s a → decided n s s ≡ decided m s a
 unfolding decided
 refused-kept n zero b s a e = absurd (let z : ◌≡◌ {A = ℕ} 0 1 = cc e in omega arith)
 refused-kept n (suc m) b s a e = let same : n ≡ suc m = cc e in ap (λ (k : ℕ). decided k s s) same
 
--- ---- a push reads and gives length, word and ones; what else the record holds plays no part
+-- ---- a push reads and changes only length, word and ones; the record's other fields play no part
 
--- the length, word and ones of c in the record b
+-- the record b with the length, word and ones of c
 abbrev renewed : BitmapBuilder → BitmapBuilder → BitmapBuilder
 renewed b c = rebuilt b c.length c.word c.ones
 
@@ -283,7 +283,7 @@ take-copies zero n x h = refl
 take-copies (suc k) zero x h = absurd (omega arith)
 take-copies (suc k) (suc n) x h = ap (λ (t : List Bool). x ∷ t) (take-copies k n x (omega arith))
 
--- the first flags of a word of one flag
+-- the first k flags of a word of copies of x are k copies of x
 pub constant-front : (k w : ℕ) (x : Bool) → k ≤ 64 → bits 64 w ≡ copies 64 x → take k (bits 64 w) ≡ copies k x
 constant-front k w x h e = ap (take k) e ∙ take-copies k 64 x h
 

@@ -1,4 +1,4 @@
--- What each append appends, flag by flag: the statement of `specs/AppendPlain.antt`. Assumes nothing.
+-- What each append appends, flag by flag: the statements of `specs/AppendPlain.antt`.
 use Rattle.std.proofs.lemmas.Bool.{cases_lt, and_parts}
 use mathlib.Core.Path.{◌≡◌, refl, sym, ap, ap₂, ◌∙◌, subst}
 use mathlib.Core.Bool.{Bool, true, false, cond, ◌&&◌}
@@ -76,7 +76,7 @@ below_at n [] j e h = absurd (omega arith)
 below_at n (i ∷ idxs) zero e h = ltb-true i n (and_parts _ _ e).0
 below_at n (i ∷ idxs) (suc j) e h = below_at n idxs j (and_parts _ _ e).1 (omega arith)
 
--- flag i of a span, 0 at or past its length
+-- flag i of a span is the flag of the bytes, or 0 at or past the span's length
 padded : (bytes : List ℕ) (start n i : ℕ) → get_or (stretch bytes start n) i false ≡ cond (ltb i n) (flag_at bytes (start + i)) false
 padded bytes start n i =
     at-window (flags_of bytes) start n i ∙ go (ltb i n) ∙ ap (λ (x : Bool). cond (ltb i n) x false) (at-flags bytes (start + i))
@@ -85,7 +85,7 @@ padded bytes start n i =
     go true = refl
     go false = refl
 
--- flag j of a builder
+-- flag j of a builder is `builder_flag`
 pub at-builder : (b : BitmapBuilder) (buf : List ℕ) (j : ℕ) → j < b.length
     → get_or (builder_flags (filling b buf)) j false ≡ builder_flag b buf j
 unfolding builder_flags in_progress
@@ -184,7 +184,7 @@ plain (extend_opt_gather bytes start n idxs) b buf e =
       at = λ j h. at-gathered (stretch bytes start n) idxs j h ∙ padded bytes start n (get_or idxs j 0);
     }
 
--- ---- the flags of the builder that a call gives
+-- ---- the flags of the builder that a call returns
 
 module _ (a : Append) (b : BitmapBuilder) (buf : List ℕ) (new : BitmapBuilder) (e : given new ≡ append_answer a b buf) where
   passed : first_failed (append_checks a b buf) ≡ 0

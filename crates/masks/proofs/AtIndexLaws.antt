@@ -1,4 +1,4 @@
--- One index of masks that may be absent: what is known where the checks have passed. Assumes nothing.
+-- One index of masks that may be absent: what follows if the checks pass. For `and_not_at`.
 use Rattle.std.specs.Prelude.{Option, Some, None}
 use mathlib.Core.Path.{◌≡◌, sym, ◌∙◌, subst}
 use mathlib.Core.Bool.{Bool, false}
@@ -27,7 +27,7 @@ passed-mask (Some m) bytes i e =
     (span.starts, (span.short, ltb-true i m.length (check-allowed 5 (ltb i m.length) inside)))
 passed-mask None bytes i e = tt
 
--- and in each of two
+-- and in each of two such masks
 pub passed-masks : (A : Option Bitmap) (a_bytes : List ℕ) (B : Option Bitmap) (b_bytes : List ℕ) (i : ℕ)
     → first_failed (and_not_at_checks A a_bytes B b_bytes i) ≡ 0 → Indexed A i × Indexed B i
 unfolding and_not_at_checks
@@ -45,7 +45,7 @@ index-fits M m i e h =
     let p = present-indexed M m i e h in
     omega (arith, p.0, p.1.0, p.1.1)
 
--- the flag that is read is the mask's
+-- the flag that is read at start + i is flag i of the mask
 pub flag-inside : (M : Option Bitmap) (m : Bitmap) (bytes : List ℕ) (i : ℕ) (x : Bool) → M ≡ Some m → Indexed M i
     → x ≡ get_or (flags_of bytes) (m.start + i) false → x ≡ get_or (mask_flags m bytes) i false
 flag-inside M m bytes i x e h read = read ∙ sym (at_in (flags_of bytes) m.start m.length i (present-indexed M m i e h).1.1)

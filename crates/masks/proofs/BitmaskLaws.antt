@@ -1,4 +1,4 @@
--- A window of a span as a number, at any width, and a span cut in two. Assumes nothing.
+-- A window of a span as a number, at any width, for the searches and `get_u32`; and a span cut in two, for `split_at_unchecked`.
 use Rattle.std.proofs.lemmas.Bool.{cases_lt}
 use mathlib.Core.Path.{◌≡◌, sym, ap, ap₂, ◌∙◌}
 use mathlib.Core.Bool.{Bool, false, ◌&&◌}
@@ -28,7 +28,7 @@ ltb-min d j m h = ⊎_elim
     (λ (k : m ≤ j). le-ltb j (min d m) (omega arith) ∙ sym (le-ltb j m k))
     (cases_lt j m)
 
--- of the flags in range, with zeros behind them
+-- a window equals one of the flags in range, with zeros after them
 padded : (l : List Bool) (start n index d : ℕ)
     → window (window l start n) index d ≡ window (window l (start + index) (min d (n - index))) 0 d
 padded l start n index d = window-ext (window l start n) (window l (start + index) (min d (n - index))) index 0 d (λ j h.
@@ -53,7 +53,7 @@ window-value bytes start n index k r e p =
     ∙ word_of_padded 32 (window (flags_of bytes) (start + index) (min 32 (n - index)))
     (omega (arith, length-window (flags_of bytes) (start + index) (min 32 (n - index)))))
 
--- where all its flags are in the span
+-- if all its flags are in the span, the word loaded is the window
 pub window-whole : (bytes : List ℕ) (start n index bit r : ℕ) → r ≡ word_of (stretch bytes bit 32) → bit ≡ start + index → index + 32 ≤ n
     → r ≡ window_word bytes start n index
 window-whole bytes start n index bit r p e h =
@@ -66,7 +66,7 @@ window-none bytes start n index h =
     ∙ sym (bits-zero 32))
     ∙ word_of_bits 32 0 (pow_pos 32))
 
--- the flags of that number are those of the span
+-- the flags of a window's number are those of the span
 pub window-flags : (bytes : List ℕ) (start n index r : ℕ) → r ≡ window_word bytes start n index
     → bits 32 r ≡ window (stretch bytes start n) index 32
 unfolding window_word
@@ -76,7 +76,7 @@ window-flags bytes start n index r e =
 
 -- ---- a span cut in two
 
--- where its checks have passed
+-- what follows if the checks of the cut pass
 pub record SplitAllowed (start n at : ℕ) : Type 0 where
   pub starts : start + at ≤ limit
   pub reached : at ≤ n
@@ -93,7 +93,7 @@ split-allowed start n at size e =
       reached = leb-true at n (check-allowed 5 (leb at n) (both_right (within_limit (start + at) ∷ []) (check 6 (leb at n) ∷ []) both));
     }
 
--- the two parts in a row have the flags of the whole
+-- the flags of the two parts, joined, are those of the whole
 pub split-whole : (bytes : List ℕ) (start n at : ℕ) → at ≤ n
     → stretch bytes start at ++ stretch bytes (start + at) (n - at) ≡ stretch bytes start n
 split-whole bytes start n at h =

@@ -1,4 +1,4 @@
--- The checks of a call, put together from pieces, and what is known where all have passed. Assumes nothing.
+-- The checks of a call, composed of lists of checks, and what follows if all pass. For every function that makes checks.
 use Rattle.std.proofs.lemmas.Bool.{cases_lt, and_parts}
 use mathlib.Core.Path.{◌≡◌, refl, sym, ap, ap₂, ◌∙◌, subst}
 use mathlib.Core.Bool.{Bool, true, false, cond, ◌&&◌}
@@ -15,7 +15,7 @@ use Rattle.masks.specs.Checks.{Check, check, rank, place_in, earlier, failure, f
 use Rattle.masks.specs.Checks.{address_checks}
 use mathlib.Core.Logic.{⊎_elim}
 
--- ---- a choice by a test, where the test is known
+-- ---- a choice by a test whose outcome is known
 
 pub when-le : {A : Type 0} (a b : ℕ) (x y : A) → a ≤ b → x ≡ cond (leb a b) x y
 when-le a b x y h = ap (λ (t : Bool). cond t x y) (sym (le-leb a b h))
@@ -29,14 +29,14 @@ when-eq a b x y h = ap (λ (t : Bool). cond t x y) (sym (eq-eqb a b h))
 pub when-ne : {A : Type 0} (a b : ℕ) (x y : A) → (a ≡ b → ⊥) → y ≡ cond (eqb a b) x y
 when-ne a b x y h = ap (λ (t : Bool). cond t x y) (sym (ne_eqb a b h))
 
--- what holds of either choice
+-- what holds of both choices holds of the one made
 pub by-test : {A : Type 0} (P : A → Type 0) (a b : ℕ) (x y : A) → (a ≤ b → P x) → (b < a → P y) → P (cond (leb a b) x y)
 by-test P a b x y p q = ⊎_elim
     (λ (h : b < a). subst P (when-gt a b x y h) (q h))
     (λ (h : a ≤ b). subst P (when-le a b x y h) (p h))
     (cases_lt b a)
 
--- ---- pieces are put together
+-- ---- lists of checks are joined
 
 pub earlier-none : (a : ℕ) → earlier a 0 ≡ a
 unfolding earlier
@@ -60,7 +60,7 @@ first-least zero b p q h = absurd (p refl)
 first-least (suc a) zero p q h = absurd (q refl)
 first-least (suc a) (suc b) p q h = first_one a b h
 
--- the first of least rank among three, either way round
+-- `earlier` is associative
 pub earlier-assoc : (a b c : ℕ) → earlier (earlier a b) c ≡ earlier a (earlier b c)
 earlier-assoc zero b c = ap (λ (x : ℕ). earlier x c) (none-earlier b) ∙ sym (none-earlier (earlier b c))
 earlier-assoc (suc a) zero c = ap (λ (x : ℕ). earlier x c) (earlier-none (suc a)) ∙ ap (earlier (suc a)) (sym (none-earlier c))
@@ -76,13 +76,13 @@ earlier-assoc (suc a) (suc b) (suc c) = ⊎_elim
     (cases_lt (rank (suc c)) (rank (suc b))))
     (cases_lt (rank (suc b)) (rank (suc a)))
 
--- the number of two pieces in a row
+-- the number of two lists joined is the earlier of their numbers
 pub failed-append : (a b : List Check) → first_failed (a ++ b) ≡ earlier (first_failed a) (first_failed b)
 unfolding first_failed
 failed-append [] b = sym (none-earlier (first_failed b))
 failed-append (c ∷ a) b = ap (earlier (failure c)) (failed-append a b) ∙ sym (earlier-assoc (failure c) (first_failed a) (first_failed b))
 
--- how a call puts its pieces together: the number of two pieces is the earlier of their numbers
+-- how code composes two lists of checks: it takes the earlier of their numbers
 pub two-pieces : (a b r : ℕ) (A B : List Check) → r ≡ earlier a b → a ≡ first_failed A → b ≡ first_failed B → r ≡ first_failed (A ++ B)
 two-pieces a b r A B e p q = e ∙ ap₂ earlier p q ∙ sym (failed-append A B)
 
@@ -90,13 +90,13 @@ pub one-check : (r n : ℕ) (t u : Bool) → r ≡ cond t 0 n → t ≡ u → r 
 unfolding first_failed
 one-check r n t u e h = e ∙ ap (λ (x : Bool). cond x 0 n) h ∙ sym (earlier-none (cond u 0 n))
 
--- a check before others
+-- how code composes one check and the list after it
 pub check-before : (r n a b : ℕ) (t u : Bool) (cs : List Check) → r ≡ earlier a b → a ≡ cond t 0 n → t ≡ u → b ≡ first_failed cs
     → r ≡ first_failed (check n u ∷ cs)
 unfolding first_failed
 check-before r n a b t u cs e p h q = e ∙ ap₂ earlier (p ∙ ap (λ (x : Bool). cond x 0 n) h) q
 
--- ---- where all have passed
+-- ---- all checks pass
 
 pub passed-left : (a b : ℕ) → earlier a b ≡ 0 → a ≡ 0
 unfolding earlier
@@ -111,7 +111,7 @@ passed-left (suc a) (suc b) e = absurd (never (leb (rank (suc a)) (rank (suc b))
 pub passed-right : (a b : ℕ) → earlier a b ≡ 0 → b ≡ 0
 passed-right a b e = sym (none-earlier b) ∙ ap (λ (x : ℕ). earlier x b) (sym (passed-left a b e)) ∙ e
 
--- the answer of a call: refused where a number came out, given where none did
+-- the answer of a call: refused if the number is not 0, given if it is
 pub is-refused : {S A : Type 0} (n m : ℕ) (s : S) (a : A) → n ≡ m → (n ≡ 0 → ⊥) → refused n s ≡ decided m s a
 unfolding decided
 is-refused zero m s a e h = absurd (h refl)
@@ -121,7 +121,7 @@ pub is-given : {S A : Type 0} (n m : ℕ) (s : S) (a : A) → n ≡ m → n ≡ 
 unfolding decided
 is-given n m s a e h = ap (λ (x : ℕ). decided x s a) (sym h ∙ e)
 
--- a lent buffer: as it was where a number came out, else new
+-- a lent buffer: unchanged if the number is not 0, else new
 pub is-kept : {A : Type 0} (n m : ℕ) (new old : A) → n ≡ m → (n ≡ 0 → ⊥) → old ≡ kept m new old
 unfolding kept
 is-kept zero m new old e h = absurd (h refl)
@@ -140,12 +140,12 @@ pub is-empty : {A : Type 0} (n : ℕ) (x y : A) → n ≡ 0 → x ≡ unless_emp
 unfolding unless_empty
 is-empty n x y e = ap (λ (m : ℕ). unless_empty m x y) (sym e)
 
--- a check with a number that has passed
+-- a check whose number did not come out holds
 pub passed-one : (n : ℕ) (t : Bool) → cond t 0 (suc n) ≡ 0 → t ≡ true
 passed-one n true e = refl
 passed-one n false e = absurd (omega arith)
 
--- a check that stands first, and those behind it
+-- if a list passes, its first check holds, and the list after it passes
 pub first-allowed : (n : ℕ) (t : Bool) (cs : List Check) → first_failed (check (suc n) t ∷ cs) ≡ 0 → t ≡ true
 unfolding first_failed
 first-allowed n t cs e = passed-one n t (passed-left (cond t 0 (suc n)) (first_failed cs) e)
@@ -154,7 +154,7 @@ pub rest-allowed : (c : Check) (cs : List Check) → first_failed (c ∷ cs) ≡
 unfolding first_failed
 rest-allowed c cs e = passed-right (failure c) (first_failed cs) e
 
--- what is known of a span whose checks have passed
+-- what follows if the checks of a span pass
 pub record SpanAllowed (start n size : ℕ) : Type 0 where
   pub starts : start ≤ limit
   pub short : n ≤ limit
@@ -178,7 +178,7 @@ span-allowed start n size e =
       inside = leb-true (start + n) (8 * size) (passed-one 1 (leb (start + n) (8 * size)) three);
     }
 
--- a single check that has passed
+-- a list of one check that passes: the check holds
 pub check-allowed : (n : ℕ) (t : Bool) → first_failed (check (suc n) t ∷ []) ≡ 0 → t ≡ true
 unfolding first_failed
 check-allowed n t e = passed-one n t (sym (earlier-none (cond t 0 (suc n))) ∙ e)
@@ -187,19 +187,19 @@ pub address_allowed : (address : ℕ) → first_failed (address_checks address) 
 unfolding address_checks
 address_allowed address e = leb-true address 7 (check-allowed 7 (leb address 7) e)
 
--- the two halves of what has passed
+-- if two lists joined pass, each of them passes
 pub both_left : (A B : List Check) → first_failed (A ++ B) ≡ 0 → first_failed A ≡ 0
 both_left A B e = passed-left (first_failed A) (first_failed B) (sym (failed-append A B) ∙ e)
 
 pub both_right : (A B : List Check) → first_failed (A ++ B) ≡ 0 → first_failed B ≡ 0
 both_right A B e = passed-right (first_failed A) (first_failed B) (sym (failed-append A B) ∙ e)
 
--- checks that have passed before others
+-- after checks that pass, the number is that of the checks after them
 pub passed-before : (A B : List Check) (r n : ℕ) → n ≡ first_failed A → n ≡ 0 → r ≡ first_failed B → r ≡ first_failed (A ++ B)
 passed-before A B r n p z q =
     q ∙ sym (none-earlier (first_failed B)) ∙ ap (λ (x : ℕ). earlier x (first_failed B)) (sym z ∙ p) ∙ sym (failed-append A B)
 
--- a check that is made after the others have passed
+-- the number if the last check is made after the others pass
 pub last_made : (cs : List Check) (n k : ℕ) (t : Bool) → n ≡ first_failed cs → n ≡ 0
     → cond t 0 (suc k) ≡ first_failed (cs ++ (check (suc k) t ∷ []))
 unfolding first_failed
@@ -219,14 +219,14 @@ pub last-given : {S A : Type 0} (cs : List Check) (n k : ℕ) (t : Bool) (s : S)
 unfolding decided
 last-given cs n k t s a p z e = last-decided cs n k t true s a p z e
 
--- ---- a check that is made only where the others have passed: all of them are put before it
+-- ---- a check that is made only if the others pass: all of them come before it in the order
 
--- are all numbers of a list put before k
+-- whether all numbers of a list come before k in the order
 abbrev pub before : ℕ → List Check → Bool
 before k [] = true
 before k (c ∷ cs) = leb (rank c.number) (rank k) && before k cs
 
--- the code's tests of three parts: the value of the first two, then the third
+-- the code's tests of three parts, one after another: the value of the first two, then that of the third
 pub both-tested : (v r x y : Bool) → r ≡ x → r ≡ true → v ≡ y → (x && y) ≡ v
 both-tested v r x y e h p = rw (sym e ∙ h) (sym p)
 
@@ -249,7 +249,7 @@ unfolding possible
 possible-not b size v e h =
     first-decide v (none_from b.word (b.length % 64)) (leb b.ones (64 * (b.length / 64))) (leb (8 * (b.length / 64)) size) e h
 
--- the checks of a span: where start and length are within the limit, check 2 decides; else it is 1
+-- the checks of a span: if start and length are within the limit, the number is that of check 2; else it is 1
 span-number : (a b t : Bool) → a ≡ true → b ≡ true → cond t 0 2 ≡ earlier (cond a 0 1) (earlier (cond b 0 1) (earlier (cond t 0 2) 0))
 unfolding earlier rank place_in
 span-number true true true h k = refl
@@ -305,7 +305,7 @@ failed-ranked (c ∷ cs) k e n =
     (failure-ranked c (rank k) (leb-true (rank c.number) (rank k) (and_parts _ _ e).0))
     (failed-ranked cs k (and_parts _ _ e).1) n
 
--- the number of the checks that are put first, where one of them failed: the last one need not be made
+-- if one of the checks that come first fails, its number is the number of all: the last check need not be made
 pub first-number : (cs : List Check) (n k : ℕ) (t : Bool) → before (suc k) cs ≡ true → n ≡ first_failed cs → (n ≡ 0 → ⊥)
     → n ≡ first_failed (cs ++ (check (suc k) t ∷ []))
 first-number cs n k t b p z = p ∙ sym (failed-append cs (check (suc k) t ∷ []) ∙ ap (earlier (first_failed cs)) (single t) ∙ keeps t)
@@ -317,12 +317,12 @@ first-number cs n k t b p z = p ∙ sym (failed-append cs (check (suc k) t ∷ [
     keeps true = earlier-none (first_failed cs)
     keeps false = first-least (first_failed cs) (suc k) (λ e. z (p ∙ e)) (λ e. omega arith) (failed-ranked cs (suc k) b (λ e. z (p ∙ e)))
 
--- a refusal by the checks that are put first
+-- if one of the checks that come first fails, the call is refused by its number
 pub first-refused : {S A : Type 0} (cs : List Check) (n k : ℕ) (t : Bool) (s : S) (a : A) → before (suc k) cs ≡ true
     → n ≡ first_failed cs → (n ≡ 0 → ⊥) → refused n s ≡ decided (first_failed (cs ++ (check (suc k) t ∷ []))) s a
 first-refused cs n k t s a b p z = is-refused n (first_failed (cs ++ (check (suc k) t ∷ []))) s a (first-number cs n k t b p z) z
 
--- the words of n flags, against those of an output
+-- comparing the words of n flags with the words of an output equals comparing the bytes
 pub words-test : (n size : ℕ) → leb ((n + 63) / 64) (size / 8) ≡ leb (8 * ((n + 63) / 64)) size
 words-test n size = ⊎_elim
     (λ (h : size < 8 * ((n + 63) / 64)). lt-leb ((n + 63) / 64) (size / 8) (omega arith) ∙ sym (lt-leb (8 * ((n + 63) / 64)) size h))
@@ -332,7 +332,7 @@ words-test n size = ⊎_elim
 pub output-test : (n size k : ℕ) → k ≡ n / 64 + min 1 (n % 64) → leb k (size / 8) ≡ leb (8 * ((n + 63) / 64)) size
 output-test n size k d = let e : k ≡ (n + 63) / 64 = omega arith in ap (λ (x : ℕ). leb x (size / 8)) e ∙ words-test n size
 
--- ---- the two promises of a call that may write: its answer and its bytes
+-- ---- the two clauses of a call that may write: its answer and its bytes
 
 module _ {S A B : Type 0} (r m : ℕ) (s : S) (old : B) (e : r ≡ m) where
   pub refused-way : (a : A) (new : B) → (r ≡ 0 → ⊥) → (refused r s ≡ decided m s a) × (old ≡ kept m new old)

@@ -1,4 +1,4 @@
--- The words of a span: loaded at a byte, merged inside a byte, and what a cursor over them gives. Assumes nothing.
+-- The words of a span, loaded at a byte or merged inside a byte, and the answers of a cursor over them. For `BitChunks`.
 use mathlib.Core.Path.{◌≡◌, sym, ap, ap₂, ◌∙◌}
 use mathlib.Core.Bool.{Bool}
 use mathlib.Core.List.{List}
@@ -15,7 +15,7 @@ use Rattle.masks.specs.Chunks.{chunks_at, chunk_word, chunk_step, remainder_word
 use Rattle.masks.specs.Cursor.{item, ended}
 use Rattle.masks.specs.declared.chunks.BitChunks.{BitChunks}
 
--- two words, the second eight bytes further, merged inside their first byte
+-- two words, the second eight bytes after the first, merged at a bit inside their first byte
 pub inside-byte : (l : List Bool) (start k c n r : ℕ) → bits 64 c ≡ window l (8 * (start / 8 + 8 * k)) 64
     → bits 64 n ≡ window l (8 * (start / 8 + 8 * k + 8)) 64
     → bits 64 r ≡ merged (bits 64 c) (bits 64 n) (start % 8) → bits 64 r ≡ window l (start + 64 * k) 64
@@ -47,7 +47,7 @@ pub no_word : (bytes : List ℕ) (c : BitChunks) → c.length / 64 ≤ c.place �
 unfolding chunk_step
 no_word bytes c h = rw (le-ltb c.place (c.length / 64) h)
 
--- the flags behind the last whole word
+-- the flags after the last whole word
 pub remainder-value : (bytes : List ℕ) (start n r : ℕ) → r ≡ word_of (stretch bytes (start + n - n % 64) (n % 64))
     → r ≡ remainder_word bytes start n
 unfolding remainder_word

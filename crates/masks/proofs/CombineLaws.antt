@@ -1,4 +1,4 @@
--- The combinations: what is written, by flags and by bytes, and what the counts say. Assumes nothing.
+-- The combinations: what they write, as flags and as bytes, their shortcuts, and the counts and serials of their results.
 use Rattle.std.specs.Bool.{then_some}
 use Rattle.std.specs.Prelude.{Option, Some, None}
 use Rattle.std.proofs.Math.Nat.{max-zero}
@@ -42,7 +42,7 @@ over-small : (out : List ℕ) (l : List Bool) → Small out → Small (over out 
 unfolding over_from frozen
 over-small out l p = over_from-small out 0 (packed (frozen_size (length l)) l) p (packed-small (frozen_size (length l)) l)
 
--- whole words that were written over the front of an output
+-- if the flags of an output are whole words over its old flags, its bytes are the list's frozen bytes over the old bytes
 pub frozen-written : (out out' : List ℕ) (l : List Bool) → Small out → Small out' → flags_of out' ≡ over (flags_of out) (whole_words l)
     → out' ≡ over out (frozen l)
 frozen-written out out' l p q e =
@@ -60,7 +60,7 @@ unfolding either_all
 either_second x l true e = rw e
 either_second x l false e = rw e
 
--- the tests say which operation it is
+-- the operations that have no shortcut
 pub not-short : (op : Op) (n l r : ℕ) → (op ≡ AndNot) ⊎ ((op ≡ OrNot) ⊎ ((op ≡ Not) ⊎ (op ≡ Select))) → None ≡ shortcut op n l r
 unfolding shortcut
 not-short op n l r (inl e) = rw e
@@ -89,13 +89,13 @@ pub xor-mixed : (a b : Bool) → a ≡ false → b ≡ false → None ≡ xor_al
 unfolding xor_all
 xor-mixed a b e f = rw (e, f)
 
--- `xor` by its four tests
+-- the shortcut of `xor` by its four tests
 pub xor-by : (n l r : ℕ) (a b c d : Bool) (s : Option Bool) → eqb l n ≡ a → eqb r n ≡ b → eqb l 0 ≡ c → eqb r 0 ≡ d
     → s ≡ cond ((a && b) || (c && d)) (Some false) (cond ((c && b) || (a && d)) (Some true) None) → s ≡ shortcut Xor n l r
 unfolding shortcut
 xor-by n l r a b c d s p q u v e = rw (p, q, u, v) e
 
--- with a first mask that is all zero, and with one that is all one
+-- its shortcut if the first mask is all zeros by its count, and if it is all ones,
 pub xor-clear : (n m l r : ℕ) (s : Option Bool) → n ≡ m → eqb l n ≡ true → s ≡ xor_all (eqb r m) (eqb r 0) → s ≡ shortcut Xor n l r
 unfolding xor_all
 xor-clear n m l r s same e p = go (eqb r n) (eqb r 0) (eqb l 0) refl refl refl
@@ -125,7 +125,7 @@ xor-full n m l r s same e f p = go (eqb r n) (eqb r 0) refl refl
     go false true u v = xor-by n l r false false true true s e u f v (both false true u v)
     go false false u v = xor-by n l r false false true false s e u f v (both false false u v)
 
--- with one that is neither
+-- and if it is neither
 pub xor-other : (n l r : ℕ) → eqb l n ≡ false → eqb l 0 ≡ false → None ≡ shortcut Xor n l r
 xor-other n l r e f = xor-by n l r false (eqb r n) false (eqb r 0) None e refl f refl refl
 
@@ -227,7 +227,7 @@ constant-clear l m s t n =
     (length-window l s n ∙ sym (length-window m t n))
     ∙ zip-same ◌&&◌ (λ p q. cond p q false) else-clear (window l s n) (window m t n)
 
--- where the checks have passed, the lengths are equal
+-- if the checks pass, the lengths are equal
 pub select_lengths : (s : Bitmap) (s_bytes : List ℕ) (t : Bitmap) (t_bytes : List ℕ) (f : Bitmap) (f_bytes : List ℕ) (size : ℕ)
     → first_failed (select_checks s s_bytes t t_bytes f f_bytes size) ≡ 0 → (s.length ≡ t.length) × (s.length ≡ f.length)
 unfolding select_checks
@@ -252,7 +252,7 @@ pub constant-length : (A B : List Bool) (x : Bool) (s t n m : ℕ) → n ≡ m
     → zip_with (λ p q. cond p q x) (window A s n) (window B t n) ≡ zip_with (λ p q. cond p q x) (window A s n) (window B t m)
 constant-length A B x s t n m p = ap (λ (k : ℕ). zip_with (λ p q. cond p q x) (window A s n) (window B t k)) p
 
--- what a kernel wrote is what `select_constant` is to write
+-- what a kernel wrote is what `select_constant` must write
 as-constant : (F : List Bool) (a b : List ℕ) (sa sb n : ℕ) (x y : Bool) (out out' : List ℕ)
     → F ≡ zip_with (λ p q. cond p q y) (stretch a sa n) (stretch b sb n) → x ≡ y
     → out' ≡ over out (frozen F) → out' ≡ over out (frozen (zip_with (λ p q. cond p q x) (stretch a sa n) (stretch b sb n)))

@@ -1,4 +1,4 @@
--- Equality, edges and common ones. Assumes nothing.
+-- Equality, the number of edges and the number of common ones. For `eq`, `num_edges` and `num_intersections_with`.
 use mathlib.Core.Path.{◌≡◌, refl, sym, ap, ◌∙◌}
 use mathlib.Core.Bool.{Bool, true, false, xor, ◌&&◌}
 use mathlib.Core.List.{List, [], ◌∷◌, ◌++◌, zip_with}
@@ -20,7 +20,7 @@ use Rattle.masks.specs.Mask.{mask_checks}
 use Rattle.masks.specs.declared.bitmap.Bitmap.{Bitmap}
 use Rattle.masks.proofs.CheckLaws.{both_right, check-allowed}
 
--- lists of unequal lengths are not the same
+-- lists of unequal lengths are not equal
 pub lengths_differ : (a b : List Bool) → (length a ≡ length b → ⊥) → false ≡ same_flags a b
 lengths_differ a b h = go (same_flags a b) refl
   where
@@ -28,7 +28,7 @@ lengths_differ a b h = go (same_flags a b) refl
     go true e = absurd (h (ap length (same-equal a b e)))
     go false e = refl
 
--- a list against itself one flag on
+-- the edges of a list are the ones of the `xor` of the list with itself moved by one flag
 edges-zip : (l : List Bool) (s n : ℕ) → edges (window l s (suc n)) ≡ count (zip_with xor (window l s n) (window l (suc s) n))
 unfolding window edges count zip_with
 edges-zip l s zero = refl

@@ -1,4 +1,4 @@
--- Where a zero count is known: the statement of `specs/CountPlain.antt`. Assumes nothing.
+-- Which records have a known zero count: the statements of `specs/CountPlain.antt`.
 use Rattle.std.specs.Prelude.{Option, Some, None}
 use mathlib.Core.Path.{◌≡◌, refl, sym, ap, ap₂, ◌∙◌}
 use mathlib.Core.Bool.{Bool, true, false, cond, ◌&&◌, ◌||◌}
@@ -26,7 +26,7 @@ use Rattle.masks.proofs.AnswerLaws.{given-number, given-value}
 use Rattle.masks.proofs.CheckLaws.{both_left}
 use Rattle.masks.proofs.MaskLaws.{piece-allowed}
 
--- the count of a mask that a call with these checks gave
+-- an accepted call returns the mask that it made, with its count
 its_count : {S : Type 0} (cs : List Check) (s : S) (m made : Bitmap) → given m ≡ checked cs s made → m.unset ≡ made.unset
 its_count cs s m made e = ap (λ (x : Bitmap). x.unset) (given-value (first_failed cs) s m made e)
 
@@ -108,7 +108,7 @@ slice-counts m bytes offset n s e =
 
 -- ---- combinations
 
--- a pair's count, by the counts that its masks bring
+-- the count of a pair's result, by the counts of its masks
 pair-count : (op : Op) (a : Bitmap) (a_bytes : List ℕ) (b : Bitmap) (b_bytes out : List ℕ) (c : Bitmap) (l r : ℕ)
     → given c ≡ pair_of op a a_bytes b b_bytes out
     → Brings a a_bytes l → Brings b b_bytes r → c.unset ≡ result_count (shortcut op a.length l r) a.length
@@ -117,7 +117,7 @@ pair-count op a a_bytes b b_bytes out c l r e p q =
     its_count (pair_checks a a_bytes b b_bytes (length out)) tt c (pair_mask op a a_bytes b b_bytes) e
     ∙ ap₂ (λ (x y : ℕ). result_count (shortcut op a.length x y) a.length) (brought a a_bytes l p) (brought b b_bytes r q)
 
--- of no flags the count is 0, with a shortcut or without
+-- the count of no flags is 0, with a shortcut or without
 nothing : (s : Option Bool) (n : ℕ) → n ≡ 0 → result_count s n ≡ Some 0
 nothing (Some false) n e = ap Some e
 nothing (Some true) n e = none-known n e

@@ -1,4 +1,4 @@
--- What is known of a cursor whose checks have passed, and where they pass. Assumes nothing.
+-- What follows if the checks of a cursor pass, and cursors that pass them.
 use mathlib.Core.Path.{◌≡◌}
 use mathlib.Core.List.{List, [], ◌∷◌}
 use Prim.Native.Nat.{ℕ, ◌+◌, ◌*◌, ◌≤◌}
@@ -29,7 +29,7 @@ cursor-allowed start n place size e =
       reached = leb-true place n (check-allowed 5 (leb place n) (both_right (span_checks start n size) (check 6 (leb place n) ∷ []) e));
     }
 
--- a mask that has passed its checks: a cursor over it passes them at each of its places
+-- a cursor over a mask that passes its checks passes its own at each place up to the length
 pub over-mask : (m : Bitmap) (bytes : List ℕ) (place : ℕ) → first_failed (mask_checks m bytes) ≡ 0 → place ≤ m.length
     → first_failed (cursor_checks m.start m.length place (length bytes)) ≡ 0
 unfolding mask_checks cursor_checks

@@ -1,4 +1,4 @@
--- Where a call leaves its cursor: the statement of `specs/CursorPlain.antt`. Assumes nothing.
+-- Where a call leaves its cursor: the statements of `specs/CursorPlain.antt`.
 use Rattle.std.specs.Prelude.{Option, Some, None}
 use mathlib.Core.Path.{◌≡◌, refl, sym, ap, ◌∙◌, subst}
 use mathlib.Core.Bool.{Bool, true, false, cond, not}
@@ -77,7 +77,7 @@ chunk-places c bytes d =
           (ltb-false c.place (c.length / 64) r.0, r.1);
     }
 
--- behind the first flags of a list, which are alike, one is not
+-- the flag after the leading flags of a list that equal x is not x
 then-other : (x : Bool) (l : List Bool) → leading x l < length l → get_or l (leading x l) false ≡ not x
 unfolding leading
 then-other x [] h = absurd (omega arith)
@@ -86,11 +86,11 @@ then-other true (false ∷ l) h = refl
 then-other false (true ∷ l) h = refl
 then-other false (false ∷ l) h = then-other false l (omega arith)
 
--- the flags of a span from a place on
+-- the flags of a span, starting at a place
 abbrev rest_of : List ℕ → ℕ → ℕ → ℕ → List Bool
 rest_of bytes start n place = drop place (stretch bytes start n)
 
--- those of them that `take_leading_` takes
+-- the flags, starting at `place`, that `take_leading` takes
 module _ (x : Bool) (bytes : List ℕ) (start n place : ℕ) where
   rest-long : length (rest_of bytes start n place) ≡ n - place
   rest-long = length-drop place (stretch bytes start n) ∙ ap (λ (m : ℕ). m - place) (length-window (flags_of bytes) start n)
@@ -111,7 +111,7 @@ module _ (x : Bool) (bytes : List ℕ) (start n place : ℕ) where
   taken-inside : place ≤ n → place + leading x (rest_of bytes start n place) ≤ n
   taken-inside h = omega (arith, leading_le x (rest_of bytes start n place), rest-long)
 
--- the number that it gives
+-- the number that `take_leading` returns
 taken-number : (x : Bool) (c : BitmapIter) (bytes : List ℕ) (k : ℕ) (d : BitmapIter) → given (k, d) ≡ take_leading x c bytes
     → k ≡ leading x (rest_of bytes c.start c.length c.place)
 unfolding take_leading leading_from
@@ -188,7 +188,7 @@ unfolding true_step
 one_ended c d None e = cc
 one_ended c d (Some q) e = absurd (let z : ◌≡◌ {A = ℕ} 0 1 = cc in omega arith)
 
--- how many positions are given, and where the cursor is left
+-- the number of positions that `next_chunk` writes, and the cursor after it
 positions-given : (c : TrueIdxIter) (bytes : List ℕ) (room n : ℕ) (d : TrueIdxIter) → given (n, d) ≡ next_positions c bytes room
     → (n ≡ length (take room (left_of c bytes))) × (d ≡ true_moved c (place_behind c (left_of c bytes) room))
 unfolding next_positions

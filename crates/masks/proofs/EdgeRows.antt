@@ -1,4 +1,4 @@
--- The rows of `specs/EdgeRows.antt`, by computation. Assumes nothing.
+-- The rows of `specs/EdgeRows.antt`, by computation.
 use mathlib.Core.Path.{refl}
 use mathlib.Core.Bool.{xor}
 use Rattle.words.specs.Counts.{any_set}

@@ -1,4 +1,4 @@
--- The twelve proved examples of document 01, all at once and by computation. Assumes nothing.
+-- The twelve proved examples of document 01 (`specs/Examples.antt`), all at once and by computation.
 use mathlib.Core.Path.{refl}
 use mathlib.Core.Bool.{xor}
 use Rattle.words.specs.Counts.{any_set}

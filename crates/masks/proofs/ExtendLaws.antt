@@ -1,4 +1,4 @@
--- Long extensions: whole words written to the buffer, and a list appended in three parts. Assumes nothing.
+-- Long extensions: whole words written to the buffer, and a list appended in three parts. For `extend_constant` and `extend_from_slice`.
 use Rattle.std.proofs.lemmas.Bool.{and_parts}
 use Rattle.std.proofs.lemmas.List.{nil_from_length}
 use mathlib.Core.Path.{◌≡◌, refl, sym, ap, ap₂, ◌∙◌}
@@ -29,7 +29,7 @@ no_word : word_of [] ≡ 0
 unfolding word_of
 no_word = refl
 
--- what a helper wrote from the first unfilled word on
+-- the flags that a helper wrote, starting at word `at`, as bytes
 whole-written : (bytes out : List ℕ) (at q : ℕ) (l : List Bool) → length l ≡ 64 * q → Small bytes → Small out
     → flags_of out ≡ over_at (flags_of bytes) (8 * at) (whole_words l)
     → out ≡ over_from bytes at (packed (8 * q) l)
@@ -53,7 +53,7 @@ append-whole b bytes out q c l h e ones small small' put =
     ∙ ap₂ (λ (x : ℕ) (y : List ℕ). filling (rebuilt b (b.length + 64 * q) 0 (b.ones + x)) y) (sym ones)
     (sym (whole-written bytes out (8 * (b.length / 64)) q l e small small' put)))
 
--- words of a flag, for all of which there is room
+-- if there is room for q words of copies of x, all q are written
 pub words-filled : (F : List Bool) (out : List ℕ) (q m : ℕ) (x : Bool) → q ≤ m → flags_of out ≡ over F (copies (64 * min q m) x)
     → flags_of out ≡ over F (whole_words (copies (64 * q) x))
 unfolding whole_words
@@ -110,7 +110,7 @@ window-three l k a m c n x y e ex ey =
     ap₂ (λ (i j : ℕ). (window l k a ++ window l i m) ++ window l j c) ex ey
     ∙ sym (ap (window l k) e ∙ window-add l k (a + m) c ∙ ap (λ (t : List Bool). t ++ window l (k + (a + m)) c) (window-add l k a m))
 
--- what the test of the short path says: n flags are few, and the word in progress has room for them
+-- the test of the short path: n is at most 57, and the word in progress has room for n flags
 pub few-inside : (b : BitmapBuilder) (n : ℕ) (t : Bool) → t ≡ (leb n 57 && ltb (b.length % 64 + n) 64) → t ≡ true
     → (n ≤ 57) × (b.length % 64 + n < 64)
 few-inside b n t e h = (
@@ -118,13 +118,13 @@ few-inside b n t e h = (
   ltb-true (b.length % 64 + n) 64 (and_parts _ _ (sym e ∙ h)).1,
 )
 
--- the first flags of a word that was read from a flag on
+-- the first k flags of a word that was read starting at a flag
 pub stretch-front : (l : List Bool) (bit k w : ℕ) → k ≤ 64 → bits 64 w ≡ window l bit 64 → take k (bits 64 w) ≡ window l bit k
 stretch-front l bit k w h e =
     let z : bit + 0 ≡ bit = omega arith in
     ap (take k) e ∙ window-cut l bit 64 0 k (omega arith) ∙ ap (λ (x : ℕ). window l x k) z
 
--- a flag as a number, as std has it
+-- n times a flag as std's number is n times the flag as `digit`, and at most n
 pub ones-of : (n r : ℕ) (x : Bool) → r ≡ from_bool x → (n * r ≡ n * digit x) × (n * r ≤ n)
 ones-of n r true e = (ap (λ (x : ℕ). n * x) e, omega (arith, ap (λ (x : ℕ). n * x) e))
 ones-of n r false e = (ap (λ (x : ℕ). n * x) e, omega (arith, ap (λ (x : ℕ). n * x) e))

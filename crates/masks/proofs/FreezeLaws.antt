@@ -1,4 +1,4 @@
--- Freezing a builder: the word in progress behind the finished ones makes the frozen bytes. Assumes nothing.
+-- Freezing a builder: the finished words and the word in progress make the frozen bytes. For `freeze` and `into_opt_validity`.
 use Rattle.std.specs.Prelude.{Some, None}
 use mathlib.Core.Path.{◌≡◌, refl, sym, ap, ap₂, ◌∙◌}
 use mathlib.Core.Bool.{Bool, true, false, cond}
@@ -37,7 +37,7 @@ ones-fit b n size r =
     length-take-le (b.length % 64) (bits 64 b.word) (omega (arith, length-bits 64 b.word)) in
     omega (arith, low_count (b.length % 64) b.word r.low, count-le (take (b.length % 64) (bits 64 b.word)))
 
--- a list's own front, and more, written over it
+-- writing the first k flags of a list and then m over it is writing m at k
 over-own : (l m : List Bool) (k : ℕ) → k ≤ length l → over l (window l 0 k ++ m) ≡ over_at l k m
 unfolding over_at
 over-own l m k h =
@@ -61,7 +61,7 @@ unfolding window
 no-window l k = refl
 
 module _ (b : BitmapBuilder) (bytes : List ℕ) (r : Room b 0 (length bytes)) where
-  -- the frozen flags: the finished words, and what is behind them
+  -- the frozen flags: the finished words, and the flags after them
   flags-parts : (n k : ℕ) → 8 * n ≡ 64 * (b.length / 64) + k
       → window (builder_flags (filling b bytes)) 0 (8 * n) ≡ finished (filling b bytes) ++ window (in_progress b) 0 k
   unfolding builder_flags
@@ -86,7 +86,7 @@ module _ (b : BitmapBuilder) (bytes : List ℕ) (r : Room b 0 (length bytes)) wh
       ∙ sym (front-over (flags_of bytes) (window (builder_flags (filling b bytes)) 0 (8 * frozen_size b.length))))
       ∙ ap (λ (n : ℕ). over bytes (packed (frozen_size n) (builder_flags (filling b bytes)))) (sym (length-flags-of (filling b bytes)))
 
-  -- with a word in progress, which was stored
+  -- if there is a word in progress, storing it makes the frozen bytes
   pub freeze-word : (out : List ℕ) → (b.length % 64 ≡ 0 → ⊥) → Small bytes → Small out
       → flags_of out ≡ over_at (flags_of bytes) (8 * (8 * (b.length / 64))) (bits 64 b.word)
       → out ≡ frozen_over b bytes
@@ -95,7 +95,7 @@ module _ (b : BitmapBuilder) (bytes : List ℕ) (r : Room b 0 (length bytes)) wh
       let e : frozen_size b.length * 8 ≡ 64 * (b.length / 64) + 64 = omega arith in
       freeze-flags out 64 e small small' (put ∙ ap₂ (over_at (flags_of bytes)) at (sym (word-behind b r.low)))
 
-  -- with none
+  -- if there is none, the buffer holds the frozen bytes already
   pub freeze-whole : b.length % 64 ≡ 0 → Small bytes → bytes ≡ frozen_over b bytes
   freeze-whole h small =
       let e : frozen_size b.length * 8 ≡ 64 * (b.length / 64) + 0 = omega arith in
@@ -104,7 +104,7 @@ module _ (b : BitmapBuilder) (bytes : List ℕ) (r : Room b 0 (length bytes)) wh
 
 -- ---- the calls
 
--- no flag is appended
+-- the checks of `freeze` are those of an append of no flags
 pub same-checks : (b : BitmapBuilder) (size r : ℕ) → r ≡ first_failed (builder_checks b (b.length + 0) size)
     → r ≡ first_failed (freeze_checks b size)
 same-checks b size r e = e ∙ ap (λ (n : ℕ). first_failed (builder_checks b n size)) (add-zero b.length)
@@ -117,9 +117,9 @@ pub not-all-set : (b : BitmapBuilder) (n : ℕ) (m : Bitmap) → n ≡ all_ones 
 not-all-set b n m e h p =
     ap Some p ∙ ap (λ (t : Bool). cond t None (Some (frozen_mask b))) (sym (ne_eqb (all_ones b) b.length (λ q. h (e ∙ q))))
 
--- ---- what the frozen bytes and the count stand for
+-- ---- the flags of the frozen bytes, and the count
 
--- a list's own flags stand at the front of what its frozen bytes were written over
+-- a buffer with a list's frozen bytes written over its front begins with the list's flags
 pub frozen-front : (bytes : List ℕ) (l : List Bool) → frozen_size (length l) ≤ length bytes
     → window (flags_of (over bytes (frozen l))) 0 (length l) ≡ l
 unfolding frozen
@@ -147,14 +147,14 @@ progress-count : (b : BitmapBuilder) → none_from b.word (b.length % 64) ≡ tr
 unfolding in_progress
 progress-count b e = low_count (b.length % 64) b.word e
 
--- ones that are those of the finished words make all ones those of the builder's flags
+-- if `ones` counts the ones of the finished words, `all_ones` counts those of all the builder's flags,
 pub true-ones : (b : BitmapBuilder) (bytes : List ℕ) → Room b 0 (length bytes) → b.ones ≡ count (finished (filling b bytes))
     → all_ones b ≡ count (builder_flags (filling b bytes))
 unfolding builder_flags
 true-ones b bytes r e =
     ap₂ (λ (x y : ℕ). x + y) e (sym (progress-count b r.low)) ∙ sym (count-append (finished (filling b bytes)) (in_progress b))
 
--- and the known count that of its zeros
+-- and the known count is the number of its zeros
 pub true-zeros : (b : BitmapBuilder) (bytes : List ℕ) → Room b 0 (length bytes) → b.ones ≡ count (finished (filling b bytes))
     → b.length - all_ones b ≡ zeros (builder_flags (filling b bytes))
 unfolding zeros

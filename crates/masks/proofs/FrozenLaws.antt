@@ -1,4 +1,4 @@
--- Lists of flags as bytes: their flags, their size, and how a write that is known by its flags is known by its bytes. Assumes nothing.
+-- Lists of flags as bytes: their flags and their size; a write that is known by its flags is known by its bytes.
 use mathlib.Core.Path.{◌≡◌, refl, sym, ap, ap₂, ◌∙◌, subst}
 use mathlib.Core.Bool.{Bool}
 use mathlib.Core.List.{List, [], ◌∷◌, ◌++◌}
@@ -13,7 +13,7 @@ use Rattle.words.proofs.Bytes.{flags-append, flags-take, flags-drop, flags-over,
 use Rattle.words.proofs.Windows.{length-window, window-add, window-drop, in_window, bits-window, length_over, over_none, over-more}
 use Rattle.masks.specs.Frozen.{packed, over_from}
 
--- numbers that are bytes, as every lent list is
+-- lists of numbers below 256, as every lent list is
 abbrev pub Small : List ℕ → Type 0
 Small l = (k : ℕ) → get_or l k 0 < 256
 
@@ -60,7 +60,7 @@ pub over_from-none : (l : List ℕ) (at : ℕ) → over_from l at [] ≡ l
 unfolding over_from
 over_from-none l at = ap (λ (t : List ℕ). take at l ++ t) (over_none (drop at l)) ∙ take-append-drop at l
 
--- m behind a
+-- writing a and then m after it is writing both
 pub over_from-more : (l : List ℕ) (at : ℕ) (a m : List ℕ) → over_from (over_from l at a) (at + length a) m ≡ over_from l at (a ++ m)
 unfolding over_from over
 over_from-more l zero a m = ap (λ (n : ℕ). take n (over l a) ++ over (drop n (over l a)) m) (zero-add (length a)) ∙ over-more l a m
@@ -82,7 +82,7 @@ flags-over_from l at m =
     ∙ ap₂ (λ (x y : List Bool). x ++ y) (flags-take at l)
     (flags-over (drop at l) m ∙ ap (λ (t : List Bool). over t (flags_of m)) (flags-drop at l))
 
--- n bytes of m were written from the byte `at` on, as their flags say
+-- if the flags of an output are n bytes of m over the old flags, starting at byte `at`, its bytes are m packed over the old bytes
 pub written-bytes : (out out' : List ℕ) (at n : ℕ) (m : List Bool) → Small out → Small out'
     → flags_of out' ≡ over_at (flags_of out) (8 * at) (window m 0 (8 * n))
     → out' ≡ over_from out at (packed n m)
@@ -92,7 +92,7 @@ written-bytes out out' at n m p q e =
 
 -- ---- packed flags in two parts
 
--- only the flags that the bytes hold count
+-- packing n bytes uses only the first 8 * n flags
 pub packed-window : (n k : ℕ) (l : List Bool) → 8 * n ≤ k → packed n l ≡ packed n (window l 0 k)
 packed-window n k l h =
     flags-inj (packed n l) (packed n (window l 0 k)) (packed-small n l) (packed-small n (window l 0 k))

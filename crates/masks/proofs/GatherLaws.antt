@@ -1,4 +1,4 @@
--- Flags gathered by indices: index by index into a word, and word by word. Assumes nothing.
+-- Flags gathered by indices: index by index into a word, and word by word. For both gathers.
 use mathlib.Core.Path.{◌≡◌, refl, sym, ap, ap₂, ◌∙◌}
 use mathlib.Core.Bool.{Bool, false, ◌&&◌}
 use mathlib.Core.List.{List, [], ◌∷◌, ◌++◌, append-nil}
@@ -45,7 +45,7 @@ gathered_next l a i h =
     ap (λ (n : ℕ). gathered l (take n a)) (add-one i) ∙ ap (gathered l) (take-suc a i 0 h)
     ∙ gathered-append l (take i a) (get_or a i 0 ∷ []) ∙ ap (λ (t : List Bool). gathered l (take i a) ++ t) (one-gathered l (get_or a i 0))
 
--- the flag at an index of a span
+-- the flag at an index of a span is the flag of the bytes at start + index
 pub flag-inside : (l : List Bool) (s n at : ℕ) (x : Bool) → at < n → x ≡ get_or l (s + at) false → x ≡ get_or (window l s n) at false
 flag-inside l s n at x h e = sym (at-window l s n at ∙ ap (λ (t : Bool). t && get_or l (s + at) false) (lt-ltb at n h) ∙ sym e)
 
@@ -54,7 +54,7 @@ flag-past l s n at h = sym (at-window l s n at ∙ ap (λ (t : Bool). t && get_o
 
 -- ---- into a word
 
--- a flag behind the first i of a word
+-- joining one more flag to the first i of a word
 next-flag : (w v r i : ℕ) (x : Bool) → i < 64 → bits 64 v ≡ copies 64 x → bits 64 r ≡ window (take i (bits 64 w) ++ bits 64 v) 0 64
     → take (i + 1) (bits 64 r) ≡ take i (bits 64 w) ++ (x ∷ [])
 next-flag w v r i x h e p =
@@ -77,7 +77,7 @@ word-step l a w v r i at x inv h few ea ex ev er =
     next-flag w v r i x (omega arith) ev er
     ∙ ap₂ (λ (s : List Bool) (t : Bool). s ++ (t ∷ [])) inv (ex ∙ ap (λ (n : ℕ). get_or l n false) ea) ∙ sym (gathered_next l a i h)
 
--- ---- word by word: appending what is left gives what appending all of them gives
+-- ---- word by word: appending the flags that are left makes the builder that appending all of them makes
 
 pub part-step : (f g h : Filling) (l : List Bool) (p a rest : List ℕ) (w : ℕ) → appended g (gathered l a) ≡ f → a ≡ p ++ rest
     → take (length p) (bits 64 w) ≡ gathered l p → h ≡ appended g (take (length p) (bits 64 w)) → appended h (gathered l rest) ≡ f
@@ -100,7 +100,7 @@ pub nothing-left : (f g : Filling) (l : List Bool) (a : List ℕ) → appended g
 nothing-left f g l [] inv e none = sym none ∙ ap (appended g) (gathered_none l []) ∙ inv
 nothing-left f g l (i ∷ a) inv e none = absurd (omega arith)
 
--- ---- indices that are all below n, in std's words
+-- ---- indices that are all below n, by std's definition
 
 pub below-is-all : (n : ℕ) (a : List ℕ) → list_all (λ (i : ℕ). ltb i n) a ≡ all_below n a
 unfolding all_below

@@ -1,5 +1,5 @@
--- Flags for which the word in progress has room: what it takes to join them to it, and that a constant with room passes its
--- checks. Assumes nothing.
+-- Flags for which the word in progress has room: what is needed to join them to it. Also: a constant with room passes its
+-- checks.
 use mathlib.Core.Path.{◌≡◌, refl, sym, ap, ap₂, ◌∙◌}
 use mathlib.Core.Bool.{Bool, true, not}
 use mathlib.Core.List.{List, [], ◌∷◌, ◌++◌}
@@ -25,7 +25,7 @@ use Rattle.masks.proofs.ExtendLaws.{stretch-front}
 use Rattle.masks.proofs.PartLaws.{length-low}
 use Rattle.masks.proofs.RoomLaws.{none-behind}
 
--- ---- a word that is a list of k flags with zeros behind it
+-- ---- a word of k flags with zeros after them
 
 pub none-padded : (l : List Bool) (k v : ℕ) → length l ≡ k → k ≤ 64 → bits 64 v ≡ window l 0 64 → none_from v k ≡ true
 none-padded l k v e h p = ap (λ (t : List Bool). not (any_set (drop k t))) (p ∙ sym (bits-window 64 l)) ∙ none-behind l k e h
@@ -56,7 +56,7 @@ module _ (word flags rest k a : ℕ) (most : k ≤ 64) (less : a ≤ k) (low : b
       (front-padded (drop a (take k (bits 64 word))) (k - a) rest length-rest (omega arith) rest-padded)
       ∙ take-append-drop a (take k (bits 64 word))
 
--- it may be joined to those in progress
+-- a word of k flags that fit may be joined to the word in progress
 pub inside-padded : (b : BitmapBuilder) (l : List Bool) (k v m size : ℕ) → Room b m size → b.length % 64 + k < 64 → length l ≡ k
     → bits 64 v ≡ window l 0 64 → Inside b v k
 inside-padded b l k v m size r h e p =
@@ -65,7 +65,7 @@ inside-padded b l k v m size r h e p =
 
 -- ---- the checks of a constant
 
--- a builder with room passes those of a constant too
+-- a builder with room for n flags passes the checks of a constant of n flags
 pub constant-passed : (b : BitmapBuilder) (n size : ℕ) → Room b n size → 0 ≡ first_failed (constant_checks b size n)
 unfolding constant_checks
 constant-passed b n size r =

@@ -1,4 +1,4 @@
--- The flags of a span one by one, and how many alike stand next: word by word. Assumes nothing.
+-- The cursor over single flags of a span, and the length of the run of equal flags at its place, word by word. For `BitmapIter`.
 use mathlib.Core.Path.{◌≡◌, refl, sym, ap, ap₂, ◌∙◌}
 use mathlib.Core.Bool.{Bool, false}
 use mathlib.Core.List.{List, ◌++◌}
@@ -33,13 +33,13 @@ pub no_flag : (bytes : List ℕ) (c : BitmapIter) (k : ℕ) → c.place ≤ c.le
 unfolding flag_step
 no_flag bytes c k p h = rw (le-ltb (c.place + k) c.length (omega arith))
 
--- ---- how many alike
+-- ---- the length of a run of equal flags
 
 module _ (l : List Bool) (x : Bool) (at k r : ℕ) (inside : at + k ≤ length l) (e : r ≡ leading x (window l at k)) where
   parts : drop at l ≡ window l at k ++ drop (at + k) l
   parts = sym (take-append-drop k (drop at l)) ∙ ap₂ (λ (s t : List Bool). s ++ t) (sym (window-part l at k inside)) (drop-drop k at l)
 
-  -- another flag stands among k flags
+  -- one of the k flags at `at` differs: the run ends at the first that does
   pub some_alike : r < k → leading_from x l at ≡ r
   unfolding leading_from
   some_alike h = ap (leading x) parts ∙ leading-some x (window l at k) (drop (at + k) l) (omega (arith, length-window l at k)) ∙ sym e
@@ -47,7 +47,7 @@ module _ (l : List Bool) (x : Bool) (at k r : ℕ) (inside : at + k ≤ length l
   no_more : r ≤ k
   no_more = omega (arith, leading_le x (window l at k), length-window l at k)
 
-  -- all of them are alike
+  -- all of them are equal: the run goes on after them
   pub every-alike : k ≤ r → leading_from x l at ≡ r + leading_from x l (at + r)
   unfolding leading_from
   every-alike h =
@@ -55,7 +55,7 @@ module _ (l : List Bool) (x : Bool) (at k r : ℕ) (inside : at + k ≤ length l
       ap (leading x) parts ∙ leading-all x (window l at k) (drop (at + k) l) (omega (arith, length-window l at k))
       ∙ ap₂ (λ (i j : ℕ). i + leading x (drop (at + j) l)) (length-window l at k ∙ z) z
 
--- the flags from `place` to `at` are alike, in a span of so many flags
+-- the flags from `place` to `at` all equal x, in a span of `size` flags
 pub record Alike (l : List Bool) (x : Bool) (size place at : ℕ) : Type 0 where
   pub low : place ≤ at
   pub inside : at ≤ size
@@ -77,7 +77,7 @@ pub alike-whole : (l : List Bool) (x : Bool) (start size place at : ℕ) → Ali
     → size - place ≡ leading_from x (window l start size) place
 alike-whole l x start size place at a h = omega (arith, a.inside, alike-done l x start size place at a h)
 
--- the first k flags of a word that was read in the span
+-- the next k flags of the span, which are the first k flags of a word that was read
 module _ (l : List Bool) (x : Bool) (start size place at k w r : ℕ) (a : Alike (window l start size) x size place at)
     (most : k ≡ min (size - at) 64) (before : at < size) (flags : bits 64 w ≡ window l (start + at) 64)
     (same : r ≡ leading x (take k (bits 64 w))) where
@@ -111,7 +111,7 @@ module _ (l : List Bool) (x : Bool) (start size place at k w r : ℕ) (a : Alike
   pub alike-last : k ≤ r → size - at ≤ 64 → size - place ≡ leading_from x (window l start size) place
   alike-last h few = alike-whole l x start size place (at + k) (alike-on h) (omega arith)
 
--- the first k flags of a word that was read from `place` on
+-- a word was read at `place`, and one of its first k flags differs from x: the run ends before that flag
 pub word-alike : (l : List Bool) (x : Bool) (start size place k w r : ℕ) → place + k ≤ size
     → take k (bits 64 w) ≡ window l (start + place) k
     → r ≡ leading x (take k (bits 64 w)) → r < k → r ≡ leading_from x (window l start size) place
@@ -119,7 +119,7 @@ word-alike l x start size place k w r inside p e h =
     sym (some_alike (window l start size) x place k r (omega (arith, length-window l start size))
     (e ∙ ap (leading x) (p ∙ sym (in_window l start size place k inside))) h)
 
--- the same where these are all that is left, and alike
+-- a word was read at `place`, its first k flags all equal x, and they are the last of the span
 pub word-all-alike : (l : List Bool) (x : Bool) (start size place k w r : ℕ) → place + k ≡ size
     → take k (bits 64 w) ≡ window l (start + place) k
     → r ≡ leading x (take k (bits 64 w)) → k ≤ r → k ≡ leading_from x (window l start size) place

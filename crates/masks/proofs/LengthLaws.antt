@@ -1,4 +1,4 @@
--- Lengths of lists that are made flag by flag, and what check 9 gives. Assumes nothing.
+-- Lengths of lists that are made flag by flag, and what follows from check 9. For theorems on combinations.
 use mathlib.Core.Path.{◌≡◌, refl, ap}
 use mathlib.Core.Bool.{Bool}
 use mathlib.Core.List.{List, [], ◌∷◌, zip_with}

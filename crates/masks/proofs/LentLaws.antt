@@ -1,4 +1,4 @@
--- A span that was made by its checks: what is asked of it is what the call answers. Assumes nothing.
+-- A span that was made by its checks (`Lent`): a method on it answers as the call does.
 use mathlib.Core.Path.{◌≡◌, ap, ◌∙◌}
 use Prim.Native.Nat.{ℕ, zero, suc}
 use Rattle.std.proofs.Common.{Result, Err}
@@ -10,19 +10,19 @@ use Rattle.masks.specs.Refusal.{number}
 use Rattle.masks.specs.declared.refusal.Refusal.{Refusal}
 use Rattle.masks.specs.declared.span.Lent.{Lent}
 
--- the exit of a `?`
+-- the early exit of a `?`
 pub lent-exit : (result : Result Lent Refusal) (e : Refusal) → IsErrAnd result (λ (y : Refusal). y ≡ e)
     → lent_answer result ≡ refused (number e) tt
 lent-exit result e h = let p = err_from_is_err_and result h in ap lent_answer (p.1 ∙ ap (λ (y : Refusal). Err y) p.2)
 
--- where a check failed
+-- if a check fails, the call is refused by the same number
 pub refused-alike : {S A B : Type 0} (n k : ℕ) (s : S) (x : A) (a : B) → ◌≡◌ {A = Answer S A} (refused k s) (decided n s x)
     → ◌≡◌ {A = Answer S B} (refused k s) (decided n s a)
 unfolding decided
 refused-alike zero k s x a e = cc
 refused-alike {S} {A} {B} (suc n) k s x a e = let same : k ≡ suc n = cc in ap {B = Answer S B} (λ (m : ℕ). refused m s) same
 
--- where none did: what is asked of the one part is what is asked of the other
+-- if none fails, a value computed from the span that was made is the value that the call returns
 pub given-alike : {S A B : Type 0} (n : ℕ) (s : S) (x y : A) (f : A → B) (r : B) → ◌≡◌ {A = Answer S A} (given x) (decided n s y)
     → r ≡ f x → ◌≡◌ {A = Answer S B} (given r) (decided n s (f y))
 unfolding decided

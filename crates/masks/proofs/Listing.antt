@@ -1,5 +1,4 @@
--- A cursor's items, call by call: if each step gives the first of what is left and leaves the others, all that is left is listed.
--- Assumes nothing.
+-- The items of a cursor: if each call returns the first item of what is left and keeps the others, all that is left is listed.
 use mathlib.Core.Path.{◌≡◌, refl, sym, ap, ◌∙◌}
 use mathlib.Core.List.{List, [], ◌∷◌, ◌++◌}
 use Prim.Native.Nat.{ℕ, zero, suc, ◌<◌, ◌≤◌}
@@ -12,8 +11,8 @@ use Rattle.masks.specs.Cursor.{Step, item, ended}
 use Rattle.masks.specs.Listing.{item_then, listing, cursor_of, after_calls}
 use Rattle.masks.proofs.CheckLaws.{both_left, passed-before}
 
--- one call from c, where Ok says that its checks pass: the first item of what is left, and a cursor with the others before it
--- and nearer to the end; or none, where nothing is left
+-- one call from c, where Ok means that its checks pass: it returns the first item of what is left, and a cursor that keeps the others
+-- and is nearer to the end; or none, if nothing is left
 pub data Moves {C A : Type 0} (next : C → Answer C (Step C A)) (left : C → List A) (Ok : C → Type 0) (far : C → ℕ) (c : C) : Type 0 where
   gives : (a : A) (d : C) → next c ≡ given (item a d) → Ok d → far d < far c → left c ≡ a ∷ left d → Moves next left Ok far c
   ends : (d : C) → next c ≡ given (ended d) → left c ≡ [] → Moves next left Ok far c
@@ -45,12 +44,12 @@ module _ {C A : Type 0} (next : C → Answer C (Step C A)) where
       step (gives a d e o f g) again = an_item k c d a e ∙ ap (λ (t : List A). a ∷ t) (again d o f) ∙ sym g
       step (ends d e g) again = the_end k c d e ∙ sym g
 
--- checks that have passed hold for a cursor at any place up to the length,
+-- if the checks before check 6 pass, a cursor is accepted at any place up to the length,
 pub place-accepted : (A : List Check) (q n : ℕ) → first_failed A ≡ 0 → q ≤ n → first_failed (A ++ (check 6 (leb q n) ∷ [])) ≡ 0
 unfolding first_failed earlier
 place-accepted A q n e h = sym (passed-before A (check 6 (leb q n) ∷ []) 0 0 (sym e) refl (rw (le-leb q n h)))
 
--- also where they have passed at another place
+-- also if it was accepted at another place
 pub place-again : (A : List Check) (p q n : ℕ) → first_failed (A ++ (check 6 (leb p n) ∷ [])) ≡ 0 → q ≤ n
     → first_failed (A ++ (check 6 (leb q n) ∷ [])) ≡ 0
 place-again A p q n e h = place-accepted A q n (both_left A (check 6 (leb p n) ∷ []) e) h

@@ -1,4 +1,4 @@
--- The mask's checks, its count, and the count of a slice. Assumes nothing.
+-- The mask's checks, its count, and the count of a slice.
 use Rattle.std.proofs.lemmas.Bool.{cases_lt}
 use Rattle.masks.specs.declared.refusal.Refusal.{Refusal}
 use Rattle.masks.specs.declared.refusal.Refusal.TheVariants.{WrongRecount}
@@ -25,19 +25,19 @@ use Rattle.masks.specs.declared.bitmap.Bitmap.{Bitmap}
 use Rattle.masks.proofs.CheckLaws.{before, first-refused, last-refused, last-given, both_left, both_right}
 use Rattle.masks.proofs.CheckLaws.{span-allowed, SpanAllowed, rest-allowed, check-allowed}
 
--- what is known of a mask whose checks have passed
+-- what follows for the span of a mask if its checks pass
 pub mask-allowed : (m : Bitmap) (bytes : List ℕ) → first_failed (mask_checks m bytes) ≡ 0 → SpanAllowed m.start m.length (length bytes)
 unfolding mask_checks
 mask-allowed m bytes e =
     span-allowed m.start m.length (length bytes)
     (both_left (span_checks m.start m.length (length bytes)) (check 3 (count_valid m bytes) ∷ []) e)
 
--- its count is not known, or true: check 3 says just that
+-- if check 3 passes, the count is unknown or true
 count-true : (u : Option ℕ) (l : List Bool) → count_is u (zeros l) ≡ true → TrueCount u l
 count-true (Some z) l e = eqb-true z (zeros l) e
 count-true None l e = tt
 
--- a known count, compared with the zeros of the flags in the whole of the bytes
+-- comparing a known count with the zeros of the span, read from the whole of the bytes, is check 3
 pub known-valid : (u : Option ℕ) (z : ℕ) (bytes : List ℕ) (start n : ℕ) (r : Bool) → u ≡ Some z
     → r ≡ eqb z (zeros (stretch (take (length bytes - 0) (drop 0 bytes)) start n)) → r ≡ count_is u (zeros (stretch bytes start n))
 known-valid u z bytes start n r k e =
@@ -93,7 +93,7 @@ pub recounts-by : (old n z p : ℕ) → (z ≡ 0 → ⊥) → (z ≡ old → ⊥
 unfolding recounts
 recounts-by old n z p h k e = leb-less old n p ∙ rw (ne_eqb z 0 h, ne_eqb z old k, e)
 
--- recounted, kept, and not known
+-- the count of a slice: recounted, kept, or unknown
 pub cut-known : (old n cut x z : ℕ) (u : Option ℕ) (r : Result (Option ℕ) Refusal) → u ≡ Some z → recounts old n z ≡ true
     → r ≡ recounted_of z x n → x ≡ cut → r ≡ cut_of old n cut u
 unfolding recounted_of
@@ -126,7 +126,7 @@ pub within_both : (z cut n : ℕ) → cut ≤ z → z - cut ≤ n → Ok (Some (
 unfolding recounted_of
 within_both z cut n h k = rw (le-leb cut z h, le-leb (z - cut) n k)
 
--- what a cut says of check 7 and of the count
+-- whether check 7 passes, and the new count, by the value of `cut_of`
 pub cut_wrong : (old n cut : ℕ) (u : Option ℕ) → (Err WrongRecount) ≡ cut_of old n cut u → recount_valid old n cut u ≡ false
 cut_wrong old n cut u e = go (recount_valid old n cut u) e
   where
@@ -151,7 +151,7 @@ cut_right old n cut u v e = go (recount_valid old n cut u) e
     go true e = (refl, cc)
     go false e = absurd (let z : ◌≡◌ {A = ℕ} 0 1 = cc in omega arith)
 
--- every number of a piece's checks is put before 7
+-- every number of a piece's checks comes before 7 in the order
 pub piece-before : (m : Bitmap) (bytes : List ℕ) (offset n : ℕ) → before 7 (piece_checks m bytes offset n) ≡ true
 unfolding piece_checks mask_checks span_checks rank place_in
 piece-before m bytes offset n = refl

@@ -1,5 +1,4 @@
--- The next flag that is set in one mask and not in another: the checks, the words and blocks that are read, and the ways out.
--- Assumes nothing.
+-- The next flag that is set in one mask and not in another: the checks, the words and blocks read, and the ends. For `next_and_not`.
 use Rattle.std.specs.Prelude.{Option, Some, None}
 use Rattle.std.proofs.Math.Bool.{and_self}
 use mathlib.Core.Path.{◌≡◌, refl, sym, ap, ap₂, ◌∙◌, subst}
@@ -47,7 +46,7 @@ beside-allowed n (Some b) b_bytes e = (
 )
 beside-allowed n None b_bytes e = tt
 
--- where they have passed, the flags from the place on can be searched
+-- if the checks pass, the flags can be searched from the place to the length
 pub next-allowed : (a : Bitmap) (a_bytes : List ℕ) (S : Option Bitmap) (b_bytes : List ℕ) (from : ℕ)
     → first_failed (next_checks a a_bytes S b_bytes from) ≡ 0
     → Searchable a S from a.length
@@ -64,7 +63,7 @@ next-allowed a a_bytes S b_bytes from e =
       inside = omega arith;
     }
 
--- they pass at each place up to the length, if at one
+-- if the checks pass at one place, they pass at each place up to the length
 pub elsewhere-accepted : (a : Bitmap) (a_bytes : List ℕ) (S : Option Bitmap) (b_bytes : List ℕ) (from at : ℕ)
     → first_failed (next_checks a a_bytes S b_bytes from) ≡ 0 → at ≤ a.length → first_failed (next_checks a a_bytes S b_bytes at) ≡ 0
 unfolding next_checks
@@ -78,13 +77,13 @@ elsewhere-accepted a a_bytes S b_bytes from at e h =
     (passed-before (other_checks a.length S b_bytes) new 0 0 (sym beside) refl
     (one-check 0 6 true (leb at a.length) refl (sym (le-leb at a.length h)))))
 
--- and those before it
+-- and the flags before the place can be searched too
 pub before-allowed : (a : Bitmap) (S : Option Bitmap) (from : ℕ) → Searchable a S from a.length → Searchable a S 0 from
 before-allowed a S from s = record { starts = s.starts; short = s.short; beside = s.beside; ordered = omega arith; inside = s.ordered }
 
 -- ---- the flags
 
--- a second mask that an arm has
+-- what is known of the second mask holds of the one that a match arm binds
 beside-here : (n : ℕ) (S : Option Bitmap) (b : Bitmap) → S ≡ Some b → Beside n S → Beside n (Some b)
 beside-here n S b e h = subst (λ (o : Option Bitmap). Beside n o) e h
 
@@ -100,7 +99,7 @@ module _ (a : Bitmap) (a_bytes : List ℕ) (b : Bitmap) (b_bytes : List ℕ) (sa
       ap (λ (n : ℕ). zip3 (op_of AndNot) (window (flags_of a_bytes) a.start a.length) (window (flags_of b_bytes) b.start n)
       (window (flags_of b_bytes) b.start n)) same
 
-  -- a part, from stretches of the two buffers
+  -- the operation on stretches of the two buffers is a part of its flags on the masks
   each_part : (at k : ℕ) → at + k ≤ a.length
       → zip3 (op_of AndNot) (window (flags_of a_bytes) (a.start + at) k) (window (flags_of b_bytes) (b.start + at) k)
       (window (flags_of b_bytes) (b.start + at) k)
@@ -110,7 +109,7 @@ module _ (a : Bitmap) (a_bytes : List ℕ) (b : Bitmap) (b_bytes : List ℕ) (sa
       zip-part (op_of AndNot) (flags_of a_bytes) (flags_of b_bytes) (flags_of b_bytes) a.start b.start b.start a.length at k h
       ∙ ap (λ (l : List Bool). window l at k) is-each
 
-  -- the first k flags of a word of both
+  -- and so are the first k flags of a word of both
   each_word : (at k u v w : ℕ) → k ≤ 64 → at + k ≤ a.length → bits 64 u ≡ window (flags_of a_bytes) (a.start + at) 64
       → bits 64 v ≡ window (flags_of b_bytes) (b.start + at) 64 → bits 64 w ≡ zip_with and_not (bits 64 u) (bits 64 v)
       → take k (bits 64 w) ≡ window (free_flags a a_bytes (Some b) b_bytes) at k
@@ -129,7 +128,7 @@ module _ (a : Bitmap) (a_bytes : List ℕ) (b : Bitmap) (b_bytes : List ℕ) (sa
       ∙ zip-starts (op_of AndNot) A B B x y y (x + 0) (y + 0) (y + 0) k (add-zero x) (add-zero y) (add-zero y)
       ∙ each_part at k h
 
--- the second mask of an arm
+-- there is a second mask
 module _ (a : Bitmap) (a_bytes : List ℕ) (S : Option Bitmap) (b_bytes : List ℕ) (b : Bitmap) (here : S ≡ Some b)
     (beside : Beside a.length S) where
   same_length : a.length ≡ b.length
@@ -148,7 +147,7 @@ module _ (a : Bitmap) (a_bytes : List ℕ) (S : Option Bitmap) (b_bytes : List �
       → take k (bits 64 w) ≡ window (free_flags a a_bytes S b_bytes) at k
   word-both at k u v w few h p q op = each_word a a_bytes b b_bytes same_length at k u v w few h p q op ∙ to-here at k
 
--- no second mask
+-- there is no second mask
 module _ (a : Bitmap) (a_bytes : List ℕ) (S : Option Bitmap) (b_bytes : List ℕ) (gone : S ≡ None) where
   own-part : (at k : ℕ) → at + k ≤ a.length → window (flags_of a_bytes) (a.start + at) k ≡ window (free_flags a a_bytes S b_bytes) at k
   unfolding free_flags
@@ -168,7 +167,7 @@ module _ (a : Bitmap) (a_bytes : List ℕ) (S : Option Bitmap) (b_bytes : List �
       ap (take k) p ∙ window-cut (flags_of a_bytes) (a.start + at) 64 0 k (omega arith)
       ∙ ap (λ (x : ℕ). window (flags_of a_bytes) x k) (add-zero (a.start + at)) ∙ own-part at k h
 
--- there are as many as the first mask has
+-- the flags searched are as many as the first mask has
 pub free-length : (a : Bitmap) (a_bytes : List ℕ) (S : Option Bitmap) (b_bytes : List ℕ) → Beside a.length S
     → length (free_flags a a_bytes S b_bytes) ≡ a.length
 unfolding free_flags
@@ -183,11 +182,11 @@ none-set [] e = omega arith
 none-set (true ∷ m) e = absurd (let z : ◌≡◌ {A = ℕ} 0 1 = cc e in omega arith)
 none-set (false ∷ m) e = let ih : length m ≤ leading false m = none-set m e in omega arith
 
--- of k flags of a word at most k lead
+-- at most k of the first k flags of a word lead
 pub word-most : (k w r : ℕ) → r ≡ leading false (take k (bits 64 w)) → r ≤ k
 word-most k w r e = omega (arith, leading_le false (take k (bits 64 w)), length-take k (bits 64 w))
 
--- `end` flags of n, and k of them from `at` on
+-- the first `end` of n flags, and the k of them that start at `at`
 module _ (Z : List Bool) (n end from at k : ℕ) (long : length Z ≡ n) (reach : end ≤ n) (p : PassedTo (take end Z) end from at)
     (fits : at + k ≤ end) where
   in-front : window (take end Z) at k ≡ window Z at k
@@ -204,11 +203,11 @@ module _ (Z : List Bool) (n end from at k : ℕ) (long : length Z ≡ n) (reach 
     no_more : r ≤ k
     no_more = omega (arith, leading_le false (window Z at k), length-window Z at k)
 
-    -- a flag among them is set
+    -- one of these k flags is set: the search ends there
     pub passed-stop : r < k → at + r - from ≡ leading_from false (take end Z) from
     passed-stop h = omega (arith, p.low, p.same, some_alike (take end Z) false at k r in_list in-part h)
 
-    -- none is
+    -- none is set: the search goes on after them
     pub passed-more : k ≤ r → PassedTo (take end Z) end from (at + r)
     passed-more h = record {
       low = omega (arith, p.low);
@@ -228,7 +227,7 @@ module _ (n from w : ℕ) (few : n ≤ 64) (inside : from ≤ n) where
   pub long-word : length (take n (bits 64 w)) ≡ n
   long-word = length-take-le n (bits 64 w) (omega (arith, length-bits 64 w))
 
-  -- those from the place on
+  -- the leading zeros from the place to the end
   pub word-ahead : (v r : ℕ) → bits 64 v ≡ window (bits 64 w) from 64 → r ≡ leading false (take (n - from) (bits 64 v))
       → r ≡ leading_from false (take n (take n (bits 64 w))) from
   unfolding leading_from
@@ -244,12 +243,12 @@ module _ (n from w : ℕ) (few : n ≤ 64) (inside : from ≤ n) where
       e ∙ ap (leading false) (part ∙ sym (in-front l 64 n from from k (length-bits 64 w) few begun (omega arith)) ∙ all)
       ∙ ap (λ (m : List Bool). leading false (drop from m)) (sym (take-take n n l (omega arith)))
 
-  -- those before it
+  -- the leading zeros before the place
   pub word-before : (r : ℕ) → r ≡ leading false (take from (bits 64 w)) → r ≡ leading_from false (take from (take n (bits 64 w))) 0
   unfolding leading_from
   word-before r e = e ∙ ap (leading false) (sym (take-take from n (bits 64 w) inside))
 
--- what the flags are is found in them
+-- the answer found in a word that holds all the flags is that of the flags
 pub found-word : (a : Bitmap) (a_bytes : List ℕ) (S : Option Bitmap) (b_bytes : List ℕ) (n from w : ℕ) (r : Found) → Beside n S
     → n ≡ a.length → take n (bits 64 w) ≡ window (free_flags a a_bytes S b_bytes) 0 n → r ≡ next_set n (take n (bits 64 w)) from
     → r ≡ next_set a.length (free_flags a a_bytes S b_bytes) from
@@ -258,7 +257,7 @@ found-word a a_bytes S b_bytes n from w r h z p e =
     let long : n ≡ length Z = z ∙ sym (free-length a a_bytes S b_bytes (subst (λ (x : ℕ). Beside x S) z h)) in
     e ∙ ap₂ (λ (x : ℕ) (l : List Bool). next_set x l from) z (p ∙ ap (window Z 0) long ∙ window-all Z)
 
--- all are passed over
+-- all flags are passed over
 pub passed-end : (Z : List Bool) (n end from at : ℕ) → length Z ≡ n → end ≤ n → PassedTo (take end Z) end from at → end ≤ at
     → at - from ≡ leading_from false (take end Z) from
 passed-end Z n end from at long reach p h =
@@ -270,7 +269,7 @@ module _ (Z : List Bool) (n from ahead : ℕ) (long : length Z ≡ n) (inside : 
   ahead-all : ahead ≡ leading_from false Z from
   ahead-all = e ∙ ap (λ (l : List Bool). leading_from false l from) (take_all n Z (omega arith))
 
-  -- from the place on
+  -- a flag is found at or after the place
   pub found-ahead : (position read : ℕ) → ahead < n - from → position ≡ from + ahead → read ≡ ahead / 32 + 1
       → record { position = Some position; windows = read } ≡ next_set n Z from
   unfolding next_set going_round
@@ -280,7 +279,7 @@ module _ (Z : List Bool) (n from ahead : ℕ) (long : length Z ≡ n) (inside : 
       ap (λ (x : ℕ). record { position = Some position; windows = x }) w
       ∙ ap (λ (o : Option ℕ). going_round n from o (nth_from Z 0 0)) there
 
-  -- there is none: before it
+  -- none is found there: it is before the place, or there is none at all
   module _ (passed before : ℕ) (few : n - from ≤ ahead) (w : passed ≡ windows_of (n - from))
       (f : before ≡ leading_from false (take from Z) 0) where
     none_ahead : None ≡ nth_from Z 0 from

@@ -1,5 +1,5 @@
--- Where the next set flag is, going round once: the positions of set flags from a place on and then those before it, of which the
--- first is given; and what an accepted `next_and_not` says of its masks. Assumes nothing.
+-- Where the next set flag is, going round once: the positions of set flags from a place to the end and then those before the place; the
+-- first of them is returned. Also: what follows for the masks if `next_and_not` is accepted.
 use Rattle.std.specs.Prelude.{Option, Some, None, slice_get}
 use Rattle.std.proofs.lemmas.Bool.{cases_lt}
 use Rattle.std.proofs.lemmas.Option.{none-some, same_Some}
@@ -28,7 +28,7 @@ use Rattle.masks.proofs.PairPlain.{at-and-not}
 use Rattle.masks.proofs.SearchCursor.{forward-nth}
 use Rattle.masks.proofs.SearchPlain.{forward-none, forward-some}
 
--- a position that is given lies at or after the place, in the list
+-- a position that is returned lies at or after the place, in the list
 pub some-ahead : (l : List Bool) (from p : ℕ) → nth_from l 0 from ≡ Some p → (from ≤ p) × (p < length l)
 some-ahead l from p e = ⊎_elim
     (λ (h : 0 < count (drop from l)).
@@ -38,14 +38,14 @@ some-ahead l from p e = ⊎_elim
     (λ (h : count (drop from l) ≤ 0). absurd (none-some p (sym (forward-none l 0 from h) ∙ e)))
     (cases_lt 0 (count (drop from l)))
 
--- where none is given no flag is set from there on
+-- if none is returned, no flag at or after the place is set,
 pub none-counted : (l : List Bool) (from : ℕ) → nth_from l 0 from ≡ None → count (drop from l) ≡ 0
 none-counted l from e = ⊎_elim
     (λ (h : 0 < count (drop from l)). absurd (none-some (forward-some l 0 from h).0 (sym e ∙ (forward-some l 0 from h).1.0)))
     (λ (h : count (drop from l) ≤ 0). omega arith)
     (cases_lt 0 (count (drop from l)))
 
--- and then the first of all lies before it
+-- and then the first set flag of the list lies before the place
 pub some-before : (l : List Bool) (from p : ℕ) → nth_from l 0 from ≡ None → nth_from l 0 0 ≡ Some p → p < from
 unfolding nth_from
 some-before l from p e f =
@@ -61,9 +61,9 @@ some-before l from p e f =
     (λ (h : count l ≤ 0). absurd (none-some p (sym (forward-none l 0 0 h) ∙ f)))
     (cases_lt 0 (count l))
 
--- ---- positions of set flags, from a place on
+-- ---- positions of set flags, starting at a place
 
--- those of m positions from a on for which f is true, in order
+-- the positions among m, starting at a, for which f is true, in order
 unfoldable pub ones : (ℕ → Bool) → ℕ → ℕ → List ℕ
 ones f a zero = []
 ones f a (suc m) = cond (f a) (a ∷ ones f (suc a) m) (ones f (suc a) m)
@@ -75,7 +75,7 @@ ones-same f g a (suc m) h =
     ap₂ (λ (x : Bool) (t : List ℕ). cond x (a ∷ t) t) (h a (omega arith) (omega arith))
     (ones-same f g (suc a) m (λ j p q. h j (omega arith) (omega arith)))
 
--- the positions of ones of a list that begins at k
+-- these positions for a list whose first flag has position k
 module _ (k : ℕ) (x : Bool) (m : List Bool) where
   flags : ℕ → Bool
   flags t = get_or (x ∷ m) (t - k) false
@@ -109,7 +109,7 @@ element_0 : (ts : List ℕ) → slice_get ts 0 ≡ head_of ts
 element_0 [] = refl
 element_0 (t ∷ ts) = refl
 
--- the first set flag from a place on is the first of these positions
+-- the first set flag at or after a place is the first of these positions
 pub first-listed : (l : List Bool) (from : ℕ) → nth_from l 0 from ≡ head_of (ones (λ (t : ℕ). get_or l t false) from (length l - from))
 unfolding ones_left
 first-listed l from =
@@ -119,9 +119,9 @@ first-listed l from =
     (λ j p q. let e : from + (j - from) ≡ j = omega arith in get_or-drop from l (j - from) false ∙ ap (λ (i : ℕ). get_or l i false) e)
     ∙ ap (ones (λ (t : ℕ). get_or l t false) from) (length-drop from l))
 
--- ---- the flags that a search goes by, of masks that have passed their checks
+-- ---- the flags that a search reads, if the masks pass their checks
 
--- each is that of `and_not` at its index
+-- each is the flag of `and_not` at its index
 pub free-flag : (a : Bitmap) (a_bytes : List ℕ) (S : Option Bitmap) (b_bytes : List ℕ) (i : ℕ) → Beside a.length S → i < a.length
     → get_or (free_flags a a_bytes S b_bytes) i false ≡ and_not_flag (Some a) a_bytes S b_bytes i
 unfolding free_flags and_not_flag flag_or

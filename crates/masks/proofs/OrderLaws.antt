@@ -1,4 +1,4 @@
--- The order of the checks: what a number that is put before others decides. Assumes nothing.
+-- The order of the checks: the effect of a number that comes before the others. For functions that check limits one by one.
 use Rattle.std.proofs.lemmas.Bool.{and_parts}
 use mathlib.Core.Path.{◌≡◌, sym, ap, ◌∙◌}
 use mathlib.Core.Bool.{Bool, true, false, cond, ◌&&◌}
@@ -10,7 +10,7 @@ use borrow.Author.Tests.{leb-true}
 use Rattle.masks.specs.Checks.{Check, rank, earlier, failure, first_failed, limit, within_limit}
 use Rattle.masks.proofs.CheckLaws.{earlier-none, first-least, earlier-assoc}
 
--- is k put before all numbers of a list
+-- whether no number of a list comes before k in the order
 abbrev pub leads : ℕ → List Check → Bool
 leads k [] = true
 leads k (c ∷ cs) = leb (rank k) (rank c.number) && leads k cs
@@ -26,7 +26,7 @@ led_failure k c h = go c.holds
     go true = earlier-none (suc k)
     go false = led_number k c.number h
 
--- then it decides, whatever of the list fails
+-- then k is the number, whichever checks of the list fail
 pub led : (k : ℕ) (cs : List Check) → leads (suc k) cs ≡ true → earlier (suc k) (first_failed cs) ≡ suc k
 unfolding first_failed
 led k [] e = earlier-none (suc k)
@@ -36,7 +36,7 @@ led k (c ∷ cs) e =
     (led_failure k c (leb-true (rank (suc k)) (rank c.number) (and_parts _ _ e).0))
     ∙ led k cs (and_parts _ _ e).1
 
--- a number over the limit decides, whatever else fails
+-- a number over the limit makes the refusal 1, whichever other checks fail
 pub limit-first : (n r : ℕ) (cs : List Check) → leads 1 cs ≡ true → r ≡ first_failed (within_limit n ∷ []) → (r ≡ 0 → ⊥)
     → r ≡ first_failed (within_limit n ∷ cs)
 unfolding first_failed

@@ -1,4 +1,4 @@
--- The rows of `specs/OrderRows.antt`, all at once and by computation. Assumes nothing.
+-- The rows of `specs/OrderRows.antt`, all at once and by computation.
 use mathlib.Core.Path.{refl}
 use mathlib.Core.Bool.{xor}
 use Rattle.words.specs.Counts.{any_set, same_flags}

@@ -1,5 +1,5 @@
--- A combination of two masks, flag by flag: what stands at a position of its flags, and that the mask that an accepted one gives has
--- these flags in the bytes that it writes, whatever its masks' counts are. Assumes nothing.
+-- A combination of two masks, flag by flag: the flag at a position of its result. An accepted combination returns a mask with these
+-- flags in the bytes that it writes, whatever the counts of its masks are.
 use Rattle.std.specs.Prelude.{Option, Some, None}
 use mathlib.Core.Path.{◌≡◌, refl, sym, ap, ap₂, ◌∙◌}
 use mathlib.Core.Bool.{Bool, false, not, ◌&&◌}
@@ -42,7 +42,7 @@ module _ (a : Bitmap) (a_bytes : List ℕ) (b : Bitmap) (b_bytes : List ℕ) (sa
       ∙ at-zip-in (op_of op) A B B a.start b.start b.start a.length j h
       ∙ ap₂ (λ (x y : Bool). op_of op x y y) (sym (at_in A a.start a.length j h)) second
 
-  -- `and_not` has no shortcut, so its flags are those whatever the counts say
+  -- `and_not` has no shortcut, so its flags are the operation whatever the counts are
   pub at-and-not : (j : ℕ) → j < a.length
       → get_or (pair_flags AndNot a a_bytes b b_bytes) j false
       ≡ (get_or (mask_flags a a_bytes) j false && not (get_or (mask_flags b b_bytes) j false))
@@ -65,7 +65,7 @@ module _ (a : Bitmap) (a_bytes : List ℕ) (b : Bitmap) (b_bytes : List ℕ) (sa
       go None = each-length op
       go (Some x) = length-copies a.length x
 
--- the mask that an accepted combination gives has the combination's flags in the bytes written
+-- the mask that an accepted combination returns has the combination's flags in the bytes written
 pub written-flags : (op : Op) (a : Bitmap) (a_bytes : List ℕ) (b : Bitmap) (b_bytes out : List ℕ)
     → first_failed (pair_checks a a_bytes b b_bytes (length out)) ≡ 0
     → mask_flags (pair_mask op a a_bytes b b_bytes) (pair_bytes op a a_bytes b b_bytes out) ≡ pair_flags op a a_bytes b b_bytes
@@ -86,7 +86,7 @@ written-flags op a a_bytes b b_bytes out e =
     when-passed : (k : ℕ) (new old : List ℕ) → k ≡ 0 → kept k new old ≡ new
     when-passed k new old z = sym (is-new k k new old refl z)
 
--- the masks of an accepted combination have no count or a true one
+-- the masks of an accepted combination have unknown or true counts
 pub pair-truthful : (a : Bitmap) (a_bytes : List ℕ) (b : Bitmap) (b_bytes : List ℕ) (size : ℕ)
     → first_failed (pair_checks a a_bytes b b_bytes size) ≡ 0 → Truthful a a_bytes × Truthful b b_bytes
 unfolding pair_checks
@@ -97,7 +97,7 @@ pair-truthful a a_bytes b b_bytes size e =
           (both_left (mask_checks b b_bytes) rest (both_right (mask_checks a a_bytes) (mask_checks b b_bytes ++ rest) e)),
     )
 
--- so it writes the operation flag by flag, shortcut or not
+-- so an accepted combination writes the operation flag by flag, with a shortcut or without
 pub written-each : (op : Op) (a : Bitmap) (a_bytes : List ℕ) (b : Bitmap) (b_bytes out : List ℕ)
     → first_failed (pair_checks a a_bytes b b_bytes (length out)) ≡ 0
     → mask_flags (pair_mask op a a_bytes b b_bytes) (pair_bytes op a a_bytes b b_bytes out) ≡ pair_each op a a_bytes b b_bytes

@@ -1,4 +1,4 @@
--- Counts over the three parts of a split, and over whole words from either end. Assumes nothing.
+-- Counts over the three parts of a split, and over whole words from both ends. For the five counts of `utils`.
 use mathlib.Core.Path.{◌≡◌, refl, sym, ap, ap₂, ◌∙◌}
 use mathlib.Core.Bool.{Bool, true, false, not}
 use mathlib.Core.List.{List, ◌++◌, map, append_assoc}
@@ -24,7 +24,7 @@ use Rattle.masks.specs.Workers.{zeros_of_all}
 pub length-low : (k w : ℕ) → k ≤ 64 → length (take k (bits 64 w)) ≡ k
 length-low k w h = length-take k (bits 64 w) ∙ omega (arith, length-bits 64 w)
 
--- a number of the k low flags of a word, which are those of a part, is that of the part, which has k flags
+-- a number f of the k low flags of a word is f of a part if these flags are the part; the part has k flags
 pub of-part : (f : List Bool → ℕ) (w k n : ℕ) (part : List Bool) → (k ≤ 64) × (take k (bits 64 w) ≡ part) → n ≡ f (take k (bits 64 w))
     → (n ≡ f part) × (length part ≡ k)
 of-part f w k n part h e = (e ∙ ap f h.1, ap length (sym h.1) ∙ length-low k w h.0)
@@ -35,7 +35,7 @@ count-taken k w r c p q = q ∙ ap count p ∙ count-padded (take k (bits 64 w))
 pub count-three : (A B C : List Bool) (a b c : ℕ) → a ≡ count A → b ≡ count B → c ≡ count C → a + b + c ≡ count (A ++ (B ++ C))
 count-three A B C a b c p q r = omega (arith, count-append A (B ++ C), count-append B C)
 
--- ---- flags alike at the front of three parts
+-- ---- equal flags at the front of three parts
 
 module _ (x : Bool) (A B C : List Bool) where
   pub front-middle : (a n b m : ℕ) → a ≡ leading x A → length A ≡ n → n ≤ a → b ≡ leading x B → length B ≡ m → b < m
@@ -45,7 +45,7 @@ module _ (x : Bool) (A B C : List Bool) where
       let two : leading x (B ++ C) ≡ leading x B = leading-some x B C (omega arith) in
       omega arith
 
-  -- ---- and at their end
+  -- ---- equal flags at their end
 
   end-one : trailing x (A ++ (B ++ C)) ≡ trailing x ((A ++ B) ++ C)
   end-one = ap (trailing x) (sym (append_assoc A B C))
@@ -57,13 +57,13 @@ module _ (x : Bool) (A B C : List Bool) where
       let two : trailing x (A ++ B) ≡ trailing x B = trailing-some x A B (omega arith) in
       omega arith
 
--- ---- whole words: i of them are alike, and the next is read
+-- ---- whole words: the flags of i of them are equal, and the next is read
 
 whole_word : (w : ℕ) → take 64 (bits 64 w) ≡ bits 64 w
 whole_word w = take_all 64 (bits 64 w) (omega (arith, length-bits 64 w))
 
 module _ (x : Bool) (l : List Bool) (s n : ℕ) where
-  -- the words up to i, the word i, the rest
+  -- the words before word i, word i, the rest
   front_cut : (i : ℕ) → i < n → window l s (64 * n) ≡ window l s (64 * i)
       ++ (window l (s + 64 * i) 64 ++ window l (s + 64 * i + 64) (64 * n - (64 * i + 64)))
   front_cut i h =
@@ -140,7 +140,7 @@ module _ (x : Bool) (l : List Bool) (s n : ℕ) where
       let same : window l (s + 64 * 0) (64 * (n - 0)) ≡ window l s (64 * n) = ap₂ (λ (y m : ℕ). window l y (64 * m)) f e in
       omega (arith, inv, ap (trailing x) same, trailing_le x (window l s (64 * n)), length-window l s (64 * n))
 
--- the zeros are what is not set
+-- the zeros are the flags that are not set
 pub zeros-rest : (l : List Bool) (n c : ℕ) → length l ≡ n → c ≡ count l → n - c ≡ zeros l
 unfolding zeros
 zeros-rest l n c e p = omega (arith, count-not l)
@@ -156,7 +156,7 @@ pub zeros-none : (bytes : List ℕ) (start n : ℕ) → n ≡ 0 → zeros (windo
 unfolding zeros
 zeros-none bytes start n e = omega (arith, count-not (window (flags_of bytes) start n), length-window (flags_of bytes) start n)
 
--- all flags are x just where the zeros are as many as they would then be
+-- all flags are x exactly if the number of zeros is `zeros_of_all x n`
 pub all-zeros : (x : Bool) (l : List Bool) (n : ℕ) (t : Bool) → length l ≡ n → t ≡ all_are x l → t ≡ eqb (zeros l) (zeros_of_all x n)
 unfolding zeros all_are
 all-zeros true l n t e p =
@@ -164,7 +164,7 @@ all-zeros true l n t e p =
 all-zeros false l n t e p =
     p ∙ eqb-both (count l) (length l * 0) (count (map not l)) n (λ h. omega (arith, count-not l)) (λ h. omega (arith, count-not l))
 
--- `zeros_of_all` is what it is called
+-- `zeros_of_all` is the number of zeros of n copies of x
 pub zeros_of_all_lem : (x : Bool) (n : ℕ) → zeros (copies n x) ≡ zeros_of_all x n
 unfolding zeros
 zeros_of_all_lem true n = omega (arith, count-not (copies n true), count-copies n true, length-copies n true)

@@ -1,4 +1,4 @@
--- Positions of ones written over an output, and the cursor behind them. Assumes nothing.
+-- Positions of ones written over an output, and the cursor after them. For `next_chunk`.
 use Rattle.std.proofs.lemmas.Bool.{cases_lt}
 use mathlib.Core.Path.{◌≡◌, refl, sym, ap, ap₂, ◌∙◌}
 use mathlib.Core.Bool.{Bool, true, false}
@@ -20,7 +20,7 @@ use Rattle.masks.proofs.FrozenLaws.{length-over_from, over_from-more, over_from-
 use Rattle.masks.proofs.TrueIdxLaws.{with-mask}
 use Rattle.masks.proofs.TrueIdxPlain.{unmasked}
 
--- ---- positions in a row
+-- ---- consecutive positions
 
 pub length-row : (k n : ℕ) → length (ones_from k (copies n true)) ≡ n
 unfolding ones_from copies
@@ -48,7 +48,7 @@ row-add k (suc n) m =
     ap (λ (x : ℕ). ones_from k (copies x true)) e
     ∙ ap (λ (t : List ℕ). k ∷ t) (row-add (suc k) n m ∙ ap (λ (x : ℕ). ones_from (suc k) (copies n true) ++ ones_from x (copies m true)) f)
 
--- what a loop over a part has written
+-- one more step of a loop that writes consecutive positions over a part
 pub row_step : (l : List ℕ) (first i x : ℕ) (part : List ℕ) → part ≡ over l (ones_from first (copies i true)) → x ≡ first + i
     → set part i x ≡ over l (ones_from first (copies (i + 1) true))
 row_step l first i x part p q =
@@ -74,7 +74,7 @@ row-all l first i part p a b =
     p ∙ ap (λ (x : ℕ). over l (ones_from first (copies x true))) n
     ∙ over-same l (ones_from first (copies (length l) true)) (sym (length-row first (length l)))
 
--- a part in the middle of an output
+-- writing positions over a part in the middle of an output
 pub row-mid : (out part : List ℕ) (at first n : ℕ) → at + n ≤ length out
     → part ≡ ones_from first (copies (length (take (at + n - at) (drop at out))) true)
     → take at out ++ (part ++ drop (at + n - at) (drop at out)) ≡ over_from out at (ones_from first (copies n true))
@@ -97,7 +97,7 @@ row-mid out part at first n h p =
     append-none [] = refl
     append-none (x ∷ m) = ap (λ (t : List ℕ). x ∷ t) (append-none m)
 
--- ---- more behind what was written
+-- ---- more positions after those written
 
 none_before : (n : ℕ) (m : List ℕ) → over_from [] n m ≡ []
 unfolding over_from over
@@ -121,7 +121,7 @@ over_from-past [] n m h = none_before n m
 over_from-past (x ∷ l) zero m h = absurd (omega arith)
 over_from-past (x ∷ l) (suc n) m h = one-before x l n m ∙ ap (λ (t : List ℕ). x ∷ t) (over_from-past l n m (omega arith))
 
--- a run that is cut where the output ends
+-- a run that is cut at the end of the output
 pub run-cut : (l : List ℕ) (n q ones k : ℕ) → n ≤ length l → k ≡ min ones (length l - n)
     → over_from l n (ones_from q (copies k true)) ≡ over_from l n (ones_from q (copies ones true))
 run-cut l n q ones k h e = ⊎_elim
@@ -133,7 +133,7 @@ run-cut l n q ones k h e = ⊎_elim
     (λ (all : ones ≤ k). let same : k ≡ ones = omega arith in ap (λ (x : ℕ). over_from l n (ones_from q (copies x true))) same)
     (cases_lt k ones)
 
--- ---- an output under way: what is left, written from the count on, gives what all, written from the first count on, gives
+-- ---- an output under way: writing what is left, at the count, ends in the same output as writing all, at the first count
 
 pub record UnderWay (out₀ : List ℕ) (done : ℕ) (all out : List ℕ) (count : ℕ) (left : List ℕ) : Type 0 where
   pub same_length : length out ≡ length out₀
@@ -167,7 +167,7 @@ module _ (out₀ : List ℕ) (done : ℕ) (all out : List ℕ) (count : ℕ) whe
         same_count = omega (arith, u.same_count, u.same_length);
       }
 
-  -- nothing is left, or the output is full
+  -- if nothing is left, or the output is full, all is written
   pub finished : (left : List ℕ) → UnderWay out₀ done all out count left → left ≡ []
       → (count ≡ min (length out₀) (done + length all)) × (out ≡ over_from out₀ done all)
   finished left u e =
@@ -178,7 +178,7 @@ module _ (out₀ : List ℕ) (done : ℕ) (all out : List ℕ) (count : ℕ) whe
       → (count ≡ min (length out₀) (done + length all)) × (out ≡ over_from out₀ done all)
   full left u h = (omega (arith, u.same_count, u.within), sym (over_from-past out count left h) ∙ u.same_out)
 
--- ---- the cursor behind what was written
+-- ---- the cursor after the positions written
 
 at-over : (l m : List ℕ) (k : ℕ) → k < length l → k < length m → get_or (over l m) k 0 ≡ get_or m k 0
 unfolding over
@@ -187,7 +187,7 @@ at-over (x ∷ l) [] k h g = absurd (omega arith)
 at-over (x ∷ l) (y ∷ m) zero h g = refl
 at-over (x ∷ l) (y ∷ m) (suc k) h g = at-over l m k (omega arith) (omega arith)
 
--- of k places, the last of which is written or not
+-- the place after k + 1 positions: one past the last of them, or the length if fewer are left
 pub behind-many : (c : TrueIdxIter) (left : List ℕ) (k : ℕ) → k < length left → place_behind c left (suc k) ≡ get_or left k 0 + 1
 unfolding place_behind
 behind-many c left k h = rw (lt-ltb k (length left) h)
@@ -259,7 +259,7 @@ module _ (c : TrueIdxIter) (bytes : List ℕ) where
             ∙ ap (over out) (sym (row-left m)),
       )
 
-  -- what the answer tells
+  -- the number and the cursor that the call returns
   pub told : (k r place : ℕ) → r ≡ min k (length (left_of c bytes)) → place ≡ place_behind c (left_of c bytes) k
       → ◌≡◌ {A = ℕ × TrueIdxIter} (r, true_moved c place)
       (length (take k (left_of c bytes)), true_moved c (place_behind c (left_of c bytes) k))

@@ -1,4 +1,4 @@
--- The positions of a word's ones, run by run, and of a span's, word by word. Assumes nothing.
+-- The positions of a word's ones, run by run, and of a span's, word by word. For the loops of `next_chunk`.
 use mathlib.Core.Path.{◌≡◌, refl, sym, ap, ◌∙◌, subst}
 use mathlib.Core.Bool.{Bool, true, false}
 use mathlib.Core.List.{List, [], ◌∷◌, ◌++◌}
@@ -30,7 +30,7 @@ unfolding ones_from copies
 none-set k zero = refl
 none-set k (suc n) = none-set (suc k) n
 
--- zeros behind a list add no position
+-- zeros after a list add no position
 padded : (m : List Bool) (k n : ℕ) → length m ≤ n → ones_from k (window m 0 n) ≡ ones_from k m
 unfolding ones_from window
 padded [] k n h = ap (ones_from k) (window-past [] 0 n (omega arith)) ∙ none-set k n
@@ -57,7 +57,7 @@ behind-ones (true ∷ l) k =
     ap (λ (t : List ℕ). k ∷ t)
     (behind-ones l (suc k) ∙ ap (λ (x : ℕ). ones_from (suc k) (copies (leading true l) true) ++ ones_from x (drop (leading true l) l)) e)
 
--- behind the zeros there is a one
+-- after the leading zeros there is a one, unless the list ends
 then_one : (l : List Bool) → leading false l < length l → 0 < leading true (drop (leading false l) l)
 unfolding leading
 then_one [] h = absurd (omega arith)
@@ -70,7 +70,7 @@ still_one [] n h = absurd (omega arith)
 still_one (false ∷ m) n h = absurd (omega arith)
 still_one (true ∷ m) n h = omega arith
 
--- of a word, and of one that is moved down
+-- the positions of a word, and of a word that is moved down
 module _ (w : ℕ) where
   all_flags : take 64 (bits 64 w) ≡ bits 64 w
   all_flags = take_all 64 (bits 64 w) (omega (arith, length-bits 64 w))
@@ -118,13 +118,13 @@ module _ (w : ℕ) where
 pub lead-within : (x : Bool) (w z : ℕ) → z ≡ leading x (take 64 (bits 64 w)) → z ≤ 64
 lead-within x w z e = omega (arith, leading_le x (take 64 (bits 64 w)), length-take 64 (bits 64 w))
 
--- ---- a turn of the loop over a word: zeros are passed over, the ones behind them are written
+-- ---- an iteration of the loop over a word: zeros are passed over, and the ones after them are written
 
 module _ (out₀ : List ℕ) (done : ℕ) (all out : List ℕ) (count at w zeros rest ones n : ℕ)
     (u : UnderWay out₀ done all out count (ones_from at (bits 64 w)))
     (z : zeros ≡ leading false (take 64 (bits 64 w))) (d : bits 64 rest ≡ window (bits 64 w) zeros 64)
     (o : ones ≡ leading true (take 64 (bits 64 rest))) where
-  -- what is left behind the run
+  -- the positions of the run, and those after it
   pub split-run : (more : List Bool) → more ≡ window (bits 64 rest) ones 64
       → ones_from at (bits 64 w) ≡ ones_from (at + zeros) (copies ones true) ++ ones_from (at + (zeros + ones)) more
   split-run more e =
@@ -167,7 +167,7 @@ left_split l at k h =
     ∙ ap (λ (x : ℕ). ones_from at (take k (drop at l)) ++ ones_from (at + x) (drop k (drop at l))) n
     ∙ ap (λ (t : List Bool). ones_from at (take k (drop at l)) ++ ones_from (at + k) t) (drop-drop k at l)
 
--- the word that holds the next k flags
+-- the positions left are those of the word that holds the next k flags, and those after it
 pub word_split : (bytes : List ℕ) (start n at k w : ℕ) → at + k ≤ n → k ≤ 64 → w ≡ word_of (stretch bytes (start + at) k)
     → ones_left (stretch bytes start n) at ≡ ones_from at (bits 64 w) ++ ones_left (stretch bytes start n) (at + k)
 word_split bytes start n at k w h small e =
@@ -183,7 +183,7 @@ word_split bytes start n at k w h small e =
 pub none-behind : (bytes : List ℕ) (start n at : ℕ) → n ≤ at → ones_left (stretch bytes start n) at ≡ []
 none-behind bytes start n at h = past_end (stretch bytes start n) at (omega (arith, length-window (flags_of bytes) start n))
 
--- the positions of a word more
+-- writing the positions of one more word
 pub word-on : (out₀ : List ℕ) (done : ℕ) (all out : List ℕ) (count : ℕ) (bytes : List ℕ) (start n at : ℕ)
     → UnderWay out₀ done all out count (ones_left (stretch bytes start n) at) → (k w : ℕ) → at + k ≤ n → k ≤ 64
     → w ≡ word_of (stretch bytes (start + at) k) → (out' : List ℕ) (r : ℕ) → out' ≡ over_from out count (ones_from at (bits 64 w))

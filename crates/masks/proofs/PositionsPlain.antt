@@ -1,4 +1,4 @@
--- The plain reading of many positions at once: what as many calls of `next` give, and the cursor that they leave. Assumes nothing.
+-- The plain reading of many positions at once: those that as many calls of `next` return, and the cursor that these calls leave.
 use Rattle.std.proofs.lemmas.Bool.{cases_lt}
 use mathlib.Core.Path.{◌≡◌, refl, sym, ap, ◌∙◌}
 use mathlib.Core.List.{List, [], ◌∷◌}
@@ -22,7 +22,7 @@ same-cursor : (bytes : List ℕ) (c : TrueIdxIter) → after_calls (answer-of by
 unfolding after_calls
 same-cursor bytes c = refl
 
--- The positions written are those that as many calls of `next` give.
+-- The positions written are those that as many calls of `next` return.
 pub chunk-lists : (bytes : List ℕ) (k : ℕ) (c : TrueIdxIter) → IsAccepted bytes c → take k (left_of c bytes) ≡ listing (answer-of bytes) k c
 chunk-lists bytes zero c ok = sym (no-calls bytes c)
 chunk-lists bytes (suc k) c ok = go (next_one bytes c ok) (λ (d : TrueIdxIter) (o : IsAccepted bytes d). chunk-lists bytes k d o)
@@ -34,7 +34,7 @@ chunk-lists bytes (suc k) c ok = go (next_one bytes c ok) (λ (d : TrueIdxIter) 
         ∙ sym (an_item (answer-of bytes) k c (true_moved c (p + 1)) p e)
     go (none-next e f) again = ap (take (suc k)) f ∙ sym (the_end (answer-of bytes) k c (true_moved c c.length) e)
 
--- a place behind one position more
+-- the place after one more position
 one_more : (c d : TrueIdxIter) (p : ℕ) (left : List ℕ) (k : ℕ) → d.place ≡ p + 1 → d.length ≡ c.length
     → place_behind c (p ∷ left) (suc k) ≡ place_behind d left k
 one_more c d p left zero e f = behind-many c (p ∷ left) 0 (omega arith) ∙ sym e ∙ sym (behind-none d left)
@@ -57,7 +57,7 @@ at_the_end bytes (suc k) c ok e =
         behind-end (answer-of bytes) k c (true_moved c c.length) a
         ∙ again (true_moved c c.length) (accepted-at c (length bytes) c.length ok (omega arith)) refl ∙ same
 
--- The cursor stands where as many calls of `next` leave it.
+-- The place of the cursor is the one that as many calls of `next` leave.
 pub chunk-leaves : (bytes : List ℕ) (k : ℕ) (c : TrueIdxIter) → IsAccepted bytes c
     → true_moved c (place_behind c (left_of c bytes) k) ≡ after_calls (answer-of bytes) k c
 chunk-leaves bytes zero c ok = ap (true_moved c) (behind-none c (left_of c bytes)) ∙ sym (same-cursor bytes c)

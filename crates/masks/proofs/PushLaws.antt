@@ -1,4 +1,4 @@
--- Flags of a word appended to the word in progress, which has room for them. Assumes nothing.
+-- Flags of a word appended to the word in progress, which has room for them. For `push_inside`, `push_flags` and `close_word`.
 use Rattle.std.proofs.lemmas.Bool.{cases_lt}
 use mathlib.Core.Path.{◌≡◌, refl, sym, ap, ap₂, ◌∙◌}
 use mathlib.Core.Bool.{Bool, true, false, ◌||◌}
@@ -20,20 +20,20 @@ use Rattle.masks.proofs.AppendLaws.{Parts, appended-grown, length-progress, low-
 use Rattle.masks.proofs.FrozenLaws.{over_from-none}
 use Rattle.masks.proofs.PartLaws.{length-low}
 
--- ---- a builder that a maker gives
+-- ---- a builder that a constructor returns
 
 pub grown-way : (r b : BitmapBuilder) (bytes : List ℕ) (f : Filling) → r ≡ b → filling b bytes ≡ f → filling r bytes ≡ f
 grown-way r b bytes f e h = ap (λ (x : BitmapBuilder). filling x bytes) e ∙ h
 
--- ---- windows of two lists in a row
+-- ---- windows of two lists joined
 
--- past the first list
+-- a window past the first list is one of the second
 pub window-behind : (p t : List Bool) (k n : ℕ) → window (p ++ t) (length p + k) n ≡ window t k n
 window-behind p t k n = window-ext (p ++ t) t (length p + k) k n (λ j h.
     let e : length p + k + j ≡ length p + (k + j) = omega arith in
     ap (λ (x : ℕ). get_or (p ++ t) x false) e ∙ get_or-append-add p t (k + j) false)
 
--- zeros behind the second list make no difference
+-- zeros after the second list make no difference
 window-padded : (p t : List Bool) (n : ℕ) → window (p ++ window t 0 n) 0 n ≡ window (p ++ t) 0 n
 window-padded p t n = window-ext (p ++ window t 0 n) (p ++ t) 0 0 n (λ j h. ⊎_elim
     (λ (l : 0 + j < length p). get_or-append p (window t 0 n) false (0 + j) l ∙ sym (get_or-append p t false (0 + j) l))
@@ -57,7 +57,7 @@ module _ (b : BitmapBuilder) (bytes : List ℕ) (word v low k : ℕ) (few : k �
   row-long : length (in_progress b ++ take k (bits 64 word)) ≡ b.length % 64 + k
   row-long = length-append (in_progress b) (take k (bits 64 word)) ∙ ap₂ (λ (x y : ℕ). x + y) (length-progress b) (length-low k word few)
 
-  -- the word in progress has room for all
+  -- the word in progress has room for all the new flags
   pub push-short : low < 2 ^ 64 → b.length % 64 + k < 64
       → filling (rebuilt b (b.length + k) low b.ones) bytes ≡ appended (filling b bytes) (take k (bits 64 word))
   push-short fits less =
@@ -72,7 +72,7 @@ module _ (b : BitmapBuilder) (bytes : List ℕ) (word v low k : ℕ) (few : k �
       (sym (word_value 64 (in_progress b ++ take k (bits 64 word)) low fits (omega (arith, row-long)) row-flags))
       (ap (over_from bytes (8 * (b.length / 64))) (no_bytes []) ∙ over_from-none bytes (8 * (b.length / 64))))
 
--- ---- the same by `or`: a word with no flag where the new ones go, and these moved up
+-- ---- the word made by `or`: a word with zeros at the new flags' places, and the new flags moved up
 
 pub or-merged : (b : BitmapBuilder) (flags u low : ℕ) → none_from b.word (b.length % 64) ≡ true
     → bits 64 u ≡ window (copies (b.length % 64) false ++ bits 64 flags) 0 64 → bits 64 low ≡ zip_with ◌||◌ (bits 64 b.word) (bits 64 u)
@@ -88,7 +88,7 @@ push-within b bytes flags u low k i moved joined fits =
     let room : b.length % 64 + k < 64 = i.room in
     push-short b bytes flags flags low k (omega arith) (low-window k flags i.few) (or-merged b flags u low i.low moved joined) fits room
 
--- flags that begin a word
+-- new flags that begin a word
 pub push-begun : (b : BitmapBuilder) (bytes : List ℕ) (longer rest k : ℕ) → b.length % 64 ≡ 0 → k < 64 → none_from rest k ≡ true
     → rest < 2 ^ 64 → longer ≡ b.length + k
     → filling (rebuilt b longer rest b.ones) bytes ≡ appended (filling b bytes) (take k (bits 64 rest))

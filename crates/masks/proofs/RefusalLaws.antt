@@ -1,4 +1,4 @@
--- What the exit of a `?` gives, what is known behind it, and that refusals stand in the order of their numbers. Assumes nothing.
+-- The early exit of a `?`: the answer of the call there, and what holds after it. Also: the order of the refusals is that of their numbers.
 use Rattle.std.proofs.Common.{◌≡◌, refl, ℕ, zero, suc, ◌<◌, Bool, true, false, List, [], ◌∷◌, length, get_or, Result, Ok, Err}
 use Rattle.std.specs.Prelude.{◌&&◌, eqb}
 use Rattle.std.specs.Result.{IsErrAnd, is_ok}
@@ -64,7 +64,7 @@ least-number x y =
     eqb-true _ _ (of-each (λ b. eqb (number (ord_min cmp-value.it x b)) (earlier (number x) (number b)))
     (of-each (λ a. all (λ b. eqb (number (ord_min cmp-value.it a b)) (earlier (number a) (number b))) refusals) refl x) y)
 
--- no refusal has the number 0, which says that nothing failed
+-- no refusal has the number 0, which means that no check failed
 pub number-ne0 : (r : Refusal) → number r ≡ 0 → ⊥
 number-ne0 OverLimit e = omega arith
 number-ne0 PastBytes e = omega arith
@@ -77,40 +77,40 @@ number-ne0 WrongRecount e = omega arith
 number-ne0 WrongAddress e = omega arith
 number-ne0 ShortOutput e = omega arith
 
--- ---- the exit of a `?`, where no record is given back
+-- ---- the early exit of a `?` in calls whose refusal carries no record
 
--- the exit of a function that makes checks
+-- the early exit of a function that makes checks
 pub exit-number : (result : Result (Unit {0}) Refusal) (e : Refusal) → IsErrAnd result (λ (y : Refusal). y ≡ e)
     → failure_of result ≡ number e
 exit-number result e h = let p = err_from_is_err_and result h in ap failure_of p.1 ∙ ap number p.2
 
--- ---- where the record that the call got is given back
+-- ---- the early exit in calls whose refusal carries the record
 
 abbrev error-of : {S A : Type 0} → Refused S → Result A (Refused S) → Refused S
 error-of d (Ok a) = d
 error-of d (Err x) = x
 
--- what a check gave, with the record beside a refusal
+-- the result of a check, with the record added to a refusal
 abbrev pub with_state : {S A : Type 0} → Result A Refusal → S → Result A (Refused S)
 with_state (Ok a) s = Ok a
 with_state (Err k) s = Err (record { refusal = k; state = s })
 
--- the refusal and the record of an error of it
+-- an error of `with_state` has the check's refusal and the record
 pub back-err : {S A : Type 0} (r : Result A Refusal) (s : S) (x : Refused S) → Err x ≡ with_state r s → (r ≡ Err x.refusal) × (x.state ≡ s)
 back-err (Ok a) s x e = cc
 back-err (Err k) s x e = let p = ap (error-of x) e in (ap (λ (y : Refused _). Err y.refusal) (sym p), ap (λ (y : Refused _). y.state) p)
 
--- the checks have passed: a result with another error is an `Ok` where they are
+-- the checks pass if the result with the record, which is `Ok` exactly if theirs is, is `Ok`
 pub passed-back : {S : Type 0} (r : Result (Unit {0}) Refusal) (m : Result (Unit {0}) (Refused S)) (u : Unit {0}) → is_ok m ≡ is_ok r
     → m ≡ Ok u → failure_of r ≡ 0
 passed-back (Ok a) m u v w = refl
 passed-back (Err k) m u v w = let e : true ≡ false = sym (ap is_ok w) ∙ v in cc
 
--- they have not: the number is not 0
+-- if the result with the record is an error, the number of the checks is not 0
 pub failed-back : {S : Type 0} (r : Result (Unit {0}) Refusal) (s : S) (x : Refused S) → Err x ≡ with_state r s → failure_of r ≡ 0 → ⊥
 failed-back r s x e h = number-ne0 x.refusal (sym (ap failure_of (back-err r s x e).0) ∙ h)
 
--- what the call answers there
+-- the answer of a call without a record, after a failed check
 pub exit-is : {A : Type 0} (result : Result A Refusal) (e : Refusal) → IsErrAnd result (λ (y : Refusal). y ≡ e)
     → answer result ≡ refused (number e) tt
 exit-is result e h = let p = err_from_is_err_and result h in ap answer (p.1 ∙ ap (λ (y : Refusal). Err y) p.2)
@@ -134,14 +134,14 @@ step-is r s x e result h =
     let p = err_from_is_err_and result h in
     ap answer_step (p.1 ∙ ap (λ (y : Refused _). Err y) p.2) ∙ same-refused r s x e
 
--- of a call whose checks give a value too
+-- the answer of a call whose checks also return a value
 pub back-exit : {S T A : Type 0} (r : Result T Refusal) (s : S) (x : Refused S) → Err x ≡ with_state r s
     → (result : Result A (Refused S)) → IsErrAnd result (λ (y : Refused S). y ≡ x) → answer_back result ≡ refused (number x.refusal) s
 back-exit r s x e result h =
     let p = err_from_is_err_and result h in
     ap answer_back (p.1 ∙ ap (λ (y : Refused _). Err y) p.2) ∙ ap (refused (number x.refusal)) (back-err r s x e).1
 
--- ---- the exit of a `?` is what the checks decide
+-- ---- the early exit of a `?` answers by the number of the checks
 
 pub exit-refused : {A : Type 0} (result : Result A Refusal) (e : Refusal) → IsErrAnd result (λ (y : Refusal). y ≡ e)
     → (m : ℕ) → number e ≡ m → (a : A) → answer result ≡ decided m tt a

@@ -1,4 +1,4 @@
--- Each call refuses by the numbers listed for it alone, and a refusal changes nothing. Assumes nothing.
+-- Each call refuses only by the numbers listed for it, and a refusal changes nothing.
 use Rattle.std.specs.Prelude.{Some, None}
 use Rattle.std.proofs.lemmas.Bool.{and_parts, or_left, or_right}
 use mathlib.Core.Path.{◌≡◌, refl, sym, ap, ◌∙◌, subst}
@@ -100,7 +100,7 @@ module _ {S A : Type 0} (cs : List Check) (s : S) (a : A) where
       (⊎_elim (λ (z : first_failed cs ≡ 0). absurd (refused-failed k (first_failed cs) t s a h z))
       (λ (p : among (first_failed cs) (numbers cs) ≡ true). p) (failed-among cs))
 
-  -- its number is one of theirs, and it carries the state that it got
+  -- a refusal's number is one of the checks', and it carries the call's own state
   pub refuses-by : (ns : List ℕ) → all_among (numbers cs) ns ≡ true → Refuses ns s (checked cs s a)
   refuses-by ns e =
       record {
@@ -108,7 +108,7 @@ module _ {S A : Type 0} (cs : List Check) (s : S) (a : A) where
         state = λ (k : ℕ) (t : S) (h : checked cs s a ≡ refused k t). refused-state k (first_failed cs) t s a (sym h);
       }
 
-  -- a lent buffer holds what it held
+  -- a refusal leaves a lent buffer unchanged
   pub refuses-unwritten : (ns before new : List ℕ) → all_among (numbers cs) ns ≡ true
       → RefusesUnwritten ns s (checked cs s a) before (kept (first_failed cs) new before)
   refuses-unwritten ns before new e =
@@ -129,7 +129,7 @@ refuses-nonempty zero ns s a answer r =
     }
 refuses-nonempty (suc n) ns s a answer r = r
 
--- the record alone refuses as the part does
+-- the record of an answer is refused by the same numbers as the part
 refuses-record : (ns : List ℕ) (r : Answer (Unit {0}) Part) → Refuses ns tt r → Refuses ns tt (record_of r)
 refuses-record ns (given p) e =
     record {
@@ -181,7 +181,7 @@ append-listed (extend_bitmap m bytes start n) b buf = refl
 append-listed (extend_gather bytes start n idxs) b buf = refl
 append-listed (extend_opt_gather bytes start n idxs) b buf = refl
 
--- the numbers of a piece's checks, which decide alone
+-- no number of a piece's checks is 7
 not_seven : (k : ℕ) → NoneOrAmong k (1 ∷ 1 ∷ 2 ∷ 3 ∷ 1 ∷ 1 ∷ 1 ∷ 6 ∷ []) → k ≡ 7 → ⊥
 unfolding among
 not_seven k p e = ⊎_elim

@@ -1,4 +1,4 @@
--- Flags repeated in turn, and their number taken exactly. Assumes nothing.
+-- Flags that are each repeated k times, and the exact product of their number and k. For `append_repeated` and its checks.
 use Rattle.std.proofs.lemmas.Bool.{cases_lt}
 use mathlib.Core.Path.{◌≡◌, refl, sym, ap, ◌∙◌}
 use mathlib.Core.Bool.{Bool, false}
@@ -58,7 +58,7 @@ one-repeated : (k : ℕ) (l : List Bool) (s : ℕ) → repeated k (window l s 1)
 unfolding repeated window
 one-repeated k l s = append-nil (copies k (get_or l s false))
 
--- one flag more
+-- appending one more flag, repeated
 pub runs-step : (f g h : Filling) (l : List Bool) (s i k : ℕ) (x : Bool) → g ≡ appended f (repeated k (window l s i))
     → x ≡ get_or l (s + i) false → h ≡ appended g (copies k x)
     → h ≡ appended f (repeated k (window l s (i + 1)))
@@ -76,7 +76,7 @@ runs-room f g l s i n k e h r =
     length-repeated k (window l s i) ∙ ap (λ (x : ℕ). x * k) (length-window l s i) in
     room_after f g (repeated k (window l s i)) (n * k) k e (omega (arith, suc-mul i k)) r
 
--- ---- the product, or the largest number if it does not fit: over the limit check 1 decides
+-- ---- the product, or the largest number if it does not fit: the checks of the builder have the same number for both
 
 too_long_lem : (b : BitmapBuilder) (n size : ℕ) → limit < n → 1 ≡ first_failed (grow_checks b n size)
 too_long_lem b n size h = over-limit b n size (lt-leb (b.length + n) limit (omega arith))

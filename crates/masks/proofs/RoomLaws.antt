@@ -1,4 +1,4 @@
--- Builders with room for what is appended: what the checks give, and what is left of it after an appending. Assumes nothing.
+-- Builders with room for what is appended: what follows from the checks, and the room that is left after an append.
 use Rattle.std.proofs.lemmas.Bool.{and_parts}
 use Rattle.std.proofs.Math.Bool.{and-false, and-true}
 use mathlib.Core.Path.{◌≡◌, refl, sym, ap, ap₂, ◌∙◌, subst}
@@ -30,9 +30,9 @@ use Rattle.masks.proofs.CheckLaws.{SpanAllowed, span-allowed}
 use Rattle.masks.proofs.OrderLaws.{leads, led}
 use Rattle.masks.proofs.FrozenLaws.{flags-packed, length-over_from, flags-over_from}
 
--- ---- the number of a builder's checks, by the tests that decide it
+-- ---- the number of a builder's checks, by cases on the code's tests
 
--- check 1 is put before those of a builder and its buffer
+-- check 1 comes before checks 4 and 9 in the order
 limit-leads : (p : Bool) (n size : ℕ) → leads 1 (check 4 p ∷ output_checks n size) ≡ true
 unfolding output_checks rank place_in
 limit-leads p n size = refl
@@ -68,14 +68,14 @@ impossible t n size e =
     last true = refl
     last false = refl
 
--- a buffer that does not hold n flags
+-- the number if the buffer does not hold n flags: 9 or 4
 pub small-room : (p : Bool) (n size r : ℕ) → r ≡ cond p 9 4 → size / 8 < (n + 63) / 64 → r ≡ first_failed (check 4 p ∷ output_checks n size)
 unfolding first_failed output_checks earlier
 small-room true n size r e h =
     one-check r 9 false (leb (8 * ((n + 63) / 64)) size) e (sym (lt-leb (8 * ((n + 63) / 64)) size (omega arith)))
 small-room false n size r e h = e ∙ impossible false n size refl
 
--- one that does, and so holds the finished words: the rest of check 4 decides
+-- if the buffer holds n flags, and so the finished words, the number is 4 or 0 by the rest of check 4
 module _ (b : BitmapBuilder) (n size : ℕ) (holds : (n + 63) / 64 ≤ size / 8) (longer : b.length ≤ n) where
   pub ones_over : 64 * (b.length / 64) < b.ones → 4 ≡ first_failed (check 4 (possible b size) ∷ output_checks n size)
   unfolding possible
@@ -97,7 +97,7 @@ module _ (b : BitmapBuilder) (n size : ℕ) (holds : (n + 63) / 64 ≤ size / 8)
       (cond (none_from b.word (b.length % 64) && (leb b.ones (64 * (b.length / 64)) && leb (8 * (b.length / 64)) size)) 0 4)
       (earlier (cond x 0 9) 0)) (sym (le-leb (8 * ((n + 63) / 64)) size fits))
 
--- ---- what the checks give
+-- ---- what follows from the checks
 
 pub room_of : (b : BitmapBuilder) (n size : ℕ) → first_failed (builder_checks b (b.length + n) size) ≡ 0 → Room b n size
 unfolding builder_checks possible output_checks
@@ -118,14 +118,14 @@ room_of b n size e =
       holds = leb-true (8 * ((b.length + n + 63) / 64)) size (first-allowed 8 (leb (8 * ((b.length + n + 63) / 64)) size) [] four);
     }
 
--- the word behind the finished ones has room where the flags reach into it
+-- the buffer has room for the word after the finished ones if the new flags reach into it
 pub word-stored : (b : BitmapBuilder) (k size : ℕ) (out new old : List Bool) → Room b k size → b.length / 64 < (b.length + k + 63) / 64
     → out ≡ cond (leb (8 * (b.length / 64) + 8) size) new old → out ≡ new
 word-stored b k size out new old r h e =
     let holds : 8 * ((b.length + k + 63) / 64) ≤ size = r.holds in
     had-room (8 * (b.length / 64)) size out new old e (omega arith)
 
--- of a span that is appended
+-- what follows if the checks of appending a span pass
 pub grow-allowed : (start n bytes size r : ℕ) (b : BitmapBuilder)
     → r ≡ first_failed (span_checks start n bytes ++ builder_checks b (b.length + n) size) → r ≡ 0
     → SpanAllowed start n bytes × Room b n size
@@ -146,9 +146,9 @@ room-less b m n size h r =
     let holds : 8 * ((b.length + n + 63) / 64) ≤ size = r.holds in
     record { short = omega arith; low = r.low; few = r.few; holds = omega arith }
 
--- ---- after an appending
+-- ---- after an append
 
--- the word of k flags has none from k on
+-- the word of k flags has no set flag at k or above
 pub none-behind : (r : List Bool) (k : ℕ) → length r ≡ k → k ≤ 64 → none_from (word_of r) k ≡ true
 none-behind r k e h =
     let whole : count (bits 64 (word_of r)) ≡ count r = ap count (bits-window 64 r) ∙ count-padded r 64 (omega arith) in
@@ -175,7 +175,7 @@ grown-room f l q front rest m n p h r =
       holds = omega (arith, length-over_from f.bytes (8 * (f.builder.length / 64)) (packed (8 * q) front));
     }
 
--- what is left where room for m flags was, and l has been appended
+-- after l is appended to a builder with room for m flags, there is room for n more if n and the length of l are at most m together
 pub room_after : (f g : Filling) (l : List Bool) (m n : ℕ) → g ≡ appended f l → length l + n ≤ m → Room f.builder m (length f.bytes)
     → Room g.builder n (length g.bytes)
 room_after f g l m n e h r =
@@ -250,7 +250,7 @@ grown-flags f l q front rest p h =
     ∙ append_assoc (finished f) front rest ∙ ap (λ (t : List Bool). finished f ++ t) (sym p.row)
     ∙ sym (append_assoc (finished f) (in_progress f.builder) l)
 
--- the builder's flags, then the new ones
+-- the flags after an append are the builder's flags, then the new ones
 pub flags-after : (f : Filling) (l : List Bool) → Room f.builder (length l) (length f.bytes)
     → builder_flags (appended f l) ≡ builder_flags f ++ l
 flags-after f l r =
@@ -258,7 +258,7 @@ flags-after f l r =
     let p = parts-of f l in
     ap builder_flags (appended-grown f l _ _ _ p) ∙ grown-flags f l _ _ _ p (omega arith)
 
--- ones that are those of the finished words stay so
+-- if `ones` counts the ones of the finished words before an append, it does so after it
 pub ones-after : (f : Filling) (l : List Bool) → Room f.builder (length l) (length f.bytes) → f.builder.ones ≡ count (finished f)
     → (appended f l).builder.ones ≡ count (finished (appended f l))
 ones-after f l r e =
@@ -267,7 +267,7 @@ ones-after f l r e =
     ap (λ (x : Filling). x.builder.ones) (appended-grown f l _ _ _ p) ∙ ap₂ (λ (x y : ℕ). x + y) e refl
     ∙ sym (ap count (finished-after f l _ _ _ p (omega arith)) ∙ count-append (finished f) _)
 
--- how many flags a builder has
+-- a builder has `length` flags
 pub length-flags-of : (f : Filling) → length (builder_flags f) ≡ f.builder.length
 unfolding builder_flags
 length-flags-of f =
@@ -278,7 +278,7 @@ length-flags-of f =
       length-progress f.builder,
     )
 
--- ---- what the checks of a mask and of a piece of it give
+-- ---- what follows from the checks of a mask and of a piece of it
 
 pub record InnerAllowed (m : Bitmap) (bytes : List ℕ) (start n : ℕ) : Type 0 where
   pub starts : m.start ≤ limit

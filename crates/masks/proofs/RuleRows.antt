@@ -1,4 +1,4 @@
--- The rows of `specs/RuleRows.antt`, all at once and by computation. Assumes nothing.
+-- The rows of `specs/RuleRows.antt`, all at once and by computation.
 use mathlib.Core.Path.{refl}
 use mathlib.Core.Bool.{xor}
 use Rattle.words.specs.Counts.{any_set}

@@ -1,4 +1,4 @@
--- What a cursor over runs of ones gives, and the first run from a place on, byte by byte and bit by bit. Assumes nothing.
+-- The answers of a cursor over runs of ones, and the search for the first run, byte by byte and bit by bit. For `SlicesIterator`.
 use Rattle.std.proofs.lemmas.Bool.{cases_lt, and_parts}
 use mathlib.Core.Path.{◌≡◌, refl, sym, ap, ap₂, subst, ◌∙◌}
 use mathlib.Core.Bool.{Bool, true, false, ◌&&◌}
@@ -27,7 +27,7 @@ use Rattle.masks.proofs.IteratorLaws.{Alike, alike-none, alike-done, at-end, som
 
 -- ---- the two answers of a cursor
 
--- behind its zeros a list has a one, or ends
+-- after its leading zeros a list has a one, or ends
 none_left : (m : List Bool) → leading false (drop (leading false m) m) ≡ 0
 unfolding leading
 none_left [] = refl
@@ -44,7 +44,7 @@ no-more-zeros : (l : List Bool) (at : ℕ) → leading_from false l (at + leadin
 unfolding leading_from
 no-more-zeros l at = ap (leading false) (sym (drop-drop (leading false (drop at l)) at l)) ∙ none_left (drop at l)
 
--- an empty run stands at the end of the list, and no other does
+-- after the leading zeros a run is empty exactly at the end of the list
 run-empty : (l : List Bool) (at : ℕ) → leading_from true l at ≡ 0 → leading_from false l at ≡ 0 → length l ≤ at
 unfolding leading_from
 run-empty l at none z = omega (arith, some-flag (drop at l) none z, length-drop at l)
@@ -55,7 +55,7 @@ run-some l at some =
     let n : (leading true (drop at l) ≡ 0 → ⊥) = some in
     omega (arith, n, leading_le true (drop at l), length-drop at l)
 
--- the first run behind z zeros is the first run
+-- the first run after the z leading zeros is the first run
 module _ (c : SlicesIterator) (l : List Bool) (z : ℕ) (r : Run) (long : length l ≡ c.length) (zeros : z ≡ leading_from false l c.place)
     (e : r ≡ first_run l (c.place + z)) where
   behind : r ≡ first_run l c.place
@@ -137,7 +137,7 @@ unfolding leading
 a_one zero h = absurd (h refl)
 a_one (suc x) h = refl
 
--- where a one stands there is no zero
+-- a list that begins with a one has no leading zero
 no_zero : (m : List Bool) → 0 < leading true m → leading false m ≡ 0
 unfolding leading
 no_zero [] h = refl
@@ -148,12 +148,12 @@ one-first : (l : List Bool) (at : ℕ) → 0 < leading_from true l at → leadin
 unfolding leading_from
 one-first l at h = no_zero (drop at l) h
 
--- the walk from `place` on is at `at`: the flags up to `first` are zeros, those from there to `at` are ones
+-- the loop began at `place` and is at `at`: the flags from `place` to `first` are zeros, those from there to `at` are ones
 pub record Walking (l : List Bool) (size place first at : ℕ) : Type 0 where
   pub zeros : Alike l false size place first
   pub ones : Alike l true size first at
 
--- the run that begins at `first`, where no zero stands, is the first from `place` on
+-- the run that begins at `first`, after zeros only and with no zero there, is the first run at or after `place`
 run-here : (l : List Bool) (size place first n : ℕ) → Alike l false size place first → leading_from false l first ≡ 0
     → n ≡ leading_from true l first
     → run_of first n ≡ first_run l place
@@ -183,7 +183,7 @@ module _ (bytes : List ℕ) (start size place first at : ℕ) (w : Walking (stre
       → Walking (stretch bytes start size) size place first (at + k)
   ones-on k h e = record { zeros = w.zeros; ones = alike-on true first k w.ones h e }
 
-  -- nothing or ones stand between `first` and the span's end
+  -- once the span's end is reached, no zero lies at `first`: ones follow it, or no flag
   ended-first : size ≤ at → leading_from false (stretch bytes start size) first ≡ 0
   ended-first h = ⊎_elim
       (λ (some : first < at). one-first (stretch bytes start size) first (omega (arith, w.ones.sum)))
@@ -213,7 +213,7 @@ module _ (bytes : List ℕ) (start size place first at : ℕ) (w : Walking (stre
         ap (leading x) (flag-window (flags_of bytes) (start + at)
         ∙ ap (λ (y : Bool). y ∷ []) (bit-flag bytes (start + at) i bit byte there in-byte read))
 
-    -- a zero behind ones
+    -- a zero after ones ends the run
     pub walk-stop : byte / 2 ^ bit % 2 ≡ 0 → 0 < at - first → run_of first (at - first) ≡ first_run (stretch bytes start size) place
     walk-stop z some =
         let l = stretch bytes start size in
@@ -223,7 +223,7 @@ module _ (bytes : List ℕ) (start size place first at : ℕ) (w : Walking (stre
         let n : at - first ≡ leading_from true l first = omega (arith, w.ones.low, w.ones.sum) in
         run-here l size place first (at - first) w.zeros (one-first l first (omega arith)) n
 
-    -- a zero before the run
+    -- a zero before the run is passed over
     pub walk-zero : byte / 2 ^ bit % 2 ≡ 0 → at - first ≤ 0 → Walking (stretch bytes start size) size place (at + 1) (at + 1)
     walk-zero z none =
         let l = stretch bytes start size in

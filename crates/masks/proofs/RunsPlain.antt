@@ -1,4 +1,4 @@
--- The plain reading of a cursor over runs: it lists all runs of its flags, one by one, and what a run is. Assumes nothing.
+-- The plain reading of a cursor over runs: it lists all runs of its flags, one by one; and what a run is.
 use Rattle.std.proofs.lemmas.Bool.{cases_lt}
 use Rattle.std.proofs.Math.ListN.{get_or-eq_default}
 use mathlib.Core.Path.{◌≡◌, refl, sym, ap, ◌∙◌}
@@ -45,7 +45,7 @@ alone : (k : ℕ) → with_one k [] ≡ run_of k 1 ∷ []
 unfolding with_one
 alone k = refl
 
--- runs that begin at j or later
+-- a one before runs that begin at j or later, with a zero between, is a run of its own
 apart : (j k : ℕ) (l : List Bool) → suc k < j → with_one k (runs_from j l) ≡ run_of k 1 ∷ runs_from j l
 unfolding runs_from
 apart j k [] h = alone k
@@ -77,7 +77,7 @@ ones-taken k (true ∷ (true ∷ l)) h =
     ∙ joins k (suc (leading true l)) (runs_from (suc k + suc (leading true l)) (drop (leading true l) l))
     ∙ ap (λ (j : ℕ). run_of k (suc (suc (leading true l))) ∷ runs_from j (drop (leading true l) l)) e
 
--- behind the zeros stands a one
+-- after the leading zeros there is a one, unless the list ends
 then-ones : (l : List Bool) → leading false l < length l → 0 < leading true (drop (leading false l) l)
 unfolding leading
 then-ones [] h = absurd (omega arith)
@@ -116,7 +116,7 @@ pub none_left : (l : List Bool) (s : ℕ) → length l ≤ s → runs_left l s �
 unfolding runs_left
 none_left l s h = no-runs s (drop s l) (omega (arith, length-drop s l))
 
--- the next run is the first of those that the cursor has before it, and the others are those that it then has
+-- the next run is the first of those that the cursor has left, and the cursor after it has the others left
 pub next-lists : (c : SlicesIterator) (l : List Bool) → length l ≡ c.length → runs_left l c.place ≡ listed l (slice_step c l)
 unfolding slice_step
 next-lists c l e =
@@ -129,7 +129,7 @@ next-lists c l e =
 
 -- ---- what a run is
 
--- the first run at or after a place: zeros before it, ones in it, and behind it a zero or the end
+-- the first run at or after a place: zeros before it, ones in it, and after it a zero or the end
 pub record FirstRun (l : List Bool) (place : ℕ) (r : Run) : Type 0 where
   pub after : place ≤ r.start
   pub inside : r.start + r.length ≤ length l
@@ -180,7 +180,7 @@ starts-after : (l : List Bool) (place : ℕ) → place ≤ run_start l place
 unfolding run_start
 starts-after l place = omega arith
 
--- what is given where there is a run
+-- if there is a run, the first one begins at `run_start` and has the ones there
 pub first_run_lem : (l : List Bool) (place : ℕ) → run_start l place < length l
     → FirstRun l place (run_of (run_start l place) (leading_from true l (run_start l place)))
 first_run_lem l place h = record {
@@ -192,7 +192,7 @@ first_run_lem l place h = record {
   stops = ones-stop l (run_start l place);
 }
 
--- and where there is none
+-- and if there is none, no flag at or after the place is set
 pub no_ones : (l : List Bool) (place : ℕ) → length l ≤ run_start l place → (j : ℕ) → place ≤ j → get_or l j false ≡ false
 no_ones l place h j a = ⊎_elim
     (λ (b : j < run_start l place). zeros-first l place j a b)

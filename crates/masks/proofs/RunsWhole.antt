@@ -1,5 +1,5 @@
--- The runs of a list, all together: from place 0 a cursor lists, until it gives none, all runs, each maximal, rising, and every
--- one lies in one of them. Assumes nothing.
+-- All runs of a list: from place 0 a cursor lists, until it returns none, all runs, each maximal, in rising order, and every one lies in
+-- one of them.
 use Rattle.std.proofs.lemmas.Bool.{cases_lt, true≢false}
 use mathlib.Core.Path.{◌≡◌, refl, sym, ap, ◌∙◌, subst}
 use mathlib.Core.Bool.{Bool, true, false}
@@ -156,7 +156,7 @@ module _ (bytes : List ℕ) (c : SlicesIterator) (ok : IsAccepted bytes c) where
       (next-lists c l size ∙ ap (listed l) (to_end h)))
       (cases_lt s c.length)
 
--- A cursor that `next` accepts lists, until it gives none, just the runs from its place on.
+-- A cursor that `next` accepts lists, until it returns none, exactly the runs at or after its place.
 pub lists-runs : (bytes : List ℕ) (c : SlicesIterator) → first_failed (run_checks c bytes) ≡ 0 → (k : ℕ) → c.length - c.place < k
     → listing (λ (d : SlicesIterator). next_slice d bytes) k c ≡ runs_left (stretch bytes c.start c.length) c.place
 lists-runs bytes c ok k h = lists (answer-of bytes) (left-of bytes) (IsAccepted bytes) far-of (moves bytes) k c ok h

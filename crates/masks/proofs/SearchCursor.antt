@@ -1,5 +1,5 @@
--- The searches agree with the cursor over ones: forward, the n-th position that the cursor gives; down from an end, the n-th
--- from the last of the positions below it. Assumes nothing.
+-- The searches agree with the cursor over ones: forward, the n-th position that the cursor returns; down from an end, the n-th
+-- from the last of the positions below it.
 use Rattle.std.specs.Prelude.{Some, slice_get}
 use Rattle.std.proofs.lemmas.Bool.{cases_lt}
 use Rattle.std.proofs.lemmas.Option.{slice_get_past}
@@ -64,7 +64,7 @@ the_nth k (false ∷ l) n h =
 
 -- ---- the searches
 
--- the n-th set flag from a place on is element n of the positions of ones there; none where there are fewer
+-- the n-th set flag at or after a place is element n of the positions of ones there; none if there are fewer
 pub forward-nth : (l : List Bool) (n from : ℕ) → nth_from l n from ≡ slice_get (ones_left l from) n
 unfolding nth_from ones_left
 forward-nth l n from = ⊎_elim
@@ -79,7 +79,7 @@ pub forward-item : (bytes : List ℕ) (c : TrueIdxIter) → first_failed (true_c
 forward-item bytes c ok n k h =
     forward-nth (true_flags c bytes) n c.place ∙ ap (λ (t : List ℕ). slice_get t n) (sym (lists-ones bytes c ok k h))
 
--- the n-th counted down from below an end is element n, from the last on, of the positions of ones below it
+-- the n-th set flag counted down from below an end is element n, counted from the last, of the positions of ones below it
 pub backward-nth : (l : List Bool) (n end : ℕ) → nth_back l n end ≡ slice_get (reverse (ones_from 0 (take end l))) n
 unfolding nth_back
 backward-nth l n end =

@@ -1,4 +1,4 @@
--- Searches for the n-th set flag by windows of d flags: found in a window, passed over, at the end. Assumes nothing.
+-- Searches for the n-th set flag by windows of d flags: found in a window, passed over, or at the end of the list.
 use Rattle.std.specs.Prelude.{Some, None, Ok, Err}
 use Rattle.std.proofs.lemmas.Bool.{cases_lt}
 use mathlib.Core.Path.{◌≡◌, sym, ap, ap₂, ◌∙◌, subst}
@@ -24,7 +24,7 @@ use Rattle.masks.specs.Bitmask.{window_word}
 use Rattle.masks.specs.Search.{nth_from, nth_back}
 use Rattle.masks.proofs.BitmaskLaws.{window-flags}
 
--- zeros behind a list move no set flag
+-- zeros after a list move no set flag
 place-padded : (l : List Bool) (d n : ℕ) → length l ≤ d → n < count l → nth_place (window l 0 d) n ≡ nth_place l n
 place-padded l d n h k =
     let e : d ≡ length l + (d - length l) = omega arith in
@@ -33,12 +33,12 @@ place-padded l d n h k =
     (window-add l 0 (length l) (d - length l) ∙ ap (λ (t : List Bool). t ++ window l (0 + length l) (d - length l)) (window-all l))
     ∙ nth-low l (window l (0 + length l) (d - length l)) n k
 
--- ---- from a place on
+-- ---- up from a place
 
 rest-window : (l : List Bool) (at m : ℕ) → window (drop at l) 0 m ≡ window l at m
 rest-window l at m = window-drop l at 0 m ∙ ap (λ (x : ℕ). window l x m) (add-zero at)
 
--- the flags from `at` on are those of the window and those behind it
+-- the flags from `at` to the end are those of the window and those after it
 module _ (l : List Bool) (at d : ℕ) where
   whole : window (drop at l) 0 (d + length l) ≡ window l at d ++ window (drop (at + d) l) 0 (length l)
   whole =
@@ -89,7 +89,7 @@ from_end l n at h = rw (le-ltb n (count (drop at l)) (omega (arith, ap count (dr
 
 -- ---- down from an end
 
--- the flags before e are those before s and those of the window from s on, which has zeros from e on
+-- the flags before e are those before s and those of the window that starts at s, whose flags at e and above are zeros
 module _ (l : List Bool) (s e d : ℕ) (low : s ≤ e) (inside : e ≤ length l) (near : e ≤ s + d) where
   parts : take e l ≡ take s l ++ drop s (take e l)
   parts = sym (take-append-drop s (take e l)) ∙ ap (λ (t : List Bool). t ++ drop s (take e l)) (take-take s e l low)
@@ -138,7 +138,7 @@ pub back_end : (l : List Bool) (n : ℕ) → None ≡ nth_back l n 0
 unfolding nth_back
 back_end l n = rw (le-ltb n (count []) (omega (arith, count-empty)))
 
--- an end past the list is its end
+-- an end past the list equals the list's end
 back-most : (l : List Bool) (n end m : ℕ) → m ≡ min end (length l) → nth_back l n m ≡ nth_back l n end
 unfolding nth_back
 back-most l n end m e = ⊎_elim
@@ -148,7 +148,7 @@ back-most l n end m e = ⊎_elim
     ap (λ (t : List Bool). cond (ltb n (count t)) (Some (nth_place t (count t - 1 - n))) None) z)
     (cases_lt end (length l))
 
--- ---- what a window says
+-- ---- the outcome of a search in one window
 
 pub record IsThere (l : List Bool) (n i : ℕ) : Type 0 where
   pub many : n < count l
@@ -173,7 +173,7 @@ seen-there l n i e = ⊎_elim
 pub seen-only : (l : List Bool) (n k : ℕ) → nth_one l n ≡ Err k → IsOnly l n k
 seen-only l n k e = let told : (k ≡ count l) × (count l ≤ n) = missing-nth l n k e in record { few = told.1; number = told.0 }
 
--- no word of d flags has a set flag from number d on
+-- no word of d flags has more than d set flags, so a number above d is searched for as d
 pub ask_least : (d w n m : ℕ) → m ≡ min n d → nth_one (bits d w) m ≡ nth_one (bits d w) n
 ask_least d w n m p = ⊎_elim
     (λ (h : n < d). let z : m ≡ n = omega arith in ap (nth_one (bits d w)) z)
@@ -182,9 +182,9 @@ ask_least d w n m p = ⊎_elim
     ∙ sym (nth-missing (bits d w) n (omega (arith, count-le (bits d w), length-bits d w))))
     (cases_lt n d)
 
--- ---- the turns of the two loops, over the flags of a span
+-- ---- the iterations of the two loops, over the flags of a span
 
--- the flags of a number are those of a window
+-- the window holds the n-th set flag
 pub turn-there : (l m : List Bool) (n at i : ℕ) → m ≡ window l at 32 → IsThere m n i → Some (at + i) ≡ nth_from l n at
 turn-there l m n at i e h =
     ap (λ (x : ℕ). Some (at + x)) (h.place ∙ ap (λ (t : List Bool). nth_place t n) e)
@@ -198,12 +198,12 @@ turn-only l m n at k e h =
 pub turn_end : (l : List Bool) (start size n at : ℕ) → size ≤ at → None ≡ nth_from (window l start size) n at
 turn_end l start size n at h = from_end (window l start size) n at (omega (arith, length-window l start size))
 
--- the last window is passed over
+-- the last window is passed over: there is no such flag
 pub turn_last : (l m : List Bool) (start size n at k : ℕ) → m ≡ window (window l start size) at 32 → IsOnly m n k → size ≤ at + 32
     → None ≡ nth_from (window l start size) n at
 turn_last l m start size n at k e h z = turn_end l start size (n - k) (at + 32) z ∙ turn-only (window l start size) m n at k e h
 
--- a window that has enough set flags has not too few
+-- a window cannot have both enough set flags and too few
 pub enough : (bytes : List ℕ) (start size at left w ones : ℕ) → count (bits 32 (window_word bytes start size at)) ≤ left
     → w ≡ window_word bytes start size at → ones ≡ count (bits 32 w) → left < ones → ⊥
 enough bytes start size at left w ones few e p h = omega (arith, p ∙ ap (λ (x : ℕ). count (bits 32 x)) e)
@@ -217,7 +217,7 @@ back-flags : (bytes : List ℕ) (start size e s w : ℕ) → e ≤ size → w �
 back-flags bytes start size e s w h p =
     window-flags bytes start e s w p ∙ ap (λ (t : List Bool). window t s 32) (span-take (flags_of bytes) start size e h)
 
--- a window from s on, below e, in a span of so many flags
+-- a window that starts at s and ends at or below e, in a span of `size` flags
 pub record Below (size s e : ℕ) : Type 0 where
   pub low : s ≤ e
   pub inside : e ≤ size

@@ -1,4 +1,4 @@
--- The plain reading of the two searches: where they give a position, and where none. Assumes nothing.
+-- The plain reading of the two searches: when they return a position, which one, and when none.
 use Rattle.std.specs.Prelude.{Some, None}
 use mathlib.Core.Path.{◌≡◌, sym, ap, ◌∙◌}
 use mathlib.Core.Bool.{Bool, true, false}
@@ -16,14 +16,14 @@ use Rattle.masks.specs.Search.{nth_from, nth_back}
 
 -- ---- forward
 
--- p is in the list, at or after `from`; its flag is set; n set flags stand between
+-- p is in the list, at or after `from`; its flag is set; n set flags lie between
 pub record Forward (l : List Bool) (n from p : ℕ) : Type 0 where
   pub after : from ≤ p
   pub inside : p < length l
   pub is_set : get_or l p false ≡ true
   pub between : count (window l from (p - from)) ≡ n
 
--- If more than n flags are set from `from` on, a position is given, and it is that of the n-th,
+-- If more than n flags are set at or after `from`, a position is returned, that of the n-th,
 pub forward-some : (l : List Bool) (n from : ℕ) → n < count (drop from l) → (p : ℕ) × ((nth_from l n from ≡ Some p) × Forward l n from p)
 unfolding nth_from
 forward-some l n from h =
@@ -51,14 +51,14 @@ forward-none l n from h = rw (le-ltb n (count (drop from l)) h)
 
 -- ---- down from below an end
 
--- p is in the list, below `end`; its flag is set; n set flags stand between it and the end
+-- p is in the list, below `end`; its flag is set; n set flags lie between it and the end
 pub record Backward (l : List Bool) (n end p : ℕ) : Type 0 where
   pub below : p < end
   pub inside : p < length l
   pub is_set : get_or l p false ≡ true
   pub between : count (drop (suc p) (take end l)) ≡ n
 
--- If more than n flags are set below `end`, a position is given, and it is that of the n-th counted down,
+-- If more than n flags are set below `end`, a position is returned, that of the n-th counted down,
 pub backward-some : (l : List Bool) (n end : ℕ) → n < count (take end l) → (p : ℕ) × ((nth_back l n end ≡ Some p) × Backward l n end p)
 unfolding nth_back
 backward-some l n end h =

@@ -1,4 +1,4 @@
--- The serial of every record that a call gives: `specs/SerialPlain.antt`. Assumes nothing.
+-- The serial of every record that a call returns: the statements of `specs/SerialPlain.antt`.
 use Rattle.std.specs.Prelude.{Some, None}
 use Rattle.std.proofs.lemmas.Bool.{cases_lt}
 use mathlib.Core.Path.{◌≡◌, refl, sym, ap, ◌∙◌, subst}

@@ -1,5 +1,5 @@
--- A slice of a mask with a true count has a true count, and check 7 never fails, whatever the input; a slice of the whole changes
--- nothing; the count of a combination is true of the flags it writes. Assumes nothing.
+-- A slice of a mask with a true count has a true count, and check 7 never fails, whatever the input. A slice of the whole mask changes
+-- nothing. The count of a combination is true of the flags that it writes.
 use Rattle.masks.specs.declared.refusal.Refusal.TheVariants.{WrongRecount}
 use Rattle.std.specs.Prelude.{Option, Some, None, Ok, Err}
 use mathlib.Core.Path.{◌≡◌, refl, sym, ap, ap₂, ◌∙◌}
@@ -48,7 +48,7 @@ zeros-of-zeros : (n : ℕ) → zeros (copies n false) ≡ n
 unfolding zeros
 zeros-of-zeros n = omega (arith, count-not (copies n false), length-copies n false, count-none-set n)
 
--- where nothing is counted
+-- the count of a mask whose flags are not counted (unknown, or 0 for no flags) is true
 pub none_true : (n : ℕ) (l : List Bool) → length l ≡ n → TrueCount (uncounted n) l
 none_true n l e = go (eqb n 0) refl
   where
@@ -56,7 +56,7 @@ none_true n l e = go (eqb n 0) refl
     go true p = let z : n ≡ 0 = eqb-true n 0 p in let r : 0 ≡ zeros l = omega (arith, zeros-most l n (zeros l) e refl) in r
     go false p = tt
 
--- ---- a slice of n flags from `offset` on, of `old` flags from `start` on
+-- ---- a slice of n flags that starts at `offset`, of `old` flags that start at `start`
 
 module _ (l : List Bool) (start old offset n : ℕ) (h : offset + n ≤ old) where
   abbrev first : ℕ
@@ -115,7 +115,7 @@ module _ (l : List Bool) (start old offset n : ℕ) (h : offset + n ≤ old) whe
           rw (le-leb (first + last) z p, le-leb (z - (first + last)) n q)
       go false = refl
 
--- ---- the same of masks
+-- ---- slices of masks
 
 -- the flags of a slice are those of its piece
 pub slice-flags : (m : Bitmap) (bytes : List ℕ) (offset n : ℕ) → offset + n ≤ m.length
@@ -139,7 +139,7 @@ piece-truthful m bytes offset n e =
     let rest : List Check = within_limit offset ∷ within_limit n ∷ within_limit (m.start + offset) ∷ six in
     mask-truthful m bytes (both_left (mask_checks m bytes) rest e)
 
--- check 7 decides nothing: where the others pass the count is true, or not known
+-- check 7 never fails: if the others pass, the count is true or unknown, so the number is that of the others
 pub slice-number : (m : Bitmap) (bytes : List ℕ) (offset n : ℕ)
     → first_failed (piece_checks m bytes offset n) ≡ first_failed (slice_checks m bytes offset n)
 unfolding slice_checks
@@ -161,7 +161,7 @@ pub slice-accepted : (m : Bitmap) (bytes : List ℕ) (offset n : ℕ)
 unfolding slice_of
 slice-accepted m bytes offset n = ap (λ (k : ℕ). decided k m (sliced_mask m bytes offset n)) (sym (slice-number m bytes offset n))
 
--- ---- the whole
+-- ---- the slice of the whole mask
 
 whole-count : (old : ℕ) (u : Option ℕ) (l : List Bool) → length l ≡ old → TrueCount u l
     → (sliced_count old old 0 u ≡ u) × (recount_valid old old 0 u ≡ true)
@@ -199,7 +199,7 @@ whole-allowed m bytes e =
     (within_limit 0 ∷ within_limit m.length ∷ within_limit (m.start + 0) ∷ check 6 (leb (0 + m.length) m.length) ∷ []) 0 0 (sym e) refl
     (rw (le-leb m.length limit a.short, le-leb (m.start + 0) limit (omega (arith, a.starts)), le-leb (0 + m.length) m.length (omega arith)))
 
--- a slice of the whole gives every mask back as it was
+-- a slice of the whole mask returns the mask unchanged
 pub slice-whole : (m : Bitmap) (bytes : List ℕ) → first_failed (mask_checks m bytes) ≡ 0 → slice_of m bytes 0 m.length ≡ given m
 slice-whole m bytes e =
     let none = none-cut m bytes in

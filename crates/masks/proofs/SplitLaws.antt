@@ -1,4 +1,4 @@
--- The aligned split: its parts are in bounds, and in a row they are the span's flags. Assumes nothing.
+-- The aligned split: its parts are in bounds, and joined they are the span's flags. For `AlignedBitmapSlice` and the five counts.
 use mathlib.Core.Path.{◌≡◌, refl, sym, ap, ap₂, ◌∙◌}
 use mathlib.Core.Bool.{Bool, true, false, cond}
 use mathlib.Core.List.{List, [], ◌++◌}
@@ -18,7 +18,7 @@ use Rattle.masks.specs.Checks.{first_failed, limit, span_checks, address_checks}
 use Rattle.masks.specs.Workers.{split_flags, Bounded}
 use Rattle.masks.proofs.CheckLaws.{by-test, both_left, both_right, span-allowed, address_allowed}
 
--- the first whole word is not before the span's first flag, and at most a word further
+-- the first whole word begins at or after the span's first flag, and at most a word after its first byte
 pub record Offset (start offset : ℕ) : Type 0 where
   pub low : start % 8 ≤ 8 * offset
   pub high : offset ≤ 8
@@ -31,7 +31,7 @@ offset-of start address =
     (λ h. record { low = h; high = omega arith })
     (λ h. record { low = omega arith; high = omega arith })
 
--- a prefix length p, whole words from the byte b on
+-- a prefix of p flags, and whole words that start at byte b
 pub record Placed (start n p b : ℕ) : Type 0 where
   pub fits : p ≤ n
   pub word : p ≤ 64
@@ -63,7 +63,7 @@ window-none : (l : List Bool) (x : ℕ) → [] ≡ window l x 0
 unfolding window
 window-none l x = refl
 
--- a word of at most 64 flags, taken apart again
+-- the first p flags of the word of p flags are these flags
 word_flags_lem : (l : List Bool) (s p : ℕ) → p ≤ 64 → take p (bits 64 (word_of (window l s p))) ≡ window l s p
 word_flags_lem l s p h =
     ap (take p) (bits-window 64 (window l s p))
@@ -72,7 +72,7 @@ word_flags_lem l s p h =
     zero-window : window (window l s p) (0 + 0) p ≡ window l s p
     zero-window = ap (λ (n : ℕ). window (window l s p) 0 n) (sym (length-window l s p)) ∙ window-all (window l s p)
 
--- three parts in a row
+-- the flags of the three parts, joined, are the span's
 three-parts : (l : List Bool) (start n p b : ℕ) → Placed start n p b
     → window l start p ++ (window l (8 * b) (64 * ((n - p) / 64)) ++ window l (start + n - (n - p) % 64) ((n - p) % 64)) ≡ window l start n
 three-parts l start n p b h =
@@ -103,7 +103,7 @@ split-flags bytes start n address =
     (word_flags_lem (flags_of bytes) (start + n - suffix_length start n address) (suffix_length start n address) low)
     ∙ three-parts (flags_of bytes) start n (prefix_length start n address) (bulk_start_of start n address) h
 
--- ---- what a count over a split asks
+-- ---- what a count over a split needs
 
 pub split-bounded : (bytes : List ℕ) (start n address : ℕ) → start ≤ 2 * limit → n ≤ limit → Bounded (aligned_split bytes start n address)
 split-bounded bytes start n address hs hn =
@@ -111,18 +111,18 @@ split-bounded bytes start n address hs hn =
     let near : bulk_start_of start n address ≤ start / 8 + 8 = h.near in
     record { prefix_fits = h.word; suffix_fits = omega arith; bulk_starts = omega arith; bulk_fits = omega arith }
 
--- a number of a split's flags is the span's
+-- a number that is f of a split's flags is f of the span's flags
 pub split-number : (f : List Bool → ℕ) (bytes : List ℕ) (start n address c : ℕ) (s : AlignedBitmapSlice)
     → s ≡ aligned_split bytes start n address → c ≡ f (split_flags bytes s) → c ≡ f (stretch bytes start n)
 split-number f bytes start n address c s e p =
     p ∙ ap (λ (t : AlignedBitmapSlice). f (split_flags bytes t)) e ∙ ap f (split-flags bytes start n address)
 
--- its ones too
+-- the ones of a split are the span's
 pub split-count : (bytes : List ℕ) (start n address c : ℕ) (s : AlignedBitmapSlice)
     → s ≡ aligned_split bytes start n address → c ≡ count (split_flags bytes s) → c ≡ count (stretch bytes start n)
 split-count = split-number count
 
--- what is known of a span whose checks have passed, with its address
+-- what follows if the checks of a span with an address pass
 pub aligned-allowed : (start n size address : ℕ) → first_failed (aligned_checks start n size address) ≡ 0
     → (start ≤ 2 * limit) × ((n ≤ limit) × (address ≤ 7))
 unfolding aligned_checks

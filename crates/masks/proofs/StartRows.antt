@@ -1,4 +1,4 @@
--- The rows of `specs/StartRows.antt`, all at once and by computation. Assumes nothing.
+-- The rows of `specs/StartRows.antt`, all at once and by computation.
 use mathlib.Core.Path.{refl}
 use Rattle.words.specs.Ends.{leading}
 use Rattle.words.specs.Flags.{bits, copies, count, flags_of, over, window, word_of}

@@ -1,4 +1,4 @@
--- Which of two masks wins, and its part: for `superseding_part` and the calls over it. Assumes nothing.
+-- Which of two masks wins, and the part of its bytes: for `superseding_part` and the calls over it.
 use mathlib.Core.Path.{◌≡◌, refl, sym, ap, ◌∙◌, subst}
 use mathlib.Core.Bool.{Bool, true, false, cond, not, ◌||◌}
 use mathlib.Core.List.{List, [], ◌∷◌, ◌++◌}
@@ -24,7 +24,7 @@ module _ (a : Bitmap) (a_bytes : List ℕ) (b : Bitmap) (b_bytes : List ℕ) whe
   abbrev masks : List Check
   masks = mask_checks a a_bytes ++ mask_checks b b_bytes
 
-  -- every number of a mask's checks is put before 14
+  -- every number of a mask's checks comes before 14 in the order
   pub masks-before : before 14 masks ≡ true
   unfolding mask_checks span_checks rank place_in
   masks-before = refl
@@ -63,7 +63,7 @@ module _ (a : Bitmap) (a_bytes : List ℕ) (b : Bitmap) (b_bytes : List ℕ) whe
       first-number masks k 13 (agree a a_bytes b b_bytes) masks-before n
       (λ z. refused-failed k (first_failed masks) tt tt same e (sym n ∙ z))
 
-  -- ---- where all checks have passed
+  -- ---- all checks pass
 
   passed-masks : first_failed (superseding_checks a a_bytes b b_bytes) ≡ 0 → first_failed masks ≡ 0
   unfolding superseding_checks
@@ -95,7 +95,7 @@ module _ (a : Bitmap) (a_bytes : List ℕ) (b : Bitmap) (b_bytes : List ℕ) whe
 
 -- ---- the part of the bytes
 
--- a part lies in its slice
+-- a part lies inside the caller's slice
 pub record Inside (p : Part) (a_bytes b_bytes : List ℕ) : Type 0 where
   pub rising : p.from ≤ p.to
   pub ends : p.to ≤ length (cond p.second b_bytes a_bytes)

@@ -1,4 +1,4 @@
--- What superseding means: `specs/SupersedingPlain.antt`. Assumes nothing.
+-- What superseding means: the statements of `specs/SupersedingPlain.antt`.
 use Rattle.std.proofs.lemmas.Bool.{true≢false}
 use mathlib.Core.Path.{◌≡◌, refl, sym, ap, ◌∙◌, subst}
 use mathlib.Core.Bool.{Bool, true, false, cond, not, ◌&&◌, ◌||◌}
@@ -32,7 +32,7 @@ use Rattle.masks.proofs.SupersedingLaws.{apart, first_wins, masks-before, second
 
 -- ---- the part of the bytes
 
--- flags below a cut are those of the whole list
+-- the flags below a cut are those of the whole list
 window-below : (l : List Bool) (m k n : ℕ) → k + n ≤ m → window (take m l) k n ≡ window l k n
 window-below l m k n h =
     window-ext (take m l) l k k n
@@ -66,7 +66,7 @@ module _ (m : Bitmap) (bytes : List ℕ) (e : Accepted m bytes) where
       ∙ window-drop (flags_of bytes) (8 * from) (m.start % 8) m.length
       ∙ ap (λ (k : ℕ). window (flags_of bytes) k m.length) at
 
-  -- a count is as true of the part as of the bytes
+  -- a count is true of the part exactly if it is true of the bytes
   count_kept : count_valid (fitted m) part ≡ count_valid m bytes
   count_kept = ap (λ (l : List Bool). count_is m.unset (zeros l)) part-flags
 
@@ -139,7 +139,7 @@ module _ (a : Bitmap) (a_bytes : List ℕ) (b : Bitmap) (b_bytes : List ℕ) whe
   refused-different p q s n =
       last-refused masks 0 13 (agree a a_bytes b b_bytes) tt (winning a b) (both-passed p q) refl (agreed s ∙ differ n)
 
-  -- 14 is no number of a mask's checks: where it comes, these have passed
+  -- 14 is no number of a mask's checks: if the number is 14, these have passed
   fourteen-number : superseding_of a a_bytes b b_bytes ≡ refused 14 tt → 14 ≡ first_failed (superseding_checks a a_bytes b b_bytes)
   unfolding superseding_of
   fourteen-number e = refused-number 14 (first_failed (superseding_checks a a_bytes b b_bytes)) tt tt (winning a b) (sym e)
@@ -196,7 +196,7 @@ module _ (a : Bitmap) (a_bytes : List ℕ) (b : Bitmap) (b_bytes : List ℕ) whe
     eq_unserialled = λ s t. refl;
   }
 
--- ---- the part that is given
+-- ---- the part that is returned
 
 module _ (a : Bitmap) (a_bytes : List ℕ) (b : Bitmap) (b_bytes : List ℕ)
     (e : 0 ≡ first_failed (superseding_checks a a_bytes b b_bytes)) where

@@ -1,4 +1,4 @@
--- The first one at or after a place, by the zeros before it, and what a cursor over ones gives. Assumes nothing.
+-- The first one at or after a place, found by the zeros before it, and the answers of a cursor over ones. For `TrueIdxIter`.
 use Rattle.std.specs.Prelude.{Some, None}
 use mathlib.Core.Path.{◌≡◌, refl, sym, ap, ◌∙◌}
 use mathlib.Core.Bool.{Bool, true, false, cond}
@@ -23,7 +23,7 @@ use Rattle.masks.specs.declared.true_idx.TrueIdxIter.{TrueIdxIter}
 use Rattle.masks.proofs.CheckLaws.{check-allowed, both_left, both_right}
 use Rattle.masks.proofs.CursorLaws.{CursorAllowed, cursor-allowed}
 
--- ---- the first one is behind the leading zeros
+-- ---- the first one comes after the leading zeros
 
 first-there : (l : List Bool) → leading false l < length l → 0 < count l
 unfolding leading count
@@ -80,7 +80,7 @@ flags-length c bytes =
     by_mask c.masked (stretch bytes c.start c.length) (copies c.length true) c.length
     (length-window _ c.start c.length) (length-copies c.length true)
 
--- ---- what is known where the checks have passed
+-- ---- what follows if the checks pass
 
 pub record TrueAllowed (c : TrueIdxIter) : Type 0 where
   pub starts : c.start ≤ limit
@@ -97,7 +97,7 @@ three-passed a b c e =
       ),
     )
 
--- of a cursor over a mask
+-- what follows for a cursor over a mask
 pub masked-allowed : (c : TrueIdxIter) (size : ℕ) → c.masked ≡ true → first_failed (true_checks c size) ≡ 0
     → CursorAllowed c.start c.length c.place size
 unfolding true_checks

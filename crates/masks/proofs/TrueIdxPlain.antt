@@ -1,4 +1,4 @@
--- The plain reading of a cursor over ones: its calls list all positions of ones, rising; with no mask every position. Assumes nothing.
+-- The plain reading of a cursor over ones: its calls list all positions of ones in rising order; without a mask every position.
 use Rattle.std.specs.Prelude.{Option, Some, None, slice_get}
 use Rattle.std.proofs.lemmas.Bool.{cases_lt}
 use mathlib.Core.Path.{◌≡◌, refl, sym, ap, ◌∙◌, subst}
@@ -30,7 +30,7 @@ use Rattle.masks.proofs.Listing.{Moves, gives, ends, lists, place-accepted, plac
 use Rattle.masks.proofs.SearchPlain.{forward-none}
 use Rattle.masks.proofs.TrueIdxLaws.{flags-length}
 
--- ---- one flag more
+-- ---- one more flag
 
 no-flags : (k : ℕ) (l : List Bool) → length l ≡ 0 → ones_from k l ≡ []
 unfolding ones_from
@@ -60,7 +60,7 @@ pub at_one : (l : List Bool) (p : ℕ) → p < length l → get_or l p false ≡
 unfolding ones_left
 at_one l p h e = ap (ones_from p) (first-flag l p true h e) ∙ a_one p (drop (suc p) l)
 
--- ---- the list of positions is all ones, rising
+-- ---- the list of positions has all ones, in rising order
 
 zero-before : {l : List Bool} {p : ℕ} {is : List ℕ} → get_or l p false ≡ false → AllOnes l (suc p) is → AllOnes l p is
 zero-before {l} {p} e (no_one z) = no_one (λ (j : ℕ) (h : p ≤ j). ⊎_elim
@@ -114,7 +114,7 @@ none-set k [] h = refl
 none-set k (true ∷ m) h = absurd (omega arith)
 none-set k (false ∷ m) h = none-set (suc k) m (omega arith)
 
--- where the first one at or after a place is
+-- the position of the first one at or after a place
 abbrev first : List Bool → ℕ → ℕ
 first l place = place + nth_place (drop place l) 0
 
@@ -154,7 +154,7 @@ same_flags_lem : (c : TrueIdxIter) (bytes : List ℕ) (q : ℕ) → true_flags (
 unfolding true_flags
 same_flags_lem c bytes q = refl
 
--- the call's answer, and what the cursor has before it
+-- the answer of `next`, and the positions that the cursor has left
 abbrev pub answer-of : List ℕ → TrueIdxIter → Answer TrueIdxIter (Step TrueIdxIter ℕ)
 answer-of bytes c = next_true c bytes
 
@@ -167,7 +167,7 @@ IsAccepted bytes c = first_failed (true_checks c (length bytes)) ≡ 0
 abbrev far-of : TrueIdxIter → ℕ
 far-of c = c.length - c.place
 
--- one call: the first position that is left, and a cursor with the others before it; or none, where nothing is left
+-- one call returns the first position that is left, and a cursor with the others left; or none, if nothing is left
 pub data NextOne (bytes : List ℕ) (c : TrueIdxIter) : Type 0 where
   one-next : (p : ℕ) → c.place ≤ p → p < c.length → next_true c bytes ≡ given (item p (true_moved c (p + 1)))
       → IsAccepted bytes (true_moved c (p + 1))
@@ -207,7 +207,7 @@ moves bytes c ok = go (next_one bytes c ok)
     go (one-next p low high e o f) = gives p (true_moved c (p + 1)) e o (omega arith) f
     go (none-next e f) = ends (true_moved c c.length) e f
 
--- A cursor that `next` accepts lists, until it gives none, just the positions of ones at or after its place, rising.
+-- A cursor that `next` accepts lists, until it returns none, exactly the positions of ones at or after its place, in rising order.
 pub lists-ones : (bytes : List ℕ) (c : TrueIdxIter) → first_failed (true_checks c (length bytes)) ≡ 0 → (k : ℕ) → c.length - c.place < k
     → listing (λ (d : TrueIdxIter). next_true d bytes) k c ≡ ones_left (true_flags c bytes) c.place
 lists-ones bytes c ok k h = lists (answer-of bytes) (left-of bytes) (IsAccepted bytes) far-of (moves bytes) k c ok h
@@ -220,7 +220,7 @@ zero-limit : 0 ≡ first_failed (within_limit 0 ∷ [])
 unfolding first_failed earlier
 zero-limit = refl
 
--- What `new` accepts `next` accepts.
+-- If `new` accepts its arguments, `next` accepts the cursor.
 accepted-new : (n : ℕ) (mask : Option Bitmap) (bytes : List ℕ) → first_failed (new_true_checks n mask bytes) ≡ 0
     → IsAccepted bytes (first_true n mask)
 unfolding new_true_checks first_true true_checks cursor_checks mask_checks
@@ -248,13 +248,13 @@ new-lists-ones n None bytes e =
     lists-ones bytes (first_true n None) (accepted-new n None bytes e) (suc n) (omega arith)
     ∙ from_first (true_flags (first_true n None) bytes)
 
--- ---- with no mask
+-- ---- without a mask
 
 pub unmasked : (c : TrueIdxIter) (bytes : List ℕ) → c.masked ≡ false → true_flags c bytes ≡ copies c.length true
 unfolding true_flags
 unmasked c bytes e = rw e
 
--- every position from k on, as many as there are flags
+-- position i of n ones that begin at k is k + i
 pub each-position : (k n i : ℕ) → i < n → slice_get (ones_from k (copies n true)) i ≡ Some (k + i)
 unfolding ones_from copies
 each-position k zero i h = absurd (omega arith)

@@ -1,4 +1,4 @@
--- Where the counts are true a shortcut is never seen: the flags written are the operation on the arguments' flags. Assumes nothing.
+-- If the counts are true, a shortcut makes no difference: the flags written are the operation on the arguments' flags.
 use Rattle.std.specs.Prelude.{Option, Some, None}
 use Rattle.std.proofs.Math.Bool.{and-false, or-true}
 use mathlib.Core.Path.{◌≡◌, refl, sym, ap, ap₂, ◌∙◌}
@@ -44,7 +44,7 @@ all_one (x ∷ l) zero e h = absurd (omega arith)
 all_one (true ∷ l) (suc n) e h = ap (λ (t : List Bool). true ∷ t) (all_one l n (omega arith) (omega arith))
 all_one (false ∷ l) (suc n) e h = absurd (omega arith)
 
--- ---- an operation that a constant list decides
+-- ---- an operation whose result a constant list fixes
 
 zip-first-constant : (f : Bool → Bool → Bool → Bool) (x w : Bool) → ((y z : Bool) → f x y z ≡ w) → (n : ℕ) (m : List Bool) → length m ≡ n
     → zip3 f (copies n x) m m ≡ copies n w
@@ -69,7 +69,7 @@ unfolding zip3 copies
 zip_constants f x y zero = refl
 zip_constants f x y (suc n) = ap (λ (t : List Bool). f x y y ∷ t) (zip_constants f x y n)
 
--- ---- one law over the operation
+-- ---- one law for all operations
 
 module _ (l m : List Bool) (n : ℕ) (el : length l ≡ n) (em : length m ≡ n) where
   and-seen : (a b : Bool) → eqb (zeros l) n ≡ a → eqb (zeros m) n ≡ b
@@ -125,7 +125,7 @@ module _ (l m : List Bool) (n : ℕ) (el : length l ≡ n) (em : length m ≡ n)
   shortcut_unseen Not = refl
   shortcut_unseen Select = refl
 
--- the count that a truthful mask brings
+-- the count of a mask with an unknown or a true count is the number of its zeros
 pub true-count : (m : Bitmap) (bytes : List ℕ) → Truthful m bytes → zero_count m bytes ≡ zeros (mask_flags m bytes)
 unfolding zero_count
 true-count m bytes t = go m.unset t

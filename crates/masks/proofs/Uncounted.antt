@@ -1,5 +1,5 @@
--- The theorem on counts, proved: the list of checks of a mask whose checks pass is that of the same mask uncounted, and so is the
--- number of zeros that it brings; a call sees nothing else of a count. Assumes nothing.
+-- The theorem on counts, proved: if the checks of a mask pass, they are those of the same mask with its count unknown, and so is the
+-- number of zeros that a call uses; a call uses nothing else of a count.
 use Rattle.std.specs.Prelude.{Option, Some, None}
 use Prim.Native.Nat.{ℕ, zero, suc, ◌+◌}
 use mathlib.Core.Path.{◌≡◌, refl, sym, ap, ap₂, ◌∙◌}
@@ -35,13 +35,13 @@ use Rattle.masks.proofs.MaskLaws.{mask-truthful, true-valid}
 use Rattle.masks.proofs.SliceTruth.{slice-accepted}
 use Rattle.masks.proofs.TrueLaws.{true-count}
 
--- what holds of a number of checks holds whatever the count
+-- two answers by the same number are equal except for their counts if their masks are
 but_count_lem : (k : ℕ) (m s t : Bitmap) → forgot s ≡ forgot t → but_count (decided k m s) ≡ but_count (decided k (forgot m) t)
 unfolding decided
 but_count_lem zero m s t e = ap given e
 but_count_lem (suc k) m s t e = refl
 
--- a part given or refused, but for its count
+-- two answers with a part by the same number are equal except for their counts if their parts are
 part_but_count_lem : (k : ℕ) (p q : Part) → forgot_part p ≡ forgot_part q
     → part_but_count (decided k tt p) ≡ part_but_count (decided k tt q)
 unfolding decided
@@ -193,7 +193,7 @@ module _ (m : Bitmap) (bytes : List ℕ) (e : first_failed (mask_checks m bytes)
           (over out (frozen (result_flags (shortcut op b.length (zero_count b b_b) z) b.length (pair_each op b b_b m bytes)))) out)
           (pair-right (length out)) same_count
 
-  -- ---- combinations with no shortcut: the checks alone
+  -- ---- combinations with no shortcut: only their checks use the counts
 
   not_alike : (size : ℕ) → not_checks m bytes size ≡ not_checks (forgot m) bytes size
   unfolding not_checks

@@ -1,4 +1,4 @@
--- Each number by which a call may refuse has an input, by computation. Assumes nothing.
+-- For each number by which a call may refuse, an input at which it comes out, by computation.
 use mathlib.Core.Path.{refl}
 use mathlib.Core.Bool.{xor}
 use Rattle.words.specs.Counts.{any_set, same_flags}

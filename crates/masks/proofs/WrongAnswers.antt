@@ -1,6 +1,6 @@
--- The wrong answers of the five `specs/Wrong..` tables are ruled out, by computation. Assumes nothing.
+-- The wrong answers of the `specs/Wrong..` tables, except `WrongNext`, are ruled out, by computation.
 --
--- What a crate above needs for a table of its own is passed on: it may not use words.
+-- The definitions that a crate above needs for a table of its own are passed on, because that crate may not use words.
 use Rattle.std.specs.Prelude.{Option, Some, None}
 use Prim.Native.Nat.{ℕ}
 use mathlib.Core.Path.{refl}
@@ -83,7 +83,7 @@ answer state value (refused k s) = k ∷ state s
 abbrev pub plain : {A : Type 0} → Code A → Code (Answer (Unit {0}) A)
 plain value = answer none-code value
 
--- with what a lent buffer then holds
+-- an answer with the bytes of a lent buffer after the call
 abbrev pub writing : {A : Type 0} → Code A → Code (A × List ℕ)
 writing code = both code (λ bytes. bytes)
 
@@ -91,7 +91,7 @@ abbrev step : {C A : Type 0} → Code C → Code A → Code (Step C A)
 step cursor value (item a c) = 1 ∷ (value a ++ cursor c)
 step cursor value (ended c) = 0 ∷ cursor c
 
--- of a cursor's call
+-- the answer of a cursor's call
 abbrev stepping : {C A : Type 0} → Code C → Code A → Code (Answer C (Step C A))
 stepping cursor value = answer cursor (step cursor value)
 

@@ -1,6 +1,6 @@
--- The wrong answers of `specs/WrongNext.antt` are ruled out, by computation. Assumes nothing.
+-- The wrong answers of `specs/WrongNext.antt` are ruled out, by computation.
 --
--- What a crate above needs for a table of its own is passed on: it may not use words.
+-- The definitions that a crate above needs for a table of its own are passed on, because that crate may not use words.
 use mathlib.Core.Path.{refl}
 use Rattle.words.proofs.WrongAnswers.{same_code, tried}
 use Rattle.words.specs.Flags.{bits, flags_of, window}

@@ -1,4 +1,4 @@
--- The aligned split of a span: a prefix, whole words at addresses divisible by 8, and a suffix. Assumes nothing.
+-- The aligned split of a span: a prefix, whole words at addresses divisible by 8, and a suffix.
 --
 -- The address is that of the first lent byte, as its remainder by 8: the Rust takes the address itself.
 use Rattle.std.specs.Prelude.{ℕ, ◌+◌, ◌-◌, ◌*◌, ◌/◌, ◌%◌, Bool, cond, List, ◌++◌, leb, length}
@@ -8,16 +8,16 @@ use Rattle.masks.specs.Answer.{Answer, given, checked, unless_empty}
 use Rattle.masks.specs.Checks.{Check, span_checks, address_checks}
 use Rattle.masks.specs.declared.aligned.AlignedBitmapSlice.{AlignedBitmapSlice}
 
--- from the span's first byte to the next whose address is divisible by 8
+-- bytes from the span's first byte to the first one whose address is divisible by 8; 0 if its own is
 abbrev pub bytes_to_aligned : ℕ → ℕ → ℕ
 bytes_to_aligned start address = (8 - (address + start / 8) % 8) % 8
 
--- the same, but a word further where the span begins inside the byte that is aligned
+-- bytes from the span's first byte to its whole words: to the first aligned byte, or a word further if the span begins inside it
 unfoldable pub bulk_offset : ℕ → ℕ → ℕ
 bulk_offset start address =
     cond (leb (start % 8) (8 * bytes_to_aligned start address)) (bytes_to_aligned start address) (bytes_to_aligned start address + 8)
 
--- a span that fits a word from its first byte on
+-- whether a span of n flags fits one word that starts at its first byte
 abbrev pub short : ℕ → ℕ → Bool
 short start n = leb (start % 8 + n) 64
 
@@ -44,11 +44,11 @@ aligned_split bytes start n address =
       suffix_len = suffix_length start n address;
     }
 
--- of no flags: all 0
+-- the split of no flags: all 0
 abbrev pub empty_split : AlignedBitmapSlice
 empty_split = record { prefix = 0; prefix_len = 0; bulk_start = 0; bulk_len = 0; suffix = 0; suffix_len = 0 }
 
--- checks 1, 2 and 8
+-- checks 1, 2 and 8 of a span of n flags over `size` bytes, at an address remainder
 unfoldable pub aligned_checks : ℕ → ℕ → ℕ → ℕ → List Check
 aligned_checks start n size address = span_checks start n size ++ address_checks address
 

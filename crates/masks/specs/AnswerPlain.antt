@@ -1,8 +1,8 @@
--- What each answer of the code stands for: a value gives just that value, and a refusal refuses by its number, with the record that it
--- carries. Assumes nothing.
+-- What each answer of the code means: a value is given as exactly that value, and a refusal refuses by its number, with the record that it
+-- carries.
 --
--- A contract compares an answer through `answer`, `answer_back` or `answer_step`. With their cases exchanged or a number altered there,
--- code that errs alike would be proved, and no table, which speaks of what is given and refused, would tell.
+-- A contract compares an answer through `answer`, `answer_back` or `answer_step`. If their cases were exchanged there or a number altered,
+-- code with the same error would be proved, and no table would show it, since the tables are about what is given and refused.
 use Rattle.std.specs.Prelude.{◌≡◌, Some, None, Ok, Err}
 use Rattle.masks.specs.Answer.{given, refused, answer, answer_back}
 use Rattle.masks.specs.Appends.{change_answer}
@@ -13,7 +13,7 @@ use Rattle.masks.specs.declared.refusal.Refusal.{Refusal}
 use Rattle.masks.specs.declared.refusal.Refusal.TheVariants.{OverLimit, PastBytes, FalseCount, UnequalLists, ImpossibleBuilder}
 use Rattle.masks.specs.declared.refusal.Refusal.TheVariants.{UnequalLengths, Outside, WrongRecount, WrongAddress, ShortOutput}
 
--- the numbers of document 01, and 14 of paper 02
+-- the numbers of the refusals: those of document 01, and 14 of paper 02
 pub record NumbersPlain : Type 0 where
   pub over_limit : number OverLimit ≡ 1
   pub past_bytes : number PastBytes ≡ 2
@@ -27,19 +27,19 @@ pub record NumbersPlain : Type 0 where
   pub unequal_lists : number UnequalLists ≡ 14
 
 pub record AnswersPlain : Type 1 where
-  -- a call that refuses with a number alone
+  -- a call that refuses with only a number
   pub gives : {A : Type 0} (a : A) → answer (Ok a) ≡ given a
   pub refuses : {A : Type 0} (r : Refusal) → answer {A = A} (Err r) ≡ refused (number r) tt
-  -- one that gives back the record that it got
+  -- a call that returns the record passed to it when it refuses
   pub gives_back : {S A : Type 0} (a : A) → answer_back {S = S} (Ok a) ≡ given a
   pub refuses_back : {S A : Type 0} (r : Refusal) (s : S)
       → answer_back {A = A} (Err (record { refusal = r; state = s })) ≡ refused (number r) s
-  -- a cursor's call
+  -- a call on a cursor
   pub steps : {C A : Type 0} (a : A) (c : C) → answer_step (Ok (record { item = Some a; cursor = c })) ≡ given (item a c)
   pub ends : {C A : Type 0} (c : C) → answer_step {A = A} (Ok (record { item = None; cursor = c })) ≡ given (ended c)
   pub refuses_step : {C A : Type 0} (r : Refusal) (c : C)
       → answer_step {A = A} (Err (record { refusal = r; state = c })) ≡ refused (number r) c
-  -- `push` over the caller's own record
+  -- `push_mut`, which changes the caller's own record
   pub changed : (b : BitmapBuilder) → change_answer 0 b ≡ given b
   pub passes : failure_of (Ok tt) ≡ 0
   pub fails : (r : Refusal) → failure_of (Err r) ≡ number r

@@ -1,6 +1,6 @@
--- What each append appends, in plain words: how many flags, and which is flag j of them. Assumes nothing.
+-- What each call appends, in plain words: how many flags, and which is flag j of them.
 --
--- The tables below read the arguments alone: bits of words and bytes by their numbers, and none of the lists that `Appends` makes.
+-- The tables below read only the arguments: bits of words and bytes by their numbers, and none of the lists that `Appends` makes.
 -- `AppendsPlainly` is proved of every call that appends, on every input that it accepts.
 use Rattle.std.specs.Prelude.{ℕ, ◌+◌, ◌*◌, ◌/◌, ◌%◌, ◌<◌, ◌≡◌, Bool, false, cond, List, ltb, length, get_or}
 use Rattle.words.specs.Flags.{bit_at, flag_at}
@@ -20,7 +20,7 @@ new_count (extend_bitmap m bytes start n) = n
 new_count (extend_gather bytes start n idxs) = length idxs
 new_count (extend_opt_gather bytes start n idxs) = length idxs
 
--- flag j of these
+-- flag j of the flags that a call appends
 abbrev pub new_flag : Append → ℕ → Bool
 new_flag (push_flag x) j = x
 new_flag (extend_constant n x) j = x
@@ -32,11 +32,11 @@ new_flag (extend_gather bytes start n idxs) j = flag_at bytes (start + get_or id
 -- an index at or past the span's length appends 0
 new_flag (extend_opt_gather bytes start n idxs) j = cond (ltb (get_or idxs j 0) n) (flag_at bytes (start + get_or idxs j 0)) false
 
--- flag j of a builder: of its buffer where its word is finished, else of the word in progress
+-- flag j of a builder: of its buffer if its word is finished, else of the word in progress
 abbrev pub builder_flag : BitmapBuilder → List ℕ → ℕ → Bool
 builder_flag b buf j = cond (ltb j (64 * (b.length / 64))) (flag_at buf j) (bit_at b.word (j % 64))
 
--- a call that gave this builder: its flags are those before, then the new ones
+-- an accepted call returned the builder `new`: its flags are those before the call, then the new ones
 pub record AppendsPlainly (a : Append) (b : BitmapBuilder) (buf : List ℕ) (new : BitmapBuilder) : Type 0 where
   pub long : new.length ≡ b.length + new_count a
   pub old : (j : ℕ) → j < b.length → builder_flag new (append_bytes a b buf) j ≡ builder_flag b buf j

@@ -1,7 +1,7 @@
--- The calls that append to a builder: their checks, and the flags that they append. Assumes nothing.
+-- The calls that append to a builder: their checks, and the flags that they append.
 --
--- Each call appends a list of flags where all its checks pass. Else the builder and the buffer are as they came. The
--- contracts and the step of a history read the same two tables, `append_checks` and `append_flags`.
+-- Each call appends a list of flags if all its checks pass. Else the builder and the buffer are unchanged. The contracts and the step of a
+-- history read the same two tables, `append_checks` and `append_flags`.
 use Rattle.std.specs.Prelude.{ℕ, ◌+◌, ◌*◌, Bool, true, false, ◌&&◌, List, [], ◌∷◌, ◌++◌, leb, ltb, length, get_or, take}
 use Rattle.words.specs.Flags.{copies, window, word_flags}
 use Rattle.words.specs.Loops.{stretch}
@@ -12,9 +12,9 @@ use Rattle.masks.specs.Mask.{mask_checks, mask_flags}
 use Rattle.masks.specs.declared.bitmap.Bitmap.{Bitmap}
 use Rattle.masks.specs.declared.builder.BitmapBuilder.{BitmapBuilder}
 
--- the calls, with their arguments save the builder and its buffer: `push` both ways, `extend_constant`,
--- `push_word_with_len_unchecked`, `extend_from_slice`, `extend_each_repeated_from_slice_unchecked`,
--- `subslice_extend_from_bitmap`, `gather_extend_from_slice`, `opt_gather_extend_from_slice`
+-- the calls, with their arguments except the builder and its buffer: `push` and `push_mut`, `extend_constant`,
+-- `push_word_with_len_unchecked`, `extend_from_slice`, `extend_each_repeated_from_slice_unchecked`, `subslice_extend_from_bitmap`,
+-- `gather_extend_from_slice`, `opt_gather_extend_from_slice`
 pub data Append : Type 0 where
   push_flag : Bool → Append
   extend_constant : ℕ → Bool → Append
@@ -27,36 +27,36 @@ pub data Append : Type 0 where
 
 -- ---- their checks
 
--- checks 1, 4 and 9, of a call that appends n flags
+-- checks 1, 4 and 9 of a call that appends n flags to a builder over a buffer of `size` bytes
 abbrev pub grow_checks : BitmapBuilder → ℕ → ℕ → List Check
 grow_checks b n size = builder_checks b (b.length + n) size
 
--- of a word besides these: its stated length, and check 6
+-- the checks of an append of n flags of a word: those of `grow_checks`, check 1 of the stated length n, and check 6
 unfoldable pub word_checks : BitmapBuilder → ℕ → ℕ → ℕ → List Check
 word_checks b size word n = grow_checks b n size ++ (within_limit n ∷ check 6 (leb n 64 && none_from word n) ∷ [])
 
--- of a constant besides these: its stated length
+-- the checks of an append of n copies of a flag: those of `grow_checks`, and check 1 of the stated length n
 unfoldable pub constant_checks : BitmapBuilder → ℕ → ℕ → List Check
 constant_checks b size n = grow_checks b n size ++ (within_limit n ∷ [])
 
--- of a span, where m flags are appended: checks 1 and 2 of it besides
+-- the checks of an append of m flags that reads a span of n: checks 1 and 2 of the span, and those of `grow_checks`
 unfoldable pub span_grow_checks : BitmapBuilder → List ℕ → List ℕ → ℕ → ℕ → ℕ → List Check
 span_grow_checks b buf bytes start n m = span_checks start n (length bytes) ++ grow_checks b m (length buf)
 
--- checks 1 and 6 of a piece of n flags from `start` on, in a mask of so many flags
+-- checks 1 and 6 of a piece of n flags starting at `start`, in a mask of `whole` flags
 unfoldable pub inner_checks : ℕ → ℕ → ℕ → List Check
 inner_checks start n whole = within_limit start ∷ within_limit n ∷ check 6 (leb (start + n) whole) ∷ []
 
--- of a piece of a mask besides checks 1, 4 and 9: the mask's, and the piece's
+-- the checks of an append of a piece of a mask: the mask's, the piece's, and those of `grow_checks`
 unfoldable pub subslice_checks : BitmapBuilder → List ℕ → Bitmap → List ℕ → ℕ → ℕ → List Check
 subslice_checks b buf m bytes start n = mask_checks m bytes ++ (inner_checks start n m.length ++ grow_checks b n (length buf))
 
--- is each index below n
+-- whether each index is below n
 unfoldable pub all_below : ℕ → List ℕ → Bool
 all_below n [] = true
 all_below n (i ∷ idxs) = ltb i n && all_below n idxs
 
--- of a gather besides those of its span: check 6
+-- the checks of a gather: those of its span and of as many flags as there are indices, and check 6 of the indices
 unfoldable pub gather_checks : BitmapBuilder → List ℕ → List ℕ → ℕ → ℕ → List ℕ → List Check
 gather_checks b buf bytes start n idxs = span_grow_checks b buf bytes start n (length idxs) ++ (check 6 (all_below n idxs) ∷ [])
 
@@ -67,7 +67,7 @@ unfoldable pub gathered : List Bool → List ℕ → List Bool
 gathered l [] = []
 gathered l (i ∷ idxs) = get_or l i false ∷ gathered l idxs
 
--- each flag so often, in turn
+-- each flag of a list k times, in turn
 unfoldable pub repeated : ℕ → List Bool → List Bool
 repeated k [] = []
 repeated k (x ∷ l) = copies k x ++ repeated k l
@@ -100,6 +100,6 @@ append_answer a b buf = checked (append_checks a b buf) b (appended (filling b b
 abbrev pub append_bytes : Append → BitmapBuilder → List ℕ → List ℕ
 append_bytes a b buf = kept (first_failed (append_checks a b buf)) (appended (filling b buf) (append_flags a)).bytes buf
 
--- what a call over the caller's own record answers: 0 or the number of a check, and the record that it leaves
+-- the answer of a call that changes the caller's own record, by 0 or the number of a check, and the record that it leaves
 abbrev pub change_answer : ℕ → BitmapBuilder → Answer BitmapBuilder BitmapBuilder
 change_answer n b = decided n b b

@@ -1,4 +1,4 @@
--- Spans cut in two, and windows of 32 flags. Assumes nothing.
+-- Spans cut in two, and windows of 32 flags.
 use Rattle.std.specs.Prelude.{ℕ, ◌+◌, ◌-◌, List, [], ◌∷◌, ◌++◌, leb, length}
 use Rattle.words.specs.Flags.{word_of, window}
 use Rattle.words.specs.Loops.{stretch}
@@ -11,20 +11,20 @@ use Rattle.masks.specs.declared.bitmask.Span.{Span}
 abbrev pub span_of : ℕ → ℕ → Span
 span_of start n = record { start = start; length = n }
 
--- checks 1, 2 and 6. The second part's start is put to check 1 too.
+-- checks 1, 2 and 6 of a span of n flags cut at `at`. Check 1 applies to the second part's start too.
 unfoldable pub split_checks : ℕ → ℕ → ℕ → ℕ → List Check
 split_checks start n at size = span_checks start n size ++ (within_limit (start + at) ∷ check 6 (leb at n) ∷ [])
 
--- the first `at` flags, and those behind them
+-- the spans of the first `at` flags, and of those after them
 unfoldable pub split_at : List ℕ → ℕ → ℕ → ℕ → Answer (Unit {0}) (Span × Span)
 split_at bytes start n at = checked (split_checks start n at (length bytes)) tt (span_of start at, span_of (start + at) (n - at))
 
 -- ---- a window of 32 flags
 
--- 32 flags of a span from the index on as a number, zeros past the span's end
+-- the 32 flags of a span starting at the index, as a number, with zeros past the span's end
 unfoldable pub window_word : List ℕ → ℕ → ℕ → ℕ → ℕ
 window_word bytes start n index = word_of (window (stretch bytes start n) index 32)
 
--- checks 1 and 2
+-- the answer of `get_u32`: checks 1 and 2, and the window
 unfoldable pub window_at : List ℕ → ℕ → ℕ → ℕ → Answer (Unit {0}) ℕ
 window_at bytes start n index = checked (span_checks start n (length bytes)) tt (window_word bytes start n index)

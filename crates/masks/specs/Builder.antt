@@ -1,4 +1,4 @@
--- The builder: its checks, and one definition of appending a list of flags. Assumes nothing.
+-- The builder: its checks, and one definition of appending a list of flags.
 use Rattle.std.specs.Prelude.{ℕ, ◌+◌, ◌*◌, ◌/◌, ◌%◌, Bool, not, ◌&&◌, List, ◌∷◌, ◌++◌, leb, length, take, drop}
 use Rattle.words.specs.Counts.{any_set}
 use Rattle.words.specs.Flags.{count, word_flags, word_of, flags_of, window}
@@ -14,27 +14,27 @@ pub record Filling : Type 0 where
 abbrev pub filling : BitmapBuilder → List ℕ → Filling
 filling b bytes = record { builder = b; bytes = bytes }
 
--- the one place where a builder's record is made, under its serial
+-- a builder under a serial, with its length, word and ones: the one place where its record is made
 abbrev pub builder_under : ℕ → ℕ → ℕ → ℕ → BitmapBuilder
 builder_under serial n word ones = record { length = n; word = word; ones = ones; serial = serial }
 
--- under serial 0, as a new one is
+-- a builder under serial 0, as a new one is
 abbrev pub builder_of : ℕ → ℕ → ℕ → BitmapBuilder
 builder_of n word ones = builder_under 0 n word ones
 
 abbrev pub new_builder : BitmapBuilder
 new_builder = builder_of 0 0 0
 
--- the same builder with another length, word and ones, under its serial
+-- a builder with its length, word and ones replaced, under its serial
 abbrev pub rebuilt : BitmapBuilder → ℕ → ℕ → ℕ → BitmapBuilder
 rebuilt b n word ones = builder_under b.serial n word ones
 
--- the flags in its word in progress
+-- the flags in the word in progress of a builder
 unfoldable pub in_progress : BitmapBuilder → List Bool
 in_progress b = take (b.length % 64) (word_flags b.word)
 
--- flags are appended: of those in progress and the new ones in a row, the whole words go to the buffer behind the finished
--- ones, and their ones to the count; the rest is the word in progress
+-- a builder and its buffer with flags appended: of those in progress and the new ones in a row, the whole words go to the buffer after the
+-- finished ones, and their ones to the count; the rest is the word in progress
 unfoldable pub appended : Filling → List Bool → Filling
 appended f l =
     let b = f.builder in
@@ -48,16 +48,16 @@ appended f l =
 unfoldable pub builder_flags : Filling → List Bool
 builder_flags f = window (flags_of f.bytes) 0 (64 * (f.builder.length / 64)) ++ in_progress f.builder
 
--- no bit in a word from k up
+-- whether no bit of a word from k up is set
 abbrev pub none_from : ℕ → ℕ → Bool
 none_from w k = not (any_set (drop k (word_flags w)))
 
--- check 4: no bit in the word from length mod 64 up, ones at most those of the finished words, a buffer that holds these
+-- check 4: no bit of the word from length mod 64 up is set, ones at most those of the finished words, a buffer that holds these
 unfoldable pub possible : BitmapBuilder → ℕ → Bool
 possible b size =
     none_from b.word (b.length % 64)
     && (leb b.ones (64 * (b.length / 64)) && leb (8 * (b.length / 64)) size)
 
--- checks 1, 4 and 9 of a call that makes the builder n flags long, over a buffer of so many bytes
+-- checks 1, 4 and 9 of a call after which the builder has n flags, over a buffer of `size` bytes
 unfoldable pub builder_checks : BitmapBuilder → ℕ → ℕ → List Check
 builder_checks b n size = within_limit b.length ∷ within_limit n ∷ check 4 (possible b size) ∷ output_checks n size

@@ -1,4 +1,4 @@
--- The combinations of masks: flag by flag, or by the counts alone where these say that the result is constant. Assumes nothing.
+-- The combinations of masks: flag by flag, or by only the counts if these show that the result is constant.
 use Rattle.std.specs.Prelude.{ℕ, max, Bool, true, false, not, cond, ◌&&◌, ◌||◌, eqb, length, Option, Some, None}
 use mathlib.Core.List.{List, [], ◌∷◌, ◌++◌, map, zip_with}
 use Rattle.words.specs.Flags.{copies, over}
@@ -11,9 +11,9 @@ use Rattle.masks.specs.Frozen.{frozen}
 use Rattle.masks.specs.Mask.{mask_under, mask_flags, mask_checks, zero_count, uncounted}
 use Rattle.masks.specs.declared.bitmap.Bitmap.{Bitmap}
 
--- ---- shortcuts: what the zero counts l and r of two masks of n flags say of the result
+-- ---- shortcuts: what the zero counts l and r of two masks of n flags imply about the result
 
--- constant by count: all ones, all zeros
+-- constant by count: whether n flags with this number of zeros are all ones, all zeros
 abbrev pub full : ℕ → ℕ → Bool
 full n zeros = eqb zeros 0
 
@@ -33,12 +33,12 @@ shortcut OrNot n l r = None
 shortcut Not n l r = None
 shortcut Select n l r = None
 
--- the flags of the result, where those flag by flag are given
+-- the n flags of the result: copies of the shortcut's flag, or without a shortcut those combined flag by flag
 abbrev pub result_flags : Option Bool → ℕ → List Bool → List Bool
 result_flags None n flags = flags
 result_flags (Some x) n flags = copies n x
 
--- its count: its length where a shortcut gives all zeros, 0 for no flags, else unknown
+-- the count of a result of n flags: n if a shortcut makes it all zeros, 0 for no flags, else unknown
 abbrev pub result_count : Option Bool → ℕ → Option ℕ
 result_count (Some false) n = Some n
 result_count (Some true) n = uncounted n
@@ -49,7 +49,7 @@ unfoldable pub largest_serial : List Bitmap → ℕ
 largest_serial [] = 0
 largest_serial (m ∷ ms) = max m.serial (largest_serial ms)
 
--- the record of a result of n flags, made here alone: of the masks combined it takes the largest serial
+-- the record of a result of n flags, made only here: it takes the largest serial of the masks combined
 abbrev pub result_mask : List Bitmap → ℕ → Option ℕ → Bitmap
 result_mask masks n u = mask_under (largest_serial masks) 0 n u
 
@@ -62,14 +62,14 @@ pair_checks a a_bytes b b_bytes size =
 abbrev pub pair_shortcut : Op → Bitmap → List ℕ → Bitmap → List ℕ → Option Bool
 pair_shortcut op a a_bytes b b_bytes = shortcut op a.length (zero_count a a_bytes) (zero_count b b_bytes)
 
--- flag by flag: an operation on two flags does not read the third
+-- the flags of two masks combined flag by flag: an operation on two flags does not read the third
 abbrev pub pair_each : Op → Bitmap → List ℕ → Bitmap → List ℕ → List Bool
 pair_each op a a_bytes b b_bytes = zip3 (op_of op) (mask_flags a a_bytes) (mask_flags b b_bytes) (mask_flags b b_bytes)
 
 unfoldable pub pair_flags : Op → Bitmap → List ℕ → Bitmap → List ℕ → List Bool
 pair_flags op a a_bytes b b_bytes = result_flags (pair_shortcut op a a_bytes b b_bytes) a.length (pair_each op a a_bytes b b_bytes)
 
--- the record of the result
+-- the record of the result of two masks
 unfoldable pub pair_mask : Op → Bitmap → List ℕ → Bitmap → List ℕ → Bitmap
 pair_mask op a a_bytes b b_bytes = result_mask (a ∷ b ∷ []) a.length (result_count (pair_shortcut op a a_bytes b b_bytes) a.length)
 
@@ -80,7 +80,7 @@ unfoldable pub pair_bytes : Op → Bitmap → List ℕ → Bitmap → List ℕ �
 pair_bytes op a a_bytes b b_bytes out =
     kept (first_failed (pair_checks a a_bytes b b_bytes (length out))) (over out (frozen (pair_flags op a a_bytes b b_bytes))) out
 
--- ---- combinations with no shortcut: these checks, these masks, this many flags, these flags
+-- ---- combinations with no shortcut, by their checks, their masks, how many flags these have, and the flags of the result
 
 unfoldable pub each_of : List Check → List Bitmap → ℕ → Answer (Unit {0}) Bitmap
 each_of cs masks n = checked cs tt (result_mask masks n (uncounted n))
@@ -101,7 +101,7 @@ not_of m bytes out = each_of (not_checks m bytes (length out)) (m ∷ []) m.leng
 abbrev pub not_bytes : Bitmap → List ℕ → List ℕ → List ℕ
 not_bytes m bytes out = each_bytes (not_checks m bytes (length out)) (not_flags m bytes) out
 
--- `select` takes the second's flag at a 1 of the first, else the third's
+-- `select` takes the second mask's flag where the first's is 1, else the third's
 unfoldable pub select_checks : Bitmap → List ℕ → Bitmap → List ℕ → Bitmap → List ℕ → ℕ → List Check
 select_checks s s_bytes t t_bytes f f_bytes size =
     mask_checks s s_bytes
@@ -119,7 +119,7 @@ abbrev pub select_bytes : Bitmap → List ℕ → Bitmap → List ℕ → Bitmap
 select_bytes s s_bytes t t_bytes f f_bytes out =
     each_bytes (select_checks s s_bytes t t_bytes f f_bytes (length out)) (select_flags s s_bytes t t_bytes f f_bytes) out
 
--- `select_constant` takes the second's flag at a 1 of the first, else the constant
+-- `select_constant` takes the second mask's flag where the first's is 1, else the constant
 abbrev pub select_constant_flags : Bitmap → List ℕ → Bitmap → List ℕ → Bool → List Bool
 select_constant_flags s s_bytes t t_bytes x = zip_with (λ p q. cond p q x) (mask_flags s s_bytes) (mask_flags t t_bytes)
 

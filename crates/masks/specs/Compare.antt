@@ -1,4 +1,4 @@
--- What is asked of one mask or of two, besides a combination. Assumes nothing.
+-- The calls that compare or count the flags of one mask or of two.
 use Rattle.std.specs.Prelude.{ℕ, ◌+◌, Bool, ◌&&◌, eqb}
 use Rattle.std.specs.Bool.{xor}
 use mathlib.Core.List.{List, [], ◌∷◌, ◌++◌, zip_with}
@@ -9,7 +9,7 @@ use Rattle.masks.specs.Checks.{Check, check}
 use Rattle.masks.specs.Mask.{mask_checks, mask_flags}
 use Rattle.masks.specs.declared.bitmap.Bitmap.{Bitmap}
 
--- are the lengths and the flags equal
+-- the answer of `eq`: whether the lengths and the flags of two masks are equal
 unfoldable pub eq_of : Bitmap → List ℕ → Bitmap → List ℕ → Answer (Unit {0}) Bool
 eq_of a a_bytes b b_bytes =
     checked (mask_checks a a_bytes ++ mask_checks b b_bytes) tt (same_flags (mask_flags a a_bytes) (mask_flags b b_bytes))
@@ -23,7 +23,7 @@ edges (x ∷ (y ∷ l)) = digit (xor x y) + edges (y ∷ l)
 unfoldable pub edges_of : Bitmap → List ℕ → Answer (Unit {0}) ℕ
 edges_of m bytes = checked (mask_checks m bytes) tt (edges (mask_flags m bytes))
 
--- how many flags are set in both masks, which are of one length
+-- the checks of a count of the flags that are set in both masks, whose lengths must be equal
 unfoldable pub common_checks : Bitmap → List ℕ → Bitmap → List ℕ → List Check
 common_checks a a_bytes b b_bytes = mask_checks a a_bytes ++ (mask_checks b b_bytes ++ (check 5 (eqb a.length b.length) ∷ []))
 

@@ -1,6 +1,6 @@
--- Which masks have a known zero count, in document 01's words, for every call that gives a mask. Assumes nothing.
+-- Which masks have a known zero count, in document 01's words, for every call that returns a mask.
 --
--- Each line speaks of a call that was accepted. The statement names none of the definitions that decide on a count.
+-- Each line is about a call that was accepted. The statement names none of the definitions that compute a count.
 use Rattle.std.specs.Prelude.{ℕ, suc, ◌+◌, ◌-◌, ◌/◌, ◌≤◌, ◌<◌, max, ◌≡◌, Bool, List, ◌⊎◌, Some, None}
 use Rattle.words.specs.Flags.{count, word_flags}
 use Rattle.words.specs.Loops.{stretch}
@@ -14,7 +14,7 @@ use Rattle.masks.specs.Utils.{zeros}
 use Rattle.masks.specs.declared.bitmap.Bitmap.{Bitmap}
 use Rattle.masks.specs.declared.builder.BitmapBuilder.{BitmapBuilder}
 
--- the count that a mask brings: the known one; an unknown one is counted
+-- z is the count of a mask: the known one, or the number of its zeros if the count is unknown
 pub data Brings (m : Bitmap) (bytes : List ℕ) (z : ℕ) : Type 0 where
   told : m.unset ≡ Some z → Brings m bytes z
   counted : m.unset ≡ None → z ≡ zeros (mask_flags m bytes) → Brings m bytes z
@@ -22,7 +22,7 @@ pub data Brings (m : Bitmap) (bytes : List ℕ) (z : ℕ) : Type 0 where
 -- ---- masks made, counted and cut
 
 pub record MadeCounts : Type 0 where
-  -- `new` is the empty mask with known 0; `try_new` gives known 0 for length 0, else unknown; `new_zeroed` has its length
+  -- `new` is the empty mask with known 0; `try_new` has known 0 for length 0, else unknown; `new_zeroed` has its length
   pub new : empty_mask.unset ≡ Some 0
   pub try_new-none : (bytes : List ℕ) (start : ℕ) (m : Bitmap) → given m ≡ try_new_of bytes start 0 → m.unset ≡ Some 0
   pub try-new : (bytes : List ℕ) (start n : ℕ) (m : Bitmap) → given m ≡ try_new_of bytes start (suc n) → m.unset ≡ None
@@ -30,29 +30,29 @@ pub record MadeCounts : Type 0 where
   -- `freeze`: length minus ones, those held and those in the word
   pub freeze : (b : BitmapBuilder) (buf : List ℕ) (m : Bitmap) → given m ≡ freeze_of b buf
       → m.unset ≡ Some (b.length - (b.ones + count (word_flags b.word)))
-  -- `unset_bits` hands back the mask with its count known
+  -- `unset_bits` returns the mask with its count known
   pub unset_bits : (m : Bitmap) (bytes : List ℕ) (r : Recounted) (z : ℕ) → given r ≡ unset_bits_of m bytes → Brings m bytes z
       → (r.zeros ≡ z) × (r.mask.unset ≡ Some z)
 
--- the slice of n flags from the flag `offset` on, which was accepted
+-- s is an accepted slice of n flags of a mask, starting at flag `offset`
 pub record SliceCounts (m : Bitmap) (bytes : List ℕ) (offset n : ℕ) (s : Bitmap) : Type 0 where
   -- an unknown count stays unknown; 0 stays 0; one equal to the old length becomes the new length
   pub unknown : m.unset ≡ None → s.unset ≡ None
   pub none : m.unset ≡ Some 0 → s.unset ≡ Some 0
   pub all : m.unset ≡ Some m.length → s.unset ≡ Some n
-  -- another is recounted if new length + max(old length div 5, 32) >= old length: less the zeros cut off before and behind
+  -- another is recounted if new length + max(old length div 5, 32) >= old length: less the zeros cut off before and after
   pub recounted : (z : ℕ) → m.unset ≡ Some z → (z ≡ 0 → ⊥) → (z ≡ m.length → ⊥) → m.length ≤ n + max (m.length / 5) 32
       → s.unset ≡ Some (z - (zeros (stretch bytes m.start offset) + zeros (stretch bytes (m.start + offset + n) (m.length - (offset + n)))))
-  -- and else becomes unknown
+  -- else it becomes unknown
   pub dropped : (z : ℕ) → m.unset ≡ Some z → (z ≡ 0 → ⊥) → (z ≡ m.length → ⊥) → n + max (m.length / 5) 32 < m.length → s.unset ≡ None
 
 -- ---- combinations
 
--- two masks of counts l and r, combined to a mask c
+-- two masks of n flags, with counts l and r, combined by `op` into a mask c
 pub record PairCounts (n l r : ℕ) (op : Op) (c : Bitmap) : Type 0 where
   -- known as 0 for length 0
   pub none : n ≡ 0 → c.unset ≡ Some 0
-  -- known as the length where a shortcut of `and` or `xor` gives all zeros
+  -- known as the length if a shortcut of `and` or `xor` makes all zeros
   pub and-zeros : op ≡ And → (l ≡ n) ⊎ (r ≡ n) → c.unset ≡ Some n
   pub xor-zeros : op ≡ Xor → ((l ≡ n) × (r ≡ n)) ⊎ ((l ≡ 0) × (r ≡ 0)) → c.unset ≡ Some n
   -- else unknown
@@ -60,7 +60,7 @@ pub record PairCounts (n l r : ℕ) (op : Op) (c : Bitmap) : Type 0 where
   pub xor-other : op ≡ Xor → (n ≡ 0 → ⊥) → (l ≡ n → r ≡ n → ⊥) → (l ≡ 0 → r ≡ 0 → ⊥) → c.unset ≡ None
   pub others : (op ≡ Or) ⊎ ((op ≡ AndNot) ⊎ (op ≡ OrNot)) → (n ≡ 0 → ⊥) → c.unset ≡ None
 
--- `not`, `select` and `select_constant`
+-- the results of `not`, `select` and `select_constant`, by the number of their flags
 pub record EachCounts (n : ℕ) (answer : Answer (Unit {0}) Bitmap) : Type 0 where
   pub none : (c : Bitmap) → given c ≡ answer → n ≡ 0 → c.unset ≡ Some 0
   pub other : (c : Bitmap) → given c ≡ answer → (n ≡ 0 → ⊥) → c.unset ≡ None

@@ -1,5 +1,5 @@
 -- The theorem on counts: a call that takes a mask whose checks pass answers, and writes, as it does for the same mask with its count
--- unknown, save the counts in the records that `slice` and `superseding_part` give. Assumes nothing.
+-- unknown, except for the counts in the records that `slice` and `superseding_part` return.
 use Rattle.std.specs.Prelude.{ℕ, ◌≡◌, Bool, List, Option, Some, None}
 use Rattle.words.specs.declared.ops.Op.{Op}
 use Rattle.masks.specs.Answer.{Answer, given, refused}
@@ -16,15 +16,15 @@ use Rattle.masks.specs.declared.bitmap.Bitmap.{Bitmap}
 use Rattle.masks.specs.declared.builder.BitmapBuilder.{BitmapBuilder}
 use Rattle.masks.specs.declared.superseding.Part.{Part}
 
--- the same mask, its count unknown
+-- a mask with its count made unknown
 abbrev pub forgot : Bitmap → Bitmap
 forgot m = with_count m None
 
--- a value made of a mask is the same for the mask with its count unknown
+-- the value f of a mask is the same for the mask with its count made unknown
 abbrev pub Unseen : {X : Type 0} → Bitmap → (Bitmap → X) → Type 0
 Unseen m f = f m ≡ f (forgot m)
 
--- an answer, but for the count in its record
+-- an answer with the count in its record made unknown
 abbrev pub but_count : Answer Bitmap Bitmap → Answer Bitmap Bitmap
 but_count (given m) = given (forgot m)
 but_count (refused k m) = refused k (forgot m)
@@ -36,12 +36,12 @@ abbrev pub part_but_count : Answer (Unit {0}) Part → Answer (Unit {0}) Part
 part_but_count (given p) = given (forgot_part p)
 part_but_count (refused k s) = refused k s
 
--- a combination: its answer and its bytes
+-- a combination: its answer and its bytes, each by the mask
 pub record UnseenBoth (m : Bitmap) (answer : Bitmap → Answer (Unit {0}) Bitmap) (bytes : Bitmap → List ℕ) : Type 0 where
   pub answers : Unseen m answer
   pub writes : Unseen m bytes
 
--- each call with the mask in each of its places; the call's other masks are any
+-- each call with the mask in each of its places; the call's other masks are arbitrary
 pub record CountUnseen (m : Bitmap) (bytes : List ℕ) : Type 0 where
   pub unset_bits : Unseen m (λ (x : Bitmap). unset_bits_of x bytes)
   pub slice : (offset n : ℕ) → Unseen m (λ (x : Bitmap). but_count (slice_of x bytes offset n))

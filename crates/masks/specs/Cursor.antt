@@ -1,4 +1,4 @@
--- Cursors: a span and the next place in it. Document 01 calls them walks. Assumes nothing.
+-- Cursors: a span and the next place in it. Document 01 calls them walks.
 use Rattle.std.specs.Prelude.{ℕ, List, [], ◌∷◌, ◌++◌, leb, Option, Some, None, Result, Ok, Err}
 use Rattle.masks.specs.Answer.{Answer, given, refused}
 use Rattle.masks.specs.Checks.{Check, check, span_checks}
@@ -6,11 +6,11 @@ use Rattle.masks.specs.Refusal.{number}
 use Rattle.masks.specs.declared.cursor.Step.{Step as Stepped}
 use Rattle.masks.specs.declared.refusal.Refused.{Refused}
 
--- checks 1, 2 and 6, of a cursor over so many bytes
+-- checks 1, 2 and 6 of a cursor over `size` bytes
 unfoldable pub cursor_checks : ℕ → ℕ → ℕ → ℕ → List Check
 cursor_checks start n place size = span_checks start n size ++ (check 6 (leb place n) ∷ [])
 
--- what a cursor gives: an item, and the cursor just past it; or none, and where the cursor then stands
+-- a step of a cursor: an item, and the cursor just past it; or no item, and the cursor as it is then
 pub data Step (C A : Type 0) : Type 0 where
   item : A → C → Step C A
   ended : C → Step C A
@@ -19,7 +19,7 @@ abbrev pub step_of : {A C : Type 0} → Option A → C → Step C A
 step_of (Some a) c = item a c
 step_of None c = ended c
 
--- the answer of a cursor's call
+-- the answer of a call on a cursor
 abbrev pub answer_step : {A C : Type 0} → Result (Stepped A C) (Refused C) → Answer C (Step C A)
 answer_step (Ok s) = given (step_of s.item s.cursor)
 answer_step (Err e) = refused (number e.refusal) e.state

@@ -1,8 +1,8 @@
--- Where a call leaves its cursor, in plain words, for every call over a cursor. Assumes nothing.
+-- Where a call leaves its cursor, in plain words, for every call on a cursor.
 --
--- Each line speaks of a call that was accepted: a new cursor stands at place 0; an answer moves the place just past what it gives; an
--- answer none moves it to the length, for chunks not at all. Start, length and mark stay. `Refusals` says that a refused call gives
--- back the cursor that it got.
+-- Each line is about a call that was accepted: a new cursor is at place 0; an item moves the place just past it; an answer of none moves it
+-- to the length, for chunks not at all. Start, length and `masked` are unchanged. `Refusals` states that a refused call returns the cursor
+-- that was passed to it.
 use Rattle.std.specs.Prelude.{ℕ, suc, ◌+◌, ◌/◌, ◌≤◌, ◌<◌, ◌≡◌, Bool, true, false, not, List, length, get_or, Some, None}
 use Rattle.words.specs.Flags.{flag_at}
 use Rattle.masks.specs.Answer.{given}
@@ -19,7 +19,7 @@ use Rattle.masks.specs.declared.slice_iterator.Run.{Run}
 use Rattle.masks.specs.declared.slice_iterator.SlicesIterator.{SlicesIterator}
 use Rattle.masks.specs.declared.true_idx.TrueIdxIter.{TrueIdxIter}
 
--- `BitmapIter::new` of no flags is a cursor that is all 0
+-- new cursors; `BitmapIter::new` of no flags is a cursor that is all 0
 pub record NewPlaces : Type 0 where
   pub chunks : (bytes : List ℕ) (start n : ℕ) (c : BitChunks) → given c ≡ new_chunks bytes start n → c ≡ chunks_at start n 0
   pub flags-none : (bytes : List ℕ) (start : ℕ) (c : BitmapIter) → given c ≡ new_iter bytes start 0 → c ≡ iter_at 0 0 0
@@ -28,7 +28,7 @@ pub record NewPlaces : Type 0 where
   pub ones : (n : ℕ) (m : Bitmap) (bytes : List ℕ) (c : TrueIdxIter) → given c ≡ new_true n (Some m) bytes → c ≡ true_at m.start n 0 true
   pub every : (n : ℕ) (bytes : List ℕ) (c : TrueIdxIter) → given c ≡ new_true n None bytes → c ≡ true_at 0 n 0 false
 
--- `BitChunks::next`: places count words, and none is given from floor(length / 64) on
+-- `BitChunks::next`: places count words, and there is no word at floor(length / 64) and above
 pub record ChunkPlaces (c : BitChunks) (bytes : List ℕ) (d : BitChunks) : Type 0 where
   pub moved : (w : ℕ) → given (item w d) ≡ next_chunk c bytes → (c.place < c.length / 64) × (d ≡ chunks_at c.start c.length (c.place + 1))
   pub stays : given (ended d) ≡ next_chunk c bytes → (c.length / 64 ≤ c.place) × (d ≡ c)
@@ -39,7 +39,7 @@ pub record FlagPlaces (c : BitmapIter) (bytes : List ℕ) (d : BitmapIter) : Typ
       → (c.place + k < c.length) × ((x ≡ flag_at bytes (c.start + (c.place + k))) × (d ≡ iter_at c.start c.length (c.place + k + 1)))
   pub at-end : (k : ℕ) → given (ended d) ≡ nth_flag c bytes k → (c.length ≤ c.place + k) × (d ≡ iter_at c.start c.length c.length)
   pub taken : (x : Bool) (k : ℕ) → given (k, d) ≡ take_leading x c bytes → d ≡ iter_at c.start c.length (c.place + k)
-  -- these k flags are alike, and no more: at the length, or before a flag of the other kind
+  -- exactly k flags in a row at the place equal x: they end at the length, or before a flag of the other kind
   pub inside : (x : Bool) (k : ℕ) → given (k, d) ≡ take_leading x c bytes → c.place + k ≤ c.length
   pub alike : (x : Bool) (k j : ℕ) → given (k, d) ≡ take_leading x c bytes → j < k → flag_at bytes (c.start + (c.place + j)) ≡ x
   pub stops : (x : Bool) (k : ℕ) → given (k, d) ≡ take_leading x c bytes → c.place + k < c.length
@@ -50,7 +50,7 @@ pub record RunPlaces (c : SlicesIterator) (bytes : List ℕ) (d : SlicesIterator
   pub moved : (r : Run) → given (item r d) ≡ next_slice c bytes → d ≡ slices_at c.start c.length (r.start + r.length)
   pub at-end : given (ended d) ≡ next_slice c bytes → d ≡ slices_at c.start c.length c.length
 
--- `TrueIdxIter::next`, `next_chunk`: of the positions that the cursor has before it, the last one given decides
+-- `TrueIdxIter::next`, `next_chunk`: the last position returned, of those that the cursor has left, fixes the new place
 pub record OnePlaces (c : TrueIdxIter) (bytes : List ℕ) (d : TrueIdxIter) : Type 0 where
   pub moved : (p : ℕ) → given (item p d) ≡ next_true c bytes → d ≡ true_at c.start c.length (p + 1) c.masked
   pub at-end : given (ended d) ≡ next_true c bytes → d ≡ true_at c.start c.length c.length c.masked

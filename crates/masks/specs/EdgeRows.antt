@@ -1,7 +1,7 @@
 -- Both sides of each limit: the last input that passes a check and the first that does not; what a refused call leaves; and rules that show
--- only at a start other than 0 or in a second word. Assumes nothing.
+-- only at a start other than 0 or in a second word.
 --
--- A row has what the definitions give at one input, and what the papers' words give there, worked out by hand. Each call goes through the
+-- A row has the value of the definitions at one input, and that of the papers' words there, worked out by hand. Each call goes through the
 -- definition that its contract cites. `proofs/EdgeRows.antt` proves that the columns are equal.
 use Rattle.std.specs.Prelude.{ℕ, ◌≡◌, true, false, List, [], ◌∷◌, ◌++◌, map, replicate, Some, None}
 use Rattle.masks.specs.Aligned.{aligned_of}
@@ -31,20 +31,20 @@ use Rattle.masks.specs.declared.builder.BitmapBuilder.{BitmapBuilder}
 
 -- ---- the calls of the rows
 
--- accepted, or the number
+-- an answer as a value: accepted, or the number
 abbrev pub said : {S A : Type 0} → Answer S A → Value
 said (given a) = accepted
 said (refused k s) = refusal k
 
--- what an append to a builder over so many bytes says
+-- the answer of an append to a builder over n bytes, as a value
 abbrev pub append_said : BitmapBuilder → ℕ → Append → Value
 append_said b n a = said (append_answer a b (replicate n 0xAA))
 
--- what `freeze` of a builder over so many bytes says
+-- the answer of `freeze` of a builder over n bytes, as a value
 abbrev pub freeze_said : BitmapBuilder → ℕ → Value
 freeze_said b n = said (freeze_of b (replicate n 0xAA))
 
--- two bytes, 1,1,1,1,0,0,0,0 and 1,0,1,1,0,1,0,0, and the twelve flags from 4 on with their count: 0,0,0,0,1,0,1,1,0,1,0,0
+-- two bytes, 1,1,1,1,0,0,0,0 and 1,0,1,1,0,1,0,0, and the twelve flags starting at 4 with their count: 0,0,0,0,1,0,1,1,0,1,0,0
 abbrev pub two_bytes : List ℕ
 two_bytes = 0x0F ∷ 0x2D ∷ []
 
@@ -55,7 +55,7 @@ twelve = mask_of 4 12 (Some 8)
 
 unfoldable pub limit_rows : List Row
 limit_rows =
-    -- Each length is at most 4,194,304, and each start: there the next check decides.
+    -- Each length and each start is at most 4,194,304: at that number the next check is made.
     row (said (new_true 4194304 None [])) accepted
     ∷ row (said (new_true 4194305 None [])) (refusal 1)
     ∷ row (said (try_new_of [] 4194304 0)) (refusal 2)
@@ -71,7 +71,7 @@ limit_rows =
     ∷ row (said (split_at byte 4194304 8 1)) (refusal 1)
     ∷ row (append_said new_builder 8 (extend_bitmap whole byte 4194305 0)) (refusal 1)
     ∷ row (append_said new_builder 8 (extend_bitmap whole byte 0 4194305)) (refusal 1)
-    -- The length that an append comes to.
+    -- The length after an append.
     ∷ row (append_said (builder_of 4194303 0 0) 0 (push_flag true)) (refusal 4)
     ∷ row (append_said (builder_of 4194304 0 0) 0 (push_flag true)) (refusal 1)
     ∷ row (append_said new_builder 8 (extend_repeated byte 0 8 524289)) (refusal 1)
@@ -84,7 +84,7 @@ edge_rows =
     -- 2: the span lies in the bytes lent.
     row (said (try_new_of byte 1 7)) accepted
     ∷ row (said (try_new_of byte 1 8)) (refusal 2)
-    -- 4: no bit from length mod 64 up, ones of finished words alone, a buffer that holds these.
+    -- 4: no bit from length mod 64 up, only ones of finished words, a buffer that holds these words.
     ∷ row (freeze_said (builder_of 1 1 0) 8) accepted
     ∷ row (freeze_said (builder_of 1 2 0) 8) (refusal 4)
     ∷ row (freeze_said (builder_of 64 0 64) 8) accepted
@@ -92,7 +92,7 @@ edge_rows =
     ∷ row (freeze_said (builder_of 1 0 1) 8) (refusal 4)
     ∷ row (freeze_said (builder_of 64 0 0) 7) (refusal 4)
     ∷ row (said (into_opt_validity_of (builder_of 1 2 0) buffer)) (refusal 4)
-    -- 5: `eq` of masks of two lengths is accepted.
+    -- 5: `eq` of masks of unequal lengths is accepted.
     ∷ row (said (eq_of whole byte shorter byte)) accepted
     -- 6: pieces, splits, places and indexes up to the end, words of 64 flags.
     ∷ row (said (slice_of whole byte 4 4)) accepted
@@ -122,7 +122,7 @@ edge_rows =
     ∷ row (append_said new_builder 8 (extend_gather byte 0 8 (0 ∷ 7 ∷ []))) accepted
     ∷ row (append_said new_builder 8 (extend_gather byte 0 8 (0 ∷ 8 ∷ []))) (refusal 6)
     ∷ row (append_said new_builder 8 (extend_opt_gather byte 0 8 (0 ∷ 8 ∷ []))) accepted
-    -- 8: address remainders up to 7; of no flags none is asked for.
+    -- 8: address remainders up to 7; for no flags it is not checked.
     ∷ row (said (aligned_of byte 0 1 7)) accepted
     ∷ row (said (aligned_of byte 0 1 8)) (refusal 8)
     ∷ row (said (aligned_of byte 9 0 8)) accepted
@@ -140,7 +140,7 @@ edge_rows =
     ∷ row (append_said new_builder 8 (extend_repeated byte 0 8 9)) (refusal 9)
     ∷ []
 
--- ---- each mask that a call takes is tested
+-- ---- each mask that a call takes is checked
 
 -- a mask that does not lie in its byte, and one of the byte, which has four zeros, with a count of 3
 abbrev pub past : Bitmap
@@ -194,7 +194,7 @@ unwritten_rows =
 
 -- ---- the aligned split
 
--- its numbers: the prefix, its length, the byte where the words begin, how many there are, the suffix, its length
+-- the numbers of a split: the prefix, its length, the byte where the words begin, how many there are, the suffix, its length
 abbrev pub split_numbers : Answer (Unit {0}) AlignedBitmapSlice → List ℕ
 split_numbers (given s) = s.prefix ∷ s.prefix_len ∷ s.bulk_start ∷ s.bulk_len ∷ s.suffix ∷ s.suffix_len ∷ []
 split_numbers (refused k s) = []
@@ -203,21 +203,21 @@ pub record SplitRow : Type 0 where
   pub computed : List ℕ
   pub stated : List ℕ
 
--- a span of 17 bytes 0x2D, of n flags from `start` on, whose first byte has this address remainder
+-- a row for a span of 17 bytes 0x2D, of n flags starting at `start`, where the first byte has this address remainder
 abbrev pub split_row : ℕ → ℕ → ℕ → List ℕ → SplitRow
 split_row start n address stated = record { computed = split_numbers (aligned_of (replicate 17 0x2D) start n address); stated = stated }
 
 unfoldable pub split_rows : List SplitRow
 split_rows =
-    -- A span that fits a word from its first byte on is all prefix: 64 flags from 0 on do, 65 do not, nor 64 from 1 on.
+    -- A span that fits one word starting at its first byte is all prefix: 64 flags from 0 do, 65 do not, nor do 64 from 1.
     split_row 0 64 0 (0x2D2D2D2D2D2D2D2D ∷ 64 ∷ 0 ∷ 0 ∷ 0 ∷ 0 ∷ [])
     ∷ split_row 0 65 0 (0 ∷ 0 ∷ 0 ∷ 1 ∷ 1 ∷ 1 ∷ [])
     ∷ split_row 1 64 0 (0x1696969696969696 ∷ 63 ∷ 8 ∷ 0 ∷ 1 ∷ 1 ∷ [])
-    -- The words begin at the first byte that is aligned and wholly in the span: a word further where the span begins inside it.
+    -- The words begin at the first aligned byte of the span, or a word further if the span begins inside that byte.
     ∷ split_row 3 130 0 (0x05A5A5A5A5A5A5A5 ∷ 61 ∷ 8 ∷ 1 ∷ 0x0D ∷ 5 ∷ [])
     ∷ split_row 8 100 7 (0 ∷ 0 ∷ 1 ∷ 1 ∷ 0xD2D2D2D2D ∷ 36 ∷ [])
     ∷ split_row 4 100 3 (0x2D2D2D2D2 ∷ 36 ∷ 5 ∷ 1 ∷ 0 ∷ 0 ∷ [])
-    -- Of no flags all is 0, whatever the start and the address.
+    -- For no flags all is 0, whatever the start and the address.
     ∷ split_row 9 0 8 (0 ∷ 0 ∷ 0 ∷ 0 ∷ 0 ∷ 0 ∷ [])
     ∷ []
 
@@ -225,13 +225,13 @@ split_rows =
 
 unfoldable pub start_rows : List Row
 start_rows =
-    -- Whole words go behind the finished ones. 64 ones, then 64 zeros.
+    -- Whole words go after the finished ones. 64 ones, then 64 zeros.
     row (frozen_in 16 (extend_constant 64 true ∷ extend_constant 64 false ∷ [])) (mask (replicate 8 0xFF ++ replicate 8 0) (Some 64))
     -- A slice's count is the known one less the zeros cut off on either side. Flags 2 to 9 of the twelve: 0,0,1,0,1,1,0,1.
     ∷ row (sliced_value (slice_of twelve two_bytes 2 8)) (count (Some 4))
-    -- A slice of a mask of unknown count has none.
+    -- A slice of a mask of unknown count has an unknown count.
     ∷ row (sliced_value (slice_of whole byte 0 4)) (count None)
-    -- `slice` recounts where at most 32 flags are cut off, of masks of up to 164 flags. Of 100 flags, 68 and 67.
+    -- `slice` recounts if at most 32 flags are cut off, for masks of up to 164 flags. Of 100 flags, 68 and 67.
     ∷ row (sliced_to 68 (mixed 100)) (count (Some 33))
     ∷ row (sliced_to 67 (mixed 100)) (count None)
     ∷ []
@@ -245,7 +245,7 @@ count_rows =
     ∷ row (pair_of_told OrNot 4 (Some 4) 0xF0 (Some 0) 0xFF) (mask (first 0) None)
     ∷ []
 
--- the statements
+-- the statements: the two columns are equal
 abbrev pub Hold : List Row → Type 0
 Hold rows = map (λ (r : Row). r.computed) rows ≡ map (λ (r : Row). r.stated) rows
 

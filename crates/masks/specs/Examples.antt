@@ -1,8 +1,8 @@
--- The twelve proved examples of document 01 as one table, the paper's line above each row. Assumes nothing.
+-- The twelve proved examples of document 01 as one table, the paper's line above each row.
 --
--- A row has the example's number, what the definitions give, and what the paper states. Each call goes through the definition
--- that its contract cites, calls one after another with what the one before gave. `proofs/Examples.antt` proves that the two
--- columns are equal.
+-- A row has the example's number, the value of the definitions, and what the paper states. Each call goes through the definition that its
+-- contract cites; one call after another gets what the one before returned and wrote. `proofs/Examples.antt` proves that the two columns
+-- are equal.
 use Rattle.std.specs.Prelude.{ℕ, ◌≡◌, true, List, [], ◌∷◌, ◌++◌, map, length, replicate, Option, Some, None}
 use Rattle.words.specs.Flags.{is_one}
 use Rattle.masks.specs.declared.bitmap.Recounted.{Recounted}
@@ -25,7 +25,7 @@ use Rattle.masks.specs.declared.slice_iterator.SlicesIterator.{SlicesIterator}
 
 -- ---- a row
 
--- what calls give and write. A mask is its bytes and its zero count.
+-- what calls return and write. A mask is its bytes and its zero count.
 pub data Value : Type 0 where
   mask : List ℕ → Option ℕ → Value
   count : Option ℕ → Value
@@ -47,7 +47,7 @@ example n computed stated = record { number = n; computed = computed; stated = s
 
 -- ---- answers as values
 
--- the mask that `freeze` gives, in the bytes that it leaves; the counts that `unset_bits` and `slice` give a mask
+-- the mask that `freeze` returns, in the bytes that it leaves; the counts of the masks that `unset_bits` and `slice` return
 abbrev pub mask_value : List ℕ → Answer BitmapBuilder Bitmap → Value
 mask_value its (given m) = mask its m.unset
 mask_value its (refused k b) = refusal k
@@ -64,7 +64,7 @@ abbrev pub validity_value : Answer BitmapBuilder (Option Bitmap) → Value
 validity_value (given v) = validity v
 validity_value (refused k b) = refusal k
 
--- what `next` gives from a new cursor on, in seven calls at most
+-- the runs that `next` returns, starting with a new cursor, in at most seven calls
 abbrev pub runs_value : List ℕ → Answer (Unit {0}) SlicesIterator → Value
 runs_value its (given c) = runs (listing (λ (d : SlicesIterator). next_slice d its) 7 c)
 runs_value its (refused k s) = refusal k
@@ -136,7 +136,7 @@ counted (refused k s) = refused k empty_mask
 abbrev pub mixed : ℕ → Answer Bitmap Recounted
 mixed n = counted (try_new_of mixed_bytes 0 n)
 
--- `slice` to k flags, from the flag 16 on, of such a mask
+-- `slice` of such a mask to the k flags starting at flag 16
 abbrev pub sliced_to : ℕ → Answer Bitmap Recounted → Value
 sliced_to k (given r) = sliced_value (slice_of r.mask mixed_bytes 16 k)
 sliced_to k (refused n m) = refusal n
@@ -193,6 +193,6 @@ examples =
     ∷ example 12 (sliced_to 159 (mixed 200)) (count None)
     ∷ []
 
--- the statement: in every row the definitions give what the paper states
+-- the statement: in every row the value of the definitions is what the paper states
 abbrev pub ExamplesHold : Type 0
 ExamplesHold = map (λ (e : Example). e.computed) examples ≡ map (λ (e : Example). e.stated) examples

@@ -1,4 +1,4 @@
--- Lists of flags as bytes, and bytes written over an output. Assumes nothing.
+-- Lists of flags as bytes, and bytes written over an output.
 use Rattle.std.specs.Prelude.{ℕ, zero, suc, ◌+◌, ◌*◌, ◌/◌, Bool, List, [], ◌∷◌, ◌++◌, length, take, drop}
 use Rattle.words.specs.Flags.{window, word_of, over}
 
@@ -11,10 +11,10 @@ packed (suc n) l = word_of (window l 0 8) ∷ packed n (drop 8 l)
 abbrev pub frozen_size : ℕ → ℕ
 frozen_size n = 8 * ((n + 63) / 64)
 
--- document 01's frozen bytes: whole words, with zero bits behind the last flag
+-- document 01's frozen bytes: whole words, with zero bits after the last flag
 unfoldable pub frozen : List Bool → List ℕ
 frozen l = packed (frozen_size (length l)) l
 
--- m written over the bytes from `at` on: what does not fit is left out, and other bytes stay
+-- m written over the bytes starting at byte `at`: what does not fit is left out, and other bytes are unchanged
 unfoldable pub over_from : List ℕ → ℕ → List ℕ → List ℕ
 over_from bytes at m = take at bytes ++ over (drop at bytes) m

@@ -1,4 +1,4 @@
--- The flags of a span one by one, and how many alike stand next. Assumes nothing.
+-- The flags of a span one by one, and how many flags in a row are equal.
 use Rattle.std.specs.Prelude.{ℕ, ◌+◌, Bool, false, cond, List, ltb, length, drop, get_or}
 use Rattle.words.specs.Ends.{leading}
 use Rattle.words.specs.Loops.{stretch}
@@ -7,20 +7,20 @@ use Rattle.masks.specs.Checks.{Check, span_checks}
 use Rattle.masks.specs.Cursor.{Step, item, ended, cursor_checks}
 use Rattle.masks.specs.declared.iterator.BitmapIter.{BitmapIter}
 
--- the one place where a cursor's record is made. Its place counts flags.
+-- a cursor over n flags starting at `start`, at a place that counts flags: the one place where its record is made
 abbrev pub iter_at : ℕ → ℕ → ℕ → BitmapIter
 iter_at start n place = record { start = start; length = n; place = place }
 
 abbrev pub iter_flags : BitmapIter → List ℕ → List Bool
 iter_flags c bytes = stretch bytes c.start c.length
 
--- the same cursor at another place
+-- a cursor moved to another place
 abbrev pub moved_to : BitmapIter → ℕ → BitmapIter
 moved_to c place = iter_at c.start c.length place
 
 -- ---- a new cursor
 
--- checks 1 and 2; for length 0, before them, a cursor that is all 0
+-- the answer of `BitmapIter::new`: checks 1 and 2, and a cursor at place 0; for length 0, before them, a cursor that is all 0
 unfoldable pub new_iter : List ℕ → ℕ → ℕ → Answer (Unit {0}) BitmapIter
 new_iter bytes start n = unless_empty n (given (iter_at 0 0 0)) (checked (span_checks start n (length bytes)) tt (iter_at start n 0))
 
@@ -29,7 +29,7 @@ new_iter bytes start n = unless_empty n (given (iter_at 0 0 0)) (checked (span_c
 abbrev pub iter_checks : BitmapIter → List ℕ → List Check
 iter_checks c bytes = cursor_checks c.start c.length c.place (length bytes)
 
--- the flag k places on, and the cursor just past it; none, and the cursor at the length
+-- the flag k places after the cursor's, and the cursor just past it; past the end none, and the cursor at the length
 unfoldable pub flag_step : List ℕ → BitmapIter → ℕ → Step BitmapIter Bool
 flag_step bytes c k =
     cond (ltb (c.place + k) c.length)
@@ -39,13 +39,13 @@ flag_step bytes c k =
 unfoldable pub nth_flag : BitmapIter → List ℕ → ℕ → Answer BitmapIter (Step BitmapIter Bool)
 nth_flag c bytes k = checked (iter_checks c bytes) c (flag_step bytes c k)
 
--- ---- how many alike: checks 1, 2 and 6
+-- ---- how many flags in a row are equal: checks 1, 2 and 6
 
--- how many flags x stand from a place on
+-- how many flags x there are in a row, starting at a place of l
 unfoldable pub leading_from : Bool → List Bool → ℕ → ℕ
 leading_from x l place = leading x (drop place l)
 
--- their number, and the cursor past them
+-- how many flags x there are in a row at the cursor, and the cursor past them
 unfoldable pub take_leading : Bool → BitmapIter → List ℕ → Answer BitmapIter (ℕ × BitmapIter)
 take_leading x c bytes =
     let k = leading_from x (iter_flags c bytes) c.place in

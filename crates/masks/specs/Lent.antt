@@ -1,4 +1,4 @@
--- What `Lent.new` answers. No contract of a public function cites it, so it need not be believed. Assumes nothing.
+-- The answer of `Lent.new`. No contract of a public function cites it, so it need not be believed.
 use Rattle.std.specs.Prelude.{ℕ, List, length, Result, Ok, Err}
 use Rattle.masks.specs.Answer.{Answer, given, refused, checked}
 use Rattle.masks.specs.Checks.{span_checks}
@@ -19,6 +19,6 @@ abbrev pub lent_answer : Result Lent Refusal → Answer (Unit {0}) Part
 lent_answer (Ok s) = given (part_of s)
 lent_answer (Err r) = refused (number r) tt
 
--- checks 1 and 2
+-- the answer of `Lent.new`: checks 1 and 2, and the span
 abbrev pub new_lent : List ℕ → ℕ → ℕ → Answer (Unit {0}) Part
 new_lent bytes start n = checked (span_checks start n (length bytes)) tt (record { bytes = bytes; start = start; length = n })

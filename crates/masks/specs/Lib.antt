@@ -1,4 +1,4 @@
--- What the contracts of this crate mean. `Checks`, `Answer` and `Mask` are read first.
+-- What the contracts of this crate mean. Read `Checks`, `Answer` and `Mask` first.
 pub mod Aligned
 pub mod Answer
 pub mod Refusal

@@ -1,4 +1,4 @@
--- The mask: its flags, its zero count, and what a slice makes of them. Assumes nothing.
+-- The mask: its flags, its zero count, and what a slice makes of them.
 use Rattle.std.specs.Prelude.{ℕ, ◌+◌, ◌-◌, ◌/◌, max, Bool, true, false, cond, not, ◌&&◌, List, [], ◌∷◌, ◌++◌, eqb, leb, length, Option}
 use Rattle.std.specs.Prelude.{Some, None}
 use Rattle.words.specs.Flags.{copies, over}
@@ -10,19 +10,19 @@ use Rattle.masks.specs.Utils.{zeros}
 use Rattle.masks.specs.declared.bitmap.Bitmap.{Bitmap}
 use Rattle.masks.specs.declared.bitmap.Recounted.{Recounted}
 
--- the one place where a mask's record is made, under its serial
+-- a mask under a serial, with its start, length and count: the one place where its record is made
 abbrev pub mask_under : ℕ → ℕ → ℕ → Option ℕ → Bitmap
 mask_under serial start n unset = record { start = start; length = n; unset = unset; serial = serial }
 
--- a mask that is made of no other one: its serial is 0
+-- a mask that is made of no other one, with its start, length and count: its serial is 0
 abbrev pub mask_of : ℕ → ℕ → Option ℕ → Bitmap
 mask_of start n unset = mask_under 0 start n unset
 
--- the same mask cut to the n flags of its bytes from `start` on, with their count, under its serial
+-- a mask cut to the n flags of its bytes starting at `start`, with their count, under its serial
 abbrev pub cut_mask : Bitmap → ℕ → ℕ → Option ℕ → Bitmap
 cut_mask m start n unset = mask_under m.serial start n unset
 
--- the same mask with another count
+-- a mask with another count
 abbrev pub with_count : Bitmap → Option ℕ → Bitmap
 with_count m unset = cut_mask m m.start m.length unset
 
@@ -32,7 +32,7 @@ mask_flags m bytes = stretch bytes m.start m.length
 
 -- ---- the zero count
 
--- is a known count this number
+-- whether a count, if known, is n
 abbrev pub count_is : Option ℕ → ℕ → Bool
 count_is (Some z) n = eqb z n
 count_is None n = true
@@ -45,15 +45,15 @@ abbrev pub count_or : Option ℕ → ℕ → ℕ
 count_or (Some z) n = z
 count_or None n = n
 
--- the count that a mask brings: the known one, or the zeros counted
+-- the count of a mask: the known one, or the number of its zeros if it is unknown
 unfoldable pub zero_count : Bitmap → List ℕ → ℕ
 zero_count m bytes = count_or m.unset (zeros (mask_flags m bytes))
 
--- known as 0 where there are no flags, else unknown
+-- the count of n flags that were not counted: known as 0 if there are none, else unknown
 abbrev pub uncounted : ℕ → Option ℕ
 uncounted n = cond (eqb n 0) (Some 0) None
 
--- checks 1 to 3, of a mask
+-- checks 1 to 3 of a mask
 unfoldable pub mask_checks : Bitmap → List ℕ → List Check
 mask_checks m bytes = span_checks m.start m.length (length bytes) ++ (check 3 (count_valid m bytes) ∷ [])
 
@@ -65,7 +65,7 @@ empty_mask = mask_of 0 0 (Some 0)
 unfoldable pub try_new_of : List ℕ → ℕ → ℕ → Answer (Unit {0}) Bitmap
 try_new_of bytes start n = checked (span_checks start n (length bytes)) tt (mask_of start n (uncounted n))
 
--- checks 1 and 9, of a mask of n zeros in an output
+-- checks 1 and 9 of a mask of n zeros in an output of `size` bytes
 unfoldable pub zeroed_checks : ℕ → ℕ → List Check
 zeroed_checks n size = within_limit n ∷ output_checks n size
 
@@ -82,30 +82,30 @@ unset_bits_of m bytes =
 
 -- ---- slice
 
--- the zeros that a slice cuts off, before it and behind it
+-- the zeros that a slice of n flags starting at `offset` cuts off, before it and after it
 unfoldable pub cut_zeros : Bitmap → List ℕ → ℕ → ℕ → ℕ
 cut_zeros m bytes offset n =
     zeros (stretch bytes m.start offset) + zeros (stretch bytes (m.start + offset + n) (m.length - (offset + n)))
 
--- is a known count z of `old` flags, neither none nor all of them, recounted for a slice of n flags
+-- whether a known count z of `old` flags, neither none nor all of them, is recounted for a slice of n flags
 unfoldable pub recounts : ℕ → ℕ → ℕ → Bool
 recounts old n z = not (eqb z 0) && (not (eqb z old) && leb old (n + max (old / 5) 32))
 
--- a known count that is not recounted: of none it stays 0, of all it becomes the new length, else it is unknown
+-- a known count z of `old` flags that is not recounted: 0 stays 0, `old` becomes the new length n, else it is unknown
 unfoldable pub kept_count : ℕ → ℕ → ℕ → Option ℕ
 kept_count z old n = cond (eqb z 0) (Some 0) (cond (eqb z old) (Some n) None)
 
--- the count of a slice of n flags that cuts off so many zeros
+-- the count of a slice of n of `old` flags that cuts off `cut` zeros
 abbrev pub sliced_count : ℕ → ℕ → ℕ → Option ℕ → Option ℕ
 sliced_count old n cut None = None
 sliced_count old n cut (Some z) = cond (recounts old n z) (Some (z - cut)) (kept_count z old n)
 
--- check 7, made where the slice recounts
+-- check 7, made if the slice recounts: the known count is at least `cut`, and what is left at most n
 abbrev pub recount_valid : ℕ → ℕ → ℕ → Option ℕ → Bool
 recount_valid old n cut None = true
 recount_valid old n cut (Some z) = cond (recounts old n z) (leb cut z && leb (z - cut) n) true
 
--- checks 1, 2, 3 and 6
+-- checks 1, 2, 3 and 6 of a slice of n flags starting at `offset`
 unfoldable pub piece_checks : Bitmap → List ℕ → ℕ → ℕ → List Check
 piece_checks m bytes offset n =
     mask_checks m bytes

@@ -1,5 +1,5 @@
--- The next flag that is set in one mask and not in another, from a place on and going round once, and how many windows of 32 flags
--- are read. Assumes nothing.
+-- The next flag that is set in one mask and not in another, starting at a place and going round once, and how many windows of 32 flags are
+-- read.
 use Rattle.std.specs.Prelude.{ℕ, ◌+◌, ◌-◌, ◌/◌, Bool, List, [], ◌∷◌, ◌++◌, eqb, leb, Option, Some, None}
 use Rattle.masks.specs.Answer.{Answer, checked}
 use Rattle.masks.specs.Checks.{Check, check}
@@ -20,26 +20,26 @@ free_flags a a_bytes None b_bytes = mask_flags a a_bytes
 abbrev pub windows_of : ℕ → ℕ
 windows_of n = (n + 31) / 32
 
--- Windows begin at `from` and every 32 flags on below the length n; where none of them has a set flag, at 0 and every 32 flags on
--- below `from`. Here the first set position from `from` on, if there is one, and the first from 0 on. The window that holds the
--- position is the last one read.
+-- Windows begin at `from` and at every 32nd flag after it below the length n; if none of them has a set flag, at 0 and at every 32nd flag
+-- below `from`. The arguments are n, `from`, the first set position at or after `from`, if there is one, and the first of all. The window
+-- that holds the position is the last one read.
 unfoldable pub going_round : ℕ → ℕ → Option ℕ → Option ℕ → Found
 going_round n from (Some p) first = record { position = Some p; windows = (p - from) / 32 + 1 }
 going_round n from None (Some p) = record { position = Some p; windows = windows_of (n - from) + (p / 32 + 1) }
 going_round n from None None = record { position = None; windows = windows_of (n - from) + windows_of from }
 
--- the first set flag of n flags at or after `from`, and if there is none the first from 0 on
+-- the first set flag of n flags at or after `from`, else the first of all, and the number of windows read
 unfoldable pub next_set : ℕ → List Bool → ℕ → Found
 next_set n l from = going_round n from (nth_from l 0 from) (nth_from l 0 0)
 
 -- ---- the call
 
--- 1, 2 and 3 of a second mask that is there, and 5
+-- checks 1, 2 and 3 of a second mask, if there is one, and 5: its length is n
 unfoldable pub other_checks : ℕ → Option Bitmap → List ℕ → List Check
 other_checks n (Some b) b_bytes = mask_checks b b_bytes ++ (check 5 (eqb n b.length) ∷ [])
 other_checks n None b_bytes = []
 
--- and 6: the place is at most the length
+-- the checks of both masks, and 6: `from` is at most the length
 unfoldable pub next_checks : Bitmap → List ℕ → Option Bitmap → List ℕ → ℕ → List Check
 next_checks a a_bytes second b_bytes from =
     mask_checks a a_bytes ++ (other_checks a.length second b_bytes ++ (check 6 (leb from a.length) ∷ []))

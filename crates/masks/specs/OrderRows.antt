@@ -1,9 +1,9 @@
--- Which number comes where two checks fail in one call: a table with a row for each two numbers that can. Assumes nothing.
+-- Which number a call refuses with if two checks fail: a table with a row for each two numbers whose checks can.
 --
--- A row has two numbers, the one that decides first, and the number of a call at an input at which the checks of both fail. Each
--- call goes through the definition that its contract cites. So an order in which two of these numbers are exchanged fails a row.
--- No call makes the checks of any other two numbers (`may_give` of `Refusals`), save 6 and 7 of `slice`: where its 7 fails, 3 or an
--- earlier one fails too (`never_seven`). So these rows decide the order as far as it shows.
+-- A row has two numbers in their order, and the number of a call at an input at which the checks of both fail. Each call goes through the
+-- definition that its contract cites. So an order in which two of these numbers are exchanged fails a row. No call makes the checks of any
+-- other two numbers (`may_give` of `Refusals`), except 6 and 7 of `slice`: if its 7 fails, 3 or an earlier one fails too (`never_seven`).
+-- So these rows fix the order as far as it shows.
 use Rattle.std.specs.Prelude.{ℕ, ◌≡◌, true, false, List, [], ◌∷◌, map, Some, None}
 use Rattle.masks.specs.Aligned.{aligned_of}
 use Rattle.masks.specs.Appends.{push_word, extend_constant, extend_slice, extend_bitmap, extend_gather}
@@ -30,7 +30,7 @@ pub record Both : Type 0 where
 abbrev pub both : ℕ → ℕ → ℕ → Both
 both first second computed = record { first = first; second = second; computed = computed }
 
--- a mask past the byte, and one of the byte, which has four zeros, with a false count of 7: a slice of it cuts too few
+-- a mask past the byte, and one of the byte, which has four zeros, with a false count of 7: a slice of it cuts off too few
 abbrev pub past : Bitmap
 past = mask_of 2 7 None
 
@@ -71,6 +71,6 @@ order_rows =
     ∷ both 6 9 (to_no_bytes (push_word 2 1))
     ∷ []
 
--- the statement: in every row the first of the two numbers comes
+-- the statement: in every row the call refuses with the first of the two numbers
 abbrev pub OrderHolds : Type 0
 OrderHolds = map (λ (r : Both). r.computed) order_rows ≡ map (λ (r : Both). r.first) order_rows

@@ -1,4 +1,4 @@
--- The number of each refusal, as document 01 and paper 02 give it. Assumes nothing.
+-- The number of each refusal, as in document 01 and paper 02.
 use Rattle.std.specs.Prelude.{ℕ, Result, Ok, Err}
 use Rattle.masks.specs.declared.refusal.Refusal.{Refusal}
 use Rattle.masks.specs.declared.refusal.Refusal.TheVariants.{OverLimit, PastBytes, FalseCount, UnequalLists, ImpossibleBuilder}
@@ -16,7 +16,7 @@ number WrongRecount = 7
 number WrongAddress = 8
 number ShortOutput = 9
 
--- the number of what some checks gave, 0 where none failed
+-- the number of the refusal of some checks, 0 if they pass
 abbrev pub failure_of : Result (Unit {0}) Refusal → ℕ
 failure_of (Ok u) = 0
 failure_of (Err r) = number r

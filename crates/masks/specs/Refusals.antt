@@ -1,7 +1,7 @@
--- Refusals: by which numbers each call may refuse, and that a refusal changes nothing. Assumes nothing.
+-- Refusals: with which numbers each call may refuse, and that a refusal changes nothing.
 --
--- The calls stand in families; those of one family may refuse by the same numbers. `may_give` is the table of these, and `Refusals` the
--- statement on every call and input, through the definitions that the contracts cite. `Witnesses` has an input for each number.
+-- The calls are grouped in families; those of one family may refuse with the same numbers. `may_give` is the table of these, and `Refusals`
+-- the statement on every call and input, through the definitions that the contracts cite. `Witnesses` has an input for each number.
 use Rattle.std.specs.Prelude.{ℕ, ◌≡◌, Bool, true, false, ◌&&◌, ◌||◌, List, [], ◌∷◌, eqb, length, Some, None}
 use Rattle.words.specs.declared.ops.Op.{Op}
 use Rattle.masks.specs.Aligned.{aligned_of}
@@ -30,14 +30,14 @@ use Rattle.masks.specs.declared.chunks.BitChunks.{BitChunks}
 use Rattle.masks.specs.declared.iterator.BitmapIter.{BitmapIter}
 use Rattle.masks.specs.declared.slice_iterator.SlicesIterator.{SlicesIterator}
 
--- ---- what is said of a call
+-- ---- what is stated of a call
 
 -- the numbers of a list of checks
 unfoldable pub numbers : List Check → List ℕ
 numbers [] = []
 numbers (c ∷ cs) = c.number ∷ numbers cs
 
--- is k one of these numbers; are all of the first among the second
+-- whether k is one of these numbers; whether all of the first list are among the second
 unfoldable pub among : ℕ → List ℕ → Bool
 among k [] = false
 among k (n ∷ ns) = eqb k n || among k ns
@@ -46,12 +46,12 @@ unfoldable pub all_among : List ℕ → List ℕ → Bool
 all_among [] ns = true
 all_among (m ∷ ms) ns = among m ns && all_among ms ns
 
--- a call that got the state s: it refuses by these numbers alone, and with that state
+-- a call on the state s: it refuses only with these numbers, and with that state
 pub record Refuses {S A : Type 0} (ns : List ℕ) (s : S) (answer : Answer S A) : Type 0 where
   pub number : (k : ℕ) (t : S) → answer ≡ refused k t → among k ns ≡ true
   pub state : (k : ℕ) (t : S) → answer ≡ refused k t → t ≡ s
 
--- besides, where it refuses, the buffer lent to it holds what it held
+-- in addition, if it refuses, the buffer lent to it is unchanged
 pub record RefusesUnwritten {S A : Type 0} (ns : List ℕ) (s : S) (answer : Answer S A) (before after : List ℕ) : Type 0 where
   pub refuses : Refuses ns s answer
   pub unwritten : (k : ℕ) (t : S) → answer ≡ refused k t → after ≡ before
@@ -160,7 +160,7 @@ pub record Refusals : Type 0 where
   pub zeroed : (n : ℕ) (out : List ℕ) → RefusesUnwritten (may_give zeroed-masks) tt (new_zeroed_of n out) out (new_zeroed_bytes n out)
   pub try-new : (bytes : List ℕ) (start n : ℕ) → Refuses (may_give spans) tt (try_new_of bytes start n)
   pub slice : (m : Bitmap) (bytes : List ℕ) (offset n : ℕ) → Refuses (may_give slices) m (slice_of m bytes offset n)
-  -- check 7 stands in the list and is never answered no: where the others pass, the count is true or not known
+  -- check 7 is in the list and never fails first: if the others pass, the count is true or unknown
   pub never_seven : (m : Bitmap) (bytes : List ℕ) (offset n : ℕ) → first_failed (slice_checks m bytes offset n) ≡ 7 → ⊥
   pub unset_bits : (m : Bitmap) (bytes : List ℕ) → Refuses (may_give masks) m (unset_bits_of m bytes)
   pub pair : (op : Op) (a : Bitmap) (a_bytes : List ℕ) (b : Bitmap) (b_bytes out : List ℕ)
@@ -183,7 +183,7 @@ pub record Refusals : Type 0 where
       → Refuses (may_give indexed-masks) tt (and_not_at_of (Some a) a_bytes None b_bytes i)
   pub and-not-at-second : (a_bytes : List ℕ) (b : Bitmap) (b_bytes : List ℕ) (i : ℕ)
       → Refuses (may_give indexed-masks) tt (and_not_at_of None a_bytes (Some b) b_bytes i)
-  -- of no mask nothing is asked
+  -- without a mask there is no check
   pub and-not-at-none : (a_bytes b_bytes : List ℕ) (i : ℕ) → Refuses [] tt (and_not_at_of None a_bytes None b_bytes i)
   pub next_and_not : (a : Bitmap) (a_bytes : List ℕ) (b : Bitmap) (b_bytes : List ℕ) (from : ℕ)
       → Refuses (may_give indexed-pairs) tt (next_and_not_of a a_bytes (Some b) b_bytes from)

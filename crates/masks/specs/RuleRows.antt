@@ -1,9 +1,9 @@
 -- Rules of document 01 that the twelve examples leave open, and paper 02's on counts, as a table of rows, the paper's words above
--- each. Assumes nothing.
+-- each.
 --
--- A row has what the definitions give at one input, and what the paper's words give there, worked out by hand. Each call goes through
--- the definition that its contract cites, as in `Examples`. A definition that reads the rule otherwise fails a row: laws that serve
--- the functions' proofs would be changed together with it. `proofs/RuleRows.antt` proves that the two columns are equal.
+-- A row has the value of the definitions at one input, and that of the paper's words there, worked out by hand. Each call goes through the
+-- definition that its contract cites, as in `Examples`. A definition that reads the rule otherwise fails a row: laws that serve the
+-- functions' proofs would be changed together with it. `proofs/RuleRows.antt` proves that the two columns are equal.
 use Rattle.std.specs.Prelude.{ℕ, ◌≡◌, true, false, List, [], ◌∷◌, map, replicate, Option, Some, None}
 use Rattle.words.specs.declared.ops.Op.{Op}
 use Rattle.masks.specs.declared.bitmap.Recounted.{Recounted}
@@ -42,12 +42,12 @@ not_of_none =
     let m = mask_of 0 0 None in
     result_value (each_of (not_checks m [] 8) (m ∷ []) 0) (each_bytes (not_checks m [] 8) (not_flags m []) (lent 8))
 
--- the count that `try_new` gives a mask of no flags
+-- the count of a mask that `try_new` returns
 abbrev pub made_value : Answer (Unit {0}) Bitmap → Value
 made_value (given m) = count m.unset
 made_value (refused k s) = refusal k
 
--- `unset_bits` of 100 flags of 25 equal bytes, which makes their count known; then `slice` to k flags, from the flag 16 on
+-- `unset_bits` of 100 flags of 25 equal bytes, which makes their count known; then `slice` to the k flags starting at flag 16
 abbrev pub cut_to : ℕ → List ℕ → Answer Bitmap Recounted → Value
 cut_to k bytes (given r) = sliced_value (slice_of r.mask bytes 16 k)
 cut_to k bytes (refused n m) = refusal n
@@ -63,7 +63,7 @@ rows =
     row (frozen_in 8 (extend_constant 3 false ∷ extend_constant 2 true ∷ [])) (mask (first 0x18) (Some 3))
     -- A word appends its flags from bit 0. Five flags of 0x0D: 1,0,1,1,0.
     ∷ row (frozen_in 8 (push_word 0x0D 5 ∷ [])) (mask (first 0x0D) (Some 2))
-    -- Gathers append the flag at each index, in the order of the indices. 1,0,2 of 1,0,1,1,0,1; 4,0,9 of 0,1,1,0,1, from bit 1 on.
+    -- Gathers append the flag at each index, in the order of the indices. 1,0,2 of 1,0,1,1,0,1; 4,0,9 of 0,1,1,0,1, from bit 1.
     ∷ row (frozen_in 8 (extend_gather A-bytes 0 6 (1 ∷ 0 ∷ 2 ∷ []) ∷ [])) (mask (first 0x06) (Some 1))
     ∷ row (frozen_in 8 (extend_opt_gather A-bytes 1 5 (4 ∷ 0 ∷ 9 ∷ []) ∷ [])) (mask (first 0x01) (Some 2))
     -- `and` all zero if either count equals the length; its count is then known as its length. Four zeros, counted or not, on either side.
@@ -73,12 +73,12 @@ rows =
     -- `or` all one if either count is 0; its count is unknown. Four ones on either side.
     ∷ row (pair_of_told Or 4 (Some 0) 0xFF None 0) (mask (first 0x0F) None)
     ∷ row (pair_of_told Or 4 None 0 (Some 0) 0xFF) (mask (first 0x0F) None)
-    -- `xor` constant if both masks are constant by count: alike, all zero with its count; else all one.
+    -- `xor` constant if both masks are constant by count: if these are equal, all zero with its count; else all one.
     ∷ row (pair_of_told Xor 4 (Some 0) 0xFF (Some 0) 0xFF) (mask (first 0) (Some 4))
     ∷ row (pair_of_told Xor 4 (Some 4) 0 None 0) (mask (first 0) (Some 4))
     ∷ row (pair_of_told Xor 4 (Some 0) 0xFF (Some 4) 0) (mask (first 0x0F) None)
-    -- Each call that takes a mask counts a known one again and refuses it with 3 unless it is exact (paper 02). Four ones with a
-    -- count of 4, four zeros with one of 0, two of four with one of 1 and of 3; in the first mask, and in the second.
+    -- Each call that takes a mask checks a known count again and refuses it with 3 unless it is exact (paper 02). Four ones with a count of
+    -- 4, four zeros with one of 0, two of four with one of 1 and of 3; in the first mask, and in the second.
     ∷ row (pair_of_told And 4 (Some 4) 0xFF None 0xFF) (refusal 3)
     ∷ row (pair_of_told Or 4 None 0 (Some 0) 0) (refusal 3)
     ∷ row (pair_of_told AndNot 4 (Some 1) 0x03 (Some 2) 0x03) (refusal 3)
@@ -99,6 +99,6 @@ rows =
     ∷ row (evenly 0xFF 5) (count (Some 0))
     ∷ []
 
--- the statement: in every row the definitions give what the paper's words give
+-- the statement: in every row the value of the definitions is that of the paper's words
 abbrev pub RulesHold : Type 0
 RulesHold = map (λ (r : Row). r.computed) rows ≡ map (λ (r : Row). r.stated) rows

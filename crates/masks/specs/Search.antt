@@ -1,4 +1,4 @@
--- The set flag number n of a list, counted from a place on, and counted down from below an end. Assumes nothing.
+-- The set flag number n of a list, counted up from a place, and counted down from below an end.
 use Rattle.std.specs.Prelude.{ℕ, ◌+◌, ◌-◌, Bool, cond, List, ltb, length, take, drop, Option, Some, None}
 use Rattle.words.specs.Flags.{count}
 use Rattle.words.specs.Loops.{stretch}
@@ -6,7 +6,7 @@ use Rattle.words.specs.Nth.{nth_place}
 use Rattle.masks.specs.Answer.{Answer, checked}
 use Rattle.masks.specs.Checks.{span_checks}
 
--- the position, at or after `from`, of the n-th set flag there, counted from 0; none if at most n are set
+-- the position of the n-th set flag at or after `from`, counted from 0; none if at most n are set there
 unfoldable pub nth_from : List Bool → ℕ → ℕ → Option ℕ
 nth_from l n from = cond (ltb n (count (drop from l))) (Some (from + nth_place (drop from l) n)) None
 

@@ -1,7 +1,7 @@
--- The serial of every record that a call gives, in the words of request (i). Assumes nothing.
+-- The serial of every record that a call returns, in the words of request (i).
 --
--- Each line speaks of a call that was accepted; a refused one gives back the record that it got (`Refusals`). The statement names none
--- of the definitions that decide on a serial.
+-- Each line is about a call that was accepted; a refused one returns the record passed to it (`Refusals`). The statement names none of the
+-- definitions that make a serial.
 use Rattle.std.specs.Prelude.{ℕ, ◌≤◌, ◌≡◌, Bool, List, [], ◌∷◌, ◌⊎◌, Some}
 use Rattle.words.specs.declared.ops.Op.{Op}
 use Rattle.masks.specs.declared.bitmap.Recounted.{Recounted}

@@ -1,4 +1,4 @@
--- The runs of ones of a mask, one by one. Assumes nothing.
+-- The runs of ones of a mask, one by one.
 use Rattle.std.specs.Prelude.{ℕ, suc, ◌+◌, Bool, true, false, cond, List, [], ◌∷◌, ltb, eqb, length}
 use Rattle.words.specs.Loops.{stretch}
 use Rattle.masks.specs.Answer.{Answer, checked}
@@ -10,11 +10,11 @@ use Rattle.masks.specs.declared.bitmap.Bitmap.{Bitmap}
 use Rattle.masks.specs.declared.slice_iterator.Run.{Run}
 use Rattle.masks.specs.declared.slice_iterator.SlicesIterator.{SlicesIterator}
 
--- the one place where a cursor's record is made. Its place counts flags.
+-- a cursor over n flags starting at `start`, at a place that counts flags: the one place where its record is made
 abbrev pub slices_at : ℕ → ℕ → ℕ → SlicesIterator
 slices_at start n place = record { start = start; length = n; place = place }
 
--- the same cursor at another place
+-- a cursor moved to another place
 abbrev pub slices_moved : SlicesIterator → ℕ → SlicesIterator
 slices_moved c place = slices_at c.start c.length place
 
@@ -31,11 +31,11 @@ new_slices m bytes = checked (mask_checks m bytes) tt (slices_at m.start m.lengt
 abbrev pub run_checks : SlicesIterator → List ℕ → List Check
 run_checks c bytes = cursor_checks c.start c.length c.place (length bytes)
 
--- where the first one stands at or after a place: behind the zeros there. With none it is the length.
+-- the position of the first one at or after a place: after the zeros there. With no ones left it is the length.
 unfoldable pub run_start : List Bool → ℕ → ℕ
 run_start l place = place + leading_from false l place
 
--- that run, and the cursor just past it; none, and the cursor at the length
+-- the next run, and the cursor just past it; with no ones left none, and the cursor at the length
 unfoldable pub slice_step : SlicesIterator → List Bool → Step SlicesIterator Run
 slice_step c l =
     let first = run_start l c.place in
@@ -47,7 +47,7 @@ next_slice c bytes = checked (run_checks c bytes) c (slice_step c (stretch bytes
 
 -- ---- all runs of a list
 
--- a one at k before the runs that follow it: it joins a run that begins just behind it
+-- a one at k put before the runs that follow it: it joins a run that begins just after it
 unfoldable pub with_one : ℕ → List Run → List Run
 with_one k [] = run_of k 1 ∷ []
 with_one k (r ∷ rs) = cond (eqb r.start (suc k)) (run_of k (suc r.length) ∷ rs) (run_of k 1 ∷ (r ∷ rs))

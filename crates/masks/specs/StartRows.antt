@@ -1,8 +1,8 @@
 -- Cursors, windows and searches over spans that do not begin at the first flag of their bytes, and at places past the first word or the
--- first run. Assumes nothing.
+-- first run.
 --
--- A row has the numbers that a call gives, through the definition that its contract cites, and those that the papers' words give there,
--- worked out by hand. `proofs/StartRows.antt` proves that the columns are equal.
+-- A row has the numbers of a call's answer, through the definition that its contract cites, and those of the papers' words there, worked
+-- out by hand. `proofs/StartRows.antt` proves that the columns are equal.
 use Rattle.std.specs.Prelude.{ℕ, ◌≡◌, true, false, List, [], ◌∷◌, ◌++◌, map, replicate, Option, Some, None}
 use Rattle.words.specs.Flags.{digit}
 use Rattle.masks.specs.Answer.{Answer, given, refused}
@@ -29,7 +29,7 @@ numbers computed stated = record { computed = computed; stated = stated }
 
 -- ---- answers as numbers
 
--- the cursor's numbers, then the item's; the cursor's alone where there is none
+-- the item's number, then the cursor's numbers; only the cursor's if there is no item
 abbrev pub stepped : {C A : Type 0} → (C → List ℕ) → (A → ℕ) → Answer C (Step C A) → List ℕ
 stepped cursor value (given (item a c)) = value a ∷ cursor c
 stepped cursor value (given (ended c)) = cursor c
@@ -107,12 +107,12 @@ start_rows =
     ∷ numbers (paired true_numbers (next_positions (true_at 4 12 5 true) two_bytes 2)) (2 ∷ 4 ∷ 12 ∷ 8 ∷ 1 ∷ [])
     ∷ numbers (paired true_numbers (next_positions (true_at 4 12 5 true) two_bytes 4)) (3 ∷ 4 ∷ 12 ∷ 12 ∷ 1 ∷ [])
     ∷ numbers (paired true_numbers (next_positions (true_at 4 12 5 true) two_bytes 0)) (0 ∷ 4 ∷ 12 ∷ 5 ∷ 1 ∷ [])
-    -- words: the second of 130 flags from 4 on, the end behind it, and the two flags that are left, 0 and 1
+    -- words: the second of 130 flags starting at 4, the end after it, and the two flags that are left, 0 and 1
     ∷ numbers (stepped chunks_numbers (λ (w : ℕ). w) (next_chunk (chunks_at 4 130 1) many)) (0xD2D2D2D2D2D2D2D2 ∷ 4 ∷ 130 ∷ 2 ∷ [])
     ∷ numbers (stepped chunks_numbers (λ (w : ℕ). w) (next_chunk (chunks_at 4 130 2) many)) (4 ∷ 130 ∷ 2 ∷ [])
     ∷ numbers (remaining (chunks_remainder (chunks_at 4 130 0) many)) (2 ∷ 2 ∷ [])
     ∷ numbers (remaining (chunks_remainder (chunks_at 4 68 0) uneven)) (9 ∷ 4 ∷ [])
-    -- a slice begins in its bytes where the mask does, and the offset on
+    -- a slice begins in its bytes at the mask's start plus the offset
     ∷ numbers (cut (slice_of twelve two_bytes 2 8)) (6 ∷ 8 ∷ [])
     -- windows, splits and searches
     ∷ numbers (single (window_at two_bytes 4 12 2)) (0xB4 ∷ [])
@@ -124,6 +124,6 @@ start_rows =
     ∷ numbers (placed (search_back two_bytes 4 12 2 7)) []
     ∷ []
 
--- the statement: in every row the definitions give what the papers' words give
+-- the statement: in every row the numbers of the definitions are those of the papers' words
 abbrev pub StartsHold : Type 0
 StartsHold = map (λ (r : SplitRow). r.computed) start_rows ≡ map (λ (r : SplitRow). r.stated) start_rows

@@ -1,4 +1,4 @@
--- Which of two masks of one operator supersedes the other, and the part of the bytes lent that holds it. Assumes nothing.
+-- Which of two masks of one operator supersedes the other, and the part of the bytes lent that holds it.
 use Rattle.std.specs.Prelude.{ℕ, ◌+◌, ◌-◌, ◌/◌, ◌%◌, Bool, true, false, cond, not, ◌||◌, List, [], ◌∷◌, ◌++◌, eqb, ltb, take, drop}
 use Rattle.words.specs.Counts.{same_flags}
 use Rattle.masks.specs.Answer.{Answer, given, refused, checked}
@@ -9,18 +9,18 @@ use Rattle.masks.specs.declared.superseding.Part.{Part}
 
 -- ---- the checks
 
--- check 14: masks of equal serials have equal lists, compared as `eq` compares them
+-- check 14: masks with equal serials have equal lists, compared as `eq` compares them
 abbrev pub agree : Bitmap → List ℕ → Bitmap → List ℕ → Bool
 agree a a_bytes b b_bytes = not (eqb a.serial b.serial) || same_flags (mask_flags a a_bytes) (mask_flags b b_bytes)
 
--- 1, 2 and 3 of both masks, the loser's too, and 14
+-- checks 1, 2 and 3 of both masks, the loser's too, and 14
 unfoldable pub superseding_checks : Bitmap → List ℕ → Bitmap → List ℕ → List Check
 superseding_checks a a_bytes b b_bytes =
     (mask_checks a a_bytes ++ mask_checks b b_bytes) ++ (check 14 (agree a a_bytes b b_bytes) ∷ [])
 
 -- ---- the winner
 
--- the mask over its part of the bytes: the start is start mod 8, and all else stays
+-- the mask over its part of the bytes: the start is start mod 8, and all else is unchanged
 abbrev pub fitted : Bitmap → Bitmap
 fitted m = cut_mask m (m.start % 8) m.length m.unset
 
@@ -37,19 +37,19 @@ winning a b = cond (ltb a.serial b.serial) (part_of true b) (part_of false a)
 unfoldable pub superseding_of : Bitmap → List ℕ → Bitmap → List ℕ → Answer (Unit {0}) Part
 superseding_of a a_bytes b b_bytes = checked (superseding_checks a a_bytes b b_bytes) tt (winning a b)
 
--- the record alone
+-- only the record of the winner
 abbrev pub record_of : Answer (Unit {0}) Part → Answer (Unit {0}) Bitmap
 record_of (given p) = given p.mask
 record_of (refused k s) = refused k s
 
--- the bytes of a part: those of the slice that it is of, from its first byte to before its last
+-- the bytes from number `from` to before number `to`; of a part, those of the slice that it is of
 abbrev pub within : ℕ → ℕ → List ℕ → List ℕ
 within from to bytes = take (to - from) (drop from bytes)
 
 abbrev pub part_bytes : Part → List ℕ → List ℕ → List ℕ
 part_bytes p a_bytes b_bytes = within p.from p.to (cond p.second b_bytes a_bytes)
 
--- the bytes that the call gives: after a refusal an empty part of the first slice
+-- the bytes that `superseding_bytes` returns: after a refusal an empty part of the first slice
 abbrev pub bytes_of : Answer (Unit {0}) Part → List ℕ → List ℕ → List ℕ
 bytes_of (given p) a_bytes b_bytes = part_bytes p a_bytes b_bytes
 bytes_of (refused k s) a_bytes b_bytes = within 0 0 a_bytes

@@ -1,4 +1,4 @@
--- What superseding means, in the words of request (i). Assumes nothing.
+-- What superseding means, in the words of request (i).
 use Rattle.std.specs.Prelude.{ℕ, ◌+◌, ◌-◌, ◌/◌, ◌%◌, ◌≤◌, ◌<◌, ◌≡◌, Bool, true, false, cond, List, length}
 use Rattle.masks.specs.Answer.{given, refused}
 use Rattle.masks.specs.Checks.{first_failed}
@@ -12,7 +12,7 @@ use Rattle.masks.specs.declared.superseding.Part.{Part}
 abbrev pub Accepted : Bitmap → List ℕ → Type 0
 Accepted m bytes = first_failed (mask_checks m bytes) ≡ 0
 
--- the same mask under another serial
+-- a mask under another serial
 abbrev pub under : ℕ → Bitmap → Bitmap
 under serial m = mask_under serial m.start m.length m.unset
 
@@ -51,8 +51,8 @@ pub record Fits (m : Bitmap) (bytes part : List ℕ) : Type 0 where
   -- it passes a mask's checks
   pub accepted : Accepted (fitted m) part
 
--- the part that the call gives: it is the mask's with the larger serial, the first's where they are equal; its record has that mask's
--- flags, over the bytes that the call gives, and its count and serial, and passes a mask's checks
+-- the part that the call returns: it is the part of the mask with the larger serial, of the first if they are equal; its record has that
+-- mask's flags, over the bytes that the call returns, and its count and serial, and passes a mask's checks
 pub record Winning (a : Bitmap) (a_bytes : List ℕ) (b : Bitmap) (b_bytes : List ℕ) (p : Part) : Type 0 where
   pub second : p.second ≡ true → a.serial < b.serial
   pub first : p.second ≡ false → b.serial ≤ a.serial
@@ -65,6 +65,6 @@ pub record SupersedingPlainly : Type 0 where
   pub supersedes : (a : Bitmap) (a_bytes : List ℕ) (b : Bitmap) (b_bytes : List ℕ) → Supersedes a a_bytes b b_bytes
   pub won : (a : Bitmap) (a_bytes : List ℕ) (b : Bitmap) (b_bytes : List ℕ) (p : Part) → superseding_of a a_bytes b b_bytes ≡ given p
       → Winning a a_bytes b b_bytes p
-  -- of every mask that is accepted, a winner or not
+  -- for every mask that is accepted, a winner or not
   pub fits : (second : Bool) (m : Bitmap) (bytes : List ℕ) → Accepted m bytes
       → let p = part_of second m in (p.mask ≡ fitted m) × Fits m bytes (within p.from p.to bytes)

@@ -1,8 +1,8 @@
--- For each call an input for each number by which it may refuse, so that no number of the table `may_give` is idle, save the 7 of
--- `slice`, which `never_seven` of `Refusals` rules out. Assumes nothing.
+-- For each call an input for each number with which it may refuse, so that no number of the table `may_give` is idle, except the 7 of
+-- `slice`, which `never_seven` of `Refusals` rules out.
 --
--- `proofs/Witnesses.antt` computes what the definitions that the calls' contracts cite give at these inputs. The calls stand above
--- their lists, in the order of these.
+-- `proofs/Witnesses.antt` computes the definitions that the calls' contracts cite at these inputs. The calls are named above their lists,
+-- in the same order.
 use Rattle.std.specs.Prelude.{ℕ, ◌≡◌, true, false, cond, List, [], ◌∷◌, ◌++◌, eqb, length, drop, replicate, Option, Some, None}
 use Rattle.words.specs.Ends.{leading, trailing}
 use Rattle.words.specs.Loops.{stretch}
@@ -35,7 +35,7 @@ use Rattle.masks.specs.declared.builder.BitmapBuilder.{BitmapBuilder}
 
 -- ---- inputs
 
--- the number of a refusal, 0 where there is none
+-- the number of a refusal, 0 for an accepted call
 abbrev pub number_of : {S A : Type 0} → Answer S A → ℕ
 number_of (given a) = 0
 number_of (refused k s) = k
@@ -60,27 +60,27 @@ too_long = 4194305
 abbrev pub impossible : BitmapBuilder
 impossible = builder_of 0 1 0
 
--- what a call over the byte gives at spans that checks 1 and 2 refuse
+-- the numbers of a call over the byte at spans that checks 1 and 2 refuse
 abbrev pub at_spans : (ℕ → ℕ → ℕ) → List ℕ
 at_spans f = f too_long 1 ∷ f 2 7 ∷ []
 
--- at cursors, and at points of a span, that checks 1, 2 and 6 refuse
+-- the numbers of a call at cursors, and at split points of a span, that checks 1, 2 and 6 refuse
 abbrev pub at_cursors : (ℕ → ℕ → ℕ → ℕ) → List ℕ
 at_cursors f = f too_long 1 0 ∷ f 2 7 0 ∷ f 0 8 9 ∷ []
 
--- at masks that checks 1 to 3 refuse: the byte has four zeros
+-- the numbers of a call at masks that checks 1 to 3 refuse: the byte has four zeros
 abbrev pub at_masks : (Bitmap → ℕ) → List ℕ
 at_masks f = f (mask_of 0 too_long None) ∷ f (mask_of 2 7 None) ∷ f (mask_of 0 8 (Some 3)) ∷ []
 
--- the same, of masks that are short, so that their flags can be listed
+-- the numbers of a call at short masks that checks 1 to 3 refuse: their flags can be listed
 abbrev pub at_short_masks : (Bitmap → ℕ) → List ℕ
 at_short_masks f = f (mask_of too_long 1 None) ∷ f (mask_of 2 7 None) ∷ f (mask_of 0 8 (Some 9)) ∷ []
 
--- at spans and address remainders that checks 1, 2 and 8 refuse
+-- the numbers of a call at spans and address remainders that checks 1, 2 and 8 refuse
 abbrev pub at_addresses : (ℕ → ℕ → ℕ → ℕ) → List ℕ
 at_addresses f = f too_long 1 0 ∷ f 2 7 0 ∷ f 0 8 8 ∷ []
 
--- what an append gives to a new builder, to the impossible one, and to a new one with no bytes
+-- the number of an append to a new builder, to the impossible one, and to a new one with no bytes
 abbrev pub to_new : Append → ℕ
 to_new a = number_of (append_answer a new_builder buffer)
 
@@ -90,15 +90,15 @@ to_impossible a = number_of (append_answer a impossible buffer)
 abbrev pub to_no_bytes : Append → ℕ
 to_no_bytes a = number_of (append_answer a new_builder [])
 
--- what an append of a span gives where checks 1, 2, 4 and 9 refuse
+-- the numbers of an append of a span at inputs that checks 1, 2, 4 and 9 refuse
 abbrev pub at_appends : (ℕ → ℕ → Append) → List ℕ
 at_appends f = to_new (f too_long 1) ∷ to_new (f 2 7) ∷ to_impossible (f 0 8) ∷ to_no_bytes (f 0 8) ∷ []
 
--- at builders that checks 1, 4 and 9 refuse
+-- the numbers of a call at builders that checks 1, 4 and 9 refuse
 abbrev pub at_builders : (BitmapBuilder → List ℕ → ℕ) → List ℕ
 at_builders f = f (builder_of too_long 0 0) buffer ∷ f impossible buffer ∷ f (builder_of 1 0 0) [] ∷ []
 
--- at masks, combined with that of the byte, that checks 1, 2, 3, 5 and 9 refuse
+-- the numbers of a call at masks, combined with that of the byte, that checks 1, 2, 3, 5 and 9 refuse
 abbrev pub at_pairs : (Bitmap → List ℕ → ℕ) → List ℕ
 at_pairs f = at_masks (λ m. f m buffer) ++ (f shorter buffer ∷ f whole [] ∷ [])
 
@@ -119,11 +119,11 @@ select_constant_number m out = number_of (select_constant_of whole byte m byte f
 abbrev pub at_number : Option Bitmap → Option Bitmap → ℕ → ℕ
 at_number first second i = number_of (and_not_at_of first byte second byte i)
 
--- the number of `next_and_not` from a place on
+-- the number of `next_and_not` of masks over the byte, starting at a place
 abbrev pub next_number : Bitmap → Option Bitmap → ℕ → ℕ
 next_number first second from = number_of (next_and_not_of first byte second byte from)
 
--- ---- the table: for each call a list, what its definition gives at one input for each number of its family
+-- ---- the table: for each call a list, the number of its definition at one input for each number of its family
 
 unfoldable pub witnesses : Family → List (List ℕ)
 witnesses addressed =
@@ -219,7 +219,7 @@ witnesses masks =
     ∷ at_masks (λ m. number_of (new_slices m byte))
     ∷ []
 witnesses slices =
-    -- `Bitmap::slice`. For 7 there is none: `never_seven`
+    -- `Bitmap::slice`. No input for 7: `never_seven`
     (at_masks (λ m. number_of (slice_of m byte 0 1))
     ++ (number_of (slice_of whole byte 1 8) ∷ []))
     ∷ []
@@ -242,20 +242,20 @@ witnesses intersections =
     (at_masks (λ m. number_of (common_of whole byte m byte)) ++ (number_of (common_of whole byte shorter byte) ∷ []))
     ∷ []
 witnesses indexed-pairs =
-    -- `and_not_at` of two masks, where the first is refused and where the second is
+    -- `and_not_at` of two masks: the first refused, then the second
     (at_masks (λ m. at_number (Some m) (Some whole) 0)
     ++ (at_number (Some shorter) (Some whole) 0 ∷ at_number (Some whole) (Some whole) 8 ∷ []))
     ∷ (at_masks (λ m. at_number (Some whole) (Some m) 0)
     ++ (at_number (Some whole) (Some shorter) 0 ∷ at_number (Some whole) (Some whole) 8 ∷ []))
-    -- `next_and_not` likewise
+    -- `next_and_not` of two masks: the first refused, then the second
     ∷ (at_masks (λ m. next_number m (Some whole) 0) ++ (next_number shorter (Some whole) 0 ∷ next_number whole (Some whole) 9 ∷ []))
     ∷ (at_masks (λ m. next_number whole (Some m) 0) ++ (next_number whole (Some shorter) 0 ∷ next_number whole (Some whole) 9 ∷ []))
     ∷ []
 witnesses indexed-masks =
-    -- `and_not_at` of the first mask alone, and of the second
+    -- `and_not_at` of only the first mask, and of only the second
     (at_masks (λ m. at_number (Some m) None 0) ++ (at_number (Some whole) None 8 ∷ []))
     ∷ (at_masks (λ m. at_number None (Some m) 0) ++ (at_number None (Some whole) 8 ∷ []))
-    -- `next_and_not` of the first mask alone
+    -- `next_and_not` of only the first mask
     ∷ (at_masks (λ m. next_number m None 0) ++ (next_number whole None 9 ∷ []))
     ∷ []
 witnesses stated-masks =
@@ -267,7 +267,7 @@ witnesses stated_lengths =
     (number_of (new_true too_long None []) ∷ [])
     ∷ []
 witnesses supersessions =
-    -- `superseding_part`, where the first is refused and where the second is
+    -- `superseding_part`: the first mask refused, then the second
     (at_short_masks (λ m. number_of (superseding_of m byte whole byte)) ++ (number_of (superseding_of whole byte shorter byte) ∷ []))
     ∷ (at_short_masks (λ m. number_of (superseding_of whole byte m byte)) ++ (number_of (superseding_of shorter byte whole byte) ∷ []))
     -- `superseding`
@@ -275,11 +275,11 @@ witnesses supersessions =
     ++ (number_of (record_of (superseding_of whole byte shorter byte)) ∷ []))
     ∷ []
 
--- the numbers but 7
+-- the numbers except 7
 abbrev pub but_seven : List ℕ → List ℕ
 but_seven [] = []
 but_seven (k ∷ ks) = cond (eqb k 7) (but_seven ks) (k ∷ but_seven ks)
 
--- the statement: each family has a call, and each of its calls gives all the family's numbers, save 7
+-- the statement: each family has a call, and each of its calls has an input for each of the family's numbers except 7
 abbrev pub Witnessed : Type 0
 Witnessed = (f : Family) → witnesses f ≡ but_seven (may_give f) ∷ replicate (length (drop 1 (witnesses f))) (but_seven (may_give f))

@@ -1,5 +1,4 @@
--- What the private functions of masks ask and promise each other. No contract of a public function cites it, so it need not be
--- believed. Assumes nothing.
+-- What the private functions of masks require and promise. No contract of a public function cites it, so it need not be believed.
 use Rattle.masks.specs.declared.refusal.Refusal.{Refusal}
 use Rattle.masks.specs.declared.refusal.Refusal.TheVariants.{WrongRecount}
 use Rattle.std.specs.Prelude.{◌≡◌, refl, ℕ, ◌+◌, ◌-◌, ◌*◌, ◌/◌, ◌%◌, ◌≤◌, ◌<◌, Bool, true, false, cond, ◌&&◌, ◌||◌, List, ◌++◌, eqb, leb}
@@ -21,7 +20,7 @@ use Rattle.masks.specs.declared.slice_iterator.Run.{Run}
 
 -- ---- `utils`: counts over the parts of an aligned split
 
--- the flags of a split's parts, and those that it stands for: its parts in a row
+-- the flags of a split's parts, and of the split: its parts in a row
 abbrev pub prefix_flags : AlignedBitmapSlice → List Bool
 prefix_flags s = take s.prefix_len (word_flags s.prefix)
 
@@ -39,7 +38,7 @@ pub parts-in-row : (bytes : List ℕ) (s : AlignedBitmapSlice)
 unfolding split_flags
 parts-in-row bytes s = refl
 
--- a split of a span within the flag limit: what the counts over its parts ask
+-- a split of a span within the flag limit: what the counts over its parts require
 pub record Bounded (s : AlignedBitmapSlice) : Type 0 where
   pub prefix_fits : s.prefix_len ≤ 64
   pub suffix_fits : s.suffix_len ≤ 64
@@ -55,15 +54,15 @@ pub record PieceAllowed (m : Bitmap) (size offset n : ℕ) : Type 0 where
   pub lent : m.start + m.length ≤ 8 * size
   pub inside : offset + n ≤ m.length
 
--- the zeros of a span before a piece of it and behind it
+-- the zeros of a span of `whole` flags before the piece of n flags at `offset`, and after it
 abbrev pub outside : List ℕ → ℕ → ℕ → ℕ → ℕ → ℕ
 outside bytes start whole offset n = zeros (stretch bytes start offset) + zeros (stretch bytes (start + offset + n) (whole - (offset + n)))
 
--- a recount: z less the zeros cut off, of n flags
+-- a recount of n flags: z less the zeros cut off, or that check 7 fails
 unfoldable pub recounted_of : ℕ → ℕ → ℕ → Result (Option ℕ) Refusal
 recounted_of z cut n = cond (leb cut z && leb (z - cut) n) (Ok (Some (z - cut))) (Err WrongRecount)
 
--- the count of a slice, or that check 7 fails
+-- the count of a slice of n of `old` flags, or that check 7 fails
 abbrev pub cut_of : ℕ → ℕ → ℕ → Option ℕ → Result (Option ℕ) Refusal
 cut_of old n cut u = cond (recount_valid old n cut u) (Ok (sliced_count old n cut u)) (Err WrongRecount)
 
@@ -74,15 +73,15 @@ abbrev pub zeros_of_all : Bool → ℕ → ℕ
 zeros_of_all true n = 0
 zeros_of_all false n = n
 
--- a mask is all x, by its count
+-- whether a mask is all x, by its count
 abbrev pub is_all : Bool → Bitmap → List ℕ → Bool
 is_all x m bytes = eqb (zero_count m bytes) (zeros_of_all x m.length)
 
--- the shortcut of `and`, x 0, and of `or`, x 1: whether each mask is all x
+-- the shortcut of `and` (x is 0) and of `or` (x is 1), by whether each mask is all x
 unfoldable pub either_all : Bool → Bool → Bool → Option Bool
 either_all x l r = cond (l || r) (Some x) None
 
--- the shortcut of `xor` with a constant mask: whether the other is all the same, all the opposite
+-- the shortcut of `xor` with a constant mask, by whether the other is all the same, all the opposite
 unfoldable pub xor_all : Bool → Bool → Option Bool
 xor_all same opposite = cond same (Some false) (cond opposite (Some true) None)
 
@@ -95,15 +94,14 @@ Indexed None i = Unit {0}
 
 -- ---- `builder`, `extend`, `repeat`, `gather`: what is appended
 
--- what the workers ask of a builder to which n flags are to be appended: it is possible, and within the limit and the buffer
+-- what the workers require of a builder to which n flags are to be appended: it is possible, and within the limit and the buffer
 pub record Room (b : BitmapBuilder) (n size : ℕ) : Type 0 where
   pub short : b.length + n ≤ limit
   pub low : none_from b.word (b.length % 64) ≡ true
   pub few : b.ones ≤ 64 * (b.length / 64)
   pub holds : 8 * ((b.length + n + 63) / 64) ≤ size
 
--- what it takes to join the k flags of a word to those in progress: no flag of the two words stands where another belongs, and
--- the word stays unfilled
+-- what it takes to join the k flags of a word to those in progress: neither word has a bit outside its flags, and the word stays unfilled
 pub record Inside (b : BitmapBuilder) (flags k : ℕ) : Type 0 where
   pub short : b.length ≤ limit
   pub room : b.length % 64 + k < 64
@@ -112,13 +110,13 @@ pub record Inside (b : BitmapBuilder) (flags k : ℕ) : Type 0 where
 
 -- ---- `bitmask`: searches by windows of 32 flags
 
--- the search for `left` from `at` on is the one asked for, and a window there with too few set flags is among the last two
+-- the search for `left` from `at` finds what that for n from `from` finds, and a window there with too few set flags is among the last two
 pub record PassedFrom (bytes : List ℕ) (start size n from left at : ℕ) : Type 0 where
   pub same : nth_from (stretch bytes start size) left at ≡ nth_from (stretch bytes start size) n from
   pub inside : at < size
   pub stops : count (bits 32 (window_word bytes start size at)) ≤ left → size < at + 64
 
--- the same down from `below`
+-- the search for `left` below `below` finds what that for n below `end` finds, and a window there with too few is among the first two
 pub record PassedBack (bytes : List ℕ) (start size n end left below : ℕ) : Type 0 where
   pub same : nth_back (stretch bytes start size) left below ≡ nth_back (stretch bytes start size) n end
   pub inside : below ≤ size
@@ -126,24 +124,24 @@ pub record PassedBack (bytes : List ℕ) (start size n end left below : ℕ) : T
 
 -- ---- `slice_iterator`
 
--- the first run at or after a place. With none it is empty, at the length.
+-- the first run at or after a place. With no ones left it is empty, at the length.
 unfoldable pub first_run : List Bool → ℕ → Run
 first_run l place = run_of (run_start l place) (leading_from true l (run_start l place))
 
 -- ---- `next_and_not`
 
--- a second mask has the first one's length and lies within the limit
+-- a second mask, if there is one, has n flags and a start within the limit
 abbrev pub Beside : ℕ → Option Bitmap → Type 0
 Beside n (Some b) = (b.start ≤ limit) × (n ≡ b.length)
 Beside n None = Unit {0}
 
--- `end` flags of l, of which those from `from` up to `at` are zeros
+-- the first `end` flags of l: those from `from` to before `at` are zeros
 pub record PassedTo (l : List Bool) (end from at : ℕ) : Type 0 where
   pub low : from ≤ at
   pub inside : at ≤ end
   pub same : at + leading_from false l at ≡ from + leading_from false l from
 
--- masks that have passed their checks, and a part of their flags
+-- masks that have passed their checks, and their flags from `from` to before `end`
 pub record Searchable (a : Bitmap) (second : Option Bitmap) (from end : ℕ) : Type 0 where
   pub starts : a.start ≤ limit
   pub short : a.length ≤ limit

@@ -1,6 +1,6 @@
--- Wrong answers that the contracts of the builder's calls rule out, two for each call. Assumes nothing.
+-- Wrong answers that the contracts of the builder's calls rule out, two for each call.
 --
--- Rows as in `WrongAnswers` of words. An answer stands with what the lent buffer then holds.
+-- Rows as in `WrongAnswers` of words. An answer is paired with what the lent buffer then holds.
 use Rattle.std.specs.Prelude.{ℕ, true, List, [], ◌∷◌, ◌++◌, replicate, Some, None}
 use Rattle.words.specs.WrongAnswers.{Tried}
 use Rattle.masks.specs.Answer.{Answer, given, refused}
@@ -13,15 +13,15 @@ use Rattle.masks.specs.Mask.{mask_of}
 use Rattle.masks.specs.WrongSpans.{two}
 use Rattle.masks.specs.declared.builder.BitmapBuilder.{BitmapBuilder}
 
--- an append to a builder over a buffer
+-- an append to a builder over a buffer: the answer, and the buffer after it
 abbrev pub appending : Append → BitmapBuilder → List ℕ → Answer BitmapBuilder BitmapBuilder × List ℕ
 appending a b buf = (append_answer a b buf, append_bytes a b buf)
 
--- what an append of less than a word to a new builder gives: so many flags in this word, and eight lent bytes that stay
+-- the answer of an append of less than a word to a new builder: n flags in this word, and eight lent bytes that are unchanged
 abbrev pub in_word : ℕ → ℕ → Answer BitmapBuilder BitmapBuilder × List ℕ
 in_word n word = (given (builder_of n word 0), lent 8)
 
--- an answer of freezing over eight lent bytes, and these
+-- the answer of a call that freezes over eight lent bytes, and these after it
 abbrev pub freezing : {A : Type 0} → (BitmapBuilder → List ℕ → Answer BitmapBuilder A) → BitmapBuilder → Answer BitmapBuilder A × List ℕ
 freezing call b = (call b (lent 8), freeze_bytes b (lent 8))
 
@@ -61,7 +61,7 @@ pub record WrongBuilders : Type 0 where
       (in_word 3 7)
       -- bits past the length kept
       (in_word 3 0xFF)
-  -- `BitmapBuilder::extend_from_slice` of 9 flags from the flag 3 on
+  -- `BitmapBuilder::extend_from_slice` of 9 flags starting at flag 3
   pub extend_from_slice : Tried (appending (extend_slice two 3 9) new_builder (lent 8))
       (in_word 9 5)
       -- flags past the end kept
@@ -75,7 +75,7 @@ pub record WrongBuilders : Type 0 where
       (in_word 6 0x1B)
       -- once too often
       (in_word 9 0x3F)
-  -- `BitmapBuilder::subslice_extend_from_bitmap` of 3 flags from the flag 1 on of a mask that begins at the flag 2
+  -- `BitmapBuilder::subslice_extend_from_bitmap` of 3 flags starting at flag 1 of a mask that begins at flag 2
   pub subslice_extend : Tried (appending (extend_bitmap (mask_of 2 6 None) two 1 3) new_builder (lent 8))
       (in_word 3 5)
       -- the mask's start not added
@@ -89,19 +89,19 @@ pub record WrongBuilders : Type 0 where
       (in_word 3 5)
       -- refused, and the flag before it appended
       (refused 6 (builder_of 1 1 0), lent 8)
-  -- `BitmapBuilder::opt_gather_extend_from_slice` of the indices 2,9,0 of nine flags from the flag 3 on
+  -- `BitmapBuilder::opt_gather_extend_from_slice` of the indices 2,9,0 of nine flags starting at flag 3
   pub opt_gather : Tried (appending (extend_opt_gather two 3 9 (2 ∷ 9 ∷ 0 ∷ [])) new_builder (lent 8))
       (in_word 3 5)
-      -- the flag behind the span read
+      -- the flag after the span read
       (in_word 3 7)
       -- the index past the end left out
       (in_word 2 3)
   -- `BitmapBuilder::freeze` of the flags 1,0,1
   pub freeze : Tried (freezing freeze_of (builder_of 3 5 0))
       (given (mask_of 0 3 (Some 1)), first 5)
-      -- bytes behind the flags left as they were
+      -- bytes after the flags left unchanged
       (given (mask_of 0 3 (Some 1)), 5 ∷ lent 7)
-      -- ones given as zeros
+      -- ones counted as zeros
       (given (mask_of 0 3 (Some 2)), first 5)
   -- `BitmapBuilder::into_opt_validity` of three ones
   pub into-opt-validity : Tried (freezing into_opt_validity_of (builder_of 3 7 0))

@@ -1,4 +1,4 @@
--- Wrong answers that the contracts of the cursors' calls rule out, two for each call. Assumes nothing.
+-- Wrong answers that the contracts of the cursors' calls rule out, two for each call.
 --
 -- Rows as in `WrongAnswers` of words.
 use Rattle.std.specs.Prelude.{ℕ, true, false, List, [], ◌∷◌, length, None}
@@ -25,7 +25,7 @@ abbrev pub positions_into : TrueIdxIter → List ℕ → List ℕ → Answer Tru
 positions_into c bytes out = positions_told (next_positions c bytes (length out)) (positions_over c bytes out)
 
 pub record WrongCursors : Type 0 where
-  -- `SlicesIterator::new` of 9 flags from the flag 4 on, the first of them a zero
+  -- `SlicesIterator::new` of 9 flags starting at flag 4, the first of them a zero
   pub slices-new : Tried (new_slices (mask_of 4 9 None) two)
       (given (slices_at 4 9 0))
       -- the start lost
@@ -37,37 +37,37 @@ pub record WrongCursors : Type 0 where
       (given (item (run_of 4 8) (slices_at 0 16 12)))
       -- stopped at the byte's end
       (given (item (run_of 4 4) (slices_at 0 16 8)))
-      -- the run's end for its length
+      -- the run's end returned as its length
       (given (item (run_of 4 12) (slices_at 0 16 12)))
-  -- `BitmapIter::new` of no flags at a start behind the bytes
+  -- `BitmapIter::new` of no flags at a start past the bytes
   pub iter-new : Tried (new_iter two 99 0)
       (given (iter_at 0 0 0))
       -- the start kept
       (given (iter_at 99 0 0))
-      -- held to the bytes before the length is looked at
+      -- the bytes checked before the length is looked at
       (refused 2 tt)
-  -- `BitmapIter::next` at the place 3 of 9 flags from the flag 3 on
+  -- `BitmapIter::next` at place 3 of 9 flags starting at flag 3
   pub iter-next : Tried (nth_flag (iter_at 3 9 3) two 0)
       (given (item false (iter_at 3 9 4)))
       -- the start not added
       (given (item true (iter_at 3 9 4)))
       -- the cursor not moved
       (given (item false (iter_at 3 9 3)))
-  -- `BitmapIter::nth` at the place 2 of 9 flags from the flag 3 on, n 7
+  -- `BitmapIter::nth` at place 2 of 9 flags starting at flag 3, n 7
   pub iter-nth : Tried (nth_flag (iter_at 3 9 2) two 7)
       (given (ended (iter_at 3 9 9)))
       -- none, and the cursor not moved
       (given (ended (iter_at 3 9 2)))
-      -- the flag behind the end
+      -- the flag past the end returned
       (given (item true (iter_at 3 9 10)))
-  -- `BitmapIter::take_leading_ones` at the place 2
+  -- `BitmapIter::take_leading_ones` at place 2
   pub take_leading_ones : Tried (take_leading true (iter_at 0 16 2) two)
       (given (2, iter_at 0 16 4))
-      -- the zero behind them passed over
+      -- the zero after them passed over
       (given (2, iter_at 0 16 5))
-      -- the place for the number
+      -- the place returned as the number
       (given (4, iter_at 0 16 4))
-  -- `BitmapIter::take_leading_zeros` at the place 6
+  -- `BitmapIter::take_leading_zeros` at place 6
   pub take_leading_zeros : Tried (take_leading false (iter_at 0 16 6) two)
       (given (6, iter_at 0 16 12))
       -- stopped at the byte's end
@@ -79,23 +79,23 @@ pub record WrongCursors : Type 0 where
       (given (true_at 0 8 0 false))
       -- marked as with a mask
       (given (true_at 0 8 0 true))
-      -- held to the bytes
+      -- the bytes checked
       (refused 2 tt)
-  -- `TrueIdxIter::next` at the place 1 of 9 flags from the flag 3 on
+  -- `TrueIdxIter::next` at place 1 of 9 flags starting at flag 3
   pub true-next : Tried (next_true (true_at 3 9 1 true) two)
       (given (item 2 (true_at 3 9 3 true)))
       -- the position counted from the bytes' first flag
       (given (item 5 (true_at 3 9 3 true)))
       -- the cursor one too far
       (given (item 2 (true_at 3 9 4 true)))
-  -- `TrueIdxIter::next` at a place behind the end
+  -- `TrueIdxIter::next` at a place past the end
   pub true-next-refused : Tried (next_true (true_at 3 9 10 true) two)
       (refused 6 (true_at 3 9 10 true))
-      -- none
+      -- accepted, with no position
       (given (ended (true_at 3 9 9 true)))
       -- refused, and the cursor moved
       (refused 6 (true_at 3 9 9 true))
-  -- `TrueIdxIter::next_chunk` with room for 3, at the place 1 of 14 flags from the flag 2 on
+  -- `TrueIdxIter::next_chunk` with room for 3, at place 1 of 14 flags starting at flag 2
   pub true-chunk : Tried (positions_into (true_at 2 14 1 true) two (9 ∷ 9 ∷ 9 ∷ []))
       (positions_told (given (3, true_at 2 14 11 true)) (1 ∷ 3 ∷ 10 ∷ []))
       -- the positions counted from the bytes' first flag
@@ -107,5 +107,5 @@ pub record WrongCursors : Type 0 where
       (positions_told (given (3, true_at 2 14 14 true)) (11 ∷ 12 ∷ 13 ∷ 9 ∷ []))
       -- the rest of the output cleared
       (positions_told (given (3, true_at 2 14 14 true)) (11 ∷ 12 ∷ 13 ∷ 0 ∷ []))
-      -- the room for the count
+      -- the room returned as the count
       (positions_told (given (4, true_at 2 14 14 true)) (11 ∷ 12 ∷ 13 ∷ 9 ∷ []))

@@ -1,6 +1,6 @@
--- Wrong answers that the contracts of the mask's calls rule out, two for each call. Assumes nothing.
+-- Wrong answers that the contracts of the mask's calls rule out, two for each call.
 --
--- Rows as in `WrongAnswers` of words. An answer of a call that writes stands with what the lent output then holds.
+-- Rows as in `WrongAnswers` of words. An answer of a call that writes is paired with what the lent output then holds.
 use Rattle.std.specs.Prelude.{ℕ, true, false, List, [], ◌∷◌, ◌++◌, replicate, Option, Some, None}
 pub use Rattle.words.specs.WrongAnswers.{Tried}
 use Rattle.words.specs.declared.ops.Op.{Op}
@@ -16,7 +16,7 @@ use Rattle.masks.specs.Mask.{mask_checks, mask_of, empty_mask, try_new_of, new_z
 use Rattle.masks.specs.WrongSpans.{two}
 use Rattle.masks.specs.declared.bitmap.Bitmap.{Bitmap}
 
--- ---- inputs: masks of four flags, with ones behind them
+-- ---- inputs: masks of four flags, with ones after them
 
 -- 1,1,0,0
 abbrev pub left : Bitmap
@@ -25,14 +25,14 @@ left = mask_of 0 4 None
 abbrev pub left_bytes : List ℕ
 left_bytes = 0xF3 ∷ []
 
--- 1,0,1,0, from the flag 2 on
+-- 1,0,1,0, starting at flag 2
 abbrev pub right : Bitmap
 right = mask_of 2 4 None
 
 abbrev pub right_bytes : List ℕ
 right_bytes = 0xD4 ∷ []
 
--- 1,1,1,1, which the count says
+-- 1,1,1,1, as its count says
 abbrev pub ones : Bitmap
 ones = mask_of 0 4 (Some 0)
 
@@ -71,9 +71,9 @@ pub record WrongMasks : Type 0 where
       (given (mask_of 0 3 (Some 3)), first 0 ++ lent 1)
       -- no zeros counted
       (given (mask_of 0 3 (Some 0)), first 0 ++ lent 1)
-      -- the byte behind the last word cleared
+      -- the byte after the last word cleared
       (given (mask_of 0 3 (Some 3)), first 0 ++ (0 ∷ []))
-  -- `Bitmap::try_new` of 9 flags from the flag 3 on
+  -- `Bitmap::try_new` of 9 flags starting at flag 3
   pub try-new : Tried (try_new_of two 3 9)
       (given (mask_of 3 9 None))
       -- the start lost
@@ -90,11 +90,11 @@ pub record WrongMasks : Type 0 where
   -- `Bitmap::slice` to the last 4 of 8 flags, four of them zeros, with a false count of 7
   pub slice-refused : Tried (slice_of (mask_of 0 8 (Some 7)) two 4 4)
       (refused 3 (mask_of 0 8 (Some 7)))
-      -- found false only where it is cut
+      -- found false only when the mask is cut
       (refused 7 (mask_of 0 8 (Some 7)))
       -- refused, and the mask cut
       (refused 3 (mask_of 4 4 (Some 7)))
-  -- `Bitmap::unset_bits` of 9 flags from the flag 3 on, with a false count of 6
+  -- `Bitmap::unset_bits` of 9 flags starting at flag 3, with a false count of 6
   pub unset-bits-refused : Tried (unset_bits_of (mask_of 3 9 (Some 6)) two)
       (refused 3 (mask_of 3 9 (Some 6)))
       -- the count believed
@@ -106,18 +106,18 @@ pub record WrongMasks : Type 0 where
       (refused 3 (mask_of 0 4 (Some 4)))
       -- a count of all believed
       (given (record { mask = mask_of 0 4 (Some 4); zeros = 4 }))
-      -- the mask given back corrected
+      -- the mask returned with its count corrected
       (refused 3 (mask_of 0 4 (Some 0)))
   pub unset-bits-none : Tried (unset_bits_of (mask_of 0 4 (Some 0)) (0xF0 ∷ []))
       (refused 3 (mask_of 0 4 (Some 0)))
       -- a count of 0 believed
       (given (record { mask = mask_of 0 4 (Some 0); zeros = 0 }))
-      -- the mask given back uncounted
+      -- the mask returned with its count unknown
       (refused 3 (mask_of 0 4 None))
-  -- `Bitmap::unset_bits` of 9 flags from the flag 3 on
+  -- `Bitmap::unset_bits` of 9 flags starting at flag 3
   pub unset_bits : Tried (unset_bits_of (mask_of 3 9 None) two)
       (given (recounted (Some 7) 7))
-      -- the count not put into the mask
+      -- the count not stored in the mask
       (given (recounted None 7))
       -- ones counted
       (given (recounted (Some 2) 2))
@@ -138,14 +138,14 @@ pub record WrongMasks : Type 0 where
   -- `and` of 4 flags with a false count and of 4 outside their bytes
   pub and-outside : Tried (paired_in And (mask_of 0 4 (Some 1)) left_bytes (mask_of 5 4 None) right_bytes (lent 8))
       (refused 2 tt, lent 8)
-      -- the first mask's checks made alone
+      -- only the first mask's checks made
       (refused 3 tt, lent 8)
       -- the count believed
       (four None (first 0x00))
   -- `and` where the second mask's count is one too many
   pub and_stale : Tried (paired_in And (mask_of 0 4 (Some 2)) left_bytes (mask_of 2 4 (Some 3)) right_bytes (lent 8))
       (refused 3 tt, lent 8)
-      -- the first mask's count checked alone
+      -- only the first mask's count checked
       (four None (first 0x01))
       -- refused, and written
       (refused 3 tt, first 0x01)
@@ -161,7 +161,7 @@ pub record WrongMasks : Type 0 where
       (four None (first 0x0F))
       -- zeros by the count
       (four (Some 4) (first 0x00))
-      -- its own count given
+      -- that mask's count returned
       (four (Some 0) (first 0x0F))
   -- `or_not`
   pub or-not : Tried (paired OrNot left left_bytes right right_bytes)
@@ -177,7 +177,7 @@ pub record WrongMasks : Type 0 where
       (four None (first 0x00))
       -- the count of the masks combined
       (four (Some 0) (first 0x00))
-  -- `not` of a mask that begins at the flag 2
+  -- `not` of a mask that begins at flag 2
   pub not : Tried {A = Written} (not_of right right_bytes (lent 8), not_bytes right right_bytes (lent 8))
       (four None (first 0x0A))
       -- zeros past the end inverted
@@ -216,19 +216,19 @@ pub record WrongMasks : Type 0 where
       (given false)
       -- the second mask not inverted
       (given true)
-      -- the bytes of the absent mask tested
+      -- the bytes of the absent mask checked
       (refused 2 tt)
   -- `and_not_at` of index 9 with no mask
   pub and-not-at-none : Tried (and_not_at_of None [] None [] 9)
       (given true)
       -- an absent first mask taken for zeros
       (given false)
-      -- the index held to the length of no mask
+      -- the index checked though there is no mask
       (refused 6 tt)
   -- `and_not_at` of index 4
   pub and-not-at-refused : Tried (and_not_at_of (Some left) left_bytes (Some right) right_bytes 4)
       (refused 6 tt)
-      -- the flags behind the end read
+      -- the flags past the end read
       (given false)
       -- lengths compared with the index
       (refused 5 tt)
@@ -237,12 +237,12 @@ pub record WrongMasks : Type 0 where
       (given false)
       -- the shorter length compared
       (given true)
-      -- another length refused
+      -- unequal lengths refused
       (refused 5 tt)
   -- `num_edges` of 1,0,1,1,0,1
   pub num_edges : Tried (edges_of (mask_of 0 6 None) two)
       (given 4)
-      -- the flag behind the end compared
+      -- the flag past the end compared
       (given 5)
       -- runs counted
       (given 3)
@@ -256,11 +256,11 @@ pub record WrongMasks : Type 0 where
   -- `earlier` of the numbers 3 and 2
   pub earlier-number : Tried (earlier 3 2)
       2
-      -- the one that stands first
+      -- the first of the two numbers
       3
-      -- none where both failed
+      -- none if both failed
       0
-  -- `check_span` of 7 flags from the flag 2 on, in one byte
+  -- `check_span` of 7 flags starting at flag 2, in one byte
   pub check_span : Tried (first_failed (span_checks 2 7 1))
       2
       -- the start not added
@@ -270,14 +270,14 @@ pub record WrongMasks : Type 0 where
   -- `check_mask` of 8 flags, four of them zeros, with a count of 3
   pub check_mask : Tried (first_failed (mask_checks (mask_of 0 8 (Some 3)) (0x2D ∷ [])))
       3
-      -- the count not looked at, or held to the length
+      -- the count not checked, or only compared with the length
       0
       -- the count taken for a length
       2
   -- `check_output` of 65 flags in 15 bytes
   pub check_output : Tried (first_failed (output_checks 65 15))
       9
-      -- held to whole bytes, not to whole words
+      -- room required for whole bytes, not for whole words
       0
-      -- the number of bytes that are read
+      -- the number of the check on bytes that are read
       2

@@ -1,6 +1,6 @@
--- Wrong answers that the contracts rule out where serials decide or are handed on. Assumes nothing.
+-- Wrong answers on serials that the contracts rule out: which mask wins, and which serial a record gets.
 --
--- Rows as in `WrongAnswers` of words. An answer of a call that writes stands with what the lent output then holds.
+-- Rows as in `WrongAnswers` of words. An answer of a call that writes is paired with what the lent output then holds.
 use Rattle.std.specs.Prelude.{ℕ, Bool, true, false, List, [], ◌∷◌, Some, None}
 pub use Rattle.words.specs.WrongAnswers.{Tried}
 use Rattle.masks.specs.Answer.{given, refused}
@@ -23,11 +23,11 @@ use Rattle.masks.specs.declared.superseding.Part.{Part}
 abbrev pub old : Bitmap
 old = mask_under 5 0 8 None
 
--- four flags from the flag 11 on under serial 7
+-- four flags starting at flag 11, under serial 7
 abbrev pub later : Bitmap
 later = mask_under 7 11 4 (Some 1)
 
--- four ones by count, at the start and from the flag 4 on
+-- four ones by count, starting at flag 0 and at flag 4
 abbrev pub byte : List ℕ
 byte = 0xFF ∷ []
 
@@ -44,7 +44,7 @@ part second from to m = record { second = second; from = from; to = to; mask = m
 abbrev pub other : List ℕ
 other = 0x2D ∷ 0x70 ∷ []
 
--- the bytes given of two masks over the same two bytes
+-- the bytes that `superseding_bytes` returns for two masks over the same two bytes
 abbrev pub bytes_given : Bitmap → Bitmap → List ℕ
 bytes_given a b = bytes_of (superseding_of a two b two) two two
 
@@ -85,9 +85,9 @@ pub record WrongSerials : Type 0 where
       two
       -- one byte short
       (0x2D ∷ [])
-      -- none
+      -- no byte
       []
-  -- `superseding_bytes` of no flags from the flag 3 on
+  -- `superseding_bytes` of no flags starting at flag 3
   pub superseding-bytes-of-none : Tried (bytes_given (mask_under 7 3 0 (Some 0)) old)
       (0x2D ∷ [])
       -- an empty part
@@ -97,7 +97,7 @@ pub record WrongSerials : Type 0 where
   -- `superseding_bytes` of four flags in the second byte of the second slice
   pub superseding-bytes-second : Tried (bytes_of (superseding_of old two later other) two other)
       (0x70 ∷ [])
-      -- from the first byte on
+      -- starting at the first byte
       other
       -- that byte of the first slice
       (0xF0 ∷ [])
@@ -108,14 +108,14 @@ pub record WrongSerials : Type 0 where
       two
       -- the loser's part
       (0x2D ∷ [])
-  -- `or` of four ones by count under 5, which a shortcut reads alone, and of a mask under 7
+  -- `or` of four ones by count under 5, the only mask that a shortcut reads, and of a mask under 7
   pub or : Tried (paired Or low byte later two)
       (given (mask_under 7 0 4 None), first 0x0F)
       -- the first's serial
       (given (mask_under 5 0 4 None), first 0x0F)
       -- serial 0, as of a new mask
       (given (mask_of 0 4 None), first 0x0F)
-  -- `select` with the largest serial in the mask that gives no flag
+  -- `select` with the largest serial in the mask of which no flag is taken
   pub select : Tried {A = Written} (select_of low byte high byte later two (lent 8), select_bytes low byte high byte later two (lent 8))
       (selected 7)
       -- the largest of the masks that were read
@@ -134,7 +134,7 @@ pub record WrongSerials : Type 0 where
       (given (builder_under 5 1 1 0), lent 8)
       -- the serial lost
       (given (builder_of 1 1 0), lent 8)
-      -- the serial counted on
+      -- the serial increased
       (given (builder_under 6 1 1 0), lent 8)
   -- `BitmapBuilder::freeze`
   pub freeze : Tried (freezing freeze_of (builder_under 5 3 5 0))

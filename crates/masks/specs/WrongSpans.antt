@@ -1,6 +1,6 @@
--- Wrong answers that the contracts of the calls over bare spans rule out, two for each call. Assumes nothing.
+-- Wrong answers that the contracts of the calls over bare spans rule out, two for each call.
 --
--- Rows as in `WrongAnswers` of words: a call's definition at one input, what it gives, and two answers of a faulty call.
+-- Rows as in `WrongAnswers` of words: a call's definition at one input, its value, and two answers of a faulty call.
 use Rattle.std.specs.Prelude.{ℕ, true, false, List, [], ◌∷◌, ◌++◌, replicate, Some, None}
 use Rattle.words.specs.Ends.{leading, trailing}
 use Rattle.words.specs.Loops.{stretch}
@@ -18,7 +18,7 @@ use Rattle.masks.specs.declared.aligned.AlignedBitmapSlice.{AlignedBitmapSlice}
 abbrev pub two : List ℕ
 two = 0x2D ∷ 0xF0 ∷ []
 
--- the same eight flags, then 56 zeros, then 1,0,1,1,1,1,1,1
+-- the flags 1,0,1,1,0,1,0,0, then 56 zeros, then 1,0,1,1,1,1,1,1
 abbrev pub nine : List ℕ
 nine = (0x2D ∷ replicate 7 0) ++ (0xFD ∷ [])
 
@@ -34,7 +34,7 @@ pub record WrongSpans : Type 0 where
       (given (parts_of 0 0 0 1 0xD2D2D2D2D 36))
       -- flags past the end kept in the suffix
       (given (parts_of 0x2D2D2D2D 32 4 1 0x2D 4))
-  -- `count_zeros` of 9 flags from the flag 3 on
+  -- `count_zeros` of 9 flags starting at flag 3
   pub count_zeros : Tried (span_count two 3 9 0 (zeros (stretch two 3 9)))
       (given 7)
       -- the last flag not read
@@ -44,21 +44,21 @@ pub record WrongSpans : Type 0 where
   -- `count_zeros` of no flags, start and address out of range
   pub count-zeros-of-none : Tried (span_count two 99 0 9 (zeros (stretch two 99 0)))
       (given 0)
-      -- the span held to the bytes before the length is looked at
+      -- the span checked before the length is looked at
       (refused 2 tt)
-      -- the address tested before the length is looked at
+      -- the address checked before the length is looked at
       (refused 8 tt)
-  -- `leading_zeros` of 8 flags from the flag 6 on
+  -- `leading_zeros` of 8 flags starting at flag 6
   pub leading_zeros : Tried (span_count two 6 8 0 (leading false (stretch two 6 8)))
       (given 6)
       -- stopped at the byte's end
       (given 2)
       -- the length, as if no flag were set
       (given 8)
-  -- `leading_ones` of 10 flags from the flag 2 on
+  -- `leading_ones` of 10 flags starting at flag 2
   pub leading_ones : Tried (span_count two 2 10 0 (leading true (stretch two 2 10)))
       (given 2)
-      -- ones behind a zero counted
+      -- ones after a zero counted
       (given 3)
       -- counted from the byte's first flag
       (given 1)
@@ -69,14 +69,14 @@ pub record WrongSpans : Type 0 where
       (given 0)
       -- stopped at the byte's beginning
       (given 4)
-  -- `trailing_ones` of 2 flags, of which one lies behind the bytes, at remainder 8
+  -- `trailing_ones` of 2 flags, of which one lies past the bytes, at remainder 8
   pub trailing_ones : Tried (span_count two 15 2 8 (trailing true (stretch two 15 2)))
       (refused 2 tt)
-      -- the address tested first
+      -- the address checked first
       (refused 8 tt)
       -- counted in the flags that are there
       (given 1)
-  -- `BitChunks::new` of 9 flags from the flag 3 on
+  -- `BitChunks::new` of 9 flags starting at flag 3
   pub chunks-new : Tried (new_chunks two 3 9)
       (given (chunks_at 3 9 0))
       -- the start lost
@@ -86,11 +86,11 @@ pub record WrongSpans : Type 0 where
   -- `BitChunksExact::new` of 17 flags in two bytes
   pub chunks-new-exact : Tried (new_chunks two 0 17)
       (refused 2 tt)
-      -- not held to the bytes
+      -- the bytes not checked
       (given (chunks_at 0 17 0))
       -- cut to the bytes
       (given (chunks_at 0 16 0))
-  -- `BitChunks::next` of 64 flags from the flag 1 on
+  -- `BitChunks::next` of 64 flags starting at flag 1
   pub chunks-next : Tried (next_chunk (chunks_at 1 64 0) nine)
       (given (item 0x8000000000000016 (chunks_at 1 64 1)))
       -- the ninth byte not read
@@ -104,21 +104,21 @@ pub record WrongSpans : Type 0 where
       (given (0xFD, 4))
       -- a whole byte
       (given (0xFD, 8))
-  -- `split_at_unchecked` of 9 flags from the flag 3 on, at 4
+  -- `split_at_unchecked` of 9 flags starting at flag 3, at 4
   pub split_at_unchecked : Tried (split_at two 3 9 4)
       (given (span_of 3 4, span_of 7 5))
       -- the start not added
       (given (span_of 3 4, span_of 4 5))
-      -- the second length not lessened
+      -- the second length not reduced
       (given (span_of 3 4, span_of 7 9))
-  -- `get_u32` from the index 2 of 9 flags from the flag 3 on
+  -- `get_u32` at index 2 of 9 flags starting at flag 3
   pub get_u32 : Tried (window_at two 3 9 2)
       (given 1)
       -- flags past the end kept
       (given 0x781)
       -- the index not added
       (given 5)
-  -- `nth_set_bit_idx` of 12 flags, n 2 from 1 on
+  -- `nth_set_bit_idx` of 12 flags, n 2 from 1
   pub nth_set_bit_idx : Tried (search_from two 0 12 2 1)
       (given (Some 5))
       -- n counted from 1

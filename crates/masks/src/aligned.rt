@@ -9,8 +9,8 @@ use crate::checks::{check_address, check_span};
 use crate::refusal::Refusal;
 use crate::span::flags_word;
 
-// A span's flags in three parts: a word of prefix flags, whole words that begin at a byte, and a word of suffix flags. The
-// Rust's `AlignedBitmapSlice`, with the whole words by their first byte and their number.
+// A span's flags in three parts: a word of prefix flags, whole words that begin at a byte, and a word of suffix flags. The Rust's
+// `AlignedBitmapSlice`, with the whole words as the number of their first byte and how many they are.
 #[derive(Clone, Copy, PartialEq, Eq, Debug, Default)]
 pub struct AlignedBitmapSlice {
     pub prefix: u64,
@@ -22,7 +22,7 @@ pub struct AlignedBitmapSlice {
 }
 
 impl AlignedBitmapSlice {
-    // Splits a span. `address` is the address of the first byte modulo 8.
+    // Splits a span. `address` is the address of `bytes[0]` modulo 8. For length 0 all parts are empty and nothing is checked.
     pub fn new(
         bytes: &[u8],
         start: usize,
@@ -57,7 +57,7 @@ pub(crate) fn check_aligned(
     check_address(address)
 }
 
-// A span whose numbers can be added up, and the address of its first byte modulo 8.
+// A span whose numbers can be added up, and the address of `bytes[0]` modulo 8.
 #[derive(Clone, Copy)]
 pub(crate) struct Addressed<'a> {
     pub bytes: &'a [u8],

@@ -13,10 +13,10 @@ use crate::checks::check_mask;
 use crate::refusal::{Refusal, check, earlier};
 use words::word::flag_at;
 
-// The flag of the first mask at the index and not that of the second. An absent first mask stands for ones, and an absent second one
-// takes nothing away.
-// It and its checks are compiled into its callers: as one function of its own a call takes 224 instructions in place of 181, with the
-// checks alone as one 259.
+// Returns whether the flag at `index` is set in the first mask and not in the second. An absent first mask counts as all ones, and an
+// absent second one takes nothing away.
+// It and its checks are compiled into its callers: as one function of its own a call takes 224 instructions in place of 181, with only the
+// checks as one 259.
 #[inline(always)]
 pub fn and_not_at(
     first: Option<Bitmap>,
@@ -33,7 +33,7 @@ pub fn and_not_at(
     Ok(own && !taken)
 }
 
-// The flag of a mask at the index, or what stands for it where there is no mask.
+// Returns the flag of a mask at `index`, or `absent` if there is no mask.
 fn flag_or(absent: bool, mask: Option<Bitmap>, bytes: &[u8], index: usize) -> bool
     requires { Indexed mask index }
     ensures { result ≡ flag_or absent mask bytes.now index }
@@ -44,8 +44,7 @@ fn flag_or(absent: bool, mask: Option<Bitmap>, bytes: &[u8], index: usize) -> bo
     }
 }
 
-// Makes the checks of the masks that are there, each with the index, and of two that they are of one length. Without a mask nothing is
-// asked.
+// Makes the checks of each mask that is there, with check 6 of the index, and check 5 if both are there. Without a mask makes none.
 #[inline(always)]
 fn check_and_not_at(
     first: Option<Bitmap>,
@@ -64,7 +63,7 @@ fn check_and_not_at(
     )
 }
 
-// Makes the checks of one mask and the index.
+// Makes the checks of a mask and of the index, if there is a mask.
 fn check_index(mask: Option<Bitmap>, bytes: &[u8], index: usize) -> Result<(), Refusal>
     ensures { failure_of result ≡ first_failed (index_checks mask bytes.now index) }
 {
@@ -81,7 +80,7 @@ fn check_inside(mask: Bitmap, bytes: &[u8], index: usize) -> Result<(), Refusal>
     check(Refusal::Outside, index < mask.length)
 }
 
-// Checks that two masks are of one length.
+// Checks that two masks, if both are there, have equal lengths.
 fn check_lengths(first: Option<Bitmap>, second: Option<Bitmap>) -> Result<(), Refusal>
     ensures { failure_of result ≡ first_failed (length_checks first second) }
 {

@@ -1,5 +1,5 @@
-// The mask: its record, and the calls that make one, cut it and count it. Its bytes are lent beside it, as document 01 has it: a mask and
-// its bytes are two parameters, and become a `Lent` where its checks have passed.
+// The mask: its record, and the calls that make one, cut it and count it. As in document 01, a mask and its bytes are two parameters; they
+// become a `Lent` once the mask's checks have passed.
 ghost use Rattle.std.specs.Prelude.{◌≡◌, ◌+◌, ◌≤◌, length as list_length};
 ghost use Rattle.masks.specs.Answer.{answer, answer_back};
 ghost use Rattle.masks.specs.Refusal.{failure_of};
@@ -16,8 +16,8 @@ use crate::refusal::{Refusal, Refused, check, earlier};
 use crate::span::Lent;
 use words::flags::Flags;
 
-// A mask: a span of its bytes, its zero count where it is known, and the serial of the revocation list that it was drawn up under. The
-// Rust's `Bitmap` with a serial.
+// A mask: a span of its bytes, its zero count if it is known, and the serial of the revocation list that it was drawn up under. The Rust's
+// `Bitmap` with a serial.
 #[derive(Clone, Copy, PartialEq, Eq, Debug)]
 pub struct Bitmap {
     pub start: usize,
@@ -55,7 +55,7 @@ impl Bitmap {
         Ok(mask_of(0, length, Some(length)))
     }
 
-    // Returns a mask over `bytes` whose zeros have not been counted.
+    // Returns the mask of `length` flags of `bytes` starting at `start`. Its zeros are not counted; the count is known only for length 0.
     pub fn try_new(bytes: &[u8], start: usize, length: usize) -> Result<Bitmap, Refusal>
         ensures { answer result ≡ try_new_of bytes.now start length }
     {
@@ -86,7 +86,7 @@ impl Bitmap {
         })
     }
 
-    // Its flags, as the combinations take an operand.
+    // Returns the mask's flags in the form in which the combinations take an operand.
     pub(crate) fn flags<'a>(self, bytes: &'a [u8]) -> Flags<'a>
         ensures { (result.bytes.now ≡ bytes.now) × (result.start ≡ self.start) }
     {
@@ -96,7 +96,7 @@ impl Bitmap {
         }
     }
 
-    // Returns the `length` flags starting at `offset`.
+    // Returns the mask of the `length` flags starting at `offset`, under the same serial.
     pub fn slice(
         self,
         bytes: &[u8],
@@ -124,14 +124,14 @@ pub(crate) fn mask_under(serial: u32, start: usize, length: usize, unset: Option
     }
 }
 
-// A mask that is made of no other one: its serial is 0.
+// Makes the record of a mask that is made of no other one: its serial is 0.
 fn mask_of(start: usize, length: usize, unset: Option<usize>) -> Bitmap
     ensures { result ≡ mask_of start length unset }
 {
     mask_under(0, start, length, unset)
 }
 
-// The same mask cut to the flags of its bytes from `start` on, with their count, under its serial.
+// Returns a mask cut to `length` flags of its bytes starting at `start`, with `unset` as their count. Keeps the serial.
 pub(crate) fn cut_mask(mask: Bitmap, start: usize, length: usize, unset: Option<usize>) -> Bitmap
     ensures { result ≡ cut_mask mask start length unset }
 {
@@ -143,7 +143,7 @@ pub(crate) fn cut_mask(mask: Bitmap, start: usize, length: usize, unset: Option<
     }
 }
 
-// The same mask with another count.
+// Returns a mask with its zero count replaced by `unset`.
 fn with_count(mask: Bitmap, unset: Option<usize>) -> Bitmap
     ensures { result ≡ with_count mask unset }
 {
@@ -171,7 +171,7 @@ fn check_piece(mask: Bitmap, bytes: &[u8], offset: usize, length: usize) -> Resu
     earlier(check_mask(mask, bytes), piece)
 }
 
-// Returns whether slicing `old` flags to n recounts the known zeros.
+// Returns whether a slice of n of `old` flags recounts the known number of zeros.
 fn recounts(old: usize, n: usize, zeros: usize) -> bool
     ensures { result ≡ recounts_of old n zeros }
 {
@@ -179,7 +179,7 @@ fn recounts(old: usize, n: usize, zeros: usize) -> bool
 }
 
 impl Lent<'_> {
-    // Counts the zeros before and after a slice.
+    // Counts the zeros before and after the slice of n flags starting at `offset`.
     fn zeros_cut(&self, offset: usize, n: usize) -> usize
         requires { offset + n ≤ self.now.length }
         ensures { result ≡ outside self.now.bytes.now self.now.start self.now.length offset n }
@@ -195,7 +195,7 @@ impl Lent<'_> {
     }
 }
 
-// Returns the zero count of a slice. A span is made of the mask only where the count is made anew.
+// Returns the zero count of the slice of n flags starting at `offset`. Makes a span of the mask only if it counts anew.
 fn cut_count(mask: Bitmap, bytes: &[u8], offset: usize, n: usize) -> Result<Option<usize>, Refusal>
     requires { PieceAllowed mask (list_length bytes.now) offset n }
     ensures { result ≡ cut_of mask.length n (outside bytes.now mask.start mask.length offset n) mask.unset }
@@ -217,7 +217,7 @@ fn cut_count(mask: Bitmap, bytes: &[u8], offset: usize, n: usize) -> Result<Opti
     }
 }
 
-// Subtracts the zeros that were cut off from the known count, or reports that the known count cannot be right.
+// Returns the known count less the zeros that were cut off, or refuses with 7 if the known count cannot be right.
 fn recount(zeros: usize, cut: usize, length: usize) -> Result<Option<usize>, Refusal>
     ensures { result ≡ recounted_of zeros cut length }
 {

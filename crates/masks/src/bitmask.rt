@@ -17,7 +17,7 @@ use crate::span::Lent;
 use words::nth::nth_set_bit_u32;
 use words::word::{down, load_padded_le_u64, low_flags, near_word};
 
-// A start bit and a length in bits. The Rust's `BitMask`, its bytes lent beside it.
+// A span: a start bit and a length in bits. The Rust's `BitMask`, with the bytes lent to each call.
 #[derive(Clone, Copy, PartialEq, Eq, Debug)]
 pub struct Span {
     pub start: usize,
@@ -36,7 +36,7 @@ fn check_split(start: usize, length: usize, at: usize, size: usize) -> Result<()
     )
 }
 
-// Splits a span in two: the flags below `at` and the rest.
+// Splits a span in two: the flags below `at`, which is at most the length, and the rest.
 pub fn split_at_unchecked(
     bytes: &[u8],
     start: usize,
@@ -65,7 +65,7 @@ pub fn get_u32(bytes: &[u8], start: usize, length: usize, index: usize) -> Resul
     Ok(span.window(index))
 }
 
-// Returns the position of the n-th set flag at or after `from`, counting from 0.
+// Returns the position of the n-th set flag at or after `from`, counting from 0, or none if there are at most n.
 pub fn nth_set_bit_idx(
     bytes: &[u8],
     start: usize,
@@ -79,7 +79,7 @@ pub fn nth_set_bit_idx(
     Ok(span.search_from(n, from))
 }
 
-// Returns the position of the n-th set flag below `end`, counting down from 0. `end` may exceed the length.
+// Returns the position of the n-th set flag below `end`, counting down from 0, or none. `end` may exceed the length.
 pub fn nth_set_bit_idx_rev(
     bytes: &[u8],
     start: usize,
@@ -103,7 +103,7 @@ fn word_window(bytes: &[u8], at: usize, k: usize) -> u32
     low_flags(down(load_padded_le_u64(&bytes[at..end]), k), 32) as u32
 }
 
-// Where a search has come to, and how many set flags it has yet to pass over.
+// The place that a search has reached, and how many set flags it has yet to pass over.
 #[derive(Clone, Copy)]
 struct Passed {
     at: usize,
@@ -111,7 +111,7 @@ struct Passed {
 }
 
 impl Lent<'_> {
-    // Like `get_u32`, with one load.
+    // Returns the 32 flags starting at `index`, with zeros past the end of the span. One load.
     fn window(self, index: usize) -> u32
         ensures { result ≡ window_word self.entry.bytes.now self.entry.start self.entry.length index }
     {
@@ -122,7 +122,7 @@ impl Lent<'_> {
         low_flags(near_word(self.bytes, self.start + index), k) as u32
     }
 
-    // The flags below `end`.
+    // Returns the span of the flags below `end`.
     pub(crate) fn front(self, end: usize) -> Self
         requires { end ≤ self.length }
         ensures { (result.bytes.now ≡ self.entry.bytes.now) × ((result.start ≡ self.entry.start) × (result.length ≡ end)) }
@@ -134,9 +134,9 @@ impl Lent<'_> {
         }
     }
 
-    // Passes over the windows that have too few set flags, up to one with enough of them or to the last 63 flags. A window before
-    // these has eight bytes from its first byte on, so that a turn is one load and one count. A `while`, since what is asked is `at`
-    // behind the loop, which the place of a `for` doesn't reach.
+    // Passes over the windows that have too few set flags, up to one with enough of them or to the last 63 flags. A window before these has
+    // eight bytes starting at its first byte, so that an iteration is one load and one count. A `while`, since the result is `at` after the
+    // loop, which the variable of a `for` doesn't reach.
     fn pass_windows(self, n: usize, from: usize) -> Passed
         requires { from < self.length }
         ensures { PassedFrom self.entry.bytes.now self.entry.start self.entry.length n from result.left result.at }
@@ -156,8 +156,8 @@ impl Lent<'_> {
         Passed { at, left }
     }
 
-    // Searches forward. Where `pass_windows` stops, the flag is in that window or in the one after it, so two windows are read and no
-    // loop is needed.
+    // Returns the position of the n-th set flag at or after `from`, or none. Where `pass_windows` stops, the flag is in that window or in
+    // the one after it, so two windows are read and no loop is needed.
     fn search_from(self, n: usize, from: usize) -> Option<usize>
         ensures { result ≡ nth_from (stretch self.entry.bytes.now self.entry.start self.entry.length) n from }
     {
@@ -181,7 +181,8 @@ impl Lent<'_> {
         }
     }
 
-    // Searches the last window of the span. Forward the window gives the place, backward (`search_first`) a number of ones to turn.
+    // Returns the position of the n-th set flag in the last window of the span, or none. Here the window's answer is the place; backward
+    // (`search_first`) the number counts from the other end.
     fn search_last(self, n: usize, from: usize) -> Option<usize>
         requires { (from ≤ self.length + 32) × (self.length ≤ from + 32) }
         ensures { result ≡ nth_from (stretch self.entry.bytes.now self.entry.start self.entry.length) n from }
@@ -189,9 +190,10 @@ impl Lent<'_> {
         nth_in_window(self.window(from), n).ok().map(|i| from + i)
     }
 
-    // As `pass_windows`, down from `end` to the first 63 flags. A window above these is taken from the eight bytes that end with its
-    // last byte: it begins 25 to 32 flags behind their first. The two ways share no text but the test of `left`: the bounds, the byte
-    // that is read and where the flag is (`place_in_window` of so many from below, `nth_in_window`) differ in each line.
+    // Passes over the windows that have too few set flags, down from `end`, to one with enough of them or to the first 63 flags. A window
+    // above these is taken from the eight bytes that end with its last byte: it begins 25 to 32 flags after their first. This and
+    // `pass_windows` share no text but the test of `left`: the bounds, the byte that is read and the place of the flag (`place_in_window`
+    // of a number from below, `nth_in_window`) differ in each line.
     fn pass_back(self, n: usize, end: usize) -> Passed
         requires { end ≤ self.length }
         ensures { PassedBack self.entry.bytes.now self.entry.start self.entry.length n end result.left result.at }
@@ -210,7 +212,7 @@ impl Lent<'_> {
         Passed { at: below, left }
     }
 
-    // Searches backward, as `search_from` does forward. The window below `below` has zeros above its end.
+    // Returns the position of the n-th set flag below `end`, counting down, or none. The window below `below` has zeros above its end.
     fn search_back(self, n: usize, end: usize) -> Option<usize>
         requires { end ≤ self.length }
         ensures { result ≡ nth_back (stretch self.entry.bytes.now self.entry.start self.entry.length) n end }
@@ -230,7 +232,7 @@ impl Lent<'_> {
         self.search_first(rest, at)
     }
 
-    // Searches the first window of the span.
+    // Returns the position of the n-th set flag below `end`, counting down, in the first window of the span, or none.
     fn search_first(self, n: usize, end: usize) -> Option<usize>
         requires { (end ≤ self.length) × (end ≤ 32) }
         ensures { result ≡ nth_back (stretch self.entry.bytes.now self.entry.start self.entry.length) n end }
@@ -246,8 +248,9 @@ impl Lent<'_> {
     }
 }
 
-// What the word answers, at the width of a position. A rule of the project: the number of a window's flags is read off the word's answer,
-// so that a wrong one shows in the searches (tests/copies/missing_carries_zero.edit). No word of 32 flags has one numbered 32.
+// Returns the position of set flag n of a window, or how many are set if at most n are. A rule of the project: that number is taken from
+// the answer of `nth_set_bit_u32`, so that a wrong one shows in the searches (tests/copies/missing_carries_zero.edit). No window of 32
+// flags has a set flag number 32.
 fn nth_in_window(w: u32, n: usize) -> Result<usize, usize>
     ensures { result ≡ nth_one (bits 32 w) n }
 {
@@ -257,8 +260,8 @@ fn nth_in_window(w: u32, n: usize) -> Result<usize, usize>
         .map_err(|ones| ones as usize)
 }
 
-// How many flags of a window are set: what the word answers where it is asked for a flag that no word has. Its body is that of the next
-// function, whose promise does not meet this one: one for both would promise by cases what each call needs alone.
+// Counts the set flags of a window: the answer to a search for set flag 32, which no window has. Its body is that of `place_in_window`,
+// whose promise does not meet this one: one for both would promise by cases what each call needs.
 fn ones_in_window(w: u32) -> usize
     ensures { result ≡ count (bits 32 w) }
 {

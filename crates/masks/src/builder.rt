@@ -14,8 +14,8 @@ use crate::refusal::{Refusal, Refused, earlier};
 use words::ops::or_word;
 use words::word::{constant_word, down, low_flags, ones_in_word, store_whole, up};
 
-// The length, the word in progress, the ones in the finished words, and the serial that its mask will have. The Rust's
-// `BitmapBuilder` with a serial, its buffer lent beside it.
+// A builder: its length, the word in progress, the ones in the finished words, and the serial that its mask will have. The Rust's
+// `BitmapBuilder` with a serial, its buffer lent to each call.
 #[derive(Clone, Copy, PartialEq, Eq, Debug, Default)]
 pub struct BitmapBuilder {
     pub length: usize,
@@ -25,12 +25,14 @@ pub struct BitmapBuilder {
 }
 
 impl BitmapBuilder {
+    // Returns a builder with no flags, under serial 0.
     pub fn new() -> Self
         ensures { result ≡ new_builder }
     {
         BitmapBuilder::default()
     }
 
+    // Appends one flag.
     pub fn push(self, buf: &mut [u8], flag: bool) -> Result<BitmapBuilder, Refused<BitmapBuilder>>
         ensures answer { answer_back result ≡ append_answer (push_flag flag) self buf.old }
         ensures bytes { buf.new ≡ append_bytes (push_flag flag) self buf.old }
@@ -39,8 +41,8 @@ impl BitmapBuilder {
         Ok(push_flags(self, buf, constant_word(flag), 1))
     }
 
-    // The same over the caller's own record. A named form of document 01: length, word and ones are taken apart, pushed by value and
-    // stored back; the serial stays.
+    // Appends one flag and changes the caller's own record; if it refuses, the record is unchanged. A named form of document 01: length,
+    // word and ones are taken apart, pushed by value and stored back; the serial stays.
     pub fn push_mut(&mut self, buf: &mut [u8], flag: bool) -> Result<(), Refusal>
         ensures answer { change_answer (failure_of result) self.new ≡ append_answer (push_flag flag) self.old buf.old }
         ensures bytes { buf.new ≡ append_bytes (push_flag flag) self.old buf.old }
@@ -57,7 +59,7 @@ impl BitmapBuilder {
         }
     }
 
-    // Appends the first flags of a word.
+    // Appends the first k flags of a word, at most 64; no bit from k up may be set.
     pub fn push_word_with_len_unchecked(
         self,
         buf: &mut [u8],
@@ -71,7 +73,7 @@ impl BitmapBuilder {
         Ok(push_flags(self, buf, word, k))
     }
 
-    // Writes the word in progress, and gives the mask of all flags.
+    // Writes the word in progress, and returns the mask of all flags.
     pub fn freeze(self, buf: &mut [u8]) -> Result<Bitmap, Refused<BitmapBuilder>>
         ensures answer { answer_back result ≡ freeze_of self buf.old }
         ensures bytes { buf.new ≡ freeze_bytes self buf.old }
@@ -81,8 +83,8 @@ impl BitmapBuilder {
         Ok(frozen_mask(self))
     }
 
-    // The same, but no mask where the ones equal the length: Arrow's none, which means all ones. dispatch takes no permission mask
-    // for no truck, so there a builder is ended by `freeze`.
+    // Writes the word in progress, and returns the mask of all flags, or none if all are set: Arrow's none, which means all ones. In
+    // dispatch no permission mask means no truck, so there a builder is ended by `freeze`.
     pub fn into_opt_validity(self, buf: &mut [u8]) -> Result<Option<Bitmap>, Refused<BitmapBuilder>>
         ensures answer { answer_back result ≡ into_opt_validity_of self buf.old }
         ensures bytes { buf.new ≡ freeze_bytes self buf.old }
@@ -108,7 +110,7 @@ fn builder_under(serial: u32, length: usize, word: u64, ones: usize) -> BitmapBu
     }
 }
 
-// The same builder with another length, word and ones, under its serial.
+// Returns a builder with its length, word and ones replaced. Keeps the serial.
 pub(crate) fn grown(b: BitmapBuilder, length: usize, word: u64, ones: usize) -> BitmapBuilder
     ensures { result ≡ rebuilt b length word ones }
 {
@@ -120,7 +122,7 @@ pub(crate) fn grown(b: BitmapBuilder, length: usize, word: u64, ones: usize) -> 
     }
 }
 
-// Appends the k flags of a word, for which the word in progress has room: no byte is written, and no flag has to be cut off.
+// Appends the k flags of a word, for which the word in progress has room: writes no byte, and no flag has to be cut off.
 pub(crate) fn push_inside(b: BitmapBuilder, flags: u64, k: usize) -> BitmapBuilder
     requires { Inside b flags k }
     ensures { (bytes : List ℕ) → filling result bytes ≡ appended (filling b bytes) (take k (word_flags flags)) }
@@ -130,7 +132,7 @@ pub(crate) fn push_inside(b: BitmapBuilder, flags: u64, k: usize) -> BitmapBuild
     grown(b, longer, low, b.ones)
 }
 
-// Appends the first k flags of a word: they go behind those in progress, and a full word is written.
+// Appends the first k flags of a word after those in progress. Writes the word in progress if it is then full.
 pub(crate) fn push_flags(b: BitmapBuilder, buf: &mut [u8], word: u64, k: usize) -> BitmapBuilder
     requires { (k ≤ 64) × Room b k (length buf.old) }
     ensures { filling result buf.new ≡ appended (filling b buf.old) (take k (word_flags word)) }
@@ -159,7 +161,7 @@ pub(crate) fn close_word(b: BitmapBuilder, buf: &mut [u8], word: u64) -> BitmapB
     grown(b, longer, 0, ones)
 }
 
-// Writes the word in progress behind the finished ones.
+// Writes the word in progress, if it has flags, after the finished ones.
 fn finish(b: BitmapBuilder, buf: &mut [u8])
     requires { Room b 0 (length buf.old) }
     ensures { buf.new ≡ frozen_over b buf.old }

@@ -1,4 +1,4 @@
-// The checks that the calls share. Those that crates above masks put their own checks together from are public.
+// The checks that the calls share. Public are those from which crates above masks make their own checks.
 ghost use Rattle.std.specs.Prelude.{◌≡◌, cond, ◌&&◌, [], ◌∷◌, ◌++◌, ◌+◌, ◌≤◌, eqb, leb};
 ghost use Rattle.masks.specs.Refusal.{failure_of};
 ghost use Rattle.masks.specs.Checks.{first_failed, limit, check, within_limit, span_checks, address_checks, output_checks};
@@ -20,7 +20,7 @@ pub(crate) fn within_limit(n: usize) -> bool
     n <= Bitmap::LIMIT
 }
 
-// Checks 1 and 2 of a span over so many bytes. Numbers of any size: those over the limit get 1 before they are added.
+// Makes checks 1 and 2 of a span over `size` bytes. The numbers may have any size: check 1 comes before they are added.
 pub fn check_span(start: usize, length: usize, size: usize) -> Result<(), Refusal>
     ensures { failure_of result ≡ first_failed (span_checks start length size) }
 {
@@ -39,8 +39,8 @@ pub(crate) fn check_address(address: usize) -> Result<(), Refusal>
     check(Refusal::WrongAddress, address <= 7)
 }
 
-// Is z the number of zeros of a span: its flags are counted, save where all of them are to be ones, or zeros. It takes the span by its
-// parts, in registers, as `zeros_at` does, and `count_valid` below takes the mask's.
+// Returns whether z is the number of zeros of a span. Counts them, except if z is 0 or the length: then it looks for a flag that differs.
+// Takes the span as three arguments, in registers, as `zeros_at` does; `count_valid` below passes those of the mask.
 fn count_is(z: usize, bytes: &[u8], start: usize, length: usize) -> bool
     requires { (start ≤ limit) × (length ≤ limit) }
     ensures { result ≡ eqb z (zeros (stretch bytes.now start length)) }
@@ -54,8 +54,8 @@ fn count_is(z: usize, bytes: &[u8], start: usize, length: usize) -> bool
     z == zeros_at(bytes, start, length, 0)
 }
 
-// Check 3: is a known zero count that of the mask's flags. What reads them is outside the callers' bodies and gets a slice of its own, so
-// that the slice given here, of a mask whose count is unknown, stays in registers.
+// Returns whether check 3 passes: a known zero count is that of the mask's flags. The function that reads them is not inlined and gets a
+// slice of its own, so that `bytes`, for a mask whose count is unknown, stays in registers.
 fn count_valid(mask: Bitmap, bytes: &[u8]) -> bool
     requires { (mask.start ≤ limit) × (mask.length ≤ limit) }
     ensures { result ≡ count_valid mask bytes.now }
@@ -66,7 +66,7 @@ fn count_valid(mask: Bitmap, bytes: &[u8]) -> bool
     }
 }
 
-// Checks 1 to 3 of a mask. Its zeros are counted only where 1 and 2 pass: both come before 3.
+// Makes checks 1 to 3 of a mask. Counts its zeros only if 1 and 2 pass: both come before 3.
 pub fn check_mask(mask: Bitmap, bytes: &[u8]) -> Result<(), Refusal>
     ensures { failure_of result ≡ first_failed (mask_checks mask bytes.now) }
 {
@@ -81,7 +81,7 @@ pub(crate) fn sum_at_most(a: usize, b: usize, c: usize) -> bool
     a <= c && b <= c - a
 }
 
-// Check 9: does an output of so many bytes hold the frozen bytes of n flags.
+// Makes check 9: an output of `size` bytes holds the frozen bytes of n flags.
 pub fn check_output(n: usize, size: usize) -> Result<(), Refusal>
     ensures { failure_of result ≡ first_failed (output_checks n size) }
 {
@@ -96,8 +96,7 @@ fn is_possible(b: BitmapBuilder, size: usize) -> bool
     none_from(b.word, b.length % 64) && b.ones <= 64 * whole && 8 * whole <= size
 }
 
-// Makes checks 4 and 9 for a builder made n flags long. The buffer is tested first: one that holds n flags holds the finished words too,
-// and a call that is not refused makes no number.
+// Makes checks 4 and 9 for a builder that is to have n flags. Tests the buffer first: one that holds n flags holds the finished words too.
 fn check_room(b: BitmapBuilder, n: usize, size: usize) -> Result<(), Refusal>
     requires { (n ≤ limit) × (b.length ≤ n) }
     ensures { failure_of result ≡ first_failed (check 4 (possible b size) ∷ output_checks n size) }
@@ -111,7 +110,7 @@ fn check_room(b: BitmapBuilder, n: usize, size: usize) -> Result<(), Refusal>
     check(Refusal::ImpossibleBuilder, none_from(b.word, b.length % 64))
 }
 
-// Makes checks 4 and 9 once the buffer is known not to hold n flags.
+// Refuses with 4 or 9, once the buffer is known not to hold the flags: with 9 if the builder is possible.
 fn check_small(b: BitmapBuilder, size: usize) -> Result<(), Refusal>
     ensures { failure_of result ≡ cond (possible b size) 9 4 }
 {
@@ -133,7 +132,7 @@ pub(crate) fn check_builder(b: BitmapBuilder, more: usize, size: usize) -> Resul
     check_room(b, b.length + more, size)
 }
 
-// Makes the checks for appending a span of n flags to a builder.
+// Makes checks 1, 2, 4 and 9 for appending a span of n flags of a slice of `bytes` bytes to a builder over `size` bytes.
 pub(crate) fn check_span_grow(
     start: usize,
     n: usize,
@@ -146,7 +145,7 @@ pub(crate) fn check_span_grow(
     earlier(check_span(start, n, bytes), check_builder(b, n, size))
 }
 
-// Makes the checks on a pushed word: its stated length is within the limit and at most 64, and no higher bit is set.
+// Makes checks 1 and 6 on a pushed word of k flags: k is within the limit and at most 64, and no bit from k up is set.
 pub(crate) fn check_word(word: u64, k: usize) -> Result<(), Refusal>
     ensures { failure_of result ≡ first_failed (within_limit k ∷ check 6 (leb k 64 && none_from word k) ∷ []) }
 {

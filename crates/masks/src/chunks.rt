@@ -1,4 +1,4 @@
-// The words of a span, from any start bit: a cursor that gives them one by one, and what is left behind the last.
+// The words of a span that starts at any bit: a cursor that returns them one by one, and the flags after the last whole word.
 ghost use Rattle.std.specs.Prelude.{◌≡◌, ◌+◌, ◌*◌, ◌≤◌};
 ghost use Rattle.words.specs.Flags.{word_flags};
 ghost use Rattle.words.specs.Loops.{stretch};
@@ -13,7 +13,7 @@ use crate::span::{Lent, flags_word};
 use words::merge::merge_reversed;
 use words::word::byte_word;
 
-// A cursor over a span whose place counts words. The Rust's `BitChunks`, its bytes lent beside it.
+// A cursor over the words of a span; its place counts words. The Rust's `BitChunks`, with the bytes lent to each call.
 #[derive(Clone, Copy, PartialEq, Eq, Debug)]
 pub struct BitChunks {
     pub start: usize,
@@ -21,7 +21,7 @@ pub struct BitChunks {
     pub place: usize,
 }
 
-// The Rust's `BitChunksExact`, whose span starts at 0: the name of its constructor, with no record of its own.
+// The Rust's `BitChunksExact`, whose span starts at 0: the name of its constructor. It has no record of its own.
 #[derive(Clone, Copy)]
 pub struct BitChunksExact {}
 
@@ -38,7 +38,7 @@ impl BitChunks {
         })
     }
 
-    // Returns the word at the cursor.
+    // Returns the word at the cursor, and the cursor one word further; after the last whole word no word, and the cursor unmoved.
     pub fn next(self, bytes: &[u8]) -> Result<Step<u64, BitChunks>, Refused<BitChunks>>
         ensures { answer_step result ≡ next_chunk self bytes.now }
     {
@@ -65,7 +65,7 @@ impl BitChunks {
         })
     }
 
-    // Returns the flags after the last whole word, wherever the cursor is.
+    // Returns the flags after the last whole word, as a word, and how many they are, wherever the cursor is.
     pub fn remainder(self, bytes: &[u8]) -> Result<(u64, usize), Refused<BitChunks>>
         ensures { answer_back result ≡ chunks_remainder self bytes.now }
     {
@@ -77,7 +77,7 @@ impl BitChunks {
 }
 
 impl BitChunksExact {
-    // A cursor at the first word of the bytes' first flags: a `BitChunks` of start 0.
+    // Returns a cursor at the first word of the first `length` flags of `bytes`: a `BitChunks` of start 0.
     pub fn new(bytes: &[u8], length: usize) -> Result<BitChunks, Refusal>
         ensures { answer result ≡ new_chunks bytes.now 0 length }
     {

@@ -1,4 +1,4 @@
-// What is asked of one mask or of two: equality, edges and common ones.
+// The calls that compare or count the flags of one mask or of two: equality, edges and common ones.
 ghost use Rattle.std.specs.Prelude.{◌≡◌};
 ghost use Rattle.words.specs.Loops.{stretch};
 ghost use Rattle.masks.specs.Answer.{answer};
@@ -58,7 +58,7 @@ pub fn num_edges(mask: Bitmap, bytes: &[u8]) -> Result<usize, Refusal>
     Ok(span.edges())
 }
 
-// Counts the flags that are set in both masks.
+// Counts the flags that are set in both masks, whose lengths must be equal.
 pub fn num_intersections_with(
     lhs: Bitmap,
     left: &[u8],

@@ -1,5 +1,5 @@
-// Long extensions of a builder: up to a full word, then whole words written straight to the buffer, then the rest. The workers ask for
-// `Room`, a fact of the builder, the flags to append and the buffer. It is no field of a struct, since the number to append is another
+// Long extensions of a builder: up to a full word, then whole words written straight to the buffer, then the rest. The workers require
+// `Room`, a fact about the builder, the number of flags to append and the buffer. It is no field of a struct, since that number is another
 // one at each call; a builder and its buffer stay two parameters, as document 01 lends them.
 ghost use Rattle.std.specs.Prelude.{true, ◌&&◌, ◌≡◌, ◌+◌, ◌*◌, ◌%◌, ◌≤◌, ◌<◌, leb, ltb, length};
 ghost use Rattle.words.specs.Flags.{copies};
@@ -39,7 +39,7 @@ impl BitmapBuilder {
         Ok(append_copies(self, buf, n, flag))
     }
 
-    // Appends a span.
+    // Appends the n flags of `bytes` starting at `start`.
     pub fn extend_from_slice(
         self,
         buf: &mut [u8],
@@ -62,7 +62,7 @@ impl BitmapBuilder {
         Ok(append_stretch(self, buf, &span))
     }
 
-    // Appends a piece of a mask.
+    // Appends the n flags of a mask starting at `start`.
     pub fn subslice_extend_from_bitmap(
         self,
         buf: &mut [u8],
@@ -91,7 +91,7 @@ impl BitmapBuilder {
     }
 }
 
-// Is nothing refused, and has the word in progress room for n flags: so in most calls, and for these no number is made.
+// Returns true only if no check fails and the word in progress has room for n flags: so in most calls, for which no further check is made.
 fn fits_inside(b: BitmapBuilder, n: usize, size: usize) -> bool
     ensures { result ≡ true → (b.length % 64 + n < 64) × Room b n size }
 {
@@ -116,7 +116,7 @@ fn to_whole(b: BitmapBuilder) -> usize
     (64 - b.length % 64) % 64
 }
 
-// Appends copies of a flag: into the word in progress, or up to its end, then whole words, then the rest.
+// Appends n copies of a flag: into the word in progress, or up to its end, then whole words, then the rest.
 pub(crate) fn append_copies(b: BitmapBuilder, buf: &mut [u8], n: usize, flag: bool) -> BitmapBuilder
     requires { Room b n (length buf.old) }
     ensures { filling result buf.new ≡ appended (filling b buf.old) (copies n flag) }
@@ -132,8 +132,8 @@ pub(crate) fn append_copies(b: BitmapBuilder, buf: &mut [u8], n: usize, flag: bo
     push_inside(filled, constant_flags(flag, rest), rest)
 }
 
-// Appends whole words of one flag to a builder that has no word in progress. It shares the place and the record with `copy_words`: here the
-// ones are known before the words are written, there the copy counts them.
+// Appends `whole` words of one flag to a builder that has no word in progress. Place and record are as in `copy_words`: here the ones are
+// known before the words are written, there the copy counts them.
 fn fill_words(b: BitmapBuilder, buf: &mut [u8], whole: usize, flag: bool) -> BitmapBuilder
     requires { (b.length % 64 ≡ 0) × Room b (64 * whole) (length buf.old) }
     ensures { filling result buf.new ≡ appended (filling b buf.old) (copies (64 * whole) flag) }
@@ -174,7 +174,7 @@ pub(crate) fn append_stretch(b: BitmapBuilder, buf: &mut [u8], span: &Lent) -> B
     push_flags(copied, buf, last, rest)
 }
 
-// Appends whole words of a span to a builder that has no word in progress: as `fill_words`, with ones that the copy counts.
+// Appends `whole` words of flags of `bytes`, starting at flag `start`, to a builder that has no word in progress. The copy counts the ones.
 fn copy_words(
     b: BitmapBuilder,
     buf: &mut [u8],

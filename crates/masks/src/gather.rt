@@ -14,9 +14,9 @@ use crate::span::Lent;
 use words::word::{behind, constant_word, flag_at};
 
 impl BitmapBuilder {
-    // Appends the flag at each index, all of which lie in the span. This and the next are the Rust's names over `append_gathered`. They
-    // differ in the check of the indices and in the definition that the contract names, so one function for both would take a flag and
-    // promise by cases.
+    // Appends the flag at each index; refuses an index outside the span. This and `opt_gather_extend_from_slice` are the Rust's names over
+    // `append_gathered`. They differ in the check of the indices and in the definition that the contract names, so one function for both
+    // would take a flag and promise by cases.
     pub fn gather_extend_from_slice(
         self,
         buf: &mut [u8],

@@ -1,4 +1,4 @@
-// The flags of a span one by one, and how many alike stand next.
+// The cursor over single flags of a span, and how many flags in a row at its place are equal.
 ghost use Rattle.std.specs.Prelude.{◌≡◌, true, false};
 ghost use Rattle.masks.specs.Cursor.{answer_step};
 ghost use Rattle.masks.specs.Answer.{answer, answer_back};
@@ -10,7 +10,7 @@ use crate::refusal::{Refusal, Refused};
 use crate::span::leading_from;
 use words::word::flag_at;
 
-// A cursor over a span whose place counts flags. The Rust's `BitmapIter`, its bytes lent beside it.
+// A cursor over the flags of a span; its place counts flags. The Rust's `BitmapIter`, with the bytes lent to each call.
 #[derive(Clone, Copy, PartialEq, Eq, Debug, Default)]
 pub struct BitmapIter {
     pub start: usize,
@@ -34,14 +34,14 @@ impl BitmapIter {
         })
     }
 
-    // Returns the flag at the cursor.
+    // Returns the flag at the cursor, and the cursor past it; at the end no flag.
     pub fn next(self, bytes: &[u8]) -> Result<Step<bool, BitmapIter>, Refused<BitmapIter>>
         ensures { answer_step result ≡ nth_flag self bytes.now 0 }
     {
         self.nth(bytes, 0)
     }
 
-    // Skips n flags and returns the one after them.
+    // Skips n flags and returns the one after them, and the cursor past it; past the end no flag, and the cursor at the length.
     pub fn nth(self, bytes: &[u8], n: usize) -> Result<Step<bool, BitmapIter>, Refused<BitmapIter>>
         ensures { answer_step result ≡ nth_flag self bytes.now n }
     {
@@ -61,14 +61,14 @@ impl BitmapIter {
         })
     }
 
-    // Counts the ones that start at the cursor, and moves past them.
+    // Counts the ones in a row at the cursor, and moves past them.
     pub fn take_leading_ones(self, bytes: &[u8]) -> Result<(usize, BitmapIter), Refused<BitmapIter>>
         ensures { answer_back result ≡ take_leading true self bytes.now }
     {
         self.take_leading(bytes, true)
     }
 
-    // Counts the zeros that start at the cursor, and moves past them.
+    // Counts the zeros in a row at the cursor, and moves past them.
     pub fn take_leading_zeros(
         self,
         bytes: &[u8],

@@ -1,8 +1,8 @@
-// A search over two masks, the second of which may be absent: the next flag that is set in the first and not in the second, from a
-// place on and going round once.
+// A search over two masks, the second of which may be absent, for the next flag that is set in the first and not in the second: it starts
+// at a place and goes round once.
 //
-// It goes by windows of 32 flags, and its answer has the number of them. The code reads words of 64 flags and passes over whole blocks;
-// the number follows from where it stops.
+// Its answer has the number of windows of 32 flags that it covers. The code reads words of 64 flags and passes over whole blocks; the
+// number follows from where it stops.
 ghost use Rattle.std.specs.Prelude.{◌≡◌, false, ℕ, ◌+◌, ◌≤◌, take};
 ghost use Rattle.words.specs.Counts.{any_set};
 ghost use Rattle.words.specs.Flags.{window, word_flags};
@@ -29,11 +29,11 @@ pub struct Found {
     pub windows: usize,
 }
 
-// Returns the first position at or after `from` that is set in the first mask and not in the second; if there is none, the first such
-// position from 0 on. An absent second mask takes nothing away. Windows begin at `from` and every 32 flags on, then at 0 and every 32
-// flags on below `from`; counted are those up to the one that holds the position, or all.
+// Returns the first position at or after `from` that is set in the first mask and not in the second, else the first such position below
+// `from`, or none. An absent second mask takes nothing away. Windows begin at `from` and at every 32nd flag after it, then at 0 and at
+// every 32nd flag below `from`; the answer counts those up to the one that holds the position, or all.
 //
-// At most 64 flags are one word of each mask, read once and searched twice, with no loop. This function and its checks are compiled into
+// Masks of at most 64 flags are one word each, read once and searched twice, with no loop. This function and its checks are compiled into
 // its callers: with either as a function of its own 40 flags take 281 instructions in place of 247.
 #[inline(always)]
 pub fn next_and_not(
@@ -76,8 +76,8 @@ pub fn next_and_not(
     })
 }
 
-// The same search over the first n flags of a word. Its ways out are written again: here each search is one number, there the second is a
-// call, made only where the first finds none.
+// Searches the first n flags of a word for a one, at or after `from` and then below it, and counts the windows. Its returns repeat those of
+// `next_and_not`: here each search is one number, there the second is a call, made only if the first finds none.
 fn next_in_word(word: u64, n: usize, from: usize) -> Found
     requires { (n ≤ 64) × (from ≤ n) }
     ensures { result ≡ next_set n (take n (word_flags word)) from }
@@ -103,7 +103,7 @@ fn next_in_word(word: u64, n: usize, from: usize) -> Found
     }
 }
 
-// How many windows n flags take.
+// Returns how many windows n flags take.
 fn windows_of(n: usize) -> usize
     requires { n ≤ limit }
     ensures { result ≡ windows_of n }
@@ -111,7 +111,7 @@ fn windows_of(n: usize) -> usize
     n.div_ceil(32)
 }
 
-// Makes the checks of each mask that is there, of two that they are of one length, and of the place.
+// Makes the checks of the first mask, of the second if it is there (check 5 among them), and of `from`, which is at most the length.
 #[inline(always)]
 fn check_next(
     first: Bitmap,
@@ -127,7 +127,7 @@ fn check_next(
     earlier(check_mask(first, first_bytes), earlier(other, place))
 }
 
-// Makes the checks of the second mask, and that it has n flags. Without one nothing is asked.
+// Makes the checks of the second mask, and check 5: its length is n. Without a second mask makes none.
 fn check_other(n: usize, second: Option<Bitmap>, bytes: &[u8]) -> Result<(), Refusal>
     ensures { failure_of result ≡ first_failed (other_checks n second bytes.now) }
 {
@@ -140,9 +140,9 @@ fn check_other(n: usize, second: Option<Bitmap>, bytes: &[u8]) -> Result<(), Ref
     }
 }
 
-// Is a flag set in the first mask and not in the second among n from `at` on. This and the three below take both masks and their bytes
-// one by one: as methods of a struct of the four a search of 40 flags, which then went by these as longer ones do, took 1.04 times the
-// instructions, `offer` with known counts 1.06 times.
+// Returns whether one of the n flags starting at `at` is set in the first mask and not in the second. This and the three functions below
+// take both masks and their bytes one by one: as methods of a struct of the four a search of 40 flags, which then went by these as longer
+// ones do, took 1.04 times the instructions, `offer` with known counts 1.06 times.
 fn any_free(
     first: Bitmap,
     first_bytes: &[u8],
@@ -170,8 +170,8 @@ fn any_free(
     }
 }
 
-// The 64 flags from `at` on that are set in the first mask and not in the second; those past the length are of no meaning. As a function of
-// its own, with two callers, it makes a search of 40 flags take 269 instructions in place of 247.
+// Returns the 64 flags starting at `at`, each set if it is set in the first mask and not in the second; those past the length have no
+// meaning. As a function of its own, with two callers, it makes a search of 40 flags take 269 instructions in place of 247.
 #[inline(always)]
 fn free_word(
     first: Bitmap,
@@ -191,9 +191,10 @@ fn free_word(
     }
 }
 
-// Passes over blocks of 1,024 flags that have no such flag, up to one that has or to the last flags before `end`. The two loops here are
-// `while`: as `for` loops over a range of blocks and a `step_by(64)` a search of 40 flags, which then went through them, took 496
-// instructions in place of 471, and one that finds nothing 653 in place of 611.
+// Passes over blocks of 1,024 flags that have no flag set in the first mask and not in the second, and returns where it stops: at a block
+// that has one, or at the last flags before `end`. This loop and that of `zeros_ahead` are `while`: as `for` loops over a range of blocks
+// and a `step_by(64)` a search of 40 flags, which then went through them, took 496 instructions in place of 471, and one that finds nothing
+// 653 in place of 611.
 fn pass_blocks(
     first: Bitmap,
     first_bytes: &[u8],
@@ -215,7 +216,7 @@ fn pass_blocks(
     at
 }
 
-// How many flags from `from` on, before `end`, stand before the first that is set in the first mask and not in the second.
+// Counts the flags starting at `from`, and below `end`, before the first that is set in the first mask and not in the second.
 fn zeros_ahead(
     first: Bitmap,
     first_bytes: &[u8],

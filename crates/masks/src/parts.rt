@@ -1,4 +1,4 @@
-// The three parts of a span, and how many flags alike stand at either end of them.
+// The three parts of a span, and how many flags in a row are equal at either end of it.
 ghost use Rattle.std.specs.Prelude.{◌≡◌, ℕ, Bool, List, ◌++◌, ◌+◌, ◌/◌, ◌≤◌, ◌<◌, length, take};
 ghost use Rattle.std.proofs.Common.{sym, ap, ◌∙◌, append_assoc};
 ghost use Rattle.words.specs.Ends.{leading, trailing};
@@ -47,7 +47,7 @@ impl<'a> Split<'a> {
         first + middle + last
     }
 
-    // Counts the flags equal to `flag` at an end: part by part, the next where all of one are alike.
+    // Counts the flags in a row at an end that equal `flag`: part by part, up to the first with another flag.
     pub(crate) fn run<E: End>(&self, flag: bool) -> usize
         ensures { result ≡ E.run flag (split_flags self.now.bytes.now self.now.parts) }
     {
@@ -66,39 +66,39 @@ impl<'a> Split<'a> {
     }
 }
 
-// An end of a span, from which flags alike are counted.
+// An end of a span, and how the flags in a row at it that equal a flag are counted.
 pub(crate) trait End {
-    // How many flags x stand at this end.
+    // The number of flags x in a row at this end.
     ghost run: { Bool → List Bool → ℕ };
 
     // Three parts in a row, the one at this end first.
     ghost row: { List Bool → List Bool → List Bool → List Bool };
 
-    // The flags of a split's word at this end, and of that at the other.
+    // The flags of a split's word at this end, and of its word at the other.
     ghost near_flags: { AlignedBitmapSlice → List Bool };
 
     ghost far_flags: { AlignedBitmapSlice → List Bool };
 
-    // Of the first k flags of a word.
+    // Counts the flags in a row that equal `flag`, at this end of the first k flags of a word.
     fn in_word(flag: bool, word: u64, k: usize) -> usize
         ensures { result ≡ run flag (take k (word_flags word)) };
 
-    // Of the whole words between the two.
+    // Counts the flags in a row that equal `flag`, at this end of the whole words of a split.
     fn in_bulk(flag: bool, split: &Split) -> usize
         ensures { result ≡ run flag (bulk_flags split.now.bytes.now split.now.parts) };
 
-    // The word at this end, and how many flags of it are the span's.
+    // Returns a split's word at this end, and how many flags of it are the span's.
     fn near(split: &Split) -> (u64, usize)
         ensures { (result.1 ≤ 64) × (take result.1 (word_flags result.0) ≡ near_flags split.now.parts) };
 
-    // The one at the other end.
+    // Returns a split's word at the other end, and how many flags of it are the span's.
     fn far(split: &Split) -> (u64, usize)
         ensures { (result.1 ≤ 64) × (take result.1 (word_flags result.0) ≡ far_flags split.now.parts) };
 
     ghost in_row: { (bytes : List ℕ) (s : AlignedBitmapSlice)
         → split_flags bytes s ≡ row (near_flags s) (bulk_flags bytes s) (far_flags s) };
 
-    // A part that is not all alike ends the run, and a whole one is counted with what stands behind it.
+    // A part with another flag ends the run; one without is counted with what follows it.
     ghost at_first: { (x : Bool) (A B C : List Bool) → run x A < length A → run x (row A B C) ≡ run x A };
 
     ghost at_second: { (x : Bool) (A B C : List Bool) → length A ≤ run x A → run x B < length B
@@ -175,8 +175,8 @@ impl End for Back {
 
     fn in_bulk(flag: bool, split: &Split) -> usize {
         let n = split.parts.bulk_len;
-        // a range, as above. One loop for both ends would ask each end for the place of word i, and for laws of what stands before
-        // that word and behind it: more than this loop.
+        // a range, since there is no slice of the words. One loop for both ends would need the place of word i from each end, and laws of
+        // what lies before that word and after it: more than this loop.
         for i in (0..n).rev() {
             let bit = 8 * split.parts.bulk_start + 64 * i;
             let alike = trailing_in_word(flag, word_from(split.bytes, bit), 64);

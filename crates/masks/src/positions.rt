@@ -1,4 +1,4 @@
-// Many positions of ones at once, written to a lent output: for whoever wants them all, since a call for each costs more than what
+// Many positions of ones at once, written to a lent output: for callers that need all of them, since a call for each costs more than what
 // it does.
 ghost use Rattle.std.specs.Prelude.{◌≡◌, true, List, ℕ, ◌+◌, ◌*◌, ◌≤◌, min, length as list_length};
 ghost use Rattle.words.specs.Flags.{copies, over, word_flags};
@@ -26,7 +26,7 @@ fn write_row(part: &mut [u32], first: usize)
     }
 }
 
-// Writes n consecutive positions at `at`.
+// Writes n consecutive positions, starting with `first`, to `out` at `at`.
 fn write_run(out: &mut [u32], at: usize, first: usize, n: usize)
     requires { (at + n ≤ list_length out.old) × (first + n ≤ 2 * limit) }
     ensures { out.new ≡ over_from out.old at (ones_from first (copies n true)) }
@@ -35,8 +35,9 @@ fn write_run(out: &mut [u32], at: usize, first: usize, n: usize)
     write_row(&mut out[at..end], first);
 }
 
-// Writes the positions of a word's ones behind those written, as many as fit. A run is written as a whole, with no test of each flag. The
-// word's first flag is number `first`. A `loop`, since a turn moves by what it finds (`zeros + ones`), and carries three values.
+// Writes the positions of a word's ones after the `done` already written, as many as fit, and returns how many are then written. A run is
+// written as a whole, with no test of each flag. The word's first flag is number `first`. A `loop`, since an iteration moves by what it
+// finds (`zeros + ones`), and carries three values.
 fn write_word(out: &mut [u32], done: usize, word: u64, first: usize) -> usize
     requires { (done ≤ list_length out.old) × (first ≤ limit) }
     ensures count { result ≡ min (list_length out.old) (done + list_length (ones_from first (word_flags word))) }
@@ -63,8 +64,8 @@ fn write_word(out: &mut [u32], done: usize, word: u64, first: usize) -> usize
     }
 }
 
-// Writes the positions of the ones of a span, word by word, starting at a place. A `while`: by `for at in (..).step_by(64)` 40 flags
-// took 1.05 times the instructions where half are set, and 1.13 times where all are.
+// Writes the positions of the ones of a span at or after `place`, word by word, as many as fit, and returns their number. A `while`: by
+// `for at in (..).step_by(64)` 40 flags took 1.05 times the instructions where half are set, and 1.13 times where all are.
 fn write_words(out: &mut [u32], span: Lent, place: usize) -> usize
     requires { place ≤ span.length }
     ensures count { result ≡
@@ -86,7 +87,7 @@ fn write_words(out: &mut [u32], span: Lent, place: usize) -> usize
     count
 }
 
-// Writes the positions that a cursor has left. Without a mask these are consecutive.
+// Writes the positions that a cursor has left, as many as fit, and returns their number. Without a mask they are consecutive.
 fn write_positions(cursor: TrueIdxIter, bytes: &[u8], out: &mut [u32]) -> usize
     requires { first_failed (true_checks cursor (list_length bytes.now)) ≡ 0 }
     ensures count { result ≡ min (list_length out.old) (list_length (left_of cursor bytes.now)) }
@@ -122,7 +123,8 @@ fn place_behind(cursor: TrueIdxIter, out: &[u32], count: usize) -> usize
 }
 
 impl TrueIdxIter {
-    // Writes the positions of the next ones to the start of `out`, as many as fit: the results of repeated calls of `next`.
+    // Writes the positions of the next ones to the start of `out`, as many as fit: the results of repeated calls of `next`. Returns their
+    // number, and the cursor past the last; if there are fewer than `out` has room for, the cursor at the length.
     pub fn next_chunk(
         self,
         bytes: &[u8],

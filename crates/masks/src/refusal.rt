@@ -1,4 +1,4 @@
-// Why a call refuses, and how the checks of a call are put together.
+// The reasons for which a call refuses, and how the checks of a call are joined.
 ghost use Rattle.std.specs.Prelude.{◌≡◌, cond};
 ghost use Rattle.masks.specs.Checks.{earlier as earlier_of};
 ghost use Rattle.masks.specs.Refusal.{failure_of, number};
@@ -6,34 +6,34 @@ ghost use Rattle.masks.specs.Refusal.{failure_of, number};
 use std::error::Error;
 use std::fmt;
 
-// The checks that a call can fail, in the order in which they decide: of several that fail the first one here is the answer. Each is a
-// question of document 01, with its number, answered no; 14 is one of paper 02.
+// The checks that a call can fail, in their order: of several that fail the first one here is the answer. Each is a check of document 01
+// with its number (its question, answered no); 14 is one of paper 02.
 #[derive(Clone, Copy, PartialEq, Eq, PartialOrd, Ord, Debug)]
 pub enum Refusal {
-    // 1: is each start and length, and each sum of them, at most the flag limit?
+    // 1: a start or a length, stated or resulting, is above the flag limit.
     OverLimit,
-    // 2: is start + length at most 8 * the bytes lent?
+    // 2: start + length is above 8 * the bytes lent.
     PastBytes,
-    // 3: is a known zero count that of the flags?
+    // 3: a known zero count is not that of the flags.
     FalseCount,
-    // 14: have two masks of one serial the same flags?
+    // 14: two masks with equal serials have different flags.
     UnequalLists,
-    // 4: is the builder one that calls leave, over a buffer that holds its finished words?
+    // 4: the builder is one that no calls leave, or its buffer does not hold its finished words.
     ImpossibleBuilder,
-    // 5: are the masks combined equal in length?
+    // 5: the masks combined, or a mask and its stated length, differ in length.
     UnequalLengths,
-    // 6: does the piece, the place, each index lie inside?
+    // 6: a piece, a place, an index or a pushed word does not lie inside.
     Outside,
-    // 7: where `slice` recounts, can the known count be right?
+    // 7: `slice` recounts and finds that the known count cannot be right.
     WrongRecount,
-    // 8: is the address remainder at most 7?
+    // 8: the address remainder is above 7.
     WrongAddress,
-    // 9: does the output, or the builder's buffer, hold the result?
+    // 9: the output, or the builder's buffer, does not hold the result.
     ShortOutput,
 }
 
 impl Refusal {
-    // Puts the record that the call got beside the refusal.
+    // Returns the refusal with the record that was passed to the call.
     pub(crate) fn with<S>(self, state: S) -> Refused<S>
         ensures { (result.refusal ≡ self) × (result.state ≡ state) }
     {
@@ -89,7 +89,7 @@ impl fmt::Display for Refusal {
 
 impl Error for Refusal {}
 
-// A refusal, and the record that the call got.
+// A refusal, and the record that was passed to the call.
 #[derive(Clone, Copy, PartialEq, Eq, Debug)]
 pub struct Refused<S> {
     pub refusal: Refusal,
@@ -102,8 +102,8 @@ impl<S> fmt::Display for Refused<S> {
     }
 }
 
-// Returns the refusal of two checks that comes first in their order. It joins checks where one made later may be put first, as check 1 of
-// a second mask before check 3 of the first. Where each comes behind those made before it, a call uses `?`.
+// Returns the refusal of two checks that comes first in their order; none if both pass. It joins checks of which one made later may come
+// first, as check 1 of a second mask comes before check 3 of the first. If each comes after those made before it, a call uses `?`.
 pub fn earlier(a: Result<(), Refusal>, b: Result<(), Refusal>) -> Result<(), Refusal>
     ensures { failure_of result ≡ earlier_of (failure_of a) (failure_of b) }
 {
@@ -114,7 +114,7 @@ pub fn earlier(a: Result<(), Refusal>, b: Result<(), Refusal>) -> Result<(), Ref
     }
 }
 
-// Refuses for this reason unless the check holds.
+// Refuses with `refusal` unless the check holds.
 pub(crate) fn check(refusal: Refusal, holds: bool) -> Result<(), Refusal>
     ensures { failure_of result ≡ cond holds 0 (number refusal) }
 {

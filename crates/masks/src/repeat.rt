@@ -16,7 +16,7 @@ use crate::span::Lent;
 use words::word::flag_at;
 
 impl BitmapBuilder {
-    // Appends each flag of a span, `repeats` times in turn.
+    // Appends each flag of a span, `repeats` times in turn; 0 repeats append nothing.
     pub fn extend_each_repeated_from_slice_unchecked(
         self,
         buf: &mut [u8],

@@ -12,7 +12,7 @@ use crate::cursor::{Step, check_cursor};
 use crate::refusal::{Refusal, Refused};
 use crate::span::{Lent, zeros_from};
 
-// A cursor over the flags of a mask. The Rust's `SlicesIterator`, its bytes lent beside it.
+// A cursor over the runs of ones of a mask; its place counts flags. The Rust's `SlicesIterator`, with the bytes lent to each call.
 #[derive(Clone, Copy, PartialEq, Eq, Debug)]
 pub struct SlicesIterator {
     pub start: usize,
@@ -20,15 +20,15 @@ pub struct SlicesIterator {
     pub place: usize,
 }
 
-// Ones that stand side by side: where in the mask the first one is, and how many they are. Not a `Span`, whose start is a bit of the bytes.
+// A run of ones: the position of the first one in the mask, and how many they are. Not a `Span`, whose start is a bit of the bytes.
 #[derive(Clone, Copy, PartialEq, Eq, Debug)]
 pub struct Run {
     pub start: usize,
     pub length: usize,
 }
 
-// Returns whether a whole byte, entered at its first bit and ending inside the span, is all ones. Written with `&&` the walk over all runs
-// took 1.02 times the instructions where half the flags are set, and 1.07 times where all are.
+// Returns whether a byte is all ones, is entered at its first bit, and lies inside the span, of which `left` flags are left. With `&&` the
+// search for all runs took 1.02 times the instructions where half the flags are set, and 1.07 times where all are.
 fn all_ones(byte: u8, bit: usize, left: usize) -> bool
     ensures { result ≡ (eqb bit 0 && (eqb byte 255 && leb 8 left)) }
 {
@@ -39,9 +39,9 @@ fn all_ones(byte: u8, bit: usize, left: usize) -> bool
     }
 }
 
-// Finds the first run of ones from `place` on, byte by byte and, inside a byte, bit by bit; the end of the run leaves both loops. Passes
-// over a byte of ones at once, and over a zero before the run. Where there is no run it is empty, at the length. The two loops are the
-// walk of document 01, a named form.
+// Returns the first run of ones at or after `place`; with no ones left an empty run at the length. Reads byte by byte and, inside a byte,
+// bit by bit; at the end of the run it leaves both loops. Passes over a byte of ones at once, and over a zero before the run. The two loops
+// are the walk of document 01, a named form.
 fn run_from(span: Lent, place: usize) -> Run
     requires { place ≤ span.length }
     ensures { result ≡ first_run (stretch span.entry.bytes.now span.entry.start span.entry.length) place }
@@ -97,7 +97,8 @@ impl SlicesIterator {
         })
     }
 
-    // The next run of ones. A run that the place cuts begins there. The zeros before a run are passed over by words.
+    // Returns the next run of ones, and the cursor past it; with no ones left no run, and the cursor at the length. If the cursor is inside
+    // a run, the run starts at the cursor. Passes over the zeros before a run by words.
     pub fn next(self, bytes: &[u8]) -> Result<Step<Run, SlicesIterator>, Refused<SlicesIterator>>
         ensures { answer_step result ≡ next_slice self bytes.now }
     {

@@ -1,4 +1,4 @@
-// Words of a span, and how many flags alike stand next in it.
+// Spans that have passed their checks, words of their flags, and how many flags in a row are equal.
 ghost use Rattle.std.specs.Prelude.{false, ◌≡◌, ◌+◌, ◌*◌, ◌≤◌, length as list_length};
 ghost use Rattle.words.specs.Flags.{word_of};
 ghost use Rattle.words.specs.Loops.{stretch};
@@ -10,7 +10,7 @@ use crate::refusal::Refusal;
 use words::ends::leading_in_word;
 use words::word::{low_flags, near_word, word_from};
 
-// A span of lent bytes that has passed checks 1 and 2, or a piece of the flags of one.
+// A span of lent bytes that has passed checks 1 and 2, or a piece of such a span.
 #[derive(Clone, Copy)]
 pub(crate) struct Lent<'a> {
     pub bytes: &'a [u8],
@@ -24,7 +24,7 @@ pub(crate) struct Lent<'a> {
 impl Lent<'_> {
     ghost use Rattle.masks.specs.Lent.{lent_answer, new_lent};
 
-    // Makes checks 1 and 2.
+    // Makes checks 1 and 2 and returns the span.
     pub(crate) fn new(bytes: &[u8], start: usize, length: usize) -> Result<Lent<'_>, Refusal>
         ensures { lent_answer result ≡ new_lent bytes.now start length }
     {
@@ -45,9 +45,9 @@ pub(crate) fn flags_word(bytes: &[u8], bit: usize, k: usize) -> u64
     low_flags(word_from(bytes, bit), k)
 }
 
-// Counts the flags equal to `flag` that start at `place`. Reads the first word here, since the run is usually short. This, `zeros_from` and
-// `leading_by_words` take a span by its three parts, in registers: as methods of `Lent`, which goes to a function outside the body through
-// memory, the next one of a random mask took 1.04 times the instructions and `take_leading` of 40 zeros 1.07 times.
+// Counts the flags in a row, starting at `place`, that equal `flag`. Reads the first word here, since the run is usually short. This,
+// `zeros_from` and `leading_by_words` take a span as three arguments, in registers: as methods of `Lent`, which is passed through memory to
+// a function that is not inlined, the next one of a random mask took 1.04 times the instructions and `take_leading` of 40 zeros 1.07 times.
 pub(crate) fn leading_from(
     flag: bool,
     bytes: &[u8],
@@ -66,8 +66,8 @@ pub(crate) fn leading_from(
     leading_by_words(flag, bytes, start, length, place)
 }
 
-// The same for zeros, for cursors that look for a one. One load mostly decides; `leading_from` does the rest, so that this is small enough
-// to be inlined.
+// Counts the zeros in a row, starting at `place`, for cursors that look for a one. One load usually finds it; `leading_from` does the rest,
+// so that this is small enough to be inlined.
 pub(crate) fn zeros_from(bytes: &[u8], start: usize, length: usize, place: usize) -> usize
     requires { (start ≤ limit) × ((length ≤ limit) × (place ≤ length)) }
     ensures { result ≡ leading_from false (stretch bytes.now start length) place }
@@ -84,7 +84,8 @@ pub(crate) fn zeros_from(bytes: &[u8], start: usize, length: usize, place: usize
     leading_from(false, bytes, start, length, place)
 }
 
-// Does the work of `leading_from` word by word, up to the first word with a different flag. A range of places: there is no slice of words.
+// Counts the flags in a row, starting at `place`, that equal `flag`: word by word, up to the first word with another flag. A range of
+// places: there is no slice of words.
 fn leading_by_words(flag: bool, bytes: &[u8], start: usize, length: usize, place: usize) -> usize
     requires { (start ≤ limit) × ((length ≤ limit) × (place ≤ length)) }
     ensures { result ≡ leading_from flag (stretch bytes.now start length) place }

@@ -1,5 +1,5 @@
 // The later revocation wins: of two masks of one operator, each over its own bytes, the one with the larger serial, and the part of the
-// bytes lent that holds it. That both masks are one operator's is the caller's to see.
+// lent bytes that holds it. The caller makes sure that both masks are one operator's.
 ghost use Rattle.std.specs.Prelude.{◌≡◌, ◌≤◌};
 ghost use Rattle.masks.specs.Answer.{answer};
 ghost use Rattle.masks.specs.Refusal.{failure_of};
@@ -11,8 +11,8 @@ use crate::checks::check_mask;
 use crate::compare::eq;
 use crate::refusal::{Refusal, check, earlier};
 
-// The winner: whether it is the second mask, the part of its slice that holds it, from byte `from` to before byte `to`, and its record
-// over that part. `second` is an answer of paper 02, no mark of another field.
+// The winner: whether it is the second mask, the part of its slice that holds it, from byte `from` to before byte `to`, and its record over
+// that part. `second` is part of the answer (paper 02): it does not say how to read another field.
 #[derive(Clone, Copy, PartialEq, Eq, Debug)]
 pub struct Part {
     pub second: bool,
@@ -21,7 +21,8 @@ pub struct Part {
     pub mask: Bitmap,
 }
 
-// Checks 1 to 3 of both masks, and 14: masks of equal serials have equal lists. Lists are compared only where the serials are equal.
+// Makes checks 1 to 3 of both masks, and check 14: masks with equal serials have equal lists. Compares the lists only if the serials are
+// equal.
 fn check_superseding(
     first: Bitmap,
     left: &[u8],
@@ -37,8 +38,8 @@ fn check_superseding(
     check(Refusal::UnequalLists, same)
 }
 
-// Returns the part of its slice that holds a mask, and the mask over it. No type says that the mask's checks have passed: a `Bitmap` is
-// document 01's record, of any numbers, and a `Lent` has neither the count nor the serial that the part keeps.
+// Returns the part of its slice that holds a mask, and the mask over that part. No type says that the mask's checks have passed: a `Bitmap`
+// is document 01's record, of any numbers, and a `Lent` has neither the count nor the serial that the part keeps.
 fn part_of(second: bool, mask: Bitmap) -> Part
     requires { (mask.start ≤ limit) × (mask.length ≤ limit) }
     ensures { result ≡ part_of second mask }
@@ -57,7 +58,8 @@ fn part_of(second: bool, mask: Bitmap) -> Part
     }
 }
 
-// The winner and where its bytes are: for callers that keep the bytes themselves.
+// Returns the mask with the larger serial, the first if they are equal, and where its bytes are: for callers that keep the bytes
+// themselves. Refuses with 14 if the serials are equal and the lists are not.
 pub fn superseding_part(
     first: Bitmap,
     first_bytes: &[u8],
@@ -73,7 +75,7 @@ pub fn superseding_part(
     Ok(part_of(false, first))
 }
 
-// The winner's record over the part that `superseding_bytes` gives.
+// Returns the record of the mask with the larger serial, the first if they are equal, over the part that `superseding_bytes` returns.
 pub fn superseding(
     first: Bitmap,
     first_bytes: &[u8],
@@ -86,7 +88,8 @@ pub fn superseding(
     Ok(part.mask)
 }
 
-// The winner's bytes: a part of one of the two slices lent. After a refusal it is an empty part of the first.
+// Returns the bytes of the mask with the larger serial, the first if they are equal: a part of one of the two slices. After a refusal it is
+// an empty part of the first.
 pub fn superseding_bytes<'a>(
     first: Bitmap,
     first_bytes: &'a [u8],

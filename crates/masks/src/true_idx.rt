@@ -13,8 +13,8 @@ use crate::cursor::{Step, check_cursor};
 use crate::refusal::{Refusal, Refused, check};
 use crate::span::zeros_from;
 
-// A cursor over the flags of a mask or, where there is none, over positions alone. The Rust's `TrueIdxIter`. `masked` stands for an
-// `Option` of the mask: document 01's cursor holds no mask, and C gets it.
+// A cursor over the positions of the ones of a mask or, without a mask, over every position. The Rust's `TrueIdxIter`. `masked` replaces an
+// `Option` of the mask: document 01's cursor holds no mask, and the C interface passes the field.
 #[derive(Clone, Copy, PartialEq, Eq, Debug)]
 pub struct TrueIdxIter {
     pub start: usize,
@@ -70,8 +70,8 @@ pub(crate) fn check_next(cursor: TrueIdxIter, size: usize) -> Result<(), Refusal
     check(Refusal::Outside, cursor.place <= cursor.length)
 }
 
-// Counts the zeros before the next one. By the cursor's fields, as `zeros_from` is: over a `Lent` `next` with no mask took 1.08 times the
-// instructions.
+// Counts the zeros before the next one; 0 without a mask. Takes the cursor's fields, as `zeros_from` does: over a `Lent`, `next` without a
+// mask took 1.08 times the instructions.
 fn zeros_next(cursor: TrueIdxIter, bytes: &[u8]) -> usize
     requires { (cursor.start ≤ limit) × ((cursor.length ≤ limit) × (cursor.place ≤ cursor.length)) }
     ensures { result ≡ leading_from false (true_flags cursor bytes.now) cursor.place }
@@ -83,8 +83,8 @@ fn zeros_next(cursor: TrueIdxIter, bytes: &[u8]) -> usize
 }
 
 impl TrueIdxIter {
-    // A cursor at the first position. The length is stated beside the mask, which must agree. No mask is Arrow's none, which means
-    // all ones: every position below the length is given.
+    // Returns a cursor at the first position. `length` must equal the length of the mask. No mask is Arrow's none, which means all ones:
+    // the cursor then returns every position below `length`.
     pub fn new(length: usize, mask: Option<Bitmap>, bytes: &[u8]) -> Result<TrueIdxIter, Refusal>
         ensures { answer result ≡ new_true length mask bytes.now }
     {
@@ -92,7 +92,7 @@ impl TrueIdxIter {
         Ok(first_true(length, mask))
     }
 
-    // Returns the position of the next one.
+    // Returns the position of the next one, and the cursor past it; with no ones left no position, and the cursor at the length.
     pub fn next(self, bytes: &[u8]) -> Result<Step<usize, TrueIdxIter>, Refused<TrueIdxIter>>
         ensures { answer_step result ≡ next_true self bytes.now }
     {

@@ -1,5 +1,5 @@
-// Counts over bare spans. A span that fits one word from its first byte on is read as one. Of others each hands the address on to the
-// aligned split and works from its three parts; the answer does not depend on the address.
+// Counts over bare spans. A span that fits one word starting at its first byte is read as one. For others each count passes the address to
+// the aligned split and works from its three parts; the answer does not depend on the address.
 ghost use Rattle.std.specs.Prelude.{◌≡◌, true, false, ◌+◌, ◌*◌, ◌%◌, ◌≤◌, eqb};
 ghost use Rattle.words.specs.Ends.{leading, trailing};
 ghost use Rattle.words.specs.Loops.{stretch};
@@ -15,8 +15,8 @@ use crate::span::Lent;
 use words::uniform::{all_are, differs_early};
 use words::word::{near_word, ones_below};
 
-// Counts the zeros of a span that one word load covers. Separate, so that callers can inline it. This and `short_run` take the span by its
-// parts: a `Lent` would ask their callers for more than one load needs.
+// Counts the zeros of a span that one word load covers. Separate, so that callers can inline it. This and `short_run` take the span as
+// three arguments: a `Lent` would require more of their callers than one load needs.
 fn short_zeros(bytes: &[u8], start: usize, length: usize) -> usize
     requires { start % 8 + length ≤ 64 }
     ensures { result ≡ zeros (stretch bytes.now start length) }
@@ -24,16 +24,16 @@ fn short_zeros(bytes: &[u8], start: usize, length: usize) -> usize
     length - ones_below(near_word(bytes, start), length)
 }
 
-// The zeros of any span, by the three parts of its split.
+// Counts the zeros of any span, by the three parts of its split.
 fn long_zeros(span: &Addressed) -> usize
     ensures { result ≡ zeros (stretch span.now.bytes.now span.now.start span.now.length) }
 {
     span.length - Split::new(span).ones()
 }
 
-// The zeros of a span whose checks have passed. It is too large for the body of a call, which reads a short span itself. The address
-// remainder is that of `count_zeros`; other calls pass 0. It takes the span by its parts, in registers: by a struct it made `check_mask`
-// too large for the bodies of the calls, and masks whose count is unknown took up to 1.4 times the instructions.
+// Counts the zeros of a span that has passed its checks. Too large to be inlined into a call; `count_zeros` reads a short span itself and
+// passes its address remainder, other calls pass 0. Takes the span as three arguments, in registers: with a struct `check_mask` became too
+// large to be inlined into the calls, and masks whose count is unknown took up to 1.4 times the instructions.
 pub(crate) fn zeros_at(bytes: &[u8], start: usize, length: usize, address: usize) -> usize
     requires { (start ≤ 2 * limit) × ((length ≤ limit) × (address ≤ 7)) }
     ensures { result ≡ zeros (stretch bytes.now start length) }
@@ -50,7 +50,7 @@ pub(crate) fn zeros_at(bytes: &[u8], start: usize, length: usize, address: usize
 }
 
 impl Lent<'_> {
-    // Counts the zeros.
+    // Counts the zeros of the span.
     pub(crate) fn zeros(&self) -> usize
         ensures { result ≡ zeros (stretch self.now.bytes.now self.now.start self.now.length) }
     {
@@ -58,24 +58,24 @@ impl Lent<'_> {
     }
 }
 
-// Are all flags of a span `flag`: what its zeros would say. They are not counted; the first word with another flag ends the search. This
-// and the next take the span by its parts, since they ask nothing of it.
+// Returns whether all flags of a span are `flag`, as its number of zeros would say. They are not counted; the first word with another flag
+// ends the search. This and `other_early` take the span as three arguments, since they require nothing of it.
 pub(crate) fn all_flags(flag: bool, bytes: &[u8], start: usize, length: usize) -> bool
     ensures { result ≡ eqb (zeros (stretch bytes.now start length)) (zeros_of_all flag length) }
 {
     all_are(flag, bytes, start, length)
 }
 
-// Does the first word of a span say that not all its flags are `flag`. It is small enough for the body of a call, where `all_flags` is
-// not.
+// Returns true if the first word of a span shows a flag other than `flag`; false leaves it open. Small enough to be inlined into a call, as
+// `all_flags` is not.
 pub(crate) fn other_early(flag: bool, bytes: &[u8], start: usize, length: usize) -> bool
     ensures { result ≡ true → eqb (zeros (stretch bytes.now start length)) (zeros_of_all flag length) ≡ false }
 {
     differs_early(flag, bytes, start, length)
 }
 
-// How many flags of a span are zero. `zeros_at` is outside this body and gets a slice of its own: the slice given here, which it
-// would otherwise take from memory, stays in registers for the short spans.
+// Counts the zeros of a span; 0, with no check, for length 0. `zeros_at` is not inlined and gets a slice of its own: so `bytes`, which
+// would otherwise be read from memory, stays in registers for the short spans.
 pub fn count_zeros(
     bytes: &[u8],
     start: usize,
@@ -94,7 +94,7 @@ pub fn count_zeros(
     Ok(zeros_at(&bytes[0..], start, length, address))
 }
 
-// How many flags at an end of a span that fits a word equal `flag`: it is read as one.
+// Counts the flags in a row that equal `flag`, at an end of a span that fits a word: it is read as one.
 fn short_run<E: End>(flag: bool, bytes: &[u8], start: usize, length: usize) -> usize
     requires { start % 8 + length ≤ 64 }
     ensures { result ≡ E.run flag (stretch bytes.now start length) }
@@ -102,15 +102,16 @@ fn short_run<E: End>(flag: bool, bytes: &[u8], start: usize, length: usize) -> u
     E::in_word(flag, near_word(bytes, start), length)
 }
 
-// The same of any span, by the three parts of its split.
+// Counts the flags in a row that equal `flag`, at an end of any span, by the three parts of its split.
 fn long_run<E: End>(flag: bool, span: &Addressed) -> usize
     ensures { result ≡ E.run flag (stretch span.now.bytes.now span.now.start span.now.length) }
 {
     Split::new(span).run::<E>(flag)
 }
 
-// The checks, then the short span or any other. `count_zeros` makes the same tests: one body for both would take the two ways to count as
-// a type parameter, by a trait of its own, where two calls differ.
+// Makes the checks and counts the flags in a row that equal `flag`, at an end of the span; 0, with no check, for length 0. `count_zeros`
+// makes the same tests: one body for both would take the two ways to count as a type parameter, by a trait of its own, where two calls
+// differ.
 fn run_flags<E: End>(
     flag: bool,
     bytes: &[u8],

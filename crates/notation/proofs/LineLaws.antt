@@ -1,4 +1,4 @@
--- What a step takes of the bytes that are read.
+-- What a step takes of the bytes that were read.
 use Rattle.std.proofs.Common.{◌≡◌, ℕ, ◌+◌, ◌-◌, ◌^◌, ◌<◌, ◌≤◌, min, Bool, true, false, cond, Option, Some, None, List, ◌++◌, length, take}
 use Rattle.std.proofs.Common.{drop, position, nat_lt, ltb-false, refl, sym, ◌∙◌, ap, arith, ◌⊎◌, inl, inr}
 use Rattle.std.proofs.lemmas.Bool.{cases_lt}
@@ -13,7 +13,7 @@ use Rattle.notation.specs.Lines.{is_feed, gone_on, left_of}
 take-all : {A : Type 0} (m : ℕ) (l : List A) → length l ≤ m → take m l ≡ l
 take-all m l h = sym (take_min m l) ∙ ap (λ k. take k l) (omega arith) ∙ take-length l
 
--- the first of the first
+-- the first m of the first n
 two-takes : {A : Type 0} (m n : ℕ) (l : List A) → (m < n) ⊎ (n ≤ m) → take m (take n l) ≡ take (min n m) l
 two-takes m n l (inl h) = take-take m n l (omega arith) ∙ ap (λ k. take k l) (omega arith)
 two-takes m n l (inr h) = take-all m (take n l) (omega (arith, length-take n l)) ∙ ap (λ k. take k l) (omega arith)
@@ -22,7 +22,7 @@ by_flag : (n p : ℕ) (b : Bool) → nat_lt p n ≡ b → p ≤ n → unwrap_or 
 by_flag n p true e h = refl
 by_flag n p false e h = omega (arith, ltb-false p n e)
 
--- the place of a line feed in what is read, the bytes before it, and what is left behind it
+-- the place of a line feed in what was read, the bytes before it, and what is left after it
 module _ (read : List ℕ) (feed : Option ℕ) (size : ℕ)
     (found : feed ≡ position is_feed read) (sized : size ≡ unwrap_or feed (length read)) where
   abbrev until : ℕ

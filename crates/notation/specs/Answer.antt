@@ -1,4 +1,4 @@
--- The tokens of an answer. Assumes nothing.
+-- The tokens of an answer.
 use Rattle.std.specs.Prelude.{ℕ, List, [], ◌∷◌, ◌++◌}
 use Rattle.notation.specs.declared.answer.Token.{Token}
 use Rattle.notation.specs.declared.answer.Token.TheVariants.{Number}
@@ -8,10 +8,10 @@ use Rattle.notation.specs.declared.answer.Answer.{Answer}
 abbrev pub tokens_of : Answer → List Token
 tokens_of a = a.tokens.items
 
--- 0 or the refusing number, and nothing behind it
+-- 0 or the refusing number, and nothing after it
 abbrev pub number_alone : ℕ → List Token
 number_alone n = Number n ∷ []
 
--- one token more behind the others
+-- the tokens with one more after them
 abbrev pub with_token : List Token → Token → List Token
 with_token tokens t = tokens ++ t ∷ []

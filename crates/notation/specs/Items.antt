@@ -1,4 +1,4 @@
--- Which tokens of a line are arguments. Assumes nothing.
+-- The tokens of a line that are arguments.
 use Rattle.std.specs.Prelude.{ℕ, Bool, true, false, ◌-◌, Option, Some, None, length, slice_get, count_by}
 use Rattle.notation.specs.declared.item.Item.{Item}
 use Rattle.notation.specs.declared.item.Item.TheVariants.{Numbers, Times, Calls, Unknown, Missing, Any}
@@ -7,13 +7,13 @@ use Rattle.notation.specs.declared.item.Role.TheVariants.{Argument, Size, Serial
 use Rattle.notation.specs.declared.items.Choice.{Choice}
 use Rattle.notation.specs.declared.items.Items.{Items}
 
--- a number is an argument where no letter stands before it
+-- whether a number is an argument: no letter is before it
 abbrev pub is_role_plain : Role → Bool
 is_role_plain Argument = true
 is_role_plain (Size letter) = false
 is_role_plain (Serial s) = false
 
--- an item that says nothing of a size or a serial
+-- whether an item is no size and no serial
 abbrev pub is_plain : Item → Bool
 is_plain (Numbers role first count) = is_role_plain role
 is_plain (Times number times) = true
@@ -26,7 +26,7 @@ abbrev pub plain_if : Option Item → Bool
 plain_if (Some item) = is_plain item
 plain_if None = true
 
--- a token whose last item is an argument
+-- whether the last item of a token is an argument
 abbrev pub is_argument : Choice → Bool
 is_argument c = plain_if (slice_get c.items.items (length c.items.items - 1))
 

@@ -1,15 +1,15 @@
--- What the last call gave. Assumes nothing.
+-- What the last call left.
 use Rattle.std.specs.Prelude.{ℕ, List}
 use Rattle.notation.specs.declared.names.Output.{Output}
 use Rattle.notation.specs.declared.names.Output.TheVariants.{Nothing, Bytes, Numbers}
 
--- the bytes before a call: of one that writes bytes what the line of o lends, else what they were
+-- with a call's output, the bytes before the call: `had`, as they were, or `lent`, those of the line of o, if the call writes bytes
 abbrev pub bytes_before : Output → List ℕ → List ℕ → List ℕ
 bytes_before Bytes had lent = lent
 bytes_before Numbers had lent = had
 bytes_before Nothing had lent = had
 
--- the numbers before a call, likewise
+-- with a call's output, the numbers before the call: `had`, as they were, or `lent`, those of the line of i, if the call writes numbers
 abbrev pub numbers_before : Output → List ℕ → List ℕ → List ℕ
 numbers_before Bytes had lent = had
 numbers_before Numbers had lent = lent

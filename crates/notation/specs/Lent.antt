@@ -1,4 +1,4 @@
--- What the lines lend, by letter. Assumes nothing.
+-- What the lines lend, by letter.
 use Rattle.std.specs.Prelude.{◌≡◌, ◌==◌, ℕ, Bool, false, List, [], ◌∷◌, Vec, vec_len}
 use Rattle.std.specs.declared.alloc.Global.{Global}
 use Rattle.notation.specs.declared.lent.ByLetter.{ByLetter}
@@ -9,7 +9,7 @@ use Rattle.notation.specs.declared.lent.Letter.TheVariants.{X, Y, Z, O, I}
 abbrev pub sizes_of : ByLetter (Vec ℕ Global) (Vec ℕ Global) → ByLetter ℕ ℕ
 sizes_of l = record { x = vec_len l.x; y = vec_len l.y; z = vec_len l.z; o = vec_len l.o; i = vec_len l.i }
 
--- what the other letters lend is as it was
+-- except for this letter, `old` and `new` lend the same
 abbrev pub KeptBut : Letter → ByLetter (Vec ℕ Global) (Vec ℕ Global) → ByLetter (Vec ℕ Global) (Vec ℕ Global) → Type 0
 KeptBut X old new = new ≡ record old { x = new.x }
 KeptBut Y old new = new ≡ record old { y = new.y }
@@ -17,12 +17,12 @@ KeptBut Z old new = new ≡ record old { z = new.z }
 KeptBut O old new = new ≡ record old { o = new.o }
 KeptBut I old new = new ≡ record old { i = new.i }
 
--- does a text of pieces stand for the bytes that the last call left: `@`
+-- whether a text of pieces begins with `@`, for the bytes that the last call left
 abbrev pub is_again : List ℕ → Bool
 is_again [] = false
 is_again (b ∷ rest) = b == 64
 
--- the bytes that a letter lends; the numbers of i stand for none
+-- this letter lends, in l, these bytes; of i, which lends numbers, nothing is stated
 abbrev pub IsLeft : Letter → ByLetter (Vec ℕ Global) (Vec ℕ Global) → List ℕ → Type 0
 IsLeft X l bytes = l.x.items ≡ bytes
 IsLeft Y l bytes = l.y.items ≡ bytes

@@ -1,4 +1,4 @@
--- What the contracts of this crate mean, from docs/REQUESTS.md. `Answer` is read first.
+-- What the contracts of this crate mean, from docs/REQUESTS.md. Read `Answer` first.
 pub mod Answer
 pub mod Arguments
 pub mod Items

@@ -1,4 +1,4 @@
--- The checksum of docs/REQUESTS.md. Assumes nothing.
+-- The checksum of docs/REQUESTS.md.
 use Rattle.std.specs.Prelude.{ℕ, zero, suc, ◌+◌, ◌*◌, ◌/◌, ◌%◌, ◌^◌, bit_or, bit_xor, List, fold, length, reverse, take, drop}
 use Rattle.notation.specs.declared.answer.Token.{Token}
 use Rattle.notation.specs.declared.answer.Token.TheVariants.{Number, Unknown, Missing}
@@ -11,7 +11,7 @@ xor_left k h = bit_xor h ((h * 2 ^ k) % 2 ^ 64)
 abbrev pub xor_right : ℕ → ℕ → ℕ
 xor_right k h = bit_xor h (h / 2 ^ k)
 
--- a number taken in, by the four steps
+-- the checksum with a number taken in, by the four steps
 unfoldable pub mixed : Checksum → ℕ → Checksum
 mixed h v = record { 0 = xor_left 17 (xor_right 7 (xor_left 13 ((h.0 + v) % 2 ^ 64))) }
 
@@ -19,13 +19,13 @@ mixed h v = record { 0 = xor_left 17 (xor_right 7 (xor_left 13 ((h.0 + v) % 2 ^ 
 abbrev pub first_sum : Checksum
 first_sum = record { 0 = 0xcbf29ce484222325 }
 
--- of a token its kind and its value
+-- with a token taken in: its kind and its value
 abbrev pub token_mixed : Checksum → Token → Checksum
 token_mixed h (Number n) = mixed (mixed h 0) n
 token_mixed h Unknown = mixed (mixed h 1) 0
 token_mixed h Missing = mixed (mixed h 2) 0
 
--- an answer: how many tokens it has, and each of them
+-- with an answer taken in: how many tokens it has, and each of them
 abbrev pub answer_mixed : Checksum → List Token → Checksum
 answer_mixed h tokens = fold token_mixed (mixed h (length tokens)) tokens
 
@@ -33,15 +33,15 @@ answer_mixed h tokens = fold token_mixed (mixed h (length tokens)) tokens
 abbrev pub word_of : List ℕ → ℕ
 word_of bytes = fold (λ w b. bit_or ((w * 2 ^ 8) % 2 ^ 64) b) 0 (reverse bytes)
 
--- so many times the first eight bytes that are left, or what is left of them
+-- with a number of parts taken in, each the first eight bytes that are left, or all if there are fewer
 abbrev pub parts_mixed : ℕ → Checksum → List ℕ → Checksum
 parts_mixed zero h bytes = h
 parts_mixed (suc k) h bytes = parts_mixed k (mixed h (word_of (take 8 bytes))) (drop 8 bytes)
 
--- bytes, eight at a time
+-- with bytes taken in, eight at a time
 abbrev pub bytes_mixed : Checksum → List ℕ → Checksum
 bytes_mixed h bytes = parts_mixed ((length bytes + 7) / 8) h bytes
 
--- each number
+-- with each number taken in
 abbrev pub numbers_mixed : Checksum → List ℕ → Checksum
 numbers_mixed h numbers = fold mixed h numbers

@@ -1,4 +1,4 @@
--- How requests are counted. Assumes nothing.
+-- How requests are counted.
 use Rattle.std.specs.Prelude.{ℕ, Bool, false, ◌+◌, ◌-◌, ◌^◌, min, List, Option, Some, None, slice_get, slice_set, nat_lt}
 use Rattle.notation.specs.Outcome.{one_more}
 use Rattle.notation.specs.declared.outcome.Outcome.{Outcome}
@@ -16,29 +16,29 @@ no_count = record { requests = 0; calls = 0; differing = 0 }
 abbrev pub begun : Tally → Tally
 begun t = record t { total = no_count; made = 0; lines = 0; malformed = 0; wrong = 0 }
 
--- one line more
+-- one more line
 abbrev pub line_counted : Tally → Tally
 line_counted t = record t { lines = one_more t.lines }
 
--- is a wrong line among the first twenty, which are printed
+-- whether a wrong line is among the first twenty, which are printed
 abbrev pub shows : Tally → Bool
 shows t = nat_lt t.wrong 20
 
--- one wrong line more
+-- one more wrong line
 abbrev pub wrong_counted : Tally → Tally
 wrong_counted t = record t { wrong = one_more t.wrong }
 
--- one malformed line more
+-- one more malformed line
 abbrev pub malformed_counted : Tally → Tally
 malformed_counted t = wrong_counted (record t { malformed = one_more t.malformed })
 
--- a request more, with its calls
+-- one more request, with its calls
 abbrev pub added : Count → ℕ → Verdict → Count
 added c n Differs = record { requests = one_more c.requests; calls = min (c.calls + n) (2 ^ 64 - 1); differing = one_more c.differing }
 added c n Same = record { requests = one_more c.requests; calls = min (c.calls + n) (2 ^ 64 - 1); differing = c.differing }
 added c n Made = record { requests = one_more c.requests; calls = min (c.calls + n) (2 ^ 64 - 1); differing = c.differing }
 
--- the rows with a request more in that of its call
+-- the rows with one more request in that of its call
 abbrev pub row_added : List Row → Option Row → Outcome → List Row
 row_added rows None o = rows
 row_added rows (Some row) o = slice_set rows o.place (record row { count = added row.count o.calls o.verdict })
@@ -56,7 +56,7 @@ by_verdict Made t = record t { made = one_more t.made }
 abbrev pub counted : Tally → Outcome → Tally
 counted t o = by_verdict o.verdict (request_added t o)
 
--- does it differ, among the first lines that are wrong
+-- whether a request is printed: it differs, and is among the first lines that are wrong
 abbrev pub is_printed : Tally → Verdict → Bool
 is_printed t Same = false
 is_printed t Differs = shows t

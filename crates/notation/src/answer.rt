@@ -1,4 +1,4 @@
-// What a call answers.
+// The answer of a call.
 ghost use Rattle.std.specs.Prelude.{◌≡◌, [], IfOk};
 ghost use Rattle.notation.specs.declared.answer.Token.TheVariants.{Number};
 ghost use Rattle.notation.specs.Answer.{tokens_of, number_alone, with_token};
@@ -15,7 +15,7 @@ pub enum Token {
     Missing,
 }
 
-// One impl for each type: one over `T: Into<u64>` for all but `usize` is refused beside that of `usize`, which might come to fit it.
+// One impl for each type: one over `T: Into<u64>` except `usize` is refused together with that of `usize`, which it might cover.
 impl From<u64> for Token {
     ghost from_gives = { λ n t. t ≡ Number n };
 
@@ -64,14 +64,14 @@ impl fmt::Display for Token {
     }
 }
 
-// The tokens of an answer: 0 or the refusing number, and what the call gives behind it.
+// The tokens of an answer: 0 or the refusing number, and after it what the call returned.
 #[derive(Drop)]
 pub struct Answer {
     pub(crate) tokens: Vec<Token>,
 }
 
 impl Answer {
-    // No token: there was no call.
+    // Returns an answer with no token, for no call.
     pub(crate) fn none(alloc: Global) -> Answer
         ensures { tokens_of result ≡ [] }
     {
@@ -80,14 +80,14 @@ impl Answer {
         }
     }
 
-    // 0 or the refusing number; what the call gives comes behind it.
+    // Returns an answer with the number 0 or the refusing number; what the call returned comes after it.
     pub fn new(alloc: Global, number: u8) -> Result<Answer, AllocError>
         ensures { IfOk result (λ a. tokens_of a ≡ number_alone number) }
     {
         Answer::none(alloc).and(Token::from(number))
     }
 
-    // The answer with one token more.
+    // Returns the answer with one more token.
     pub fn and(self, token: Token) -> Result<Answer, AllocError>
         ensures { IfOk result (λ a. tokens_of a ≡ with_token (tokens_of self) token) }
     {
@@ -103,7 +103,7 @@ impl Answer {
     }
 }
 
-// Each token behind a space.
+// Each token after a space.
 impl fmt::Display for Answer {
     fn fmt<W: fmt::Write>(&self, f: &mut fmt::Formatter<W>) -> fmt::Result {
         for token in self.as_slice() {

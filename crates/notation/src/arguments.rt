@@ -9,7 +9,7 @@ use crate::lent::Sizes;
 // The most arguments that a call has.
 const MOST: usize = 9;
 
-// Which of the records among the arguments.
+// One of the records among the arguments.
 #[derive(Clone, Copy, Debug, PartialEq, Eq)]
 pub enum Serial {
     First,
@@ -19,13 +19,13 @@ pub enum Serial {
 
 #[derive(Clone, Copy, Debug)]
 pub struct Arguments {
-    // None for `?`, and 0 for one that is not there.
+    // None for `?`, and 0 for an absent argument.
     numbers: [Option<u64>; MOST],
     serials: Serials,
     pub sizes: Sizes,
 }
 
-// The serial of each record, 0 where the line names none.
+// The serial of each record, 0 if the line has none for it.
 #[derive(Clone, Copy, Debug, Default)]
 struct Serials {
     first: u32,
@@ -52,7 +52,7 @@ impl Arguments {
         }
     }
 
-    // Gives argument k a value, None if it is not known: a size is at most what is lent.
+    // Sets argument k, or the size or serial of `role`, to a value, None if it is not known. A size is at most what is lent.
     pub(crate) fn put(&mut self, k: usize, role: Role, value: Option<u64>) {
         match (role, value) {
             (Role::Size(letter), Some(most)) => self.sizes.limit(letter, most),
@@ -67,37 +67,42 @@ impl Arguments {
         }
     }
 
-    // Argument i as a zero count, None if it is not known.
+    // Returns argument i as a zero count, None if it is not known or absent.
     pub fn count(&self, i: usize) -> Option<usize>
         ensures { result ≡ count_at self.now i }
     {
         self.numbers.get(i)?.map(|n| n as usize)
     }
 
+    // Returns argument i as a number, 0 if it is not known or absent.
     pub fn word(&self, i: usize) -> u64
         ensures { result ≡ number_at self.now i }
     {
         self.numbers.get(i).copied().flatten().unwrap_or(0)
     }
 
+    // Returns argument i as a size, 0 if it is not known or absent.
     pub fn size(&self, i: usize) -> usize
         ensures { result ≡ number_at self.now i }
     {
         self.word(i) as usize
     }
 
+    // Returns the low 32 bits of argument i, 0 if it is not known or absent.
     pub fn low(&self, i: usize) -> u32
         ensures { result ≡ low_at self.now i }
     {
         low(self.word(i))
     }
 
+    // Returns whether argument i is not 0; false if it is not known or absent.
     pub fn flag(&self, i: usize) -> bool
         ensures { result ≡ flag_at self.now i }
     {
         self.word(i) != 0
     }
 
+    // Returns the serial of a record, 0 if the line has none for it.
     pub fn serial(&self, serial: Serial) -> u32
         ensures { result ≡ serial_at self.now serial }
     {
@@ -109,7 +114,7 @@ impl Arguments {
     }
 }
 
-// The low 32 bits.
+// Returns the low 32 bits of n.
 pub(crate) fn low(n: u64) -> u32
     ensures { result ≡ n % 2 ^ 32 }
 {

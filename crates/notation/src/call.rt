@@ -1,4 +1,4 @@
-// The calls, in groups of those that are lent the same.
+// The calls, in groups to which the same is lent.
 
 #[derive(Clone, Copy, Debug, PartialEq, Eq)]
 pub enum Call {
@@ -28,7 +28,7 @@ pub enum Call {
     Search(SearchCall),
 }
 
-// On words alone.
+// Calls on words only.
 #[derive(Clone, Copy, Debug, PartialEq, Eq)]
 pub enum WordCall {
     MergeReversed,
@@ -41,7 +41,7 @@ pub enum WordCall {
     ConstantWord,
 }
 
-// On words alone, with a flag or a number of flags.
+// Calls on words only, with a flag or a number of flags.
 #[derive(Clone, Copy, Debug, PartialEq, Eq)]
 pub enum FlagsCall {
     ConstantFlags,
@@ -65,7 +65,7 @@ pub enum OperationCall {
     Select,
 }
 
-// Of words, reading x.
+// Calls of words that read x.
 #[derive(Clone, Copy, Debug, PartialEq, Eq)]
 pub enum LoadCall {
     LoadPaddedLeU64,
@@ -75,7 +75,7 @@ pub enum LoadCall {
     CountOnes,
 }
 
-// Of words, reading x, y and z.
+// Calls of words that read x, y and z.
 #[derive(Clone, Copy, Debug, PartialEq, Eq)]
 pub enum ZipCall {
     Equal,
@@ -83,7 +83,7 @@ pub enum ZipCall {
     AnySet,
 }
 
-// On a span of x.
+// Calls on a span of x.
 #[derive(Clone, Copy, Debug, PartialEq, Eq)]
 pub enum SpanCall {
     Aligned,
@@ -159,7 +159,7 @@ pub enum BitsCall {
     TakeLeadingZeros,
 }
 
-// Of words, writing o.
+// Calls of words that write o.
 #[derive(Clone, Copy, Debug, PartialEq, Eq)]
 pub enum StoreCall {
     StoreLeU64,
@@ -215,7 +215,7 @@ pub enum GatherCall {
     OptFromSlice,
 }
 
-// What writes i.
+// Calls that write i.
 #[derive(Clone, Copy, Debug, PartialEq, Eq)]
 pub enum ListCall {
     NextChunk,

@@ -6,8 +6,8 @@ use crate::items::Items;
 use crate::lent::Sizes;
 
 impl Items {
-    // Choice t of the arguments, the last token the fastest, None after the last choice. The contract says only that there is a first
-    // choice.
+    // Returns choice t of the arguments, None after the last one; the last token varies fastest. The contract states only that there is a
+    // first.
     pub(crate) fn choice(&self, t: u64, sizes: Sizes) -> Option<Arguments>
         ensures { t ≡ 0 → IsSome result }
     {

@@ -1,4 +1,4 @@
-// What is lent is bytes, or the numbers of i: what is done alike with both.
+// The elements of what is lent, bytes or the numbers of i, and what is done in the same way with both.
 ghost use Rattle.std.specs.Prelude.{◌≡◌, OnOk};
 
 use crate::answer::Answer;
@@ -63,7 +63,7 @@ impl Element for u32 {
     }
 }
 
-// What a line lends.
+// Reads what a line lends; more elements than the room are malformed.
 pub(crate) fn lent<T: Element>(alloc: Global, text: &[u8], last: &Last) -> Result<Vec<T>, Fault> {
     T::read(alloc, text, &last.answer, T::ROOM)?.ok_or(Fault::Malformed)
 }
@@ -75,7 +75,7 @@ pub(crate) fn refill<T: Copy>(to: &mut Vec<T>, from: &[T]) -> Result<(), AllocEr
     to.extend_from_slice(from)
 }
 
-// Whether an output, which was `before`, holds what its line says: `same`, `#` and a checksum, or a list.
+// Returns whether an output, which was `before`, holds what its line states: `same`, `#` and a checksum, or a list.
 pub(crate) fn holds<T: Element>(
     alloc: Global,
     text: &[u8],

@@ -1,4 +1,4 @@
-// One item of a line: numbers with what they are for, a number and how often, `?`, `-`, `_`, or `#` and a number.
+// One item of a line: numbers with their role, a number and how many times, `?`, `-`, `_`, or `#` and a number.
 ghost use Rattle.std.specs.Prelude.{◌≡◌};
 ghost use Rattle.notation.specs.Items.{is_plain};
 
@@ -7,7 +7,7 @@ use crate::arguments::Serial;
 use crate::lent::Letter;
 use crate::text;
 
-// What a number is: an argument, how much of a letter is lent, or a serial.
+// The role of a number: an argument, how much of a letter is lent, or a serial.
 #[derive(Clone, Copy, Debug, PartialEq, Eq)]
 pub(crate) enum Role {
     Argument,
@@ -61,7 +61,7 @@ impl Item {
         }
     }
 
-    // A number has the role given, that of a size before it in the same token.
+    // Reads an item. A number with no letter has the role `role`, that of the item before it in the same token.
     pub(crate) fn read(text: &[u8], role: Role) -> Option<Item> {
         match text {
             b"?" => Some(Item::Unknown),
@@ -73,7 +73,7 @@ impl Item {
         }
     }
 
-    // `A..B`, `N*K` or one number.
+    // Reads `A..B`, `N*K` or one number.
     fn numbers(text: &[u8], role: Role) -> Option<Item> {
         if let Some((from, end)) = text::split_once(text, b'.') {
             return Item::range(role, from, end);
@@ -87,7 +87,7 @@ impl Item {
         Some(Item::single(role, text::number(text)?))
     }
 
-    // `end` begins with the second dot. A range has at least one number.
+    // Reads `A..B` from `from` and `end`, which begins with the second dot. A range has at least one number.
     fn range(role: Role, from: &[u8], end: &[u8]) -> Option<Item> {
         let first = text::number(from)?;
         let end = text::number(end.strip_prefix(b".")?)?;
@@ -104,7 +104,7 @@ impl Item {
         }
     }
 
-    // Whether it is an argument, and says nothing of a size or a serial.
+    // Returns whether the item is an argument, not a size or a serial.
     pub(crate) fn is_argument(self) -> bool
         ensures { result ≡ is_plain self }
     {
@@ -114,7 +114,7 @@ impl Item {
         }
     }
 
-    // How many values it stands for.
+    // Returns how many values the item has.
     pub(crate) fn count(self) -> u64 {
         match self {
             Item::Numbers { count, .. } => count,
@@ -123,7 +123,7 @@ impl Item {
         }
     }
 
-    // Value n of it as an argument, None if it is not known.
+    // Returns value n of the item as an argument, None if it is not known.
     pub(crate) fn value(self, n: u64) -> Option<u64> {
         match self {
             Item::Numbers { first, .. } => Some(first.wrapping_add(n)),
@@ -134,7 +134,7 @@ impl Item {
         }
     }
 
-    // Whether it says what a token is, or is `_` for a number.
+    // Returns whether the item is equal to a token, or is `_` for a number.
     pub(crate) fn says(self, token: Token) -> bool {
         let number = matches!(token, Token::Number(_));
         self == Item::from(token) || (self == Item::Any && number)

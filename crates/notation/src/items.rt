@@ -22,14 +22,14 @@ impl Choice {
         self.items.as_slice()
     }
 
-    // How many values its items have.
+    // Returns how many values the token's items have.
     pub(crate) fn values(&self) -> u64 {
         self.items
             .iter()
             .fold(0u64, |n, item| n.wrapping_add(item.count()))
     }
 
-    // Value n of its items, and what it is.
+    // Returns value n of the token's items, and its role; past the last one the argument 0.
     pub(crate) fn value(&self, n: u64) -> (Role, Option<u64>) {
         let mut left = n;
         for item in self.items.iter() {
@@ -42,7 +42,7 @@ impl Choice {
         (Role::Argument, Some(0))
     }
 
-    // Whether it is an argument, and not a size or a serial: its last item says so.
+    // Returns whether the token is an argument, not a size or a serial, by its last item.
     fn is_argument(&self) -> bool
         ensures { result ≡ is_argument self.now }
     {
@@ -58,7 +58,7 @@ pub(crate) struct Items {
 }
 
 impl Items {
-    // `last` is what `@` stands for.
+    // Reads the tokens of `text`. `@` takes tokens of `last`, the answer of the last call.
     pub(crate) fn read(alloc: Global, text: &[u8], last: &Answer) -> Result<Items, Fault> {
         let mut items = Items {
             choices: Vec::new(alloc),
@@ -85,7 +85,7 @@ impl Items {
         Some(self.answer.as_ref()?.as_slice())
     }
 
-    // How many items there are, those of the answer too.
+    // Returns how many items there are, those of the answer included.
     fn len(&self) -> usize {
         let told = self.answer().map_or(0, |items| items.len());
         self.choices
@@ -93,7 +93,7 @@ impl Items {
             .fold(told, |n, choice| n.saturating_add(choice.items.len()))
     }
 
-    // How many arguments there are, sizes and serials left out.
+    // Returns how many tokens are arguments, sizes and serials left out.
     pub(crate) fn plain(&self) -> usize
         ensures { result ≡ plain_of self.now }
     {
@@ -103,12 +103,12 @@ impl Items {
             .count()
     }
 
-    // Whether an argument has more than one value.
+    // Returns whether an argument has more than one value.
     pub(crate) fn is_ranged(&self) -> bool {
         self.choices.iter().any(|choice| 1 < choice.values())
     }
 
-    // The number of an item `#N` that is alone.
+    // Returns the number of an item `#N` if it is the only one, else None.
     pub(crate) fn sum(&self) -> Option<u64> {
         match (self.choices.as_slice(), &self.answer) {
             ([choice], None) => match choice.items() {
@@ -136,7 +136,7 @@ impl Items {
         Ok(())
     }
 
-    // The last tokens of an answer, each a token of its own. `as` between `usize` and u64: neither has a `From` of the other.
+    // Appends the last tokens of an answer, each as a token of its own. `as` between `usize` and u64: neither has a `From` of the other.
     fn from_last(&mut self, alloc: Global, many: &[u8], last: &Answer) -> Result<(), Fault> {
         let many = text::number(many).ok_or(Fault::Malformed)?;
         let tokens = last.as_slice();
@@ -149,7 +149,7 @@ impl Items {
         Ok(())
     }
 
-    // The items of a token, with commas between them. A number after a size is a size too.
+    // Appends a token, whose items have commas between them. A number with no letter has the role of the item before it.
     fn several(&mut self, alloc: Global, token: &[u8]) -> Result<(), Fault> {
         let mut items = Vec::new(alloc);
         let mut role = Role::Argument;
@@ -161,7 +161,7 @@ impl Items {
         self.push(items)
     }
 
-    // Takes the items of a token. Sizes come after the arguments, of which none is `_`.
+    // Appends the items of a token to the arguments, or to the answer after `=`. Sizes come after the arguments, of which none is `_`.
     fn push(&mut self, items: Vec<Item>) -> Result<(), Fault> {
         if let Some(answer) = &mut self.answer {
             answer.extend_from_slice(items.as_slice())?;

@@ -57,7 +57,7 @@ impl ByLetter<usize, usize> {
         }
     }
 
-    // At most so many of this letter. `as`: `usize` has no `From` of a u64.
+    // Limits how much of this letter is lent to `most`. `as`: `usize` has no `From` of a u64.
     pub(crate) fn limit(&mut self, letter: Letter, most: u64) {
         let size = self.get_mut(letter);
         *size = (*size).min(most as usize);
@@ -67,10 +67,11 @@ impl ByLetter<usize, usize> {
 // What the lines so far lend.
 pub type Lent = ByLetter<Vec<u8>, Vec<u32>>;
 
-// What a call reads of it.
+// What a call reads of what is lent.
 pub type Parts<'a> = ByLetter<&'a [u8], &'a [u32]>;
 
 impl ByLetter<Vec<u8>, Vec<u32>> {
+    // Returns the state before the first line: nothing is lent.
     pub fn new(alloc: Global) -> Lent
         ensures x { result.x.items ≡ [] }
         ensures y { result.y.items ≡ [] }
@@ -87,8 +88,8 @@ impl ByLetter<Vec<u8>, Vec<u32>> {
         }
     }
 
-    // Takes what a line lends. The contract says in full what stays and what `@` lends. It does not say what other pieces lend and which
-    // are malformed: a definition of what their text stands for would be the parser again.
+    // Takes what a line lends. The contract states in full what stays and what `@` lends. It leaves open what other pieces lend and which
+    // are malformed: a definition of their text's meaning would be the parser again.
     pub fn take(
         &mut self,
         alloc: Global,
@@ -110,7 +111,7 @@ impl ByLetter<Vec<u8>, Vec<u32>> {
         Ok(())
     }
 
-    // The output goes on as the last call left it.
+    // Sets the output to the bytes that the last call left.
     pub fn go_on(&mut self, last: &Last) -> Result<(), AllocError>
         ensures output { OnOk result (self.new.o.items ≡ last.now.bytes.items) }
         ensures inputs { self.new ≡ record self.old { o = self.new.o } }
@@ -118,6 +119,7 @@ impl ByLetter<Vec<u8>, Vec<u32>> {
         element::refill(&mut self.o, last.bytes.as_slice())
     }
 
+    // Returns how many bytes and numbers are lent.
     pub fn sizes(&self) -> Sizes
         ensures { result ≡ sizes_of self.now }
     {
@@ -130,7 +132,7 @@ impl ByLetter<Vec<u8>, Vec<u32>> {
         }
     }
 
-    // The first bytes and numbers of each letter.
+    // Returns the first bytes and numbers of each letter, by `sizes`.
     pub fn parts(&self, sizes: Sizes) -> Parts<'_>
         ensures x { result.x.now ≡ take sizes.x self.now.x.items }
         ensures y { result.y.now ≡ take sizes.y self.now.y.items }
@@ -148,7 +150,7 @@ impl ByLetter<Vec<u8>, Vec<u32>> {
     }
 }
 
-// Pieces, or `@` for what the last call left.
+// Reads pieces, or `@` for the bytes that the last call left.
 fn bytes(alloc: Global, text: &[u8], last: &Last) -> Result<Vec<u8>, Fault>
     ensures { is_again text.now ≡ true → IfOk result (λ v. v.items ≡ last.now.bytes.items) }
 {
@@ -158,7 +160,7 @@ fn bytes(alloc: Global, text: &[u8], last: &Last) -> Result<Vec<u8>, Fault>
     }
 }
 
-// The first n, or all.
+// Returns the first n items, or all.
 pub(crate) fn first<T>(items: &[T], n: usize) -> &[T]
     ensures { result.now ≡ take n items.now }
 {

@@ -1,4 +1,4 @@
-// A line: what it lends, a request, or nothing. docs/REQUESTS.md says what it means.
+// A line: what it lends, a request, or nothing. docs/REQUESTS.md has its meaning.
 ghost use Rattle.std.specs.Prelude.{◌≡◌, IfErr};
 ghost use Rattle.notation.specs.declared.fault.Fault.TheVariants.{Malformed};
 ghost use Rattle.notation.specs.Line.{said_by, said_of, lettered};
@@ -18,6 +18,7 @@ pub enum Line<'a> {
 }
 
 impl<'a> Line<'a> {
+    // Reads a line. It is malformed if its first token is one byte that is neither `+` nor a letter of what is lent.
     pub fn read(text: &'a [u8]) -> Result<Line<'a>, Fault>
         ensures said { said_of result ≡ said_by text.now }
         ensures malformed { IfErr result (λ e. e ≡ Malformed) }

@@ -1,4 +1,4 @@
-// A reader taken apart into lines.
+// The bytes of a reader, taken apart into lines.
 ghost use Rattle.std.specs.Prelude.{◌≡◌, ◌≢◌, ◌<◌, [], IfOk, OnOk, is_ok, length, nat_lt, vec_len, position, true, false, if◌then◌else◌};
 ghost use Rattle.std.specs.Io.Buffered.{reader_buffer};
 ghost use Rattle.notation.specs.Lines.{ends, begun, is_feed, gone_on, step_over, left_of};
@@ -10,15 +10,15 @@ use std::alloc::Global;
 use std::io;
 use std::io::{BufRead, BufReader, Read};
 
-// So many bytes are read at a time.
+// The number of bytes that are read at a time.
 const WINDOW: usize = 65536;
 
-// A line is shorter.
+// A line has fewer bytes than this.
 const LINE: usize = 16384;
 
-// What a step of a reader came to: it read on, or took the rest of what it had read; or took the end of a line; or came to the end of the
-// input, and so of the last line, which may have no line feed. The line itself comes from `line`: a step that lent it would borrow `self`,
-// and its clauses could not name `self.new`.
+// The result of a step of a reader: it read on, or took the rest of what it had read; or took the end of a line; or reached the end of the
+// input, and so of the last line, which may have no line feed. The line itself is returned by `line`: a step that lent it would borrow
+// `self`, and its clauses could not name `self.new`.
 #[derive(Clone, Copy, Debug, PartialEq, Eq)]
 pub enum Step {
     Part,
@@ -26,19 +26,20 @@ pub enum Step {
     Last,
 }
 
-// Lines are cut by hand: over `take(..).read_until(..)` the proof of `step` didn't close. At a reader whose bytes are not known, as
-// standard input, the contract of `read_until` says neither what it takes of the buffer nor that it keeps to the limit; and that of
-// `skip_until` does not say whether it met a line feed.
+// Lines are cut by hand: over `take(..).read_until(..)` the proof of `step` didn't close. For a reader whose bytes are not known, such as
+// standard input, the contract of `read_until` states neither what it takes of the buffer nor that it keeps to the limit; and that of
+// `skip_until` does not state whether it met a line feed.
 #[derive(Drop)]
 pub struct Lines<R: Read + Drop> {
     source: BufReader<R>,
     // The line in progress, or the one that the last step ended: at most LINE bytes, so that a longer one shows.
     line: Vec<u8>,
-    // Has the last step ended the line: a state beside it, for the line stays until the next step.
+    // Whether the last step ended the line: a state of its own, since the line stays until the next step.
     ended: bool,
 }
 
 impl<R: Read + Drop> Lines<R> {
+    // Returns the lines of a reader, before the first step.
     pub fn new(alloc: Global, source: R) -> io::Result<Lines<R>>
         ensures line { IfOk result (λ lines. lines.line.items ≡ []) }
         ensures ended { IfOk result (λ lines. lines.ended ≡ false) }
@@ -50,8 +51,8 @@ impl<R: Read + Drop> Lines<R> {
         })
     }
 
-    // Takes the bytes that are read, up to a line feed, or reads on if there are none. The contract says in full what becomes of bytes that
-    // are read. It does not say which bytes come next: those are the reader's.
+    // Takes the bytes that were read, up to a line feed, or reads on if none are left. The contract states in full what becomes of bytes
+    // that were read. It leaves open which bytes come next: those are the reader's.
     pub fn step(&mut self) -> io::Result<Step>
         ensures ended { IfOk result (λ step. self.new.ended ≡ ends step) }
         ensures line { OnOk result (self.new.line.items ≡ gone_on (begun self.old) (reader_buffer self.old.source)) }
@@ -73,7 +74,7 @@ impl<R: Read + Drop> Lines<R> {
         Ok(Step::Part)
     }
 
-    // Takes what is read, up to a line feed.
+    // Takes the bytes that were read, up to and with a line feed.
     fn take(&mut self) -> io::Result<Step>
         ensures ended { IfOk result (λ step. self.new.ended ≡ (if ends step then true else self.old.ended)) }
         ensures line { OnOk result (self.new.line.items ≡ gone_on self.old.line.items (reader_buffer self.old.source)) }
@@ -85,7 +86,7 @@ impl<R: Read + Drop> Lines<R> {
         let size = feed.unwrap_or(read.len());
         let room = LINE.saturating_sub(self.line.len());
         self.line.extend_from_slice(first(read, size.min(room)))?;
-        // With the line feed, if there is one.
+        // with the line feed, if there is one
         self.source.consume(size.saturating_add(1));
         match feed {
             None => Ok(Step::Part),
@@ -96,7 +97,7 @@ impl<R: Read + Drop> Lines<R> {
         }
     }
 
-    // The line that the last step ended; a longer one is malformed.
+    // Returns the line that the last step ended; one of LINE bytes is malformed.
     pub fn line(&self) -> Result<&[u8], Fault>
         ensures short { IfOk result (λ line. length line.now < 16384) }
         ensures bytes { IfOk result (λ line. line.now ≡ self.now.line.items) }
@@ -110,7 +111,7 @@ impl<R: Read + Drop> Lines<R> {
     }
 }
 
-// The place of the first line feed.
+// Returns the place of the first line feed.
 fn feed_in(read: &[u8]) -> Option<usize>
     ensures { result ≡ position is_feed read.now }
 {

@@ -22,9 +22,9 @@ pub struct Named {
     pub call: Call,
 }
 
-// How many calls there are: the length of `NAMES`, and of the rows of a tally, which stand in the same order. The two are no single array:
-// the table is constant, the rows count. A call is known by its place, so that a row is found without a search and the rows are printed in
-// the order of the table, which a map would not keep.
+// The number of calls: the length of `NAMES`, and of the rows of a tally, which are in the same order. The two are no single array: the
+// table is constant, the rows count. A call is known by its place, so that a row is found without a search and the rows are printed in the
+// order of the table, which a map would not keep.
 pub(crate) const CALLS: usize = 101;
 
 macro_rules! names {
@@ -33,7 +33,7 @@ macro_rules! names {
     };
 }
 
-// Of each call its name, how many arguments it has, its output, and the call.
+// For each call its name, how many arguments it has, its output, and the call.
 pub(crate) static NAMES: [Named; CALLS] = names![
     "merge_reversed" 3 Nothing Call::Word(WordCall::MergeReversed);
     "nth_set_bit_u32" 2 Nothing Call::Word(WordCall::NthSetBitU32);
@@ -138,12 +138,12 @@ pub(crate) static NAMES: [Named; CALLS] = names![
     "offer" 9 Nothing Call::Search(SearchCall::Offer);
 ];
 
-// The name at a place: a tally's row holds it.
+// Returns the name at a place, which a tally's row holds.
 pub(crate) fn name(place: usize) -> &'static str {
     NAMES.get(place).map_or("", |named| named.name)
 }
 
-// The place of a name. The table is in the order of printing, not of the names, so it is searched from its front.
+// Returns the place of a name. The table is in the order of printing, not of the names, so it is searched from its front.
 pub(crate) fn place(name: &[u8]) -> Option<usize> {
     NAMES.iter().position(|named| named.name.as_bytes() == name)
 }

@@ -1,4 +1,4 @@
-// How a request came out: what its calls gave, compared with its line.
+// The outcome of a request: the answers and outputs of its calls, compared with its line.
 ghost use Rattle.std.specs.Prelude.{◌≡◌, ◌≢◌, IfOk, Ok, is_some, true, false};
 ghost use Rattle.notation.specs.declared.outcome.Verdict.TheVariants.{Made};
 ghost use Rattle.notation.specs.Outcome.{none_made, taken};
@@ -42,7 +42,7 @@ pub struct Ran {
 }
 
 impl Ran {
-    // Before the first call.
+    // Returns the state before the first call.
     pub fn new() -> Ran
         ensures { result ≡ none_made }
     {
@@ -52,7 +52,7 @@ impl Ran {
         }
     }
 
-    // Takes in a call: its answer, and its output.
+    // Takes in a call: its answer and its output.
     pub fn take(&mut self, output: Output, last: &Last)
         ensures { self.new ≡ taken output last.now self.old }
     {
@@ -66,8 +66,8 @@ impl Ran {
     }
 }
 
-// Compares what was made with the line. The contract says in full what is counted and where there is nothing to compare. It does not say
-// which answers and outputs are the same: a definition of what their text stands for would be the parser again.
+// Compares the calls made with the line. The contract states in full what is counted and when there is nothing to compare. It leaves open
+// which answers and outputs are the same: a definition of their text's meaning would be the parser again.
 pub fn compare(
     alloc: Global,
     reading: &Reading,
@@ -108,7 +108,7 @@ pub fn compare(
     })
 }
 
-// The answer alone.
+// Returns the verdict on the answer, without the output.
 fn answer_verdict(reading: &Reading, ran: Ran, answer: &Answer) -> Result<Verdict, Fault>
     ensures made { is_some reading.now.items.answer ≡ false → result ≡ Ok Made }
     ensures told { is_some reading.now.items.answer ≡ true → IfOk result (λ v. v ≢ Made) }
@@ -125,7 +125,7 @@ fn answer_verdict(reading: &Reading, ran: Ran, answer: &Answer) -> Result<Verdic
     })
 }
 
-// The answer of a range: `#`, the number of calls, and the checksum.
+// Returns whether the answer of a range is right: `#`, the number of calls, and the checksum.
 fn is_sum(told: &[Item], ran: Ran) -> Result<bool, Fault> {
     match told {
         [Item::Calls(calls), sum] => {

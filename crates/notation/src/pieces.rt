@@ -1,5 +1,5 @@
-// Lists of bytes and of numbers, written in pieces. A list that has more than the room is None; but `HEX*N` is malformed where no byte
-// of HEX had room.
+// Lists of bytes and of numbers, written in pieces. A list that has more than the room is None; but `HEX*N` is malformed if no byte of HEX
+// had room.
 use crate::arguments::low;
 use crate::fault::Fault;
 use crate::item::{Item, Role};
@@ -13,8 +13,8 @@ const BYTES_TIMES: u64 = 100000000;
 // The K of `N*K` is read modulo this: its low 24 bits.
 const NUMBER_TIMES: u64 = 1 << 24;
 
-// A list with room for so many, and whether all that came had room. `fits` is a state: what comes behind is still read where they had not,
-// since a malformed item refuses the line before the room does.
+// A list with room for `room` elements, and whether all that were appended had room. `fits` is a state: what follows is still read if they
+// had not, since a malformed item refuses the line before the room does.
 #[derive(Drop)]
 struct Bounded<T> {
     list: Vec<T>,
@@ -31,7 +31,7 @@ impl<T: Copy> Bounded<T> {
         }
     }
 
-    // Appends a part so many times, if there is room for all. The loop is a `for _`: each turn appends the same part, and has no index.
+    // Appends a part `times` times, if there is room for all. A `for _`: each iteration appends the same part, and has no index.
     fn append(&mut self, part: &[T], times: usize) -> Result<(), AllocError> {
         let more = part.len().saturating_mul(times);
         if self.room < self.list.len().saturating_add(more) {
@@ -59,7 +59,7 @@ pub(crate) fn bytes(alloc: Global, text: &[u8], room: usize) -> Result<Option<Ve
 }
 
 impl Bounded<u8> {
-    // `HEX` or `HEX*N`.
+    // Reads `HEX` or `HEX*N`.
     fn read(&mut self, alloc: Global, piece: &[u8]) -> Result<(), Fault> {
         let Some((hex, times)) = text::split_once(piece, b'*') else {
             return self.read_hex(piece);
@@ -77,7 +77,7 @@ impl Bounded<u8> {
         }
     }
 
-    // Two digits a byte.
+    // Reads two digits for each byte.
     fn read_hex(&mut self, hex: &[u8]) -> Result<(), Fault> {
         for pair in hex.chunks(2) {
             let byte = byte_of(pair).ok_or(Fault::Malformed)?;
@@ -94,7 +94,7 @@ fn byte_of(pair: &[u8]) -> Option<u8> {
     }
 }
 
-// Reads the N of `HEX*N` and returns N - 1, the copies behind the first; None if N is 0 or not decimal. The conversions of this file are
+// Reads the N of `HEX*N` and returns N - 1, the copies after the first; None if N is 0 or not decimal. The conversions of this file are
 // `as`: to `usize`, which has no `From` of a u64.
 fn more_times(digits: &[u8]) -> Option<usize> {
     let mut times: u64 = 0;
@@ -105,7 +105,7 @@ fn more_times(digits: &[u8]) -> Option<usize> {
     (times as usize).checked_sub(1)
 }
 
-// Of the item `N` the number, of `N*K` the number K times. Of a number the low 32 bits count.
+// Reads numbers: that of the item `N` once, that of `N*K` K times. Only the low 32 bits of a number count.
 pub(crate) fn numbers(
     alloc: Global,
     items: &Items,

@@ -12,8 +12,8 @@ use crate::names::{NAMES, Named, Output};
 use crate::{names, text};
 use std::alloc::Global;
 
-// The place of the call's name and what it says, the items of its arguments and its answer, and what its output must hold. `named` is the
-// entry of the table at `place`, which it does not hold itself; the tally counts by the place.
+// A request: the place of its call's name and the entry there, the items of its arguments and its answer, and what its output must hold.
+// `named` is the entry of the table at `place`; an entry does not hold its place, by which the tally counts.
 #[derive(Drop)]
 pub struct Reading<'a> {
     pub(crate) place: usize,
@@ -23,8 +23,8 @@ pub struct Reading<'a> {
 }
 
 impl<'a> Reading<'a> {
-    // `last` is the answer of the last call. The contract says that the call has as many arguments as its entry in the table. It does not
-    // say what the arguments are and which entry is taken: a definition of what the text stands for would be the parser again.
+    // Reads a request's line; `last` is the last call's answer. The contract states that the call has as many arguments as its entry in the
+    // table. It leaves open what they are and which entry is taken: a definition of the text's meaning would be the parser again.
     pub fn read(alloc: Global, line: &'a [u8], last: &Answer) -> Result<Reading<'a>, Fault>
         ensures { IfOk result (λ r. plain_of r.items ≡ r.named.arguments) }
     {
@@ -46,7 +46,7 @@ impl<'a> Reading<'a> {
         Ok(reading)
     }
 
-    // The output that is compared: that of a single call with an answer. A range has it in its checksum.
+    // Returns the output that is compared: that of a single call with an answer. A range has its output in its checksum.
     pub(crate) fn compared(&self) -> Output
         ensures { is_some self.now.items.answer ≡ false → result ≡ Nothing }
     {
@@ -57,8 +57,8 @@ impl<'a> Reading<'a> {
         }
     }
 
-    // The arguments of call t of the request, None after its last one. The contract says that there is a first one. It does not say how
-    // many there are and what they are: both come from the text, and a definition of what that stands for would be the parser again.
+    // Returns the arguments of call t of the request, None after its last one. The contract states that there is a first one. It leaves
+    // open how many there are and what they are: both come from the text, and a definition of its meaning would be the parser again.
     pub fn choice(&self, t: u64, sizes: Sizes) -> Option<Arguments>
         ensures { t ≡ 0 → IsSome result }
     {
@@ -66,8 +66,8 @@ impl<'a> Reading<'a> {
     }
 }
 
-// The text before ` |`, and that behind `| ` where there is a bar. With no bar all is before it; with one at the start too, since such a
-// line names no call.
+// Returns the text before ` |`, and that after `| ` if there is a bar. With no bar all is before it; also with one at the start, since such
+// a line names no call.
 fn cut(line: &[u8]) -> (&[u8], Option<&[u8]>) {
     match text::split_once(line, b'|') {
         None | Some(([], _)) => (line, None),

@@ -9,12 +9,14 @@ use crate::answer::{Answer, Token};
 pub struct Checksum(u64);
 
 impl Checksum {
+    // Returns the checksum of nothing.
     pub fn new() -> Checksum
         ensures { result ≡ first_sum }
     {
         Checksum(0xcbf29ce484222325)
     }
 
+    // Returns the checksum as a number.
     pub fn value(self) -> u64
         ensures { result ≡ self.0 }
     {
@@ -22,7 +24,7 @@ impl Checksum {
         value
     }
 
-    // One number more.
+    // Takes in one more number.
     #[tactic(auto, unfolding(crate::specs::Sums::mixed))]
     fn mix(self, value: u64) -> Checksum
         ensures { result ≡ mixed self value }
@@ -33,7 +35,7 @@ impl Checksum {
         Checksum(c ^ c << 17)
     }
 
-    // An answer: how many tokens it has (`as`: a u64 has no `From` of a `usize`), and of each its kind and its value.
+    // Takes in an answer: how many tokens it has (`as`: a u64 has no `From` of a `usize`), and of each its kind and its value.
     pub(crate) fn answer(self, answer: &Answer) -> Checksum
         ensures { result ≡ answer_mixed self (tokens_of answer.now) }
     {
@@ -52,7 +54,7 @@ impl Checksum {
         }
     }
 
-    // Bytes, eight at a time, zeros behind the last.
+    // Takes in bytes, eight at a time, with zeros after the last.
     pub fn bytes(self, bytes: &[u8]) -> Checksum
         ensures { result ≡ bytes_mixed self bytes.now }
     {
@@ -66,7 +68,7 @@ impl Checksum {
     }
 }
 
-// A word of at most eight bytes.
+// Returns at most eight bytes as a word.
 fn word(bytes: &[u8]) -> u64
     ensures { result ≡ word_of bytes.now }
 {

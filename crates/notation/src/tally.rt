@@ -61,6 +61,7 @@ pub struct Tally {
 }
 
 impl Tally {
+    // Returns a tally with a row for each call and nothing counted.
     pub fn new() -> Tally
         ensures { result ≡ begun result }
     {
@@ -127,7 +128,7 @@ impl Tally {
     }
 }
 
-// A row for each name, with no request. Not `NAMES.map(..)`: its check needs more than 4 GiB of memory.
+// Returns a row for each name, with no request. Not `NAMES.map(..)`: its check needs more than 4 GiB of memory.
 fn rows() -> [Row; CALLS] {
     array::from_fn(|place| Row {
         name: names::name(place),

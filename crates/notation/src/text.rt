@@ -4,7 +4,7 @@ ghost use Rattle.std.specs.Prelude.{◌<◌, IfSome};
 // The number before its last digit is below this, so that 16 times it and a digit fit.
 const LIMIT: u64 = 1 << 60;
 
-// The value of a digit, with lower-case letters.
+// Returns the value of a hexadecimal digit; letters are lower-case.
 pub(crate) fn digit(b: u8) -> Option<u8>
     ensures { IfSome result (λ d. d < 16) }
 {
@@ -15,7 +15,7 @@ pub(crate) fn digit(b: u8) -> Option<u8>
     }
 }
 
-// A decimal number, or a hexadecimal one after `x`.
+// Reads a decimal number, or a hexadecimal one after `x`.
 pub(crate) fn number(text: &[u8]) -> Option<u64> {
     match text {
         [b'x', digits @ ..] => in_base(digits, 16),
@@ -38,7 +38,7 @@ fn in_base(digits: &[u8], base: u8) -> Option<u64> {
     Some(n)
 }
 
-// The text before the first such byte, and that after it.
+// Returns the text before the first `separator`, and the text after it; None if it does not occur.
 pub(crate) fn split_once(text: &[u8], separator: u8) -> Option<(&[u8], &[u8])> {
     let at = text.iter().position(|b| *b == separator)?;
     let (before, rest) = text.split_at_checked(at)?;

@@ -1,4 +1,4 @@
--- The flags of whole bytes as a mask, and its runs counted one by one. Assumes nothing.
+-- The flags of whole bytes as a mask, and its runs counted one by one.
 use Rattle.std.specs.Prelude.{Option, Some, None, Result, Ok, Err, is_some, is_ok}
 use mathlib.Core.Path.{◌≡◌, refl, sym, ap, ◌∙◌}
 use mathlib.Core.Bool.{Bool, true, false, cond}
@@ -78,7 +78,7 @@ numbers-given bytes n z e r h size p q s =
 
 -- ---- a cursor over the flags of a mask, on its way
 
--- so many runs have been passed, and the rest lie before it
+-- `runs` runs have been passed, and the rest begin at the cursor's place or after it
 pub record RunsCounted (m : Bitmap) (bytes : List ℕ) (c : SlicesIterator) (runs : ℕ) : Type 0 where
   pub over : c ≡ slices_at m.start m.length c.place
   pub reached : c.place ≤ m.length
@@ -122,7 +122,7 @@ module _ (m : Bitmap) (bytes : List ℕ) (c : SlicesIterator) (runs : ℕ)
   flags-length : length (mask_flags m bytes) ≡ m.length
   flags-length = length-window (flags_of bytes) m.start m.length
 
-  -- the next call gives this step
+  -- the step of the next call
   step : Step SlicesIterator Run
   step = slice_step (slices_at m.start m.length c.place) (mask_flags m bytes)
 
@@ -147,7 +147,7 @@ module _ (m : Bitmap) (bytes : List ℕ) (c : SlicesIterator) (runs : ℕ)
       let at : d.place ≡ first + n = ap (λ (f : SlicesIterator). f.place) seen.1 in
       (seen.1 ∙ ap (slices_at m.start m.length) (sym at), omega (arith, run.after, run.some), omega (arith, run.inside, flags-length))
 
-  -- the runs before the cursor are those of the step
+  -- the runs left at the cursor are those of the step
   left-listed : (s : Step SlicesIterator Run) → s ≡ step
       → length (runs_left (mask_flags m bytes) c.place) ≡ length (listed (mask_flags m bytes) s)
   unfolding step
@@ -164,7 +164,7 @@ module _ (m : Bitmap) (bytes : List ℕ) (c : SlicesIterator) (runs : ℕ)
   given-step x s i e o h =
       given-same _ _ (ap (λ (j : Option Run). given (step_of j s.cursor)) (sym h) ∙ ap answer_step (sym o) ∙ e ∙ next-given)
 
-  -- one run more, and so few that they can be counted
+  -- one more run is passed, and all can still be counted
   pub run-passed : (x : Result (Stepped Run SlicesIterator) (Refused SlicesIterator)) (s : Stepped Run SlicesIterator)
       → answer_step x ≡ next_slice c bytes → x ≡ Ok s → is_some s.item ≡ true
       → RunsCounted m bytes s.cursor (runs + 1) × (c.place < s.cursor.place) × (runs + 1 ≤ limit)

@@ -1,4 +1,4 @@
--- A report is given of just what `specs/ReportPlain.antt` says. Assumes nothing.
+-- The bytes that have a report are those of `specs/ReportPlain.antt`.
 use Rattle.std.specs.Prelude.{Some, None}
 use mathlib.Core.Path.{sym}
 use native.Mathlib.Omega.{arith}

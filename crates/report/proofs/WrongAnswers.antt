@@ -1,4 +1,4 @@
--- The wrong answers of `specs/WrongAnswers.antt` are ruled out, by computation. Assumes nothing.
+-- The wrong answers of `specs/WrongAnswers.antt` are ruled out, by computation.
 use mathlib.Core.Path.{refl}
 use mathlib.Core.Bool.{xor}
 use mathlib.Core.List.{[], ◌∷◌}

@@ -1,4 +1,4 @@
--- The numbers of a report on bytes that are read as eight flags each. Assumes nothing.
+-- The numbers of a report on bytes that are read as eight flags each.
 use Rattle.std.specs.Prelude.{ℕ, Bool, cond, List, leb, length, Option, Some, None}
 use Rattle.words.specs.Flags.{flags_of}
 use Rattle.masks.specs.Compare.{edges}
@@ -6,7 +6,7 @@ use Rattle.masks.specs.SliceIterator.{runs_from}
 use Rattle.masks.specs.Utils.{zeros}
 use Rattle.report.specs.declared.numbers.Numbers.{Numbers}
 
--- how many flags, zeros, neighbours that differ, and runs of ones
+-- of a list, how many flags, zeros, neighbours that differ, and runs of ones
 abbrev pub numbers_of : List Bool → Numbers
 numbers_of l = record { flags = length l; zeros = zeros l; edges = edges l; runs = length (runs_from 0 l) }
 
@@ -14,6 +14,6 @@ numbers_of l = record { flags = length l; zeros = zeros l; edges = edges l; runs
 abbrev pub most : ℕ
 most = 65536
 
--- Of more bytes there is no report: this limit is the report's own, and no check has its number.
+-- the report on the bytes; none for more than `most`: this limit is the report's own, and no check has its number
 unfoldable pub report_of : List ℕ → Option Numbers
 report_of bytes = cond (leb (length bytes) most) (Some (numbers_of (flags_of bytes))) None

@@ -1,6 +1,6 @@
--- Wrong answers that the contract of `report` rules out. Assumes nothing.
+-- Wrong answers that the contract of `report` rules out.
 --
--- A row as in `WrongAnswers` of words: the definition at one input, what it gives, and two answers of a faulty call.
+-- A row as in `WrongAnswers` of words: the definition at one input, its value there, and two answers of a faulty call.
 use Rattle.std.specs.Prelude.{ℕ, [], ◌∷◌, Some}
 use Rattle.words.specs.WrongAnswers.{Tried}
 use Rattle.report.specs.Numbers.{report_of}
@@ -13,7 +13,7 @@ pub record WrongAnswers : Type 0 where
   -- `report` of the flags 1,0,1,1,0,0,0,0
   pub one_byte : Tried (report_of (0x0D ∷ []))
       (Some (four_of 8 5 3 2))
-      -- ones given as zeros
+      -- ones counted as zeros
       (Some (four_of 8 3 3 2))
-      -- runs given as edges
+      -- runs counted as edges
       (Some (four_of 8 5 2 2))

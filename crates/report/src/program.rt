@@ -1,12 +1,12 @@
-// The program maskreport: reads standard input to its end and prints a report on it. What it prints of the bytes read is
-// what `numbers` computes.
+// The program maskreport: reads standard input, at most 65,537 bytes, and prints a report on it. What it prints of the bytes read is what
+// `numbers` computes.
 ghost use Rattle.std.specs.Io.{ReadsAtMost};
 
 use crate::numbers::{Numbers, report};
 use std::io::Read;
 use std::{fmt, io};
 
-// What kept the program from printing a report: the input cannot be read, or the output cannot be written.
+// The reason why no report was printed: the input cannot be read, or the output cannot be written.
 #[derive(Clone, Copy, PartialEq, Eq, Debug)]
 pub enum Failure {
     Input,
@@ -22,7 +22,7 @@ impl fmt::Display for Failure {
     }
 }
 
-// Prints the report on standard input, or says on standard error what kept it from that, and gives it back.
+// Prints the report on standard input. If it cannot, prints the failure to standard error and returns it.
 pub fn run(rt: &(impl io::Input + Print + Eprint)) -> Result<(), Failure> {
     let printed = read_and_print(rt);
     if let Err(failure) = printed {
@@ -31,16 +31,16 @@ pub fn run(rt: &(impl io::Input + Print + Eprint)) -> Result<(), Failure> {
     printed
 }
 
-// One byte more is read than a report takes, so that longer input is seen. An array, not a `Vec`: with a `Vec` `run` would ask its callers
-// for an allocator, which it does not ask for now, and a change may not ask more of callers.
+// Prints the report on standard input. Reads one more byte than a report takes, so that longer input is seen. An array, not a `Vec`: with a
+// `Vec` `run` would require an allocator of its callers, which it does not, and a change may not require more of callers.
 fn read_and_print(rt: &(impl io::Input + Print)) -> Result<(), Failure> {
     let mut buf = [0u8; 65537];
     let size = read_to_end(&mut rt.reader(), &mut buf).map_err(|_| Failure::Input)?;
     print(rt, report(&buf[..size])).map_err(|_| Failure::Output)
 }
 
-// Reads until the buffer is full, the input ends or a read fails. A read may give fewer bytes than it could. It is a loop since of the
-// library's methods `read_exact` tells no count where the input ends early, and `read_to_end` wants a `Vec`.
+// Reads until the buffer is full, the input ends or a read fails, and returns the number of bytes. A read may return fewer than it could. A
+// loop, since of the library's methods `read_exact` returns no count if the input ends early, and `read_to_end` needs a `Vec`.
 fn read_to_end(source: &mut impl Read, buf: &mut [u8]) -> io::Result<usize>
     ensures { ReadsAtMost result buf.new }
 {
@@ -55,7 +55,7 @@ fn read_to_end(source: &mut impl Read, buf: &mut [u8]) -> io::Result<usize>
     Ok(size)
 }
 
-// Prints all of it; the first write that fails is the last. Longer input is told as `refused=1`, which stands here alone.
+// Prints the numbers, or only `refused=1` for longer input, which has no report. Stops at the first write that fails.
 fn print(rt: &impl Print, report: Option<Numbers>) -> io::Result<()> {
     match report {
         Some(numbers) => print_numbers(rt, numbers),
@@ -63,7 +63,7 @@ fn print(rt: &impl Print, report: Option<Numbers>) -> io::Result<()> {
     }
 }
 
-// Each line is a write of its own: where one fails, those before it are out. A `Display` of all four would be one write.
+// Prints each number on a line, by a write of its own: if one fails, those before it are out. A `Display` of all four would be one write.
 fn print_numbers(rt: &impl Print, numbers: Numbers) -> io::Result<()> {
     let Numbers {
         flags,

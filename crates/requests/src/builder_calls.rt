@@ -34,7 +34,7 @@ pub(crate) fn answer(alloc: Global, call: BuilderCall, a: &Arguments, buf: &mut 
     }
 }
 
-// Appends that read x.
+// Makes the appends that read x.
 pub(crate) fn extending(
     alloc: Global,
     call: ExtendCall,
@@ -60,7 +60,7 @@ pub(crate) fn extending(
     )
 }
 
-// Appends that read x at indices.
+// Makes the appends that read x at indices.
 pub(crate) fn gathering(
     alloc: Global,
     call: GatherCall,
@@ -81,14 +81,14 @@ pub(crate) fn gathering(
     )
 }
 
-// The record that push_mut left, and its answer.
+// The record that `push_mut` left, and its answer.
 #[derive(Clone, Copy)]
 struct Lent {
     builder: BitmapBuilder,
     answer: Result<(), Refusal>,
 }
 
-// Lends its copy of the record.
+// Calls `push_mut` on a copy of the record, and returns both.
 fn push_lent(b: BitmapBuilder, buf: &mut [u8], flag: bool) -> Lent
     ensures answer { change_answer (failure_of result.answer) result.builder ≡ append_answer (push_flag flag) b buf.old }
     ensures bytes { buf.new ≡ append_bytes (push_flag flag) b buf.old }

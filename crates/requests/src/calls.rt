@@ -1,8 +1,8 @@
-// Makes a call: each group of calls is lent what it reads and writes. A `match` on the call stands in each of these modules: each arm names
-// another function, mostly of other parameters and another answer, and a table of those alike would hold function pointers.
+// How a call is made: each group of calls is lent what it reads and writes. Each of these modules has a `match` on the call: each arm names
+// another function, mostly with other parameters and another answer, and a table of those with equal ones would hold function pointers.
 //
-// The allocator and the arguments are two parameters of all these functions: `tell` takes the first alone and `values` the second, so that
-// a struct of both would be taken apart in each body.
+// The allocator and the arguments are two parameters of all these functions: `tell` takes only the first and `values` only the second, so
+// that a struct of both would be taken apart in each body.
 use crate::tell::Told;
 use crate::{builder_calls, cursor_calls, mask_calls, minute_calls, span_calls, words_calls};
 use notation::arguments::Arguments;
@@ -50,7 +50,7 @@ pub(crate) fn answer(
     }
 }
 
-// The calls that write numbers.
+// Makes the calls that write numbers.
 fn listing(alloc: Global, call: ListCall, a: &Arguments, x: &[u8], numbers: &mut [u32]) -> Told {
     match call {
         ListCall::NextChunk => cursor_calls::chunk(alloc, a, x, numbers),

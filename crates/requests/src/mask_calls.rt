@@ -54,7 +54,7 @@ pub(crate) fn comparing(alloc: Global, call: PairCall, a: &Arguments, x: &[u8], 
     }
 }
 
-// The bytes are answered by their number and their checksum.
+// Makes the calls that choose one of two masks. Bytes are answered by their number and their checksum.
 pub(crate) fn choosing<'a>(
     alloc: Global,
     call: SupersedingCall,

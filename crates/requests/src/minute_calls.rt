@@ -1,7 +1,7 @@
 // The calls of the crate activity.
 //
-// The arrays of a window lie in bytes, little-endian: its 256 words, then its 64 counts, 2,304 bytes. Its place, its fill and its width
-// are the first three arguments, and stand last in an answer.
+// The arrays of a window lie in bytes, little-endian: its 256 words, then its 64 counts, 2,304 bytes. Its place, its fill and its width are
+// the first three arguments, and come last in an answer.
 use crate::tell;
 use crate::tell::Told;
 use activity::window::{ActivityWindow, Refused};
@@ -13,7 +13,7 @@ use words::word;
 // Where the counts begin.
 const COUNTS: usize = 2048;
 
-// Calls that write a window.
+// Makes the calls that write a window.
 pub(crate) fn answer(alloc: Global, call: MinutesCall, a: &Arguments, out: &mut [u8]) -> Told {
     match call {
         MinutesCall::New => made(alloc, a.size(0), out),
@@ -22,7 +22,7 @@ pub(crate) fn answer(alloc: Global, call: MinutesCall, a: &Arguments, out: &mut 
     }
 }
 
-// The counts of the window whose arrays are x, as numbers: 64 zeros where the call refuses.
+// Writes the counts of the window whose arrays are x, as numbers: 64 zeros if the call refuses.
 pub(crate) fn counts(alloc: Global, a: &Arguments, x: &[u8], numbers: &mut [u32]) -> Told {
     let counts = window_of(a, x).counts();
     for (number, count) in numbers.iter_mut().zip(counts.unwrap_or([0; 64])) {
@@ -31,7 +31,7 @@ pub(crate) fn counts(alloc: Global, a: &Arguments, x: &[u8], numbers: &mut [u32]
     tell::answer(alloc, counts.map(|_| ()))
 }
 
-// A new window. Where it is refused, one of zeros is written.
+// Makes a new window and writes it, or one of zeros if it is refused.
 fn made(alloc: Global, width: usize, out: &mut [u8]) -> Told {
     match ActivityWindow::new(width) {
         Ok(window) => left(alloc, Ok(()), window, out),
@@ -39,8 +39,9 @@ fn made(alloc: Global, width: usize, out: &mut [u8]) -> Told {
     }
 }
 
-// A run of minutes, so many: each word is a step more than the one before it. After a refusal no minute is pushed. The minutes are a number
-// and no list, so the loop is over a range; `try_fold` would carry the word and the window as a pair through both ends: no plainer.
+// Pushes a run of `many` minutes; each word is greater by a step than the one before it. After a refusal no minute is pushed. The minutes
+// are a number and no list, so the loop is over a range; `try_fold` would carry the word and the window as a pair through both ends: no
+// plainer.
 fn minutes(alloc: Global, a: &Arguments, many: u64, out: &mut [u8]) -> Told {
     let mut word = a.word(3);
     let mut now = window_of(a, out);
@@ -54,12 +55,12 @@ fn minutes(alloc: Global, a: &Arguments, many: u64, out: &mut [u8]) -> Told {
     left(alloc, Ok(()), now, out)
 }
 
-// The window whose arrays are these bytes.
+// Returns the window whose arrays are these bytes and whose numbers are the first three arguments.
 fn window_of(a: &Arguments, bytes: &[u8]) -> ActivityWindow {
     window(bytes, a.size(0), a.size(1), a.size(2))
 }
 
-// Past the bytes its arrays are zeros.
+// Returns the window whose arrays are these bytes, zeros past their end.
 fn window(bytes: &[u8], place: usize, fill: usize, width: usize) -> ActivityWindow {
     let mut words = [0; 256];
     for (word, part) in words.iter_mut().zip(bytes.chunks(8)) {
@@ -79,7 +80,7 @@ fn window(bytes: &[u8], place: usize, fill: usize, width: usize) -> ActivityWind
     }
 }
 
-// The arrays of the window that a call left are written.
+// Writes the arrays of the window that a call left, and returns the answer.
 fn left(alloc: Global, r: Result<(), Refused>, window: ActivityWindow, out: &mut [u8]) -> Told {
     for (part, word) in out.chunks_mut(8).zip(window.words) {
         word::store_le_u64(part, word);

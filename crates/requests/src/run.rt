@@ -7,7 +7,7 @@ use std::io::Read;
 // At most this many steps are made, each to the end of a line or of what was read at once, so that the program ends on input that does not.
 const STEPS: usize = 4194304;
 
-// Reads requests to the end of the input, makes them, and prints what came out. A read or a write that fails ends it.
+// Reads requests to the end of the input, makes them, and prints the outcome. Ends with an error if a read or a write fails.
 pub fn run(rt: &(impl io::Input + Print + AllocGlobal)) -> io::Result<()> {
     let mut session = Session::new(rt.alloc());
     let mut lines = Lines::new(rt.alloc(), rt.reader())?;
@@ -17,7 +17,7 @@ pub fn run(rt: &(impl io::Input + Print + AllocGlobal)) -> io::Result<()> {
     session.print(rt)
 }
 
-// Whether the input was read to its end.
+// Makes the requests of the input, and returns whether it was read to its end.
 fn read<R: Read + Drop>(
     rt: &impl Print,
     lines: &mut Lines<R>,

@@ -29,7 +29,7 @@ impl Session {
         }
     }
 
-    // Takes a line, and counts how it came out.
+    // Takes a line and counts its outcome.
     pub(crate) fn line(&mut self, rt: &impl Print, text: Result<&[u8], Fault>) -> io::Result<()> {
         let line = self.tally.count_line();
         match self.take(text) {
@@ -40,7 +40,7 @@ impl Session {
         }
     }
 
-    // A request that differs is printed with what its last call gave.
+    // Counts a request. If it differs, prints it with the answer of its last call.
     fn count(&mut self, rt: &impl Print, line: u64, outcome: Outcome) -> io::Result<()> {
         if self.tally.count(outcome) {
             let name = outcome.name;
@@ -62,7 +62,7 @@ impl Session {
         println!(rt; "{tally}")
     }
 
-    // What a line lends is kept. Returns how its request came out, if it has one.
+    // Takes what a line lends, or makes its request and returns the outcome.
     fn take(&mut self, text: Result<&[u8], Fault>) -> Result<Option<Outcome>, Fault> {
         match Line::read(text?)? {
             Line::Nothing => Ok(None),
@@ -84,7 +84,7 @@ impl Session {
         outcome::compare(self.alloc, &reading, ran, &self.lent, &self.last)
     }
 
-    // Makes a call for each choice of a range.
+    // Makes the calls of a request, one for each choice of a range.
     fn make(&mut self, reading: &Reading) -> Result<Ran, Fault> {
         let output = reading.named.output;
         let sizes = self.lent.sizes();

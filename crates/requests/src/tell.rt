@@ -1,4 +1,4 @@
-// What a value is in an answer: its tokens, in their order.
+// The tokens of a value in an answer, in their order.
 use dispatch::offer::{NoOffer, Offering};
 use masks::aligned::AlignedBitmapSlice;
 use masks::bitmap::{Bitmap, Recounted};
@@ -19,16 +19,16 @@ use std::alloc::{AllocError, Global};
 pub(crate) type Told = Result<Answer, AllocError>;
 
 pub(crate) trait Tell: Copy {
-    // Puts its tokens behind those of the answer.
+    // Returns the answer with the tokens of the value after its own.
     fn tell(self, answer: Answer) -> Told;
 }
 
-// What a call gives that does not refuse.
+// Returns the answer of a call that does not refuse: 0 and its value.
 pub(crate) fn given<T: Tell>(alloc: Global, value: T) -> Told {
     value.tell(Answer::new(alloc, 0)?)
 }
 
-// What a call gives, or the number of its refusal.
+// Returns the answer of a call: 0 and its value, or the number of its refusal.
 pub(crate) fn answer<T: Tell, R: Into<u8> + Drop>(alloc: Global, r: Result<T, R>) -> Told {
     match r {
         Ok(value) => given(alloc, value),
@@ -36,7 +36,7 @@ pub(crate) fn answer<T: Tell, R: Into<u8> + Drop>(alloc: Global, r: Result<T, R>
     }
 }
 
-// The same of a call whose refusal gives the record back that it got.
+// Returns the answer of a call whose refusal has the record: 0 and its value, or the number and that record.
 pub(crate) fn answer_back<T: Tell, S: Tell>(alloc: Global, r: Result<T, Refused<S>>) -> Told {
     match r {
         Ok(value) => given(alloc, value),
@@ -44,7 +44,7 @@ pub(crate) fn answer_back<T: Tell, S: Tell>(alloc: Global, r: Result<T, Refused<
     }
 }
 
-// The record that a call leaves, whether it refuses or not.
+// Returns the answer of a call that leaves a record whether it refuses or not: the number and that record.
 pub(crate) fn left<S: Tell, R: Into<u8> + Drop>(alloc: Global, r: Result<(), R>, state: S) -> Told {
     match r {
         Ok(()) => given(alloc, state),
@@ -75,14 +75,14 @@ impl<T: Single> Tell for T {
     }
 }
 
-// A call that only writes gives nothing more.
+// A call that only writes has no value.
 impl Tell for () {
     fn tell(self, answer: Answer) -> Told {
         Ok(answer)
     }
 }
 
-// Nothing is `-`.
+// None is `-`.
 impl<T: Tell> Tell for Option<T> {
     fn tell(self, answer: Answer) -> Told {
         match self {
@@ -106,15 +106,15 @@ impl<A: Tell, B: Tell, C: Tell> Tell for (A, B, C) {
     }
 }
 
-// The item, and the cursor behind it.
+// The item, and the cursor after it.
 impl<T: Tell, C: Tell> Tell for Step<T, C> {
     fn tell(self, answer: Answer) -> Told {
         (self.item, self.cursor).tell(answer)
     }
 }
 
-// A span and a run have the same fields, and so have the three cursors below. They share no trait: one that gave their fields would ask for
-// an impl of each too, as long as these.
+// A span and a run have the same fields, and so have the three cursors below. They share no trait: one with their fields as methods would
+// need an impl of each too, as long as these.
 impl Tell for Span {
     fn tell(self, answer: Answer) -> Told {
         (self.start, self.length).tell(answer)
@@ -160,7 +160,7 @@ impl Tell for TrueIdxIter {
     }
 }
 
-// The serial first, then the span, then the zero count, `?` where it is not known.
+// The serial first, then the span, then the zero count, `?` if it is not known.
 impl Tell for Bitmap {
     fn tell(self, answer: Answer) -> Told {
         let zeros = match self.unset {
@@ -203,8 +203,8 @@ impl Tell for Offering {
     }
 }
 
-// A refused offer has the round's cursor, and no other record. `NoOffer` is no `Refused` by a rule of the project: dispatch names only the
-// types of masks that combinations and searches take or give (tests/dispatch_calls.py).
+// Returns the answer of `offer`. A refused one has the round's cursor, and no other record. `NoOffer` is no `Refused` by a rule of the
+// project: dispatch names only the types of masks that combinations and searches take or return (tests/dispatch_calls.py).
 pub(crate) fn offered(alloc: Global, r: Result<Offering, NoOffer>) -> Told {
     match r {
         Ok(offering) => given(alloc, offering),

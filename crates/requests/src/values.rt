@@ -1,11 +1,11 @@
-// Records out of arguments.
+// Records made from arguments.
 ghost use Rattle.std.specs.Prelude.{◌≤◌};
 
 use masks::bitmap::Bitmap;
 use masks::builder::BitmapBuilder;
 use notation::arguments::{Arguments, Serial};
 
-// The mask of the arguments from i on.
+// Returns the mask whose start, length and zero count are the three arguments that begin with i.
 pub(crate) fn mask(a: &Arguments, i: usize, serial: Serial) -> Bitmap
     requires { i ≤ 6 }
 {
@@ -17,14 +17,14 @@ pub(crate) fn mask(a: &Arguments, i: usize, serial: Serial) -> Bitmap
     }
 }
 
-// The mask behind argument i, if that is not 0.
+// Returns the mask of the three arguments after argument i, or None if argument i is 0.
 pub(crate) fn optional(a: &Arguments, i: usize, serial: Serial) -> Option<Bitmap>
     requires { i ≤ 5 }
 {
     a.flag(i).then(|| mask(a, i + 1, serial))
 }
 
-// The builder of the first three arguments.
+// Returns the builder of the first three arguments.
 pub(crate) fn builder(a: &Arguments) -> BitmapBuilder {
     BitmapBuilder {
         length: a.size(0),

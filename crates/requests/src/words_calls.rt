@@ -61,8 +61,8 @@ fn set_bit(alloc: Global, r: Result<u32, u32>) -> Told {
     }
 }
 
-// The operation of a number, as docs/REQUESTS.md lists them; any other number is `select` too. A function, not a `TryFrom`: the trait and
-// `Op` are both of other crates, so no impl can stand here, and none of these numbers is an error.
+// Returns the operation of a number, as docs/REQUESTS.md lists them; any other number is `select` too. A function, not a `TryFrom`: the
+// trait and `Op` are both of other crates, so no impl can be here, and none of these numbers is an error.
 fn op(n: u64) -> Op {
     match n {
         0 => Op::And,
@@ -75,7 +75,7 @@ fn op(n: u64) -> Op {
     }
 }
 
-// The flags of an input from a place on.
+// Returns the flags of an input, starting at flag `start`.
 fn flags(bytes: &[u8], start: usize) -> Flags<'_> {
     Flags { bytes, start }
 }

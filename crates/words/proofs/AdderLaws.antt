@@ -1,4 +1,4 @@
--- Words added eight at a time, by full adders in each column. Assumes nothing.
+-- Words added eight at a time, by full adders in each column.
 use Rattle.std.proofs.Common.{◌≡◌, refl, sym, ap, ap₂, ◌∙◌, Bool, true, false, ◌&&◌, ◌||◌, List, [], ◌∷◌, ◌++◌, append-nil, ℕ, zero, suc}
 use Rattle.std.proofs.Common.{◌+◌, ◌*◌, ◌^◌, ◌≤◌, ◌<◌, arith, bit_and, bit_or, bit_xor, length, take, drop, get_or, set, length-set}
 use Rattle.std.proofs.Common.{length-drop, take_all, drop_of_length-le, take-append-drop, get_or-set_other}
@@ -47,9 +47,9 @@ four-more (w ∷ x ∷ y ∷ []) p q a1 a2 b1 b2 c1 c2 h f g k c d = absurd (ome
 four-more (w ∷ x ∷ y ∷ z ∷ []) p q a1 a2 b1 b2 c1 c2 h f g k c d = omega (arith, f c d, g c d, k c d)
 four-more (w ∷ x ∷ y ∷ z ∷ u ∷ ws) p q a1 a2 b1 b2 c1 c2 h f g k c d = absurd (omega arith)
 
--- ---- from plane k on
+-- ---- adding to the planes above the first k
 
--- the law from plane k on: each number grows by the flag times 2 ^ k
+-- a word added to the planes above the first k: each number grows by the flag times 2 ^ k
 adds-from : (k : ℕ) (ps : List ℕ) (w c : ℕ) → c < 64 → k ≤ length ps
     → planes_at (added_from k ps w) c + 2 ^ length ps * digit_of (carry_of (drop k ps) w) c ≡ planes_at ps c + 2 ^ k * digit_of w c
 unfolding added_from planes_at
@@ -65,7 +65,7 @@ length_from zero ps w = length-added ps w
 length_from (suc k) [] w = length-added [] w
 length_from (suc k) (p ∷ ps) w = ap suc (length_from k ps w)
 
--- another plane in the place of plane i
+-- another plane in place of plane i
 replaced : (ps : List ℕ) (i x c : ℕ) → i < length ps
     → planes_at (set ps i x) c + 2 ^ i * digit_of (get_or ps i 0) c ≡ planes_at ps c + 2 ^ i * digit_of x c
 unfolding planes_at
@@ -74,7 +74,7 @@ replaced (p ∷ ps) zero x c h = omega arith
 replaced (p ∷ ps) (suc i) x c h =
     omega (arith, replaced ps i x c (omega arith), doubled i (digit_of (get_or ps i 0) c), doubled i (digit_of x c))
 
--- eight words: two fours and a full adder, and what is left goes to plane 3
+-- eight words: two fours and a full adder; what is left is added to plane 3 and those above it
 module _ (ps ws second new : List ℕ) (a1 a2 a4 b1 b2 b4 d1 d2 : ℕ) (nine : length ps ≡ 9)
     (f : FourMore (take 4 ws) (get_or ps 0 0) (get_or ps 1 0) a1 a2 a4) (m : second ≡ drop 4 ws) (g : FourMore second a1 a2 b1 b2 b4)
     (k : Added (get_or ps 2 0) a4 b4 d1 d2) where
@@ -116,7 +116,7 @@ module _ (ps ws second new : List ℕ) (a1 a2 a4 b1 b2 b4 d1 d2 : ℕ) (nine : l
     pub eight_grown : Grown ps ws new
     eight_grown = record { alike = ap length e ∙ length_from 3 stored d2 ∙ long ∙ sym nine; sums = eight_sum }
 
--- the planes from k on, as they were lent and came back
+-- the planes above the first k, as they were lent and came back
 pub added_part : (ps part : List ℕ) (k n w : ℕ) → length ps ≡ k + n → part ≡ added (take n (drop k ps)) w
     → take k ps ++ (part ++ drop n (drop k ps)) ≡ added_from k ps w
 unfolding added_from

@@ -1,5 +1,4 @@
 -- Whether a flag of a list is set, and whether two lists are the same: word by word, with an end at the first that has one.
--- Assumes nothing.
 use Rattle.std.specs.Bool.{MatchBool}
 use Rattle.std.specs.List.{AllWithin, HoldsAt, range_with_len}
 use Rattle.std.proofs.lemmas.Bool.{true≢false}
@@ -54,7 +53,7 @@ pub any_none : (Z : List Bool) → any_set (bits 64 0) ≡ any_set (window Z 0 0
 unfolding window any_set
 any_none Z = ap any_set (bits-zero 64) ∙ any-copies 64 false
 
--- one more word joined
+-- one more word joined by `or`
 pub any_step : (Z : List Bool) (i v w r : ℕ) → any_set (bits 64 v) ≡ any_set (window Z 0 (64 * i))
     → bits 64 w ≡ window Z (64 * i) 64 → bits 64 r ≡ zip_with ◌||◌ (bits 64 v) (bits 64 w)
     → any_set (bits 64 r) ≡ any_set (window Z 0 (64 * (i + 1)))
@@ -111,22 +110,22 @@ some-any l h = sym (any-count l ∙ lt-ltb 0 (count l) h)
 pub zero-any : (l : List Bool) → count l ≡ 0 → false ≡ any_set l
 zero-any l e = sym (any-count l ∙ le-ltb 0 (count l) (omega arith))
 
--- zeros behind a list set nothing
+-- zeros after a list set nothing
 pub any-padded : (l : List Bool) (d : ℕ) → length l ≤ d → any_set (window l 0 d) ≡ any_set l
 any-padded l d h = any-count (window l 0 d) ∙ ap (ltb 0) (count-padded l d h) ∙ sym (any-count l)
 
--- at most a word
+-- a list of at most 64 flags, by its word
 pub any-short : (l : List Bool) (len w : ℕ) (t : Bool) → length l ≡ len → len ≤ 64 → bits 64 w ≡ window l 0 64 → t ≡ any_set (bits 64 w)
     → t ≡ any_set l
 any-short l len w t e h p q = q ∙ ap any_set p ∙ any-padded l 64 (omega arith)
 
 -- ---- with an end at the first words that have one
 
--- a part that has one: the whole has
+-- if a part has a flag set, the whole list has
 pub any-exit : (Z : List Bool) (k n : ℕ) (t : Bool) → t ≡ any_set (window Z k n) → t ≡ true → true ≡ any_set Z
 any-exit Z k n t p e = some-any Z (omega (arith, any_some (window Z k n) (sym e ∙ p), count-inside Z k n))
 
--- a part that has none
+-- if the first m flags have none set and the next n have none, the first m + n have none
 pub any-more : (Z : List Bool) (m n k : ℕ) (t : Bool) → 0 ≡ count (window Z 0 m) → t ≡ any_set (window Z m n) → t ≡ false → m + n ≡ k
     → 0 ≡ count (window Z 0 k)
 any-more Z m n k t inv p e h =
@@ -136,7 +135,7 @@ any-more Z m n k t inv p e h =
     let c : 0 ≡ count (window Z 0 (m + n)) = omega arith in
     c ∙ ap (λ (x : ℕ). count (window Z 0 x)) h
 
--- words side by side, none of which has one
+-- words in a row, none of which has a flag set
 pub any-passed : (Z : List Bool) (a n : ℕ) → ((k : ℕ) → k < n → false ≡ any_set (window Z (64 * (a + k)) 64))
     → 0 ≡ count (window Z 0 (64 * a))
     → 0 ≡ count (window Z 0 (64 * (a + n)))
@@ -151,7 +150,7 @@ any-passed Z a (suc n) none inv =
 abbrev pub Said : List Bool → Bool → ℕ → Type 0
 Said Z t i = t ≡ any_set (window Z (64 * i) 64)
 
--- what a search of words a to b answers of them
+-- what the answer of a search of words a to b states about them
 abbrev pub Among : List Bool → ℕ → ℕ → Bool → Type 0
 Among Z a b r = MatchBool r
     ((k : ℕ) × (k < length (range_with_len a (b - a))) × HoldsAt (Said Z true) (range_with_len a (b - a)) k)
@@ -171,7 +170,7 @@ none-among Z a b false none e h inv =
     ∙ ap (λ (x : ℕ). any_set (window Z (64 * x) 64)) (get_or-range_with_len a (b - a) k 0 l)) inv
     ∙ ap (λ (x : ℕ). count (window Z 0 (64 * x))) m
 
--- a list of m flags with none set among the first n, whose flags behind n are one flag, over and over
+-- a list of m flags with none set among the first n, whose flags after the first n are all equal
 pub any_behind : (Z : List Bool) (m n : ℕ) (x t : Bool) → 0 ≡ count (window Z 0 n) → length Z ≡ m
     → t ≡ (ltb n m && x) → (n < m → window Z n (m - n) ≡ copies (m - n) x) → t ≡ any_set Z
 any_behind Z m n x t p e q h = q ∙ go x refl (cases_lt n m) ∙ sym (any-count Z)
@@ -190,7 +189,7 @@ any_behind Z m n x t p e q h = q ∙ go x refl (cases_lt n m) ∙ sym (any-count
         let none : (m - n) * digit x ≡ 0 = ap (λ (b : Bool). (m - n) * digit b) f ∙ omega arith in
         and-false (ltb n m) ∙ sym (le-ltb 0 (count Z) (omega (arith, all)))
 
--- ---- two lists are the same where no flag of their `xor` is set
+-- ---- two lists are the same if and only if no flag of their `xor` is set
 
 not-or : (x y : Bool) → not (x || y) ≡ (not x && not y)
 not-or true y = refl
@@ -204,7 +203,7 @@ same-any (x ∷ a) [] e = absurd (omega arith)
 same-any (x ∷ a) (y ∷ b) e =
     not-or (xor x y) (any_set (zip3 (λ x y z. xor x y) a b b)) ∙ ap (λ (t : Bool). not (xor x y) && t) (same-any a b (omega arith))
 
--- a window that reaches the end
+-- a window that reaches the end of the list
 pub any-drop : (l : List Bool) (k n : ℕ) → length l ≤ k + n → any_set (window l k n) ≡ any_set (drop k l)
 any-drop l k n h =
     let z : k ≡ k + 0 = omega arith in

@@ -1,4 +1,4 @@
--- Three stretches combined, of which n words were read, behind which all three have ended or the length has. Assumes nothing.
+-- Three stretches combined, of which n words were read; after these all three have ended, or the length has.
 use Rattle.std.proofs.Common.{◌≡◌, ap, sym, ◌∙◌, Bool, false, ◌&&◌, List, [], ℕ, ◌+◌, ◌-◌, ◌*◌, ◌≤◌, ◌<◌, arith, ltb, length}
 use Rattle.words.specs.Flags.{bits, copies, count, digit, flags_of, window}
 use Rattle.words.specs.Ops.{zip3}
@@ -10,14 +10,14 @@ use Rattle.words.proofs.Combining.{length-zip, zip-behind, zip-past}
 use Rattle.words.proofs.Counting.{count-behind}
 use Rattle.words.proofs.Windows.{window-past}
 
--- a word of zeros, combined with two such: each flag is the one of three zeros
+-- three words of zeros combined: each flag is the one of three zeros
 pub any-zeros : (f : Bool → Bool → Bool → Bool) → any_set (zip3 f (bits 64 0) (bits 64 0) (bits 64 0)) ≡ f false false false
 any-zeros f =
     let zeros : bits 64 0 ≡ window [] 0 64 = bits-zero 64 ∙ sym (window-past [] 0 64 (omega arith)) in
     ap (λ (l : List Bool). any_set (zip3 f l l l)) zeros
     ∙ ap any_set (zip-past f [] [] [] 0 0 0 64 (omega arith) (omega arith) (omega arith)) ∙ any-copies 64 (f false false false)
 
--- so many bytes end within n words
+-- three lists of bytes that end within n words
 pub record Ended (a b c : List ℕ) (n : ℕ) : Type 0 where
   pub in_a : length a ≤ 8 * n
   pub in_b : length b ≤ 8 * n

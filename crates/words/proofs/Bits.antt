@@ -1,4 +1,4 @@
--- The bits of a number as a list, at any width: cut in two, shifted, combined, and back to the number. Assumes nothing.
+-- The bits of a number as a list, at any width: cut in two, shifted, combined, and back to the number.
 use Rattle.std.proofs.Common.{◌≡◌, refl, sym, ap, ap₂, ◌∙◌, Bool, true, false, not, ◌&&◌, ◌||◌, List, [], ◌∷◌, ◌++◌, map, ℕ, zero, suc}
 use Rattle.std.proofs.Common.{◌+◌, ◌-◌, ◌*◌, ◌/◌, ◌%◌, ◌^◌, ◌≤◌, ◌<◌, min, max, suc-add, zero-add, add-zero, pow-suc, mod-lt, zero-lt-suc}
 use Rattle.std.proofs.Common.{div-add-mod', div-one, mul_assoc, one-add, add-one, arith, pow_pos, shr-shr, shr_lt, bit_and, bit_or}
@@ -26,7 +26,7 @@ bits-add zero k n = rw zero-add (ap (bits k) (sym (div-one n)))
 bits-add (suc j) k n =
     rw suc-add (ap (λ (l : List Bool). is_one (n % 2) ∷ l) (bits-add j k (n / 2) ∙ ap (λ (x : ℕ). bits j (n / 2) ++ bits k x) (halves n j)))
 
--- fewer bits are the front of more
+-- the k low bits are the first k of the d low bits
 pub bits-take : (d k w : ℕ) → k ≤ d → take k (bits d w) ≡ bits k w
 bits-take d k w h =
     let e : d ≡ k + (d - k) = omega arith in
@@ -38,7 +38,7 @@ unfolding bits copies
 bits-zero zero = refl
 bits-zero (suc d) = ap (λ (l : List Bool). false ∷ l) (bits-zero d)
 
--- what stands above the d low bits does not count
+-- what is above the d low bits does not count
 pub bits-low : (d a r : ℕ) → bits d (a * 2 ^ d + r) ≡ bits d r
 unfolding bits
 bits-low zero a r = refl
@@ -48,14 +48,14 @@ bits-low (suc d) a r =
 pub bits-mod : (d n : ℕ) → bits d (n % 2 ^ d) ≡ bits d n
 bits-mod d n = sym (bits-low d (n / 2 ^ d) (n % 2 ^ d)) ∙ ap (bits d) (split n d)
 
--- a shift up puts zeros in front
+-- a shift to the left puts zeros in front
 pub bits-shl : (k d a : ℕ) → bits (k + d) (a * 2 ^ k) ≡ copies k false ++ bits d a
 bits-shl k d a =
     bits-add k d (a * 2 ^ k)
     ∙ ap₂ (λ (x y : List Bool). x ++ y) (ap (bits k) (sym (add-zero (a * 2 ^ k))) ∙ bits-low k a 0 ∙ bits-zero k)
     (ap (bits d) (shl-shr a k))
 
--- ---- one law for the operations on two numbers that go digit by digit
+-- ---- one law for the operations on two numbers that work digit by digit
 module _ (op f : ℕ → ℕ → ℕ) (g : Bool → Bool → Bool) (step : (a b : ℕ) → op a b ≡ op (a / 2) (b / 2) * 2 + f (a % 2) (b % 2))
     (on : (x y : ℕ) → x < 2 → y < 2 → (f x y < 2) × (is_one (f x y) ≡ g (is_one x) (is_one y))) where
   bits-op : (d a b : ℕ) → bits d (op a b) ≡ zip_with g (bits d a) (bits d b)
@@ -144,7 +144,7 @@ word_of_append (b ∷ l) m =
     let ih : word_of (l ++ m) ≡ word_of m * 2 ^ length l + word_of l = word_of_append l m in
     omega arith
 
--- a list's number with another shifted behind it
+-- the number of one list, and of another shifted to follow it, joined by `or`
 pub or-append : (l m : List Bool) → bit_or (word_of l) (word_of m * 2 ^ length l) ≡ word_of (l ++ m)
 or-append l m = or_shifted_r (word_of m) (length l) (word_of l) (word_of_lt l) ∙ sym (word_of_append l m)
 

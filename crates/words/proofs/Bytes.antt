@@ -1,4 +1,4 @@
--- The flags of bytes: joined, cut, written over, and that bytes with the same flags are the same. Assumes nothing.
+-- The flags of bytes: joined, cut, written over, and that bytes with the same flags are the same.
 use Rattle.std.proofs.Common.{◌≡◌, refl, sym, ap, ap₂, ◌∙◌, Bool, List, [], ◌∷◌, ◌++◌, append_assoc, append-nil, ℕ, zero, suc, ◌+◌, ◌-◌}
 use Rattle.std.proofs.Common.{◌*◌, ◌≤◌, ◌<◌, le_of_eq, arith, length, take, drop, get_or, length-append, length-drop, take-append-drop}
 use Rattle.std.proofs.Common.{drop_of_length-le, length-take-le, take-suc, take_all}
@@ -37,7 +37,7 @@ pub flags-one : (b : ℕ) → flags_of (b ∷ []) ≡ bits 8 b
 unfolding flags_of
 flags-one b = append-nil (bits 8 b)
 
--- one byte more
+-- one more byte
 pub flags-more : (bs : List ℕ) (i : ℕ) → i < length bs → flags_of (take (suc i) bs) ≡ flags_of (take i bs) ++ bits 8 (get_or bs i 0)
 flags-more bs i h =
     ap flags_of (take-suc bs i 0 h) ∙ flags-append (take i bs) (get_or bs i 0 ∷ [])
@@ -83,14 +83,14 @@ over-part n m out part h k e =
     (length-flags (take n out) ∙ ap (λ (x : ℕ). 8 * x) (length-take-le n out h) ∙ sym k))
     ∙ ap (λ (x : List Bool). over x m) (sym (flags-append (take n out) (drop n out)) ∙ ap flags_of (take-append-drop n out))
 
--- a part from a start on, as the borrow checker lends it: `take (length l - a) (drop a l)`
+-- a part that begins at a start, as the borrow checker lends it: `take (length l - a) (drop a l)`
 pub mid-from : {A : Type 0} (a : ℕ) (l : List A) → take (length l - a) (drop a l) ≡ drop a l
 mid-from a l = take_all (length l - a) (drop a l) (le_of_eq (length-drop a l))
 
 pub post_from : {A : Type 0} (a : ℕ) (l : List A) → drop (length l - a) (drop a l) ≡ []
 post_from a l = drop_of_length-le (drop a l) (le_of_eq (length-drop a l))
 
--- what is written over a part from a start on
+-- what is written over a part that begins at a start
 pub over-from : (out part : List ℕ) (a : ℕ) (m : List Bool) → flags_of part ≡ over (flags_of (take (length out - a) (drop a out))) m
     → flags_of (take a out ++ (part ++ drop (length out - a) (drop a out))) ≡ over_at (flags_of out) (8 * a) m
 unfolding over_at

@@ -1,4 +1,4 @@
--- Words as rows of flags: a flag of an operation on words, columns of parts and of changed rows, counts of all columns. Assumes nothing.
+-- Words as rows of flags: a flag of an operation on words, columns of parts and of changed rows, counts of all columns.
 use Rattle.std.proofs.Common.{◌≡◌, refl, sym, ap, ◌∙◌, Bool, false, ◌&&◌, ◌||◌, List, [], ◌∷◌, ◌++◌, ⊎_elim, ℕ, zero, suc, ◌+◌, ◌≤◌, ◌<◌}
 use Rattle.std.proofs.Common.{zero-add, arith, bit_and, bit_or, bit_xor, length, get_or, set, replicate, ext_get_or}
 use Rattle.std.proofs.Math.Bool.{xor}
@@ -41,7 +41,7 @@ flag-xor = flag-op bit_xor xor bits-xor
 pub flag_or : (a b c : ℕ) → c < 64 → flag (bit_or a b) c ≡ (flag a c || flag b c)
 flag_or = flag-op bit_or ◌||◌ bits-or
 
--- a word has no flag from 64 on
+-- a word has no flag 64 and none above
 pub no_digit : (w c : ℕ) → 64 ≤ c → 0 ≡ digit_of w c
 no_digit w c h = ap digit (sym (get_or-eq_default (word_flags w) false (omega (arith, length-bits 64 w))))
 
@@ -67,7 +67,7 @@ unfolding column
 column-append [] b c = refl
 column-append (w ∷ a) b c = ap (λ (l : List Bool). flag w c ∷ l) (column-append a b c)
 
--- another word in the place of word i: its flag is counted, and that of the word that was there is not
+-- another word in place of word i: its flag is counted, and the flag of the word that was there is not
 pub column-set : (rows : List ℕ) (i w c : ℕ) → i < length rows
     → count (column (set rows i w) c) + digit_of (get_or rows i 0) c ≡ count (column rows c) + digit_of w c
 unfolding column count
@@ -75,7 +75,7 @@ column-set [] i w c h = absurd (omega arith)
 column-set (x ∷ rows) zero w c h = omega arith
 column-set (x ∷ rows) (suc i) w c h = omega (arith, column-set rows i w c (omega arith))
 
--- a word's flag is counted where it stands
+-- the flag of word i is one of those that its column counts
 pub digit-counted : (rows : List ℕ) (i c : ℕ) → i < length rows → digit_of (get_or rows i 0) c ≤ count (column rows c)
 unfolding column count
 digit-counted [] i c h = absurd (omega arith)
@@ -119,11 +119,11 @@ columns-are rows out long each =
     ext_get_or 0 out (column_counts rows) (long ∙ sym (length-columns rows))
     (λ c h. let p : c < 64 = omega arith in each c p ∙ sym (at-columns rows c p))
 
--- rows with equal counts in each column
+-- two lists of rows with equal counts in each column
 pub columns-alike : (a b : List ℕ) → ((c : ℕ) → c < 64 → count (column a c) ≡ count (column b c)) → column_counts a ≡ column_counts b
 columns-alike a b each = columns-are b (column_counts a) (length-columns a) (λ c p. at-columns a c p ∙ each c p)
 
--- words of zero behind the others count nothing
+-- words of zero after the others count nothing
 pub columns-padded : (rows : List ℕ) (n : ℕ) → column_counts (rows ++ replicate n 0) ≡ column_counts rows
 columns-padded rows n = columns-alike (rows ++ replicate n 0) rows (λ c p.
     ap count (column-append rows (replicate n 0) c) ∙ count-append (column rows c) (column (replicate n 0) c)

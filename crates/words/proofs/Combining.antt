@@ -1,4 +1,4 @@
--- Three lists combined flag by flag: by the flag, in parts, and word by word. One law for every operation. Assumes nothing.
+-- Three lists combined flag by flag: by the flag, in parts, and word by word. One law for every operation.
 use Rattle.std.proofs.Common.{◌≡◌, refl, sym, ap, ap₂, ◌∙◌, Bool, true, false, not, cond, ◌&&◌, ◌||◌, List, [], ◌∷◌, map, ℕ, zero, suc}
 use Rattle.std.proofs.Common.{◌+◌, ◌-◌, ◌*◌, ◌≤◌, ◌<◌, zero-le, add-zero, arith, length, take, get_or, ltb, lt-ltb, le-ltb}
 use Rattle.std.proofs.Math.Dec.{leb-suc-suc}
@@ -34,7 +34,7 @@ zip-map f g [] b = refl
 zip-map f g (x ∷ a) [] = refl
 zip-map f g (x ∷ a) (y ∷ b) = ap (λ (t : List Bool). f x (g y) ∷ t) (zip-map f g a b)
 
--- operations that agree on every pair of flags, the arguments the other way round too
+-- operations that agree on every pair of flags, and on every pair with the arguments exchanged
 pub zip-same : (f g : Bool → Bool → Bool) → ((x y : Bool) → f x y ≡ g x y) → (a b : List Bool) → zip_with f a b ≡ zip_with g a b
 unfolding zip_with
 zip-same f g h [] b = refl
@@ -97,7 +97,7 @@ module _ (f : Bool → Bool → Bool → Bool) (A B C : List Bool) where
   at-zip-in p q r n j h =
       at-zip p q r n j ∙ ap (λ (t : Bool). t && f (get_or A (p + j) false) (get_or B (q + j) false) (get_or C (r + j) false)) (lt-ltb j n h)
 
-  -- the same flag seen from k flags on
+  -- flag j of the stretches that begin k flags later is flag k + j
   at-later : (p q r k j : ℕ) → f (get_or A (p + k + j) false) (get_or B (q + k + j) false) (get_or C (r + k + j) false)
       ≡ f (get_or A (p + (k + j)) false) (get_or B (q + (k + j)) false) (get_or C (r + (k + j)) false)
   at-later p q r k j =
@@ -114,7 +114,7 @@ module _ (f : Bool → Bool → Bool → Bool) (A B C : List Bool) where
       as-window _ (zip3 f (window A p m) (window B q m) (window C r m)) k n (length-zip (p + k) (q + k) (r + k) n) (λ j b.
       at-zip-in (p + k) (q + k) (r + k) n j b ∙ at-later p q r k j ∙ sym (at-zip-in p q r m (k + j) (omega arith)))
 
-  -- a part cut at the end, with zeros behind it
+  -- a part cut at the end, with zeros after it
   pub zip-cut : (p q r m k n : ℕ)
       → window (take (m - k) (zip3 f (window A (p + k) n) (window B (q + k) n) (window C (r + k) n))) 0 n
       ≡ window (zip3 f (window A p m) (window B q m) (window C r m)) k n
@@ -127,7 +127,7 @@ module _ (f : Bool → Bool → Bool → Bool) (A B C : List Bool) where
       ∙ ap₂ (λ (s t : Bool). s && t) (ltb-sub j m k) (at-zip-in (p + k) (q + k) (r + k) n j h ∙ at-later p q r k j)
       ∙ sym (at-zip p q r m (k + j)))
 
-  -- past the end of all three there is one flag, over and over
+  -- past the end of all three, all flags are equal
   pub zip-past : (p q r n : ℕ) → length A ≤ p → length B ≤ q → length C ≤ r
       → zip3 f (window A p n) (window B q n) (window C r n) ≡ copies n (f false false false)
   unfolding zip3 window copies
@@ -154,23 +154,23 @@ module _ (f : Bool → Bool → Bool → Bool) (A B C : List Bool) where
       → bits 64 s ≡ window (zip3 f (window A p m) (window B q m) (window C r m)) (64 * i) 64
   cut_word p q r m i u v w t s pu pv pw op cut = cut ∙ rw (op, pu, pv, pw) (zip-cut p q r m (64 * i) 64)
 
-  -- the same starts under other names
+  -- equal starts with other names
   pub zip-starts : (p q r x y z n : ℕ) → x ≡ p → y ≡ q → z ≡ r
       → zip3 f (window A x n) (window B y n) (window C z n) ≡ zip3 f (window A p n) (window B q n) (window C r n)
   zip-starts p q r x y z n ex ey ez = rw (ex, ey, ez)
 
-  -- what lies behind n flags, where all three have ended by then
+  -- the flags after the first n, if all three have ended by then
   pub zip-behind : (p q r m n : ℕ) → n ≤ m → length A ≤ p + n → length B ≤ q + n → length C ≤ r + n
       → window (zip3 f (window A p m) (window B q m) (window C r m)) n (m - n) ≡ copies (m - n) (f false false false)
   zip-behind p q r m n h ha hb hc = sym (zip-part p q r m n (m - n) (omega arith)) ∙ zip-past (p + n) (q + n) (r + n) (m - n) ha hb hc
 
--- three stretches under other names
+-- equal stretches with other names
 pub zip-at : (f : Bool → Bool → Bool → Bool) (A A' B B' C C' : List ℕ) (p p' q q' r r' n : ℕ) → A ≡ A' → p ≡ p' → B ≡ B' → q ≡ q' → C ≡ C'
     → r ≡ r'
     → zip3 f (stretch A p n) (stretch B q n) (stretch C r n) ≡ zip3 f (stretch A' p' n) (stretch B' q' n) (stretch C' r' n)
 zip-at f A A' B B' C C' p p' q q' r r' n ea ep eb eq ec er = rw (ea, ep, eb, eq, ec, er)
 
--- a part of them
+-- a part of three stretches combined
 pub zip-later : (f : Bool → Bool → Bool → Bool) (A A' B B' C C' : List ℕ) (p p' q q' r r' m k n : ℕ) → A ≡ A' → p ≡ p' + k → B ≡ B'
     → q ≡ q' + k → C ≡ C' → r ≡ r' + k
     → k + n ≤ m → zip3 f (stretch A p n) (stretch B q n) (stretch C r n)
@@ -179,7 +179,7 @@ zip-later f A A' B B' C C' p p' q q' r r' m k n ea ep eb eq ec er h =
     zip-at f A A' B B' C C' p (p' + k) q (q' + k) r (r' + k) n ea ep eb eq ec er
     ∙ zip-part f (flags_of A') (flags_of B') (flags_of C') p' q' r' m k n h
 
--- a list with itself
+-- a list combined with itself
 pub zip-self : (f : Bool → Bool → Bool → Bool) → ((x : Bool) → f x x x ≡ x) → (a : List Bool) → zip3 f a a a ≡ a
 unfolding zip3
 zip-self f h [] = refl

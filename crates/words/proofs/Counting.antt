@@ -1,4 +1,4 @@
--- How many flags of a list are set: of lists joined, padded, inverted, and word by word. Assumes nothing.
+-- How many flags of a list are set: of lists joined, padded, inverted, and word by word.
 use Rattle.std.proofs.Common.{◌≡◌, refl, sym, ap, ap₂, ◌∙◌, Bool, true, false, not, List, [], ◌∷◌, ◌++◌, map, ⊎_elim, ℕ, zero, suc, ◌+◌}
 use Rattle.std.proofs.Common.{◌-◌, ◌*◌, ◌/◌, ◌%◌, ◌^◌, ◌≤◌, ◌<◌, zero-add, mod-lt, zero-lt-suc, arith, length, take, length-take}
 use Rattle.std.proofs.Math.Arith.{lt-one}
@@ -26,7 +26,7 @@ count-le [] = omega arith
 count-le (true ∷ l) = let h : count l ≤ length l = count-le l in omega arith
 count-le (false ∷ l) = let h : count l ≤ length l = count-le l in omega arith
 
--- of n copies
+-- the count of n copies of a flag
 pub count-copies : (n : ℕ) (x : Bool) → count (copies n x) ≡ n * digit x
 unfolding count copies
 count-copies zero x = omega arith
@@ -46,7 +46,7 @@ count_add l k a b = ap count (window-add l k a b) ∙ count-append (window l k a
 count_cut : (l : List Bool) (k n a b : ℕ) → n ≡ a + b → count (window l k n) ≡ count (window l k a) + count (window l (k + a) b)
 count_cut l k n a b e = ap (λ (x : ℕ). count (window l k x)) e ∙ count_add l k a b
 
--- zeros behind a list count nothing
+-- past the end of a list nothing is counted
 pub count_past : (l : List Bool) (k n : ℕ) → length l ≤ k → count (window l k n) ≡ 0
 count_past l k n h = ap count (window-past l k n h) ∙ count-copies n false ∙ omega arith
 
@@ -91,7 +91,7 @@ pub count_none : (l : List Bool) (p : ℕ) → 0 ≡ count (window l p 0)
 unfolding window count
 count_none l p = refl
 
--- all words of a list that is whole words
+-- if all words of a list are counted, the list is
 pub count-all : (l : List Bool) (i n c : ℕ) → c ≡ count (window l 0 (64 * i)) → length l ≡ 64 * n → i ≤ n → n ≤ i → c ≡ count l
 count-all l i n c p e h k = p ∙ count-padded l (64 * i) (omega arith)
 
@@ -122,7 +122,7 @@ count_most l n c e h = omega (arith, count-le l)
 pub count_fits : (l : List Bool) (k m n c : ℕ) → c ≡ count (window l k m) → length l ≡ n → c ≤ n
 count_fits l k m n c e h = omega (arith, count-inside l k m, count-le l)
 
--- of the k low flags of a word at most k are set
+-- at most k of the k low flags of a word are set
 pub low-within : (k w r c : ℕ) → bits 64 r ≡ window (take k (bits 64 w)) 0 64 → c ≡ count (bits 64 r) → c ≤ k
 low-within k w r c p q =
     let e : c ≡ count (window (take k (bits 64 w)) 0 64) = q ∙ ap count p in
@@ -134,12 +134,12 @@ low-within k w r c p q =
     (λ (h : 64 ≤ k). omega (arith, count-le (window (take k (bits 64 w)) 0 64), length-window (take k (bits 64 w)) 0 64))
     (cases_lt k 64)
 
--- at most a word
+-- a list of at most 64 flags, by its word
 pub count-short : (l : List Bool) (len w c : ℕ) → length l ≡ len → len ≤ 64 → bits 64 w ≡ window l 0 64 → c ≡ count (bits 64 w)
     → c ≡ count l
 count-short l len w c e h p q = q ∙ ap count p ∙ count-padded l 64 (omega arith)
 
--- a list of m flags whose flags behind n are one flag, over and over
+-- a list of m flags whose flags after the first n are all equal
 pub count-behind : (l : List Bool) (m n c d : ℕ) (x : Bool) → c ≡ count (window l 0 n) → length l ≡ m → d ≡ (m - n) * digit x
     → (n < m → window l n (m - n) ≡ copies (m - n) x) → c + d ≡ count l
 count-behind l m n c d x p e q h = ⊎_elim

@@ -1,4 +1,4 @@
--- How many flags at either end are alike: in lists joined, cut, inverted and shifted, and in a number's bits. Assumes nothing.
+-- How many flags at either end are equal: in lists joined, cut, inverted and shifted, and in a number's bits.
 use Rattle.std.proofs.Common.{◌≡◌, refl, sym, ap, ap₂, ◌∙◌, Bool, true, false, not, List, [], ◌∷◌, ◌++◌, map, reverse, ⊎_elim, ℕ, zero}
 use Rattle.std.proofs.Common.{suc, ◌+◌, ◌-◌, ◌*◌, ◌/◌, ◌%◌, ◌^◌, ◌≤◌, ◌<◌, min, pow_pos, arith, length, take, take_all}
 use Rattle.std.proofs.Math.ListN.{length-reverse}
@@ -20,7 +20,7 @@ leading_le true (false ∷ l) = omega arith
 leading_le false (true ∷ l) = omega arith
 leading_le false (false ∷ l) = omega (arith, leading_le false l)
 
--- of a joined list: the first part's, unless all of it is alike
+-- the front of a joined list is that of the first part, unless all flags of this are x
 pub leading-some : (x : Bool) (a b : List Bool) → leading x a < length a → leading x (a ++ b) ≡ leading x a
 unfolding leading
 leading-some x [] b h = absurd (omega arith)
@@ -39,7 +39,7 @@ leading-all false (true ∷ a) b h = absurd (omega arith)
 leading-all false (false ∷ a) b h =
     let ih : leading false (a ++ b) ≡ length a + leading false b = leading-all false a b (omega arith) in omega arith
 
--- of a list's first flags
+-- the front of a list's first k flags
 pub leading-take : (x : Bool) (k : ℕ) (l : List Bool) → min (leading x l) k ≡ leading x (take k l)
 unfolding leading
 leading-take x zero l = omega arith
@@ -63,7 +63,7 @@ leading-copies false zero = refl
 leading-copies true (suc n) = ap suc (leading-copies true n)
 leading-copies false (suc n) = ap suc (leading-copies false n)
 
--- a list that is all alike
+-- a list whose flags are all x
 pub all_alike : (x : Bool) (l : List Bool) → length l ≤ leading x l → l ≡ copies (length l) x
 unfolding leading copies
 all_alike x [] h = refl
@@ -88,7 +88,7 @@ trailing-all x a b h =
     ap (leading x) (reverse-append a b) ∙ leading-all x (reverse b) (reverse a) (omega (arith, length-reverse b))
     ∙ ap (λ (n : ℕ). n + leading x (reverse a)) (length-reverse b)
 
--- of the last part of a joined list
+-- the end of the last part of a joined list
 trailing-last : (x : Bool) (a b : List Bool) → min (trailing x (a ++ b)) (length b) ≡ trailing x b
 trailing-last x a b = ⊎_elim
     (λ (h : trailing x b < length b). omega (arith, trailing-some x a b h))
@@ -135,7 +135,7 @@ unfolding count_trailing_zeros bits leading
 front-bits zero n = refl
 front-bits (suc d) n = front-one (n % 2) (count_trailing_zeros d (n / 2)) (bits d (n / 2)) (front-bits d (n / 2))
 
--- a number whose bits are all zero
+-- a number whose bits are all zero is 0
 zero_bits : (d n : ℕ) → n < 2 ^ d → length (bits d n) ≤ trailing false (bits d n) → n ≡ 0
 unfolding trailing
 zero_bits d n b h =
@@ -185,7 +185,7 @@ take-least d k w = ⊎_elim
     ∙ sym (take_all k (bits d w) (omega (arith, length-bits d w))))
     (cases_lt k d)
 
--- zeros are shifted in below them, and the flags alike at the end counted, at most n
+-- zeros are shifted in below the first k flags, and the equal flags at the end are counted, at most n
 pub trailing-shifted : (x : Bool) (d k n v r c : ℕ) → n ≡ min k d → (n ≡ 0 → ⊥) → r ≡ v * 2 ^ (d - n) % 2 ^ d → c ≡ trailing x (bits d r)
     → min c n ≡ trailing x (take k (bits d v))
 trailing-shifted x d k n v r c e z p q =

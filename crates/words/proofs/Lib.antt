@@ -1,4 +1,4 @@
--- The laws of the crate, a file for each topic. Those marked `pub` are cited by the crates above.
+-- The laws of the crate, a file for each topic. Those marked `pub` are used by the crates above.
 mod AdderLaws
 pub mod AnyFlag
 mod Behind

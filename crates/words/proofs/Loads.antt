@@ -1,4 +1,4 @@
--- Loads and stores of words: up to eight bytes, whole in range, from any bit, and two loads that overlap. Assumes nothing.
+-- Loads and stores of words: at most eight bytes, whole in range, from any bit, and two loads that overlap.
 use Rattle.std.proofs.Common.{◌≡◌, refl, sym, ap, ap₂, ◌∙◌, subst, Bool, false, cond, ◌&&◌, List, [], ◌∷◌, ◌++◌, ⊎_elim, ℕ, zero, suc}
 use Rattle.std.proofs.Common.{◌+◌, ◌-◌, ◌*◌, ◌/◌, ◌%◌, ◌^◌, ◌≤◌, ◌<◌, le_of_lt, mod-lt, one-mul, arith, length, take, drop, add-one, bit_or}
 use Rattle.std.proofs.Common.{get_or, length-take-le, length-drop, lit<, leb, ltb, drop_at, take_all, get_or-take}
@@ -12,7 +12,7 @@ use Rattle.words.proofs.Bits.{length-bits, bits-add, bits-take, bits-zero, bits-
 use Rattle.words.proofs.Bytes.{flags-more, flags-append, flags-take, flags-drop, flags-one, length-flags, over-part}
 use Rattle.words.proofs.Windows.{window-cut, window-drop, window-past, window-ext, at-window, in_window, bits-window, ltb-sub}
 
--- ---- up to eight bytes: joined byte by byte, written as the bytes of a word
+-- ---- at most eight bytes: joined byte by byte, written as the bytes of a word
 
 -- the first i bytes, as a number
 unfoldable pub up_to : List ℕ → ℕ → ℕ
@@ -111,7 +111,7 @@ put-mid out part at w h p =
     (p ∙ ap (λ (n : ℕ). over (flags_of (take n (drop at out))) (bits 64 w)) e)
     ∙ ap (λ (x : List Bool). over x (bits 64 w)) (flags-drop at out))
 
--- ---- the low flags, and a shift down
+-- ---- the low flags, and a shift to the right
 
 pub low-some : (d k w : ℕ) → k < d → bits d (w % (1 * 2 ^ k % 2 ^ d)) ≡ window (take k (bits d w)) 0 d
 low-some d k w h =
@@ -138,7 +138,7 @@ bits-shr d s x h =
 pub down-all : (d k w : ℕ) → d ≤ k → bits d 0 ≡ window (bits d w) k d
 down-all d k w h = bits-zero d ∙ sym (window-past (bits d w) k d (omega (arith, length-bits d w)))
 
--- a word of the list's last flags, moved down
+-- a word of the list's last flags, shifted right
 pub from_end : (l : List Bool) (p k bit x r : ℕ) → length l ≤ p + 64 → bit ≡ p + k → bits 64 x ≡ window l p 64
     → bits 64 r ≡ window (bits 64 x) k 64
     → bits 64 r ≡ window l bit 64
@@ -154,7 +154,7 @@ from_end l p k bit x r h e q u =
     ∙ sym (get_or-eq_default l false (omega arith)))
     (cases_lt (k + j) 64))
 
--- the same of bytes: nothing is left of them, fewer than eight, or the last eight
+-- a word of the bytes' last flags: nothing is left of them, fewer than eight bytes, or the last eight
 pub at-past : (bs : List ℕ) (at s : ℕ) → length bs ≤ at → bits 64 0 ≡ window (flags_of bs) (8 * at + s) 64
 at-past bs at s h = bits-zero 64 ∙ sym (window-past (flags_of bs) (8 * at + s) 64 (omega (arith, length-flags bs)))
 
@@ -174,11 +174,11 @@ byte_past bs at h = bits-zero 64 ∙ sym (window-past (flags_of bs) (8 * at) 64 
 
 -- ---- a store where there is room for all eight bytes, or none
 
--- what a caller who knows of the room learns
+-- what a caller that knows of the room may conclude
 pub had-room : (at n : ℕ) (out new old : List Bool) → out ≡ cond (leb (at + 8) n) new old → at + 8 ≤ n → out ≡ new
 had-room at n out new old e h = e ∙ ap (λ (t : Bool). cond t new old) (le-leb (at + 8) n h)
 
--- the flags of a word that was read from a flag on, moved down
+-- the flags of a word that was read at a flag, shifted right
 pub moved-flags : (l : List Bool) (at k n x r : ℕ) → k + n ≤ 64 → bits 64 x ≡ window l at 64 → bits 64 r ≡ window (bits 64 x) k 64
     → take n (bits 64 r) ≡ window l (at + k) n
 moved-flags l at k n x r h p q =
@@ -186,7 +186,7 @@ moved-flags l at k n x r h p q =
     ap (take n) q ∙ window-cut (bits 64 x) k 64 0 n (omega arith) ∙ ap (λ (t : List Bool). window t (k + 0) n) p
     ∙ in_window l at 64 (k + 0) n (omega arith) ∙ ap (λ (y : ℕ). window l y n) e
 
--- the flags to the end of the eight bytes in which flag `bit` stands, with zeros behind them
+-- the flags to the end of the eight bytes in which flag `bit` lies, with zeros after them
 pub near-all : (l : List Bool) (bit x r : ℕ) → bits 64 x ≡ window l (8 * (bit / 8)) 64 → bits 64 r ≡ window (bits 64 x) (bit % 8) 64
     → bits 64 r ≡ window (window l bit (64 - bit % 8)) 0 64
 near-all l bit x r p q =
@@ -198,7 +198,7 @@ near-all l bit x r p q =
     at-window l (8 * (bit / 8)) 64 (s + j) ∙ ap₂ (λ (t : Bool) (n : ℕ). t && get_or l n false) (sym (ltb-sub j 64 s)) e
     ∙ sym (ap (λ (k : ℕ). get_or (window l bit (64 - s)) k false) z ∙ at-window l bit (64 - s) j))
 
--- the first n of them
+-- the first n flags of such a word
 pub near-first : (l : List Bool) (bit n r : ℕ) → bit % 8 + n ≤ 64 → bits 64 r ≡ window (window l bit (64 - bit % 8)) 0 64
     → take n (bits 64 r) ≡ window l bit n
 near-first l bit n r h q =

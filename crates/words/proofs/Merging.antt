@@ -1,4 +1,4 @@
--- Two words shifted together: two loads that overlap, `merge_reversed`, and one word behind the other. Assumes nothing.
+-- Two words shifted together: two loads that overlap, `merge_reversed`, and one word after the other.
 use Rattle.std.proofs.Common.{◌≡◌, refl, sym, ap, ap₂, ◌∙◌, subst, Bool, true, false, ◌&&◌, ◌||◌, List, [], ◌∷◌, ◌++◌, append_assoc, ℕ}
 use Rattle.std.proofs.Common.{zero, suc, ◌+◌, ◌-◌, ◌*◌, ◌/◌, ◌%◌, ◌^◌, ◌≤◌, ◌<◌, zero-le, add_comm, le_of_lt, sub-add_cancel, mod-eq_of_lt}
 use Rattle.std.proofs.Common.{mod-lt, one-mul, zero-lt-suc, arith, length, take, drop, get_or, length-append, length-take, lit<, ltb}
@@ -108,7 +108,7 @@ pub merge-past : (d o c : ℕ) (b : List Bool) → d ≤ o → bits d c ≡ merg
 unfolding merged
 merge-past d o c b h = rw (length-bits d c, le-ltb o d h)
 
--- two neighbouring words of a list are merged to the word from the offset on
+-- two neighbouring words of a list, merged, are the word that begins at the offset
 pub merged-window : (l : List Bool) (k d o : ℕ) → o < d → merged (window l k d) (window l (k + d) d) o ≡ window l (k + o) d
 unfolding merged
 merged-window l k d o h =
@@ -147,7 +147,7 @@ behind-all d k a b h = as-window (bits d a) (take k (bits d a) ++ b) 0 d (length
     ∙ sym (get_or-append (take k (bits d a)) b false j (omega (arith, length-take k (bits d a))))
     ∙ ap (λ (x : ℕ). get_or (take k (bits d a) ++ b) x false) z)
 
--- ---- a word moved up, and copies of a flag as a word
+-- ---- a word shifted left, and copies of a flag as a word
 
 pub up-some : (d k w : ℕ) → k < d → bits d (w * 2 ^ k % 2 ^ d) ≡ window (copies k false ++ bits d w) 0 d
 up-some d k w h =
@@ -177,7 +177,7 @@ copies-some d n true h =
 pub copies-past : (d n r : ℕ) (x : Bool) → d ≤ n → bits d r ≡ copies d x → bits d r ≡ window (copies n x) 0 d
 copies-past d n r x h e = e ∙ copies-window n x 0 d (omega arith)
 
--- ---- one word behind another by `or`: no flag of the first from its length on, and the second moved up
+-- ---- one word after another by `or`: no flag of the first at its length or above, and the second shifted left
 
 or_left : (t : List Bool) (k n : ℕ) → zip_with ◌||◌ (copies n false) (window t k n) ≡ window t k n
 unfolding window zip_with copies

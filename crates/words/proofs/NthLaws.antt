@@ -1,4 +1,4 @@
--- The set flag number n, in a list cut in two and in a word whose low half is counted. Assumes nothing.
+-- Set flag n, in a list cut in two and in a word whose low half is counted.
 use Rattle.std.specs.Prelude.{Ok, Err}
 use Rattle.std.proofs.Common.{◌≡◌, refl, sym, ap, ap₂, ◌∙◌, subst, Bool, true, false, cond, List, [], ◌∷◌, ◌++◌, ⊎_elim, ℕ, zero, suc}
 use Rattle.std.proofs.Common.{◌+◌, ◌-◌, ◌*◌, ◌/◌, ◌%◌, ◌^◌, ◌≤◌, ◌<◌, mod-lt, add-sub_of_le, sub-add_cancel, div-one, arith, ltb, pow_pos}
@@ -10,7 +10,7 @@ use Rattle.words.specs.Nth.{nth_one, nth_place}
 use Rattle.words.proofs.Bits.{bits-add, bits-mod, bits-shl, bits-take, length-bits}
 use Rattle.words.proofs.Counting.{ones-bits, count-append, count-copies}
 
--- in two lists in a row
+-- set flag n of two lists in a row
 pub nth-low : (a b : List Bool) (n : ℕ) → n < count a → nth_place (a ++ b) n ≡ nth_place a n
 unfolding nth_place count
 nth-low [] b n h = absurd (omega arith)
@@ -33,7 +33,7 @@ nth-lt (false ∷ a) n h = omega (arith, nth-lt a n (omega arith))
 nth-lt (true ∷ a) zero h = omega arith
 nth-lt (true ∷ a) (suc n) h = omega (arith, nth-lt a n (omega arith))
 
--- the low h bits of a word of d, counted in the word shifted up
+-- the low h bits of a word of d, counted in the word shifted left
 pub ones_low : (d h w : ℕ) → h ≤ d → ones (w * 2 ^ (d - h) % 2 ^ d) ≡ count (bits h w)
 ones_low d h w l =
     sym (ones-bits d (w * 2 ^ (d - h) % 2 ^ d) (mod-lt (w * 2 ^ (d - h)) (pow_pos d)))
@@ -57,7 +57,7 @@ cut d h w l = ap (λ (x : ℕ). bits x w) (sym (add-sub_of_le l)) ∙ bits-add h
 pub count_cut : (d h w : ℕ) → h ≤ d → count (bits d w) ≡ count (bits h w) + count (bits (d - h) (w / 2 ^ h))
 count_cut d h w l = ap count (cut d h w l) ∙ count-append (bits h w) (bits (d - h) (w / 2 ^ h))
 
--- k ones are in the low h bits: where the set bit n is, below them and above
+-- k ones are among the low h bits: the place of set flag n, below them and above
 pub place-low : (d h w n k r : ℕ) → h ≤ d → k ≡ count (bits h w) → n < k → r ≡ nth_place (bits h w) n → r ≡ nth_place (bits d w) n
 place-low d h w n k r l e q p =
     p ∙ sym (ap (λ (x : List Bool). nth_place x n) (cut d h w l) ∙ nth-low (bits h w) (bits (d - h) (w / 2 ^ h)) n (omega arith))
@@ -68,7 +68,7 @@ place-high d h w n k r l e q p =
     ap₂ (λ (x y : ℕ). x + y) (sym (length-bits h w)) (p ∙ ap (λ (x : ℕ). nth_place (bits (d - h) (w / 2 ^ h)) (n - x)) e)
     ∙ sym (ap (λ (x : List Bool). nth_place x n) (cut d h w l) ∙ nth-high (bits h w) (bits (d - h) (w / 2 ^ h)) n (omega arith))
 
--- which half it is in, as numbers: s places and o ones are passed over
+-- the half in which set flag n is, as numbers: s places and o ones are passed over
 pub behind-le : (n k x r : ℕ) → r ≡ cond (ltb n k) 0 x → r ≤ x
 behind-le n k x r e = go (ltb n k) e
   where
@@ -124,7 +124,7 @@ place-lt d w n h = subst (λ (x : ℕ). nth_place (bits d w) n < x) (length-bits
 pub place-one : (d w n : ℕ) → d ≤ 1 → n < count (bits d w) → 0 ≡ nth_place (bits d w) n
 place-one d w n l h = omega (arith, place-lt d w n h)
 
--- the answer, at any width
+-- the answer of `nth_set_bit`, at any width
 pub found : (d w n r : ℕ) → w < 2 ^ d → n < ones w → r ≡ nth_place (bits d w) n → Ok r ≡ nth_one (bits d w) n
 unfolding nth_one
 found d w n r b h p = rw (lt-ltb n (count (bits d w)) (omega (arith, ones-bits d w b))) (ap Ok p)

@@ -1,7 +1,7 @@
 -- The plain reading of each definition of specs/: how long each list is, what its flag j is, what is counted and what is found.
--- A reading that is a law of another file is named, not repeated. Assumes nothing.
+-- A reading that is a law of another file is named, not repeated.
 --
--- `digit`, `bit_at`, `flag_at` and `op_of` are read as they stand. Of a list l, flag j is `get_or l j false`: false from its end on.
+-- `digit`, `bit_at`, `flag_at` and `op_of` are plain as they are. Flag j of a list l is `get_or l j false`: false past its end.
 use Rattle.std.specs.Prelude.{Ok, Err}
 use Rattle.std.proofs.Common.{◌≡◌, refl, sym, ap, ◌∙◌, Bool, true, false, List, [], ◌∷◌, ◌++◌, ⊎_elim, ℕ, zero, suc, ◌+◌, ◌-◌, ◌*◌, ◌/◌}
 use Rattle.std.proofs.Common.{◌%◌, ◌^◌, ◌≤◌, ◌<◌, min, zero-add, div-one, mod-lt, zero-lt-suc, arith, length, take, drop, get_or}
@@ -56,7 +56,7 @@ at-flags (b ∷ bytes) j = ⊎_elim
     ∙ at-flags bytes (j - 8)))
     (cases_lt j 8)
 
--- So a flag can be read from its byte alone.
+-- So a flag can be read from one byte.
 pub read-flag : (bytes : List ℕ) (j b : ℕ) → b ≡ get_or bytes (j / 8) 0 → eqb (b / 2 ^ (j % 8) % 2) 1 ≡ get_or (flags_of bytes) j false
 read-flag bytes j b e =
     eqb-is_one (b / 2 ^ (j % 8) % 2) (mod-lt (b / 2 ^ (j % 8)) (zero-lt-suc 1)) ∙ ap (λ (x : ℕ). bit_at x (j % 8)) e
@@ -73,17 +73,17 @@ at-word l k =
 
 -- ---- how many are set
 
--- Of no flags none is set.
+-- The empty list has no set flag.
 pub count-empty : count [] ≡ 0
 unfolding count
 count-empty = refl
 
--- One flag more at the end counts one if it is set, else nothing.
+-- One more flag at the end counts one if it is set, else nothing.
 pub count-last : (l : List Bool) (x : Bool) → count (l ++ (x ∷ [])) ≡ count l + digit x
 unfolding count
 count-last l x = let e : count (x ∷ []) ≡ digit x = omega arith in count-append l (x ∷ []) ∙ ap (λ (n : ℕ). count l + n) e
 
--- Of the first j + 1 flags as many are set as of the first j, and one more if flag j is set.
+-- The first j + 1 flags have as many set as the first j, and one more if flag j is set.
 pub count-first : (l : List Bool) (j : ℕ) → count (take (suc j) l) ≡ count (take j l) + digit (get_or l j false)
 unfolding count
 count-first [] zero = refl
@@ -94,7 +94,7 @@ count-first (x ∷ l) (suc j) = let h : count (take (suc j) l) ≡ count (take j
 -- ---- parts
 
 -- `window l k n` has n flags (`length-window`), flag j of which is flag k + j of l (`at_in`; `at-window` for every j: all three of
--- Windows.antt). Where they are all in range, they are the first n of what is left when k are dropped.
+-- Windows.antt). If they are all in range, they are the first n of what is left when k are dropped.
 pub window-part : (l : List Bool) (k n : ℕ) → k + n ≤ length l → window l k n ≡ take n (drop k l)
 window-part l k n h =
     ap (λ (x : ℕ). window l x n) (sym (zero-add k)) ∙ sym (window-cut l 0 (length l) k n h)
@@ -102,7 +102,7 @@ window-part l k n h =
 
 -- `copies n x` has n flags (`length-copies`), and each of them is x (`at_copies`, both of Windows.antt).
 
--- Flag j of a stretch of bytes from the flag `start` on is Arrow's flag start + j of the bytes.
+-- Flag j of a stretch of bytes that begins at flag `start` is Arrow's flag start + j of the bytes.
 pub at-stretch : (bytes : List ℕ) (start n j : ℕ) → j < n → get_or (stretch bytes start n) j false ≡ flag_at bytes (start + j)
 at-stretch bytes start n j h = at_in (flags_of bytes) start n j h ∙ at-flags bytes (start + j)
 
@@ -122,7 +122,7 @@ at-whole l j = ⊎_elim
 
 -- ---- writing
 
--- `over l m` is as long as l (`length_over` of Windows.antt). Where both have an element j, it is that of m,
+-- `over l m` is as long as l (`length_over` of Windows.antt). If both have an element j, it is that of m,
 pub at-over : {A : Type 0} (l m : List A) (j : ℕ) (d : A) → j < length m → j < length l → get_or (over l m) j d ≡ get_or m j d
 unfolding over
 at-over [] m j d h k = absurd (omega arith)
@@ -130,7 +130,7 @@ at-over (x ∷ l) [] j d h k = absurd (omega arith)
 at-over (x ∷ l) (y ∷ m) zero d h k = refl
 at-over (x ∷ l) (y ∷ m) (suc j) d h k = at-over l m j d (omega arith) (omega arith)
 
--- and from the end of m on it is that of l.
+-- and past the end of m it is that of l.
 pub at-behind : {A : Type 0} (l m : List A) (j : ℕ) (d : A) → length m ≤ j → get_or (over l m) j d ≡ get_or l j d
 unfolding over
 at-behind [] m j d h = refl
@@ -154,7 +154,7 @@ over_at-before l n m j h = ⊎_elim
     ∙ sym (get_or-eq_default l false k))
     (cases_lt j (length l))
 
--- from n on what is written over the rest of l:
+-- starting at n, it has what is written over the rest of l:
 over_at-rest : (l : List Bool) (n : ℕ) (m : List Bool) (j : ℕ) → n ≤ length l
     → get_or (over_at l n m) (n + j) false ≡ get_or (over (drop n l) m) j false
 unfolding over_at
@@ -167,7 +167,7 @@ pub over_at-in : (l : List Bool) (n : ℕ) (m : List Bool) (j : ℕ) → j < len
     → get_or (over_at l n m) (n + j) false ≡ get_or m j false
 over_at-in l n m j h k = over_at-rest l n m j (omega arith) ∙ at-over (drop n l) m j false h (omega (arith, length-drop n l))
 
--- and from the end of m on those of l again.
+-- and past the end of m those of l again.
 pub over_at-behind : (l : List Bool) (n : ℕ) (m : List Bool) (j : ℕ) → length m ≤ j
     → get_or (over_at l n m) (n + j) false ≡ get_or l (n + j) false
 over_at-behind l n m j h = ⊎_elim
@@ -191,7 +191,7 @@ length_merged a b offset h k =
     rw (lt-ltb offset (length a) h)
     (length-take-le (length a) (drop offset (a ++ b)) (omega (arith, length-drop offset (a ++ b), length-append a b)))
 
--- with an offset from a's length on it is a.
+-- with an offset of a's length or more it is a.
 pub merged-past : (a b : List Bool) (offset : ℕ) → length a ≤ offset → merged a b offset ≡ a
 unfolding merged
 merged-past a b offset h = rw (le-ltb offset (length a) h)
@@ -255,7 +255,7 @@ pub nth-missing : (l : List Bool) (n : ℕ) → count l ≤ n → nth_one l n �
 unfolding nth_one
 nth-missing l n h = rw (le-ltb n (count l) h)
 
--- and only then: a number that it gives is that of the set flags, and at most n.
+-- and only then: the number that it has is that of the set flags, and at most n.
 pub missing-nth : (l : List Bool) (n k : ℕ) → nth_one l n ≡ Err k → (k ≡ count l) × (count l ≤ n)
 missing-nth l n k e = ⊎_elim
     (λ (h : n < count l). absurd (let f : nth_one l n
@@ -263,9 +263,9 @@ missing-nth l n k e = ⊎_elim
     (λ (h : count l ≤ n). let f : nth_one l n ≡ Err (count l) = nth-missing l n h in let p : k ≡ count l = cc in (p, h))
     (cases_lt n (count l))
 
--- ---- is a flag set, and are two lists the same
+-- ---- whether a flag is set, and whether two lists are the same
 
--- If flag j is set, `any_set` says so,
+-- If flag j is set, `any_set` is true,
 pub flag-any : (l : List Bool) (j : ℕ) → get_or l j false ≡ true → any_set l ≡ true
 unfolding any_set
 flag-any [] j e = e
@@ -273,7 +273,7 @@ flag-any (true ∷ l) j e = refl
 flag-any (false ∷ l) zero e = absurd (let z : ◌≡◌ {A = ℕ} 0 1 = cc e in omega arith)
 flag-any (false ∷ l) (suc j) e = flag-any l j e
 
--- and if it says so, there is a flag that is set. (`any-count` of AnyFlag.antt says it by the count.)
+-- and if it is true, there is a flag that is set. (`any-count` of AnyFlag.antt states it by the count.)
 pub any_flag : (l : List Bool) → any_set l ≡ true → (j : ℕ) × (get_or l j false ≡ true)
 any_flag l e = (nth_place l 0, nth-set l 0 (any_some l (sym e)))
 
@@ -298,9 +298,9 @@ equal-same a b e = ap (same_flags a) (sym e) ∙ itself a
     itself (true ∷ a) = itself a
     itself (false ∷ a) = itself a
 
--- ---- are all flags one flag
+-- ---- whether all flags equal one flag
 
--- A list whose flags are all x is so many copies of x,
+-- A list whose flags are all x consists of copies of x,
 pub all-copies : (x : Bool) (l : List Bool) → all_are x l ≡ true → l ≡ copies (length l) x
 unfolding copies xor
 all-copies x [] e = refl

@@ -1,4 +1,4 @@
--- Words added to bit planes, at any number of planes; the numbers of the columns. Assumes nothing.
+-- Words added to bit planes, at any number of planes; the numbers of the columns.
 use Rattle.std.proofs.Common.{◌≡◌, refl, sym, ap, ap₂, ◌∙◌, Bool, true, false, ◌&&◌, List, [], ◌∷◌, ◌++◌, append-nil, append_assoc, ℕ, zero}
 use Rattle.std.proofs.Common.{suc, ◌+◌, ◌-◌, ◌*◌, ◌%◌, ◌^◌, ◌≤◌, ◌<◌, min, pow-suc, mod-eq_of_lt, zero-add, add-one, arith, bit_and}
 use Rattle.std.proofs.Common.{bit_xor, ⊎_elim, length, take, drop, get_or, set, replicate, length-append, drop_of_length-le, drop-drop}
@@ -14,7 +14,7 @@ use Rattle.words.specs.Planes.{planes_at, added, Grown, Totals, Wrote}
 use Rattle.words.proofs.ColumnLaws.{flag, flag-and, flag-xor, zero-digit, column-append, column-le, columns-are}
 use Rattle.words.proofs.Counting.{count-append}
 
--- ---- one word more
+-- ---- one more word
 
 -- a half adder
 half-add : (x y : Bool) → digit (xor x y) + 2 * digit (x && y) ≡ digit x + digit y
@@ -33,7 +33,7 @@ unfoldable pub carry_of : List ℕ → ℕ → ℕ
 carry_of [] w = w
 carry_of (p ∷ ps) w = carry_of ps (bit_and p w)
 
--- the law: at any number of planes the number of each column grows by the word's flag, up to what is handed on
+-- at any number of planes, each column's number grows by the word's flag, except for what the last plane hands on
 pub adds : (ps : List ℕ) (w c : ℕ) → c < 64
     → planes_at (added ps w) c + 2 ^ length ps * digit (flag (carry_of ps w) c) ≡ planes_at ps c + digit (flag w c)
 unfolding planes_at added carry_of
@@ -53,7 +53,7 @@ pub none-on : (s n : ℕ) (t : Bool) (k : ℕ) → s + n * digit t ≡ k → k <
 none-on s n false k e h = omega arith
 none-on s n true k e h = absurd (omega arith)
 
--- where there is room, nothing is handed on
+-- if there is room, nothing is handed on
 pub adds_one : (ps : List ℕ) (w c : ℕ) → c < 64 → planes_at ps c + digit (flag w c) < 2 ^ length ps
     → planes_at (added ps w) c ≡ planes_at ps c + digit (flag w c)
 adds_one ps w c b h =
@@ -66,7 +66,7 @@ length-added (p ∷ ps) w = ap suc (length-added ps (bit_and p w))
 
 -- ---- the loop over the planes
 
--- a word added to the planes from k on
+-- a word added to the planes above the first k
 unfoldable pub added_from : ℕ → List ℕ → ℕ → List ℕ
 added_from k ps w = take k ps ++ added (drop k ps) w
 
@@ -74,7 +74,7 @@ pub way_none : (ps : List ℕ) (w : ℕ) → added_from 0 ps w ≡ added ps w
 unfolding added_from
 way_none ps w = refl
 
--- the planes from i on have yet to be added to
+-- a step at plane i; the planes above it have yet to be added to
 pub way_step : (ps : List ℕ) (carry i : ℕ) → i < length ps
     → added_from (i + 1) (set ps i (bit_xor (get_or ps i 0) carry)) (bit_and (get_or ps i 0) carry) ≡ added_from i ps carry
 unfolding added_from added
@@ -121,7 +121,7 @@ totals_grown words ps ws left all new few e t g = record {
       omega (arith, g.sums c p room);
 }
 
--- one of them
+-- one word that was left is added
 pub one_grown : (ps : List ℕ) (w : ℕ) (new : List ℕ) → new ≡ added ps w → Grown ps (w ∷ []) new
 unfolding column count
 one_grown ps w new e = record {
@@ -139,7 +139,7 @@ one_left words ps rest new i few h t e =
     drop-cons rest i 0 h ∙ ap (λ (n : ℕ). get_or rest i 0 ∷ drop n rest) (sym (add-one i)) in
     totals_grown words ps (get_or rest i 0 ∷ []) (drop (i + 1) rest) (drop i rest) new few next t (one_grown ps (get_or rest i 0) new e)
 
--- what is left of the words, in whole eights and the same rest
+-- what is left of the words: their end, after some whole eights
 pub record EndOf (words left : List ℕ) : Type 0 where
   pub within : length left ≤ length words
   pub end : left ≡ drop (length words - length left) words
@@ -203,7 +203,7 @@ wrote_halves ps low zeros high long same a b =
     ap₂ (λ (s t : List ℕ). s ++ (high ++ t)) e f ∙ ap (λ (t : List ℕ). low ++ t) (append-nil high) in
     rw g (wrote_both ps low high long a b)
 
--- the planes from k on make the rest of a number, times their power of two
+-- the planes above the first k make the rest of a number, times 2 ^ k
 planes-split : (ps : List ℕ) (k c : ℕ) → planes_at ps c ≡ planes_at (take k ps) c + 2 ^ k * planes_at (drop k ps) c
 unfolding planes_at
 planes-split ps zero c = omega arith
@@ -212,7 +212,7 @@ planes-split (p ∷ ps) (suc k) c =
     let d : 2 ^ suc k * planes_at (drop k ps) c ≡ 2 * (2 ^ k * planes_at (drop k ps) c) = doubled k (planes_at (drop k ps) c) in
     omega (arith, planes-split ps k c)
 
--- so numbers below 2 ^ k stand in the first k planes
+-- so a number below 32 has all its digits in the first five planes
 planes-few : (n m r : ℕ) → n ≡ m + 32 * r → n < 32 → m ≡ n
 planes-few n m r e h = omega arith
 

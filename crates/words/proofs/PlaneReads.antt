@@ -1,4 +1,4 @@
--- Numbers of columns read off bit planes: digit by digit, each tested by the mask of its flag. Assumes nothing.
+-- Numbers of columns read off bit planes: digit by digit, each selected by the mask of its flag.
 use Rattle.std.proofs.Common.{◌≡◌, refl, sym, ap, ◌∙◌, Bool, cond, List}
 use Rattle.std.proofs.Common.{ℕ, zero, suc, ◌+◌, ◌-◌, ◌*◌, ◌/◌, ◌%◌, ◌^◌, ◌≤◌, ◌<◌, pow-suc, mod-lt, zero-lt-suc}
 use Rattle.std.proofs.Common.{add-one, arith, bit_and, eqb, pow_mono, shl_exact, shr-shr, eq-eqb, ne_eqb}
@@ -24,7 +24,7 @@ planes_down ps i c h = ap (λ (t : List ℕ). planes_at t c) (drop-cons ps i 0 h
 pub digit_shift : (w c : ℕ) → c < 64 → w / 2 ^ c % 2 ≡ digit (flag w c)
 digit_shift w c p = sym (digit-is_one (w / 2 ^ c % 2) (mod-lt (w / 2 ^ c) (zero-lt-suc 1))) ∙ ap digit (sym (at_bits 64 w c p))
 
--- a digit more, times its power of two
+-- one more digit, times its power of two
 pub digits_more : (ps : List ℕ) (c i s d : ℕ) → i < length ps → s + 2 ^ i * planes_at (drop i ps) c ≡ planes_at ps c
     → d ≡ digit (flag (get_or ps i 0) c)
     → s + d * 2 ^ i + 2 ^ (i + 1) * planes_at (drop (i + 1) ps) c ≡ planes_at ps c
@@ -38,13 +38,13 @@ digits_more ps c i s d h e f =
     let t : d * 2 ^ i ≡ digit (flag (get_or ps i 0) c) * 2 ^ i = ap (λ (n : ℕ). n * 2 ^ i) f in
     omega arith
 
--- ---- a column tested by a mask
+-- ---- a column selected by a mask
 
 pub mask_of : (ms : List ℕ) (c : ℕ) → Masks ms 32 → c < 32 → get_or ms c 0 ≡ 2 ^ c
 unfolding Masks
 mask_of ms c h p = h c p
 
--- flag c of 32 flags from flag s on
+-- flag c of the 32 flags that begin at flag s
 half-bit : (p s c : ℕ) → c < 32 → p / 2 ^ s % 2 ^ 32 / 2 ^ c % 2 ≡ p / 2 ^ (s + c) % 2
 half-bit p s c h =
     let q : ℕ = p / 2 ^ s in
@@ -53,7 +53,7 @@ half-bit p s c h =
     ap (λ (n : ℕ). q % 2 ^ n / 2 ^ c % 2) a ∙ ap (λ (x : ℕ). x % 2) (field q (32 - c) c)
     ∙ ap (λ (n : ℕ). q / 2 ^ c % 2 ^ n % 2) b ∙ mod-mod-pow (q / 2 ^ c) (31 - c) 1 ∙ ap (λ (x : ℕ). x % 2) (shr-shr p s c)
 
--- what a mask of one flag leaves
+-- the bit that a mask of one flag leaves
 masked : (h c : ℕ) → bit_and h (2 ^ c) ≡ h / 2 ^ c % 2 * 2 ^ c
 masked h c =
     let e : (2 ^ 1 - 1) * 2 ^ c ≡ 2 ^ c = omega arith in
@@ -75,7 +75,7 @@ mask-digit p s c m h r a b e f g =
     g ∙ ap (λ (x : ℕ). cond (eqb x 0) 0 1) bit ∙ by_bit (h / 2 ^ c % 2) (2 ^ c) (mod-lt (h / 2 ^ c) (zero-lt-suc 1)) (omega arith)
     ∙ ap (λ (x : ℕ). x / 2 ^ c % 2) f ∙ half-bit p s c b ∙ digit_shift p (s + c) (omega arith)
 
--- one digit more of the sum is written
+-- one more digit of the sum is written
 pub digit_more : (ps : List ℕ) (c i s d t : ℕ) → length ps ≤ 9 → i < length ps → s + 2 ^ i * planes_at (drop i ps) c ≡ planes_at ps c
     → d ≡ digit (flag (get_or ps i 0) c) → t ≡ d * 2 ^ i % 2 ^ 32 → s + t + 2 ^ (i + 1) * planes_at (drop (i + 1) ps) c ≡ planes_at ps c
 digit_more ps c i s d t long h e f g =
@@ -83,7 +83,7 @@ digit_more ps c i s d t long h e f g =
     let all : t ≡ d * 2 ^ i = g ∙ shl_exact 1 i 32 one (omega arith) in
     ap (λ (n : ℕ). s + n + 2 ^ (i + 1) * planes_at (drop (i + 1) ps) c) all ∙ digits_more ps c i s d h e f
 
--- a digit more keeps a sum of i digits below the next power of two, and of nine digits below 512
+-- with one more digit, a sum of i digits is below the next power of two, and one of nine digits below 512
 pub sum_more : (i s d t : ℕ) → s < 2 ^ i → i < 9 → d < 2 → t ≡ d * 2 ^ i % 2 ^ 32 → (s + t < 2 ^ (i + 1)) × (s + t < 512)
 sum_more i s d t h b k g =
     let all : t ≡ d * 2 ^ i = g ∙ shl_exact 1 i 32 k (omega arith) in

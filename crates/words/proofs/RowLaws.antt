@@ -1,4 +1,4 @@
--- Words added flag by flag, seven rows of words counted side by side, and the parts of a stretch that is counted. Assumes nothing.
+-- Words added flag by flag, seven rows of words counted side by side, and the parts of a stretch that is counted.
 use Rattle.std.proofs.Common.{◌≡◌, refl, sym, ap, ◌∙◌, Bool, false, List, [], ◌∷◌, ℕ, suc, ◌+◌, ◌-◌, ◌*◌, ◌%◌, ◌≤◌, ◌<◌}
 use Rattle.std.proofs.Common.{arith, length, take, get_or, take_all, ⊎_elim}
 use Rattle.std.proofs.lemmas.Bool.{cases_lt}
@@ -41,7 +41,7 @@ added-count x y z l h p =
     same : (w : ℕ) → length (bits 64 w) ≡ length (bits 64 x)
     same w = length-bits 64 w ∙ sym (length-bits 64 x)
 
--- ---- seven rows of m words from the flag p on
+-- ---- seven rows of m words, starting at flag p
 
 -- a stretch in two parts
 pub count-two : (l : List Bool) (q n a b r : ℕ) → n ≡ a + b → r ≡ q + a → count (window l q n) ≡ count (window l q a) + count (window l r b)
@@ -96,7 +96,7 @@ word-most w = count_word w (count (bits 64 w)) refl
 pub seven_most : (a b c d e f g r : ℕ) → r ≡ seven_ones a b c d e f g → r ≤ 448
 seven_most a b c d e f g r q = omega (arith, word-most a, word-most b, word-most c, word-most d, word-most e, word-most f, word-most g)
 
--- by four full adders
+-- the ones of seven words, by four full adders
 pub seven_sum : (a b c d e f g xl xh yl yh zl zh tl th ones twos fours : ℕ) → Added a b c xl xh → Added d e f yl yh → Added xl yl g zl zh
     → Added xh yh zh tl th
     → ones ≡ count (bits 64 zl) → twos ≡ count (bits 64 tl) → fours ≡ count (bits 64 th)
@@ -104,7 +104,7 @@ pub seven_sum : (a b c d e f g xl xh yl yh zl zh tl th ones twos fours : ℕ) �
 seven_sum a b c d e f g xl xh yl yh zl zh tl th ones twos fours p q r s u v w =
     omega (arith, added-count a b c xl xh p, added-count d e f yl yh q, added-count xl yl g zl zh r, added-count xh yh zh tl th s)
 
--- a word more of a row
+-- one more word of a row
 row_more : (l : List Bool) (q i x w : ℕ) → bits 64 w ≡ window l x 64 → x ≡ q + 64 * i
     → count (window l q (64 * (i + 1))) ≡ count (window l q (64 * i)) + count (bits 64 w)
 row_more l q i x w h e =
@@ -160,7 +160,7 @@ rows-rest l p n m q k x y e f a b = omega (arith, count-two l p (64 * n) (448 * 
 
 -- ---- loaded words
 
--- the first k flags of a word: where more are wanted than it has, the list ends within it
+-- the first k flags of a word: if k is more than it has, the list ends within it
 pub count-first-flags : (l : List Bool) (bit k w c : ℕ) → (64 < k → length l ≤ bit + 64) → bits 64 w ≡ window l bit 64
     → c ≡ count (take k (bits 64 w)) → c ≡ count (window l bit k)
 count-first-flags l bit k w c h p e = ⊎_elim
@@ -173,7 +173,7 @@ count-first-flags l bit k w c h p e = ⊎_elim
     e ∙ ap count (ap (take k) p ∙ window-cut l bit 64 0 k (omega arith)) ∙ ap (λ (x : ℕ). count (window l x k)) z)
     (cases_lt 64 k)
 
--- the flags of a near word: the first n of them, or all
+-- the first n flags of a word of `near_word`
 pub count-near : (l : List Bool) (bit n w c : ℕ) → bit % 8 + n ≤ 64 → bits 64 w ≡ window (window l bit (64 - bit % 8)) 0 64
     → c ≡ count (take n (bits 64 w)) → c ≡ count (window l bit n)
 count-near l bit n w c h p e = e ∙ ap count (near-first l bit n w h p)

@@ -1,4 +1,4 @@
--- Whether all flags of a list are one flag: by the flag, in lists joined, word by word, and by the flags unlike it. Assumes nothing.
+-- Whether all flags of a list equal one flag: by the flag, in lists joined, word by word, and by the flags that differ.
 use Rattle.std.proofs.Common.{◌≡◌, refl, sym, ap, ap₂, ◌∙◌, Bool, true, false, not, ◌&&◌, ◌||◌, ⊎_elim, List, [], ◌∷◌, ◌++◌, map, ℕ, zero}
 use Rattle.std.proofs.Common.{suc, ◌+◌, ◌-◌, ◌*◌, ◌/◌, ◌%◌, ◌≤◌, ◌<◌, min, arith, eqb, leb, ltb, take_all, length, take}
 use Rattle.std.proofs.Common.{length-take, eq-eqb, ne_eqb, eqb-true, le-leb}
@@ -19,7 +19,7 @@ use Rattle.words.proofs.Windows.{in_window, length-window, window-add, window-cu
 
 -- ---- by the flag
 
--- two tests that say the same
+-- two comparisons that hold in the same cases
 pub eqb-both : (a b c d : ℕ) → (a ≡ b → c ≡ d) → (c ≡ d → a ≡ b) → eqb a b ≡ eqb c d
 eqb-both a b c d f g = go (eqb c d) refl
   where
@@ -32,7 +32,7 @@ unfolding all_are count
 all_none true = eq-eqb 0 (0 * 1) (omega arith)
 all_none false = eq-eqb 0 (0 * 0) (omega arith)
 
--- the first is x, and all others are
+-- a list with a first flag y is all x if y is x and the others are
 pub all_cons : (x y : Bool) (l : List Bool) → all_are x (y ∷ l) ≡ (not (xor x y) && all_are x l)
 unfolding all_are count xor
 all_cons true true l = eqb-both (1 + count l) (suc (length l) * 1) (count l) (length l * 1) (λ e. omega arith) (λ e. omega arith)
@@ -56,7 +56,7 @@ all_append x (y ∷ a) b =
     all_cons x y (a ++ b) ∙ ap (λ (t : Bool). not (xor x y) && t) (all_append x a b)
     ∙ sym (and_assoc (not (xor x y)) (all_are x a) (all_are x b)) ∙ ap (λ (t : Bool). t && all_are x b) (sym (all_cons x y a))
 
--- no flag is unlike it
+-- all flags equal x if and only if none differs from it
 pub all_any : (x : Bool) (l : List Bool) → not (any_set (map (xor x) l)) ≡ all_are x l
 unfolding any_set
 all_any x [] = sym (all_none x)
@@ -66,7 +66,7 @@ all_any x (y ∷ l) = first (xor x y) ∙ ap (λ (t : Bool). not (xor x y) && t)
     first true = refl
     first false = refl
 
--- the flags unlike a 1, and those unlike a 0
+-- the flags that differ from 1, and those that differ from 0
 pub unlike_one : (x : Bool) (w r : ℕ) → x ≡ true → bits 64 r ≡ map not (bits 64 w) → bits 64 r ≡ map (xor x) (bits 64 w)
 unlike_one x w r e p = p ∙ each (bits 64 w) ∙ ap (λ (y : Bool). map (xor y) (bits 64 w)) (sym e)
   where
@@ -107,7 +107,7 @@ pub all-empty : (x : Bool) (l : List Bool) (p : ℕ) → true ≡ all_are x (win
 unfolding window
 all-empty x l p = sym (all_none x)
 
--- a part with another flag: the whole has it
+-- if a part has another flag, the whole has
 pub all-exit : (x : Bool) (l : List Bool) (p n k m : ℕ) (t : Bool) → t ≡ all_are x (window l k m) → t ≡ false → p ≤ k → k + m ≤ p + n
     → false ≡ all_are x (window l p n)
 all-exit x l p n k m t e f g h =
@@ -120,7 +120,7 @@ all-exit x l p n k m t e f g h =
     ∙ ap (λ (t : Bool). t && all_are x (window l (p + (k - p) + m) (p + n - (k + m)))) none)
     ∙ and-false (all_are x (window l p (k - p))))
 
--- a part after another that has only x
+-- a part after another whose flags are all x
 pub all_more : (x : Bool) (l : List Bool) (p n k m s : ℕ) (t : Bool) → true ≡ all_are x (window l p n) → t ≡ all_are x (window l k m)
     → k ≡ p + n → s ≡ n + m
     → t ≡ all_are x (window l p s)
@@ -128,7 +128,7 @@ all_more x l p n k m s t inv e f g =
     e ∙ ap (λ (y : ℕ). all_are x (window l y m)) f ∙ ap (λ (t : Bool). t && all_are x (window l (p + n) m)) inv
     ∙ sym (all-cut x l p s n m g)
 
--- the low flags of a word that was read from a flag on, and of one that was moved down to it
+-- the low flags of a word that was read at a flag, and of one that was shifted right to it
 pub first-are : (x : Bool) (l : List Bool) (at n w : ℕ) (t : Bool) → n ≤ 64 → bits 64 w ≡ window l at 64
     → t ≡ all_are x (take n (bits 64 w)) → t ≡ all_are x (window l at n)
 first-are x l at n w t h p e =
@@ -169,7 +169,7 @@ any-inside l s n e h = ⊎_elim
         take_all n (window l s 64) (omega (arith, length-window l s 64)) ∙ ap (window l s) b)
         (cases_lt n 64)
 
--- a flag unlike x among the first flags of the eight bytes in which a stretch begins
+-- a flag other than x among the first flags of the eight bytes in which a stretch begins
 pub differs : (x : Bool) (l : List Bool) (start n w u v r : ℕ) (t : Bool) → bits 64 w ≡ window l (8 * (start / 8)) 64
     → bits 64 u ≡ map (xor x) (bits 64 w)
     → bits 64 v ≡ window (bits 64 u) (start % 8) 64 → bits 64 r ≡ window (take n (bits 64 v)) 0 64 → t ≡ any_set (bits 64 r)
@@ -198,7 +198,7 @@ pub enough : (x : Bool) (bytes : List ℕ) (start n : ℕ) (t : Bool) → start 
 unfolding differs_early
 enough x bytes start n t h e = rw (le-leb (start / 8 + 8) (length bytes) h) e
 
--- a flag that differs early differs
+-- if a flag differs early, not all flags of the stretch are x
 pub early-other : (x : Bool) (bytes : List ℕ) (start n : ℕ) (t : Bool) → t ≡ differs_early x bytes start n → t ≡ true
     → all_are x (window (flags_of bytes) start n) ≡ false
 unfolding differs_early

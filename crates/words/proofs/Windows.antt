@@ -1,4 +1,4 @@
--- The laws of `window` and `over`: none has a condition on the length of the list that is read. Assumes nothing.
+-- The laws of `window` and `over`: none has a condition on the length of the list that is read.
 use Rattle.std.proofs.Common.{◌≡◌, refl, sym, ap, ap₂, ◌∙◌, Bool, false, ◌&&◌, List, [], ◌∷◌, ◌++◌, ⊎_elim, ℕ, zero, suc, ◌+◌, ◌-◌, ◌^◌}
 use Rattle.std.proofs.Common.{◌≤◌, ◌<◌, zero-le, add-zero, zero-add, add-suc, suc-add, lt_of_lt_of_le, arith, length, take, drop, get_or}
 use Rattle.std.proofs.Common.{set, length-take, ltb, get_or-drop, get_or-take, take_at, drop_at, pow_mono, lt-ltb, le-ltb}
@@ -122,7 +122,7 @@ in_window l k d s n h = window-ext (window l k d) l s (k + s) n (λ j p.
     let e : k + (s + j) ≡ k + s + j = omega arith in
     at_in l k d (s + j) (omega arith) ∙ ap (λ (x : ℕ). get_or l x false) e)
 
--- the first flags of a window, with zeros behind them
+-- the first flags of a window, with zeros after them
 pub window-take : (l : List Bool) (k m n : ℕ) → window (take m (window l k n)) 0 n ≡ window (window l k m) 0 n
 window-take l k m n = window-ext (take m (window l k n)) (window l k m) 0 0 n (λ j h.
     let z : 0 + j ≡ j = omega arith in
@@ -140,7 +140,7 @@ bits-window (suc d) (b ∷ l) =
     (ap is_one (digits_mod (word_of l) (digit_lt b)) ∙ is_one-digit b)
     (ap (bits d) (digits_div (word_of l) (digit_lt b)) ∙ bits-window d l ∙ window-drop (b ∷ l) 1 0 d)
 
--- zeros behind a list do not change its number
+-- zeros after a list do not change its number
 pub word_of_padded : (d : ℕ) (l : List Bool) → length l ≤ d → word_of (window l 0 d) ≡ word_of l
 word_of_padded d l h = ap word_of (sym (bits-window d l)) ∙ word_of_bits d (word_of l) (lt_of_lt_of_le (word_of_lt l) (pow_mono h))
 
@@ -182,7 +182,7 @@ over_enough [] a b h = refl
 over_enough (x ∷ l) [] b h = absurd (omega arith)
 over_enough (x ∷ l) (y ∷ a) b h = ap (λ t. y ∷ t) (over_enough l a b (omega arith))
 
--- one element more
+-- one more element
 pub set-over : {A : Type 0} (l m : List A) (b : A) → set (over l m) (length m) b ≡ over l (m ++ (b ∷ []))
 unfolding over
 set-over [] [] b = refl
@@ -190,14 +190,14 @@ set-over [] (y ∷ m) b = refl
 set-over (x ∷ l) [] b = ap (λ t. b ∷ t) (sym (over_none l))
 set-over (x ∷ l) (y ∷ m) b = ap (λ t. y ∷ t) (set-over l m b)
 
--- m behind a
+-- m written after a
 pub over-more : {A : Type 0} (l a m : List A) → take (length a) (over l a) ++ over (drop (length a) (over l a)) m ≡ over l (a ++ m)
 unfolding over
 over-more l [] m = ap (λ t. over t m) (over_none l)
 over-more [] (y ∷ a) m = refl
 over-more (x ∷ l) (y ∷ a) m = ap (λ t. y ∷ t) (over-more l a m)
 
--- over a list that ends at n or before, nothing changes
+-- written over a list that ends at n or before, m changes nothing
 pub over_at-past : (l : List Bool) (n : ℕ) (m : List Bool) → length l ≤ n → l ≡ over_at l n m
 unfolding over_at over
 over_at-past [] n m h = sym (past-nil n)

@@ -1,4 +1,4 @@
--- The rows of `specs/WordRows.antt`, all at once and by computation. Assumes nothing.
+-- The rows of `specs/WordRows.antt`, all at once and by computation.
 use Rattle.std.proofs.Common.{refl}
 use Rattle.std.proofs.Math.Bool.{xor}
 use Rattle.words.specs.Counts.{any_set, same_flags}

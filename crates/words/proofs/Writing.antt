@@ -1,4 +1,4 @@
--- Loops that write a word a turn: F is the output's flags at first, G what is written over them, zeros past its end. Assumes nothing.
+-- Loops that write word by word: F is the output's flags at first, G what is written over them, zeros past its end.
 use Rattle.std.proofs.Common.{◌≡◌, sym, ap, ap₂, ◌∙◌, Bool, false, List, ◌++◌, ⊎_elim, ℕ, ◌+◌, ◌-◌, ◌*◌, ◌/◌, ◌%◌, ◌≤◌, ◌<◌, arith, length}
 use Rattle.std.proofs.Common.{take, drop, get_or, replicate, [], append-nil, drop_of_length-le, zero, suc, refl, ◌∷◌, zero-add, suc-add}
 use Rattle.std.proofs.Common.{take_all, le_of_eq, length-take-le, lt-ltb, le-ltb}
@@ -73,7 +73,7 @@ copies-cut len x k w r h q p =
     (λ (l : len - k ≤ j). rw (le-ltb j (len - k) l) (sym (get_or-eq_default (copies len x) false (omega (arith, length-copies len x)))))
     (cases_lt j (len - k)))
 
--- at most a word
+-- a list of at most 64 flags, written as one word
 pub write-once : (G : List Bool) (len w : ℕ) (out out' : List ℕ) → length G ≡ len → 0 < len → len ≤ 64 → bits 64 w ≡ window G 0 64
     → flags_of out' ≡ over (flags_of out) (bits 64 w)
     → flags_of out' ≡ over (flags_of out) (whole_words G)
@@ -88,7 +88,7 @@ write-nothing F G len l h =
     let e : 0 ≡ 64 * ((length G + 63) / 64) = omega arith in
     write-none F G ∙ ap (λ (n : ℕ). over F (window G 0 n)) e
 
--- bytes that have one flag
+-- bytes whose flags are all equal
 copies-add : (m n : ℕ) (x : Bool) → copies (m + n) x ≡ copies m x ++ copies n x
 unfolding copies
 copies-add zero n x = rw zero-add refl
@@ -101,7 +101,7 @@ flags-same (suc n) b x h =
     let e : 8 * suc n ≡ 8 + 8 * n = omega arith in
     ap₂ (λ (l m : List Bool). l ++ m) h (flags-same n b x h) ∙ sym (ap (λ (k : ℕ). copies k x) e ∙ copies-add 8 (8 * n) x)
 
--- bytes written one by one: all
+-- all bytes, written one by one
 pub filled_all : (l out : List ℕ) (i b : ℕ) (x : Bool) → out ≡ replicate i b ++ drop i l → i ≡ length l → bits 8 b ≡ copies 8 x
     → flags_of out ≡ copies (8 * length l) x
 filled_all l out i b x p e h =

@@ -1,4 +1,4 @@
--- The wrong answers of `specs/WrongAnswers.antt` are ruled out, by computation. Assumes nothing.
+-- The wrong answers of `specs/WrongAnswers.antt` are ruled out, by computation.
 --
 -- Two answers differ if their codes, lists of numbers, differ: whatever a code is, equal answers have equal codes.
 use Rattle.std.specs.Prelude.{Result, Ok, Err}

@@ -1,13 +1,13 @@
--- What is asked of a list of flags, besides how many are set. Assumes nothing.
+-- Whether a flag of a list is set, and whether two lists are the same.
 use Rattle.std.specs.Prelude.{Bool, true, false, not, ◌&&◌, ◌||◌, List, [], ◌∷◌}
 use Rattle.std.specs.Bool.{xor}
 
--- is a flag set
+-- whether any flag of the list is set
 unfoldable pub any_set : List Bool → Bool
 any_set [] = false
 any_set (x ∷ l) = x || any_set l
 
--- are two lists the same, flag by flag and in length
+-- whether two lists are the same, flag by flag and in length
 unfoldable pub same_flags : List Bool → List Bool → Bool
 same_flags [] [] = true
 same_flags [] (y ∷ b) = false

@@ -1,4 +1,4 @@
--- What the contracts of this crate mean. `Flags` is read first: the other files stand on it alone.
+-- What the contracts of this crate mean. Read `Flags` first: the other files build on it.
 pub mod Columns
 pub mod Counts
 pub mod Ends

@@ -1,10 +1,10 @@
--- What the operations do with flags. Assumes nothing.
+-- The operations on flags.
 use Rattle.std.specs.Prelude.{Bool, not, cond, ◌&&◌, ◌||◌, List, [], ◌∷◌}
 use Rattle.std.specs.Bool.{xor}
 use Rattle.words.specs.declared.ops.Op.{Op}
 use Rattle.words.specs.declared.ops.Op.TheVariants.{And, AndNot, Or, OrNot, Xor, Not, Select}
 
--- `and_not` and `or_not` first invert the second's flag
+-- `and_not` and `or_not` invert the second flag first
 abbrev pub and_not : Bool → Bool → Bool
 and_not x y = x && not y
 
@@ -22,7 +22,7 @@ op_of Xor x y z = xor x y
 op_of Not x y z = not x
 op_of Select x y z = cond x y z
 
--- flag by flag, as many as the shortest list has
+-- f of the flags of a, b and c, place by place, as many as the shortest list has
 unfoldable pub zip3 : (Bool → Bool → Bool → Bool) → List Bool → List Bool → List Bool → List Bool
 zip3 f [] b c = []
 zip3 f (x ∷ a) [] c = []

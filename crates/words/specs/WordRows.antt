@@ -1,7 +1,7 @@
--- Rules of the words that no wrong answer of `WrongAnswers` shows, as a table of rows. Assumes nothing.
+-- Rules of the words that no wrong answer of `WrongAnswers` shows, as a table of rows.
 --
--- A row has what a definition gives at one input, its flags as the numbers 0 and 1, and what its plain reading gives there, worked out by
--- hand. `proofs/WordRows.antt` proves that the two columns are equal.
+-- A row has the value of a definition at one input, its flags as the numbers 0 and 1, and the value of its plain reading there, worked out
+-- by hand. `proofs/WordRows.antt` proves that the two columns are equal.
 use Rattle.std.specs.Prelude.{ℕ, ◌≡◌, Bool, true, false, List, [], ◌∷◌, map, replicate}
 use Rattle.words.specs.Columns.{digit_of}
 use Rattle.words.specs.Counts.{any_set, same_flags}
@@ -29,29 +29,29 @@ unfoldable pub rows : List Row
 rows =
     -- `Not` inverts the first's flags: 1,0,1,1, whatever the second has.
     row (combined Not first 0 second 0 second 0 4) (0 ∷ 1 ∷ 0 ∷ 0 ∷ [])
-    -- `Select` takes the second's flag where the first's is set, else the third's. First 1,0,1,1; second, from 1 on, 1,0,1,1; third, from
-    -- 3 on, 1,0,1,0.
+    -- `Select` takes the second's flag where the first's is set, else the third's. First 1,0,1,1; second, starting at 1, 1,0,1,1; third,
+    -- starting at 3, 1,0,1,0.
     ∷ row (combined Select first 0 second 1 first 3 4) (1 ∷ 0 ∷ 1 ∷ 1 ∷ [])
-    -- Each stretch begins at a start of its own. First, from 2 on, 1,1,0,1; second, from 4 on, 1,0,0,1.
+    -- Each stretch begins at a start of its own. First, starting at 2, 1,1,0,1; second, starting at 4, 1,0,0,1.
     ∷ row (combined AndNot first 2 second 4 second 0 4) (0 ∷ 1 ∷ 0 ∷ 0 ∷ [])
     -- Whole words: 64 flags stay 64, one flag becomes 64.
     ∷ row (whole_words (copies 64 true)) (replicate 64 1)
     ∷ row (whole_words (true ∷ [])) (1 ∷ replicate 63 0)
-    -- Flags written over others from the flag 1 on: those before and behind stay, and what does not fit is left out.
+    -- Flags written over others, starting at flag 1: those before and after stay, and what does not fit is left out.
     ∷ row (over_at (copies 4 false) 1 (true ∷ true ∷ [])) (0 ∷ 1 ∷ 1 ∷ 0 ∷ [])
     ∷ row (over_at (copies 2 false) 1 (true ∷ true ∷ [])) (0 ∷ 1 ∷ [])
     -- Two words at an offset of their length: the first.
     ∷ row (merged (true ∷ false ∷ []) (false ∷ true ∷ []) 2) (1 ∷ 0 ∷ [])
-    -- Lists of two lengths are not the same, either way round.
+    -- Lists of different lengths are not the same, in either order.
     ∷ row (same_flags [] (true ∷ []) ∷ same_flags (true ∷ []) [] ∷ same_flags (true ∷ []) (true ∷ []) ∷ []) (0 ∷ 0 ∷ 1 ∷ [])
-    -- Is a flag set: none of no flags, one of two.
+    -- Whether a flag is set: of no flags, of a zero and a one, of two zeros.
     ∷ row (any_set [] ∷ any_set (false ∷ true ∷ []) ∷ any_set (false ∷ false ∷ []) ∷ []) (0 ∷ 1 ∷ 0 ∷ [])
-    -- Are all flags one flag: of ones, of zeros, of both, of none.
+    -- Whether all flags equal one flag: ones equal to 1, zeros to 0, a one and a zero to 1, the same two to 0.
     ∷ row
     (all_are true (true ∷ true ∷ []) ∷ all_are false (false ∷ false ∷ []) ∷ all_are true (true ∷ false ∷ []) ∷ all_are false
     (true ∷ false ∷ []) ∷ [])
     (1 ∷ 1 ∷ 0 ∷ 0 ∷ [])
-    -- Is one of the first flags not set: of fewer than eight bytes no; of eight flags from 4 on, of four, and of four again.
+    -- Whether one of the first flags is not set: of fewer than eight bytes no; of eight ones at 4, of four ones, of three ones and a zero.
     ∷ row (differs_early true (0 ∷ []) 0 4 ∷ differs_early true (0xF0 ∷ replicate 7 0xFF) 4 8
     ∷ differs_early true (0x0F ∷ replicate 7 0) 0 4 ∷ differs_early true (0x07 ∷ replicate 7 0) 0 4 ∷ [])
     (0 ∷ 0 ∷ 0 ∷ 1 ∷ [])
@@ -59,6 +59,6 @@ rows =
     ∷ record { computed = digit_of 5 0 ∷ digit_of 5 1 ∷ digit_of 5 2 ∷ []; stated = 1 ∷ 0 ∷ 1 ∷ [] }
     ∷ []
 
--- the statement: in every row the definition gives what its plain reading gives
+-- the statement: in every row the value of the definition is that of its plain reading
 abbrev pub RowsHold : Type 0
 RowsHold = map (λ (r : Row). r.computed) rows ≡ map (λ (r : Row). r.stated) rows

@@ -4,7 +4,7 @@ ghost use Rattle.words.specs.Columns.{column_counts, digit_of};
 
 use crate::planes::{digit_at, spread, totals};
 
-// Returns for each flag how many of the first 511 words have it set: nine planes hold no larger number. Of fewer than 32 words five planes
+// Returns for each flag how many of the first 511 words have it set: nine planes hold no larger number. For fewer than 32 words five planes
 // are read, which halves the instructions of the reading.
 pub fn column_counts(words: &[u64]) -> [u32; 64]
     ensures { result ≡ column_counts (take 511 words.now) }
@@ -18,7 +18,7 @@ pub fn column_counts(words: &[u64]) -> [u32; 64]
     }
 }
 
-// Returns flag k of a word as a number: 1 if it is set, else 0.
+// Returns flag k of w as a number: 1 if it is set, else 0; 0 also if k is 64 or more.
 pub fn flag_digit(w: u64, k: usize) -> u32
     ensures { result ≡ digit_of w k }
 {

@@ -1,4 +1,4 @@
-// Counting and comparing. A stretch is `len` flags of the bytes from any flag on, zeros past their end. The time is bounded by
+// Counting and comparing. A stretch is `len` flags of the bytes, starting at any flag, with zeros past their end. The time is bounded by
 // the bytes lent, whatever `len` is.
 ghost use Rattle.std.specs.Prelude.{◌≡◌, true, false, not, ◌&&◌, ◌*◌, ◌-◌, ◌≤◌, drop, ltb};
 ghost use Rattle.words.specs.Flags.{flags_of, count, digit, over, word_flags};
@@ -15,9 +15,9 @@ use crate::ops::{Op, combine_word};
 use crate::rows::Countable;
 use crate::word::{byte_word, down, low_flags, near_word, ones_below, ones_in_word};
 
-// How many flags of a stretch are set. Whole words from a byte on, all in range, are counted with no look for partial ones. Rare
-// cases are in functions outside this body and get a slice or record of their own, so that this slice stays in registers. `ones` of
-// `rows` makes the same choice: called from here, 1000 flags take 30 instructions more.
+// Counts the ones of a stretch. Whole words that start at a byte, all in range, are counted with no check for partial ones. Rare cases are
+// in functions outside this body and get a slice or record of their own, so that this slice stays in registers. `ones` of `rows` makes the
+// same choice by the number of words: if it is called from here, 1000 flags take 30 more instructions.
 pub fn count_ones(bytes: &[u8], start: usize, len: usize) -> usize
     ensures { result ≡ count (stretch bytes.now start len) }
 {
@@ -38,14 +38,14 @@ pub fn count_ones(bytes: &[u8], start: usize, len: usize) -> usize
     count_mixed(&bytes[0..], start, len)
 }
 
-// Is a stretch whole words from a byte on, all in range.
+// Returns whether a stretch is whole words that start at a byte, all within `size` bytes.
 fn whole_words(size: usize, start: usize, len: usize) -> bool
     ensures { result ≡ true → WholeWords size start len }
 {
     start % 8 == 0 && len % 64 == 0 && len / 64 <= room(size, start / 8)
 }
 
-// The flags of the first eight bytes, whole words, and the rest. What fits a word is one load.
+// Counts the ones of a stretch: of the first eight bytes, of whole words, and of the rest. What fits the first eight bytes is one load.
 fn count_mixed(bytes: &[u8], start: usize, len: usize) -> usize
     ensures { result ≡ count (stretch bytes.now start len) }
 {
@@ -66,7 +66,7 @@ fn count_mixed(bytes: &[u8], start: usize, len: usize) -> usize
     first + mid + last
 }
 
-// Copies a stretch as `copy` does, and counts its ones.
+// Copies a stretch to `out` as `copy` does, and counts its ones.
 pub fn copy_count(bytes: &[u8], start: usize, len: usize, out: &mut [u8]) -> usize
     ensures ones { result ≡ count (stretch bytes.now start len) }
     ensures flags { flags_of out.new ≡ over (flags_of out.old) (whole_words (stretch bytes.now start len)) }
@@ -82,7 +82,7 @@ pub fn copy_count(bytes: &[u8], start: usize, len: usize, out: &mut [u8]) -> usi
     copy_words(&lane, len / 64, out)
 }
 
-// Does the work of `copy_count` in two passes, if some word is partial or out of range.
+// Makes the copy and the count of `copy_count` in two passes, for a stretch with a word that is partial or out of range.
 fn copy_then_count(bytes: &[u8], start: usize, len: usize, out: &mut [u8]) -> usize
     ensures ones { result ≡ count (stretch bytes.now start len) }
     ensures flags { flags_of out.new ≡ over (flags_of out.old) (whole_words (stretch bytes.now start len)) }
@@ -95,7 +95,7 @@ fn copy_then_count(bytes: &[u8], start: usize, len: usize, out: &mut [u8]) -> us
 fn reach(x: usize, y: usize, z: usize) -> usize
     ensures { (x ≤ 8 * result) × ((y ≤ 8 * result) × (z ≤ 8 * result)) }
 {
-    // one word too many where the last is whole: by `div_ceil` `num_edges` of 1000 flags takes 1.011 of the instructions
+    // one word too many if the last is whole: by `div_ceil` `num_edges` of 1000 flags takes 1.011 of the instructions
     x.max(y).max(z) / 8 + 1
 }
 
@@ -106,8 +106,9 @@ fn past_end(op: Op) -> bool
     is_set(combine_word(op, 0, 0, 0))
 }
 
-// Counts the ones among the `len` flags after the first n words, all of which equal `flag`. 64 * n may be past the largest number, so n is
-// tested first: with `saturating_mul` and `usize::from(flag)` in place of the test 1000 flags take 1.02 of the instructions.
+// Counts the ones among those of `len` flags that come after the first n words, all of which equal `flag`. 64 * n may be past the largest
+// number, so n is compared first: with `saturating_mul` and `usize::from(flag)` in place of the comparison 1000 flags take 1.02 of the
+// instructions.
 fn ones_behind(flag: bool, len: usize, n: usize) -> usize
     ensures { result ≡ (len - 64 * n) * digit flag }
 {
@@ -118,21 +119,21 @@ fn ones_behind(flag: bool, len: usize, n: usize) -> usize
     }
 }
 
-// Returns whether a flag after the first n words is set, all of which equal `flag`.
+// Returns whether any of `len` flags that come after the first n words is set. All of these equal `flag`.
 fn any_behind(flag: bool, len: usize, n: usize) -> bool
     ensures { result ≡ (ltb (64 * n) len && flag) }
 {
     flag && n.saturating_mul(64) < len
 }
 
-// Returns whether any flag of a word is set.
+// Returns whether any flag of w is set.
 pub(crate) fn is_set(w: u64) -> bool
     ensures { result ≡ any_set (word_flags w) }
 {
     w != 0
 }
 
-// Returns whether all flags of a word from flag k upwards are zero.
+// Returns whether all flags of w at and above flag k are zero.
 pub fn none_from(w: u64, k: usize) -> bool
     ensures { result ≡ not (any_set (drop k (word_flags w))) }
 {
@@ -140,8 +141,8 @@ pub fn none_from(w: u64, k: usize) -> bool
 }
 
 // Counts the ones of a combination of three stretches. The operation, the operands and the length are parameters here and in `loops`: a
-// struct of the five would be built in each call and taken apart again in each clause. It begins as `any_set` does: of at most a word the
-// two share `triple_word`, and a function that makes the lanes would promise in four clauses what four lines say.
+// struct of the five would be built in each call and taken apart again in each clause. It begins as `any_set` does: for at most a word both
+// call `triple_word`, and a function that makes the lanes would promise in four clauses what four lines do.
 pub fn count_ones_of<'a>(op: Op, a: &Flags<'a>, b: &Flags<'a>, c: &Flags<'a>, len: usize) -> usize
     ensures { result ≡ count
         (combined op a.now.bytes.now a.now.start b.now.bytes.now b.now.start c.now.bytes.now c.now.start len) }
@@ -162,9 +163,9 @@ pub fn count_ones_of<'a>(op: Op, a: &Flags<'a>, b: &Flags<'a>, c: &Flags<'a>, le
     ones + ones_behind(past_end(op), len, n)
 }
 
-// Returns whether any flag of three lanes combined is set. Tests 64 words at a time and stops at the first block with one.
-// `words_are` of `uniform` has the same loop: a shared one would take the test of a block as a closure and promise what it answered of
-// each block, and both callers' proofs would have to join the blocks to flags again.
+// Returns whether any flag of three lanes combined is set. Checks 64 words at a time and stops at the first block with a set flag.
+// `words_are` of `uniform` has the same loop: a shared one would take the check of a block as a closure and promise its answer for each
+// block, and both callers' proofs would have to join the blocks to flags again.
 fn any_whole<A: Lane, B: Lane, C: Lane>(op: Op, lanes: &Lanes<A, B, C>) -> bool
     ensures { result ≡ any_set (combined op (A.source lanes.now.a) (A.start lanes.now.a) (B.source lanes.now.b) (B.start lanes.now.b)
         (C.source lanes.now.c) (C.start lanes.now.c) (64 * lanes.now.n)) }
@@ -203,7 +204,7 @@ pub fn any_set<'a>(op: Op, a: &Flags<'a>, b: &Flags<'a>, c: &Flags<'a>, len: usi
 }
 
 // Returns whether two stretches have the same flags. At most 64 are two words, compared here: by `any_set`, which reads three, `eq` of 40
-// flags takes 247 instructions in place of 176, and 188 where this is a function of its own.
+// flags takes 247 instructions in place of 176, and 188 if this function is not inlined.
 #[inline(always)]
 pub fn equal<'a>(a: &Flags<'a>, b: &Flags<'a>, len: usize) -> bool
     ensures { result ≡ same_flags (stretch a.now.bytes.now a.now.start len) (stretch b.now.bytes.now b.now.start len) }

@@ -1,16 +1,16 @@
-// The flags that are alike at either end of a word.
+// How many flags at either end of a word are equal.
 ghost use Rattle.std.specs.Prelude.{◌≡◌, true, false, take};
 ghost use Rattle.words.specs.Flags.{word_flags};
 ghost use Rattle.words.specs.Ends.{leading, trailing};
 
-// Counts the trailing zero bits of a word, which are its first flags. To usize, here and below: there is no From; a number up to 64 fits.
+// Counts the trailing zero bits of a word, which are its first flags. To usize, here and below: there is no From; at most 64 fits.
 fn front_zeros(w: u64) -> usize
     ensures { result ≡ leading false (word_flags w) }
 {
     w.trailing_zeros() as usize
 }
 
-// Counts the trailing one bits.
+// Counts the trailing one bits of a word, which are its first flags.
 fn front_ones(w: u64) -> usize
     ensures { result ≡ leading true (word_flags w) }
 {
@@ -24,7 +24,7 @@ fn end_zeros(w: u64) -> usize
     w.leading_zeros() as usize
 }
 
-// Counts the leading one bits.
+// Counts the leading one bits of a word, which are its last flags.
 fn end_ones(w: u64) -> usize
     ensures { result ≡ trailing true (word_flags w) }
 {

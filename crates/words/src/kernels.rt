@@ -10,14 +10,14 @@ use crate::operations::{And, AndNot, Not, Operation, Or, OrNot, Select, Xor};
 use crate::ops::{Op, or_word};
 use crate::word::{ones_in_word, put_word};
 
-// What a loop makes of n combined words, and of an output that it may write to: one that writes nothing is lent an empty output.
+// A loop over n combined words, with an output that it may write to: a loop that writes nothing is lent an empty output.
 pub(crate) trait Kernel {
     type Out;
 
-    // What it asks of the number of words and of the output.
+    // The condition on the number of words and on the output.
     ghost takes: { ℕ → List ℕ → Type 0 };
 
-    // What it gives: of the combined flags, of the output before and after, and of its answer.
+    // The statement about the combined flags, the output before and after, and the result.
     ghost gives: { List Bool → List ℕ → List ℕ → Self.Out → Type 0 };
 
     fn run<O: Operation, A: Lane, B: Lane, C: Lane>(
@@ -29,13 +29,13 @@ pub(crate) trait Kernel {
             (C.source lanes.now.c) (C.start lanes.now.c) (64 * lanes.now.n)) out.old out.new result };
 }
 
-// Writes the combined words to the start of the output.
+// A loop that writes the combined words to the start of the output.
 pub(crate) struct Combine;
 
 impl Kernel for Combine {
     type Out = ();
 
-    // That n words fit is asked at each loop that writes: the output is a slice of the caller's, and no type has it with its n.
+    // Each loop that writes requires that n words fit: the output is a slice of the caller's, and no type has it with its n.
     ghost takes = { λ n out. 8 * n ≤ length out };
 
     ghost gives = { λ flags old new _. flags_of new ≡ over (flags_of old) flags };
@@ -50,7 +50,7 @@ impl Kernel for Combine {
     }
 }
 
-// Counts the ones of the combined words.
+// A loop that counts the ones of the combined words.
 pub(crate) struct Count;
 
 impl Kernel for Count {
@@ -73,7 +73,7 @@ impl Kernel for Count {
     }
 }
 
-// Ors the combined words together. The result is 0 if and only if no flag is set.
+// A loop that joins the combined words by `or`. The result is 0 if and only if no flag is set.
 pub(crate) struct Join;
 
 impl Kernel for Join {
@@ -96,7 +96,7 @@ impl Kernel for Join {
     }
 }
 
-// Runs a loop with the operation as a constant.
+// Runs the loop K with the operation `op` as a type parameter.
 pub(crate) fn each<K: Kernel, A: Lane, B: Lane, C: Lane>(
     op: Op,
     lanes: &Lanes<A, B, C>,
@@ -142,7 +142,7 @@ fn constant_byte(flag: bool) -> u8
     if flag { 255 } else { 0 }
 }
 
-// Writes one flag over `out`. Not by `fill`, which writes the last byte apart: 1000 flags take 1.3 of the instructions.
+// Fills `out` with copies of `flag`. Not by `fill`, which writes the last byte apart: 1000 flags take 1.3 of the instructions.
 pub(crate) fn fill_bytes(flag: bool, out: &mut [u8])
     ensures { flags_of out.new ≡ copies (8 * length out.old) flag }
 {

@@ -10,7 +10,7 @@ use crate::operations::Operation;
 use crate::word::{full_word, shifted_word};
 
 pub(crate) trait Lane: Drop {
-    // The bytes, the flag from which on they are read, and how many words are in range from there on.
+    // The bytes, the flag at which the lane begins, and how many words are in range from there.
     ghost source: { Self → List ℕ };
 
     ghost start: { Self → ℕ };
@@ -25,7 +25,7 @@ pub(crate) trait Lane: Drop {
     fn room(&self) -> usize
         ensures { result ≡ words self.now };
 
-    // Returns the lane from word i on.
+    // Returns the lane that begins at word i.
     fn later(&self, i: usize) -> Self
         requires { i ≤ words self.now }
         ensures same { source result ≡ source self.now }
@@ -33,8 +33,8 @@ pub(crate) trait Lane: Drop {
         ensures words { words result + i ≡ words self.now };
 }
 
-// n words from a byte on. Not a slice of arrays of eight bytes (`as_chunks`): where n is 0 the byte may lie past the end, so that `at`
-// has to be cut to the length of the bytes first, and counting 40 flags takes 1.02 of the instructions.
+// n words that begin at a byte. Not a slice of arrays of eight bytes (`as_chunks`): if n is 0 the byte may lie past the end, so that `at`
+// would have to be cut to the length of the bytes first, and counting 40 flags takes 1.02 of the instructions.
 #[derive(Clone, Copy)]
 pub(crate) struct Aligned<'a> {
     pub(crate) bytes: &'a [u8],
@@ -44,7 +44,7 @@ pub(crate) struct Aligned<'a> {
 }
 
 impl<'a> Aligned<'a> {
-    // As many words from a byte on as there are.
+    // Returns as many words as there are, starting at byte `at`.
     pub(crate) fn new(bytes: &'a [u8], at: usize) -> Self
         ensures source { (result.bytes.now ≡ bytes.now) × (result.at ≡ at) }
         ensures n { result.n ≡ (length bytes.now - at) / 8 }
@@ -56,7 +56,7 @@ impl<'a> Aligned<'a> {
         }
     }
 
-    // The k words from word i on.
+    // Returns the k words that begin at word i.
     pub(crate) fn part(&self, i: usize, k: usize) -> Self
         requires { i + k ≤ self.now.n }
         ensures { (result.bytes.now ≡ self.now.bytes.now) × (result.at ≡ self.now.at + 8 * i) × (result.n ≡ k) }
@@ -89,7 +89,7 @@ impl Lane for Aligned<'_> {
     }
 }
 
-// A lane from some flag of a byte on, which needs one more byte in range.
+// A lane that begins at any flag of a byte, which needs one more byte in range.
 #[derive(Clone, Copy)]
 pub(crate) struct Shifted<'a> {
     pub(crate) bytes: &'a [u8],
@@ -99,6 +99,7 @@ pub(crate) struct Shifted<'a> {
 }
 
 impl<'a> Shifted<'a> {
+    // Returns the lane that begins at the first of `flags`.
     pub(crate) fn new(flags: Flags<'a>) -> Self
         ensures source { result.bytes.now ≡ flags.entry.bytes.now }
         ensures start { 8 * result.at + result.shift ≡ flags.entry.start }
@@ -135,7 +136,7 @@ impl Lane for Shifted<'_> {
     }
 }
 
-// Three lanes, and so many words of each.
+// Three lanes, and a number n of words that each of them has in range.
 #[derive(Drop)]
 pub(crate) struct Lanes<A: Lane, B: Lane, C: Lane> {
     pub(crate) a: A,
@@ -148,7 +149,7 @@ pub(crate) struct Lanes<A: Lane, B: Lane, C: Lane> {
 }
 
 impl<A: Lane, B: Lane, C: Lane> Lanes<A, B, C> {
-    // As many words as all three have, at most `most`.
+    // Returns three lanes with the number of words that all three have in range, at most `most`.
     pub(crate) fn new(most: usize, a: A, b: B, c: C) -> Self
         ensures n { result.n ≤ most }
         ensures a { (result.n ≤ A.words a) × (A.source result.a ≡ A.source a) × (A.start result.a ≡ A.start a) }
@@ -159,7 +160,7 @@ impl<A: Lane, B: Lane, C: Lane> Lanes<A, B, C> {
         Lanes { a, b, c, n }
     }
 
-    // Word i of the three by an operation.
+    // Returns word i of the three lanes, combined by the operation O.
     pub(crate) fn word<O: Operation>(&self, i: usize) -> u64
         requires { i < self.now.n }
         ensures { word_flags result ≡ window (combined O.op (A.source self.now.a) (A.start self.now.a) (B.source self.now.b)
@@ -171,7 +172,7 @@ impl<A: Lane, B: Lane, C: Lane> Lanes<A, B, C> {
         O::word(x, y, z)
     }
 
-    // The k words from word i on.
+    // Returns the three lanes with the k words that begin at word i.
     pub(crate) fn part(&self, i: usize, k: usize) -> Self
         requires { i + k ≤ self.now.n }
         ensures n { result.n ≡ k }

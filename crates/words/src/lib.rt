@@ -1,8 +1,8 @@
 // 64-bit words and lent bytes as lists of flags, in Arrow's numbering: flag j of a buffer is bit j mod 8 of byte j div 8.
 //
-// Every public function is total: it has an answer for every argument and asks nothing of its caller. Flags past the end of
-// lent bytes are zero, and what does not fit an output is left out. Above this crate nothing speaks of bits, shifts or powers
-// of two: the contracts turn numbers into lists of flags (specs/Flags.antt).
+// Every public function is total: it has an answer for every argument and no precondition. Flags past the end of lent bytes are zero, and
+// what does not fit an output is left out. The contracts turn numbers into lists of flags (specs/Flags.antt), so that masks and dispatch do
+// without bits, shifts and powers of two.
 #![tactic(auto)]
 
 pub mod columns;

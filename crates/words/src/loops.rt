@@ -1,5 +1,5 @@
-// Loops that write. A stretch is `len` flags of the bytes from any flag on, zeros past their end; no stretch and
-// no output has to be large enough. The time is bounded by the bytes lent, whatever `len` is.
+// Loops that write. A stretch is `len` flags of the bytes, starting at any flag, with zeros past their end; no stretch and no output has to
+// be large enough. The time is bounded by the bytes lent, whatever `len` is.
 ghost use Rattle.std.specs.Prelude.{◌≡◌, ◌*◌, ◌+◌, ◌-◌, ◌/◌, ◌≤◌, min, length};
 ghost use Rattle.words.specs.Flags.{word_flags, copies, flags_of, over, window};
 ghost use Rattle.words.specs.Loops.{stretch, combined, whole_words};
@@ -55,7 +55,7 @@ pub fn combine<'a>(op: Op, a: &Flags<'a>, b: &Flags<'a>, c: &Flags<'a>, len: usi
     }
 }
 
-// Does the work of `combine` for at most one word, without a loop.
+// Combines three stretches as `combine` does, for at most one word, without a loop.
 fn combine_short<'a>(
     op: Op,
     a: &Flags<'a>,
@@ -73,7 +73,7 @@ fn combine_short<'a>(
     }
 }
 
-// Does the work of `combine` for more than one word: whole words in range by a kernel, then the rest word by word.
+// Combines three stretches as `combine` does, for more than one word: whole words in range by a kernel, then the rest word by word.
 fn combine_long<'a>(op: Op, a: &Flags<'a>, b: &Flags<'a>, c: &Flags<'a>, len: usize, out: &mut [u8])
     ensures { flags_of out.new ≡ over (flags_of out.old) (whole_words
         (combined op a.now.bytes.now a.now.start b.now.bytes.now b.now.start c.now.bytes.now c.now.start len)) }
@@ -151,7 +151,7 @@ pub fn fill(flag: bool, len: usize, out: &mut [u8])
     }
 }
 
-// Writes up to `words` whole words of a flag to the start of `out`, as many as fit.
+// Writes at most `words` whole words of a flag to the start of `out`, as many as fit.
 pub fn fill_whole(flag: bool, words: usize, out: &mut [u8])
     ensures { flags_of out.new ≡ over (flags_of out.old) (copies (64 * min words (length out.old / 8)) flag) }
 {

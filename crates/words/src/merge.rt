@@ -1,4 +1,4 @@
-// Two neighbouring words read as one from an offset on.
+// Two neighbouring words read as one, starting at an offset.
 ghost use Rattle.std.specs.Prelude.{◌≡◌};
 ghost use Rattle.words.specs.Flags.{word_flags};
 ghost use Rattle.words.specs.Merge.{merged};
@@ -9,7 +9,7 @@ ghost use Rattle.words.specs.Merge.{merged};
 pub fn merge_reversed(current: u64, next: u64, offset: usize) -> u64
     ensures { word_flags result ≡ merged (word_flags current) (word_flags next) offset }
 {
-    // two tests: the proof has a law for each
+    // two branches: the proof has a law for each
     if offset == 0 {
         return current;
     }

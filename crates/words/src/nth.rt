@@ -25,8 +25,8 @@ fn descend(w: u64, n: u32, width: u32) -> u32
     skip + descend(w >> skip, n - passed, width - half)
 }
 
-// Where the set flag number n of a word of WIDTH flags is, counted from 0; or, where at most n are set, how many are. The one count of
-// the word decides, and is the answer where there is no flag n.
+// Returns the place of set flag n, counted from 0, among the WIDTH flags of w (`Ok`); or, if at most n are set, how many are (`Err`). The
+// flags are counted once: the count shows whether there is a set flag n, and is the answer if not.
 fn nth_set_bit<const WIDTH: u32>(w: u64, n: u64) -> Result<u32, u32>
     requires { (WIDTH ≤ 64) × (w < 2 ^ WIDTH) }
     ensures { result ≡ nth_one (bits WIDTH w) n }
@@ -40,14 +40,14 @@ fn nth_set_bit<const WIDTH: u32>(w: u64, n: u64) -> Result<u32, u32>
     }
 }
 
-// Where the set flag number n is, counted from 0; or, where at most n flags are set, how many are.
+// Returns the place of set flag n of w, counted from 0 (`Ok`); or, if at most n flags are set, how many are (`Err`).
 pub fn nth_set_bit_u64(w: u64, n: u64) -> Result<u32, u32>
     ensures { result ≡ nth_one (bits 64 w) n }
 {
     nth_set_bit::<64>(w, n)
 }
 
-// The same of a word of 32 flags.
+// Returns the place of set flag n of the 32 flags of w, counted from 0 (`Ok`); or, if at most n flags are set, how many are (`Err`).
 pub fn nth_set_bit_u32(w: u32, n: u32) -> Result<u32, u32>
     ensures { result ≡ nth_one (bits 32 w) n }
 {

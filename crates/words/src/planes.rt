@@ -7,7 +7,7 @@ ghost use Rattle.words.specs.Planes.{planes_at, added, Added, FourMore, Grown, M
 
 use std::array;
 
-// Adds a word to planes: each hands its carry to the next.
+// Adds w to the numbers in the planes: each plane hands its carry to the next, and that of the last is lost.
 fn add(planes: &mut [u64], w: u64)
     ensures { planes.new ≡ added planes.old w }
 {
@@ -26,6 +26,7 @@ pub(crate) struct Sum {
     pub(crate) high: u64,
 }
 
+// Adds the flags of x, y and z, column by column.
 pub(crate) fn full_add(x: u64, y: u64, z: u64) -> Sum
     ensures { Added x y z result.low result.high }
 {
@@ -36,6 +37,7 @@ pub(crate) fn full_add(x: u64, y: u64, z: u64) -> Sum
     }
 }
 
+// Three digits of a number, in each column.
 #[derive(Clone, Copy)]
 struct Four {
     ones: u64,
@@ -43,7 +45,7 @@ struct Four {
     fours: u64,
 }
 
-// Adds four words: from two digits p and q to three.
+// Adds four words, column by column, to the digits p and q, and returns three digits.
 fn add_four(p: u64, q: u64, words: &[u64]) -> Four
     requires { length words.now ≡ 4 }
     ensures { FourMore words.now p q result.ones result.twos result.fours }
@@ -58,7 +60,7 @@ fn add_four(p: u64, q: u64, words: &[u64]) -> Four
     }
 }
 
-// Adds eight words.
+// Adds eight words to nine planes.
 fn add_eight(planes: &mut [u64; 9], words: &[u64])
     requires { length words.now ≡ 8 }
     ensures { Grown planes.old words.now planes.new }
@@ -72,7 +74,8 @@ fn add_eight(planes: &mut [u64; 9], words: &[u64])
     add(&mut planes[3..], d.high);
 }
 
-// Returns the planes of the sums of the words' flags, which are added eight at a time and the rest one by one.
+// Returns nine planes that hold, for each column, how many of the words have its flag set. The words are added eight at a time and the rest
+// one by one.
 pub(crate) fn totals(words: &[u64]) -> [u64; 9]
     requires { length words.now < 512 }
     ensures { Totals words.now result [] }
@@ -98,22 +101,22 @@ pub(crate) fn digit_at(w: u64, c: usize) -> u32
     ((w >> c) % 2) as u32
 }
 
-// Returns for each column of half a word the number that has its flag alone. Columns are tested by numbers from memory: where a shift
-// says which column is meant, four columns take three times as many instructions.
+// Returns for each column of half a word the number with only its flag set. Columns are selected by numbers from memory: by shifts, four
+// columns take three times as many instructions.
 fn masks() -> [u32; 32]
     ensures { Masks result 32 }
 {
     array::from_fn(|c| 1 << c)
 }
 
-// Returns 1 where the flag of the mask is set, else 0.
+// Returns 1 if `half` has the flag of `mask` set, else 0.
 fn digit_by(half: u32, mask: u32) -> u32
     ensures { (result ≡ cond (eqb (bit_and half mask) 0) 0 1) × (result < 2) }
 {
     u32::from(half & mask != 0)
 }
 
-// Returns the number of column s + c, where the mask has flag c alone.
+// Returns the number of column s + c, where c is the one flag that `mask` has set.
 fn column_by<const N: usize>(planes: &[u64; N], s: usize, mask: u32) -> u32
     requires { (s ≤ 32) × (N ≤ 9) }
     ensures { (c : ℕ) → c < 32 → mask ≡ 2 ^ c → result ≡ planes_at planes.now (s + c) }
@@ -127,18 +130,18 @@ fn column_by<const N: usize>(planes: &[u64; N], s: usize, mask: u32) -> u32
     sum
 }
 
-// Writes the numbers of 32 columns, from column s on.
+// Writes the numbers of the 32 columns that begin at column s.
 fn spread_half<const N: usize>(planes: &[u64; N], masks: &[u32; 32], s: usize, out: &mut [u32])
     requires { (length out.old ≡ 32) × Masks masks.now 32 × ((s ≤ 32) × (N ≤ 9)) }
     ensures { Wrote planes.now s out.new 32 }
 {
-    // by place: after `iter_mut().zip(masks)` std says nothing of the numbers that were written
+    // by place: after `iter_mut().zip(masks)` std has no clause on the numbers that were written
     for (c, number) in out.iter_mut().enumerate() {
         *number = column_by(planes, s, masks[c]);
     }
 }
 
-// Returns the numbers of all columns.
+// Returns the numbers of all 64 columns.
 pub(crate) fn spread<const N: usize>(planes: &[u64; N]) -> [u32; 64]
     requires { N ≤ 9 }
     ensures { Wrote planes.now 0 result 64 }

@@ -6,7 +6,7 @@ use crate::lanes::{Aligned, Lane};
 use crate::planes::full_add;
 use crate::word::ones_in_word;
 
-// The ones of seven words: added flag by flag, so that three words are counted in place of seven.
+// Counts the ones of seven words, added flag by flag, so that three words are counted in place of seven.
 fn seven_ones(a: u64, b: u64, c: u64, d: u64, e: u64, f: u64, g: u64) -> usize
     ensures { result ≡ count (word_flags a) + count (word_flags b) + count (word_flags c) + count (word_flags d)
         + count (word_flags e) + count (word_flags f) + count (word_flags g) }
@@ -21,7 +21,7 @@ fn seven_ones(a: u64, b: u64, c: u64, d: u64, e: u64, f: u64, g: u64) -> usize
     ones + 2 * twos + 4 * fours
 }
 
-// Words in range that are so few that the number of their flags fits.
+// Words in range, few enough that a `usize` holds the number of their flags.
 #[derive(Clone, Copy)]
 pub(crate) struct Countable<'a> {
     pub(crate) words: Aligned<'a>,
@@ -29,7 +29,7 @@ pub(crate) struct Countable<'a> {
 }
 
 impl Countable<'_> {
-    // The ones of the first 7 * m words, as seven rows side by side: each row is read in order, so the loop is vectorised.
+    // Counts the ones of the first 7 * m words, in seven rows side by side: each row is read in order, so the loop is vectorised.
     fn ones_rows(&self, m: usize) -> usize
         requires { 7 * m ≤ self.now.words.n }
         ensures { result ≡ count (window (flags_of self.now.words.bytes.now) (8 * self.now.words.at) (448 * m)) }
@@ -50,7 +50,7 @@ impl Countable<'_> {
         ones
     }
 
-    // The ones of the words, one by one.
+    // Counts the ones of the words, one by one.
     pub(crate) fn ones_single(&self) -> usize
         ensures { result ≡ count (window (flags_of self.now.words.bytes.now) (8 * self.now.words.at) (64 * self.now.words.n)) }
     {
@@ -62,7 +62,7 @@ impl Countable<'_> {
         ones
     }
 
-    // The ones of many words: seven rows of them and what is left.
+    // Counts the ones of many words: in seven rows, and what is left one by one.
     pub(crate) fn ones_many(&self) -> usize
         ensures { result ≡ count (window (flags_of self.now.words.bytes.now) (8 * self.now.words.at) (64 * self.now.words.n)) }
     {
@@ -76,7 +76,7 @@ impl Countable<'_> {
         rows + rest
     }
 
-    // The ones of the words. Many get a record of their own, so that the one given here stays in registers.
+    // Counts the ones of the words. Many words get a record of their own, so that `self` stays in registers.
     pub(crate) fn ones(&self) -> usize
         ensures { result ≡ count (window (flags_of self.now.words.bytes.now) (8 * self.now.words.at) (64 * self.now.words.n)) }
     {

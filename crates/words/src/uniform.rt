@@ -1,5 +1,5 @@
-// Whether all flags of a stretch are one flag. The first word with another flag ends the search, so that a stretch of mixed flags is
-// mostly decided by one load.
+// Whether all flags of a stretch equal one flag. The first word with another flag ends the search, so that one load is mostly enough for a
+// stretch of mixed flags.
 ghost use Rattle.std.specs.Prelude.{◌≡◌, map, ◌*◌, take};
 ghost use Rattle.std.specs.Bool.{xor};
 ghost use Rattle.words.specs.Flags.{flags_of, window, word_flags};
@@ -12,22 +12,22 @@ use crate::loops::room;
 use crate::ops::{not_word, or_word};
 use crate::word::{byte_word, down, full_word, low_flags, near_word};
 
-// The flags of a word that are not `flag`.
+// Returns a word whose set flags are the flags of w that differ from `flag`.
 fn unlike(flag: bool, w: u64) -> u64
     ensures { word_flags result ≡ map (xor flag) (word_flags w) }
 {
     if flag { not_word(w) } else { w }
 }
 
-// Are the k low flags of a word all `flag`.
+// Returns whether the k low flags of w all equal `flag`.
 fn low_are(flag: bool, w: u64, k: usize) -> bool
     ensures { result ≡ all_are flag (take k (word_flags w)) }
 {
     !is_set(low_flags(unlike(flag, w), k))
 }
 
-// Are the flags of words all `flag`: those that are not are joined by `or`, with no end before the last word, so that the loop is
-// vectorised.
+// Returns whether all flags of `words` equal `flag`. Those that differ are joined by `or`, with no end before the last word, so that the
+// loop is vectorised.
 fn block_is(flag: bool, words: &Aligned) -> bool
     ensures { result ≡ all_are flag (window (flags_of words.now.bytes.now) (8 * words.now.at) (64 * words.now.n)) }
 {
@@ -39,8 +39,8 @@ fn block_is(flag: bool, words: &Aligned) -> bool
     !is_set(others)
 }
 
-// The same block by block, with an end at the first that has another flag. `any_whole` of `counts` has the same loop, and says why it
-// is not shared.
+// Returns whether all flags of `words` equal `flag`. Checks 64 words at a time and stops at the first block with another flag. `any_whole`
+// of `counts` has the same loop; the reason why it is not shared is there.
 fn words_are(flag: bool, words: &Aligned) -> bool
     ensures { result ≡ all_are flag (window (flags_of words.now.bytes.now) (8 * words.now.at) (64 * words.now.n)) }
 {
@@ -58,7 +58,7 @@ fn words_are(flag: bool, words: &Aligned) -> bool
     true
 }
 
-// Are all flags of a stretch `flag`: by their count.
+// Returns whether all flags of a stretch equal `flag`, by the count of its ones.
 fn counted_are(flag: bool, bytes: &[u8], start: usize, len: usize) -> bool
     ensures { result ≡ all_are flag (stretch bytes.now start len) }
 {
@@ -66,8 +66,8 @@ fn counted_are(flag: bool, bytes: &[u8], start: usize, len: usize) -> bool
     if flag { ones == len } else { ones == 0 }
 }
 
-// Are all flags of a stretch `flag`: those of the first eight bytes, whole words, and the rest. A stretch that reaches past the bytes is
-// counted.
+// Returns whether all flags of a stretch equal `flag`: those of the first eight bytes, of whole words, and the rest. If the whole words
+// reach past the bytes, the ones are counted.
 pub fn all_are(flag: bool, bytes: &[u8], start: usize, len: usize) -> bool
     ensures { result ≡ all_are flag (stretch bytes.now start len) }
 {
@@ -87,8 +87,8 @@ pub fn all_are(flag: bool, bytes: &[u8], start: usize, len: usize) -> bool
         && low_are(flag, byte_word(bytes, q + 8 * n), (len - k) % 64)
 }
 
-// Is another flag than `flag` among those of the first eight bytes; where there are fewer bytes, no. For callers that ask this in their
-// own bodies, with one load, and call `all_are` after a no.
+// Returns whether a flag other than `flag` is among the stretch's flags in its first eight bytes; false if there are fewer bytes. For
+// callers that make this check in their own bodies, with one load, and call `all_are` if it returns false.
 pub fn differs_early(flag: bool, bytes: &[u8], start: usize, len: usize) -> bool
     ensures { result ≡ differs_early flag bytes.now start len }
 {

@@ -2,8 +2,9 @@
 ghost use Rattle.std.specs.Prelude.{false, cond, ◌≡◌, ◌++◌, ◌+◌, ◌-◌, ◌*◌, ◌%◌, ◌≤◌, ◌<◌, leb, length, take, get_or};
 ghost use Rattle.words.specs.Flags.{word_flags, copies, flags_of, count, over, over_at, window};
 
-// Joins up to eight bytes into a word. Compiles to one load if the length is known to be eight. Not by `u64::from_le_bytes`: a part shorter
-// than eight bytes is then copied into an array by a call, and `get_u32` takes 1.19 of the instructions, `count_zeros` of 40 flags 1.05.
+// Joins at most eight bytes into a word. Compiles to one load if the length is known to be eight. Not by `u64::from_le_bytes`: a part
+// shorter than eight bytes is then copied into an array by a call, and `get_u32` takes 1.19 of the instructions, `count_zeros` of 40 flags
+// 1.05.
 fn join(part: &[u8]) -> u64
     requires { length part.now ≤ 8 }
     ensures { word_flags result ≡ window (flags_of part.now) 0 64 }
@@ -15,7 +16,7 @@ fn join(part: &[u8]) -> u64
     w
 }
 
-// Writes the low bytes of w to `out`, up to eight. Compiles to one store if the length is known to be eight.
+// Writes the low bytes of w to `out`, at most eight. Compiles to one store if the length is known to be eight.
 fn split(out: &mut [u8], w: u64)
     requires { length out.old ≤ 8 }
     ensures { flags_of out.new ≡ over (flags_of out.old) (word_flags w) }
@@ -55,8 +56,8 @@ pub fn store_at(out: &mut [u8], at: usize, w: u64)
     }
 }
 
-// The same where there is room for all eight; else nothing is written. For callers that know that there is room: in `store_at` the call
-// that writes a part of a word would stand in their bodies too.
+// Writes the eight bytes of w at byte `at` if all eight fit, else writes nothing. For callers that know that they fit: `store_at` would put
+// the call that writes a part of a word into their bodies too.
 pub fn store_whole(out: &mut [u8], at: usize, w: u64)
     ensures { flags_of out.new ≡ cond (leb (at + 8) (length out.old))
         (over_at (flags_of out.old) (8 * at) (word_flags w)) (flags_of out.old) }
@@ -66,8 +67,8 @@ pub fn store_whole(out: &mut [u8], at: usize, w: u64)
     }
 }
 
-// Loads the eight bytes at `at`, which are in range. The four functions that take a place in range ask for it by `requires`: a type for
-// it would be a struct of the bytes and the place, built before each load.
+// Loads the eight bytes at `at`, which are in range. The four functions that take a place in range have a `requires` for it: a type for it
+// would be a struct of the bytes and the place, built before each load.
 fn eight_bytes(bytes: &[u8], at: usize) -> u64
     requires { at + 8 ≤ length bytes.now }
     ensures { word_flags result ≡ window (flags_of bytes.now) (8 * at) 64 }
@@ -76,8 +77,9 @@ fn eight_bytes(bytes: &[u8], at: usize) -> u64
     join(&bytes[at..end])
 }
 
-// The same as one load: the compiler joins the eight bytes here, before it sees what a caller does with the word. Where it sees
-// both at once, as in `select`, whose first word is used twice, the bytes stay apart and the caller's loop is not vectorised.
+// Loads the eight bytes at `at`, which are in range, as one load: the compiler joins them here, before it sees what a caller does with the
+// word. If it sees both at once, as in `select`, whose first word is used twice, the bytes stay apart and the caller's loop is not
+// vectorised.
 pub(crate) fn full_word(bytes: &[u8], at: usize) -> u64
     requires { at + 8 ≤ length bytes.now }
     ensures { word_flags result ≡ window (flags_of bytes.now) (8 * at) 64 }
@@ -94,8 +96,8 @@ pub(crate) fn put_word(out: &mut [u8], at: usize, w: u64)
     split(&mut out[at..end], w);
 }
 
-// The 64 flags from the flag 8 * at + s on, nine bytes in range: two loads, one byte apart, which agree where they overlap,
-// so that s = 0 is no special case.
+// Reads the 64 flags starting at flag 8 * at + s, with nine bytes in range: two loads, one byte apart, which agree where they overlap, so
+// that s = 0 is no special case.
 pub(crate) fn shifted_word(bytes: &[u8], at: usize, s: usize) -> u64
     requires { (at + 9 ≤ length bytes.now) × (s ≤ 8) }
     ensures { word_flags result ≡ window (flags_of bytes.now) (8 * at + s) 64 }
@@ -103,21 +105,21 @@ pub(crate) fn shifted_word(bytes: &[u8], at: usize, s: usize) -> u64
     (full_word(bytes, at) >> s) | (full_word(bytes, at + 1) << (8 - s))
 }
 
-// Shifts a word right by k, or returns 0 if k is 64 or more.
+// Shifts w right by k bits, or returns 0 if k is 64 or more.
 pub fn down(w: u64, k: usize) -> u64
     ensures { word_flags result ≡ window (word_flags w) k 64 }
 {
     if k < 64 { w >> k } else { 0 }
 }
 
-// Shifts a word left by k, or returns 0 if k is 64 or more.
+// Shifts w left by k bits, or returns 0 if k is 64 or more.
 pub fn up(w: u64, k: usize) -> u64
     ensures { word_flags result ≡ window (copies k false ++ word_flags w) 0 64 }
 {
     if k < 64 { w << k } else { 0 }
 }
 
-// Reads the 64 flags from the flag 8 * at + s on, with zeros past the end. `byte_word` is not this with s = 0: it takes one load, this two.
+// Reads the 64 flags starting at flag 8 * at + s, with zeros past the end. `byte_word` does not call this: it takes one load, this two.
 pub(crate) fn word_at(bytes: &[u8], at: usize, s: usize) -> u64
     requires { s ≤ 8 }
     ensures { word_flags result ≡ window (flags_of bytes.now) (8 * at + s) 64 }
@@ -132,8 +134,8 @@ pub(crate) fn word_at(bytes: &[u8], at: usize, s: usize) -> u64
     last_word(bytes, at, s)
 }
 
-// Reads the flags from the flag 8 * at + s on where at most eight bytes are left, with zeros past the end: the last eight bytes are
-// loaded, or all where there are fewer, and shifted.
+// Reads the 64 flags starting at flag 8 * at + s, with zeros past the end, if one to eight bytes are left from byte `at`. Loads the last
+// eight bytes, or all if there are fewer, and shifts them.
 fn last_word(bytes: &[u8], at: usize, s: usize) -> u64
     requires { (at < length bytes.now) × ((length bytes.now ≤ at + 8) × (s ≤ 8)) }
     ensures { word_flags result ≡ window (flags_of bytes.now) (8 * at + s) 64 }
@@ -159,7 +161,7 @@ pub fn byte_word(bytes: &[u8], at: usize) -> u64
     last_word(bytes, at, 0)
 }
 
-// Reads the flags from flag `bit` to the end of the eight bytes in which it stands, at least 57, then zeros: by one load.
+// Reads in one load the flags from flag `bit` to the end of the eight bytes that begin with its byte: at least 57, then zeros.
 pub fn near_word(bytes: &[u8], bit: usize) -> u64
     ensures { word_flags result ≡ window (window (flags_of bytes.now) bit (64 - bit % 8)) 0 64 }
 {
@@ -181,14 +183,14 @@ pub fn flag_at(bytes: &[u8], bit: usize) -> bool
     at < bytes.len() && (u64::from(bytes[at]) >> (bit % 8)) % 2 == 1
 }
 
-// Keeps the k low flags of w and clears the others.
+// Returns w with its k low flags kept and the others cleared.
 pub fn low_flags(w: u64, k: usize) -> u64
     ensures { word_flags result ≡ window (take k (word_flags w)) 0 64 }
 {
     if k >= 64 { w } else { w % (1 << k) }
 }
 
-// Puts the flags of b after the k low flags of a.
+// Puts the flags of b after the k low flags of a, and returns the first 64 of them.
 pub fn behind(a: u64, k: usize, b: u64) -> u64
     ensures { word_flags result ≡ window (take k (word_flags a) ++ word_flags b) 0 64 }
 {
@@ -213,11 +215,11 @@ pub fn constant_flags(flag: bool, n: usize) -> u64
     (one << n) - one
 }
 
-// Counts the set flags of a word.
+// Counts the set flags of w.
 pub fn ones_in_word(w: u64) -> usize
     ensures { result ≡ count (word_flags w) }
 {
-    // to usize: there is no From; a number up to 64 fits
+    // to usize: there is no From; a number of at most 64 fits
     w.count_ones() as usize
 }
 
@@ -231,6 +233,6 @@ pub fn ones_below(w: u64, k: usize) -> usize
     if 64 < k {
         return ones_in_word(w);
     }
-    // to usize: there is no From; a number up to 64 fits
+    // to usize: there is no From; a number of at most 64 fits
     (w << (64 - k)).count_ones() as usize
 }

@@ -1,4 +1,4 @@
-//! Masks combined flag by flag. Each result has bytes of its own, from bit 0 on.
+//! Masks combined flag by flag. Each result has bytes of its own, starting at bit 0.
 
 use std::ops::{BitAnd, BitOr, BitXor, Not};
 
@@ -10,9 +10,9 @@ use crate::refusal::{Refusal, check};
 /// A call that combines two masks.
 type Combine = fn(calls::Mask, &[u8], calls::Mask, &[u8], &mut [u8]) -> calls::MaskAnswer;
 
-/// Whether a count is known makes no difference to a combination, in its answer or in its time: it goes without the counts of its masks.
+/// The combinations. A known count of a mask changes neither their answer nor their time: masks are passed without their counts.
 impl Bitmap {
-    /// The flags set in both. Refused with 5.
+    /// Returns the flags set in both masks. Refused with 5 if their lengths differ.
     ///
     /// ```
     /// use poruwhina::{Bitmap, Refusal};
@@ -26,7 +26,7 @@ impl Bitmap {
         self.combined(calls::and, rhs)
     }
 
-    /// The flags set here and not there: the trucks permitted and not revoked. Refused with 5.
+    /// Returns the flags set in this mask and not in `rhs`: the trucks permitted and not revoked. Refused with 5 if the lengths differ.
     ///
     /// ```
     /// use poruwhina::Bitmap;
@@ -40,8 +40,8 @@ impl Bitmap {
         self.combined(calls::and_not, rhs)
     }
 
-    /// Whether flag `index` is set here and not there: that flag of [`Bitmap::and_not`], read without making the mask. Refused with 5
-    /// where the masks differ in length, with 6 for an index at or past it.
+    /// Returns whether flag `index` is set in this mask and not in `rhs`: that flag of [`Bitmap::and_not`], read without making the
+    /// mask. Refused with 5 if the masks differ in length, with 6 if `index` is not below the length.
     ///
     /// ```
     /// use poruwhina::{Bitmap, Refusal};
@@ -57,9 +57,9 @@ impl Bitmap {
         Ok(answer.value)
     }
 
-    /// The first position at or after `from` that is set here and not there, and if there is none the first from 0 on; and how many
-    /// windows of 32 flags were read for it. Without a second mask nothing is taken away. Refused with 5 where the masks differ in
-    /// length, with 6 for a place above it.
+    /// Returns the first position at or after `from` that is set in this mask and not in `rhs`, else the first one at or after 0, or none;
+    /// and the number of windows of 32 flags read for it. No `rhs` means all zeros. Refused with 5 if the masks differ in length, with 6
+    /// if `from` is above the length.
     ///
     /// ```
     /// use poruwhina::{Bitmap, Refusal};
@@ -79,7 +79,7 @@ impl Bitmap {
         Ok((answer.found.then_some(answer.position), answer.windows))
     }
 
-    /// The flags set in one or in both. Refused with 5.
+    /// Returns the flags set in at least one of the masks. Refused with 5 if their lengths differ.
     ///
     /// ```
     /// use poruwhina::Bitmap;
@@ -92,7 +92,7 @@ impl Bitmap {
         self.combined(calls::or, rhs)
     }
 
-    /// The flags set here or not set there. Refused with 5.
+    /// Returns the flags set in this mask or not set in `rhs`. Refused with 5 if the lengths differ.
     ///
     /// ```
     /// use poruwhina::Bitmap;
@@ -105,7 +105,7 @@ impl Bitmap {
         self.combined(calls::or_not, rhs)
     }
 
-    /// The flags set in one and not in both. Refused with 5.
+    /// Returns the flags set in exactly one of the masks. Refused with 5 if their lengths differ.
     ///
     /// ```
     /// use poruwhina::Bitmap;
@@ -118,7 +118,7 @@ impl Bitmap {
         self.combined(calls::xor, rhs)
     }
 
-    /// Each flag inverted. No check of it can fail, so there is no refusal.
+    /// Returns each flag inverted. No check of it can fail, so there is no refusal.
     ///
     /// ```
     /// use poruwhina::Bitmap;
@@ -129,7 +129,7 @@ impl Bitmap {
         Bitmap::written(self.length, |out| calls::not(self.record(), self.bytes(), out)).expect("a mask has its own length")
     }
 
-    /// The flag of `truthy` where this one is set, else that of `falsy`. Refused with 5.
+    /// Returns the flag of `truthy` where the flag of this mask is set, else that of `falsy`. Refused with 5 if the lengths differ.
     ///
     /// ```
     /// use poruwhina::Bitmap;
@@ -146,7 +146,7 @@ impl Bitmap {
         })
     }
 
-    /// The flag of `truthy` where this one is set, else the constant. Refused with 5.
+    /// Returns the flag of `truthy` where the flag of this mask is set, else the constant `falsy`. Refused with 5 if the lengths differ.
     ///
     /// ```
     /// use poruwhina::Bitmap;
@@ -160,7 +160,7 @@ impl Bitmap {
         Bitmap::written(self.length, |out| calls::select_constant(self.record(), self.bytes(), truthy.record(), truthy.bytes(), falsy, out))
     }
 
-    /// How many flags are set in both. Refused with 5.
+    /// Counts the flags set in both masks. Refused with 5 if their lengths differ.
     ///
     /// ```
     /// use poruwhina::Bitmap;
@@ -178,7 +178,7 @@ impl Bitmap {
     }
 }
 
-/// The operators of combinations. An operator has no way to refuse, so it panics where the method refuses.
+/// The operators of combinations. An operator cannot return a refusal, so it panics if the method refuses.
 macro_rules! operators {
     ($($(#[$doc:meta])* $Trait:ident::$operator:ident calls $method:ident;)*) => {$(
         $(#[$doc])*
@@ -194,7 +194,7 @@ macro_rules! operators {
 }
 
 operators! {
-    /// [`Bitmap::and`] as `&`. Panics where the lengths differ.
+    /// Combines two masks as [`Bitmap::and`] does. Panics if the lengths differ.
     ///
     /// ```
     /// use poruwhina::Bitmap;
@@ -203,7 +203,7 @@ operators! {
     /// ```
     BitAnd::bitand calls and;
 
-    /// [`Bitmap::or`] as `|`. Panics where the lengths differ.
+    /// Combines two masks as [`Bitmap::or`] does. Panics if the lengths differ.
     ///
     /// ```
     /// use poruwhina::Bitmap;
@@ -212,7 +212,7 @@ operators! {
     /// ```
     BitOr::bitor calls or;
 
-    /// [`Bitmap::xor`] as `^`. Panics where the lengths differ.
+    /// Combines two masks as [`Bitmap::xor`] does. Panics if the lengths differ.
     ///
     /// ```
     /// use poruwhina::Bitmap;
@@ -222,7 +222,7 @@ operators! {
     BitXor::bitxor calls xor;
 }
 
-/// [`Bitmap::not`] as `!`.
+/// Inverts each flag, as [`Bitmap::not`] does.
 ///
 /// ```
 /// use poruwhina::Bitmap;

@@ -5,7 +5,7 @@ use crate::calls;
 use crate::refusal::check_passed;
 
 impl Bitmap {
-    /// The number of zeros, counted on the first call and then kept.
+    /// Returns the number of zeros, which is counted unless it is known, and then kept.
     ///
     /// ```
     /// assert_eq!(poruwhina::Bitmap::try_new([0x2D], 6)?.unset_bits(), 2);
@@ -19,7 +19,7 @@ impl Bitmap {
         })
     }
 
-    /// The number of ones: the length without the zeros.
+    /// Returns the number of ones: the length minus the number of zeros.
     ///
     /// ```
     /// assert_eq!(poruwhina::Bitmap::try_new([0x2D], 6)?.set_bits(), 4);
@@ -29,7 +29,7 @@ impl Bitmap {
         self.length - self.unset_bits()
     }
 
-    /// The number of zeros where it is known, without counting.
+    /// Returns the number of zeros if it is known, else none, without counting.
     ///
     /// ```
     /// let mask = poruwhina::Bitmap::try_new([0x2D], 6)?;
@@ -42,7 +42,7 @@ impl Bitmap {
         self.zeros.get().copied()
     }
 
-    /// How many zeros stand before the first one.
+    /// Counts the zeros before the first one; all flags, if none is set.
     ///
     /// ```
     /// assert_eq!(poruwhina::Bitmap::from([false, false, true]).leading_zeros(), 2);
@@ -51,7 +51,7 @@ impl Bitmap {
         self.count(calls::leading_zeros)
     }
 
-    /// How many ones stand before the first zero.
+    /// Counts the ones before the first zero; all flags, if every flag is set.
     ///
     /// ```
     /// assert_eq!(poruwhina::Bitmap::from([true, true, false]).leading_ones(), 2);
@@ -60,7 +60,7 @@ impl Bitmap {
         self.count(calls::leading_ones)
     }
 
-    /// How many zeros stand behind the last one.
+    /// Counts the zeros after the last one; all flags, if none is set.
     ///
     /// ```
     /// assert_eq!(poruwhina::Bitmap::from([true, false, false]).trailing_zeros(), 2);
@@ -69,7 +69,7 @@ impl Bitmap {
         self.count(calls::trailing_zeros)
     }
 
-    /// How many ones stand behind the last zero.
+    /// Counts the ones after the last zero; all flags, if every flag is set.
     ///
     /// ```
     /// assert_eq!(poruwhina::Bitmap::from([false, true, true]).trailing_ones(), 2);
@@ -78,7 +78,7 @@ impl Bitmap {
         self.count(calls::trailing_ones)
     }
 
-    /// How many neighbouring flags differ.
+    /// Counts the flags that differ from the next flag.
     ///
     /// ```
     /// assert_eq!(poruwhina::Bitmap::from([true, false, true, true, false, true]).num_edges(), 4);
@@ -89,7 +89,8 @@ impl Bitmap {
         answer.value
     }
 
-    /// The position, at or after `from`, of the n-th one, counted from 0.
+    /// Returns the position of the n-th set flag at or after `from`, counting from 0; none if at most `n` flags are set there. `from` may
+    /// exceed the length.
     ///
     /// ```
     /// let mask = poruwhina::Bitmap::from([true, false, true, true, false, true]);
@@ -99,7 +100,8 @@ impl Bitmap {
         found(calls::nth_set_bit_idx(self.bytes(), self.start, self.length, n, from))
     }
 
-    /// The position of the n-th one counted down from below `end`, which may exceed the length.
+    /// Returns the position of the n-th set flag before `end`, counting down from 0: number 0 is the set flag nearest to `end`. None if
+    /// at most `n` flags are set there. `end` may exceed the length.
     ///
     /// ```
     /// let mask = poruwhina::Bitmap::from([true, false, true, true, false, true]);
@@ -110,7 +112,7 @@ impl Bitmap {
     }
 
     fn count(&self, call: impl FnOnce(&[u8], usize, usize, usize) -> calls::Number) -> usize {
-        // The last argument is the address remainder, on which no count depends.
+        // The last argument is the address remainder; no count depends on it.
         let answer = call(self.bytes(), self.start, self.length, 0);
         check_passed(answer.refusal);
         answer.value

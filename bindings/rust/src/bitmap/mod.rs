@@ -1,4 +1,4 @@
-//! The mask that owns its bytes: made, cut, counted and read.
+//! The mask that owns its bytes: how it is made, sliced, counted and read.
 
 mod combine;
 mod counts;
@@ -11,17 +11,17 @@ use crate::builder::BitmapBuilder;
 use crate::calls;
 use crate::refusal::{Refusal, check, check_passed};
 
-/// A list of flags in shared bytes that nobody alters, with a zero count that is known or not, and the serial of the revocation list
-/// that it was drawn up under.
+/// A list of flags in shared bytes that are never altered, with a zero count that is known or unknown, and the serial of the revocation
+/// list that it was drawn up under.
 ///
-/// Cloning and slicing share the bytes. The zero count is kept once it is known: [`unset_bits`](Bitmap::unset_bits) takes
-/// `&self` and keeps it in a [`OnceLock`], so that a mask can be counted where it is only borrowed, by several threads too.
-/// The count of given bytes is one number, so it does not matter which thread kept it.
+/// Clones and slices share the bytes. The zero count is kept once it is known: [`unset_bits`](Bitmap::unset_bits) takes
+/// `&self` and keeps it in a [`OnceLock`], so that a borrowed mask can be counted, by several threads too.
+/// The bytes have one count, so it does not matter which thread kept it.
 ///
-/// Two masks are equal where their lengths and flags are, whatever their bytes, start bits and serials.
+/// Two masks are equal if their lengths and flags are equal, whatever their bytes, start bits and serials.
 ///
-/// A mask keeps the byte at which its flags begin beside the shared bytes, and a start bit of 0 to 7 in it: so a mask of bytes far
-/// behind in a large file answers as its copy at bit 0 does.
+/// In addition to the shared bytes, a mask keeps the byte at which its flags begin, and a start bit of 0 to 7 in that byte: so a mask
+/// whose flags are far into a large file answers as its copy at bit 0 does.
 ///
 /// ```
 /// use poruwhina::Bitmap;
@@ -36,7 +36,7 @@ use crate::refusal::{Refusal, check, check_passed};
 #[derive(Clone)]
 pub struct Bitmap {
     bytes: Arc<Vec<u8>>,
-    // The byte at which the first flag stands, and the bit of it, 0 to 7.
+    // The byte that has the first flag, and the bit of that flag in it, 0 to 7.
     offset: usize,
     start: usize,
     length: usize,
@@ -44,13 +44,13 @@ pub struct Bitmap {
     serial: u32,
 }
 
-/// The bytes that the frozen form of so many flags takes.
+/// Returns the number of frozen bytes of `length` flags.
 pub(crate) const fn frozen_len(length: usize) -> usize {
     length.div_ceil(64) * 8
 }
 
 impl Bitmap {
-    /// The most flags that a mask can have.
+    /// The largest number of flags that a mask can have.
     ///
     /// ```
     /// use poruwhina::{Bitmap, Refusal};
@@ -60,7 +60,7 @@ impl Bitmap {
     /// ```
     pub const LIMIT: usize = 4_194_304;
 
-    /// The mask of no flags.
+    /// Returns the mask of no flags.
     ///
     /// ```
     /// assert!(poruwhina::Bitmap::new().is_empty());
@@ -69,7 +69,7 @@ impl Bitmap {
         Bitmap::from_record(Arc::default(), 0, calls::bitmap_new())
     }
 
-    /// A mask of so many zeros. Refused with 1 above [`LIMIT`](Bitmap::LIMIT).
+    /// Returns a mask of `length` zeros. Refused with 1 if `length` is above [`LIMIT`](Bitmap::LIMIT).
     ///
     /// ```
     /// assert_eq!(poruwhina::Bitmap::new_zeroed(70)?.unset_bits(), 70);
@@ -79,9 +79,10 @@ impl Bitmap {
         Bitmap::written(length, |out| calls::new_zeroed(length, out))
     }
 
-    /// The first `length` flags of the bytes, least significant bit first. Refused with 1 and 2.
+    /// Returns the mask of the first `length` flags of `bytes`, least significant bit first. Refused with 1 if `length` is above
+    /// [`LIMIT`](Bitmap::LIMIT), with 2 if the bytes have fewer flags.
     ///
-    /// A `Vec<u8>` is taken as it is; an array or a slice is copied.
+    /// A `Vec<u8>` is used without a copy; an array or a slice is copied.
     ///
     /// ```
     /// use poruwhina::{Bitmap, Refusal};
@@ -95,8 +96,8 @@ impl Bitmap {
         Bitmap::try_from_span(bytes, 0, length)
     }
 
-    /// `length` flags of the bytes from bit `start` on. Refused with 1 and 2. The start may be any bit of the bytes, above
-    /// [`LIMIT`](Bitmap::LIMIT) too.
+    /// Returns the mask of the `length` flags of `bytes` that start at bit `start`. Refused with 1 if `length` is above
+    /// [`LIMIT`](Bitmap::LIMIT), with 2 if the span is not in the bytes. `start` may be above the limit.
     ///
     /// ```
     /// use poruwhina::{Bitmap, Refusal};
@@ -114,10 +115,11 @@ impl Bitmap {
         Ok(Bitmap::from_record(Arc::new(bytes), start / 8, answer.mask))
     }
 
-    /// `length` flags of the bytes from bit `start` on, of which `zeros` are said to be zeros: a mask from elsewhere, with the count
-    /// that came with it. Refused with 1, 2, and with 3 where the count is not exact.
+    /// Returns the mask of the `length` flags of `bytes` that start at bit `start`, with the stated zero count `zeros`: for masks from
+    /// elsewhere that have a count. Refused with 1 if `length` is above [`LIMIT`](Bitmap::LIMIT), with 2 if the span is not in the bytes,
+    /// with 3 if the count is not exact.
     ///
-    /// The flags are counted here, once. Bytes whose count does not matter go through [`try_from_span`](Bitmap::try_from_span).
+    /// The flags are counted once, in this call. For bytes whose count does not matter use [`try_from_span`](Bitmap::try_from_span).
     ///
     /// ```
     /// use poruwhina::{Bitmap, Refusal};
@@ -135,7 +137,7 @@ impl Bitmap {
         Ok(Bitmap::from_record(Arc::new(bytes), start / 8, answer.mask))
     }
 
-    /// The number of flags.
+    /// Returns the number of flags.
     ///
     /// ```
     /// assert_eq!(poruwhina::Bitmap::from([true, false]).len(), 2);
@@ -144,7 +146,7 @@ impl Bitmap {
         self.length
     }
 
-    /// Are there no flags.
+    /// Returns whether there are no flags.
     ///
     /// ```
     /// assert!(!poruwhina::Bitmap::from([false]).is_empty());
@@ -153,7 +155,7 @@ impl Bitmap {
         self.length == 0
     }
 
-    /// Flag `i`, or none from the length on.
+    /// Returns flag `i`, or none if `i` is not below the length.
     ///
     /// ```
     /// let mask = poruwhina::Bitmap::from([true, false]);
@@ -163,7 +165,7 @@ impl Bitmap {
         self.iter().nth(i)
     }
 
-    /// 32 flags from `index` on, the first in the lowest bit, zeros past the end.
+    /// Returns 32 flags starting at `index`, the first in the lowest bit, with zeros past the end.
     ///
     /// ```
     /// let mask = poruwhina::Bitmap::try_new([0x2D], 6)?;
@@ -176,7 +178,7 @@ impl Bitmap {
         answer.value as u32
     }
 
-    /// The bytes from the one with the first flag on, the bit of it at which that flag stands, 0 to 7, and the length.
+    /// Returns the bytes, starting at the one that has the first flag, the bit of that flag in it, 0 to 7, and the length.
     ///
     /// ```
     /// let mask = poruwhina::Bitmap::try_new([0x2D, 0xFF, 0], 24)?.sliced(10, 4)?;
@@ -187,8 +189,8 @@ impl Bitmap {
         (self.bytes(), self.start, self.length)
     }
 
-    /// The flags from bit 0 on in 8 × ceil(length / 64) bytes, zero past the end: equal for equal masks, and with the length
-    /// different for different ones.
+    /// Returns the frozen bytes: 8 × ceil(length / 64) bytes that begin with the flags and are zero past the end. Two masks are equal
+    /// if and only if their lengths and frozen bytes are equal.
     ///
     /// ```
     /// let mask = poruwhina::Bitmap::try_from_span([0x2D], 2, 4)?;
@@ -201,10 +203,11 @@ impl Bitmap {
         Arc::unwrap_or_clone(builder.freeze().bytes)
     }
 
-    /// The `length` flags from `offset` on, over the same bytes. Refused with 1 and 6.
+    /// Returns the mask of the `length` flags that start at `offset`, over the same bytes. Refused with 1 or 6 if they are not all in the
+    /// mask.
     ///
-    /// A known count of 0 or of all stays known; another is recounted where few flags are cut off, and else is forgotten. The library
-    /// counts a mask whose count is known again before it cuts it.
+    /// A known zero count of 0, or equal to the length, stays known. Another known count is recounted if few flags are cut off, and else
+    /// becomes unknown. A mask whose count is known is counted again by the library before it is sliced.
     ///
     /// ```
     /// use poruwhina::{Bitmap, Refusal};
@@ -215,7 +218,7 @@ impl Bitmap {
     /// # Ok::<(), Refusal>(())
     /// ```
     pub fn sliced(&self, offset: usize, length: usize) -> Result<Bitmap, Refusal> {
-        // The library's start is at most the limit: a cut that would come above it, by the bit in the first byte, is made in two.
+        // The library's start is at most the limit: a slice that would start above it, by the bit in the first byte, is made in two steps.
         if (Bitmap::LIMIT - 7..=self.length).contains(&offset) && self.start + offset > Bitmap::LIMIT {
             return self.sliced(8, self.length - 8)?.sliced(offset - 8, length);
         }
@@ -224,7 +227,7 @@ impl Bitmap {
         Ok(Bitmap::from_record(Arc::clone(&self.bytes), self.offset, answer.mask))
     }
 
-    /// Keeps the `length` flags from `offset` on. Refused as [`sliced`](Bitmap::sliced) is, and then unchanged.
+    /// Keeps only the `length` flags that start at `offset`. Refused with 1 or 6 if they are not all in the mask, which is then unchanged.
     ///
     /// ```
     /// let mut mask = poruwhina::Bitmap::from([true, false, true]);
@@ -239,7 +242,8 @@ impl Bitmap {
         Ok(())
     }
 
-    /// The flags before flag `at` and those from it on. Refused with 1 and 6.
+    /// Returns the mask of the first `at` flags and the mask of the flags starting at `at`. Refused with 6 if `at` is above the length,
+    /// or with 1 if it is above [`LIMIT`](Bitmap::LIMIT).
     ///
     /// ```
     /// use poruwhina::Bitmap;
@@ -254,7 +258,7 @@ impl Bitmap {
         Ok((first, second))
     }
 
-    /// A mask in bytes of its own, room for `length` flags, which `call` writes.
+    /// Returns the mask that `call` writes to new bytes with room for `length` flags.
     pub(crate) fn written(length: usize, call: impl FnOnce(&mut [u8]) -> calls::MaskAnswer) -> Result<Bitmap, Refusal> {
         let mut bytes = vec![0; frozen_len(length.min(Bitmap::LIMIT))];
         let answer = call(&mut bytes);
@@ -262,31 +266,32 @@ impl Bitmap {
         Ok(Bitmap::from_record(Arc::new(bytes), 0, answer.mask))
     }
 
-    /// The mask of a record that the library gave for these bytes from the byte `offset` on.
+    /// Returns the mask of a record that the library returned for these bytes, starting at the byte `offset`.
     pub(crate) fn from_record(bytes: Arc<Vec<u8>>, offset: usize, mask: calls::Mask) -> Bitmap {
         let zeros = if mask.known == 0 { OnceLock::new() } else { OnceLock::from(mask.zeros) };
         Bitmap { bytes, offset: offset + mask.start / 8, start: mask.start % 8, length: mask.length, zeros, serial: mask.serial }
     }
 
-    /// The record for the library, to be used with `bytes` alone, without its count: a known one is exact, and no answer but that of
-    /// `slice` depends on it (the repository's theorem on counts), so that nothing is counted again.
+    /// Returns the record for the library, to be used only with `bytes`, without its count: a known one is exact, and only the answer of
+    /// `slice` depends on it (the repository's theorem on counts), so nothing is counted again.
     pub(crate) fn record(&self) -> calls::Mask {
         calls::Mask { start: self.start, length: self.length, zeros: 0, known: 0, serial: self.serial }
     }
 
-    /// The same with its count, where that is known.
+    /// Returns the record for the library, to be used only with `bytes`, with its count if that is known.
     fn counted_record(&self) -> calls::Mask {
         let zeros = self.lazy_unset_bits();
         calls::Mask { zeros: zeros.unwrap_or(0), known: u8::from(zeros.is_some()), ..self.record() }
     }
 
-    /// The bytes from the one with the first flag on. What lies behind the last flag is lent too: whole words are read faster.
+    /// Returns the bytes, starting at the one that has the first flag. Bytes after the last flag are lent too: whole words are read faster.
     pub(crate) fn bytes(&self) -> &[u8] {
         &self.bytes[self.offset..]
     }
 }
 
-/// The bytes from a byte on, for a span of so many flags; where there are none, the number that the library has for such a span.
+/// Returns the bytes starting at the byte `from`, or if `from` is past the end the refusal that the library has for a span of `length`
+/// flags there.
 fn bytes_from(bytes: &[u8], from: usize, length: usize) -> Result<&[u8], Refusal> {
     let refusal = if length > Bitmap::LIMIT { Refusal::AboveLimit } else { Refusal::OutsideBytes };
     bytes.get(from..).ok_or(refusal)

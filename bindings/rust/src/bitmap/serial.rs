@@ -1,4 +1,4 @@
-//! The serial of a mask, and which of two masks of one operator is in force.
+//! The serial of a mask, and which of two masks of one operator supersedes the other.
 
 use std::sync::Arc;
 
@@ -7,8 +7,8 @@ use crate::calls;
 use crate::refusal::{Refusal, check};
 
 impl Bitmap {
-    /// The serial of the revocation list that the mask was drawn up under: 0 of a new mask, the builder's of a frozen one, its mask's of
-    /// a slice, the largest of its masks of a combination.
+    /// Returns the serial of the revocation list that the mask was drawn up under. A new mask has serial 0, a frozen one its builder's, a
+    /// slice that of its mask, and a combination the largest of its masks'.
     ///
     /// ```
     /// use poruwhina::Bitmap;
@@ -21,8 +21,8 @@ impl Bitmap {
         self.serial
     }
 
-    /// The same mask under another serial. A mask that is rebuilt from runs or copied has its builder's serial, which is 0 where
-    /// nobody set it: whoever saves it sets the serial.
+    /// Returns the mask with its serial changed to `serial`. A mask that is rebuilt from runs or copied has its builder's serial, which is
+    /// 0 unless it was set: set the serial before you save such a mask.
     ///
     /// ```
     /// assert_eq!(poruwhina::Bitmap::new().with_serial(7).serial(), 7);
@@ -31,9 +31,9 @@ impl Bitmap {
         Bitmap { serial, ..self }
     }
 
-    /// Of two masks of one operator the one with the larger serial, over its own bytes, which are not copied. Equal serials with equal
-    /// flags give the first. Refused with 14 where the serials are equal and the flags are not: neither is then known to be the later
-    /// one, and a person decides. That both masks are one operator's is the caller's to see.
+    /// Returns the one of two masks of one operator that has the larger serial, over its own bytes, which are not copied. If the serials
+    /// and the flags are equal, returns the first. Refused with 14 if the serials are equal and the flags are not: then neither is known to
+    /// be the later one, and a person must decide. The caller ensures that both masks are one operator's.
     ///
     /// ```
     /// use poruwhina::{Bitmap, Refusal};

@@ -1,4 +1,4 @@
-//! What a mask is to Rust: made from flags, compared, shown, walked.
+//! The standard traits of a mask: made from flags, compared, shown by `Debug`, iterated over.
 
 use std::fmt;
 
@@ -8,7 +8,7 @@ use crate::calls;
 use crate::iterator::BitmapIter;
 use crate::refusal::check_passed;
 
-/// The mask of no flags.
+/// The default is the mask of no flags.
 ///
 /// ```
 /// assert_eq!(poruwhina::Bitmap::default(), poruwhina::Bitmap::new());
@@ -19,10 +19,10 @@ impl Default for Bitmap {
     }
 }
 
-/// The flags in their order: from an array, a slice or a `Vec` of `bool`.
+/// Makes a mask of the flags of an array, a slice or a `Vec` of `bool`, in their order.
 ///
 /// # Panics
-/// Above [`Bitmap::LIMIT`] flags. A [`BitmapBuilder`] refuses instead.
+/// With more than [`Bitmap::LIMIT`] flags. A [`BitmapBuilder`] refuses instead.
 ///
 /// ```
 /// use poruwhina::Bitmap;
@@ -37,10 +37,10 @@ impl<P: AsRef<[bool]>> From<P> for Bitmap {
     }
 }
 
-/// The flags in their order.
+/// Makes a mask of the flags of an iterator, in their order.
 ///
 /// # Panics
-/// Above [`Bitmap::LIMIT`] flags. A [`BitmapBuilder`] refuses instead.
+/// With more than [`Bitmap::LIMIT`] flags. A [`BitmapBuilder`] refuses instead.
 ///
 /// ```
 /// use poruwhina::Bitmap;
@@ -62,7 +62,7 @@ impl FromIterator<bool> for Bitmap {
     }
 }
 
-/// Equal lengths and equal flags.
+/// Two masks are equal if their lengths and flags are equal, whatever their serials.
 ///
 /// ```
 /// use poruwhina::Bitmap;
@@ -81,10 +81,10 @@ impl PartialEq for Bitmap {
 
 impl Eq for Bitmap {}
 
-/// How many flags of a long mask are shown.
+/// The number of flags of a long mask that are shown.
 const SHOWN: usize = 64;
 
-/// The length and the flags as 0 and 1, of a long mask the first 64.
+/// Shows the length, and the flags as 0 and 1, at most the first 64.
 ///
 /// ```
 /// use poruwhina::Bitmap;
@@ -102,7 +102,7 @@ impl fmt::Debug for Bitmap {
 }
 
 impl Bitmap {
-    /// What stands between the parentheses of `Debug`, here and of the builder.
+    /// Writes the text between the parentheses of `Debug`, of a mask and of a builder.
     pub(crate) fn fmt_flags(&self, f: &mut fmt::Formatter<'_>) -> fmt::Result {
         write!(f, "len {}, [", self.len())?;
         for (i, flag) in self.iter().take(SHOWN).enumerate() {
@@ -112,7 +112,7 @@ impl Bitmap {
     }
 }
 
-/// The flags, as [`Bitmap::iter`] gives them.
+/// Iterates over the flags, as [`Bitmap::iter`] does.
 ///
 /// ```
 /// let mut ones = 0;

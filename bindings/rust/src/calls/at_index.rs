@@ -1,14 +1,14 @@
 //! The combination `and_not` at one index.
 //!
-//! Written by tests/declarations.py from crates/capi, save for the examples, which it keeps.
+//! Written by tests/declarations.py from crates/capi, except the examples, which it keeps.
 
 use super::exports;
 use super::records::*;
 
-/// Whether the flag at `index` is set in the first mask and not in the second. Where not `first_present` there is no first mask,
-/// which stands for all ones; where not `second_present` no second mask, which takes nothing away: record and bytes are then not
-/// read. 5 comes only where both masks are there; without any mask nothing is refused. Refuses with 1, 2, 3, 5, 6; every other
-/// field is then 0.
+/// Returns whether the flag at `index` is set in the first mask and not in the second. If `first_present` is false there is no
+/// first mask, which means all ones; if `second_present` is false there is no second mask, which means all zeros. The record and
+/// bytes of an absent mask are not read. Refusal 5 occurs only with both masks; without any mask nothing is refused. Refuses with
+/// 1, 2, 3, 5, 6; every other field is then 0.
 ///
 /// ```
 /// use poruwhina::calls::{and_not_at, try_new};

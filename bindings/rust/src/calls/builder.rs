@@ -1,7 +1,7 @@
-//! The builder. Each call appends to `buf` and gives the builder to go on with. Finished words are written to the buffer, and
-//! nothing else of it; [`freeze`] and [`into_opt_validity`] write the frozen bytes over its front.
+//! The builder. Each append writes finished words to `buf`, leaves its other bytes unchanged, and returns the builder after it;
+//! [`freeze`] and [`into_opt_validity`] write the frozen bytes at the start of `buf`.
 //!
-//! Written by tests/declarations.py from crates/capi, save for the examples, which it keeps.
+//! Written by tests/declarations.py from crates/capi, except the examples, which it keeps.
 
 use super::exports;
 use super::records::*;
@@ -16,7 +16,7 @@ pub fn builder_new() -> Builder {
     unsafe { exports::pw_builder_new() }
 }
 
-/// Appends a flag. Refuses with 1, 4, 9; the builder is then the one that came.
+/// Appends `flag`. Refuses with 1, 4, 9; the builder is unchanged.
 ///
 /// ```
 /// use poruwhina::calls::{builder_new, push};
@@ -28,7 +28,7 @@ pub fn push(builder: Builder, buf: &mut [u8], flag: bool) -> BuilderAnswer {
     unsafe { exports::pw_push(builder.length, builder.word, builder.ones, buf.as_mut_ptr(), buf.len(), flag) }
 }
 
-/// Appends `n` copies of a flag. Refuses with 1, 4, 9; the builder is then the one that came.
+/// Appends `n` copies of `flag`. Refuses with 1, 4, 9; the builder is unchanged.
 ///
 /// ```
 /// use poruwhina::calls::{builder_new, extend_constant};
@@ -43,8 +43,8 @@ pub fn extend_constant(builder: Builder, buf: &mut [u8], n: usize, flag: bool) -
     unsafe { exports::pw_extend_constant(builder.length, builder.word, builder.ones, buf.as_mut_ptr(), buf.len(), n, flag) }
 }
 
-/// Appends the first `n` flags of a word, whose bits from there on must be 0. Refuses with 1, 4, 6, 9; the builder is then the
-/// one that came.
+/// Appends the lowest `n` bits of `flags`, bit 0 first. `n` must be at most 64, and all higher bits 0. Refuses with 1, 4, 6, 9;
+/// the builder is unchanged.
 ///
 /// ```
 /// use poruwhina::calls::{builder_new, push_word_with_len_unchecked};
@@ -58,7 +58,7 @@ pub fn push_word_with_len_unchecked(builder: Builder, buf: &mut [u8], flags: u64
     unsafe { exports::pw_push_word_with_len_unchecked(builder.length, builder.word, builder.ones, buf.as_mut_ptr(), buf.len(), flags, n) }
 }
 
-/// Appends a span. Refuses with 1, 2, 4, 9; the builder is then the one that came.
+/// Appends the `n` flags of `bytes` that start at bit `start`. Refuses with 1, 2, 4, 9; the builder is unchanged.
 ///
 /// ```
 /// use poruwhina::calls::{builder_new, extend_from_slice};
@@ -82,7 +82,8 @@ pub fn extend_from_slice(builder: Builder, buf: &mut [u8], bytes: &[u8], start: 
     }
 }
 
-/// Appends each flag of a span, `repeats` times in turn. Refuses with 1, 2, 4, 9; the builder is then the one that came.
+/// Appends `repeats` copies of each of the `n` flags of `bytes` that start at bit `start`, one flag after the other. Refuses with
+/// 1, 2, 4, 9; the builder is unchanged.
 ///
 /// ```
 /// use poruwhina::calls::{builder_new, extend_each_repeated_from_slice_unchecked};
@@ -110,7 +111,7 @@ pub fn extend_each_repeated_from_slice_unchecked(
     }
 }
 
-/// Appends `n` flags of a mask from its flag `start` on. Refuses with 1, 2, 3, 4, 6, 9; the builder is then the one that came.
+/// Appends the `n` flags of `mask` that start at its flag `start`. Refuses with 1, 2, 3, 4, 6, 9; the builder is unchanged.
 ///
 /// ```
 /// use poruwhina::calls::{builder_new, subslice_extend_from_bitmap, try_new};
@@ -136,8 +137,8 @@ pub fn subslice_extend_from_bitmap(builder: Builder, buf: &mut [u8], mask: Mask,
     }
 }
 
-/// Appends the flag of a span at each index, all of them below its length. Refuses with 1, 2, 4, 6, 9; the builder is then the
-/// one that came.
+/// Appends, for each index in `idxs`, that flag of the `n` flags of `bytes` that start at bit `start`. Each index must be below
+/// `n`. Refuses with 1, 2, 4, 6, 9; the builder is unchanged.
 ///
 /// ```
 /// use poruwhina::calls::{builder_new, gather_extend_from_slice};
@@ -164,8 +165,8 @@ pub fn gather_extend_from_slice(builder: Builder, buf: &mut [u8], bytes: &[u8], 
     }
 }
 
-/// Appends the flag of a span at each index, 0 for one at or past the span's length. Refuses with 1, 2, 4, 9; the builder is then
-/// the one that came.
+/// Appends, for each index in `idxs`, that flag of the `n` flags of `bytes` that start at bit `start`, or 0 if the index is `n`
+/// or more. Refuses with 1, 2, 4, 9; the builder is unchanged.
 ///
 /// ```
 /// use poruwhina::calls::{builder_new, opt_gather_extend_from_slice};
@@ -191,8 +192,9 @@ pub fn opt_gather_extend_from_slice(builder: Builder, buf: &mut [u8], bytes: &[u
     }
 }
 
-/// The mask of the builder's flags, its zeros counted, over their frozen bytes, under the builder's serial, which the caller
-/// kept. The builder is not given back: the caller has it. Refuses with 1, 4, 9; every other field is then 0.
+/// Writes the frozen bytes of the builder's flags at the start of `buf` and returns the mask over them, with its zero count known
+/// from `ones` and `word`, and with the builder's `serial`, which the caller kept. The builder is not returned: it does not
+/// change. Refuses with 1, 4, 9; every other field is then 0.
 ///
 /// ```
 /// use poruwhina::calls::{builder_new, freeze, push_word_with_len_unchecked};
@@ -207,9 +209,10 @@ pub fn freeze(builder: Builder, buf: &mut [u8], serial: u32) -> MaskAnswer {
     unsafe { exports::pw_freeze(builder.length, builder.word, builder.ones, buf.as_mut_ptr(), buf.len(), serial) }
 }
 
-/// The bytes and the mask that [`freeze`] gives, under the serial that the caller kept; no mask where all flags are set, so for
-/// no flags too. As in Arrow, no mask means all ones here; [`may_reassign`](super::may_reassign) takes no permission mask for no
-/// truck: end the builder of a permission mask with [`freeze`]. Refuses with 1, 4, 9; every other field is then 0.
+/// Writes the frozen bytes of the builder's flags at the start of `buf` and returns the mask that [`freeze`] returns, or no mask
+/// if all flags are set, also if there are no flags. As in Arrow, no mask means all ones here; in
+/// [`may_reassign`](super::may_reassign) no permission mask means no truck: end the builder of a permission mask with [`freeze`].
+/// Refuses with 1, 4, 9; every other field is then 0.
 ///
 /// ```
 /// use poruwhina::calls::{builder_new, extend_constant, into_opt_validity};

@@ -1,6 +1,6 @@
-//! The words of a span, and the flags behind the last whole one.
+//! The words of a span, and the flags after the last whole one.
 //!
-//! Written by tests/declarations.py from crates/capi, save for the examples, which it keeps.
+//! Written by tests/declarations.py from crates/capi, except the examples, which it keeps.
 
 use super::exports;
 use super::records::*;
@@ -16,7 +16,7 @@ pub fn chunks_new(bytes: &[u8], start: usize, length: usize) -> CursorAnswer {
     unsafe { exports::pw_chunks_new(bytes.as_ptr(), bytes.len(), start, length) }
 }
 
-/// A cursor at the first word of the first `length` flags of the bytes. Refuses with 1, 2; every other field is then 0.
+/// Returns a cursor at the first word of the first `length` flags of `bytes`. Refuses with 1, 2; every other field is then 0.
 ///
 /// ```
 /// use poruwhina::calls::{chunks_new, chunks_new_exact};
@@ -28,8 +28,8 @@ pub fn chunks_new_exact(bytes: &[u8], length: usize) -> CursorAnswer {
     unsafe { exports::pw_chunks_new_exact(bytes.as_ptr(), bytes.len(), length) }
 }
 
-/// The next word in `value`; none from word length div 64 on, where the cursor stays. Refuses with 1, 2, 6; the cursor is then
-/// the one that came, every other field 0.
+/// Returns the next word in `value` and moves the cursor one word on. After the last whole word `found` is false and the cursor
+/// does not move. Refuses with 1, 2, 6; the cursor is unchanged, and every other field is 0.
 ///
 /// ```
 /// use poruwhina::calls::{chunks_new, chunks_next};
@@ -45,8 +45,9 @@ pub fn chunks_next(cursor: Cursor, bytes: &[u8]) -> Step {
     answer.moving(cursor)
 }
 
-/// The last length mod 64 flags as a word in `value`, and their number in `count`, wherever the cursor stands. The cursor stays
-/// there: its place is given as it came. Refuses with 1, 2, 6; the cursor is then the one that came, every other field 0.
+/// Returns the last length mod 64 flags of the span as a word in `value`, zero above them, and their number in `count`. `found`
+/// is true. The result does not depend on the place, and the cursor does not move. Refuses with 1, 2, 6; the cursor is unchanged,
+/// and every other field is 0.
 ///
 /// ```
 /// use poruwhina::calls::{chunks_new, chunks_remainder};

@@ -1,11 +1,12 @@
-//! The combinations. Each writes frozen bytes over the front of `out` and gives the mask over them.
+//! The combinations of masks of equal lengths. The mask returned has start 0 and the largest of their serials.
 //!
-//! Written by tests/declarations.py from crates/capi, save for the examples, which it keeps.
+//! Written by tests/declarations.py from crates/capi, except the examples, which it keeps.
 
 use super::exports;
 use super::records::*;
 
-/// The flags that are set in both masks. Refuses with 1, 2, 3, 5, 9; every other field is then 0.
+/// Writes which flags are set in both masks, as frozen bytes at the start of `out`, and returns the mask over them. Refuses with
+/// 1, 2, 3, 5, 9; every other field is then 0.
 ///
 /// ```
 /// use poruwhina::calls::{and, try_new};
@@ -21,7 +22,8 @@ pub fn and(lhs: Mask, left: &[u8], rhs: Mask, right: &[u8], out: &mut [u8]) -> M
     unsafe { exports::pw_and(lhs, left.as_ptr(), left.len(), rhs, right.as_ptr(), right.len(), out.as_mut_ptr(), out.len()) }
 }
 
-/// The flags that are set in the first mask and not in the second. Refuses with 1, 2, 3, 5, 9; every other field is then 0.
+/// Writes which flags are set in the first mask and not in the second, as frozen bytes at the start of `out`, and returns the
+/// mask over them. Refuses with 1, 2, 3, 5, 9; every other field is then 0.
 ///
 /// ```
 /// use poruwhina::calls::{and_not, try_new};
@@ -37,7 +39,8 @@ pub fn and_not(lhs: Mask, left: &[u8], rhs: Mask, right: &[u8], out: &mut [u8]) 
     unsafe { exports::pw_and_not(lhs, left.as_ptr(), left.len(), rhs, right.as_ptr(), right.len(), out.as_mut_ptr(), out.len()) }
 }
 
-/// The flags that are set in either mask. Refuses with 1, 2, 3, 5, 9; every other field is then 0.
+/// Writes which flags are set in at least one of two masks, as frozen bytes at the start of `out`, and returns the mask over
+/// them. Refuses with 1, 2, 3, 5, 9; every other field is then 0.
 ///
 /// ```
 /// use poruwhina::calls::{or, try_new};
@@ -53,7 +56,8 @@ pub fn or(lhs: Mask, left: &[u8], rhs: Mask, right: &[u8], out: &mut [u8]) -> Ma
     unsafe { exports::pw_or(lhs, left.as_ptr(), left.len(), rhs, right.as_ptr(), right.len(), out.as_mut_ptr(), out.len()) }
 }
 
-/// The flags that are set in the first mask or not in the second. Refuses with 1, 2, 3, 5, 9; every other field is then 0.
+/// Writes which flags are set in the first mask or not set in the second, as frozen bytes at the start of `out`, and returns the
+/// mask over them. Refuses with 1, 2, 3, 5, 9; every other field is then 0.
 ///
 /// ```
 /// use poruwhina::calls::{or_not, try_new};
@@ -69,7 +73,8 @@ pub fn or_not(lhs: Mask, left: &[u8], rhs: Mask, right: &[u8], out: &mut [u8]) -
     unsafe { exports::pw_or_not(lhs, left.as_ptr(), left.len(), rhs, right.as_ptr(), right.len(), out.as_mut_ptr(), out.len()) }
 }
 
-/// The flags in which the masks differ. Refuses with 1, 2, 3, 5, 9; every other field is then 0.
+/// Writes which flags differ between two masks, as frozen bytes at the start of `out`, and returns the mask over them. Refuses
+/// with 1, 2, 3, 5, 9; every other field is then 0.
 ///
 /// ```
 /// use poruwhina::calls::{xor, try_new};
@@ -85,7 +90,8 @@ pub fn xor(lhs: Mask, left: &[u8], rhs: Mask, right: &[u8], out: &mut [u8]) -> M
     unsafe { exports::pw_xor(lhs, left.as_ptr(), left.len(), rhs, right.as_ptr(), right.len(), out.as_mut_ptr(), out.len()) }
 }
 
-/// Each flag inverted. Refuses with 1, 2, 3, 9; every other field is then 0.
+/// Writes each flag of a mask inverted, as frozen bytes at the start of `out`, and returns the mask over them. Refuses with 1, 2,
+/// 3, 9; every other field is then 0.
 ///
 /// ```
 /// use poruwhina::calls::{not, try_new};
@@ -99,8 +105,8 @@ pub fn not(mask: Mask, bytes: &[u8], out: &mut [u8]) -> MaskAnswer {
     unsafe { exports::pw_not(mask, bytes.as_ptr(), bytes.len(), out.as_mut_ptr(), out.len()) }
 }
 
-/// The flag of `truthy` where the selector's is set, else that of `falsy`. Refuses with 1, 2, 3, 5, 9; every other field is then
-/// 0.
+/// Writes the flag of `truthy` where the selector's is set, else that of `falsy`, as frozen bytes at the start of `out`, and
+/// returns the mask over them. Refuses with 1, 2, 3, 5, 9; every other field is then 0.
 ///
 /// ```
 /// use poruwhina::calls::{select, try_new};
@@ -129,7 +135,8 @@ pub fn select(selector: Mask, by: &[u8], truthy: Mask, yes: &[u8], falsy: Mask, 
     }
 }
 
-/// The flag of `truthy` where the selector's is set, else `flag`. Refuses with 1, 2, 3, 5, 9; every other field is then 0.
+/// Writes the flag of `truthy` where the selector's is set, else `flag`, as frozen bytes at the start of `out`, and returns the
+/// mask over them. Refuses with 1, 2, 3, 5, 9; every other field is then 0.
 ///
 /// ```
 /// use poruwhina::calls::{select_constant, try_new};

@@ -1,11 +1,11 @@
-//! The cursors over runs, flags and positions. A step that finds nothing gives the length as the place.
+//! The cursors over runs, flags and positions. A step that finds nothing moves the cursor to the length.
 //!
-//! Written by tests/declarations.py from crates/capi, save for the examples, which it keeps.
+//! Written by tests/declarations.py from crates/capi, except the examples, which it keeps.
 
 use super::exports;
 use super::records::*;
 
-/// A cursor before the first run of ones of a mask. Refuses with 1, 2, 3; every other field is then 0.
+/// Returns a cursor before the first run of ones of a mask. Refuses with 1, 2, 3; every other field is then 0.
 ///
 /// ```
 /// use poruwhina::calls::{slices_new, try_new};
@@ -19,8 +19,9 @@ pub fn slices_new(mask: Mask, bytes: &[u8]) -> CursorAnswer {
     unsafe { exports::pw_slices_new(mask, bytes.as_ptr(), bytes.len()) }
 }
 
-/// The next run of ones, its start in `value` and its length in `count`. Refuses with 1, 2, 6; the cursor is then the one that
-/// came, every other field 0.
+/// Returns the next run of ones, its start in `value` and its length in `count`, and moves the cursor past it. If there is no
+/// further run, `found` is false and the place is the length. Refuses with 1, 2, 6; the cursor is unchanged, and every other
+/// field is 0.
 ///
 /// ```
 /// use poruwhina::calls::{slices_new, slices_next, try_new};
@@ -37,8 +38,8 @@ pub fn slices_next(cursor: Cursor, bytes: &[u8]) -> Step {
     answer.moving(cursor)
 }
 
-/// A cursor before the first flag of a span. With length 0 its start, length and place are 0, before any test. Refuses with 1, 2;
-/// every other field is then 0.
+/// Returns a cursor before the first flag of a span. With length 0 its start, length and place are 0, without any check. Refuses
+/// with 1, 2; every other field is then 0.
 ///
 /// ```
 /// use poruwhina::calls::iter_new;
@@ -52,7 +53,8 @@ pub fn iter_new(bytes: &[u8], start: usize, length: usize) -> CursorAnswer {
     unsafe { exports::pw_iter_new(bytes.as_ptr(), bytes.len(), start, length) }
 }
 
-/// The next flag, 0 or 1 in `value`. Refuses with 1, 2, 6; the cursor is then the one that came, every other field 0.
+/// Returns the next flag, 0 or 1, in `value` and moves the cursor past it. At the end `found` is false and the cursor does not
+/// move. Refuses with 1, 2, 6; the cursor is unchanged, and every other field is 0.
 ///
 /// ```
 /// use poruwhina::calls::{iter_new, iter_next};
@@ -66,8 +68,8 @@ pub fn iter_next(cursor: Cursor, bytes: &[u8]) -> Step {
     answer.moving(cursor)
 }
 
-/// The flag that stands `n` behind the next one, 0 or 1 in `value`. Refuses with 1, 2, 6; the cursor is then the one that came,
-/// every other field 0.
+/// Skips `n` flags, returns the following one, 0 or 1, in `value` and moves the cursor past it. If there is no such flag, `found`
+/// is false and the place is the length. Refuses with 1, 2, 6; the cursor is unchanged, and every other field is 0.
 ///
 /// ```
 /// use poruwhina::calls::{iter_new, iter_nth};
@@ -82,8 +84,8 @@ pub fn iter_nth(cursor: Cursor, bytes: &[u8], n: usize) -> Step {
     answer.moving(cursor)
 }
 
-/// How many ones stand next, in `count`; the cursor moves past them. Refuses with 1, 2, 6; the cursor is then the one that came,
-/// every other field 0.
+/// Counts the ones from the cursor up to the next zero, or to the end, returns their number in `count` and moves the cursor past
+/// them. `found` is true, also if `count` is 0. Refuses with 1, 2, 6; the cursor is unchanged, and every other field is 0.
 ///
 /// ```
 /// use poruwhina::calls::{iter_new, take_leading_ones};
@@ -97,8 +99,8 @@ pub fn take_leading_ones(cursor: Cursor, bytes: &[u8]) -> Step {
     answer.moving(cursor)
 }
 
-/// How many zeros stand next, in `count`; the cursor moves past them. Refuses with 1, 2, 6; the cursor is then the one that came,
-/// every other field 0.
+/// Counts the zeros from the cursor up to the next one, or to the end, returns their number in `count` and moves the cursor past
+/// them. `found` is true, also if `count` is 0. Refuses with 1, 2, 6; the cursor is unchanged, and every other field is 0.
 ///
 /// ```
 /// use poruwhina::calls::{iter_new, take_leading_zeros};
@@ -112,9 +114,9 @@ pub fn take_leading_zeros(cursor: Cursor, bytes: &[u8]) -> Step {
     answer.moving(cursor)
 }
 
-/// A cursor before the first position of a one in a mask of `length` flags. Where not `present` there is no mask: record and
-/// bytes are not read, every position is given, as in Arrow, and 1 is the only refusal. For [`may_reassign`](super::may_reassign)
-/// no permission mask means no truck. Refuses with 1, 2, 3, 5; every other field is then 0.
+/// Returns a cursor before the first position of a one in a mask of `length` flags. If `present` is false there is no mask: its
+/// record and bytes are not read, the cursor has every position below `length`, as in Arrow, and 1 is the only refusal. In
+/// [`may_reassign`](super::may_reassign) no permission mask means no truck. Refuses with 1, 2, 3, 5; every other field is then 0.
 ///
 /// ```
 /// use poruwhina::calls::{bitmap_new, true_idx_new};
@@ -127,8 +129,9 @@ pub fn true_idx_new(length: usize, present: bool, mask: Mask, bytes: &[u8]) -> C
     unsafe { exports::pw_true_idx_new(length, present, mask, bytes.as_ptr(), bytes.len()) }
 }
 
-/// The next position of a one, in `value`. Without a mask 2 does not come. Refuses with 1, 2, 6; the cursor is then the one that
-/// came, every other field 0.
+/// Returns the next position of a one in `value` and moves the cursor past it. If there is no further one, `found` is false and
+/// the place is the length. If `masked` is 0 there is no mask: every position is returned, and refusal 2 does not occur. Refuses
+/// with 1, 2, 6; the cursor is unchanged, and every other field is 0.
 ///
 /// ```
 /// use poruwhina::calls::{true_idx_new, true_idx_next, try_new};
@@ -144,10 +147,11 @@ pub fn true_idx_next(cursor: Cursor, bytes: &[u8]) -> Step {
     answer.moving(cursor)
 }
 
-/// The next positions of ones, as many as there are and `out` has room for, over its front, and their number in `count`: what as
-/// many calls of [`true_idx_next`] give. The place is just past the last of them, where there was room for more the length; with
-/// no room the cursor stays. `found` is true. Without a mask 2 does not come. Refuses with 1, 2, 6; the cursor is then the one
-/// that came, every other field 0.
+/// Writes the next positions of ones at the start of `out`, as many as there are and it has room for, and returns their number in
+/// `count`. They are what as many calls of [`true_idx_next`] return; the rest of `out` is unchanged. The cursor moves past the
+/// last of them, or to the length if `out` is not filled; if `out` is empty it does not move. `found` is true. If `masked` is 0
+/// there is no mask: every position is written, and refusal 2 does not occur. Refuses with 1, 2, 6; the cursor is unchanged, and
+/// every other field is 0.
 ///
 /// ```
 /// use poruwhina::calls::{true_idx_new, true_idx_next_chunk, try_new};

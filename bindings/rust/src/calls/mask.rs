@@ -1,11 +1,11 @@
-//! The calls that make a mask, cut it, count it and compare it.
+//! The calls that make, slice, count and compare masks.
 //!
-//! Written by tests/declarations.py from crates/capi, save for the examples, which it keeps.
+//! Written by tests/declarations.py from crates/capi, except the examples, which it keeps.
 
 use super::exports;
 use super::records::*;
 
-/// Returns the empty mask.
+/// Returns the mask of no flags, its zero count known as 0.
 ///
 /// ```
 /// assert_eq!(poruwhina::calls::bitmap_new().known, 1);
@@ -15,8 +15,8 @@ pub fn bitmap_new() -> Mask {
     unsafe { exports::pw_bitmap_new() }
 }
 
-/// A mask of `length` zeros, whose frozen bytes are written over the front of `out`. Refuses with 1, 9; every other field is then
-/// 0.
+/// Writes the frozen bytes of `length` zeros at the start of `out` and returns the mask over them, its zero count known. Refuses
+/// with 1, 9; every other field is then 0.
 ///
 /// ```
 /// let mut out = [0xFF; 16];
@@ -29,7 +29,8 @@ pub fn new_zeroed(length: usize, out: &mut [u8]) -> MaskAnswer {
     unsafe { exports::pw_new_zeroed(length, out.as_mut_ptr(), out.len()) }
 }
 
-/// The mask of a span, its zeros not counted. Refuses with 1, 2; every other field is then 0.
+/// Returns the mask of the `length` flags of `bytes` that start at bit `start`. Its zero count is unknown, or known as 0 if
+/// `length` is 0. Refuses with 1, 2; every other field is then 0.
 ///
 /// ```
 /// use poruwhina::calls::try_new;
@@ -42,8 +43,8 @@ pub fn try_new(bytes: &[u8], start: usize, length: usize) -> MaskAnswer {
     unsafe { exports::pw_try_new(bytes.as_ptr(), bytes.len(), start, length) }
 }
 
-/// The piece of `length` flags from flag `offset` on. Refuses with 1, 2, 3, 6, 7; the mask is then the one that came, every field
-/// as it came.
+/// Returns the mask of the `length` flags of `mask` that start at its flag `offset`, over the same bytes. Its zero count may be
+/// unknown although that of `mask` is known. Refuses with 1, 2, 3, 6, 7; the mask is unchanged, every field of it.
 ///
 /// ```
 /// use poruwhina::calls::{slice, try_new};
@@ -57,8 +58,8 @@ pub fn slice(mask: Mask, bytes: &[u8], offset: usize, length: usize) -> MaskAnsw
     unsafe { exports::pw_slice(mask, bytes.as_ptr(), bytes.len(), offset, length) }
 }
 
-/// Returns the number of zeros, and the mask with that count stored. Refuses with 1, 2, 3; the mask is then the one that came,
-/// every field as it came, and `zeros` 0.
+/// Returns the number of zeros of `mask`, and the mask with that count stored. Refuses with 1, 2, 3; the mask is unchanged, every
+/// field of it, and `zeros` is 0.
 ///
 /// ```
 /// use poruwhina::calls::{try_new, unset_bits};
@@ -70,7 +71,8 @@ pub fn unset_bits(mask: Mask, bytes: &[u8]) -> ZerosAnswer {
     unsafe { exports::pw_unset_bits(mask, bytes.as_ptr(), bytes.len()) }
 }
 
-/// Whether lengths and flags are equal. Refuses with 1, 2, 3; every other field is then 0.
+/// Returns whether two masks have equal lengths and equal flags. Unequal lengths are not refused, and serials are ignored.
+/// Refuses with 1, 2, 3; every other field is then 0.
 ///
 /// ```
 /// use poruwhina::calls::{eq, try_new};
@@ -83,7 +85,7 @@ pub fn eq(lhs: Mask, left: &[u8], rhs: Mask, right: &[u8]) -> Flag {
     unsafe { exports::pw_eq(lhs, left.as_ptr(), left.len(), rhs, right.as_ptr(), right.len()) }
 }
 
-/// How many flags differ from the next one. Refuses with 1, 2, 3; every other field is then 0.
+/// Counts the flags of a mask that differ from the next flag. Refuses with 1, 2, 3; every other field is then 0.
 ///
 /// ```
 /// use poruwhina::calls::{num_edges, try_new};
@@ -95,7 +97,7 @@ pub fn num_edges(mask: Mask, bytes: &[u8]) -> Number {
     unsafe { exports::pw_num_edges(mask, bytes.as_ptr(), bytes.len()) }
 }
 
-/// How many flags are set in both masks. Refuses with 1, 2, 3, 5; every other field is then 0.
+/// Counts the flags that are set in both of two masks of equal lengths. Refuses with 1, 2, 3, 5; every other field is then 0.
 ///
 /// ```
 /// use poruwhina::calls::{num_intersections_with, try_new};

@@ -1,17 +1,17 @@
 //! The calls of the library one by one, over plain records and lent bytes: the layer below [`Bitmap`](crate::Bitmap).
 //!
-//! Every call is total. Any record, a damaged one too, and any bytes get an answer, or in the field `refusal` the number of
-//! the first check that fails ([`Refusal`](crate::Refusal) has the words; 0 says that none did), and after a refusal no lent
-//! byte has changed. So these functions are safe, whatever the numbers are. What they do not do is keep a record and its bytes
-//! together, which is the caller's part here and that of the types above elsewhere. A mask whose known count is false for the
-//! bytes that it is given with is refused with 3, for which its flags are counted at each call. A record that the library gave may
-//! go in with `known` 0: every answer is then the same, save the counts in records given. One from elsewhere goes in with its count.
+//! Every call is total. For any record, even a damaged one, and any bytes it returns an answer, or in the field `refusal` the number of
+//! the first check that fails (0 if none does; [`Refusal`](crate::Refusal) has the messages). After a refusal no lent byte has changed.
+//! So these functions are safe, whatever the numbers are. They do not keep a record and its bytes together: here the caller must, while
+//! the types of the crate do so themselves. A mask whose known count is false for the bytes that it is passed with is refused with 3, so
+//! its flags are counted at each call. A record that the library returned may be passed with `known` 0: every answer is then the same,
+//! except the counts in returned records. Pass a record from elsewhere with its count.
 //!
-//! This is the one module with `unsafe`. Each use is a call of an export, and the argument is the same for all: an export is
-//! proved to return on every input, reading and writing nothing but the slices lent to it. A slice crosses as its pointer and
-//! its count of elements, an array of fixed size as its pointer, which a Rust reference makes valid for the time of the call,
-//! and exclusive where it is `&mut`; an empty slice has a pointer that is not null and not read. All else crosses by value. A
-//! `bool` that comes back is 0 or 1, as the C interface has it.
+//! This is the only module with `unsafe`. Each use is a call of an export, and the argument is the same for all: an export is
+//! proved to return on every input, reading and writing only the slices lent to it. A slice is passed as its pointer and its
+//! number of elements, an array of fixed size as its pointer. A Rust reference makes the pointer valid for the time of the call,
+//! and exclusive if it is `&mut`; the pointer of an empty slice is not null and not read. All else is passed by value. A
+//! `bool` that is returned is 0 or 1, as the C interface has it.
 //!
 //! ```
 //! use poruwhina::calls;

@@ -1,16 +1,16 @@
 //! Dispatch.
 //!
-//! Written by tests/declarations.py from crates/capi, save for the examples, which it keeps.
+//! Written by tests/declarations.py from crates/capi, except the examples, which it keeps.
 
 use super::exports;
 use super::records::*;
 
-/// Whether truck number `truck` may be reassigned: its flag in the permission mask, and not in the revocation mask. Where not
-/// `permitted` there is no permission mask, and the answer is no for every truck; where not `revoked` no revocation mask, which
-/// takes nothing away: record and bytes are then not read. 5 comes only where both masks are there; without any mask nothing is
-/// refused. No permission mask is the opposite of the none of [`into_opt_validity`](super::into_opt_validity) and of no mask in
-/// [`true_idx_new`](super::true_idx_new), which mean all ones: end the builder of a permission mask with
-/// [`freeze`](super::freeze). Refuses with 1, 2, 3, 5, 6; every other field is then 0.
+/// Returns whether truck number `truck` may be reassigned: its flag is set in the permission mask and not in the revocation mask.
+/// If `permitted` is false there is no permission mask, and the answer is no for every truck; if `revoked` is false there is no
+/// revocation mask, and no truck is revoked. The record and bytes of an absent mask are not read. Refusal 5 occurs only with both
+/// masks; without any mask nothing is refused. No permission mask is the opposite of no mask from
+/// [`into_opt_validity`](super::into_opt_validity) or in [`true_idx_new`](super::true_idx_new), which means all ones: end the
+/// builder of a permission mask with [`freeze`](super::freeze). Refuses with 1, 2, 3, 5, 6; every other field is then 0.
 ///
 /// ```
 /// use poruwhina::calls::{may_reassign, try_new};

@@ -1,8 +1,8 @@
-//! The records that cross. In each answer `refusal` is the number of the first check that failed, or 0. On refusal what the call got
-//! and gives back stands in the answer as it came: a mask, a builder, a cursor's place, the cursor of an offer, a window's numbers.
-//! Every other field is then 0.
+//! The records of the C interface. In each answer `refusal` is the number of the first check that failed, or 0. On refusal the answer has
+//! what the call would have changed, unchanged: a mask, a builder, a cursor's place, the cursor of an offer, a window's numbers. Every
+//! other field is then 0.
 
-/// A mask: a span of its bytes and its zero count. The count is read where `known` is not 0; an unknown one is given as 0.
+/// A mask: a span of its bytes, its zero count and its serial. `zeros` is read only if `known` is not 0; an unknown count is returned as 0.
 ///
 /// ```
 /// use poruwhina::calls::{try_new, Mask};
@@ -12,19 +12,20 @@
 #[repr(C)]
 #[derive(Clone, Copy, Debug, PartialEq, Eq, Default)]
 pub struct Mask {
-    /// The bit of its bytes at which its first flag stands.
+    /// The bit of its bytes that is its first flag.
     pub start: usize,
     /// The number of its flags.
     pub length: usize,
-    /// The number of its zeros, where known.
+    /// The number of its zeros, if it is known.
     pub zeros: usize,
-    /// Not 0 where the zeros are known.
+    /// 0 if the number of zeros is unknown.
     pub known: u8,
-    /// The serial of the revocation list that it was drawn up under.
+    /// The serial of the revocation list that the mask was drawn up under.
     pub serial: u32,
 }
 
-/// A builder: its length, the word in progress and the ones in the finished words.
+/// A builder: its length, the word in progress and the number of ones in the finished words, which are in its buffer. The caller keeps its
+/// serial.
 ///
 /// ```
 /// use poruwhina::calls::{builder_new, extend_constant, Builder};
@@ -37,14 +38,14 @@ pub struct Mask {
 pub struct Builder {
     /// The number of its flags.
     pub length: usize,
-    /// The flags behind the last finished word, zero above.
+    /// The flags after the last finished word, zero above.
     pub word: u64,
-    /// The ones in the finished words.
+    /// The number of ones in the finished words.
     pub ones: usize,
 }
 
-/// A cursor: a span and the next place in it. `masked` is read by [`true_idx_next`](super::true_idx_next) and
-/// [`true_idx_next_chunk`](super::true_idx_next_chunk) alone, where 0 says that there is no mask; every other call gives it as 1.
+/// A cursor: a span and the next place in it. `masked` is 0 for a cursor that [`true_idx_new`](super::true_idx_new) makes without a mask,
+/// else 1; only [`true_idx_next`](super::true_idx_next) and [`true_idx_next_chunk`](super::true_idx_next_chunk) read it.
 ///
 /// ```
 /// use poruwhina::calls::{iter_next, Cursor};
@@ -60,9 +61,9 @@ pub struct Cursor {
     pub start: usize,
     /// The length of its span.
     pub length: usize,
-    /// The next place, counted in flags, for chunks in words.
+    /// The next place, counted in flags, or in words for chunks.
     pub place: usize,
-    /// 0 where there is no mask.
+    /// 0 if there is no mask.
     pub masked: u8,
 }
 
@@ -110,13 +111,13 @@ pub struct Flag {
 pub struct Position {
     /// The number of the first check that failed, or 0.
     pub refusal: u8,
-    /// Is there such a position.
+    /// Whether there is such a position.
     pub found: bool,
-    /// The position.
+    /// The position, or 0 if there is none.
     pub value: usize,
 }
 
-/// The position of a set bit of a word, or how many of its bits are set. Nothing is refused: `refusal` is 0.
+/// The position of a set bit of a word, or the number of its set bits. Nothing is refused: `refusal` is 0.
 ///
 /// ```
 /// use poruwhina::calls::{nth_set_bit_u64, NthAnswer};
@@ -127,18 +128,18 @@ pub struct Position {
 #[repr(C)]
 #[derive(Clone, Copy, Debug, PartialEq, Eq, Default)]
 pub struct NthAnswer {
-    /// 0.
+    /// Always 0.
     pub refusal: u8,
-    /// Is there such a bit.
+    /// Whether there is such a bit.
     pub found: bool,
-    /// Its position, where there is.
+    /// Its position, or 0 if there is no such bit.
     pub value: u32,
-    /// How many bits of the word are set, where there is none.
+    /// The number of set bits of the word if there is no such bit, else 0.
     pub ones: u32,
 }
 
 impl NthAnswer {
-    /// The position, or how many bits are set. What polars-arrow gives, which has no number, is `.position().ok()`.
+    /// Returns the position, or the number of set bits as an error. polars-arrow returns no number: its result is `.position().ok()`.
     ///
     /// ```
     /// use poruwhina::calls::{nth_set_bit_u32, Missing};
@@ -156,7 +157,7 @@ impl NthAnswer {
     }
 }
 
-/// A word has no such set bit: it has `ones` of them.
+/// The error that a word has no such set bit: only `ones` of its bits are set.
 ///
 /// ```
 /// use poruwhina::calls::{nth_set_bit_u64, Missing};
@@ -166,7 +167,7 @@ impl NthAnswer {
 /// ```
 #[derive(Clone, Copy, Debug, PartialEq, Eq, Hash)]
 pub struct Missing {
-    /// How many bits of the word are set.
+    /// The number of set bits of the word.
     pub ones: u32,
 }
 
@@ -178,7 +179,7 @@ impl std::fmt::Display for Missing {
 
 impl std::error::Error for Missing {}
 
-/// A position, if there is one, with the windows of 32 flags read, or a refusal.
+/// A position, if there is one, and the number of windows of 32 flags read, or a refusal.
 ///
 /// ```
 /// use poruwhina::calls::{next_and_not, try_new, NextAnswer};
@@ -191,15 +192,15 @@ impl std::error::Error for Missing {}
 pub struct NextAnswer {
     /// The number of the first check that failed, or 0.
     pub refusal: u8,
-    /// Is there such a position.
+    /// Whether there is such a position.
     pub found: bool,
-    /// The position.
+    /// The position, or 0 if there is none.
     pub position: usize,
-    /// How many windows were read.
+    /// The number of windows read.
     pub windows: usize,
 }
 
-/// A truck, if there is one, the cursor for the next call and the windows of 32 flags read, or a refusal with the cursor.
+/// A truck, if there is one, the cursor for the next call and the number of windows of 32 flags read, or a refusal and the cursor.
 ///
 /// ```
 /// use poruwhina::calls::{offer, try_new, OfferAnswer};
@@ -213,13 +214,13 @@ pub struct NextAnswer {
 pub struct OfferAnswer {
     /// The number of the first check that failed, or 0.
     pub refusal: u8,
-    /// Is there such a truck.
+    /// Whether there is such a truck.
     pub found: bool,
-    /// The truck.
+    /// The truck, or 0 if there is none.
     pub truck: usize,
-    /// The cursor for the next call: one past the truck, or as it came.
+    /// The cursor for the next call: one past the truck, or unchanged if there is none.
     pub cursor: usize,
-    /// How many windows were read.
+    /// The number of windows read.
     pub windows: usize,
 }
 
@@ -239,7 +240,7 @@ pub struct MaskAnswer {
     pub mask: Mask,
 }
 
-/// A mask, none where all flags are set, or a refusal.
+/// A mask, or none if all flags are set, or a refusal.
 ///
 /// ```
 /// use poruwhina::calls::{builder_new, into_opt_validity, ValidityAnswer};
@@ -251,13 +252,13 @@ pub struct MaskAnswer {
 pub struct ValidityAnswer {
     /// The number of the first check that failed, or 0.
     pub refusal: u8,
-    /// Is there a mask, so a zero among the flags.
+    /// Whether there is a mask: then at least one flag is 0.
     pub present: bool,
-    /// The mask.
+    /// The mask, or an empty record if there is none.
     pub mask: Mask,
 }
 
-/// The zeros of a mask and the mask with its count known, or a refusal.
+/// The number of zeros of a mask and the mask with its count known, or a refusal and the mask unchanged.
 ///
 /// ```
 /// use poruwhina::calls::{try_new, unset_bits, Mask, ZerosAnswer};
@@ -270,9 +271,9 @@ pub struct ValidityAnswer {
 pub struct ZerosAnswer {
     /// The number of the first check that failed, or 0.
     pub refusal: u8,
-    /// How many flags are 0.
+    /// The number of zeros.
     pub zeros: usize,
-    /// The mask with its count known.
+    /// The mask with its count known, or unchanged on refusal.
     pub mask: Mask,
 }
 
@@ -295,16 +296,17 @@ pub struct PartAnswer {
     pub refusal: u8,
     /// Whether the second mask is the winner.
     pub second: bool,
-    /// The first byte of the winner's part of the slice that it came with.
+    /// The first byte of the winner's part of the slice passed with it.
     pub from: usize,
-    /// The byte past its last.
+    /// The byte past the last one of that part.
     pub to: usize,
     /// The winner's record over that part.
     pub mask: Mask,
 }
 
 impl PartAnswer {
-    /// The winner's bytes, of the two slices that the call was given: after a refusal none of the first.
+    /// Returns the winner's bytes, a part of one of the two slices that were passed to the call: after a refusal an empty part of `first`.
+    /// Panics if that slice is shorter than the one passed to the call and does not have the part.
     ///
     /// ```
     /// use poruwhina::calls::{bitmap_new, superseding};
@@ -316,7 +318,7 @@ impl PartAnswer {
     }
 }
 
-/// The builder after a call, or a refusal and the builder as it came.
+/// The builder after a call, or a refusal and the builder unchanged.
 ///
 /// ```
 /// use poruwhina::calls::{builder_new, push, BuilderAnswer};
@@ -348,8 +350,8 @@ pub struct CursorAnswer {
     pub cursor: Cursor,
 }
 
-/// What a cursor gives and the cursor behind it, or a refusal and the cursor as it came. `value` is a word, a run's start, a
-/// flag or a position; `count` is a run's length, the flags of a remainder, the flags taken or the positions written.
+/// The item that a cursor returns and the cursor after the step, or a refusal and the cursor unchanged. `value` is a word, a run's start,
+/// a flag or a position; `count` is a run's length, the number of flags of a remainder, of flags counted or of positions written.
 ///
 /// ```
 /// use poruwhina::calls::{iter_next, Cursor, Step};
@@ -361,17 +363,17 @@ pub struct CursorAnswer {
 pub struct Step {
     /// The number of the first check that failed, or 0.
     pub refusal: u8,
-    /// Is there an answer, or has the cursor come to its end.
+    /// Whether there is an item; false at the end and on refusal.
     pub found: bool,
-    /// A word, a run's start, a flag or a position.
+    /// A word, a run's start, a flag as 0 or 1, or a position.
     pub value: u64,
-    /// A run's length, the flags of a remainder, the flags taken or the positions written.
+    /// A run's length, or the number of flags of a remainder, of flags counted or of positions written.
     pub count: usize,
-    /// The cursor just past what it gave.
+    /// The cursor after the step.
     pub cursor: Cursor,
 }
 
-/// A step as it crosses: of the cursor, only its place.
+/// A step as an export returns it: it has only the place of the cursor.
 #[repr(C)]
 #[derive(Clone, Copy)]
 pub(super) struct StepAnswer {
@@ -383,7 +385,7 @@ pub(super) struct StepAnswer {
 }
 
 impl StepAnswer {
-    /// The step of a cursor, which then stands at the place that the call gave.
+    /// Returns the step of `cursor`, moved to the place that the call returned.
     #[inline]
     pub(super) fn moving(self, cursor: Cursor) -> Step {
         let StepAnswer { refusal, found, value, count, place } = self;
@@ -405,15 +407,15 @@ pub struct SplitAnswer {
     pub refusal: u8,
     /// The flags before the whole words.
     pub prefix: u64,
-    /// How many flags the prefix has.
+    /// The number of flags of the prefix.
     pub prefix_len: usize,
     /// The first byte of the whole words.
     pub bulk_start: usize,
     /// The number of whole words.
     pub bulk_len: usize,
-    /// The flags behind the whole words.
+    /// The flags after the whole words.
     pub suffix: u64,
-    /// How many flags the suffix has.
+    /// The number of flags of the suffix.
     pub suffix_len: usize,
 }
 
@@ -451,10 +453,10 @@ pub struct SpansAnswer {
 pub struct WindowAnswer {
     /// The number of the check that failed, or 0.
     pub refusal: u8,
-    /// The place where the next word goes.
+    /// The place of the next word.
     pub place: usize,
-    /// How many words are kept now.
+    /// The number of words that the window has.
     pub fill: usize,
-    /// How many words are kept at most, 1 to 256.
+    /// The largest number of words that the window keeps, 1 to 256.
     pub width: usize,
 }

@@ -1,11 +1,12 @@
 //! The searches for the n-th set flag of a span.
 //!
-//! Written by tests/declarations.py from crates/capi, save for the examples, which it keeps.
+//! Written by tests/declarations.py from crates/capi, except the examples, which it keeps.
 
 use super::exports;
 use super::records::*;
 
-/// Returns the position of the n-th set flag at or after `from`, counting from 0. Refuses with 1, 2; every other field is then 0.
+/// Returns the position of the n-th set flag at or after `from`, counting from 0. `found` is false if at most `n` flags are set
+/// there. `from` may exceed the length. Refuses with 1, 2; every other field is then 0.
 ///
 /// ```
 /// use poruwhina::calls::nth_set_bit_idx;
@@ -18,8 +19,9 @@ pub fn nth_set_bit_idx(bytes: &[u8], start: usize, length: usize, n: usize, from
     unsafe { exports::pw_nth_set_bit_idx(bytes.as_ptr(), bytes.len(), start, length, n, from) }
 }
 
-/// The position of the n-th set flag counted down from below `end`, which may exceed the length. Refuses with 1, 2; every other
-/// field is then 0.
+/// Returns the position of the n-th set flag before `end`, counting down from 0: number 0 is the set flag nearest to `end`.
+/// `found` is false if at most `n` flags are set there. `end` may exceed the length. Refuses with 1, 2; every other field is then
+/// 0.
 ///
 /// ```
 /// use poruwhina::calls::nth_set_bit_idx_rev;

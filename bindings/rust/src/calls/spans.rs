@@ -1,12 +1,13 @@
-//! The calls over bare spans, which are the aligned split, the counts, a span cut in two and a window.
+//! The calls over spans without a mask: the aligned split, the counts, a span split in two, 32 flags as a number.
 //!
-//! Written by tests/declarations.py from crates/capi, save for the examples, which it keeps.
+//! Written by tests/declarations.py from crates/capi, except the examples, which it keeps.
 
 use super::exports;
 use super::records::*;
 
-/// The span cut in a prefix, whole words at addresses divisible by 8, and a suffix. `address` is the remainder by 8 of the
-/// address of the first byte. With length 0 all is 0, before any test. Refuses with 1, 2, 8; every other field is then 0.
+/// Splits a span into a prefix, whole words at addresses divisible by 8, and a suffix. `address` is the remainder by 8 of the
+/// address of the first byte. A span that lies in eight bytes is all prefix. With length 0 every field is 0, without any check.
+/// Refuses with 1, 2, 8; every other field is then 0.
 ///
 /// ```
 /// use poruwhina::calls::aligned_new;
@@ -20,8 +21,8 @@ pub fn aligned_new(bytes: &[u8], start: usize, length: usize, address: usize) ->
     unsafe { exports::pw_aligned_new(bytes.as_ptr(), bytes.len(), start, length, address) }
 }
 
-/// How many flags of a span are zero, whatever `address` is. With length 0 it is 0, before any test. Refuses with 1, 2, 8; every
-/// other field is then 0.
+/// Counts the zeros of a span. `address` is the remainder by 8 of the address of the first byte; the count does not depend on it.
+/// With length 0 returns 0 without any check. Refuses with 1, 2, 8; every other field is then 0.
 ///
 /// ```
 /// assert_eq!(poruwhina::calls::count_zeros(&[0x2D], 0, 6, 0).value, 2);
@@ -32,8 +33,9 @@ pub fn count_zeros(bytes: &[u8], start: usize, length: usize, address: usize) ->
     unsafe { exports::pw_count_zeros(bytes.as_ptr(), bytes.len(), start, length, address) }
 }
 
-/// How many zeros stand before the first one of a span, whatever `address` is. With length 0 it is 0, before any test. Refuses
-/// with 1, 2, 8; every other field is then 0.
+/// Counts the zeros before the first one of a span, or the whole length if no flag is set. `address` is the remainder by 8 of the
+/// address of the first byte; the count does not depend on it. With length 0 returns 0 without any check. Refuses with 1, 2, 8;
+/// every other field is then 0.
 ///
 /// ```
 /// assert_eq!(poruwhina::calls::leading_zeros(&[0x2C], 0, 6, 0).value, 2);
@@ -44,8 +46,9 @@ pub fn leading_zeros(bytes: &[u8], start: usize, length: usize, address: usize) 
     unsafe { exports::pw_leading_zeros(bytes.as_ptr(), bytes.len(), start, length, address) }
 }
 
-/// How many ones stand before the first zero of a span, whatever `address` is. With length 0 it is 0, before any test. Refuses
-/// with 1, 2, 8; every other field is then 0.
+/// Counts the ones before the first zero of a span, or the whole length if every flag is set. `address` is the remainder by 8 of
+/// the address of the first byte; the count does not depend on it. With length 0 returns 0 without any check. Refuses with 1, 2,
+/// 8; every other field is then 0.
 ///
 /// ```
 /// assert_eq!(poruwhina::calls::leading_ones(&[0x2D], 2, 4, 0).value, 2);
@@ -55,8 +58,9 @@ pub fn leading_ones(bytes: &[u8], start: usize, length: usize, address: usize) -
     unsafe { exports::pw_leading_ones(bytes.as_ptr(), bytes.len(), start, length, address) }
 }
 
-/// How many zeros stand behind the last one of a span, whatever `address` is. With length 0 it is 0, before any test. Refuses
-/// with 1, 2, 8; every other field is then 0.
+/// Counts the zeros after the last one of a span, or the whole length if no flag is set. `address` is the remainder by 8 of the
+/// address of the first byte; the count does not depend on it. With length 0 returns 0 without any check. Refuses with 1, 2, 8;
+/// every other field is then 0.
 ///
 /// ```
 /// assert_eq!(poruwhina::calls::trailing_zeros(&[0x2D], 0, 8, 0).value, 2);
@@ -66,8 +70,9 @@ pub fn trailing_zeros(bytes: &[u8], start: usize, length: usize, address: usize)
     unsafe { exports::pw_trailing_zeros(bytes.as_ptr(), bytes.len(), start, length, address) }
 }
 
-/// How many ones stand behind the last zero of a span, whatever `address` is. With length 0 it is 0, before any test. Refuses
-/// with 1, 2, 8; every other field is then 0.
+/// Counts the ones after the last zero of a span, or the whole length if every flag is set. `address` is the remainder by 8 of
+/// the address of the first byte; the count does not depend on it. With length 0 returns 0 without any check. Refuses with 1, 2,
+/// 8; every other field is then 0.
 ///
 /// ```
 /// assert_eq!(poruwhina::calls::trailing_ones(&[0x2D], 0, 4, 0).value, 2);
@@ -77,7 +82,8 @@ pub fn trailing_ones(bytes: &[u8], start: usize, length: usize, address: usize) 
     unsafe { exports::pw_trailing_ones(bytes.as_ptr(), bytes.len(), start, length, address) }
 }
 
-/// The spans of the flags before flag `at` and from it on. Refuses with 1, 2, 6; every other field is then 0.
+/// Returns two spans: the first `at` flags, and the flags starting at `at`. `at` may equal the length; above it the call is
+/// refused with 6. Refuses with 1, 2, 6; every other field is then 0.
 ///
 /// ```
 /// let parts = poruwhina::calls::split_at_unchecked(&[0x2D], 1, 6, 4);
@@ -89,8 +95,8 @@ pub fn split_at_unchecked(bytes: &[u8], start: usize, length: usize, at: usize) 
     unsafe { exports::pw_split_at_unchecked(bytes.as_ptr(), bytes.len(), start, length, at) }
 }
 
-/// 32 flags from `index` on, the first in the lowest bit, zeros past the span's end. Refuses with 1, 2; every other field is then
-/// 0.
+/// Returns 32 flags starting at `index`, the first in the lowest bit, with zeros past the end of the span. `index` may be any
+/// number. Refuses with 1, 2; every other field is then 0.
 ///
 /// ```
 /// assert_eq!(poruwhina::calls::get_u32(&[0x2D], 0, 6, 2).value, 0x0B);

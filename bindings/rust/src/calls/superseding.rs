@@ -1,14 +1,14 @@
-//! Which of two masks supersedes the other. A reference does not cross: the part of the bytes is given by its slice, its first
-//! byte and the byte past its last.
+//! Which of two masks supersedes the other. The C interface has no references: the part of the bytes is returned as the slice
+//! that it is of, its first byte and the byte past its last.
 //!
-//! Written by tests/declarations.py from crates/capi, save for the examples, which it keeps.
+//! Written by tests/declarations.py from crates/capi, except the examples, which it keeps.
 
 use super::exports;
 use super::records::*;
 
-/// The mask with the larger serial of two of one operator, over the part of its bytes that holds it. Equal serials with equal
-/// flags give the first, with other flags 14. Both masks are tested, the loser too. Refuses with 1, 2, 3, 14; every other field
-/// is then 0.
+/// Returns the winner of two masks of one operator, the one with the larger serial, over the part of its bytes that holds it.
+/// With equal serials and equal flags the first wins; with equal serials and different flags the call is refused with 14. Both
+/// masks are checked, the loser too. Refuses with 1, 2, 3, 14; every other field is then 0.
 ///
 /// ```
 /// use poruwhina::calls::{Mask, superseding, try_new};

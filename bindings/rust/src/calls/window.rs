@@ -1,12 +1,12 @@
-//! Who was busy lately.
+//! The window of minutes: in how many of the last minutes each truck was busy.
 //!
-//! Written by tests/declarations.py from crates/capi, save for the examples, which it keeps.
+//! Written by tests/declarations.py from crates/capi, except the examples, which it keeps.
 
 use super::exports;
 use super::records::*;
 
-/// Makes a window that keeps `width` words, 1 to 256, and has none yet: all words and counts are 0. Refuses with 16; every other
-/// field is then 0, and both arrays stay as they are.
+/// Writes an empty window, all words and counts 0, to both arrays and returns its numbers. It keeps the words of the last `width`
+/// minutes; `width` must be 1 to 256. Refuses with 16; every other field is then 0, and both arrays stay as they are.
 ///
 /// ```
 /// use poruwhina::calls::activity_new;
@@ -22,8 +22,9 @@ pub fn activity_new(words: &mut [u64; 256], counts: &mut [u32; 64], width: usize
     unsafe { exports::pw_activity_new(words, counts, width) }
 }
 
-/// Puts the word of the next minute into the window, in the stead of the oldest where all places are taken. Refuses with 16; the
-/// window is then the one that came: place, fill, width and both arrays.
+/// Writes `word`, whose bit j is the flag of truck j in the next minute, into the window, updates the counts and returns the new
+/// numbers. The oldest word is replaced if the window already has `width` words. `place`, `fill` and `width` are those that the
+/// call before returned. Refuses with 16; the window is unchanged: place, fill, width and both arrays.
 ///
 /// ```
 /// use poruwhina::calls::{WindowAnswer, activity_new, activity_push_minute};
@@ -46,7 +47,8 @@ pub fn activity_push_minute(
     unsafe { exports::pw_activity_push_minute(words, counts, place, fill, width, word) }
 }
 
-/// Writes to `out` for each flag how many of the kept words have it set. Refuses with 16; `out` then stays as it is.
+/// Writes to `out`, for each of the 64 flags, the number of kept words that have it set. Returns 0, or the number of the refusal.
+/// `place`, `fill` and `width` are those that the call before returned. Refuses with 16; `out` then stays as it is.
 ///
 /// ```
 /// use poruwhina::calls::{activity_counts, activity_new};

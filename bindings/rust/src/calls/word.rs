@@ -1,11 +1,11 @@
-//! The calls of words. Nothing is refused.
+//! The calls of words. They refuse nothing.
 //!
-//! Written by tests/declarations.py from crates/capi, save for the examples, which it keeps.
+//! Written by tests/declarations.py from crates/capi, except the examples, which it keeps.
 
 use super::exports;
 use super::records::*;
 
-/// Loads the first eight bytes as a little-endian word, padding a shorter slice with zeros.
+/// Loads the first eight bytes of `part` as a little-endian word, padding a shorter slice with zeros.
 ///
 /// ```
 /// assert_eq!(poruwhina::calls::load_padded_le_u64(&[0x2D, 0x01]), 0x012D);
@@ -29,7 +29,8 @@ pub fn merge_reversed(current: u64, next: u64, offset: usize) -> u64 {
     unsafe { exports::pw_merge_reversed(current, next, offset) }
 }
 
-/// The position of set bit n of a word, counted from 0; where at most n are set, how many are. Refuses nothing.
+/// Returns in `value` the position of set bit `n` of the word `w`, counting from 0. If at most `n` bits are set, `found` is false
+/// and `ones` is the number of set bits. Refuses nothing.
 ///
 /// ```
 /// use poruwhina::calls::nth_set_bit_u64;
@@ -42,7 +43,8 @@ pub fn nth_set_bit_u64(w: u64, n: u64) -> NthAnswer {
     unsafe { exports::pw_nth_set_bit_u64(w, n) }
 }
 
-/// The position of set bit n of a word of 32 bits, counted from 0; where at most n are set, how many are. Refuses nothing.
+/// Returns in `value` the position of set bit `n` of the 32-bit word `w`, counting from 0. If at most `n` bits are set, `found`
+/// is false and `ones` is the number of set bits. Refuses nothing.
 ///
 /// ```
 /// use poruwhina::calls::nth_set_bit_u32;

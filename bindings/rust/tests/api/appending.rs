@@ -1,11 +1,11 @@
-//! A builder against a list that grows with it.
+//! A builder, compared with a list to which the same flags are appended.
 
 use poruwhina::{Bitmap, BitmapBuilder, Refusal};
 
 use crate::flags_of;
 use crate::lists::{Random, packed, word};
 
-/// One append of a random kind to both.
+/// Makes one append of a random kind to the builder and the list.
 fn append(random: &mut Random, builder: &mut BitmapBuilder, list: &mut Vec<bool>) -> Result<(), Refusal> {
     let length = random.below(100);
     let (flags, start) = (random.flags(length), random.below(20));

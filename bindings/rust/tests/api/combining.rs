@@ -1,11 +1,11 @@
-//! Masks combined, against the lists combined flag by flag, and one mask by many routes.
+//! Masks combined, compared with lists combined flag by flag; and one mask made in many ways.
 
 use poruwhina::{Bitmap, BitmapBuilder, Permission, may_reassign};
 
 use crate::lists::{Random, patterns, runs, word, zeros};
 use crate::{flags_of, mask_at};
 
-/// Two masks of one length under every operation.
+/// Checks every operation on two masks of equal lengths.
 fn check_pair(left: &[bool], right: &[bool], a: &Bitmap, b: &Bitmap) {
     let expect = |operation: fn(bool, bool) -> bool| -> Vec<bool> { left.iter().zip(right).map(|(&x, &y)| operation(x, y)).collect() };
     let falsy: Vec<bool> = left.iter().rev().copied().collect();
@@ -36,7 +36,7 @@ fn check_pair(left: &[bool], right: &[bool], a: &Bitmap, b: &Bitmap) {
     assert_eq!(a == b, left == right);
 }
 
-/// With counts unknown and known: known ones open the shortcuts.
+/// Checks every operation before and after the masks' counts are known: they change no result.
 #[test]
 fn combinations() {
     for length in [0, 1, 7, 8, 9, 40, 63, 64, 65, 127, 128, 130] {
@@ -61,7 +61,7 @@ fn an_operator_panics_on_unequal_lengths() {
     let _ = &Bitmap::from([true]) & &Bitmap::from([true, true]);
 }
 
-/// A mask of the flags by each of several routes.
+/// Returns the mask of the flags, made in each of several ways.
 fn routes(flags: &[bool]) -> Vec<Bitmap> {
     let whole = mask_at(flags, 5);
     let built = |append: &dyn Fn(&mut BitmapBuilder)| {

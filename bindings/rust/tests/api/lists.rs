@@ -1,4 +1,4 @@
-//! Plain lists of flags for the tests: where they come from, and how they are packed. Nothing here calls the library.
+//! Plain lists of flags for the tests, how they are made and packed. Nothing here calls the library.
 
 /// Numbers from a fixed generator.
 pub struct Random(pub u64);
@@ -17,7 +17,7 @@ impl Random {
         (0..length).map(|_| self.flag()).collect()
     }
 
-    /// Flags in runs of 1 to 40.
+    /// Returns `length` flags in runs of 1 to 40.
     pub fn runs(&mut self, length: usize) -> Vec<bool> {
         let mut flags = Vec::new();
         let mut flag = self.flag();
@@ -30,13 +30,13 @@ impl Random {
     }
 }
 
-/// All zeros, all ones, random flags and runs, of one length.
+/// Returns lists of `length` flags: all zeros, all ones, random flags, and random runs.
 pub fn patterns(length: usize) -> [Vec<bool>; 4] {
     let mut random = Random(length as u64);
     [vec![false; length], vec![true; length], random.flags(length), random.runs(length)]
 }
 
-/// The flags from bit `start` on. The bits around them are `around`, so that one read too many shows.
+/// Returns bytes with the flags starting at bit `start`. All other bits are `around`, so that a read of one too many is noticed.
 pub fn packed(flags: &[bool], start: usize, around: bool) -> Vec<u8> {
     let mut bytes = vec![if around { 0xFF } else { 0 }; (start + flags.len()).div_ceil(8)];
     for (j, &flag) in flags.iter().enumerate() {
@@ -54,7 +54,7 @@ pub fn positions(flags: &[bool]) -> Vec<usize> {
     (0..flags.len()).filter(|&i| flags[i]).collect()
 }
 
-/// The maximal runs of ones as (start, length).
+/// Returns the maximal runs of ones as (start, length).
 pub fn runs(flags: &[bool]) -> Vec<(usize, usize)> {
     let mut runs: Vec<(usize, usize)> = Vec::new();
     for i in positions(flags) {
@@ -66,7 +66,7 @@ pub fn runs(flags: &[bool]) -> Vec<(usize, usize)> {
     runs
 }
 
-/// The flags from `index` on as a word, the first in the lowest bit.
+/// Returns `width` flags starting at `index` as a word, the first in the lowest bit.
 pub fn word(flags: &[bool], index: usize, width: usize) -> u64 {
     flags.iter().skip(index).take(width).enumerate().map(|(i, &flag)| u64::from(flag) << i).sum()
 }

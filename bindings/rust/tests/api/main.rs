@@ -1,4 +1,4 @@
-//! The crate against plain lists of flags.
+//! Tests of the crate, which compare it with plain lists of flags.
 
 mod appending;
 mod combining;
@@ -14,7 +14,7 @@ mod superseding;
 use lists::{packed, patterns};
 use poruwhina::Bitmap;
 
-/// A mask of the flags from bit `start` on, with ones around them at even starts and zeros at odd ones.
+/// Returns a mask of the flags that starts at bit `start`, with ones around the flags if the start is even, and zeros if it is odd.
 fn mask_at(flags: &[bool], start: usize) -> Bitmap {
     Bitmap::try_from_span(packed(flags, start, start.is_multiple_of(2)), start, flags.len()).expect("a list within the limit")
 }
@@ -23,7 +23,7 @@ fn flags_of(mask: &Bitmap) -> Vec<bool> {
     mask.iter().collect()
 }
 
-/// Every length to past two words, every start bit, several lists of each.
+/// Runs `test` for every length up to more than two words, several lists of each, at every start bit.
 fn each_list(mut test: impl FnMut(&[bool], &Bitmap)) {
     for length in 0..=130 {
         for flags in patterns(length) {

@@ -1,15 +1,15 @@
-//! The window of the last minutes, against a plain list of all minutes.
+//! The window of the last minutes, compared with a plain list of all minutes.
 
 use poruwhina::{ActivityWindow, Refusal, calls};
 
 use crate::lists::Random;
 
-/// In how many of these words each flag is set.
+/// Returns, for each flag, in how many of these words it is set.
 fn counted(words: &[u64]) -> [u32; 64] {
     std::array::from_fn(|truck| words.iter().filter(|&word| word >> truck & 1 == 1).count() as u32)
 }
 
-/// The last `width` words, or all while fewer have come.
+/// Returns the last `width` words, or all words if there are fewer.
 fn last(minutes: &[u64], width: usize) -> &[u64] {
     &minutes[minutes.len().saturating_sub(width)..]
 }
@@ -63,7 +63,7 @@ fn widths_that_are_refused() {
     }
 }
 
-/// Two minutes of a window of width 3, wrong at one place.
+/// Windows of width 3 after two minutes, each wrong at one place.
 #[test]
 fn windows_that_no_minutes_leave() {
     let (mut words, mut counts) = ([0; 256], [0; 64]);

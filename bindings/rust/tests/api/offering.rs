@@ -1,11 +1,11 @@
-//! Trucks offered one after another, against plain lists of flags.
+//! Trucks offered one after another, compared with plain lists of flags.
 
 use poruwhina::{Bitmap, Offer, Permission, Refusal, offer, offers};
 
 use crate::lists::Random;
 use crate::mask_at;
 
-/// The truck and the windows, flag by flag and window by window.
+/// Returns the truck, found flag by flag, and the number of windows, counted one by one.
 fn expected(free: &[bool], cursor: usize) -> Offer {
     let starts = (cursor..free.len()).step_by(32).chain((0..cursor).step_by(32));
     let truck = (cursor..free.len()).chain(0..cursor).find(|&truck| free[truck]);

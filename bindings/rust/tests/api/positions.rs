@@ -1,4 +1,4 @@
-//! Positions of ones: the iterator keeps those that a call gave, and hands them out one by one, in chunks and folded.
+//! Positions of ones: the iterator keeps those that a call returned, and returns them one by one, in chunks and folded.
 
 use poruwhina::{Bitmap, TrueIdxIter, calls};
 
@@ -8,7 +8,7 @@ use crate::{each_list, mask_at};
 /// A position that no mask has.
 const NONE: u32 = u32::MAX;
 
-/// The next positions in an output with so much room; behind them it must stay as it was.
+/// Returns the next positions, at most `room`, and checks that the rest of the output is unchanged.
 fn chunk(iter: &mut TrueIdxIter, room: usize) -> Vec<usize> {
     let mut out = vec![NONE; room];
     let many = iter.next_chunk(&mut out);
@@ -16,7 +16,7 @@ fn chunk(iter: &mut TrueIdxIter, room: usize) -> Vec<usize> {
     out[..many].iter().map(|&position| position as usize).collect()
 }
 
-/// All that is left, in chunks of one size, up to the first that is not full.
+/// Returns all remaining positions, read in chunks of `room`, up to the first that is not full.
 fn by_chunks(mut iter: TrueIdxIter, room: usize) -> Vec<usize> {
     let mut all = Vec::new();
     loop {
@@ -30,7 +30,7 @@ fn by_chunks(mut iter: TrueIdxIter, room: usize) -> Vec<usize> {
     }
 }
 
-/// Holds what an iterator has left, however it is asked, against these positions.
+/// Checks that an iterator's remaining positions, read in several ways, are these.
 fn holds(iter: &TrueIdxIter, left: &[usize]) {
     let (least, most) = iter.size_hint();
     assert!(least <= left.len() && left.len() <= most.expect("a bound"));
@@ -106,7 +106,7 @@ fn at_the_limit() {
     assert_eq!(out[limit], NONE);
 }
 
-/// The plain call beside as many calls for one position, from every place.
+/// Compares the plain call, from every place, with as many calls for one position.
 #[test]
 fn by_the_plain_calls() {
     for flags in [1, 17, 64, 70, 130].into_iter().flat_map(patterns) {

@@ -1,4 +1,4 @@
-//! What a mask of a list reads, counts and finds, and how it is cut.
+//! The flags, counts and searches of a mask of a list, and its slices.
 
 use poruwhina::{Bitmap, TrueIdxIter};
 

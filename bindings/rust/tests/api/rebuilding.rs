@@ -1,8 +1,8 @@
-//! A mask's length and runs give it back, by `extend_constant` alone.
+//! A mask is rebuilt from its length and runs, only by `extend_constant`.
 
 use poruwhina::{Bitmap, BitmapBuilder};
 
-/// Zeros for each gap, ones for each run, zeros for the rest; an empty gap is left out or not.
+/// Returns the mask of zeros for each gap, ones for each run and zeros for the rest; empty gaps are left out if `leave_out`.
 fn saved(length: usize, runs: &[(usize, usize)], leave_out: bool) -> Bitmap {
     let mut builder = BitmapBuilder::new();
     let zeros = |builder: &mut BitmapBuilder, end: usize| {

@@ -1,4 +1,4 @@
-//! Each refusal, the limit of 4,194,304 flags on both sides, and that nothing has changed after a refusal.
+//! Each refusal, the limit of 4,194,304 flags from both sides, and the fact that nothing has changed after a refusal.
 
 use poruwhina::{Bitmap, BitmapBuilder, Permission, Refusal, TrueIdxIter, calls, may_reassign};
 
@@ -71,7 +71,7 @@ fn a_refused_call_changes_nothing() {
     assert_eq!(frozen.as_slice().0, [0b101, 0, 0, 0, 0, 0, 0, 0]);
 }
 
-/// The types cannot be brought to these; the plain calls can, by records that a caller made up.
+/// Refusals that the types never return; the plain calls return them for records that a caller made up.
 #[test]
 fn from_the_plain_calls() {
     let mask = calls::Mask { start: 0, length: 100, zeros: 101, known: 1, serial: 0 };
@@ -90,7 +90,7 @@ fn from_the_plain_calls() {
     }
 }
 
-/// A refused call gives back the very record that it got, what it does not read of it included.
+/// A refused call returns the record that was passed, with every field unchanged, also those that it does not read.
 #[test]
 fn the_record_as_it_came() {
     let odd = calls::Mask { start: 0, length: 9, zeros: 77, known: 0, serial: 0 };
@@ -149,7 +149,7 @@ fn collecting_too_many_flags_panics() {
     let _: Bitmap = std::iter::repeat_n(true, Bitmap::LIMIT + 1).collect();
 }
 
-/// Of each length and start bit the exact count is taken, and every other one refused.
+/// For each length and start bit the exact count is accepted, and every other count is refused.
 #[test]
 fn a_false_count_is_refused() -> Result<(), Refusal> {
     let bytes: Vec<u8> = (0..26_u32).map(|i| (i * i * 37 + 11) as u8).collect();
@@ -169,7 +169,7 @@ fn a_false_count_is_refused() -> Result<(), Refusal> {
     Ok(())
 }
 
-/// Every plain call that takes a mask refuses a stale count with 3, in each of its places, and writes nothing.
+/// Every plain call that takes masks refuses a stale count of each of them with 3, and writes nothing.
 #[test]
 fn a_stale_count_at_each_call() {
     let (bytes, length) = ([0x2D], 6);

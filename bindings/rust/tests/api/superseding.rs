@@ -1,8 +1,8 @@
-//! Serials: which mask wins, what is handed on, and masks far behind in their bytes.
+//! Serials: which mask wins, which calls keep a serial, and masks that start far into their bytes.
 
 use poruwhina::{Bitmap, BitmapBuilder, Refusal, calls};
 
-/// Runs of ones, each a start and a length, as a mask of so many flags under a serial.
+/// Returns the mask of `length` flags with these runs of ones, each a start and a length, and with this serial.
 fn rebuilt(runs: &[(usize, usize)], length: usize, serial: u32) -> Bitmap {
     let mut builder = BitmapBuilder::new().with_serial(serial);
     for &(start, many) in runs {
@@ -13,7 +13,7 @@ fn rebuilt(runs: &[(usize, usize)], length: usize, serial: u32) -> Bitmap {
     builder.freeze()
 }
 
-/// A planner moves the start of a run and saves: under the old serial nobody wins unseen, under a larger one the edit does.
+/// A planner moves the start of a run and saves: with the old serial neither mask wins, with a larger one the edit wins.
 #[test]
 fn a_planners_edit() -> Result<(), Refusal> {
     let stored = rebuilt(&[(4, 8), (20, 3)], 40, 6);
@@ -35,7 +35,7 @@ fn a_planners_edit() -> Result<(), Refusal> {
     Ok(())
 }
 
-/// The winner shares the bytes of the mask that it was, at every start bit.
+/// The mask returned shares the bytes of the one that wins, at every start bit.
 #[test]
 fn the_winner_shares_its_bytes() -> Result<(), Refusal> {
     let bytes: Vec<u8> = (0..40u8).map(|byte| byte.wrapping_mul(37) ^ 11).collect();
@@ -69,7 +69,7 @@ fn serials_are_handed_on() -> Result<(), Refusal> {
     Ok(())
 }
 
-/// A mask at bit 4,194,304 answers as its copy at bit 0 does, and so does one behind it: both were refused by their start alone.
+/// A mask that starts at bit 4,194,304, or after it, answers as its copy at bit 0 does.
 #[test]
 fn far_behind_in_the_bytes() -> Result<(), Refusal> {
     let limit = Bitmap::LIMIT;
@@ -94,7 +94,7 @@ fn far_behind_in_the_bytes() -> Result<(), Refusal> {
     Ok(())
 }
 
-/// The part for callers with plain slices.
+/// The winner's part for callers of the plain call.
 #[test]
 fn plain_slices() {
     let (first, second) = ([0x2D, 0xF0, 0x0F], [0xFF]);

@@ -1,4 +1,4 @@
-//! The cursors over words, runs, flags and positions. A new cursor is compared whole, from its first answer to none.
+//! The cursors over words, runs, flags and positions. A new cursor is compared whole, from its first answer to its end.
 
 use super::Call;
 use crate::listed::Met;
@@ -31,15 +31,15 @@ fn next_position(cursor: Cursor, bytes: &[u8]) -> Answer {
     ours::step(calls::true_idx_next(ours::cursor(cursor), bytes))
 }
 
-/// What stands around the entries lent to the library.
+/// The entries before and after those lent to the library.
 const AROUND: u32 = 0xEEEE_EEEE;
 
-/// The whole entries of an output.
+/// Returns the whole entries of an output.
 fn entries(out: &[u8]) -> Vec<u32> {
     out.chunks_exact(4).map(|entry| u32::from_le_bytes(entry.try_into().expect("four bytes"))).collect()
 }
 
-/// Puts entries over the front of an output.
+/// Writes entries at the start of an output.
 fn put(out: &mut [u8], entries: &[u32]) {
     out.chunks_exact_mut(4).zip(entries).for_each(|(bytes, entry)| bytes.copy_from_slice(&entry.to_le_bytes()));
 }
@@ -128,7 +128,7 @@ fn new_cursors() -> [Call; 5] {
     ]
 }
 
-/// The original's cursor over flags, moved to the place, for one more answer; its own place is what it has left.
+/// Moves the original's cursor over flags to the place and takes one more answer; its new place follows from what it has left.
 fn their_iter(r: &Request, answer: impl FnOnce(&mut BitmapIter) -> Option<usize>) -> Option<Outcome> {
     let cursor = r.cursor();
     let mut iter = BitmapIter::new(r.bytes(), cursor.start, cursor.length);
@@ -140,7 +140,7 @@ fn their_iter(r: &Request, answer: impl FnOnce(&mut BitmapIter) -> Option<usize>
     Some(Outcome::values(values).record(State::Cursor(moved)))
 }
 
-/// The original's mask of the flags from the place on.
+/// Returns the original's mask of the flags that start at the place.
 fn rest(r: &Request) -> Bitmap {
     let cursor = r.cursor();
     let mask = Mask { start: cursor.start + cursor.place, length: cursor.length - cursor.place, zeros: None, serial: 0 };
@@ -153,8 +153,8 @@ fn their_position(r: &Request, _: &mut Met) -> Option<Outcome> {
     Some(Outcome::values(found.map(|position| r.place + position)))
 }
 
-/// The original's next positions, as many as the output has entries. The place is just past the last one that was asked for; where there
-/// was none left to give, the length.
+/// Returns the original's next positions, at most as many as the output has entries. The place is one past the last of them; the length
+/// if fewer are left than entries; unchanged if there is no entry.
 fn their_chunk(r: &Request, _: &mut Met) -> Option<Outcome> {
     let cursor = r.cursor();
     let (left, room) = (cursor.length - r.place, r.out.len() / 4);

@@ -14,7 +14,7 @@ pub fn calls() -> Vec<Call> {
     makers().into_iter().chain(readers()).chain(combinations()).collect()
 }
 
-/// The original takes a start of 0 alone, and refuses a length that does not fit.
+/// Returns the original's mask or refusal; it takes only a start of 0, and refuses a length that does not fit.
 fn their_try_new(r: &Request, refusal: u8, _: &mut Met) -> Option<Outcome> {
     if r.span().start != 0 || !matches!(refusal, 0 | 2) {
         return None;

@@ -1,4 +1,5 @@
-//! The calls: for each its name, what it takes, and how the library, the model and the original are asked.
+//! The calls: for each its name, what it takes, and how the library, the model and the original are asked. Function `calls` of a module
+//! returns those that its first comment names.
 
 mod builder;
 mod cursors;
@@ -9,9 +10,10 @@ use crate::request::{Request, Shape};
 use crate::theirs::Theirs;
 use model::Answer;
 
-/// Asks a side; what it writes goes to the output.
+/// A function that asks a side; what it writes goes to the output.
 pub type Ask = fn(&Request, &mut [u8]) -> Answer;
 
+/// A call that is compared.
 pub struct Call {
     pub name: &'static str,
     pub shape: Shape,
@@ -20,7 +22,7 @@ pub struct Call {
     pub theirs: Theirs,
 }
 
-/// Every call of the library's interface.
+/// Returns the calls that are compared: those of document 01, `may_reassign` and `true_idx_next_chunk`.
 pub fn calls() -> Vec<Call> {
     [spans::calls(), builder::calls(), masks::calls(), cursors::calls()].into_iter().flatten().collect()
 }

@@ -12,10 +12,10 @@ use original::bitmap::utils::{self, BitChunks, BitChunksExact};
 use original::bitmap::{and_not, bitmask};
 use poruwhina::calls;
 
-/// How far past the length the original is asked to search backwards: it takes a step for each 32 flags of the way.
+/// How far past the length the original is asked to search backwards: it takes a step for each 32 flags.
 const FAR: usize = 4096;
 
-/// The original's split of the bytes at the asked address. All prefix is its fast path, which has no words.
+/// Returns the original's split of the bytes at the request's address. All prefix is its fast path, which has no words.
 fn their_split(r: &Request, _: &mut Met) -> Option<Outcome> {
     let span = r.span();
     at_address(span.bytes, r.n % 8, |bytes| {
@@ -71,7 +71,8 @@ fn their_parts(r: &Request, _: &mut Met) -> Option<Outcome> {
     Some(Outcome::values([left.1, left.2, right.1, right.2]))
 }
 
-/// With both masks flag `truck` of `and_not`, with the permission alone its own flag. The Rust has no such rule as that for none.
+/// Returns flag `truck` of `and_not` with both masks, and of the permission mask if only that is present. With no permission mask the
+/// Rust has no rule.
 fn their_reassign(r: &Request, _: &mut Met) -> Option<Outcome> {
     let may = match (r.optional(0), r.optional(1)) {
         (Some(permission), Some(revocation)) => and_not(&bitmap(permission), &bitmap(revocation)).get_bit(r.n),

@@ -1,4 +1,4 @@
-//! The module's own list of parts, which is not at hand. Assumed: the names that the parts use of one another are found here.
+//! The module's own list of parts, whose file is missing. Assumed: the names that the parts use of one another are found here.
 
 pub mod aligned;
 pub mod bitmap_ops;

@@ -1,7 +1,7 @@
-//! Stands in for `bytemuck`: the bound `Pod` and the one cast that `AlignedBitmapSlice` makes.
+//! Replaces `bytemuck`: the bound `Pod` and the one cast that `AlignedBitmapSlice` makes.
 //!
-//! Assumed: `cast_slice` views the bytes as values in the machine's byte order, and panics where the address is not aligned or the
-//! bytes are no whole number of values. No values stand at the address of the bytes.
+//! Assumed: `cast_slice` views the bytes as values in the machine's byte order, and panics if the address is not aligned or the
+//! bytes are no whole number of values. A slice of no values begins at the address of the bytes too.
 
 /// A type that any bit pattern fits.
 ///

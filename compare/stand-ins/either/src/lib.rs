@@ -1,4 +1,4 @@
-//! Stands in for `either`: the type alone, as `Bitmap::into_mut` answers it. Nothing is assumed of it.
+//! Replaces `either`: only the type that `Bitmap::into_mut` returns. Nothing is assumed of it.
 
 pub enum Either<L, R> {
     Left(L),

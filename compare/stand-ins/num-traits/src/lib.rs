@@ -1,4 +1,4 @@
-//! Stands in for `num-traits`: the part of `PrimInt` that the bit chunks use.
+//! Replaces `num-traits`: the part of `PrimInt` that the bit chunks use.
 //!
 //! Assumed: its operations are the integers' own.
 

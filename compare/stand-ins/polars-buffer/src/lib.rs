@@ -1,7 +1,8 @@
-//! Stands in for `polars-buffer`: bytes shared by reference count, which `Bitmap` keeps, and the buffer around them.
+//! Replaces `polars-buffer`: bytes shared by reference count, which `Bitmap` keeps, and the buffer around them.
 //!
-//! Assumed: a storage gives back the bytes of the vector it was made from, unmoved; a clone shares them; only the last owner gets the
-//! vector back; a zeroed buffer is so many zeros. The alignment of the bytes is the allocator's and nothing is assumed of it.
+//! Assumed: a storage returns the bytes of the vector it was made from, unmoved; a clone shares them; only the last owner gets the vector
+//! back; a zeroed buffer is as many zeros as asked for. The alignment of the bytes is the allocator's and nothing is assumed of it.
+//! A function without a comment stands in for the crate's function of its name.
 
 use std::ops::{Deref, Range};
 use std::sync::Arc;
@@ -56,8 +57,8 @@ impl<T> Buffer<T> {
         self.storage
     }
 
-    /// The whole storage that the buffer is a range of. The crate has no such call: the comparison looks through it at the bytes of a
-    /// result that no call hands out.
+    /// Returns the whole storage that the buffer is a range of. The crate has no such call: by it the comparison sees the bytes of a result
+    /// that no call returns.
     pub fn storage(&self) -> &SharedStorage<T> {
         &self.storage
     }

@@ -1,4 +1,4 @@
-//! Stands in for `polars-error`: an error that holds its text, and the macro that returns one.
+//! Replaces `polars-error`: an error that holds its text, and the macro that returns one.
 //!
 //! Assumed: `polars_bail!(Kind: text)` returns the error from the function at once.
 

@@ -1,17 +1,17 @@
-//! Stands in for `polars-utils`: the load of a word, the cell of the cached count, the index type and a push.
+//! Replaces `polars-utils`: the load of a word, the cell of the cached count, the index type and a push.
 
 /// An index has 32 bits, as in the crate without its feature `bigidx` and in document 01.
 pub type IdxSize = u32;
 
 pub mod slice {
-    /// Assumed, from document 01 and from its use: the first eight bytes as a little-endian word, absent ones zero. The crate's own
-    /// text is not at hand, so this call alone is compared with the model only.
+    /// Returns the first eight bytes as a little-endian word, absent ones zero. That is assumed, from document 01 and from its use: the
+    /// crate's own text is missing, so this one call is compared with the model only.
     #[inline]
     pub fn load_padded_le_u64(bytes: &[u8]) -> u64 {
         bytes.first_chunk::<8>().map_or_else(|| load_short(bytes), |first| u64::from_le_bytes(*first))
     }
 
-    /// At most seven bytes, with no copy of variable length, so that the crate loses no time by its stand-in.
+    /// Loads at most seven bytes, with no copy of variable length, so that the crate loses no time by its stand-in.
     #[inline(never)]
     fn load_short(bytes: &[u8]) -> u64 {
         if let (Some(low), Some(high)) = (bytes.first_chunk::<4>(), bytes.last_chunk::<4>()) {
@@ -25,8 +25,8 @@ pub mod slice {
 pub mod relaxed_cell {
     use std::sync::atomic::{AtomicU64, Ordering};
 
-    /// Assumed: an atomic value, loaded and stored in relaxed order; a clone holds the value at that time. The bitmaps use it for u64
-    /// alone, so it holds that and the parameter only names it.
+    /// Assumed: an atomic value, loaded and stored in relaxed order; a clone holds the value at that time. The bitmaps use it only
+    /// for u64, so it holds that and the parameter only names it.
     pub struct RelaxedCell<T>(AtomicU64, std::marker::PhantomData<T>);
 
     impl RelaxedCell<u64> {
@@ -69,7 +69,7 @@ pub mod relaxed_cell {
 }
 
 pub mod vec {
-    /// Assumed: a push that presumes the capacity. This one checks it, so the answer is the same.
+    /// Assumed: a push that takes the capacity for granted. This one checks it, so the result is equal.
     pub trait PushUnchecked<T> {
         /// # Safety
         /// The capacity exceeds the length.

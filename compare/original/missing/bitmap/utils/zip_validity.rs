@@ -1,4 +1,4 @@
-//! `utils/mod.rs` hands these names on; none of the files at hand uses them. Nothing is assumed of them.
+//! `utils/mod.rs` exports these names; none of the original's files uses them. Nothing is assumed of them.
 
 pub struct ZipValidity;
 

@@ -1,4 +1,4 @@
--- Two halves (`exchanged-halves`), of each of which the old word's flags are counted (`holds-low`, `holds-high`).
+-- Two halves (`exchanged-halves`), each of which counts the old word's flags (`holds-low`, `holds-high`).
 use Rattle.std.proofs.Common.{length-take, arith}
 use Rattle.activity.proofs.WindowLaws.{holds-low, holds-high, second-long, exchanged-halves}
 use Rattle.activity.proofs.exchange.exchange.Goals as goal

@@ -1,4 +1,4 @@
--- A turn exchanges one count more (`exchanged-more`) by the flags of both words (`mask-digit`).
+-- An iteration exchanges one more count (`exchanged-more`) by the flags of both words (`mask-digit`).
 use Rattle.std.proofs.Common.{◌≡◌, ◌+◌, ◌<◌, refl, get_or, length, length-set, ◌∙◌, arith}
 use Rattle.words.specs.Columns.{digit_of}
 use Rattle.words.proofs.PlaneReads.{mask_of, mask-digit}

@@ -1,4 +1,4 @@
--- The invariant: the first c counts are exchanged, and the others are as they were.
+-- The invariant: the first c counts are exchanged, and the others unchanged.
 use Rattle.std.proofs.Common.{ℕ, ◌≡◌, ◌≤◌, length, get_or}
 use Rattle.activity.specs.Workers.{Exchanged}
 use Rattle.activity.proofs.exchange.exchange_half.Given as goal

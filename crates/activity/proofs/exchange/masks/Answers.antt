@@ -1,4 +1,4 @@
--- Each number is what the closure gives of its column (`mask_value`).
+-- Each number is what the closure returns for its column (`mask_value`).
 use Rattle.std.proofs.Common.{◌≡◌, ◌*◌, ◌^◌, ◌%◌, ◌∙◌, rules, get_or}
 use Rattle.words.specs.Planes.{Masks}
 use Rattle.words.proofs.PlaneReads.{mask_value}

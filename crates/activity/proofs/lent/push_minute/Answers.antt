@@ -1,4 +1,4 @@
--- `good_of`: what the test says, fact by fact.
+-- `good_of`: what a record that passes the check fulfils, fact by fact.
 use Rattle.std.proofs.Common.{sym, ◌∙◌, ◌≡◌, true, rules}
 use Rattle.activity.proofs.CheckLaws.{good_of}
 use Rattle.activity.proofs.lent.push_minute.Goals as goal

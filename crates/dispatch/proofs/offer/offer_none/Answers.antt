@@ -1,4 +1,4 @@
--- A search over a revocation mask makes its checks (`none-way`, `none-refused`); without one nothing is asked (`no-mask-way`).
+-- A search over a revocation mask makes its checks (`none-way`, `none-refused`); without one no check is made (`no-mask-way`).
 use Rattle.std.proofs.Common.{Ok, Err, sym, ap, ◌≡◌, ◌∙◌, rules}
 use Rattle.masks.specs.Answer.{answer}
 use Rattle.dispatch.proofs.OfferLaws.{no-mask-way, none-refused, none-way, offer-exit}

@@ -1,4 +1,4 @@
--- The span's checks, and where they have passed the address's, which comes after them: `first-number`, `passed-before`.
+-- The span's checks and, if they pass, that of the address, which comes after them: `first-number`, `passed-before`.
 use Rattle.std.proofs.Common.{refl, ◌∙◌}
 use Rattle.masks.specs.Checks.{rank, place_in, span_checks}
 use Rattle.masks.specs.Checks.{address_checks}

@@ -1,4 +1,4 @@
--- The number of the checks decides: `is-refused` or `is-given`; where all have passed the index lies in each mask (`passed-masks`).
+-- By cases on the number of the checks: `exit-refused` or `is-given`; if all pass, the index lies in each mask (`passed-masks`).
 use mathlib.Core.Path.{refl, sym, ap, ap₂, ◌∙◌}
 use mathlib.Core.Bool.{Bool, not, ◌&&◌}
 use Rattle.masks.specs.Answer.{given}

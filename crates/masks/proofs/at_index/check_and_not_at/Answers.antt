@@ -1,4 +1,4 @@
--- The checks of either mask and those of two in a row: `two-pieces`.
+-- The checks of each mask and those of two masks, joined by `two-pieces`.
 use Rattle.masks.specs.AtIndex.{and_not_at_checks}
 use Rattle.masks.proofs.CheckLaws.{two-pieces}
 use Rattle.masks.proofs.at_index.check_and_not_at.Goals as goal

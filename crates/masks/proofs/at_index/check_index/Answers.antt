@@ -1,4 +1,4 @@
--- In each arm the mask is known: its checks, or none.
+-- By cases on the mask: its checks, or none if it is absent.
 use Rattle.masks.specs.AtIndex.{index_checks}
 use Rattle.masks.specs.Checks.{first_failed}
 use Rattle.masks.proofs.at_index.check_index.Goals as goal

@@ -1,4 +1,4 @@
--- In each arm it is known which masks are there: of two the lengths are compared (`one-check`).
+-- By cases on the masks that are present; if both are, the lengths are compared (`one-check`).
 use mathlib.Core.Path.{refl}
 use Rattle.masks.specs.AtIndex.{length_checks}
 use Rattle.masks.specs.Checks.{first_failed}

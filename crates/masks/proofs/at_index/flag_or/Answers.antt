@@ -1,4 +1,4 @@
--- In each arm the mask is known: a present one has the index by `requires` (`index-fits`, `flag-inside`), an absent one gives `absent`.
+-- By cases on the mask: the flag of a present one is inside it, by `requires` (`flag-inside`); for none the answer is `absent`.
 use Rattle.masks.specs.AtIndex.{flag_or}
 use Rattle.masks.proofs.AtIndexLaws.{flag-inside}
 use Rattle.masks.proofs.at_index.flag_or.Goals as goal

@@ -1,4 +1,4 @@
--- By the mask's count: unknown (`cut-unknown`), recounted (`cut-known`) or kept (`cut-kept`).
+-- By cases on the mask's count: recounted (`cut-known`), kept or unknown; the check closes the goals of the last two by itself.
 use Rattle.masks.proofs.MaskLaws.{cut-known}
 use Rattle.std.proofs.Common.{arith}
 use mathlib.Core.Path.{sym, ◌∙◌}

@@ -1,4 +1,4 @@
--- The arms and the guard decide the definition's choices.
+-- By cases on the arms and the guard, which are the tests of the definition.
 use mathlib.Core.Path.{◌≡◌, ◌∙◌}
 use native.Mathlib.Omega.{arith}
 use Rattle.masks.specs.Mask.{kept_count}

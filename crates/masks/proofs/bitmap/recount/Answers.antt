@@ -1,4 +1,4 @@
--- One law for each arm: a count that is possible, more left than the piece has flags, or fewer zeros than were cut off.
+-- One law for each arm: a possible count, more zeros left than the piece has flags, or fewer zeros than were cut off.
 use Rattle.std.proofs.Common.{Ok, Some, ℕ, arith, ap, ◌∙◌}
 use Rattle.masks.proofs.MaskLaws.{below-cut, above-length, within_both}
 use Rattle.masks.proofs.bitmap.recount.Goals as goal

@@ -1,4 +1,4 @@
--- The mask's checks, and where they have passed that of the output, which comes after them: `first-number`, `passed-before`.
+-- The mask's checks and, if they pass, that of the output, which comes after them: `first-number`, `passed-before`.
 use Rattle.std.proofs.Common.{refl, ◌∙◌}
 use Rattle.masks.specs.Checks.{rank, place_in, span_checks}
 use Rattle.masks.specs.Checks.{output_checks}

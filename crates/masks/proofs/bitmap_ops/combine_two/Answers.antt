@@ -1,4 +1,4 @@
--- The number of the checks decides; where all have passed, count and bytes follow from the shortcut (`pair-given`, `pair-written`).
+-- By cases on the number of the checks; if all pass, count and bytes follow from the shortcut (`pair-given`, `pair-written`).
 use mathlib.Core.Path.{refl, sym, ◌∙◌}
 use Rattle.masks.proofs.CombineLaws.{pair_lengths, pair-refused, pair-given, pair-written}
 use Rattle.masks.proofs.RefusalLaws.{exit-is, number-ne0}

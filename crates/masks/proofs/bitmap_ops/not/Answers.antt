@@ -1,4 +1,4 @@
--- The number of the checks decides; the operation `Not` reads the first of three lists alone (`not-each`).
+-- By cases on the number of the checks; the operation `Not` reads only the first of three lists (`not-each`).
 use mathlib.Core.Path.{refl, ◌∙◌}
 use Rattle.masks.proofs.CombineLaws.{each-refused, each-given, not-each, one-serial}
 use Rattle.masks.proofs.RefusalLaws.{exit-is, number-ne0}

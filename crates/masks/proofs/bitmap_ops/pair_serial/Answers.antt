@@ -1,4 +1,4 @@
--- The larger of the two, as the largest of a list of two: `two-serials`.
+-- The larger of two serials is the largest of a list of two: `two-serials`.
 use Rattle.masks.proofs.CombineLaws.{two-serials}
 use Rattle.masks.proofs.bitmap_ops.pair_serial.Goals as goal
 

@@ -1,5 +1,4 @@
--- The number of the checks decides; where all have passed the lengths are equal (`select_lengths`), and the
--- kernel's flags are those chosen.
+-- By cases on the number of the checks; if all pass, the lengths are equal (`select_lengths`), and the kernel's flags are those chosen.
 use mathlib.Core.Path.{refl, sym, ◌∙◌}
 use Rattle.masks.proofs.CombineLaws.{each-refused, each-given, select_lengths, select-each}
 use Rattle.masks.proofs.RefusalLaws.{exit-is, number-ne0}

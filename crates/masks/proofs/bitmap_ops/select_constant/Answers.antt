@@ -1,5 +1,5 @@
--- The number of the checks decides; where all have passed both masks have one length (`pair_lengths`), so
--- the flags written are the contract's.
+-- By cases on the number of the checks; if all pass, the masks have equal lengths (`pair_lengths`), so the flags written are the
+-- contract's.
 use mathlib.Core.Path.{refl, sym, ◌∙◌}
 use Rattle.masks.proofs.CombineLaws.{each-refused, each-given, pair_lengths, constant-length}
 use Rattle.masks.proofs.RefusalLaws.{exit-is, number-ne0}

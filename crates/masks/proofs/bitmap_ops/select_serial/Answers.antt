@@ -1,4 +1,4 @@
--- The largest of three, by two tests: `three-serials`.
+-- The largest of three serials, by two tests: `three-serials`.
 use Rattle.masks.proofs.CombineLaws.{three-serials}
 use Rattle.masks.proofs.bitmap_ops.select_serial.Goals as goal
 

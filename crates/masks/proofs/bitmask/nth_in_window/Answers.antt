@@ -1,4 +1,4 @@
--- No window has a set flag from number 32 on, so that the least of n and 32 is asked for: `ask_least`.
+-- No window has more than 32 set flags, so the search is for the lesser of n and 32: `ask_least`.
 use Rattle.std.proofs.Common.{◌≡◌, ◌∙◌, rules}
 use Rattle.masks.proofs.SearchLaws.{ask_least}
 use Rattle.masks.proofs.bitmask.nth_in_window.Goals as goal

@@ -1,4 +1,4 @@
--- The span's checks decide (`refused-alike`, `given-alike`).
+-- By cases on the span's checks: `refused-alike` or `given-alike`.
 use mathlib.Core.Path.{◌∙◌}
 use Rattle.words.specs.Loops.{stretch}
 use Rattle.masks.proofs.SearchLaws.{span-most}

@@ -1,4 +1,4 @@
--- A window of 32 flags has no set flag number 32, so that the answer is their number (`nth-missing`).
+-- A window of 32 flags has no set flag number 32, so the answer is the number of the set flags (`nth-missing`).
 use Rattle.std.proofs.Common.{Err, ◌≡◌, ◌∙◌, arith, rules}
 use Rattle.words.specs.Flags.{bits, count}
 use Rattle.words.proofs.Bits.{length-bits}

@@ -1,4 +1,4 @@
--- By `requires` more than n flags are set, so that the answer is a place (`nth-found`).
+-- By `requires` more than n flags are set, so the answer is a place (`nth-found`).
 use Rattle.std.proofs.Common.{Ok, ◌≡◌, ◌∙◌, rules}
 use Rattle.words.specs.Flags.{bits}
 use Rattle.words.specs.Nth.{nth_place}

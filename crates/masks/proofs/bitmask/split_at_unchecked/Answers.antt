@@ -1,4 +1,4 @@
--- The number of the checks decides; where all have passed, sum and difference fit (`split-allowed`).
+-- By cases on the number of the checks; if all pass, sum and difference fit (`split-allowed`).
 use mathlib.Core.Path.{refl, sym}
 use native.Mathlib.Omega.{arith}
 use Rattle.masks.specs.Bitmask.{split_at}

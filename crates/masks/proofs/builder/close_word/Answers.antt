@@ -1,4 +1,4 @@
--- The word is full: it is stored and counted, and none is in progress (`push-closed`).
+-- The word is full: it is stored and counted, and no word is in progress (`push-closed`).
 use Rattle.words.specs.Flags.{word_flags}
 use native.Mathlib.Omega.{arith}
 use Rattle.words.proofs.Bits.{length-bits}

@@ -1,4 +1,4 @@
--- A word in progress is stored behind the finished ones (`freeze-word`); without one the buffer is frozen as it is (`freeze-whole`).
+-- A word in progress is stored after the finished ones (`freeze-word`); without one the buffer is frozen already (`freeze-whole`).
 use native.Mathlib.Omega.{arith}
 use Rattle.masks.proofs.FreezeLaws.{freeze-word, freeze-whole}
 use Rattle.masks.proofs.RoomLaws.{word-stored}

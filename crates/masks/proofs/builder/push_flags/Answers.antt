@@ -1,5 +1,5 @@
--- The word in progress has room for all flags (`push_inside`), or is completed, and the rest begins the next (`push-begun`): both are the
--- flags (`cut-whole`).
+-- The word in progress has room for all flags (`push_inside`), or it is completed and the rest begins the next word (`push-begun`); the
+-- two parts joined are the flags (`cut-whole`).
 use Prim.Native.Nat.{◌-◌, ◌%◌, ◌≤◌}
 use mathlib.Core.Path.{ap, ◌∙◌}
 use native.Mathlib.Omega.{arith}

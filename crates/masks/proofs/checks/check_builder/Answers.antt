@@ -1,4 +1,4 @@
--- The new length is over the limit, and 1 stands first (`over-limit`), or within it (`in-limit`).
+-- The new length is over the limit, and 1 comes first (`over-limit`), or it is within the limit (`in-limit`).
 use Prim.Native.Nat.{◌+◌}
 use native.Mathlib.Omega.{arith}
 use borrow.Author.Tests.{le-leb, lt-leb}

@@ -1,4 +1,4 @@
--- Each limit decides where it is passed over (`limit-first`); then that the piece is inside, in order: `passed-before`.
+-- If a limit is exceeded, it sets the number (`limit-first`); then the check that the piece is inside, in order: `passed-before`.
 use Rattle.std.proofs.Common.{refl, ◌∙◌}
 use Rattle.masks.specs.Appends.{inner_checks}
 use Rattle.masks.specs.Checks.{rank, place_in}

@@ -1,4 +1,4 @@
--- `one-check`, and `output-test`: the comparison in words is the one in bytes.
+-- `one-check`, and `output-test`: comparing words equals comparing bytes.
 use Rattle.masks.specs.Checks.{output_checks}
 use Rattle.masks.proofs.CheckLaws.{one-check, output-test}
 use Rattle.masks.proofs.checks.check_output.Goals as goal

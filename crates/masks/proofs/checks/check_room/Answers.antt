@@ -1,4 +1,4 @@
--- A buffer that is too small decides first (`small-room`); in one that is not, the ones (`ones_over`) and then the word (`word-decides`).
+-- A buffer that is too small sets the number (`small-room`); else the ones do (`ones_over`), and then the word (`word-decides`).
 use Rattle.std.proofs.Common.{arith}
 use Rattle.masks.proofs.RoomLaws.{small-room, ones_over, word-decides}
 use Rattle.masks.proofs.checks.check_room.Goals as goal

@@ -1,4 +1,4 @@
--- One number is over the limit, and 1 is the first that fails (`span-refused`), or both are within it and check 2 decides (`span-within`).
+-- A number is over the limit, and 1 comes first (`span-refused`), or both are within it, and the number is that of check 2 (`span-within`).
 use Rattle.std.proofs.Common.{◌∙◌, ◌&&◌, sym, rules}
 use Rattle.std.proofs.lemmas.Bool.{and_parts}
 use mathlib.Core.Path.{ap₂}

@@ -1,4 +1,4 @@
--- The earlier of the two (`two-pieces`).
+-- The earlier of the numbers of the span and of the builder (`two-pieces`).
 use Rattle.masks.proofs.CheckLaws.{two-pieces}
 use Rattle.masks.proofs.checks.check_span_grow.Goals as goal
 

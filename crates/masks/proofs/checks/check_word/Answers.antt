@@ -1,4 +1,4 @@
--- The limit, and where it has passed the word, which comes after it: `first-number`, `passed-before`.
+-- The check of the limit and, if it passes, that of the word, which comes after it: `first-number`, `passed-before`.
 use Rattle.std.proofs.Common.{refl}
 use mathlib.Core.Path.{◌∙◌}
 use borrow.Author.Tests.{le-leb, lt-leb}

@@ -1,4 +1,4 @@
--- The tests that were made decide the contract's conjunction.
+-- By cases on the tests made: each case fixes the contract's conjunction.
 use Rattle.std.proofs.Common.{◌∙◌, sym}
 use Rattle.masks.specs.Builder.{possible}
 use Rattle.masks.proofs.CheckLaws.{both-tested, first-tested, possible-not, third-decides}

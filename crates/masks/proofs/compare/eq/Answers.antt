@@ -1,4 +1,4 @@
--- The number of the checks decides; then masks of unequal lengths differ (`lengths_differ`), and of one length the flags are compared.
+-- By cases on the number of the checks; then masks of unequal lengths differ (`lengths_differ`), else the flags are compared.
 use mathlib.Core.Path.{refl, sym, ap, ◌∙◌}
 use Rattle.words.proofs.Windows.{length-window}
 use Rattle.masks.specs.Answer.{given}

@@ -1,4 +1,4 @@
--- The number of the mask's checks decides; where all have passed the start is within the limit (`mask-allowed`), as a span asks.
+-- By cases on the number of the mask's checks; if all pass, the start is within the limit (`mask-allowed`), as a span requires.
 use mathlib.Core.Path.{refl, sym, ap, ◌∙◌}
 use Rattle.std.proofs.Common.{arith}
 use Rattle.masks.specs.Answer.{given}

@@ -1,5 +1,4 @@
--- The number of the checks decides; where all have passed the lengths are equal (`common_lengths`), and the
--- ones of their `and` are counted.
+-- By cases on the number of the checks; if all pass, the lengths are equal (`common_lengths`), and the ones of the `and` are counted.
 use mathlib.Core.Path.{refl, sym, ap, ◌∙◌}
 use Rattle.masks.specs.Answer.{given}
 use Rattle.masks.specs.Compare.{common_of, common_checks}

@@ -1,4 +1,4 @@
--- The checks of the span, and where they have passed that of the place, which comes after them: `first-number`, `passed-before`.
+-- The checks of the span and, if they pass, that of the place, which comes after them: `first-number`, `passed-before`.
 use Rattle.std.proofs.Common.{refl, ◌∙◌}
 use Rattle.masks.specs.Checks.{rank, place_in, span_checks}
 use Rattle.masks.specs.Cursor.{cursor_checks}

@@ -1,5 +1,5 @@
--- Few copies go into the word in progress (`front-padded`); else `append-three`: those that complete it, whole words and the rest
--- are all copies (`copies-three`).
+-- Few copies go into the word in progress (`front-padded`); else `append-three`: copies that complete it, whole words of copies and the
+-- rest are all the copies (`copies-three`).
 use Prim.Native.Nat.{◌-◌, ◌%◌, ◌≤◌}
 use mathlib.Core.Path.{ap, ◌∙◌}
 use native.Mathlib.Omega.{arith}

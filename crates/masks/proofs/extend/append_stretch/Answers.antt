@@ -1,5 +1,5 @@
--- Up to 64 flags are pushed as one word; else `append-three`: up to a full word, whole words and a last
--- word are the stretch (`window-three`).
+-- Up to 64 flags are pushed as one word; else `append-three`: flags up to a full word, whole words and a last word are the stretch
+-- (`window-three`).
 use Prim.Native.Nat.{◌-◌, ◌*◌, ◌/◌, ◌≤◌}
 use mathlib.Core.Path.{ap, ◌∙◌}
 use native.Mathlib.Omega.{arith}

@@ -1,4 +1,4 @@
--- `append-whole`: with no word in progress, whole words stored from the first unfilled one on. Ones are at most the flags, so the sum fits.
+-- `append-whole`: no word is in progress; whole words are stored at the first unfilled one. Ones are at most the flags, so the sum fits.
 use Rattle.words.proofs.Counting.{count-within}
 use Rattle.words.specs.Flags.{flags_of}
 use native.Mathlib.Omega.{arith}

@@ -1,4 +1,4 @@
--- `append-whole`: with no word in progress, whole words stored from the first unfilled one on; `count-copies` counts their ones.
+-- `append-whole`: no word is in progress; whole words are stored at the first unfilled one; `count-copies` counts their ones.
 use mathlib.Core.Path.{sym, ◌∙◌}
 use native.Mathlib.Omega.{arith}
 use Rattle.words.proofs.Bytes.{over-from}

@@ -1,4 +1,4 @@
--- In each branch the flag is known: `or_not` the other way round (`written-set`) or `and` (`written-clear`) is the choice.
+-- By cases on the flag: `or_not` with its arguments exchanged (`written-set`) or `and` (`written-clear`) is the choice.
 use Rattle.masks.proofs.CombineLaws.{written-set, written-clear}
 use Rattle.masks.proofs.frozen.select_frozen.Goals as goal
 

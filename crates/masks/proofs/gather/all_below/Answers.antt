@@ -1,4 +1,4 @@
--- The definition is std's word for the chain (`below-is-all`).
+-- The definition is std's for the chain of iterators (`below-is-all`).
 use Rattle.std.proofs.Common.{◌∙◌, ltb, rules, tests}
 use Rattle.std.proofs.lemmas.Iterator.{YieldsList-from_slice}
 use Rattle.std.proofs.lemmas.Iterator.Search.{all_from_yields_List}

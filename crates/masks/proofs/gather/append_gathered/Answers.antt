@@ -1,4 +1,4 @@
--- One part more is `part-step`, with the room that `part-room` leaves; at the end nothing is left.
+-- One more part is `part-step`, with the room that `part-room` leaves; at the end nothing is left.
 use Rattle.std.proofs.Common.{rules}
 use Rattle.masks.specs.Builder.{filling}
 use Rattle.masks.proofs.AppendLaws.{append-none}

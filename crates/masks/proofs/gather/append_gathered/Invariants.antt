@@ -1,4 +1,4 @@
--- The invariant: appending the flags at the indices that are left gives what appending all of them gives.
+-- The invariant: appending the flags at the indices that are left results in the builder that appending all of them results in.
 -- There is room for them, and appending none changes nothing.
 use Rattle.std.proofs.Common.{◌≡◌, [], length}
 use Rattle.std.specs.Slice.Iter.{chunks_rest, chunks_size}

@@ -1,4 +1,4 @@
--- The invariant: the first i flags of w are those at the first i indices. One more is the law `word-step`.
+-- The invariant: the first i flags of w are those at the first i indices. Adding one more is the law `word-step`.
 use mathlib.Core.Path.{◌≡◌}
 use lib.ListN.{take}
 use Rattle.words.specs.Flags.{word_flags}

@@ -1,4 +1,4 @@
--- Inside the span its flag is one of the bytes (`flag-inside`); past it there is none (`flag-past`).
+-- Inside the span the flag is one of the bytes (`flag-inside`); past it the flag is 0 (`flag-past`).
 use Rattle.std.proofs.Common.{◌∙◌, le-ltb}
 use Rattle.masks.proofs.GatherLaws.{flag-inside, flag-past}
 use Rattle.masks.proofs.gather.span_flag.Goals as goal

@@ -1,4 +1,4 @@
--- In each arm a stretch of the buffers is a part of the flags looked for: of both masks (`any-both`), of the first (`any-alone`).
+-- By cases on the second mask: a stretch of both buffers (`any-both`) or of the first (`any-alone`) is a part of the flags searched.
 use Rattle.masks.proofs.NextAndNotLaws.{any-both, any-alone}
 use Rattle.masks.proofs.next_and_not.any_free.Goals as goal
 

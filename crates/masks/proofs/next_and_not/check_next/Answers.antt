@@ -1,4 +1,4 @@
--- The checks of the first mask, of the second and of the place in a row: `two-pieces`.
+-- The checks of the first mask, of the second and of the place, joined: `two-pieces`.
 use mathlib.Core.Path.{refl}
 use Rattle.masks.specs.NextAndNot.{next_checks}
 use Rattle.masks.proofs.CheckLaws.{one-check, two-pieces}

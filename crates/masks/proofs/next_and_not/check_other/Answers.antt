@@ -1,4 +1,4 @@
--- In each arm it is known whether there is a second mask: its checks, then that of its length (`first-number`, `passed-before`), or none.
+-- By cases on the second mask: its checks, then that of its length (`first-number`, `passed-before`), or none if it is absent.
 use Rattle.std.proofs.Common.{refl, ◌∙◌}
 use Rattle.masks.specs.Checks.{first_failed, rank, place_in, span_checks}
 use Rattle.masks.specs.Mask.{mask_checks}

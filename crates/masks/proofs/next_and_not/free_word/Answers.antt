@@ -1,4 +1,4 @@
--- In each arm the first flags of the word are those looked for: of both masks (`word-both`), of the first (`word-alone`).
+-- By cases on the second mask: the first flags of the word of both (`word-both`) or of the first (`word-alone`) are those searched.
 use Rattle.masks.proofs.NextAndNotLaws.{word-both, word-alone}
 use Rattle.masks.proofs.next_and_not.free_word.Goals as goal
 

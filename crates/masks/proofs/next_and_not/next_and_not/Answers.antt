@@ -1,5 +1,5 @@
--- Where the checks have passed (`next-allowed`) a flag is found from the place on (`found-ahead`), or before it (`found_before`), or
--- nowhere (`found_none`).
+-- If the checks pass (`next-allowed`), a flag is found at or after the place (`found-ahead`), or before it (`found_before`), or nowhere
+-- (`found_none`).
 use mathlib.Core.Path.{refl, sym, ap, ◌∙◌}
 use native.Mathlib.Omega.{arith}
 use Rattle.masks.specs.Answer.{given}

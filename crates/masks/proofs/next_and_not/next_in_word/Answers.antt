@@ -1,4 +1,4 @@
--- A flag is found from the place on (`found-ahead`), or before it (`found_before`), or nowhere (`found_none`).
+-- A flag is found at or after the place (`found-ahead`), or before it (`found_before`), or nowhere (`found_none`).
 use mathlib.Core.Path.{refl}
 use native.Mathlib.Omega.{arith}
 use Rattle.masks.proofs.NextAndNotLaws.{found-ahead, found_before, found_none, long-word, word-ahead, word-before}

@@ -1,4 +1,4 @@
--- The invariant: no flag looked for stands before `at`. A block that has none keeps it (`passed-block`).
+-- The invariant: no flag searched is set from the place up to `at`. A block without a set flag keeps it (`passed-block`).
 use native.Mathlib.Omega.{arith}
 use Rattle.masks.proofs.NextAndNotLaws.{free-length, passed-block}
 use Rattle.masks.proofs.next_and_not.pass_blocks.Goals as goal

@@ -1,4 +1,4 @@
--- The invariant: no flag looked for stands before `at`. A block that has none keeps it (`passed-block`).
+-- The invariant: no flag searched is set from the place up to `at`. A block without a set flag keeps it (`passed-block`).
 use Prim.Native.Nat.{◌-◌}
 use lib.ListN.{take}
 use Rattle.masks.specs.NextAndNot.{free_flags}

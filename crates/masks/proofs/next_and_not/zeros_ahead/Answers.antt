@@ -1,4 +1,4 @@
--- The invariant: no flag looked for stands before `at`. A word that has none keeps it (`passed-more`),
+-- The invariant: no flag searched is set from the place up to `at`. A word without a set flag keeps it (`passed-more`),
 -- another ends the loop (`passed-stop`).
 use mathlib.Core.Path.{ap, ◌∙◌}
 use mathlib.Core.Bool.{false}

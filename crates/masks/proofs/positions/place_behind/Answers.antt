@@ -1,4 +1,4 @@
--- One law for each of the three answers.
+-- One law for each of the three answers: fewer positions than places, no place, or a last position written.
 use mathlib.Core.Path.{refl}
 use Rattle.masks.proofs.PositionLaws.{place-few, place_none, place-last}
 use Rattle.masks.proofs.positions.place_behind.Goals as goal

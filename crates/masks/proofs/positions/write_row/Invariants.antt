@@ -1,4 +1,4 @@
--- The invariant: the first i positions stand over the part. One more is the law `row_step`.
+-- The invariant: the first i positions are written over the part. Writing one more is the law `row_step`.
 use mathlib.Core.Bool.{true}
 use mathlib.Core.Path.{◌≡◌}
 use Rattle.words.specs.Flags.{copies, over}

@@ -1,4 +1,4 @@
--- The invariant: the output is under way (`UnderWay`), with the positions of what is left of the word. A turn takes at least one of
+-- The invariant: the output is under way (`UnderWay`), with the positions of what is left of the word. An iteration takes at least one of
 -- them and moves by at most 128 flags.
 use Prim.Native.Nat.{◌≤◌, ◌+◌, ◌*◌}
 use lib.ListN.{length}

@@ -1,4 +1,4 @@
--- The invariant: the output is under way (`UnderWay`), with the positions from `at` on. A word is the law `word_split`.
+-- The invariant: the output is under way (`UnderWay`), with the positions at or after `at`. One more word is the law `word-on`.
 use Prim.Native.Nat.{◌≤◌, ◌-◌}
 use Rattle.words.specs.Loops.{stretch}
 use Rattle.masks.specs.TrueIdx.{ones_left}

@@ -1,4 +1,4 @@
--- Where both fail, the least refusal has the earlier number (`least-number`); else a law for each side that passed.
+-- If both fail, the least refusal has the earlier number (`least-number`); else a law for each side that passes.
 use mathlib.Core.Path.{sym, ap, ap₂, ◌∙◌}
 use Rattle.masks.specs.Checks.{earlier as earlier_of}
 use Rattle.masks.specs.Refusal.{failure_of, number}

@@ -1,4 +1,4 @@
--- By the number of repeats: with none nothing is appended (`no-repeats`), with one the stretch itself (`one-repeat`), else `append_runs`.
+-- By cases on the repeats: for none nothing is appended (`no-repeats`), for one the stretch itself (`one-repeat`), else `append_runs`.
 use mathlib.Core.Path.{sym, ap, ◌∙◌}
 use Rattle.masks.specs.Builder.{filling, appended}
 use Rattle.masks.proofs.AppendLaws.{append-none}

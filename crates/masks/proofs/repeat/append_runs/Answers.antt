@@ -1,4 +1,4 @@
--- The invariant: the first i flags are appended, each repeated. One more is the law `runs-step`, with the room that `runs-room` gives.
+-- The invariant: the first i flags are appended, each repeated. One more is the law `runs-step`, with the room of `runs-room`.
 use mathlib.Core.Path.{sym, ap, ◌∙◌}
 use Rattle.masks.proofs.AppendLaws.{append-none}
 use Rattle.masks.proofs.RepeatLaws.{nothing_yet, runs-step, runs-room}

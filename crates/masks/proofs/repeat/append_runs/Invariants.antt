@@ -1,4 +1,4 @@
--- The invariant: the first i flags are appended, each repeated. One more is the law `runs-step`, with the room that `runs-room` gives.
+-- The invariant: the first i flags are appended, each repeated. One more is the law `runs-step`, with the room of `runs-room`.
 use mathlib.Core.Path.{◌≡◌}
 use Rattle.words.specs.Loops.{stretch}
 use Rattle.masks.specs.Appends.{repeated}

@@ -1,4 +1,4 @@
--- `exact-product`: a product that does not fit fails check 1, which is the first, as the largest number does.
+-- `exact-product`: a product that does not fit fails check 1, which comes first, as the largest number does.
 use Rattle.masks.proofs.RepeatLaws.{exact-product}
 use Rattle.masks.proofs.repeat.check_product.Goals as goal
 

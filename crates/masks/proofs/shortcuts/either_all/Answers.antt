@@ -1,4 +1,4 @@
--- The first mask decides (`either_first`), or the second (`either_second`).
+-- By cases on the first mask (`either_first`), then on the second (`either_second`).
 use Rattle.std.specs.Bool.{then_some}
 use mathlib.Core.Bool.{Bool}
 use mathlib.Core.Path.{sym, ap, ◌∙◌}

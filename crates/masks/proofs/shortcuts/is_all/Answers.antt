@@ -1,4 +1,4 @@
--- In each arm the count is known: it is compared, or the flags answer as the zeros counted would.
+-- By cases on the count: a known one is compared; for an unknown one the flags give the answer that their zeros would.
 use Rattle.masks.specs.Mask.{zero_count}
 use Rattle.masks.proofs.shortcuts.is_all.Goals as goal
 

@@ -1,4 +1,4 @@
--- As `is_all`; where the first word has another flag, the answer is no at once.
+-- By cases on the count, as in `is_all`; if an early flag differs, the answer is no at once.
 use mathlib.Core.Path.{ap, sym, ◌∙◌}
 use mathlib.Core.Bool.{Bool, not}
 use mathlib.Core.List.{List}

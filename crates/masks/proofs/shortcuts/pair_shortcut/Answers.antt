@@ -1,4 +1,4 @@
--- The arms say which operation it is: `and` and `or` ask the same question of their own flag (`by-and`, `by-or`).
+-- By cases on the operation: `and` and `or` look for a mask that is all of one flag (`by-and`, `by-or`).
 use Rattle.masks.proofs.CombineLaws.{by-and, by-or, not-short}
 use Rattle.masks.proofs.shortcuts.pair_shortcut.Goals as goal
 use Rattle.masks.proofs.shortcuts.pair_shortcut.Goals.{in-And, in-Or}

@@ -1,4 +1,4 @@
--- Each path decides enough of the two tests.
+-- By cases on the two tests: each path has the outcomes that it needs.
 use mathlib.Core.Path.{sym, ◌∙◌}
 use Rattle.masks.proofs.CombineLaws.{xor_same, xor_opposite, xor-mixed}
 use Rattle.masks.proofs.shortcuts.xor_all.Goals as goal

@@ -1,4 +1,4 @@
--- `low_value`: the k low flags of the word read from `bit` on, as a number.
+-- `low_value`: the k low flags of the word read at `bit`, as a number.
 use borrow.Author.Rules.{rules}
 use Rattle.masks.proofs.SpanLaws.{low_value}
 use Rattle.masks.proofs.span.flags_word.Goals as goal

@@ -1,5 +1,5 @@
--- The invariant: the flags from `place` to `at` are alike. A word all alike keeps it (`alike-more`) or is the last (`alike-last`), another
--- ends the loop (`alike-stop`).
+-- The invariant: the flags from `place` to `at` equal `flag`. A word of such flags keeps it (`alike-more`) or is the last (`alike-last`),
+-- another ends the loop (`alike-stop`).
 use native.Mathlib.Omega.{arith}
 use Rattle.masks.proofs.IteratorLaws.{alike-stop, alike-more, alike-last, alike-whole}
 use Rattle.masks.proofs.span.leading_by_words.Goals.{else-loop-at-test, then-loop-at-test+else-same-k+else-length-at-gt64}

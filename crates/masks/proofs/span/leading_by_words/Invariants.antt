@@ -1,4 +1,5 @@
--- The invariant: the flags from `place` to `at` are alike. A word all alike keeps it (`alike-more`), another ends the loop (`alike-stop`).
+-- The invariant: the flags from `place` to `at` equal `flag`. A word of such flags keeps it (`alike-more`), another ends the loop
+-- (`alike-stop`).
 use Rattle.masks.proofs.IteratorLaws.{Alike}
 use Prim.Native.Nat.{◌-◌}
 use Rattle.words.specs.Loops.{stretch}

@@ -1,4 +1,4 @@
--- A flag that differs in the first word, or word by word.
+-- A flag that differs in the first word, else word by word.
 use native.Mathlib.Omega.{arith}
 use Rattle.masks.proofs.ExtendLaws.{stretch-front}
 use Rattle.masks.proofs.IteratorLaws.{word-alike}

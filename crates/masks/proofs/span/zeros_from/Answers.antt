@@ -1,4 +1,4 @@
--- A one among the flags of one load, or what `leading_from` says.
+-- A one among the flags of one load, no flag after them, or the result of `leading_from`.
 use mathlib.Core.Path.{◌≡◌, sym, ◌∙◌}
 use Prim.Native.Nat.{◌-◌}
 use native.Mathlib.Omega.{arith}

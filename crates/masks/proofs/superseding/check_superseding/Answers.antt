@@ -1,4 +1,4 @@
--- Serials that differ pass check 14 (`apart`); equal ones leave it to `eq` (`compared`, `not-compared`).
+-- Masks of unequal serials pass check 14 (`apart`); for equal serials `eq` compares the flags (`compared`, `not-compared`).
 use mathlib.Core.Path.{◌∙◌}
 use Rattle.masks.proofs.SupersedingLaws.{apart, compared, not-compared}
 use Rattle.masks.proofs.RefusalLaws.{exit-number}

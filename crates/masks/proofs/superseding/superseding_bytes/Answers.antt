@@ -1,4 +1,4 @@
--- In each arm the answer of `superseding_part` is known: a part lies in its slice (`given_inside`), and its bytes are the contract's.
+-- By cases on the answer of `superseding_part`: a part lies in its slice (`given_inside`), and its bytes are the contract's.
 use mathlib.Core.Path.{sym, ap, ◌∙◌}
 use Rattle.masks.specs.Answer.{answer}
 use Rattle.masks.proofs.SupersedingLaws.{first-inside, given_inside, second-inside}

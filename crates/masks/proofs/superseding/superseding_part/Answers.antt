@@ -1,4 +1,4 @@
--- The number of the checks decides; where all have passed the larger serial wins: `second_wins` or `first_wins`.
+-- By cases on the number of the checks; if all pass, the larger serial wins: `second_wins` or `first_wins`.
 use mathlib.Core.Path.{refl, sym}
 use Rattle.masks.specs.Superseding.{superseding_of}
 use Rattle.masks.proofs.SupersedingLaws.{first-allowed-mask, first_wins, second-allowed-mask, second_wins}

@@ -1,4 +1,4 @@
--- In each arm the mask is known: the checks of `stated_failure`, or that of the length.
+-- By cases on the mask: the checks of `check_stated`, or that of the length if it is absent.
 use Rattle.masks.specs.TrueIdx.{new_true_checks}
 use Rattle.masks.proofs.true_idx.check_new.Goals as goal
 

@@ -1,4 +1,4 @@
--- The stated length (`limit-first`), the mask's checks, and that both agree, in order: `first-number`, `passed-before`.
+-- The stated length (`limit-first`), the mask's checks, and that the lengths agree, in order: `first-number`, `passed-before`.
 use Rattle.std.proofs.Common.{refl, ◌∙◌}
 use Rattle.masks.specs.Checks.{rank, place_in, span_checks}
 use Rattle.masks.specs.Mask.{mask_checks}

@@ -1,4 +1,4 @@
--- In each arm the mask is known, and `first_true` is computed.
+-- By cases on the mask; each case computes `first_true`.
 use Rattle.masks.specs.TrueIdx.{first_true}
 use Rattle.masks.proofs.true_idx.first_true.Goals as goal
 

@@ -1,4 +1,4 @@
--- With a mask by its flags, without one there are no zeros.
+-- With a mask, the zeros of its flags; without one there are no zeros.
 use mathlib.Core.Bool.{Bool, false}
 use mathlib.Core.List.{List}
 use mathlib.Core.Path.{sym, ap, ◌∙◌}

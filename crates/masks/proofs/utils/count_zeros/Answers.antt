@@ -1,4 +1,4 @@
--- Of no flags 0 (`is-empty`); else the number of the checks decides (`not-empty`), and either call ensures the zeros.
+-- For length 0 the number is 0 (`is-empty`); else by cases on the number of the checks (`not-empty`): both calls ensure the zeros.
 use mathlib.Core.Path.{refl, sym, ap, ◌∙◌}
 use native.Mathlib.Omega.{arith}
 use Rattle.masks.specs.Answer.{given}

@@ -1,4 +1,4 @@
--- `all-zeros`, as for `all_flags`, and `early-other`: a flag that differs early differs.
+-- `all-zeros`, as in `all_flags`, and `early-other`: if an early flag differs, not all flags are equal.
 use mathlib.Core.Path.{refl, sym, ◌∙◌}
 use Rattle.words.proofs.UniformLaws.{early-other}
 use Rattle.words.proofs.Windows.{length-window}

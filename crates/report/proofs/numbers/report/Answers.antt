@@ -1,5 +1,5 @@
--- Of too many bytes there is no report (`too_long`); else they pass a mask's checks (`whole-accepted`), so that no call is refused, and the
--- numbers of the calls are the report's.
+-- Too many bytes have no report (`too_long`); others pass a mask's checks (`whole-accepted`), so that no call is refused, and the numbers
+-- of the calls are the report's.
 use Rattle.std.specs.Prelude.{is_ok}
 use mathlib.Core.Path.{refl, sym, ap, ◌∙◌}
 use Rattle.masks.specs.Answer.{answer, answer_back}

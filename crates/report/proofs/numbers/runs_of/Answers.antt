@@ -1,5 +1,5 @@
--- The cursor is made, since the mask passes its checks (`ok-given`), and is not refused (`ok-next`). Each turn passes over a run
--- (`run-passed`); without one all are counted (`no_run`).
+-- The cursor is made, since the mask passes its checks (`ok-given`), and is not refused (`ok-next`). Each iteration passes over a run
+-- (`run-passed`); if none is left all are counted (`no_run`).
 use Rattle.std.specs.Prelude.{is_ok}
 use Rattle.std.proofs.Common.{rules}
 use mathlib.Core.Path.{ap, sym, ◌∙◌}

@@ -1,4 +1,4 @@
--- The invariant: the runs counted and those from the cursor on are all. Each turn passes over one (`run-passed`).
+-- The invariant: the runs counted and those after the cursor's place are all. Each iteration passes over one (`run-passed`).
 use Prim.Native.Nat.{◌-◌}
 use Rattle.report.proofs.NumberLaws.{RunsCounted}
 use Rattle.report.proofs.numbers.runs_of.Given as goal

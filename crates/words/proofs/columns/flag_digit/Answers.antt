@@ -1,4 +1,4 @@
--- `no_digit`: a word has no flag from 64 on.
+-- `no_digit`: a word has no flag 64 and none above.
 use Rattle.words.proofs.ColumnLaws.{no_digit}
 use Rattle.words.proofs.columns.flag_digit.Goals as goal
 

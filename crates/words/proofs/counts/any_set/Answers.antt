@@ -1,4 +1,4 @@
--- A word with a flag ends the search (`any-exit`); where none has one (`any-passed`), all flags behind n words are alike (`any-finish`).
+-- A word with a set flag ends the search (`any-exit`); if none has one (`any-passed`), all flags after n words are equal (`any-finish`).
 use Rattle.std.proofs.Common.{ap, sym, ◌∙◌, length, arith, refl, true, false, rules}
 use Rattle.std.proofs.lemmas.Iterator.{YieldsList-from_range, cases_from_any}
 use Rattle.words.specs.Counts.{any_set}

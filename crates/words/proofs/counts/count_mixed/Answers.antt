@@ -15,7 +15,7 @@ parts-fit : (start len r n x y z : ℕ) → 64 - start % 8 < len → n ≡ min (
     → x ≤ 64 - start % 8 → y ≤ 64 * n → z ≤ len - (64 - start % 8) - 64 * n → x + y + z ≤ len
 parts-fit start len r n x y z h e a b c = omega (arith, parts-sum start len r n h e)
 
--- where more than a word is left, the bytes end within it
+-- if more than a word is left, the bytes end within it
 rest-ends : (bytes : List ℕ) (start len r n : ℕ) → n ≡ min ((len - (64 - start % 8)) / 64) r → r ≡ (length bytes - (start / 8 + 8)) / 8
     → 64 < len - (64 - start % 8) - 64 * n → length (flags_of bytes) ≤ 8 * (start / 8 + 8 + 8 * n) + 64
 rest-ends bytes start len r n e f h = omega (arith, length-flags bytes)

@@ -1,4 +1,4 @@
--- Whole words first, then word by word to the end of the bytes or of the length, then what is left behind them.
+-- Whole words first, then word by word to the end of the bytes or of the length, then the flags that are left after them.
 use Rattle.words.proofs.Counting.{count-step, count_fits, count_most, count-short}
 use Rattle.words.proofs.Behind.{count-finish}
 use Rattle.std.proofs.Common.{ap, ◌∙◌, length, arith}

@@ -1,4 +1,4 @@
--- Whole words first, then word by word to the end of the bytes or of the length, then what is left behind them.
+-- Whole words first, then word by word to the end of the bytes or of the length, then the flags that are left after them.
 use Rattle.std.proofs.Common.{◌≡◌, ◌≤◌, ◌*◌}
 use Rattle.words.specs.Flags.{window, count}
 use Rattle.words.specs.Loops.{combined}

@@ -1,4 +1,4 @@
--- `same-any`: lists of one length are the same just where no flag of their `xor` is set.
+-- `same-any`: lists of equal lengths are the same if and only if no flag of their `xor` is set.
 use Rattle.std.proofs.Common.{not, ap, sym, take, arith, ℕ, ◌≡◌, ◌-◌, ◌*◌, ◌∙◌}
 use Rattle.words.specs.Flags.{bits, window}
 use Rattle.words.proofs.AnyFlag.{any-short, same-any}

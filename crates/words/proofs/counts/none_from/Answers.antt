@@ -1,4 +1,4 @@
--- `any-drop`: a window that reaches the word's end has a flag set just where the rest from k on has.
+-- `any-drop`: a window that reaches the word's end has a flag set if and only if the rest of the word, starting at flag k, has.
 use Rattle.std.proofs.Common.{ap, ◌∙◌, not, arith}
 use Rattle.words.specs.Counts.{any_set}
 use Rattle.words.proofs.AnyFlag.{any-drop}

@@ -1,4 +1,4 @@
--- `any-zeros`: a word of zeros, combined, is 64 copies of the flag that three zeros give.
+-- `any-zeros`: words of zeros, combined, are 64 copies of the operation's flag for three zeros.
 use Rattle.std.proofs.Common.{ap, ◌∙◌}
 use Rattle.words.specs.Counts.{any_set}
 use Rattle.words.proofs.Behind.{any-zeros}

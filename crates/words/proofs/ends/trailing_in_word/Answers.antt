@@ -1,4 +1,4 @@
--- The first k flags are shifted to the top, zeros below them, and the flags alike at the end counted, at most n (`trailing-shifted`).
+-- The first k flags are shifted to the top, zeros below them, and the equal flags at the end counted, at most n (`trailing-shifted`).
 use Rattle.std.proofs.Common.{true, false, refl, sym, ◌∙◌}
 use Rattle.words.proofs.EndLaws.{trailing-shifted, take_none}
 use Rattle.words.proofs.ends.trailing_in_word.Goals as goal

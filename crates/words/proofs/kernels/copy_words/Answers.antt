@@ -1,4 +1,4 @@
--- The invariant: i words are written and counted. One more is the laws `write_step` and `count-step`, of the word that `span-word` gives.
+-- The invariant: i words are written and counted. One more is the laws `write_step` and `count-step`, of the word by `span-word`.
 use Rattle.std.proofs.Common.{arith, refl}
 use Rattle.words.proofs.Counting.{count_none, count-step, count-within, count_word, count-all, span-word}
 use Rattle.words.proofs.Windows.{length-window}

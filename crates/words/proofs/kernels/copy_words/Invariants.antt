@@ -1,4 +1,4 @@
--- The invariant: i words are written and counted. One more is the laws `write_step` and `count-step`, of the word that `span-word` gives.
+-- The invariant: i words are written and counted. One more is the laws `write_step` and `count-step`, of the word by `span-word`.
 use Rattle.std.proofs.Common.{◌≡◌, ◌*◌}
 use Rattle.words.specs.Flags.{count, flags_of, over, window}
 use Rattle.words.proofs.kernels.copy_words.Given as goal

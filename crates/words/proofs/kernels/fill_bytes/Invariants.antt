@@ -1,4 +1,4 @@
--- The invariant: the first bytes are written, and the others as they were.
+-- The invariant: the first bytes are written, and the others unchanged.
 use Rattle.std.proofs.Common.{◌≡◌, ◌++◌, drop, replicate}
 use Rattle.words.proofs.kernels.fill_bytes.Given as goal
 

@@ -1,4 +1,4 @@
--- The invariant: where the loop began with the whole words over flags F, i words are over F. One more is `write_step`, the end `write-end`.
+-- The invariant: if the loop began with the whole words over flags F, i words are over F. One more is `write_step`, the end `write-end`.
 use Rattle.std.proofs.Common.{refl, ap, ◌∙◌, arith, rules}
 use Rattle.words.specs.Flags.{over}
 use Rattle.words.proofs.Bytes.{length-flags}

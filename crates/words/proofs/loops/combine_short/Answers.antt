@@ -1,4 +1,4 @@
--- One word has all flags (`write-once`); where there are none nothing is written (`write-nothing`).
+-- One word has all flags (`write-once`); if the length is 0 nothing is written (`write-nothing`).
 use Rattle.words.proofs.Combining.{length-zip}
 use Rattle.words.proofs.Writing.{write-once, write-nothing}
 use Rattle.words.proofs.loops.combine_short.Goals as goal

@@ -1,4 +1,4 @@
--- Behind the whole words at most one more is stored (`write_step`); then the output is full or has all flags (`write-end`).
+-- After the whole words at most one more is stored (`write_step`); then the output is full or has all flags (`write-end`).
 use Rattle.std.proofs.Common.{ap, refl, ◌∙◌, arith}
 use Rattle.words.specs.Flags.{over}
 use Rattle.words.proofs.Bytes.{length-flags}

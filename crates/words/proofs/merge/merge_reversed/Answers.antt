@@ -1,4 +1,4 @@
--- One law for each branch: an offset of 0, one from 64 on, or the high bits of one word beside the low bits of the next.
+-- One law for each branch: an offset of 0, one of 64 or more, or the high bits of one word and the low bits of the next.
 use Rattle.words.proofs.Merging.{merge-bits, merge-past}
 use Rattle.words.proofs.merge.merge_reversed.Goals as goal
 

@@ -1,4 +1,4 @@
--- By the laws of the answer at any width.
+-- The laws of the answer at any width.
 use Rattle.std.proofs.Common.{arith}
 use Rattle.words.proofs.Counting.{ones-bits}
 use Rattle.words.proofs.NthLaws.{found, missing}

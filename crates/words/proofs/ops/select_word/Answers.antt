@@ -1,4 +1,4 @@
--- `bits-or`, `bits-and` and `bits-not` give the flags of the parts, and `select-flags` says that they are the choice, flag by flag.
+-- `bits-or`, `bits-and` and `bits-not` for the flags of the parts; by `select-flags` these make the choice, flag by flag.
 use Rattle.std.proofs.Common.{sym, ◌∙◌}
 use Rattle.words.proofs.Bits.{bits-and, bits-or, bits-not, length-bits}
 use Rattle.words.proofs.Combining.{select-flags}

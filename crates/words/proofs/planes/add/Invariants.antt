@@ -1,4 +1,4 @@
--- The invariant: what the planes from the next on become, with the carry, is what all become (`way_step`).
+-- The invariant: what the planes above the first i become, with the carry, is what all become (`way_step`).
 use Rattle.std.proofs.Common.{◌≡◌}
 use Rattle.words.specs.Planes.{added}
 use Rattle.words.proofs.PlaneLaws.{added_from}

@@ -1,4 +1,4 @@
--- The invariant: the sum of i digits is below 2 ^ i, and with what the planes from i on make it is the number that all make.
+-- The invariant: the sum of i digits is below 2 ^ i, and with what the planes above the first i make it is the number that all make.
 use Rattle.std.proofs.Common.{ℕ, ◌+◌, ◌*◌, ◌^◌, ◌<◌, ◌≡◌, drop}
 use Rattle.words.specs.Planes.{planes_at}
 use Rattle.words.proofs.planes.column_by.Given as goal

@@ -1,5 +1,5 @@
--- What fits the first load is read by it (`near-are`). Else three parts: one with another flag decides (`all-exit`), and the last decides
--- where the others have none (`all_more`).
+-- What fits the first load is read by it (`near-are`). Else there are three parts: one with another flag ends the check (`all-exit`), and
+-- if the first two have none, the answer is that of the last (`all_more`).
 use Rattle.std.proofs.Common.{refl, sym, ◌∙◌, ◌-◌, ◌%◌, arith}
 use Rattle.std.proofs.lemmas.Bool.{true≢false}
 use Rattle.words.proofs.UniformLaws.{all-exit, all_more, first-are, near-are}

@@ -1,4 +1,4 @@
--- The invariant: a flag of `others` is set just where one of the first i words is unlike `flag`. One more word is the law `any_step`.
+-- The invariant: `others` has a set flag if and only if one of the first i words has a flag other than `flag`. One more is `any_step`.
 use Rattle.std.proofs.Common.{◌*◌, ◌≡◌, map}
 use Rattle.std.proofs.Math.Bool.{xor}
 use Rattle.words.specs.Flags.{flags_of, window, bits}

@@ -1,4 +1,4 @@
--- `all-low`: no flag unlike it is among the k low ones.
+-- `all-low`: no flag that differs is among the k low ones.
 use Rattle.words.proofs.UniformLaws.{all-low}
 use Rattle.words.proofs.uniform.low_are.Goals as goal
 

@@ -1,4 +1,4 @@
--- A flag unlike a 1 is the flag inverted (`unlike_one`); unlike a 0 is each that is set (`unlike_zero`).
+-- The flags that differ from 1 are the inverted flags (`unlike_one`); those that differ from 0 are the set flags (`unlike_zero`).
 use Rattle.words.proofs.UniformLaws.{unlike_one, unlike_zero}
 use Rattle.words.proofs.uniform.unlike.Goals as goal
 

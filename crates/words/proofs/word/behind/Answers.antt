@@ -1,4 +1,4 @@
--- Below 64 the low flags and the shifted ones do not overlap (`behind-some`); from 64 on the first word is the whole window (`behind-all`).
+-- Below 64 the low flags and the shifted ones do not overlap (`behind-some`); else the first word is the whole window (`behind-all`).
 use Rattle.words.proofs.Merging.{behind-some, behind-all}
 use Rattle.words.proofs.word.behind.Goals as goal
 

@@ -1,4 +1,4 @@
--- Where nothing is left the window is past the end; near the end it is that of `last_word` from the byte's first flag on.
+-- If nothing is left the window is past the end; near the end it is that of `last_word`, starting at the byte's first flag.
 use Rattle.std.proofs.Common.{◌≡◌, ap, ◌∙◌, ◌+◌, ◌*◌, ℕ, arith}
 use Rattle.words.specs.Flags.{flags_of, window}
 use Rattle.words.proofs.Loads.{byte_past}

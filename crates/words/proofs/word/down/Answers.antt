@@ -1,4 +1,4 @@
--- `bits-shr` below 64; from there on the window is past the word's end (`down-all`).
+-- `bits-shr` below 64; if k is 64 or more the window is past the word's end (`down-all`).
 use Rattle.words.proofs.Loads.{bits-shr, down-all}
 use Rattle.words.proofs.word.down.Goals as goal
 

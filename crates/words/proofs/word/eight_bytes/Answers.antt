@@ -1,4 +1,4 @@
--- `load-mid`: the flags of eight bytes from `at` on are those from 8 * at on.
+-- `load-mid`: the flags of eight bytes starting at byte `at` are those starting at flag 8 * at.
 use Rattle.words.proofs.Loads.{load-mid}
 use Rattle.words.proofs.word.eight_bytes.Goals as goal
 

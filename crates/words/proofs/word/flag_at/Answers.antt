@@ -1,4 +1,4 @@
--- `read-flag`: the flag is a bit of its byte; past the last byte there is none (`no_flag`).
+-- `read-flag`: the flag is a bit of its byte; past the last byte it is false (`no_flag`).
 use Rattle.std.proofs.Common.{◌∙◌, le-ltb}
 use Rattle.words.proofs.Plain.{read-flag, no_flag}
 use Rattle.words.proofs.word.flag_at.Goals as goal

@@ -1,4 +1,4 @@
--- All bytes, where there are fewer than eight, or the last eight, are loaded and moved down.
+-- All bytes, if there are fewer than eight, or the last eight, are loaded and shifted right.
 use Rattle.std.proofs.Common.{arith}
 use Rattle.words.proofs.Loads.{at-few, at_last}
 use Rattle.words.proofs.word.last_word.Goals as goal

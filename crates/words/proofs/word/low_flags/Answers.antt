@@ -1,4 +1,4 @@
--- Below 64 the remainder by 2 ^ k keeps the k low bits (`low-some`); from 64 on all are kept (`low-all`).
+-- Below 64 the remainder by 2 ^ k keeps the k low bits (`low-some`); if k is 64 or more all are kept (`low-all`).
 use Rattle.words.proofs.Loads.{low-all, low-some}
 use Rattle.words.proofs.word.low_flags.Goals as goal
 

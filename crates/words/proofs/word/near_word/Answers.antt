@@ -1,4 +1,4 @@
--- `near-all`: eight bytes moved down by less than a byte.
+-- `near-all`: eight bytes shifted right by less than a byte.
 use Rattle.words.proofs.Loads.{near-all}
 use Rattle.words.proofs.word.near_word.Goals as goal
 

@@ -1,4 +1,4 @@
--- `put-mid`: what is written over eight bytes from `at` on is written over the flags from 8 * at on.
+-- `put-mid`: what is written over eight bytes starting at byte `at` is written over the flags starting at 8 * at.
 use Rattle.words.proofs.Loads.{put-mid}
 use Rattle.words.proofs.word.put_word.Goals as goal
 

@@ -1,4 +1,4 @@
--- Inside the output the rest from `at` on is lent (`over-from`); past its end there is nothing to write over (`over_at-past`).
+-- Inside the output the rest that begins at `at` is lent (`over-from`); past its end there is nothing to write over (`over_at-past`).
 use Rattle.std.proofs.Common.{arith}
 use Rattle.words.proofs.Bytes.{over-from, length-flags}
 use Rattle.words.proofs.Windows.{over_at-past}

@@ -1,4 +1,4 @@
--- With eight bytes or more the first eight are lent, and `over-part` says the same of the whole; with fewer it is what `split` ensures.
+-- With eight bytes or more the first eight are lent, and `over-part` states it for the whole; with fewer it is what `split` ensures.
 use Rattle.std.proofs.Common.{arith}
 use Rattle.words.proofs.Bits.{length-bits}
 use Rattle.words.proofs.Bytes.{over-part}

@@ -1,4 +1,4 @@
--- `up-some` below 64; from there on the window has only the zeros in front (`up-past`).
+-- `up-some` below 64; if k is 64 or more the window has only the zeros in front (`up-past`).
 use Rattle.words.proofs.Merging.{up-past, up-some}
 use Rattle.words.proofs.word.up.Goals as goal
 

@@ -1,4 +1,4 @@
--- Where nothing is left the window is past the end.
+-- If nothing is left the window is past the end.
 use Rattle.words.proofs.Loads.{at-past}
 use Rattle.words.proofs.word.word_at.Goals as goal
 

@@ -1,4 +1,4 @@
--- The test decides the definition's choice.
+-- By cases on the test, which is the definition's.
 use Rattle.masks.specs.Aligned.{bulk_offset}
 use Rattle.masks.proofs.CheckLaws.{when-le, when-gt}
 use Rattle.masks.proofs.aligned.Addressed.bulk_offset.Goals as goal

@@ -1,4 +1,4 @@
--- The test decides the definition's choice; `offset-of` bounds the offset, so that product and difference fit.
+-- By cases on the test, which is the definition's; `offset-of` bounds the offset, so product and difference fit.
 use mathlib.Core.Path.{ap, ◌∙◌}
 use Prim.Native.Nat.{ℕ, ◌*◌, ◌-◌, ◌%◌}
 use native.Mathlib.Omega.{arith}

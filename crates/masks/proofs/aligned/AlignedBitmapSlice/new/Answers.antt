@@ -1,4 +1,4 @@
--- Of no flags the empty split (`is-empty`); else the number of the checks decides, and `aligned-allowed` gives what `split` asks for.
+-- For length 0 the empty split (`is-empty`), else by cases on the number of the checks; `aligned-allowed` implies what `split` requires.
 use Rattle.std.proofs.Common.{rules}
 use mathlib.Core.Path.{refl, sym, ap, ◌∙◌}
 use Rattle.masks.specs.Aligned.{aligned_of}

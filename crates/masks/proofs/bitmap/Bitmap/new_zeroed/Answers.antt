@@ -1,4 +1,4 @@
--- The number of the two checks (`first-number`, `passed-before`) decides the answer and the bytes.
+-- The answer and the bytes, by cases on the number of the two checks (`first-number`, `passed-before`).
 use Rattle.masks.specs.Answer.{given}
 use Rattle.masks.specs.Checks.{rank, place_in, output_checks}
 use Rattle.masks.specs.Mask.{new_zeroed_of, new_zeroed_bytes, zeroed_checks}

@@ -1,4 +1,4 @@
--- One law for each answer: refused by the piece's checks, refused by check 7 where the recount is wrong, or given.
+-- One law for each answer: refused by the piece's checks, refused by check 7 if the recount is wrong, or given.
 use Rattle.std.proofs.Common.{rules, Ok, Err, ◌≡◌}
 use native.Mathlib.Omega.{arith}
 use Rattle.masks.proofs.MaskLaws.{cut-error, piece-allowed, slice-refused, slice_wrong, slice-right}

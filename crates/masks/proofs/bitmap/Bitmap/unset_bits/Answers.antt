@@ -1,4 +1,4 @@
--- The number of the mask's checks decides; where all have passed, the span is within the limit (`mask-allowed`), as `zero_count` asks.
+-- By cases on the number of the mask's checks; if all pass, the span is within the limit (`mask-allowed`), as `zero_count` requires.
 use Rattle.std.proofs.Common.{rules, Err, ◌≡◌, arith, ◌≡◌, ℕ, Option}
 use mathlib.Core.Path.{sym, ap, ◌∙◌}
 use Rattle.masks.specs.declared.bitmap.Bitmap.{Bitmap}

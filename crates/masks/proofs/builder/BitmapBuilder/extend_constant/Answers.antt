@@ -1,5 +1,5 @@
--- Flags for which the word in progress has room are joined to it: no check fails (`constant-passed`). Else the number of the checks
--- decides: `refused-way`, or `append-way` of the worker.
+-- Flags for which the word in progress has room are joined to it: no check fails (`constant-passed`). Else by cases on the number of the
+-- checks: `refused-way`, or `append-way` of the worker.
 use Rattle.std.proofs.Common.{rules, Err, ◌≡◌}
 use mathlib.Core.Path.{refl, sym, ap, ◌∙◌}
 use native.Mathlib.Omega.{arith}

@@ -1,5 +1,5 @@
--- The number of the checks decides: `refused-way` or `append-way`; flags of one load for which the word in
--- progress has room by themselves, more by the worker.
+-- By cases on the number of the checks: `refused-way` or `append-way`. Flags of one load for which the word in progress has room are
+-- appended here, more by the worker.
 use Rattle.std.proofs.Common.{rules, Err, ◌≡◌}
 use Prim.Native.Nat.{◌≤◌}
 use mathlib.Core.Path.{ap, ◌∙◌}

@@ -1,4 +1,4 @@
--- The number of the checks decides: `refused-way` or `given-way`; where all have passed the ones are at most the length (`ones-fit`).
+-- By cases on the number of the checks: `refused-way` or `given-way`; if all pass, the ones are at most the length (`ones-fit`).
 use Rattle.std.proofs.Common.{rules, Err, ◌≡◌}
 use mathlib.Core.Path.{sym, ◌∙◌}
 use Rattle.masks.proofs.CheckLaws.{refused-way, given-way}

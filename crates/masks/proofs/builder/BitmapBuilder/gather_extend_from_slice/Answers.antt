@@ -1,4 +1,4 @@
--- The number of the checks decides: `refused-way` or `append-way`; where all have passed there is room for the flags (`room_of`).
+-- By cases on the number of the checks: `refused-way` or `append-way`; if all pass, there is room for the flags (`room_of`).
 use Rattle.std.proofs.Common.{rules, Err, ◌≡◌}
 use mathlib.Core.Path.{sym, ◌∙◌}
 use native.Mathlib.Omega.{arith}

@@ -1,4 +1,4 @@
--- The number of the checks decides: `refused-way` or `given-way`; then the ones against the length: `all_set` or `not-all-set`.
+-- By cases on the number of the checks: `refused-way` or `given-way`; then on the ones and the length: `all_set` or `not-all-set`.
 use Rattle.std.proofs.Common.{rules, Err, ◌≡◌}
 use mathlib.Core.Path.{sym, ◌∙◌}
 use Rattle.masks.proofs.CheckLaws.{refused-way, given-way}

@@ -1,4 +1,4 @@
--- The number of the checks decides: `refused-way` or `append-way`; the first flag of a word of one flag is that flag (`constant-front`).
+-- By cases on the number of the checks: `refused-way` or `append-way`; the first flag of a word of copies is that flag (`constant-front`).
 use Rattle.std.proofs.Common.{rules, Err, ◌≡◌}
 use mathlib.Core.Path.{sym, ap, ◌∙◌}
 use native.Mathlib.Omega.{arith}

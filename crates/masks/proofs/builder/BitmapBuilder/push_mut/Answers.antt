@@ -1,4 +1,4 @@
--- In each arm the answer of `push` is known: what it gives is stored (`renewed_done`), and a refusal leaves the record (`refused-kept`).
+-- By cases on the answer of `push`: a builder is stored (`renewed_done`), and a refusal leaves the record unchanged (`refused-kept`).
 use mathlib.Core.Path.{sym, ap, ◌∙◌}
 use Rattle.masks.specs.Answer.{answer_back}
 use Rattle.masks.specs.Appends.{append_answer, append_bytes, push_flag}

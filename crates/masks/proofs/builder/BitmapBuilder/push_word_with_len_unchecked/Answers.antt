@@ -1,5 +1,4 @@
--- The number of the checks decides: `refused-way` or `append-way`; where all have passed k is at most 64
--- (`word-allowed`), and there is room.
+-- By cases on the number of the checks: `refused-way` or `append-way`; if all pass, k is at most 64 (`word-allowed`), and there is room.
 use Rattle.std.proofs.Common.{rules, Err, ◌≡◌}
 use mathlib.Core.Path.{sym, ◌∙◌}
 use Rattle.masks.specs.Appends.{word_checks}

@@ -1,4 +1,4 @@
--- The number of the checks decides: `refused-way` or `append-way`; a piece inside the mask is a stretch of the bytes (`in_window`).
+-- By cases on the number of the checks: `refused-way` or `append-way`; a piece inside the mask is a stretch of the bytes (`in_window`).
 use Rattle.std.proofs.Common.{rules, Err, ◌≡◌}
 use mathlib.Core.Path.{sym, ap, ◌∙◌}
 use native.Mathlib.Omega.{arith}

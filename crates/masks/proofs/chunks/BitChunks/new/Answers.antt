@@ -1,4 +1,4 @@
--- The number of the span's checks decides: `is-refused` or `is-given`.
+-- By cases on the number of the span's checks: `exit-refused` or `is-given`.
 use mathlib.Core.Path.{refl}
 use Rattle.masks.specs.Chunks.{new_chunks}
 use Rattle.masks.proofs.CheckLaws.{is-given}

@@ -1,4 +1,4 @@
--- The number of the cursor's checks decides; then the place, against the number of words: `no_word` or `a_word`.
+-- By cases on the number of the cursor's checks; then on the place and the number of words: `no_word` or `a_word`.
 use mathlib.Core.Path.{sym, ap, ◌∙◌}
 use Rattle.masks.specs.Answer.{given}
 use Rattle.masks.specs.Chunks.{next_chunk}

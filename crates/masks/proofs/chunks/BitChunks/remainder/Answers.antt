@@ -1,4 +1,4 @@
--- The number of the cursor's checks decides; the rest begins `length % 64` flags before the span's end (`remainder-value`).
+-- By cases on the number of the cursor's checks; the rest begins `length % 64` flags before the span's end (`remainder-value`).
 use Rattle.std.proofs.Common.{rules, Err, ◌≡◌}
 use mathlib.Core.Path.{sym, ap, ◌∙◌}
 use native.Mathlib.Omega.{arith}

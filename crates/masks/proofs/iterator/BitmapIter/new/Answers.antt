@@ -1,4 +1,4 @@
--- Of no flags the cursor is all 0 (`is-empty`); else the number of the span's checks decides (`not-empty`).
+-- For length 0 the cursor is all 0 (`is-empty`); else by cases on the number of the span's checks (`not-empty`).
 use Rattle.std.proofs.Common.{rules}
 use mathlib.Core.Path.{refl, ap, ◌∙◌}
 use Rattle.masks.specs.Answer.{given}

@@ -1,4 +1,4 @@
--- The number of the cursor's checks decides; then n, against the flags that are left: `no_flag` or `a-flag`.
+-- By cases on the number of the cursor's checks; then on n and the number of flags left: `no_flag` or `a-flag`.
 use Rattle.std.proofs.Common.{rules, Err, ◌≡◌}
 use mathlib.Core.Path.{sym, ap, ◌∙◌}
 use native.Mathlib.Omega.{arith}

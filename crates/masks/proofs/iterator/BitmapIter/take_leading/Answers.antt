@@ -1,4 +1,4 @@
--- The number of the cursor's checks decides; the flags alike end inside the span (`alike-inside`), so that the place fits.
+-- By cases on the number of the cursor's checks; the run of equal flags ends inside the span (`alike-inside`), so the place fits.
 use Rattle.std.proofs.Common.{rules, Err, ◌≡◌}
 use mathlib.Core.Path.{sym, ap, ◌∙◌}
 use Prim.Native.Nat.{ℕ, ◌+◌}

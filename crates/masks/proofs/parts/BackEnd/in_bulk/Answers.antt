@@ -1,4 +1,4 @@
--- The invariant: the words from word i on are alike.
+-- The invariant: the words at i and after it consist of equal flags.
 use mathlib.Core.Path.{◌≡◌, refl, ap, ◌∙◌}
 use Prim.Native.Nat.{ℕ, ◌+◌, ◌-◌, ◌*◌}
 use native.Mathlib.Omega.{arith}

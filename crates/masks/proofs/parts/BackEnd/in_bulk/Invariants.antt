@@ -1,4 +1,4 @@
--- The invariant: the words from word i on are alike.
+-- The invariant: the words at i and after it consist of equal flags.
 use Prim.Native.Nat.{◌≤◌, ◌*◌, ◌-◌, ◌+◌}
 use Rattle.words.specs.Ends.{trailing}
 use Rattle.words.specs.Loops.{stretch}

@@ -1,4 +1,4 @@
--- The invariant: the first i words are alike.
+-- The invariant: the first i words consist of equal flags.
 use mathlib.Core.Path.{refl}
 use Rattle.masks.proofs.PartLaws.{front-exit, front-step, front-all}
 use Rattle.masks.proofs.parts.FrontEnd.in_bulk.Goals as goal

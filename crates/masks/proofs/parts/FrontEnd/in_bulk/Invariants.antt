@@ -1,4 +1,4 @@
--- The invariant: the first i words are alike.
+-- The invariant: the first i words consist of equal flags.
 use Prim.Native.Nat.{◌≤◌, ◌*◌}
 use Rattle.words.specs.Ends.{leading}
 use Rattle.words.specs.Loops.{stretch}

@@ -1,4 +1,4 @@
--- Part by part, by the laws of the end: the next is read where all of one is alike.
+-- Part by part, by the laws of the end: the next part is read if all flags of one are equal.
 use Rattle.std.proofs.Common.{arith, sym, ap, ◌≡◌, ◌+◌, ◌*◌, ◌∙◌, length}
 use Rattle.words.proofs.Windows.{length-window}
 use Rattle.masks.proofs.PartLaws.{of-part}

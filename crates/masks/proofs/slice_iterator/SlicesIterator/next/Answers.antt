@@ -1,4 +1,4 @@
--- The number of the checks decides; behind the zeros from the place on the walk found no run (`no_run`) or one (`a-run`).
+-- By cases on the number of the checks; after the zeros at the place the search found no run (`no_run`) or one (`a-run`).
 use Rattle.std.proofs.Common.{rules, Err, ◌≡◌}
 use mathlib.Core.Path.{sym, ap, ◌∙◌}
 use native.Mathlib.Omega.{arith}

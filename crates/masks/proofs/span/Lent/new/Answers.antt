@@ -1,4 +1,4 @@
--- The number of the span's checks decides: `is-refused` or `is-given`; where all have passed the facts hold (`span-allowed`).
+-- By cases on the number of the span's checks: `is-refused` or `is-given`; if all pass, the span's facts hold (`span-allowed`).
 use mathlib.Core.Path.{refl, sym, ◌∙◌}
 use Rattle.std.proofs.Common.{arith}
 use Rattle.masks.proofs.CheckLaws.{is-refused, is-given, span-allowed}

@@ -1,4 +1,4 @@
--- The invariant: the search for `left` down from `below` is the one asked for. A window that is passed over
+-- The invariant: the search for `left` down from `below` has the answer of the call's search. A window that is passed over
 -- has too few set flags (`turn-down`).
 use mathlib.Core.Path.{◌≡◌}
 use Prim.Native.Nat.{◌≤◌}

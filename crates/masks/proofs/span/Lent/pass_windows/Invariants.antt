@@ -1,4 +1,5 @@
--- The invariant: the search for `left` from `at` on is the one asked for. A window that is passed over has too few set flags (`turn-only`).
+-- The invariant: the search for `left` up from `at` has the answer of the call's search. A window that is passed over has too few set
+-- flags (`turn-only`).
 use mathlib.Core.Path.{◌≡◌}
 use Prim.Native.Nat.{◌-◌, ◌<◌}
 use Rattle.words.specs.Loops.{stretch}

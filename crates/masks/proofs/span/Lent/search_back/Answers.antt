@@ -1,4 +1,4 @@
--- The window where `pass_back` stops has the flag (`turn-back`) or too few, and then one window is left (`turn-down`).
+-- The window at which `pass_back` stops has the flag (`turn-back`), or too few, and then one window is left (`turn-down`).
 use mathlib.Core.Path.{◌≡◌, ◌∙◌}
 use native.Mathlib.Omega.{arith}
 use Rattle.masks.specs.Bitmask.{window_word}

@@ -1,4 +1,4 @@
--- The window has the flag (`turn-back`), or nothing is before it (`turn-down`, `back_none`).
+-- The window has the flag (`turn-back`), or no flag lies before it (`turn-down`, `back_none`).
 use Rattle.std.specs.Prelude.{Some}
 use mathlib.Core.Path.{◌≡◌, ap, ◌∙◌}
 use Prim.Native.Nat.{◌+◌}

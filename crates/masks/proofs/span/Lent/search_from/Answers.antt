@@ -1,4 +1,4 @@
--- The window where `pass_windows` stops has the flag (`turn-there`) or too few (`turn-only`), and then one window is left.
+-- The window at which `pass_windows` stops has the flag (`turn-there`), or too few (`turn-only`), and then one window is left.
 use mathlib.Core.Path.{sym, ◌∙◌, subst}
 use Prim.Native.Nat.{ℕ, ◌≤◌}
 use native.Mathlib.Omega.{arith}

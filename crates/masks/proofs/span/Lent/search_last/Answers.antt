@@ -1,4 +1,4 @@
--- The window has the flag (`turn-there`), or the span ends behind it (`turn_last`).
+-- The window has the flag (`turn-there`), or the span ends after it (`turn_last`).
 use Rattle.std.proofs.Common.{Ok, Err, Some, None, ⊎_elim, ◌≡◌, ◌∙◌, ◌+◌, ◌<◌, ◌≤◌, ℕ, arith, rules}
 use Rattle.std.proofs.lemmas.Bool.{cases_lt}
 use Rattle.words.specs.Flags.{bits, count}

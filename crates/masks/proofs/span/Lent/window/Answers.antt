@@ -1,4 +1,4 @@
--- At most 32 flags are taken of a word that has 57 (`near-value`), so they fit 32 bits (`narrow`); past the length there are none.
+-- At most 32 flags are taken of a word that has 57 (`near-value`), so they fit 32 bits (`narrow`); past the length the window is 0.
 use native.Mathlib.Omega.{arith}
 use borrow.Author.Rules.{rules}
 use Rattle.words.proofs.Loads.{near-first}

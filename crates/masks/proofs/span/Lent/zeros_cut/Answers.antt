@@ -1,4 +1,4 @@
--- The sum of what the two calls ensure; zeros are at most the flags counted (`zeros-most`), so it fits.
+-- The sum of the two calls' results; zeros are at most the flags counted (`zeros-most`), so it fits.
 use Rattle.words.proofs.Windows.{length-window}
 use Rattle.masks.proofs.PartLaws.{zeros-most}
 use mathlib.Core.Path.{ap₂}

@@ -1,4 +1,4 @@
--- The number of the checks decides: `is-refused` or `is-given`.
+-- By cases on the number of the checks: `exit-refused` or `is-given`.
 use mathlib.Core.Path.{refl, ap, ◌∙◌}
 use Rattle.masks.specs.Answer.{given}
 use Rattle.masks.specs.TrueIdx.{new_true}

@@ -1,4 +1,4 @@
--- The number of the checks decides; behind the zeros from the place on the span ends (`no_one`) or a one stands (`a_one`).
+-- By cases on the number of the checks; after the zeros at the place the span ends (`no_one`) or a one follows (`a_one`).
 use Rattle.std.proofs.Common.{rules, Err, ◌≡◌}
 use mathlib.Core.Path.{sym, ap, ◌∙◌}
 use native.Mathlib.Omega.{arith}

@@ -1,4 +1,4 @@
--- The number of the checks decides: `refused-way` or `given-way`.
+-- By cases on the number of the checks: `refused-way` or `given-way`.
 use Rattle.std.proofs.Common.{rules, Err, ◌≡◌}
 use mathlib.Core.Path.{sym, ap, ◌∙◌}
 use Rattle.masks.proofs.CheckLaws.{refused-way, given-way}

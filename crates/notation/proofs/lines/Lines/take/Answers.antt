@@ -1,4 +1,4 @@
--- The line goes on with what stands before the line feed.
+-- The line goes on with the bytes before the line feed.
 use Rattle.std.proofs.Common.{rules, arith}
 use Rattle.notation.proofs.LineLaws.{line-taken, left-taken}
 use Rattle.notation.proofs.lines.Lines.take.Goals as goal

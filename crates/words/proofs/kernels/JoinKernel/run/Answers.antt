@@ -1,4 +1,4 @@
--- The invariant: a flag of `all` is set just where one of the first i words is. One more is the law `any_step`.
+-- The invariant: a flag of `all` is set if and only if one of the first i words has a set flag. One more is the law `any_step`.
 use Rattle.std.proofs.Common.{arith}
 use Rattle.words.proofs.AnyFlag.{any_none, any_step, any-all}
 use Rattle.words.proofs.Combining.{length-zip}

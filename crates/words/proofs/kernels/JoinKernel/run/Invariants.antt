@@ -1,4 +1,4 @@
--- The invariant: a flag of `all` is set just where one of the first i words is. One more is the law `any_step`.
+-- The invariant: a flag of `all` is set if and only if one of the first i words has a set flag. One more is the law `any_step`.
 use Rattle.std.proofs.Common.{◌≡◌, ◌*◌}
 use Rattle.words.specs.Counts.{any_set}
 use Rattle.words.specs.Flags.{bits, window}

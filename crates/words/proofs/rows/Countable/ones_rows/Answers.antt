@@ -1,5 +1,5 @@
--- The invariant: `ones` counts the first i words of each row. A word more of each is `rows_step`; the rows
--- in full are the stretch (`rows_all`).
+-- The invariant: `ones` counts the first i words of each row. One more word of each is `rows_step`; the rows in full are the stretch
+-- (`rows_all`).
 use Rattle.std.proofs.Common.{arith}
 use Rattle.words.proofs.RowLaws.{rows_none, rows-most, seven_most, rows_step, rows_all}
 use Rattle.words.proofs.rows.Countable.ones_rows.Goals as goal
