@@ -7,7 +7,8 @@ use Rattle.std.proofs.Math.Seq.{take-append_seam, drop-append_seam, get_or-appen
 use Rattle.std.proofs.lemmas.List.{get_or-take, get_or-drop}
 use Rattle.std.proofs.lemmas.Bool.{cases_lt}
 use Rattle.words.specs.Flags.{count}
-use Rattle.words.specs.Columns.{column, column_counts, digit_of}
+use Rattle.words.specs.Columns.{column, column_counts}
+use Rattle.words.specs.Planes.{digit_of}
 use Rattle.words.proofs.ColumnLaws.{column-le, column-set, digit-counted, at-columns, columns-are, columns-padded}
 use Rattle.activity.specs.Checks.{all_zero}
 use Rattle.activity.specs.Window.{minute_on}

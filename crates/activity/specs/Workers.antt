@@ -1,6 +1,7 @@
 -- The conditions and statements of the contracts inside the crate.
 use Rattle.std.specs.Prelude.{ℕ, ◌+◌, ◌≤◌, ◌<◌, ◌≡◌, true, List, take, drop, get_or}
-use Rattle.words.specs.Columns.{column_counts, digit_of}
+use Rattle.words.specs.Columns.{column_counts}
+use Rattle.words.specs.Planes.{digit_of}
 use Rattle.activity.specs.Checks.{all_zero}
 use Rattle.activity.specs.declared.window.ActivityWindow.{ActivityWindow}
 

@@ -108,7 +108,7 @@ append-holds a f l (suc k) e i = i
 
 -- ---- freezing
 
-frozen-stands : (f : Filling) (l : List Bool) → Builds f l → Stands (frozen_mask f.builder) (frozen_over f.builder f.bytes) l
+pub frozen-stands : (f : Filling) (l : List Bool) → Builds f l → Stands (frozen_mask f.builder) (frozen_over f.builder f.bytes) l
 unfolding frozen_over
 frozen-stands f l i =
     let b = f.builder in

@@ -17,7 +17,7 @@ use Rattle.masks.specs.declared.bitmap.Recounted.{Recounted}
 use Rattle.masks.specs.Answer.{given, refused, checked, decided}
 use Rattle.masks.specs.Checks.{Check, check, first_failed, limit, output_checks, within_limit}
 use Rattle.masks.specs.Combine.{each_bytes, each_of, not_checks, not_flags, pair_bytes, pair_checks, pair_each, pair_flags, pair_mask}
-use Rattle.masks.specs.Combine.{pair_of, pair_shortcut, result_count, result_mask, select_checks, select_constant_flags, select_flags}
+use Rattle.masks.specs.Combine.{pair_of, pair_shortcut, result_count, select_checks, select_constant_flags, select_flags}
 use Rattle.masks.specs.Mask.{mask_checks, mask_flags, piece_checks, slice_of, sliced_mask, uncounted, unset_bits_of, with_count, zero_count}
 use Rattle.masks.specs.TrueCounts.{Sound, TrueCount}
 use Rattle.masks.specs.declared.bitmap.Bitmap.{Bitmap}
@@ -119,9 +119,6 @@ count_lawful = record { made = count_made; left = count_left }
 passed : (cs : List Check) (m g : Bitmap) → checked cs (tt {0}) m ≡ given g → first_failed cs ≡ 0
 passed cs m g e = sym (given-number (first_failed cs) tt g m (sym e))
 
-abbrev uncounted_mask : List Bitmap → ℕ → Bitmap
-uncounted_mask from n = result_mask from n (uncounted n)
-
 one-honest : (x : Lent) (size : ℕ) → first_failed (not_checks x.mask x.bytes size) ≡ 0 → Every Honest 1 (one x)
 unfolding not_checks
 one-honest x size e =
@@ -211,19 +208,8 @@ pub pair_lawful : (op : Pair) (out : List ℕ) → LawfulWrites (pair_row op out
 unfolding pair_of pair_bytes pair_mask
 pair_lawful op out =
     record {
-      honest = λ a g e.
-          let x = a.0 in
-          let y = a.1.0 in
-          two-honest x y (length out)
-          (passed (pair_checks x.mask x.bytes y.mask y.bytes (length out))
-          (pair_mask (pair_op op) x.mask x.bytes y.mask y.bytes) g e);
-      made = λ a g e.
-          let x = a.0 in
-          let y = a.1.0 in
-          written_stands (pair_checks x.mask x.bytes y.mask y.bytes (length out)) (x.mask ∷ y.mask ∷ []) x.mask.length
-          (result_count (pair_shortcut (pair_op op) x.mask x.bytes y.mask y.bytes) x.mask.length)
-          (pair_flags (pair_op op) x.mask x.bytes y.mask y.bytes) (flag_by_flag op (lent_flags x) (lent_flags y)) out g e
-          (pair_writable op x y out);
+      honest = λ a g e. two-honest a.0 a.1.0 (length out) (passed _ _ g e);
+      made = λ a g e. written_stands _ _ _ _ _ _ out g e (pair_writable op a.0 a.1.0 out);
     }
 
 -- ---- combinations with no shortcut: their count is unknown, except 0 for no flags
@@ -247,14 +233,8 @@ pub not_lawful : (out : List ℕ) → LawfulWrites (not_row out)
 unfolding each_of each_bytes
 not_lawful out =
     record {
-      honest = λ a g e.
-          let x = a.0 in
-          one-honest x (length out)
-          (passed (not_checks x.mask x.bytes (length out)) (uncounted_mask (x.mask ∷ []) x.mask.length) g e);
-      made = λ a g e.
-          let x = a.0 in
-          written_stands (not_checks x.mask x.bytes (length out)) (x.mask ∷ []) x.mask.length (uncounted x.mask.length)
-          (not_flags x.mask x.bytes) (inverted (lent_flags x)) out g e (not_writable x out);
+      honest = λ a g e. one-honest a.0 (length out) (passed _ _ g e);
+      made = λ a g e. written_stands _ _ _ _ _ _ out g e (not_writable a.0 out);
     }
 
 pub select_writable : (x y z : Lent) (out : List ℕ)
@@ -293,21 +273,8 @@ pub select_lawful : (out : List ℕ) → LawfulWrites (select_row out)
 unfolding each_of each_bytes
 select_lawful out =
     record {
-      honest = λ a g e.
-          let x = a.0 in
-          let y = a.1.0 in
-          let z = a.1.1.0 in
-          three-honest x y z (length out)
-          (passed (select_checks x.mask x.bytes y.mask y.bytes z.mask z.bytes (length out))
-          (uncounted_mask (x.mask ∷ y.mask ∷ z.mask ∷ []) x.mask.length) g e);
-      made = λ a g e.
-          let x = a.0 in
-          let y = a.1.0 in
-          let z = a.1.1.0 in
-          written_stands (select_checks x.mask x.bytes y.mask y.bytes z.mask z.bytes (length out))
-          (x.mask ∷ y.mask ∷ z.mask ∷ []) x.mask.length (uncounted x.mask.length)
-          (select_flags x.mask x.bytes y.mask y.bytes z.mask z.bytes) (selected (lent_flags x) (lent_flags y) (lent_flags z))
-          out g e (select_writable x y z out);
+      honest = λ a g e. three-honest a.0 a.1.0 a.1.1.0 (length out) (passed _ _ g e);
+      made = λ a g e. written_stands _ _ _ _ _ _ out g e (select_writable a.0 a.1.0 a.1.1.0 out);
     }
 
 pub constant_writable : (c : Bool) (x y : Lent) (out : List ℕ)
@@ -335,18 +302,8 @@ pub constant_lawful : (c : Bool) (out : List ℕ) → LawfulWrites (constant_row
 unfolding each_of each_bytes
 constant_lawful c out =
     record {
-      honest = λ a g e.
-          let x = a.0 in
-          let y = a.1.0 in
-          two-honest x y (length out)
-          (passed (pair_checks x.mask x.bytes y.mask y.bytes (length out))
-          (uncounted_mask (x.mask ∷ y.mask ∷ []) x.mask.length) g e);
-      made = λ a g e.
-          let x = a.0 in
-          let y = a.1.0 in
-          written_stands (pair_checks x.mask x.bytes y.mask y.bytes (length out)) (x.mask ∷ y.mask ∷ []) x.mask.length
-          (uncounted x.mask.length) (select_constant_flags x.mask x.bytes y.mask y.bytes c)
-          (selected_or c (lent_flags x) (lent_flags y)) out g e (constant_writable c x y out);
+      honest = λ a g e. two-honest a.0 a.1.0 (length out) (passed _ _ g e);
+      made = λ a g e. written_stands _ _ _ _ _ _ out g e (constant_writable c a.0 a.1.0 out);
     }
 
 -- ---- the table

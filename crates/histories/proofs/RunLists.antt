@@ -38,7 +38,7 @@ use Rattle.histories.specs.Owed.{Stands}
 use Rattle.histories.specs.RunLists.{HasRuns, Rebuilt, RunLists, Saves, constant, gap_calls, saving_from}
 use Rattle.histories.proofs.AgreementLaws.{agrees}
 use Rattle.histories.proofs.Histories.{both-agree}
-use Rattle.histories.proofs.HistoryLaws.{Builds, builds-after, freeze-holds}
+use Rattle.histories.proofs.HistoryLaws.{Builds, builds-after, frozen-stands}
 use Rattle.histories.proofs.HistoryTheorem.{new-holds}
 use Rattle.histories.proofs.RunListLaws.{RunsIn, no_more, then-run, run-by-run, in-tests, runs-in}
 use Rattle.histories.proofs.RunListLaws.{copies-none, laid-has, laid_same, laid_out}
@@ -155,10 +155,6 @@ freezes : (f : Filling) (k : ℕ) → 0 ≡ k
 unfolding kept decided
 freezes f zero e = refl
 freezes f (suc k) e = absurd (omega arith)
-
-frozen-stands : (f : Filling) (l : List Bool) → Builds f l → Stands (frozen_mask f.builder) (frozen_over f.builder f.bytes) l
-unfolding kept decided
-frozen-stands f l i = freeze-holds f l 0 i
 
 saved : (l : List Bool) (buf : List ℕ) (calls : List (Call LibraryCall)) → Ends (filling new_builder buf) calls l → Saves l buf calls
 saved l buf calls e =

@@ -3,8 +3,7 @@ use Rattle.std.specs.Prelude.{Option, Some, None}
 use mathlib.Core.Path.{◌≡◌, sym, ◌∙◌, subst}
 use mathlib.Core.Bool.{Bool, false}
 use mathlib.Core.List.{List, [], ◌∷◌, ◌++◌}
-use Prim.Native.Nat.{ℕ, ◌+◌, ◌≤◌}
-use native.Mathlib.Omega.{arith}
+use Prim.Native.Nat.{ℕ, ◌+◌}
 use lib.Dec.{ltb}
 use lib.ListN.{get_or}
 use borrow.Author.Tests.{ltb-true}
@@ -39,11 +38,6 @@ passed-masks A a_bytes B b_bytes i e =
 
 present-indexed : (M : Option Bitmap) (m : Bitmap) (i : ℕ) → M ≡ Some m → Indexed M i → Indexed (Some m) i
 present-indexed M m i e h = subst (λ (x : Option Bitmap). Indexed x i) e h
-
-pub index-fits : (M : Option Bitmap) (m : Bitmap) (i : ℕ) → M ≡ Some m → Indexed M i → m.start + i ≤ 8388608
-index-fits M m i e h =
-    let p = present-indexed M m i e h in
-    omega (arith, p.0, p.1.0, p.1.1)
 
 -- the flag that is read at start + i is flag i of the mask
 pub flag-inside : (M : Option Bitmap) (m : Bitmap) (bytes : List ℕ) (i : ℕ) (x : Bool) → M ≡ Some m → Indexed M i

@@ -14,7 +14,7 @@ use borrow.Author.Tests.{leb-true, lt-ltb, le-ltb}
 use Rattle.words.specs.Flags.{bits, flags_of, window, word_of}
 use Rattle.words.specs.Loops.{stretch}
 use Rattle.words.proofs.Bits.{bits-zero, word_of_bits, word_of_lt}
-use Rattle.words.proofs.Windows.{ltb-sub, length-window, window-add, window-all, window-past, window-ext, at-window, bits-window}
+use Rattle.words.proofs.Windows.{ltb-sub, length-window, window-all, window-past, window-ext, at-window, bits-window}
 use Rattle.words.proofs.Windows.{word_of_padded}
 use Rattle.masks.specs.Bitmask.{split_checks, window_word}
 use Rattle.masks.specs.Checks.{check, within_limit, first_failed, limit, span_checks}
@@ -92,10 +92,3 @@ split-allowed start n at size e =
           (check-allowed 0 (leb (start + at) limit) (both_left (within_limit (start + at) ∷ []) (check 6 (leb at n) ∷ []) both));
       reached = leb-true at n (check-allowed 5 (leb at n) (both_right (within_limit (start + at) ∷ []) (check 6 (leb at n) ∷ []) both));
     }
-
--- the flags of the two parts, joined, are those of the whole
-pub split-whole : (bytes : List ℕ) (start n at : ℕ) → at ≤ n
-    → stretch bytes start at ++ stretch bytes (start + at) (n - at) ≡ stretch bytes start n
-split-whole bytes start n at h =
-    let e : at + (n - at) ≡ n = omega arith in
-    sym (window-add (flags_of bytes) start at (n - at)) ∙ ap (window (flags_of bytes) start) e

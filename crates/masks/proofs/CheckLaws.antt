@@ -335,8 +335,5 @@ output-test n size k d = let e : k ≡ (n + 63) / 64 = omega arith in ap (λ (x 
 -- ---- the two clauses of a call that may write: its answer and its bytes
 
 module _ {S A B : Type 0} (r m : ℕ) (s : S) (old : B) (e : r ≡ m) where
-  pub refused-way : (a : A) (new : B) → (r ≡ 0 → ⊥) → (refused r s ≡ decided m s a) × (old ≡ kept m new old)
-  refused-way a new h = (is-refused r m s a e h, is-kept r m new old e h)
-
   pub given-way : (a a' : A) (out new : B) → r ≡ 0 → a ≡ a' → out ≡ new → (given a ≡ decided m s a') × (out ≡ kept m new old)
   given-way a a' out new h p q = (ap given p ∙ is-given r m s a' e h, q ∙ is-new r m new old e h)

@@ -161,14 +161,16 @@ module _ (op : Op) (a : Bitmap) (a_bytes : List ℕ) (b : Bitmap) (b_bytes out :
       ∙ ap (λ (v : Option ℕ). given (result_mask (a ∷ b ∷ []) a.length v)) (q ∙ ap (λ (s : Option Bool). result_count s a.length) p)
       ∙ is-given k (first_failed (pair_checks a a_bytes b b_bytes (length out))) tt (pair_mask op a a_bytes b b_bytes) e z
 
-  pub pair-written : (by : Option Bool) (out' : List ℕ) → k ≡ 0 → by ≡ pair_shortcut op a a_bytes b b_bytes
-      → out' ≡ over out (frozen (result_flags by a.length (combined op a_bytes a.start b_bytes b.start b_bytes b.start a.length)))
+  pub pair-written : (by : Option Bool) (out' : List ℕ) → k ≡ 0 → by ≡ pair_shortcut op a a_bytes b b_bytes → Small out → Small out'
+      → flags_of out' ≡ over (flags_of out)
+      (whole_words (result_flags by a.length (combined op a_bytes a.start b_bytes b.start b_bytes b.start a.length)))
       → out' ≡ pair_bytes op a a_bytes b b_bytes out
   unfolding pair_bytes pair_flags
-  pair-written by out' z p q =
+  pair-written by out' z p before after q =
       let same : a.length ≡ b.length = pair_lengths a a_bytes b b_bytes (length out) (sym e ∙ z) in
       let number = first_failed (pair_checks a a_bytes b b_bytes (length out)) in
-      q
+      frozen-written out out'
+      (result_flags by a.length (combined op a_bytes a.start b_bytes b.start b_bytes b.start a.length)) before after q
       ∙ ap₂ (λ (s : Option Bool) (n : ℕ).
       over out
       (frozen (result_flags s a.length
@@ -201,13 +203,15 @@ module _ (cs : List Check) (masks : List Bitmap) (n : ℕ) (flags : List Bool) (
   )
 
   pub each-given : (u : Option ℕ) (s : ℕ) (m : Bitmap) (out' : List ℕ) (written : List Bool) → k ≡ 0 → u ≡ uncounted n
-      → s ≡ largest_serial masks → m ≡ mask_under s 0 n u → out' ≡ over out (frozen written) → written ≡ flags
+      → s ≡ largest_serial masks → m ≡ mask_under s 0 n u → Small out → Small out'
+      → flags_of out' ≡ over (flags_of out) (whole_words written) → written ≡ flags
       → (given m ≡ each_of cs masks n) × (out' ≡ each_bytes cs flags out)
   unfolding each_of each_bytes
-  each-given u s m out' written z p largest made q r = (
+  each-given u s m out' written z p largest made before after q r = (
     ap given made ∙ ap₂ (λ (t : ℕ) (v : Option ℕ). given (mask_under t 0 n v)) largest p
         ∙ is-given k (first_failed cs) tt (result_mask masks n (uncounted n)) e z,
-    q ∙ ap (λ (l : List Bool). over out (frozen l)) r ∙ is-new k (first_failed cs) (over out (frozen flags)) out e z,
+    frozen-written out out' written before after q ∙ ap (λ (l : List Bool). over out (frozen l)) r
+        ∙ is-new k (first_failed cs) (over out (frozen flags)) out e z,
   )
 
 pub not-each : (l : List Bool) (s n : ℕ) → zip3 (op_of Not) (window l s n) (window l s n) (window l s n) ≡ map not (window l s n)
@@ -255,20 +259,21 @@ constant-length A B x s t n m p = ap (λ (k : ℕ). zip_with (λ p q. cond p q x
 -- what a kernel wrote is what `select_constant` must write
 as-constant : (F : List Bool) (a b : List ℕ) (sa sb n : ℕ) (x y : Bool) (out out' : List ℕ)
     → F ≡ zip_with (λ p q. cond p q y) (stretch a sa n) (stretch b sb n) → x ≡ y
-    → out' ≡ over out (frozen F) → out' ≡ over out (frozen (zip_with (λ p q. cond p q x) (stretch a sa n) (stretch b sb n)))
+    → flags_of out' ≡ over (flags_of out) (whole_words F)
+    → flags_of out' ≡ over (flags_of out) (whole_words (zip_with (λ p q. cond p q x) (stretch a sa n) (stretch b sb n)))
 as-constant F a b sa sb n x y out out' f h e =
     let same : F ≡ zip_with (λ p q. cond p q x) (stretch a sa n) (stretch b sb n) =
     f ∙ ap (λ (z : Bool). zip_with (λ p q. cond p q z) (stretch a sa n) (stretch b sb n)) (sym h) in
-    e ∙ ap (λ (l : List Bool). over out (frozen l)) same
+    e ∙ ap (λ (l : List Bool). over (flags_of out) (whole_words l)) same
 
 pub written-set : (a b : List ℕ) (sa sb n : ℕ) (x : Bool) (out out' : List ℕ) → x ≡ true
-    → out' ≡ over out (frozen (combined OrNot b sb a sa a sa n))
-    → out' ≡ over out (frozen (zip_with (λ p q. cond p q x) (stretch a sa n) (stretch b sb n)))
+    → flags_of out' ≡ over (flags_of out) (whole_words (combined OrNot b sb a sa a sa n))
+    → flags_of out' ≡ over (flags_of out) (whole_words (zip_with (λ p q. cond p q x) (stretch a sa n) (stretch b sb n)))
 written-set a b sa sb n x out out' =
     as-constant (combined OrNot b sb a sa a sa n) a b sa sb n x true out out' (constant-set (flags_of a) (flags_of b) sa sb n)
 
 pub written-clear : (a b : List ℕ) (sa sb n : ℕ) (x : Bool) (out out' : List ℕ) → x ≡ false
-    → out' ≡ over out (frozen (combined And a sa b sb b sb n))
-    → out' ≡ over out (frozen (zip_with (λ p q. cond p q x) (stretch a sa n) (stretch b sb n)))
+    → flags_of out' ≡ over (flags_of out) (whole_words (combined And a sa b sb b sb n))
+    → flags_of out' ≡ over (flags_of out) (whole_words (zip_with (λ p q. cond p q x) (stretch a sa n) (stretch b sb n)))
 written-clear a b sa sb n x out out' =
     as-constant (combined And a sa b sb b sb n) a b sa sb n x false out out' (constant-clear (flags_of a) (flags_of b) sa sb n)

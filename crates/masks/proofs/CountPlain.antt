@@ -152,6 +152,10 @@ not-both true true P Q p q h = absurd (h (p refl) (q refl))
 not-both true false P Q p q h = refl
 not-both false b P Q p q h = refl
 
+ones-unknown : (n : ℕ) → (n ≡ 0 → ⊥) → (t : Bool) → result_count (cond t (Some true) None) n ≡ None
+ones-unknown n z true = some-unknown n z
+ones-unknown n z false = some-unknown n z
+
 xor_unlike : (n l r : ℕ) → (n ≡ 0 → ⊥) → (l ≡ n → r ≡ n → ⊥) → (l ≡ 0 → r ≡ 0 → ⊥) → result_count (shortcut Xor n l r) n ≡ None
 unfolding shortcut
 xor_unlike n l r z p q =
@@ -159,19 +163,11 @@ xor_unlike n l r z p q =
       not-both (eqb l n) (eqb r n) (l ≡ n) (r ≡ n) (eqb-true l n) (eqb-true r n) p,
       not-both (eqb l 0) (eqb r 0) (l ≡ 0) (r ≡ 0) (eqb-true l 0) (eqb-true r 0) q,
     )
-    (go ((eqb l 0 && eqb r n) || (eqb l n && eqb r 0)))
-  where
-    go : (t : Bool) → result_count (cond t (Some true) None) n ≡ None
-    go true = some-unknown n z
-    go false = some-unknown n z
+    (ones-unknown n z ((eqb l 0 && eqb r n) || (eqb l n && eqb r 0)))
 
 no-shortcut : (op : Op) (n l r : ℕ) → (op ≡ Or) ⊎ ((op ≡ AndNot) ⊎ (op ≡ OrNot)) → (n ≡ 0 → ⊥) → result_count (shortcut op n l r) n ≡ None
 unfolding shortcut
-no-shortcut op n l r (inl e) z = ap (λ (o : Op). result_count (shortcut o n l r) n) e ∙ go (eqb l 0 || eqb r 0)
-  where
-    go : (t : Bool) → result_count (cond t (Some true) None) n ≡ None
-    go true = some-unknown n z
-    go false = some-unknown n z
+no-shortcut op n l r (inl e) z = ap (λ (o : Op). result_count (shortcut o n l r) n) e ∙ ones-unknown n z (eqb l 0 || eqb r 0)
 no-shortcut op n l r (inr (inl e)) z = ap (λ (o : Op). result_count (shortcut o n l r) n) e ∙ some-unknown n z
 no-shortcut op n l r (inr (inr e)) z = ap (λ (o : Op). result_count (shortcut o n l r) n) e ∙ some-unknown n z
 

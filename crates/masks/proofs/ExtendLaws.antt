@@ -4,9 +4,9 @@ use Rattle.std.proofs.lemmas.List.{nil_from_length}
 use mathlib.Core.Path.{◌≡◌, refl, sym, ap, ap₂, ◌∙◌}
 use mathlib.Core.Bool.{Bool, true, false, ◌&&◌}
 use Rattle.std.specs.Int.{from_bool}
-use mathlib.Core.List.{List, [], ◌∷◌, ◌++◌, append-nil}
-use Prim.Native.Nat.{ℕ, zero, suc, ◌+◌, ◌-◌, ◌*◌, ◌/◌, ◌%◌, ◌≤◌, ◌<◌, min}
-use native.Mathlib.Nat.{zero-add, suc-add, zero-lt-suc}
+use mathlib.Core.List.{List, [], ◌++◌, append-nil}
+use Prim.Native.Nat.{ℕ, ◌+◌, ◌-◌, ◌*◌, ◌/◌, ◌%◌, ◌≤◌, ◌<◌, min}
+use native.Mathlib.Nat.{zero-lt-suc}
 use native.Mathlib.Omega.{arith}
 use lib.Dec.{leb, ltb}
 use lib.ListN.{length, take, length-append}
@@ -16,6 +16,7 @@ use Rattle.words.specs.Loops.{whole_words}
 use Rattle.words.proofs.Bits.{length-bits}
 use Rattle.words.proofs.Merging.{front-flags}
 use Rattle.words.proofs.Windows.{length-copies, window-add, window-all, window-cut}
+use Rattle.words.proofs.Writing.{copies-add}
 use Rattle.masks.specs.Builder.{Filling, filling, rebuilt, in_progress, appended}
 use Rattle.masks.specs.Frozen.{packed, over_from}
 use Rattle.masks.specs.declared.builder.BitmapBuilder.{BitmapBuilder}
@@ -94,11 +95,6 @@ push-closed b bytes out word low c merged ones small small' put =
 pub append-three : (f g h k : Filling) (a m c l : List Bool) → g ≡ appended f a → h ≡ appended g m → k ≡ appended h c → (a ++ m) ++ c ≡ l
     → k ≡ appended f l
 append-three f g h k a m c l p q r e = append-then f h k (a ++ m) c (append-then f g h a m p q) r ∙ ap (appended f) e
-
-pub copies-add : (m n : ℕ) (x : Bool) → copies (m + n) x ≡ copies m x ++ copies n x
-unfolding copies
-copies-add zero n x = ap (λ (k : ℕ). copies k x) (zero-add n)
-copies-add (suc m) n x = ap (λ (k : ℕ). copies k x) (suc-add m n) ∙ ap (λ (t : List Bool). x ∷ t) (copies-add m n x)
 
 pub copies-three : (a m c n : ℕ) (x : Bool) → n ≡ a + m + c → (copies a x ++ copies m x) ++ copies c x ≡ copies n x
 copies-three a m c n x e =

@@ -9,11 +9,9 @@ use mathlib.Core.List.{List, [], ◌∷◌}
 use Prim.Native.Nat.{ℕ, ◌+◌, ◌-◌, ◌/◌, ◌≤◌, ◌<◌, max}
 use native.Mathlib.Omega.{arith}
 use mathlib.Core.Logic.{◌⊎◌, inl, inr, ⊎_elim}
-use lib.Dec.{eqb, leb}
-use lib.ListN.{length, drop, take}
+use lib.Dec.{leb}
+use lib.ListN.{length}
 use borrow.Author.Tests.{le-leb, lt-leb, leb-true, eq-eqb, eqb-true, ne_eqb}
-use Rattle.words.specs.Loops.{stretch}
-use Rattle.words.proofs.Loads.{whole-stretch}
 use Rattle.masks.specs.Answer.{given, refused}
 use Rattle.masks.specs.Checks.{Check, check, rank, place_in, first_failed, within_limit, span_checks}
 use Rattle.masks.specs.Mask.{cut_mask, cut_zeros, sliced_mask, slice_of, slice_checks, count_is, count_valid, mask_checks, mask_flags}
@@ -36,14 +34,6 @@ mask-allowed m bytes e =
 count-true : (u : Option ℕ) (l : List Bool) → count_is u (zeros l) ≡ true → TrueCount u l
 count-true (Some z) l e = eqb-true z (zeros l) e
 count-true None l e = tt
-
--- comparing a known count with the zeros of the span, read from the whole of the bytes, is check 3
-pub known-valid : (u : Option ℕ) (z : ℕ) (bytes : List ℕ) (start n : ℕ) (r : Bool) → u ≡ Some z
-    → r ≡ eqb z (zeros (stretch (take (length bytes - 0) (drop 0 bytes)) start n)) → r ≡ count_is u (zeros (stretch bytes start n))
-known-valid u z bytes start n r k e =
-    e
-    ∙ ap (λ (l : List Bool). eqb z (zeros l)) (whole-stretch bytes start n)
-    ∙ ap (λ (x : Option ℕ). count_is x (zeros (stretch bytes start n))) (sym k)
 
 pub true-valid : (u : Option ℕ) (l : List Bool) → TrueCount u l → count_is u (zeros l) ≡ true
 true-valid (Some z) l t = eq-eqb z (zeros l) t
@@ -93,7 +83,7 @@ pub recounts-by : (old n z p : ℕ) → (z ≡ 0 → ⊥) → (z ≡ old → ⊥
 unfolding recounts
 recounts-by old n z p h k e = leb-less old n p ∙ rw (ne_eqb z 0 h, ne_eqb z old k, e)
 
--- the count of a slice: recounted, kept, or unknown
+-- the count of a slice, recounted
 pub cut-known : (old n cut x z : ℕ) (u : Option ℕ) (r : Result (Option ℕ) Refusal) → u ≡ Some z → recounts old n z ≡ true
     → r ≡ recounted_of z x n → x ≡ cut → r ≡ cut_of old n cut u
 unfolding recounted_of
@@ -102,17 +92,6 @@ cut-known old n cut x z u r k t e h =
     ∙ sym (ap (cut_of old n cut) k
     ∙ ap (λ (b : Bool). cond (cond b (leb cut z && leb (z - cut) n) true) (Ok (cond b (Some (z - cut)) (kept_count z old n)))
     (Err WrongRecount)) t)
-
-pub cut-kept : (old n cut z : ℕ) (u : Option ℕ) (r : Result (Option ℕ) Refusal) → u ≡ Some z → recounts old n z ≡ false
-    → r ≡ Ok (kept_count z old n) → r ≡ cut_of old n cut u
-cut-kept old n cut z u r k t e =
-    e
-    ∙ sym (ap (cut_of old n cut) k
-    ∙ ap (λ (b : Bool). cond (cond b (leb cut z && leb (z - cut) n) true) (Ok (cond b (Some (z - cut)) (kept_count z old n)))
-    (Err WrongRecount)) t)
-
-pub cut-unknown : (old n cut : ℕ) (u : Option ℕ) → u ≡ None → Ok None ≡ cut_of old n cut u
-cut-unknown old n cut u k = sym (ap (cut_of old n cut) k)
 
 pub below-cut : (z cut n : ℕ) → z < cut → (Err WrongRecount) ≡ recounted_of z cut n
 unfolding recounted_of

@@ -8,14 +8,14 @@ use lib.ListN.{length, take, length-take}
 use lib.Dec.{eqb}
 use lib.Seq.{take_all}
 use Rattle.words.specs.Ends.{leading, trailing}
-use Rattle.words.specs.Flags.{bits, copies, count, flags_of, window}
+use Rattle.words.specs.Flags.{bits, count, flags_of, window}
 use Rattle.words.specs.Uniform.{all_are}
 use Rattle.words.proofs.Bits.{length-bits}
-use Rattle.words.proofs.Counting.{count-append, count-copies, count-padded, count-not, count-le}
+use Rattle.words.proofs.Counting.{count-append, count-padded, count-not, count-le}
 use Rattle.words.proofs.EndLaws.{leading_le, leading-some, leading-all, trailing_le, trailing-some, trailing-all}
 pub use Rattle.words.proofs.Loads.{moved-flags}
 use Rattle.words.proofs.UniformLaws.{eqb-both}
-use Rattle.words.proofs.Windows.{length-copies, length-window, window-add}
+use Rattle.words.proofs.Windows.{length-window, window-add}
 use Rattle.masks.specs.Utils.{zeros}
 use Rattle.masks.specs.Workers.{zeros_of_all}
 
@@ -163,9 +163,3 @@ all-zeros true l n t e p =
     p ∙ eqb-both (count l) (length l * 1) (count (map not l)) 0 (λ h. omega (arith, count-not l)) (λ h. omega (arith, count-not l))
 all-zeros false l n t e p =
     p ∙ eqb-both (count l) (length l * 0) (count (map not l)) n (λ h. omega (arith, count-not l)) (λ h. omega (arith, count-not l))
-
--- `zeros_of_all` is the number of zeros of n copies of x
-pub zeros_of_all_lem : (x : Bool) (n : ℕ) → zeros (copies n x) ≡ zeros_of_all x n
-unfolding zeros
-zeros_of_all_lem true n = omega (arith, count-not (copies n true), count-copies n true, length-copies n true)
-zeros_of_all_lem false n = omega (arith, count-not (copies n false), count-copies n false, length-copies n false)

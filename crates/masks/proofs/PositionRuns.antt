@@ -15,6 +15,7 @@ use Rattle.words.proofs.Windows.{bits-window, length-window, window-cut, window-
 use Rattle.masks.specs.Frozen.{over_from}
 use Rattle.masks.specs.TrueIdx.{ones_from, ones_left}
 use Rattle.masks.proofs.TrueIdxPlain.{past_ones as past_end}
+use Rattle.masks.proofs.RunsPlain.{then-ones}
 use Rattle.masks.proofs.PositionLaws.{UnderWay, goes_on, run-cut, length-row}
 
 -- ---- the ones of a word, run by run
@@ -56,13 +57,6 @@ behind-ones (true ∷ l) k =
     let e : suc k + leading true l ≡ k + suc (leading true l) = omega arith in
     ap (λ (t : List ℕ). k ∷ t)
     (behind-ones l (suc k) ∙ ap (λ (x : ℕ). ones_from (suc k) (copies (leading true l) true) ++ ones_from x (drop (leading true l) l)) e)
-
--- after the leading zeros there is a one, unless the list ends
-then_one : (l : List Bool) → leading false l < length l → 0 < leading true (drop (leading false l) l)
-unfolding leading
-then_one [] h = absurd (omega arith)
-then_one (true ∷ l) h = omega arith
-then_one (false ∷ l) h = then_one l (omega arith)
 
 still_one : (m : List Bool) (n : ℕ) → 0 < leading true m → 0 < leading true (window m 0 (suc n))
 unfolding leading window
@@ -108,7 +102,7 @@ module _ (w : ℕ) where
       let f : leading false (bits 64 w) ≡ z = ap (leading false) (sym all_flags) ∙ sym e in
       let k : z + 0 ≡ z = omega arith in
       let one : 0 < leading true (drop z (bits 64 w)) =
-      subst (λ (x : ℕ). 0 < leading true (drop x (bits 64 w))) f (then_one (bits 64 w) (omega (arith, length-bits 64 w))) in
+      subst (λ (x : ℕ). 0 < leading true (drop x (bits 64 w))) f (then-ones (bits 64 w) (omega (arith, length-bits 64 w))) in
       let same : window (drop z (bits 64 w)) 0 64 ≡ bits 64 rest =
       window-drop (bits 64 w) z 0 64 ∙ ap (λ (x : ℕ). window (bits 64 w) x 64) k ∙ sym p in
       let last : leading true (bits 64 rest) ≡ r =

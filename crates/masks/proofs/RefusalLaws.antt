@@ -8,8 +8,8 @@ use Rattle.std.proofs.lemmas.Bool.{and_parts}
 use mathlib.Core.Path.{sym, ap, ◌∙◌}
 use native.Mathlib.Omega.{arith}
 use borrow.Author.Tests.{eqb-true}
-use Rattle.masks.specs.Answer.{Answer, answer, answer_back, decided, refused}
-use Rattle.masks.proofs.CheckLaws.{is-refused}
+use Rattle.masks.specs.Answer.{Answer, answer, answer_back, decided, kept, refused, unless_empty}
+use Rattle.masks.proofs.CheckLaws.{is-kept, is-refused, not-empty}
 use Rattle.masks.specs.Checks.{earlier, rank, place_in}
 use Rattle.masks.specs.Cursor.{answer_step, Step}
 use Rattle.masks.specs.Refusal.{number, failure_of}
@@ -147,6 +147,12 @@ pub exit-refused : {A : Type 0} (result : Result A Refusal) (e : Refusal) → Is
     → (m : ℕ) → number e ≡ m → (a : A) → answer result ≡ decided m tt a
 exit-refused result e h m p a = exit-is result e h ∙ is-refused (number e) m tt a p (number-ne0 e)
 
+-- of a call over a bare span, behind the test for no flags
+pub exit-not-empty : {A : Type 0} (result : Result A Refusal) (e : Refusal) → IsErrAnd result (λ (y : Refusal). y ≡ e)
+    → (n : ℕ) → (n ≡ 0 → ⊥) → (m : ℕ) → number e ≡ m → (x : Answer (Unit {0}) A) (a : A)
+    → answer result ≡ unless_empty n x (decided m tt a)
+exit-not-empty result e h n some m p x a = not-empty n x (decided m tt a) (answer result) some (exit-refused result e h m p a)
+
 pub back-refused : {S A : Type 0} (r : Result (Unit {0}) Refusal) (s : S) (x : Refused S) → Err x ≡ with_state r s
     → (result : Result A (Refused S)) → IsErrAnd result (λ (y : Refused S). y ≡ x)
     → (m : ℕ) → failure_of r ≡ m → (a : A) → answer_back result ≡ decided m s a
@@ -156,3 +162,10 @@ pub step-refused : {S A : Type 0} (r : Result (Unit {0}) Refusal) (s : S) (x : R
     → (result : Result (Stepped A S) (Refused S)) → IsErrAnd result (λ (y : Refused S). y ≡ x)
     → (m : ℕ) → failure_of r ≡ m → (a : Step S A) → answer_step result ≡ decided m s a
 step-refused r s x e result h m p a = step-is r s x e result h ∙ is-refused (failure_of r) m s a p (failed-back r s x e)
+
+-- so are the two promises of a call that may write: its answer and its bytes
+pub refused-way : {S A B : Type 0} (r : Result (Unit {0}) Refusal) (s : S) (x : Refused S) → Err x ≡ with_state r s
+    → (result : Result A (Refused S)) → IsErrAnd result (λ (y : Refused S). y ≡ x)
+    → (m : ℕ) → failure_of r ≡ m → (a : A) (new old : B) → (answer_back result ≡ decided m s a) × (old ≡ kept m new old)
+refused-way r s x e result h m p a new old =
+    (back-refused r s x e result h m p a, is-kept (failure_of r) m new old p (failed-back r s x e))

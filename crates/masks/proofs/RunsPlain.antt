@@ -78,7 +78,7 @@ ones-taken k (true ∷ (true ∷ l)) h =
     ∙ ap (λ (j : ℕ). run_of k (suc (suc (leading true l))) ∷ runs_from j (drop (leading true l) l)) e
 
 -- after the leading zeros there is a one, unless the list ends
-then-ones : (l : List Bool) → leading false l < length l → 0 < leading true (drop (leading false l) l)
+pub then-ones : (l : List Bool) → leading false l < length l → 0 < leading true (drop (leading false l) l)
 unfolding leading
 then-ones [] h = absurd (omega arith)
 then-ones (true ∷ l) h = omega arith

@@ -11,7 +11,8 @@ use borrow.Author.Tests.{lt-ltb, le-ltb}
 use Rattle.words.specs.Flags.{count, digit, window}
 use Rattle.words.specs.Nth.{nth_place}
 use Rattle.words.proofs.Counting.{count-append}
-use Rattle.words.proofs.Plain.{count-first, nth_inside, nth-set, nth-before, window-part}
+use Rattle.words.proofs.NthLaws.{nth-lt}
+use Rattle.words.proofs.Plain.{count-first, nth-set, nth-before, window-part}
 use Rattle.masks.specs.Search.{nth_from, nth_back}
 
 -- ---- forward
@@ -27,7 +28,7 @@ pub record Forward (l : List Bool) (n from p : ℕ) : Type 0 where
 pub forward-some : (l : List Bool) (n from : ℕ) → n < count (drop from l) → (p : ℕ) × ((nth_from l n from ≡ Some p) × Forward l n from p)
 unfolding nth_from
 forward-some l n from h =
-    let k : nth_place (drop from l) n < length (drop from l) = nth_inside (drop from l) n h in
+    let k : nth_place (drop from l) n < length (drop from l) = nth-lt (drop from l) n h in
     let e : from + nth_place (drop from l) n - from ≡ nth_place (drop from l) n = omega arith in (
       from + nth_place (drop from l) n,
       (
@@ -65,7 +66,7 @@ backward-some l n end h =
     let m : ℕ = count (take end l) - 1 - n in
     let few : m < count (take end l) = omega arith in
     let p : ℕ = nth_place (take end l) m in
-    let k : p < length (take end l) = nth_inside (take end l) m few in
+    let k : p < length (take end l) = nth-lt (take end l) m few in
     let low : p < end = omega (arith, length-take end l) in
     let one : get_or (take end l) p false ≡ true = nth-set (take end l) m few in
     let before : count (take p (take end l)) ≡ m = nth-before (take end l) m few in

@@ -13,7 +13,7 @@ use lib.Seq.{drop-cons, drop-drop}
 use borrow.Author.Tests.{eqb-true, lt-ltb}
 use Rattle.words.specs.Flags.{copies, count}
 use Rattle.words.specs.Nth.{nth_place}
-use Rattle.words.proofs.Plain.{nth_inside}
+use Rattle.words.proofs.NthLaws.{nth-lt}
 use Rattle.masks.specs.declared.bitmap.Bitmap.{Bitmap}
 use Rattle.masks.specs.Answer.{Answer, given}
 use Rattle.masks.specs.Checks.{Check, check, earlier, first_failed, span_checks, within_limit}
@@ -123,7 +123,7 @@ unfolding nth_from
 found l place h = rw (lt-ltb 0 (count (drop place l)) h)
 
 found_inside : (l : List Bool) (place : ℕ) → 0 < count (drop place l) → first l place < length l
-found_inside l place h = omega (arith, nth_inside (drop place l) 0 h, length-drop place l)
+found_inside l place h = omega (arith, nth-lt (drop place l) 0 h, length-drop place l)
 
 found_left : (l : List Bool) (place : ℕ) → 0 < count (drop place l) → ones_left l place ≡ first l place ∷ ones_left l (first l place + 1)
 unfolding ones_left

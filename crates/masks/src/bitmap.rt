@@ -11,10 +11,10 @@ ghost use Rattle.masks.specs.Mask.{cut_mask, mask_of, mask_under, with_count};
 ghost use Rattle.masks.specs.Workers.{cut_of, outside, recounted_of, PieceAllowed};
 
 use crate::checks::{check_limit, check_mask, check_output, check_span, sum_at_most};
-use crate::frozen::fill_frozen;
 use crate::refusal::{Refusal, Refused, check, earlier};
 use crate::span::Lent;
 use words::flags::Flags;
+use words::loops::fill;
 
 // A mask: a span of its bytes, its zero count if it is known, and the serial of the revocation list that it was drawn up under. The Rust's
 // `Bitmap` with a serial.
@@ -51,7 +51,7 @@ impl Bitmap {
     {
         check_limit(length)?;
         check_output(length, out.len())?;
-        fill_frozen(false, length, out);
+        fill(false, length, out);
         Ok(mask_of(0, length, Some(length)))
     }
 

@@ -1,4 +1,5 @@
-// The combinations: flag by flag into a lent output, as frozen bytes. Spans start at any bit.
+// The combinations: each writes its flags as frozen bytes to the start of a lent output. Spans start at any bit. The crate `words` writes
+// whole words of flags, which are the frozen bytes of the contracts by the law `frozen-written` of `CombineLaws`.
 ghost use Rattle.std.specs.Prelude.{◌≡◌, [], ◌∷◌};
 ghost use Rattle.words.specs.declared.ops.Op.TheVariants.{And, AndNot, Or, OrNot, Xor};
 ghost use Rattle.masks.specs.Answer.{answer};
@@ -10,9 +11,9 @@ ghost use Rattle.masks.specs.Mask.{mask_under};
 
 use crate::bitmap::{Bitmap, mask_under, not_counted};
 use crate::checks::{check_mask, check_output};
-use crate::frozen::{combine_frozen, select_frozen, write_result};
 use crate::refusal::{Refusal, check, earlier};
 use crate::shortcuts::{pair_shortcut, result_count};
+use words::loops::{combine, fill};
 use words::ops::Op;
 
 // Makes the record of a result of n flags, under the largest serial of its masks.
@@ -22,14 +23,14 @@ fn result_mask(serial: u32, n: usize, unset: Option<usize>) -> Bitmap
     mask_under(serial, 0, n, unset)
 }
 
-// The largest serial of two masks, whichever a shortcut reads.
+// Returns the largest serial of two masks, also of one that a shortcut does not read.
 fn pair_serial(lhs: Bitmap, rhs: Bitmap) -> u32
     ensures { result ≡ largest_serial (lhs ∷ rhs ∷ []) }
 {
     lhs.serial.max(rhs.serial)
 }
 
-// The largest serial of three masks.
+// Returns the largest serial of three masks.
 fn select_serial(selector: Bitmap, truthy: Bitmap, falsy: Bitmap) -> u32
     ensures { result ≡ largest_serial (selector ∷ truthy ∷ falsy ∷ []) }
 {
@@ -52,8 +53,9 @@ fn check_pair(
     earlier(first, earlier(second, earlier(equal, room)))
 }
 
-// Combines two masks by a two-flag operation: checks, then shortcut by the counts, then the loop.
-// The operands are made before the shortcut is looked for: after it, `and` took 1.03 times the instructions at 40 flags.
+// Combines two masks by an operation on two flags: makes the checks, then writes the flag of the shortcut, or without one goes flag by
+// flag. The operands are made before the shortcut: made after it, `and` took 1.03 times the instructions at 40 flags. Count and serial are
+// made after the flags are written: made before, it took 1.04.
 fn combine_two(
     op: Op,
     lhs: Bitmap,
@@ -70,13 +72,17 @@ fn combine_two(
     let b = rhs.flags(right);
     let by = pair_shortcut(op, lhs, left, rhs, right);
     let n = lhs.length;
-    write_result(by, op, &a, &b, n, out);
+    match by {
+        Some(flag) => fill(flag, n, out),
+        None => combine(op, &a, &b, &b, n, out),
+    }
     let unset = result_count(by, n);
     let serial = pair_serial(lhs, rhs);
     Ok(result_mask(serial, n, unset))
 }
 
-// Writes the flags that are set in both masks. This and the four below are the Rust's names for `combine_two`.
+// Writes the flags that are set in both masks as frozen bytes to the start of `out`, and returns the mask of them. This and the four below
+// are the Rust's names for `combine_two`.
 pub fn and(
     lhs: Bitmap,
     left: &[u8],
@@ -161,7 +167,7 @@ pub fn not(mask: Bitmap, bytes: &[u8], out: &mut [u8]) -> Result<Bitmap, Refusal
     check_not(mask, bytes, out.len())?;
     let n = mask.length;
     let own = mask.flags(bytes);
-    combine_frozen(Op::Not, &own, &own, &own, n, out);
+    combine(Op::Not, &own, &own, &own, n, out);
     let unset = not_counted(n);
     Ok(result_mask(mask.serial, n, unset))
 }
@@ -206,7 +212,7 @@ pub fn select(
     let a = selector.flags(by);
     let b = truthy.flags(yes);
     let c = falsy.flags(no);
-    combine_frozen(Op::Select, &a, &b, &c, n, out);
+    combine(Op::Select, &a, &b, &c, n, out);
     let unset = not_counted(n);
     let serial = select_serial(selector, truthy, falsy);
     Ok(result_mask(serial, n, unset))
@@ -228,7 +234,11 @@ pub fn select_constant(
     let n = selector.length;
     let a = selector.flags(by);
     let b = truthy.flags(yes);
-    select_frozen(&a, &b, flag, n, out);
+    if flag {
+        combine(Op::OrNot, &b, &a, &a, n, out);
+    } else {
+        combine(Op::And, &a, &b, &b, n, out);
+    }
     let unset = not_counted(n);
     let serial = pair_serial(selector, truthy);
     Ok(result_mask(serial, n, unset))

@@ -15,7 +15,6 @@ pub mod chunks;
 pub mod compare;
 pub mod cursor;
 mod extend;
-mod frozen;
 mod gather;
 pub mod iterator;
 pub mod next_and_not;

@@ -1,5 +1,5 @@
-// What the zero counts of two masks say of their combination: nothing, or that all its flags are this one. An unknown count is not
-// computed for this: the first word mostly shows that a mask is not constant.
+// What the zero counts of two masks imply about their combination: nothing, or that all its flags equal one flag. An unknown count is not
+// computed for this: the first word usually shows that a mask is not constant.
 ghost use Rattle.std.specs.Prelude.{◌≡◌, not};
 ghost use Rattle.words.specs.declared.ops.Op.TheVariants.{Xor};
 ghost use Rattle.masks.specs.Combine.{pair_shortcut, result_count};
@@ -9,7 +9,7 @@ use crate::bitmap::{Bitmap, not_counted};
 use crate::utils::{all_flags, other_early};
 use words::ops::Op;
 
-// The zeros of n flags that are all `flag`.
+// Returns the number of zeros of n flags that all equal `flag`.
 fn zeros_of_all(flag: bool, n: usize) -> usize
     ensures { result ≡ zeros_of_all flag n }
 {
@@ -27,8 +27,9 @@ fn is_all(flag: bool, mask: Bitmap, bytes: &[u8]) -> bool
     }
 }
 
-// The same, for the masks that each call asks about: it is compiled into the call, with the first word of flags, and the rest is not. The
-// slice given here stays in registers. With `is_all` in its place `and` of two masks of unknown counts took 1.16 times the instructions.
+// Returns whether all flags of a mask are `flag`, as `is_all` does, for the masks that each call tests. It is compiled into the call, with
+// the test of the first word; the rest is not, and `bytes` stays in registers. With `is_all` in its place `and` of two masks of unknown
+// counts took 1.16 times the instructions.
 fn is_all_early(flag: bool, mask: Bitmap, bytes: &[u8]) -> bool
     ensures { result ≡ is_all flag mask bytes.now }
 {
@@ -41,14 +42,15 @@ fn is_all_early(flag: bool, mask: Bitmap, bytes: &[u8]) -> bool
     }
 }
 
-// The shortcut of `and` and `or`: the result is all `flag` if either mask is.
+// Returns the shortcut of `and` (`flag` is 0) or `or` (`flag` is 1): `flag` if either mask is all `flag`, else none.
 fn either_all(flag: bool, lhs: Bitmap, left: &[u8], rhs: Bitmap, right: &[u8]) -> Option<bool>
     ensures { result ≡ either_all flag (is_all flag lhs left.now) (is_all flag rhs right.now) }
 {
     (is_all_early(flag, lhs, left) || is_all_early(flag, rhs, right)).then_some(flag)
 }
 
-// The shortcut of `xor` with a mask that is all `flag`.
+// Returns the shortcut of `xor` of `mask` with a mask that is all `flag`: 0 if `mask` is all `flag`, 1 if it is all the other flag, else
+// none.
 fn xor_all(flag: bool, mask: Bitmap, bytes: &[u8]) -> Option<bool>
     ensures { result ≡ xor_all (is_all flag mask bytes.now) (is_all (not flag) mask bytes.now) }
 {
@@ -61,7 +63,7 @@ fn xor_all(flag: bool, mask: Bitmap, bytes: &[u8]) -> Option<bool>
     None
 }
 
-// The shortcut of `xor`: both masks are constant.
+// Returns the shortcut of `xor`: a flag if both masks are constant, else none.
 fn xor_shortcut(lhs: Bitmap, left: &[u8], rhs: Bitmap, right: &[u8]) -> Option<bool>
     requires { lhs.length ≡ rhs.length }
     ensures { result ≡ pair_shortcut Xor lhs left.now rhs right.now }
@@ -75,7 +77,8 @@ fn xor_shortcut(lhs: Bitmap, left: &[u8], rhs: Bitmap, right: &[u8]) -> Option<b
     None
 }
 
-// What the counts of two masks say. One place asks for both `and` and `or`, so that the questions are compiled into it.
+// Returns the shortcut of a combination by the counts of its two masks: the flag that all its flags equal, or none. One call of
+// `either_all` serves both `and` and `or`, so that its tests are compiled in here.
 pub(crate) fn pair_shortcut(
     op: Op,
     lhs: Bitmap,
@@ -86,7 +89,7 @@ pub(crate) fn pair_shortcut(
     requires { lhs.length ≡ rhs.length }
     ensures { result ≡ pair_shortcut op lhs left.now rhs right.now }
 {
-    // a `match`: the arms name a flag to look for, another question, or none
+    // a `match`: the arms name a flag to look for, another shortcut, or none
     let flag = match op {
         Op::And => false,
         Op::Or => true,
@@ -96,7 +99,7 @@ pub(crate) fn pair_shortcut(
     either_all(flag, lhs, left, rhs, right)
 }
 
-// Returns the zero count of a result of n flags.
+// Returns the zero count of a result of n flags: n if a shortcut makes it all zeros, 0 for no flags, else unknown.
 pub(crate) fn result_count(by: Option<bool>, n: usize) -> Option<usize>
     ensures { result ≡ result_count by n }
 {

@@ -4,8 +4,8 @@ use Rattle.std.proofs.Common.{◌+◌, ◌*◌, ◌^◌, ◌≤◌, ◌<◌, ari
 use Rattle.std.proofs.Common.{length-drop, take_all, drop_of_length-le, take-append-drop, get_or-set_other}
 use Rattle.std.proofs.Math.Bool.{xor}
 use Rattle.words.specs.Flags.{digit, count}
-use Rattle.words.specs.Columns.{column, digit_of}
-use Rattle.words.specs.Planes.{planes_at, added, Added, FourMore, Grown}
+use Rattle.words.specs.Columns.{column}
+use Rattle.words.specs.Planes.{digit_of, planes_at, added, Added, FourMore, Grown}
 use Rattle.words.proofs.ColumnLaws.{flag, flag-and, flag_or, flag-xor, column-append}
 use Rattle.words.proofs.Counting.{count-append}
 use Rattle.words.proofs.PlaneLaws.{added_from, adds, carry_of, doubled, none-on, length-added}

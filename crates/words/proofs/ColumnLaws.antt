@@ -6,8 +6,9 @@ use Rattle.std.proofs.Math.ListN.{get_or-eq_default}
 use mathlib.Core.List.{zip_with}
 use Rattle.std.proofs.lemmas.Bool.{cases_lt}
 use Rattle.words.specs.Flags.{digit, bits, word_flags, count}
-use Rattle.words.specs.Columns.{digit_of, column, columns_from, column_counts}
-use Rattle.words.proofs.Bits.{length-bits, bits-and, bits-or, bits-xor, bits-zero, digit_lt}
+use Rattle.words.specs.Columns.{column, columns_from, column_counts}
+use Rattle.words.specs.Planes.{digit_of}
+use Rattle.words.proofs.Bits.{length-bits, bits-and, bits-or, bits-xor, bits-zero}
 use Rattle.words.proofs.Counting.{count-append, count-le}
 use Rattle.words.proofs.Windows.{at_copies}
 
@@ -44,9 +45,6 @@ flag_or = flag-op bit_or ◌||◌ bits-or
 -- a word has no flag 64 and none above
 pub no_digit : (w c : ℕ) → 64 ≤ c → 0 ≡ digit_of w c
 no_digit w c h = ap digit (sym (get_or-eq_default (word_flags w) false (omega (arith, length-bits 64 w))))
-
-pub digit-small : (w c : ℕ) → digit_of w c < 2
-digit-small w c = digit_lt (flag w c)
 
 -- no flag of 0 is set
 pub zero-digit : (c : ℕ) → digit_of 0 c ≡ 0

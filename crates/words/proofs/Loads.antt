@@ -6,11 +6,14 @@ use Rattle.std.proofs.Common.{shl_exact, pow_pos, lt-ltb, le-ltb, le-leb}
 use Rattle.std.proofs.Math.ListN.{get_or-eq_default}
 use Rattle.std.proofs.lemmas.Bool.{cases_lt}
 use Rattle.std.proofs.Math.Nat.{div-one}
-use Rattle.std.specs.Int.{w64, to_le_bytes}
+use Rattle.std.proofs.lemmas.List.{get_or-drop}
+use Rattle.std.proofs.lemmas.Nat.{le_bytes_8}
+use Rattle.std.specs.Array.{IsWholeChunk}
+use Rattle.std.specs.Int.{w64, to_le_bytes, from_le_bytes}
 use Rattle.words.specs.Flags.{bits, word_of, flags_of, window, over, over_at}
 use Rattle.words.proofs.Bits.{length-bits, bits-add, bits-take, bits-zero, bits-mod, word_of_bits, or-append}
 use Rattle.words.proofs.Bytes.{flags-more, flags-append, flags-take, flags-drop, flags-one, length-flags, over-part}
-use Rattle.words.proofs.Windows.{window-cut, window-drop, window-past, window-ext, at-window, in_window, bits-window, ltb-sub}
+use Rattle.words.proofs.Windows.{window-all, window-cut, window-drop, window-past, window-ext, at-window, in_window, bits-window, ltb-sub}
 
 -- ---- at most eight bytes: joined byte by byte, written as the bytes of a word
 
@@ -81,7 +84,7 @@ split-all out new w h p =
 -- ---- a part of the bytes
 
 -- the first eight bytes are enough
-pub load-first : (bs : List ℕ) (r : ℕ) → bits 64 r ≡ window (flags_of (take 8 bs)) 0 64 → bits 64 r ≡ window (flags_of bs) 0 64
+load-first : (bs : List ℕ) (r : ℕ) → bits 64 r ≡ window (flags_of (take 8 bs)) 0 64 → bits 64 r ≡ window (flags_of bs) 0 64
 load-first bs r p = p ∙ ap (λ (l : List Bool). window l 0 64) (flags-take 8 bs) ∙ front (flags_of bs)
   where
     front : (l : List Bool) → window (take 64 l) 0 64 ≡ window l 0 64
@@ -97,6 +100,26 @@ load-mid bs at r p =
     load-first (drop at bs) r (p ∙ ap (λ (n : ℕ). window (flags_of (take n (drop at bs))) 0 64) e)
     ∙ ap (λ (l : List Bool). window l 0 64) (flags-drop at bs) ∙ window-drop (flags_of bs) (8 * at) 0 64
     ∙ ap (λ (x : ℕ). window (flags_of bs) x 64) z
+
+-- eight bytes as an array
+pub load-eight : (bs part : List ℕ) (at r : ℕ) → IsWholeChunk (take (at + 8 - at) (drop at bs)) part 8
+    → ((i : ℕ) → get_or bs i 0 < 256) → r ≡ from_le_bytes w64 part → bits 64 r ≡ window (flags_of bs) (8 * at) 64
+load-eight bs part at r whole small p =
+    load-mid bs at r
+    (sym (flags-word r) ∙ ap flags_of (le_bytes_8 part r long each p) ∙ sym (window-all (flags_of part))
+    ∙ ap₂ (λ (l : List ℕ) (n : ℕ). window (flags_of l) 0 n) whole.same (length-flags part ∙ ap (λ (n : ℕ). 8 * n) long))
+  where
+    long : length part ≡ 8
+    long = ap length whole.same ∙ whole.long
+
+    each : (i : ℕ) → get_or part i 0 < 256
+    each i =
+        ⊎_elim
+        (λ (h : i < at + 8 - at). subst (λ (x : ℕ). x < 256)
+        (sym (ap (λ (l : List ℕ). get_or l i 0) whole.same ∙ get_or-take (at + 8 - at) (drop at bs) i 0 h ∙ get_or-drop at bs i 0))
+        (small (at + i)))
+        (λ (h : at + 8 - at ≤ i). subst (λ (x : ℕ). x < 256) (sym (get_or-eq_default part 0 (omega (arith, long)))) (lit< tt))
+        (cases_lt i (at + 8 - at))
 
 pub put-mid : (out part : List ℕ) (at w : ℕ) → at + 8 ≤ length out
     → flags_of part ≡ over (flags_of (take (at + 8 - at) (drop at out))) (bits 64 w)

@@ -24,7 +24,6 @@ use Rattle.words.proofs.Bits.{length-bits, halves, eqb-is_one}
 use Rattle.words.proofs.Bytes.{length-flags}
 use Rattle.words.proofs.Combining.{at-zip-in}
 use Rattle.words.proofs.Counting.{count-append}
-use Rattle.words.proofs.NthLaws.{nth-lt}
 use Rattle.words.proofs.UniformLaws.{all_none, all_cons}
 use Rattle.words.proofs.Windows.{length-window, window-all, window-cut, at_in, bits-window, length_over, over_at-past}
 
@@ -225,11 +224,7 @@ at-combined op a sa b sb c sc n j h =
 
 -- ---- the set flag number n
 
--- If more than n flags are set, `nth_place l n` is a place in the list,
-pub nth_inside : (l : List Bool) (n : ℕ) → n < count l → nth_place l n < length l
-nth_inside = nth-lt
-
--- the flag there is set,
+-- If more than n flags are set, `nth_place l n` is a place in the list (`nth-lt` of `NthLaws`), the flag there is set,
 pub nth-set : (l : List Bool) (n : ℕ) → n < count l → get_or l (nth_place l n) false ≡ true
 unfolding nth_place count
 nth-set [] n h = absurd (omega arith)

@@ -1,5 +1,5 @@
 -- Numbers of columns read off bit planes: digit by digit, each selected by the mask of its flag.
-use Rattle.std.proofs.Common.{◌≡◌, refl, sym, ap, ◌∙◌, Bool, cond, List}
+use Rattle.std.proofs.Common.{◌≡◌, refl, sym, ap, ◌∙◌, Bool, true, false, cond, List}
 use Rattle.std.proofs.Common.{ℕ, zero, suc, ◌+◌, ◌-◌, ◌*◌, ◌/◌, ◌%◌, ◌^◌, ◌≤◌, ◌<◌, pow-suc, mod-lt, zero-lt-suc}
 use Rattle.std.proofs.Common.{add-one, arith, bit_and, eqb, pow_mono, shl_exact, shr-shr, eq-eqb, ne_eqb}
 use Rattle.std.proofs.Common.{length, drop, get_or}
@@ -7,7 +7,7 @@ use Rattle.std.proofs.Common.{drop_of_length-le, drop-cons}
 use Rattle.std.proofs.Math.Pow.{field, high_ones, mod-mod-pow}
 use Rattle.std.specs.Int.Bits.{and_high}
 use Rattle.words.specs.Flags.{digit}
-use Rattle.words.specs.Planes.{planes_at, Masks}
+use Rattle.words.specs.Planes.{planes_at}
 use Rattle.words.proofs.Bits.{digit-is_one, digit_lt}
 use Rattle.words.proofs.ColumnLaws.{flag}
 use Rattle.words.proofs.Plain.{at_bits}
@@ -39,10 +39,6 @@ digits_more ps c i s d h e f =
     omega arith
 
 -- ---- a column selected by a mask
-
-pub mask_of : (ms : List ℕ) (c : ℕ) → Masks ms 32 → c < 32 → get_or ms c 0 ≡ 2 ^ c
-unfolding Masks
-mask_of ms c h p = h c p
 
 -- flag c of the 32 flags that begin at flag s
 half-bit : (p s c : ℕ) → c < 32 → p / 2 ^ s % 2 ^ 32 / 2 ^ c % 2 ≡ p / 2 ^ (s + c) % 2
@@ -83,9 +79,16 @@ digit_more ps c i s d t long h e f g =
     let all : t ≡ d * 2 ^ i = g ∙ shl_exact 1 i 32 one (omega arith) in
     ap (λ (n : ℕ). s + n + 2 ^ (i + 1) * planes_at (drop (i + 1) ps) c) all ∙ digits_more ps c i s d h e f
 
+-- what a test returns is a digit
+pub digit_few : (b : Bool) (d : ℕ) → d ≡ cond b 0 1 → d < 2
+digit_few false d e = omega arith
+digit_few true d e = omega arith
+
 -- with one more digit, a sum of i digits is below the next power of two, and one of nine digits below 512
-pub sum_more : (i s d t : ℕ) → s < 2 ^ i → i < 9 → d < 2 → t ≡ d * 2 ^ i % 2 ^ 32 → (s + t < 2 ^ (i + 1)) × (s + t < 512)
-sum_more i s d t h b k g =
+pub sum_more : (i s d t : ℕ) (b : Bool) → s < 2 ^ i → i < 9 → d ≡ cond b 0 1 → t ≡ d * 2 ^ i % 2 ^ 32
+    → (s + t < 2 ^ (i + 1)) × (s + t < 512)
+sum_more i s d t b h n e g =
+    let k : d < 2 = digit_few b d e in
     let all : t ≡ d * 2 ^ i = g ∙ shl_exact 1 i 32 k (omega arith) in
     let next : 2 ^ (i + 1) ≡ 2 ^ i * 2 = ap (λ (n : ℕ). 2 ^ n) (add-one i) ∙ pow-suc 2 i in
     let low : i + 1 ≤ 9 = omega arith in

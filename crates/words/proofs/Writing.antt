@@ -89,7 +89,7 @@ write-nothing F G len l h =
     write-none F G ∙ ap (λ (n : ℕ). over F (window G 0 n)) e
 
 -- bytes whose flags are all equal
-copies-add : (m n : ℕ) (x : Bool) → copies (m + n) x ≡ copies m x ++ copies n x
+pub copies-add : (m n : ℕ) (x : Bool) → copies (m + n) x ≡ copies m x ++ copies n x
 unfolding copies
 copies-add zero n x = rw zero-add refl
 copies-add (suc m) n x = rw suc-add (ap (λ (l : List Bool). x ∷ l) (copies-add m n x))

@@ -1,10 +1,6 @@
 -- Words as rows of flags, and how many of them have each flag set.
 use Rattle.std.specs.Prelude.{ℕ, zero, suc, Bool, false, List, [], ◌∷◌, get_or}
-use Rattle.words.specs.Flags.{word_flags, count, digit}
-
--- flag c of the word w as a number: 1 if it is set, else 0; a word has no flag 64 and none above
-abbrev pub digit_of : ℕ → ℕ → ℕ
-digit_of w c = digit (get_or (word_flags w) c false)
+use Rattle.words.specs.Flags.{word_flags, count}
 
 -- of each word of `rows`, flag c
 unfoldable pub column : List ℕ → ℕ → List Bool

@@ -2,7 +2,11 @@
 use Rattle.std.specs.Prelude.{ℕ, ◌+◌, ◌*◌, ◌^◌, ◌<◌, false, List, [], ◌∷◌, ◌≡◌, length, get_or}
 use Rattle.std.specs.Int.Bits.{bit_and, bit_xor}
 use Rattle.words.specs.Flags.{word_flags, count, digit}
-use Rattle.words.specs.Columns.{column, digit_of}
+use Rattle.words.specs.Columns.{column}
+
+-- flag c of a word as a number; a word has no flag from 64 on
+abbrev pub digit_of : ℕ → ℕ → ℕ
+digit_of w c = digit (get_or (word_flags w) c false)
 
 -- the number whose binary digits, lowest first, are the flags c of the planes
 unfoldable pub planes_at : List ℕ → ℕ → ℕ
@@ -37,7 +41,3 @@ pub record Totals (words planes left : List ℕ) : Type 0 where
 -- the numbers of the columns of `planes`, starting at column s, are the first k numbers of `out`
 unfoldable pub Wrote : List ℕ → ℕ → List ℕ → ℕ → Type 0
 Wrote planes s out k = (c : ℕ) → c < k → get_or out c 0 ≡ planes_at planes (s + c)
-
--- of `ms`, the first k numbers have one flag set each: number c has flag c
-unfoldable pub Masks : List ℕ → ℕ → Type 0
-Masks ms k = (c : ℕ) → c < k → get_or ms c 0 ≡ 2 ^ c

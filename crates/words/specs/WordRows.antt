@@ -3,7 +3,6 @@
 -- A row has the value of a definition at one input, its flags as the numbers 0 and 1, and the value of its plain reading there, worked out
 -- by hand. `proofs/WordRows.antt` proves that the two columns are equal.
 use Rattle.std.specs.Prelude.{ℕ, ◌≡◌, Bool, true, false, List, [], ◌∷◌, map, replicate}
-use Rattle.words.specs.Columns.{digit_of}
 use Rattle.words.specs.Counts.{any_set, same_flags}
 use Rattle.words.specs.Flags.{copies, digit, over_at}
 use Rattle.words.specs.Loops.{combined, whole_words}
@@ -55,8 +54,6 @@ rows =
     ∷ row (differs_early true (0 ∷ []) 0 4 ∷ differs_early true (0xF0 ∷ replicate 7 0xFF) 4 8
     ∷ differs_early true (0x0F ∷ replicate 7 0) 0 4 ∷ differs_early true (0x07 ∷ replicate 7 0) 0 4 ∷ [])
     (0 ∷ 0 ∷ 0 ∷ 1 ∷ [])
-    -- The flags 0, 1 and 2 of the word 5 as numbers.
-    ∷ record { computed = digit_of 5 0 ∷ digit_of 5 1 ∷ digit_of 5 2 ∷ []; stated = 1 ∷ 0 ∷ 1 ∷ [] }
     ∷ []
 
 -- the statement: in every row the value of the definition is that of its plain reading

@@ -1,8 +1,10 @@
-// Words as rows of 64 flags: how many of them have each flag set.
-ghost use Rattle.std.specs.Prelude.{◌≡◌, take};
-ghost use Rattle.words.specs.Columns.{column_counts, digit_of};
+// Words as rows of 64 flags: how many of them have each flag set, and half a word's flags as numbers.
+ghost use Rattle.std.specs.Prelude.{◌≡◌, ◌<◌, ◌^◌, ℕ, cond, eqb, get_or, take};
+ghost use Rattle.std.specs.Int.Bits.{bit_and};
+ghost use Rattle.words.specs.Columns.{column_counts};
 
-use crate::planes::{digit_at, spread, totals};
+use crate::planes::{spread, totals};
+use std::array;
 
 // Returns for each flag how many of the first 511 words have it set: nine planes hold no larger number. For fewer than 32 words five planes
 // are read, which halves the instructions of the reading.
@@ -18,9 +20,17 @@ pub fn column_counts(words: &[u64]) -> [u32; 64]
     }
 }
 
-// Returns flag k of w as a number: 1 if it is set, else 0; 0 also if k is 64 or more.
-pub fn flag_digit(w: u64, k: usize) -> u32
-    ensures { result ≡ digit_of w k }
+// Returns for each column of half a word the number with only its flag set. Columns are selected by numbers from memory: by shifts, four
+// columns take three times as many instructions.
+pub fn masks() -> [u32; 32]
+    ensures { (c : ℕ) → c < 32 → get_or result c 0 ≡ 2 ^ c }
 {
-    if k < 64 { digit_at(w, k) } else { 0 }
+    array::from_fn(|c| 1 << c)
+}
+
+// Returns 1 where half a word has the flag of the mask set, else 0.
+pub fn digit_by(half: u32, mask: u32) -> u32
+    ensures { result ≡ cond (eqb (bit_and half mask) 0) 0 1 }
+{
+    u32::from(half & mask != 0)
 }

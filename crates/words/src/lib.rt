@@ -2,7 +2,7 @@
 //
 // Every public function is total: it has an answer for every argument and no precondition. Flags past the end of lent bytes are zero, and
 // what does not fit an output is left out. The contracts turn numbers into lists of flags (specs/Flags.antt), so that masks and dispatch do
-// without bits, shifts and powers of two.
+// without bits, shifts and powers of two; above this crate only `exchange` of activity uses them, by `masks` and `digit_by` of columns.
 #![tactic(auto)]
 
 pub mod columns;

@@ -6,7 +6,7 @@ ghost use Rattle.words.specs.Loops.{stretch, combined, whole_words};
 
 use crate::flags::Flags;
 use crate::kernels::{Combine, each, fill_bytes};
-use crate::lanes::{Aligned, Lane, Lanes, Shifted};
+use crate::lanes::{Aligned, Lanes, Shifted};
 use crate::ops::{Op, combine_word};
 use crate::word::{constant_word, low_flags, store_at, store_le_u64};
 
@@ -43,41 +43,19 @@ pub(crate) fn triple_word<'a>(
     low_flags(combine_word(op, x, y, z), len - 64 * i)
 }
 
-// Combines three stretches and writes the result to the start of `out`, padded with zeros to whole words.
+// Combines three stretches and writes the result to the start of `out`, padded with zeros to whole words: at most a word by one store, else
+// the whole words in range by a kernel, then the rest word by word. The test for no flags is made only for a short stretch: made first,
+// `not` of 100 flags took 1.02 of the instructions.
 pub fn combine<'a>(op: Op, a: &Flags<'a>, b: &Flags<'a>, c: &Flags<'a>, len: usize, out: &mut [u8])
     ensures { flags_of out.new ≡ over (flags_of out.old) (whole_words
         (combined op a.now.bytes.now a.now.start b.now.bytes.now b.now.start c.now.bytes.now c.now.start len)) }
 {
     if len <= 64 {
-        combine_short(op, a, b, c, len, out);
-    } else {
-        combine_long(op, a, b, c, len, out);
+        if len > 0 {
+            store_le_u64(out, triple_word(op, a, b, c, len, 0));
+        }
+        return;
     }
-}
-
-// Combines three stretches as `combine` does, for at most one word, without a loop.
-fn combine_short<'a>(
-    op: Op,
-    a: &Flags<'a>,
-    b: &Flags<'a>,
-    c: &Flags<'a>,
-    len: usize,
-    out: &mut [u8],
-)
-    requires { len ≤ 64 }
-    ensures { flags_of out.new ≡ over (flags_of out.old) (whole_words
-        (combined op a.now.bytes.now a.now.start b.now.bytes.now b.now.start c.now.bytes.now c.now.start len)) }
-{
-    if len > 0 {
-        store_le_u64(out, triple_word(op, a, b, c, len, 0));
-    }
-}
-
-// Combines three stretches as `combine` does, for more than one word: whole words in range by a kernel, then the rest word by word.
-fn combine_long<'a>(op: Op, a: &Flags<'a>, b: &Flags<'a>, c: &Flags<'a>, len: usize, out: &mut [u8])
-    ensures { flags_of out.new ≡ over (flags_of out.old) (whole_words
-        (combined op a.now.bytes.now a.now.start b.now.bytes.now b.now.start c.now.bytes.now c.now.start len)) }
-{
     let n = words_for(len).min(out.len().div_ceil(8));
     let done = combine_whole(op, a, b, c, len, out);
     // a range: i is the place of a word in three stretches, which have no slices of words, and in the output: std has no clause on what a
@@ -87,7 +65,8 @@ fn combine_long<'a>(op: Op, a: &Flags<'a>, b: &Flags<'a>, c: &Flags<'a>, len: us
     }
 }
 
-// Combines the whole words that are in range, and returns how many there were.
+// Combines the whole words that are in range, and returns how many there were. It chooses the lanes: if all three stretches begin at a
+// byte, a word is one load, else two.
 fn combine_whole<'a>(
     op: Op,
     a: &Flags<'a>,
@@ -105,29 +84,15 @@ fn combine_whole<'a>(
         let x = Aligned::new(a.bytes, a.start / 8);
         let y = Aligned::new(b.bytes, b.start / 8);
         let z = Aligned::new(c.bytes, c.start / 8);
-        return combine_lanes(op, most, x, y, z, out);
+        let lanes = Lanes::new(most, x, y, z);
+        each::<Combine, Aligned, Aligned, Aligned>(op, &lanes, out);
+        return lanes.n;
     }
     let x = Shifted::new(*a);
     let y = Shifted::new(*b);
     let z = Shifted::new(*c);
-    combine_lanes(op, most, x, y, z, out)
-}
-
-// Combines as many words as three lanes have, at most `most`, and returns how many there were.
-fn combine_lanes<A: Lane, B: Lane, C: Lane>(
-    op: Op,
-    most: usize,
-    a: A,
-    b: B,
-    c: C,
-    out: &mut [u8],
-) -> usize
-    requires { 8 * most ≤ length out.old }
-    ensures { (result ≤ most) × (flags_of out.new ≡ over (flags_of out.old)
-        (combined op (A.source a) (A.start a) (B.source b) (B.start b) (C.source c) (C.start c) (64 * result))) }
-{
-    let lanes = Lanes::new(most, a, b, c);
-    each::<Combine, A, B, C>(op, &lanes, out);
+    let lanes = Lanes::new(most, x, y, z);
+    each::<Combine, Shifted, Shifted, Shifted>(op, &lanes, out);
     lanes.n
 }
 

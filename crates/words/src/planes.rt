@@ -1,11 +1,9 @@
 // Bit planes: plane i has digit i of 64 numbers, so that a word is added to all 64 with a few operations. `totals` takes fewer
 // than 512 words, so that nine planes hold each number.
-ghost use Rattle.std.specs.Prelude.{◌≡◌, cond, [], ℕ, ◌+◌, ◌^◌, ◌<◌, ◌≤◌, eqb, length};
-ghost use Rattle.std.specs.Int.Bits.{bit_and};
-ghost use Rattle.words.specs.Columns.{digit_of};
-ghost use Rattle.words.specs.Planes.{planes_at, added, Added, FourMore, Grown, Masks, Totals, Wrote};
+ghost use Rattle.std.specs.Prelude.{◌≡◌, [], ℕ, ◌+◌, ◌^◌, ◌<◌, ◌≤◌, get_or, length};
+ghost use Rattle.words.specs.Planes.{planes_at, added, Added, FourMore, Grown, Totals, Wrote};
 
-use std::array;
+use crate::columns::{digit_by, masks};
 
 // Adds w to the numbers in the planes: each plane hands its carry to the next, and that of the last is lost.
 fn add(planes: &mut [u64], w: u64)
@@ -92,30 +90,6 @@ pub(crate) fn totals(words: &[u64]) -> [u64; 9]
     planes
 }
 
-// Returns flag c of w as a number.
-pub(crate) fn digit_at(w: u64, c: usize) -> u32
-    requires { c < 64 }
-    ensures { (result ≡ digit_of w c) × (result < 2) }
-{
-    // to u32: there is no From; a digit fits
-    ((w >> c) % 2) as u32
-}
-
-// Returns for each column of half a word the number with only its flag set. Columns are selected by numbers from memory: by shifts, four
-// columns take three times as many instructions.
-fn masks() -> [u32; 32]
-    ensures { Masks result 32 }
-{
-    array::from_fn(|c| 1 << c)
-}
-
-// Returns 1 if `half` has the flag of `mask` set, else 0.
-fn digit_by(half: u32, mask: u32) -> u32
-    ensures { (result ≡ cond (eqb (bit_and half mask) 0) 0 1) × (result < 2) }
-{
-    u32::from(half & mask != 0)
-}
-
 // Returns the number of column s + c, where c is the one flag that `mask` has set.
 fn column_by<const N: usize>(planes: &[u64; N], s: usize, mask: u32) -> u32
     requires { (s ≤ 32) × (N ≤ 9) }
@@ -132,7 +106,7 @@ fn column_by<const N: usize>(planes: &[u64; N], s: usize, mask: u32) -> u32
 
 // Writes the numbers of the 32 columns that begin at column s.
 fn spread_half<const N: usize>(planes: &[u64; N], masks: &[u32; 32], s: usize, out: &mut [u32])
-    requires { (length out.old ≡ 32) × Masks masks.now 32 × ((s ≤ 32) × (N ≤ 9)) }
+    requires { (length out.old ≡ 32) × ((c : ℕ) → c < 32 → get_or masks.now c 0 ≡ 2 ^ c) × ((s ≤ 32) × (N ≤ 9)) }
     ensures { Wrote planes.now s out.new 32 }
 {
     // by place: after `iter_mut().zip(masks)` std has no clause on the numbers that were written

@@ -2,9 +2,8 @@
 ghost use Rattle.std.specs.Prelude.{false, cond, ◌≡◌, ◌++◌, ◌+◌, ◌-◌, ◌*◌, ◌%◌, ◌≤◌, ◌<◌, leb, length, take, get_or};
 ghost use Rattle.words.specs.Flags.{word_flags, copies, flags_of, count, over, over_at, window};
 
-// Joins at most eight bytes into a word. Compiles to one load if the length is known to be eight. Not by `u64::from_le_bytes`: a part
-// shorter than eight bytes is then copied into an array by a call, and `get_u32` takes 1.19 of the instructions, `count_zeros` of 40 flags
-// 1.05.
+// Joins fewer than eight bytes into a word; `full_word` loads eight. Not by `u64::from_le_bytes`: a part shorter than eight bytes is then
+// copied into an array by a call, and `get_u32` takes 1.19 of the instructions, `count_zeros` of 40 flags 1.05.
 fn join(part: &[u8]) -> u64
     requires { length part.now ≤ 8 }
     ensures { word_flags result ≡ window (flags_of part.now) 0 64 }
@@ -30,7 +29,7 @@ pub fn load_padded_le_u64(part: &[u8]) -> u64
     ensures { word_flags result ≡ window (flags_of part.now) 0 64 }
 {
     if part.len() >= 8 {
-        join(&part[..8])
+        full_word(part, 0)
     } else {
         join(part)
     }
@@ -67,24 +66,16 @@ pub fn store_whole(out: &mut [u8], at: usize, w: u64)
     }
 }
 
-// Loads the eight bytes at `at`, which are in range. The four functions that take a place in range have a `requires` for it: a type for it
-// would be a struct of the bytes and the place, built before each load.
-fn eight_bytes(bytes: &[u8], at: usize) -> u64
-    requires { at + 8 ≤ length bytes.now }
-    ensures { word_flags result ≡ window (flags_of bytes.now) (8 * at) 64 }
-{
-    let end = at + 8;
-    join(&bytes[at..end])
-}
-
-// Loads the eight bytes at `at`, which are in range, as one load: the compiler joins them here, before it sees what a caller does with the
-// word. If it sees both at once, as in `select`, whose first word is used twice, the bytes stay apart and the caller's loop is not
-// vectorised.
+// Loads the eight bytes at `at`, which are in range, as one load, from an array. Joined by a loop they stay apart if a caller uses the word
+// twice, as `select` does, and its loop is not vectorised. The three functions that take a place in range have a `requires` for it: a type
+// for it would be a struct of the bytes and the place, built before each load.
 pub(crate) fn full_word(bytes: &[u8], at: usize) -> u64
     requires { at + 8 ≤ length bytes.now }
     ensures { word_flags result ≡ window (flags_of bytes.now) (8 * at) 64 }
 {
-    eight_bytes(bytes, at)
+    let end = at + 8;
+    let part: [u8; 8] = bytes[at..end].try_into().unwrap();
+    u64::from_le_bytes(part)
 }
 
 // Stores the eight bytes of w at `at`, which are in range, as one store.

@@ -1,7 +1,7 @@
 -- An iteration exchanges one more count (`exchanged-more`) by the flags of both words (`mask-digit`).
 use Rattle.std.proofs.Common.{◌≡◌, ◌+◌, ◌<◌, refl, get_or, length, length-set, ◌∙◌, arith}
-use Rattle.words.specs.Columns.{digit_of}
-use Rattle.words.proofs.PlaneReads.{mask_of, mask-digit}
+use Rattle.words.specs.Planes.{digit_of}
+use Rattle.words.proofs.PlaneReads.{digit_few, mask-digit}
 use Rattle.activity.specs.Workers.{Holds, Exchanged}
 use Rattle.activity.proofs.WindowLaws.{exchanged-more, rest-stays}
 use Rattle.activity.proofs.exchange.exchange_half.Goals as goal
@@ -16,17 +16,17 @@ moved-requires c =
     let i = c.loop-c.c in
     let p : i < 32 = omega (arith, c.loop-c-test.true, c.requires.0) in
     let e : c.digit_by-in-loop-c.result ≡ digit_of c.args.old (c.args.s + i) =
-    mask-digit _ _ _ _ _ _ c.requires.2 p (mask_of _ _ c.requires.1 p) c.half_of-minus.ensures c.digit_by-in-loop-c.ensures.0 in
+    mask-digit _ _ _ _ _ _ c.requires.2 p (c.requires.1 _ p) c.half_of-minus.ensures c.digit_by-in-loop-c.ensures in
     let r : get_or c.loop-c.counts i 0 ≡ get_or c.args.counts.now i 0 = c.loop-c.invariant.2 i (omega arith) in
     let h = c.requires.3 i p in
-    (omega (arith, h.0), omega (arith, h.1), c.digit_by.ensures.1)
+    (omega (arith, h.0), omega (arith, h.1), digit_few _ _ c.digit_by.ensures)
 
 pub loop-c-preserved : goal.loop-c-preserved
 loop-c-preserved c =
     let p : c.loop-c.c < 32 = omega (arith, c.loop-c-test.true, c.requires.0) in
-    let m = mask_of _ _ c.requires.1 p in
-    let e = mask-digit _ _ _ _ _ _ c.requires.2 p m c.half_of-minus.ensures c.digit_by-in-loop-c.ensures.0 in
-    let f = mask-digit _ _ _ _ _ _ c.requires.2 p m c.half_of-plus.ensures c.digit_by.ensures.0 in
+    let m = c.requires.1 _ p in
+    let e = mask-digit _ _ _ _ _ _ c.requires.2 p m c.half_of-minus.ensures c.digit_by-in-loop-c.ensures in
+    let f = mask-digit _ _ _ _ _ _ c.requires.2 p m c.half_of-plus.ensures c.digit_by.ensures in
     let inv = c.loop-c.invariant in
     let q : c.loop-c.c < length c.loop-c.counts = omega (arith, inv.0) in (
       length-set _ _ _ ∙ inv.0,

@@ -17,26 +17,20 @@ overflow_add-next c =
     let found = sym (ap answer e) ∙ c.next_and_not.ensures in
     omega (arith, found_inside _ _ _ _ _ _ found _ c.in-Some.is)
 
-pub returns-in-Some-clause-answer : goal.returns-in-Some-clause-answer
-returns-in-Some-clause-answer c =
+pub returns-in-Some : goal.returns-in-Some
+returns-in-Some c =
     let e : c.next_and_not.result ≡ Ok c.in_ok-found.found = search rules in
     let found = sym (ap answer e) ∙ c.next_and_not.ensures in
-    found-way _ _ _ _ _ _ found _ (ap (λ (t : Option ℕ). moved_to t c.args.cursor) (sym c.in-Some.is))
+    record {
+      answer = found-way _ _ _ _ _ _ found _ (ap (λ (t : Option ℕ). moved_to t c.args.cursor) (sym c.in-Some.is));
+      bound = found-bound _ _ _ _ _ _ found;
+    }
 
-pub returns-in-Some-clause-bound : goal.returns-in-Some-clause-bound
-returns-in-Some-clause-bound c =
+pub returns-in-None : goal.returns-in-None
+returns-in-None c =
     let e : c.next_and_not.result ≡ Ok c.in_ok-found.found = search rules in
     let found = sym (ap answer e) ∙ c.next_and_not.ensures in
-    found-bound _ _ _ _ _ _ found
-
-pub returns-in-None-clause-answer : goal.returns-in-None-clause-answer
-returns-in-None-clause-answer c =
-    let e : c.next_and_not.result ≡ Ok c.in_ok-found.found = search rules in
-    let found = sym (ap answer e) ∙ c.next_and_not.ensures in
-    found-way _ _ _ _ _ _ found _ (ap (λ (t : Option ℕ). moved_to t c.args.cursor) (sym c.in-None.is))
-
-pub returns-in-None-clause-bound : goal.returns-in-None-clause-bound
-returns-in-None-clause-bound c =
-    let e : c.next_and_not.result ≡ Ok c.in_ok-found.found = search rules in
-    let found = sym (ap answer e) ∙ c.next_and_not.ensures in
-    found-bound _ _ _ _ _ _ found
+    record {
+      answer = found-way _ _ _ _ _ _ found _ (ap (λ (t : Option ℕ). moved_to t c.args.cursor) (sym c.in-None.is));
+      bound = found-bound _ _ _ _ _ _ found;
+    }

@@ -1,8 +1,11 @@
--- By cases on the number of the checks; if all pass, count and bytes follow from the shortcut (`pair-given`, `pair-written`).
-use mathlib.Core.Path.{refl, sym, ◌∙◌}
+-- By cases on the number of the checks; if all pass, count and bytes follow from the shortcut (`pair-given`, `pair-written`), which after
+-- the `match` is still the one that was found before it (`same`).
+use mathlib.Core.Path.{◌≡◌, refl, sym, ◌∙◌}
+use Rattle.std.proofs.Common.{rules}
 use Rattle.masks.proofs.CombineLaws.{pair_lengths, pair-refused, pair-given, pair-written}
 use Rattle.masks.proofs.RefusalLaws.{exit-is, number-ne0}
 use Rattle.masks.proofs.bitmap_ops.combine_two.Goals as goal
+use Rattle.masks.proofs.bitmap_ops.combine_two.Goals.{in-Some, in-None}
 
 pub returns-in_err-check_pair : goal.returns-in_err-check_pair
 returns-in_err-check_pair c =
@@ -14,9 +17,14 @@ pair_shortcut-by-requires c = pair_lengths _ _ _ _ _ (sym c.in_ok-check_pair.ens
 
 pub returns : goal.returns
 returns c =
-    record {
-      answer = pair-given _ _ _ _ _ _ _ c.in_ok-check_pair.ensures _ _ _ _ refl c.pair_shortcut-by.ensures
+    let same : c.match-by.by ≡ c.pair_shortcut-by.result =
+    elim c.match-by.branch [ in-Some w ↦ w.by-is ∙ sym w.in-Some.is | in-None w ↦ w.by-is ] in record {
+      answer = pair-given _ _ _ _ _ _ _ c.in_ok-check_pair.ensures _ _ _ _ refl (same ∙ c.pair_shortcut-by.ensures)
           c.result_count-unset.ensures c.pair_serial-serial.ensures c.result_mask.ensures;
-      bytes = pair-written _ _ _ _ _ _ _ c.in_ok-check_pair.ensures _ _ refl c.pair_shortcut-by.ensures
-          (rw (c.flags-a.ensures.0, c.flags-a.ensures.1, c.flags-b.ensures.0, c.flags-b.ensures.1) at c.write_result.ensures);
+      bytes = pair-written _ _ _ _ _ _ _ c.in_ok-check_pair.ensures _ _ refl c.pair_shortcut-by.ensures (search rules) (search rules)
+          (elim c.match-by.branch [
+            | in-Some w ↦ rw (w.in-Some.is, w.out-is) w.fill.ensures
+            | in-None w ↦ rw (w.in-None.is, w.out-is)
+                (rw (c.flags-a.ensures.0, c.flags-a.ensures.1, c.flags-b.ensures.0, c.flags-b.ensures.1) at w.combine.ensures)
+          ]);
     }

@@ -1,5 +1,6 @@
 -- By cases on the number of the checks; the operation `Not` reads only the first of three lists (`not-each`).
 use mathlib.Core.Path.{refl, ◌∙◌}
+use Rattle.std.proofs.Common.{rules}
 use Rattle.masks.proofs.CombineLaws.{each-refused, each-given, not-each, one-serial}
 use Rattle.masks.proofs.RefusalLaws.{exit-is, number-ne0}
 use Rattle.masks.proofs.bitmap_ops.not.Goals as goal
@@ -12,6 +13,6 @@ returns-in_err-check_not c =
 pub returns : goal.returns
 returns c =
     let both = each-given _ _ _ _ _ _ c.in_ok-check_not.ensures _ _ _ _ _ refl
-    c.not_counted-unset.ensures (one-serial _) c.result_mask.ensures
-    (rw (c.flags-own.ensures.0, c.flags-own.ensures.1) at c.combine_frozen.ensures) (not-each _ _ _) in
+    c.not_counted-unset.ensures (one-serial _) c.result_mask.ensures (search rules) (search rules)
+    (rw (c.flags-own.ensures.0, c.flags-own.ensures.1) at c.combine.ensures) (not-each _ _ _) in
     record { answer = both.0; bytes = both.1 }

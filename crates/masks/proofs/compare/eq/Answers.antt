@@ -3,8 +3,8 @@ use mathlib.Core.Path.{refl, sym, ap, ◌∙◌}
 use Rattle.words.proofs.Windows.{length-window}
 use Rattle.masks.specs.Answer.{given}
 use Rattle.masks.specs.Compare.{eq_of}
-use Rattle.masks.proofs.CheckLaws.{two-pieces, is-given, is-refused}
-use Rattle.masks.proofs.RefusalLaws.{exit-is, number-ne0}
+use Rattle.masks.proofs.CheckLaws.{two-pieces, is-given}
+use Rattle.masks.proofs.RefusalLaws.{exit-refused}
 use Rattle.masks.proofs.CompareLaws.{lengths_differ, same-length-eq}
 use borrow.Author.Tests.{ne_eqb}
 use Rattle.masks.proofs.compare.eq.Goals as goal
@@ -12,8 +12,8 @@ use Rattle.masks.proofs.compare.eq.Goals as goal
 pub returns-in_err-earlier : goal.returns-in_err-earlier
 unfolding eq_of
 returns-in_err-earlier c =
-    exit-is _ _ c.from_residual.ensures.1
-    ∙ is-refused _ _ _ _ (two-pieces _ _ _ _ _ c.in_err-earlier.ensures c.check_mask.ensures c.check_mask-2.ensures) (number-ne0 _)
+    exit-refused _ _ c.from_residual.ensures.1 _
+    (two-pieces _ _ _ _ _ c.in_err-earlier.ensures c.check_mask.ensures c.check_mask-2.ensures) _
 
 pub returns-else-n-rhs : goal.returns-else-n-rhs
 unfolding eq_of

@@ -2,17 +2,17 @@
 use mathlib.Core.Path.{refl, sym, ap, ◌∙◌}
 use Rattle.masks.specs.Answer.{given}
 use Rattle.masks.specs.Compare.{common_of, common_checks}
-use Rattle.masks.proofs.CheckLaws.{two-pieces, one-check, is-refused, is-given}
+use Rattle.masks.proofs.CheckLaws.{two-pieces, one-check, is-given}
 use Rattle.masks.proofs.CompareLaws.{common-ones, common_lengths}
-use Rattle.masks.proofs.RefusalLaws.{exit-is, number-ne0}
+use Rattle.masks.proofs.RefusalLaws.{exit-refused}
 use Rattle.masks.proofs.compare.num_intersections_with.Goals as goal
 
 pub returns-in_err-earlier : goal.returns-in_err-earlier
 unfolding common_of common_checks
 returns-in_err-earlier c =
-    exit-is _ _ c.from_residual.ensures.1 ∙ is-refused _ _ _ _ (two-pieces _ _ _ _ _ c.in_err-earlier.ensures c.check_mask.ensures
+    exit-refused _ _ c.from_residual.ensures.1 _ (two-pieces _ _ _ _ _ c.in_err-earlier.ensures c.check_mask.ensures
     (two-pieces _ _ _ _ _ c.earlier.ensures c.check_mask-second.ensures
-    (one-check _ _ _ _ c.check-same.ensures refl))) (number-ne0 _)
+    (one-check _ _ _ _ c.check-same.ensures refl))) _
 
 pub returns : goal.returns
 unfolding common_of common_checks

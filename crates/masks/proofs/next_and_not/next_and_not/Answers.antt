@@ -4,14 +4,14 @@ use mathlib.Core.Path.{refl, sym, ap, ◌∙◌}
 use native.Mathlib.Omega.{arith}
 use Rattle.masks.specs.Answer.{given}
 use Rattle.masks.specs.NextAndNot.{next_and_not_of}
-use Rattle.masks.proofs.CheckLaws.{is-given, is-refused}
+use Rattle.masks.proofs.CheckLaws.{is-given}
 use Rattle.masks.proofs.NextAndNotLaws.{before-allowed, found-ahead, found_before, found_none, found-word, free-length, next-allowed}
-use Rattle.masks.proofs.RefusalLaws.{exit-is, number-ne0}
+use Rattle.masks.proofs.RefusalLaws.{exit-refused}
 use Rattle.masks.proofs.next_and_not.next_and_not.Goals as goal
 
 pub returns-in_err-check_next : goal.returns-in_err-check_next
 unfolding next_and_not_of
-returns-in_err-check_next c = exit-is _ _ c.from_residual.ensures.1 ∙ is-refused _ _ _ _ c.in_err-check_next.ensures (number-ne0 _)
+returns-in_err-check_next c = exit-refused _ _ c.from_residual.ensures.1 _ c.in_err-check_next.ensures _
 
 pub free_word-word-requires : goal.free_word-word-requires
 free_word-word-requires c =

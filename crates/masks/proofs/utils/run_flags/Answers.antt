@@ -3,9 +3,9 @@ use mathlib.Core.Path.{refl, sym, ap, ◌∙◌}
 use native.Mathlib.Omega.{arith}
 use Rattle.masks.specs.Answer.{given}
 use Rattle.masks.specs.Utils.{span_count}
-use Rattle.masks.proofs.CheckLaws.{is-refused, is-given, is-empty, not-empty}
+use Rattle.masks.proofs.CheckLaws.{is-given, is-empty, not-empty}
 use Rattle.masks.proofs.SplitLaws.{aligned-allowed}
-use Rattle.masks.proofs.RefusalLaws.{exit-is, number-ne0}
+use Rattle.masks.proofs.RefusalLaws.{exit-not-empty}
 use Rattle.masks.proofs.utils.run_flags.Goals as goal
 
 pub returns-then-length-eq0 : goal.returns-then-length-eq0
@@ -15,8 +15,7 @@ returns-then-length-eq0 g c = is-empty _ _ _ c.if-length-eq0.true
 pub returns-in_err-check_aligned : goal.returns-in_err-check_aligned
 unfolding span_count
 returns-in_err-check_aligned g c =
-    exit-is _ _ c.from_residual.ensures.1
-    ∙ not-empty _ _ _ _ c.if-length-eq0.false (is-refused _ _ _ _ c.in_err-check_aligned.ensures (number-ne0 _))
+    exit-not-empty _ _ c.from_residual.ensures.1 _ c.if-length-eq0.false _ c.in_err-check_aligned.ensures _ _
 
 pub overflow_add-start : goal.overflow_add-start
 overflow_add-start g c =

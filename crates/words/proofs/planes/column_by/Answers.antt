@@ -8,16 +8,16 @@ loop-i-init g c = (omega arith, λ col h e. digits_none _ _)
 
 pub overflow_add-sum : goal.overflow_add-sum
 overflow_add-sum g c =
-    let more = sum_more _ _ _ _ c.loop-i.invariant.0 (omega arith) c.digit_by.ensures.1 refl in
+    let more = sum_more _ _ _ _ _ c.loop-i.invariant.0 (omega arith) c.digit_by.ensures refl in
     omega (arith, more.1)
 
 pub loop-i-preserved : goal.loop-i-preserved
 loop-i-preserved g c =
-    let more = sum_more _ _ _ _ c.loop-i.invariant.0 (omega arith) c.digit_by.ensures.1 refl in (
+    let more = sum_more _ _ _ _ _ c.loop-i.invariant.0 (omega arith) c.digit_by.ensures refl in (
       more.0,
       λ col h e. column_more _ _ _ _ _ _ _ _
           (omega (arith, c.told-planes, c.requires.1)) (omega (arith, c.told-planes)) c.requires.0 h e (c.loop-i.invariant.1 col h e) refl
-          c.digit_by.ensures.0,
+          c.digit_by.ensures,
     )
 
 pub returns : goal.returns

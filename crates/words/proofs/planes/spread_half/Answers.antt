@@ -1,7 +1,6 @@
--- The invariant: the first c numbers are written (`wrote_step`), each by the mask of its column (`mask_of`).
+-- The invariant: the first c numbers are written (`wrote_step`).
 use Rattle.std.proofs.Common.{arith}
 use Rattle.words.proofs.PlaneLaws.{wrote_none, wrote_step}
-use Rattle.words.proofs.PlaneReads.{mask_of}
 use Rattle.words.proofs.planes.spread_half.Goals as goal
 
 pub loop-c-init : goal.loop-c-init
@@ -10,4 +9,4 @@ loop-c-init g c = wrote_none _ _ _
 pub loop-c-preserved : goal.loop-c-preserved
 loop-c-preserved g c =
     wrote_step _ _ _ _ _ (omega arith) c.loop-c.invariant
-    (c.column_by.ensures _ (omega arith) (mask_of _ _ c.requires.1 (omega arith)))
+    (c.column_by.ensures _ (omega arith) (c.requires.1 _ (omega arith)))

@@ -3,9 +3,9 @@ use Rattle.std.proofs.Common.{rules}
 use mathlib.Core.Path.{refl, sym, ap, ◌∙◌}
 use Rattle.masks.specs.Aligned.{aligned_of}
 use Rattle.masks.specs.Answer.{given}
-use Rattle.masks.proofs.CheckLaws.{is-refused, is-given, is-empty, not-empty}
+use Rattle.masks.proofs.CheckLaws.{is-given, is-empty, not-empty}
 use Rattle.masks.proofs.SplitLaws.{aligned-allowed}
-use Rattle.masks.proofs.RefusalLaws.{exit-is, number-ne0}
+use Rattle.masks.proofs.RefusalLaws.{exit-not-empty}
 use Rattle.masks.proofs.aligned.AlignedBitmapSlice.new.Goals as goal
 
 pub returns-then-length-eq0 : goal.returns-then-length-eq0
@@ -15,8 +15,7 @@ returns-then-length-eq0 c = ap given (search rules) ∙ is-empty _ _ _ c.if-leng
 pub returns-in_err-check_aligned : goal.returns-in_err-check_aligned
 unfolding aligned_of
 returns-in_err-check_aligned c =
-    exit-is _ _ c.from_residual.ensures.1
-    ∙ not-empty _ _ _ _ c.if-length-eq0.false (is-refused _ _ _ _ c.in_err-check_aligned.ensures (number-ne0 _))
+    exit-not-empty _ _ c.from_residual.ensures.1 _ c.if-length-eq0.false _ c.in_err-check_aligned.ensures _ _
 
 pub invariant_of-span : goal.invariant_of-span
 invariant_of-span c =

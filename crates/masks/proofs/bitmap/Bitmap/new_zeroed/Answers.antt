@@ -3,8 +3,10 @@ use Rattle.masks.specs.Answer.{given}
 use Rattle.masks.specs.Checks.{rank, place_in, output_checks}
 use Rattle.masks.specs.Mask.{new_zeroed_of, new_zeroed_bytes, zeroed_checks}
 use mathlib.Core.Path.{refl, ◌∙◌, ap}
-use Rattle.masks.proofs.CheckLaws.{first-number, passed-before, is-refused, is-given, is-kept, is-new}
-use Rattle.masks.proofs.RefusalLaws.{exit-is, number-ne0}
+use Rattle.std.proofs.Common.{rules}
+use Rattle.masks.proofs.CombineLaws.{frozen-written}
+use Rattle.masks.proofs.CheckLaws.{first-number, passed-before, is-given, is-kept, is-new}
+use Rattle.masks.proofs.RefusalLaws.{exit-refused, number-ne0}
 use Rattle.masks.proofs.bitmap.Bitmap.new_zeroed.Goals as goal
 
 pub returns-in_err-check_limit : goal.returns-in_err-check_limit
@@ -12,7 +14,7 @@ unfolding new_zeroed_of new_zeroed_bytes zeroed_checks output_checks rank place_
 returns-in_err-check_limit c =
     let number = first-number _ _ 8 _ refl c.in_err-check_limit.ensures (number-ne0 _) in
     record {
-      answer = exit-is _ _ c.from_residual.ensures.1 ∙ is-refused _ _ _ _ number (number-ne0 _);
+      answer = exit-refused _ _ c.from_residual.ensures.1 _ number _;
       bytes = is-kept _ _ _ _ number (number-ne0 _);
     }
 
@@ -21,7 +23,7 @@ unfolding new_zeroed_of new_zeroed_bytes zeroed_checks
 returns-in_err-check_output c =
     let number = passed-before _ _ _ _ c.in_ok-check_limit.ensures refl c.in_err-check_output.ensures in
     record {
-      answer = exit-is _ _ c.from_residual-in_err-check_output.ensures.1 ∙ is-refused _ _ _ _ number (number-ne0 _);
+      answer = exit-refused _ _ c.from_residual-in_err-check_output.ensures.1 _ number _;
       bytes = is-kept _ _ _ _ number (number-ne0 _);
     }
 
@@ -30,5 +32,5 @@ unfolding new_zeroed_of new_zeroed_bytes zeroed_checks
 returns c =
     let number = passed-before _ _ _ _ c.in_ok-check_limit.ensures refl c.in_ok-check_output.ensures in record {
       answer = ap given c.mask_of.ensures ∙ is-given _ _ _ _ number refl;
-      bytes = c.fill_frozen.ensures ∙ is-new _ _ _ _ number refl;
+      bytes = frozen-written _ _ _ (search rules) (search rules) c.fill.ensures ∙ is-new _ _ _ _ number refl;
     }

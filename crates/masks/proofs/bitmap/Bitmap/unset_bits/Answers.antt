@@ -1,12 +1,12 @@
 -- By cases on the number of the mask's checks; if all pass, the span is within the limit (`mask-allowed`), as `zero_count` requires.
-use Rattle.std.proofs.Common.{rules, Err, ◌≡◌, arith, ◌≡◌, ℕ, Option}
+use Rattle.std.proofs.Common.{rules, ◌≡◌, arith, ◌≡◌, ℕ, Option}
 use mathlib.Core.Path.{sym, ap, ◌∙◌}
 use Rattle.masks.specs.declared.bitmap.Bitmap.{Bitmap}
 use Rattle.masks.specs.Answer.{given}
 use Rattle.masks.specs.Mask.{count_or, mask_flags, unset_bits_of, zero_count}
 use Rattle.masks.specs.Utils.{zeros}
 use Rattle.masks.proofs.CheckLaws.{is-given}
-use Rattle.masks.proofs.RefusalLaws.{with_state, back-refused, passed-back}
+use Rattle.masks.proofs.RefusalLaws.{back-refused, passed-back}
 use Rattle.masks.proofs.MaskLaws.{mask-allowed}
 use Rattle.masks.proofs.bitmap.Bitmap.unset_bits.Goals.{in-Some, in-None}
 use Rattle.masks.proofs.bitmap.Bitmap.unset_bits.Goals as goal
@@ -14,8 +14,7 @@ use Rattle.masks.proofs.bitmap.Bitmap.unset_bits.Goals as goal
 pub returns-in_err-map_err : goal.returns-in_err-map_err
 unfolding unset_bits_of
 returns-in_err-map_err c =
-    let was : Err c.in_err-map_err.field-0.0 ≡ with_state c.check_mask.result c.args.self = search rules in
-    back-refused _ _ _ was _ c.from_residual.ensures.1 _ c.check_mask.ensures _
+    back-refused _ _ _ (search rules) _ c.from_residual.ensures.1 _ c.check_mask.ensures _
 
 pub invariant_of-span : goal.invariant_of-span
 invariant_of-span c =

@@ -1,16 +1,16 @@
 -- Flags for which the word in progress has room are joined to it: no check fails (`constant-passed`). Else by cases on the number of the
 -- checks: `refused-way`, or `append-way` of the worker.
-use Rattle.std.proofs.Common.{rules, Err, ◌≡◌}
+use Rattle.std.proofs.Common.{rules}
 use mathlib.Core.Path.{refl, sym, ap, ◌∙◌}
 use native.Mathlib.Omega.{arith}
 use Rattle.words.proofs.Windows.{length-copies}
 use Rattle.masks.specs.Appends.{constant_checks}
 use Rattle.masks.specs.Builder.{appended}
-use Rattle.masks.proofs.CheckLaws.{refused-way, two-pieces, passed-left}
+use Rattle.masks.proofs.CheckLaws.{two-pieces, passed-left}
 use Rattle.masks.proofs.AppendLaws.{append-way}
 use Rattle.masks.proofs.InsideLaws.{constant-passed, front-padded, inside-padded}
 use Rattle.masks.proofs.RoomLaws.{room_of}
-use Rattle.masks.proofs.RefusalLaws.{with_state, passed-back, failed-back, back-is}
+use Rattle.masks.proofs.RefusalLaws.{passed-back, refused-way}
 use Rattle.masks.proofs.builder.BitmapBuilder.extend_constant.Goals as goal
 
 pub push_inside-requires : goal.push_inside-requires
@@ -28,11 +28,9 @@ returns-then-fits_inside c =
 pub returns-in_err-map_err : goal.returns-in_err-map_err
 unfolding constant_checks
 returns-in_err-map_err c =
-    let was : Err c.in_err-map_err.field-0.0 ≡ with_state c.earlier.result c.args.self = search rules in
-    let both =
-    refused-way _ _ _ _ (two-pieces _ _ _ _ _ c.earlier.ensures c.check_builder.ensures c.check_limit.ensures) _ _
-    (failed-back _ _ _ was) in
-    record { answer = back-is _ _ _ was _ c.from_residual.ensures.1 ∙ both.0; bytes = both.1 }
+    let both = refused-way _ c.args.self _ (search rules) _ c.from_residual.ensures.1 _
+    (two-pieces _ _ _ _ _ c.earlier.ensures c.check_builder.ensures c.check_limit.ensures) _ _ _ in
+    record { answer = both.0; bytes = both.1 }
 
 pub append_copies-requires : goal.append_copies-requires
 append_copies-requires c =

@@ -1,27 +1,25 @@
 -- By cases on the number of the checks: `refused-way` or `append-way`. Flags of one load for which the word in progress has room are
 -- appended here, more by the worker.
-use Rattle.std.proofs.Common.{rules, Err, ◌≡◌}
+use Rattle.std.proofs.Common.{rules}
 use Prim.Native.Nat.{◌≤◌}
 use mathlib.Core.Path.{ap, ◌∙◌}
 use native.Mathlib.Omega.{arith}
 use Rattle.words.proofs.Loads.{near-first}
 use Rattle.masks.specs.Appends.{span_grow_checks}
 use Rattle.masks.specs.Builder.{appended}
-use Rattle.masks.proofs.CheckLaws.{refused-way}
 use Rattle.masks.proofs.AppendLaws.{append-way}
 use Rattle.masks.proofs.ExtendLaws.{few-inside}
 use Rattle.masks.proofs.InsideLaws.{front-padded, inside-padded}
 use Rattle.masks.proofs.PartLaws.{length-low}
 use Rattle.masks.proofs.RoomLaws.{grow-allowed}
-use Rattle.masks.proofs.RefusalLaws.{with_state, passed-back, failed-back, back-is}
+use Rattle.masks.proofs.RefusalLaws.{passed-back, refused-way}
 use Rattle.masks.proofs.builder.BitmapBuilder.extend_from_slice.Goals as goal
 
 pub returns-in_err-map_err : goal.returns-in_err-map_err
 unfolding span_grow_checks
 returns-in_err-map_err c =
-    let was : Err c.in_err-map_err.field-0.0 ≡ with_state c.check_span_grow.result c.args.self = search rules in
-    let both = refused-way _ _ _ _ c.check_span_grow.ensures _ _ (failed-back _ _ _ was) in
-    record { answer = back-is _ _ _ was _ c.from_residual.ensures.1 ∙ both.0; bytes = both.1 }
+    let both = refused-way _ c.args.self _ (search rules) _ c.from_residual.ensures.1 _ c.check_span_grow.ensures _ _ _ in
+    record { answer = both.0; bytes = both.1 }
 
 pub push_inside-requires : goal.push_inside-requires
 push_inside-requires c =

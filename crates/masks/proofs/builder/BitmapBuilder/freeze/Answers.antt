@@ -1,17 +1,17 @@
 -- By cases on the number of the checks: `refused-way` or `given-way`; if all pass, the ones are at most the length (`ones-fit`).
-use Rattle.std.proofs.Common.{rules, Err, ◌≡◌}
+use Rattle.std.proofs.Common.{rules}
 use mathlib.Core.Path.{sym, ◌∙◌}
-use Rattle.masks.proofs.CheckLaws.{refused-way, given-way}
+use Rattle.masks.proofs.CheckLaws.{given-way}
 use Rattle.masks.proofs.FreezeLaws.{same-checks, ones-fit}
 use Rattle.masks.proofs.RoomLaws.{room_of}
-use Rattle.masks.proofs.RefusalLaws.{with_state, passed-back, failed-back, back-is}
+use Rattle.masks.proofs.RefusalLaws.{passed-back, refused-way}
 use Rattle.masks.proofs.builder.BitmapBuilder.freeze.Goals as goal
 
 pub returns-in_err-map_err : goal.returns-in_err-map_err
 returns-in_err-map_err c =
-    let was : Err c.in_err-map_err.field-0.0 ≡ with_state c.check_builder.result c.args.self = search rules in
-    let both = refused-way _ _ _ _ (same-checks _ _ _ c.check_builder.ensures) _ _ (failed-back _ _ _ was) in
-    record { answer = back-is _ _ _ was _ c.from_residual.ensures.1 ∙ both.0; bytes = both.1 }
+    let both = refused-way _ c.args.self _ (search rules) _ c.from_residual.ensures.1 _
+    (same-checks _ _ _ c.check_builder.ensures) _ _ _ in
+    record { answer = both.0; bytes = both.1 }
 
 pub finish-requires : goal.finish-requires
 finish-requires c = room_of _ _ _ (sym c.check_builder.ensures ∙ (passed-back _ _ _ c.map_err.ensures.variant c.in_ok-map_err.was))

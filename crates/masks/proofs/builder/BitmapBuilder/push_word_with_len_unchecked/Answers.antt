@@ -1,21 +1,19 @@
 -- By cases on the number of the checks: `refused-way` or `append-way`; if all pass, k is at most 64 (`word-allowed`), and there is room.
-use Rattle.std.proofs.Common.{rules, Err, ◌≡◌}
+use Rattle.std.proofs.Common.{rules}
 use mathlib.Core.Path.{sym, ◌∙◌}
 use Rattle.masks.specs.Appends.{word_checks}
-use Rattle.masks.proofs.CheckLaws.{refused-way, two-pieces, passed-left, passed-right}
+use Rattle.masks.proofs.CheckLaws.{two-pieces, passed-left, passed-right}
 use Rattle.masks.proofs.AppendLaws.{append-way}
 use Rattle.masks.proofs.RoomLaws.{room_of, word-allowed}
-use Rattle.masks.proofs.RefusalLaws.{with_state, passed-back, failed-back, back-is}
+use Rattle.masks.proofs.RefusalLaws.{passed-back, refused-way}
 use Rattle.masks.proofs.builder.BitmapBuilder.push_word_with_len_unchecked.Goals as goal
 
 pub returns-in_err-map_err : goal.returns-in_err-map_err
 unfolding word_checks
 returns-in_err-map_err c =
-    let was : Err c.in_err-map_err.field-0.0 ≡ with_state c.earlier.result c.args.self = search rules in
-    let both =
-    refused-way _ _ _ _ (two-pieces _ _ _ _ _ c.earlier.ensures c.check_builder.ensures c.check_word.ensures) _ _
-    (failed-back _ _ _ was) in
-    record { answer = back-is _ _ _ was _ c.from_residual.ensures.1 ∙ both.0; bytes = both.1 }
+    let both = refused-way _ c.args.self _ (search rules) _ c.from_residual.ensures.1 _
+    (two-pieces _ _ _ _ _ c.earlier.ensures c.check_builder.ensures c.check_word.ensures) _ _ _ in
+    record { answer = both.0; bytes = both.1 }
 
 pub push_flags-requires : goal.push_flags-requires
 push_flags-requires c =

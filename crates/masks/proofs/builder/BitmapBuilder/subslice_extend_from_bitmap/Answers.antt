@@ -1,23 +1,23 @@
 -- By cases on the number of the checks: `refused-way` or `append-way`; a piece inside the mask is a stretch of the bytes (`in_window`).
-use Rattle.std.proofs.Common.{rules, Err, ◌≡◌}
+use Rattle.std.proofs.Common.{rules}
 use mathlib.Core.Path.{sym, ap, ◌∙◌}
 use native.Mathlib.Omega.{arith}
 use Rattle.words.proofs.Windows.{in_window}
 use Rattle.masks.specs.Appends.{subslice_checks}
 use Rattle.masks.specs.Builder.{appended}
-use Rattle.masks.proofs.CheckLaws.{refused-way, two-pieces, passed-left, passed-right}
+use Rattle.masks.proofs.CheckLaws.{two-pieces, passed-left, passed-right}
 use Rattle.masks.proofs.AppendLaws.{append-way}
 use Rattle.masks.proofs.RoomLaws.{room_of, inner-allowed}
-use Rattle.masks.proofs.RefusalLaws.{with_state, back-is, failed-back, passed-back}
+use Rattle.masks.proofs.RefusalLaws.{passed-back, refused-way}
 use Rattle.masks.proofs.builder.BitmapBuilder.subslice_extend_from_bitmap.Goals as goal
 
 pub returns-in_err-map_err : goal.returns-in_err-map_err
 unfolding subslice_checks
 returns-in_err-map_err c =
-    let was : Err c.in_err-map_err.field-0.0 ≡ with_state c.earlier-2.result c.args.self = search rules in
-    let both = refused-way _ _ _ _ (two-pieces _ _ _ _ _ c.earlier-2.ensures c.check_mask.ensures
-    (two-pieces _ _ _ _ _ c.earlier.ensures c.check_inner.ensures c.check_builder.ensures)) _ _ (failed-back _ _ _ was) in
-    record { answer = back-is _ _ _ was _ c.from_residual.ensures.1 ∙ both.0; bytes = both.1 }
+    let both = refused-way _ c.args.self _ (search rules) _ c.from_residual.ensures.1 _
+    (two-pieces _ _ _ _ _ c.earlier-2.ensures c.check_mask.ensures
+    (two-pieces _ _ _ _ _ c.earlier.ensures c.check_inner.ensures c.check_builder.ensures)) _ _ _ in
+    record { answer = both.0; bytes = both.1 }
 
 pub overflow_add-span : goal.overflow_add-span
 overflow_add-span c =

@@ -7,15 +7,13 @@ use Rattle.masks.proofs.CheckLaws.{is-given}
 use Rattle.masks.proofs.ChunkLaws.{a_word, no_word}
 use Rattle.masks.proofs.CursorLaws.{cursor-allowed}
 use borrow.Author.Rules.{rules}
-use Rattle.std.proofs.Common.{Err, ◌≡◌}
-use Rattle.masks.proofs.RefusalLaws.{with_state, passed-back, step-refused}
+use Rattle.masks.proofs.RefusalLaws.{passed-back, step-refused}
 use Rattle.masks.proofs.chunks.BitChunks.next.Goals as goal
 
 pub returns-in_err-map_err : goal.returns-in_err-map_err
 unfolding next_chunk
 returns-in_err-map_err c =
-    let was : Err c.in_err-map_err.field-0.0 ≡ with_state c.check_cursor.result c.args.self = search rules in
-    step-refused _ _ _ was _ c.from_residual.ensures.1 _ c.check_cursor.ensures _
+    step-refused _ _ _ (search rules) _ c.from_residual.ensures.1 _ c.check_cursor.ensures _
 
 pub returns-then-self : goal.returns-then-self
 unfolding next_chunk

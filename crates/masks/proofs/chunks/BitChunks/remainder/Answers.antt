@@ -1,5 +1,5 @@
 -- By cases on the number of the cursor's checks; the rest begins `length % 64` flags before the span's end (`remainder-value`).
-use Rattle.std.proofs.Common.{rules, Err, ◌≡◌}
+use Rattle.std.proofs.Common.{rules}
 use mathlib.Core.Path.{sym, ap, ◌∙◌}
 use native.Mathlib.Omega.{arith}
 use Prim.Native.Nat.{ℕ, ◌%◌}
@@ -8,14 +8,13 @@ use Rattle.masks.specs.Chunks.{chunks_remainder}
 use Rattle.masks.proofs.CheckLaws.{is-given}
 use Rattle.masks.proofs.ChunkLaws.{remainder-value}
 use Rattle.masks.proofs.CursorLaws.{cursor-allowed}
-use Rattle.masks.proofs.RefusalLaws.{with_state, back-refused, passed-back}
+use Rattle.masks.proofs.RefusalLaws.{back-refused, passed-back}
 use Rattle.masks.proofs.chunks.BitChunks.remainder.Goals as goal
 
 pub returns-in_err-map_err : goal.returns-in_err-map_err
 unfolding chunks_remainder
 returns-in_err-map_err c =
-    let was : Err c.in_err-map_err.field-0.0 ≡ with_state c.check_cursor.result c.args.self = search rules in
-    back-refused _ _ _ was _ c.from_residual.ensures.1 _ c.check_cursor.ensures _
+    back-refused _ _ _ (search rules) _ c.from_residual.ensures.1 _ c.check_cursor.ensures _
 
 pub overflow_add-first : goal.overflow_add-first
 overflow_add-first c =

@@ -3,8 +3,8 @@ use Rattle.std.proofs.Common.{rules}
 use mathlib.Core.Path.{refl, ap, ◌∙◌}
 use Rattle.masks.specs.Answer.{given}
 use Rattle.masks.specs.Iterator.{new_iter}
-use Rattle.masks.proofs.CheckLaws.{is-refused, is-given, is-empty, not-empty}
-use Rattle.masks.proofs.RefusalLaws.{exit-is, number-ne0}
+use Rattle.masks.proofs.CheckLaws.{is-given, is-empty, not-empty}
+use Rattle.masks.proofs.RefusalLaws.{exit-not-empty}
 use Rattle.masks.proofs.iterator.BitmapIter.new.Goals as goal
 
 pub returns-then-length-eq0 : goal.returns-then-length-eq0
@@ -14,8 +14,7 @@ returns-then-length-eq0 c = ap given (search rules) ∙ is-empty _ _ _ c.if-leng
 pub returns-in_err-check_span : goal.returns-in_err-check_span
 unfolding new_iter
 returns-in_err-check_span c =
-    exit-is _ _ c.from_residual.ensures.1
-    ∙ not-empty _ _ _ _ c.if-length-eq0.false (is-refused _ _ _ _ c.in_err-check_span.ensures (number-ne0 _))
+    exit-not-empty _ _ c.from_residual.ensures.1 _ c.if-length-eq0.false _ c.in_err-check_span.ensures _ _
 
 pub returns : goal.returns
 unfolding new_iter

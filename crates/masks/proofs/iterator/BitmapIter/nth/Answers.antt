@@ -1,5 +1,5 @@
 -- By cases on the number of the cursor's checks; then on n and the number of flags left: `no_flag` or `a-flag`.
-use Rattle.std.proofs.Common.{rules, Err, ◌≡◌}
+use Rattle.std.proofs.Common.{rules}
 use mathlib.Core.Path.{sym, ap, ◌∙◌}
 use native.Mathlib.Omega.{arith}
 use Rattle.masks.specs.Answer.{given}
@@ -9,14 +9,13 @@ use Rattle.masks.specs.declared.iterator.BitmapIter.{BitmapIter}
 use Rattle.masks.proofs.CheckLaws.{is-given}
 use Rattle.masks.proofs.CursorLaws.{cursor-allowed}
 use Rattle.masks.proofs.IteratorLaws.{a-flag, no_flag}
-use Rattle.masks.proofs.RefusalLaws.{with_state, passed-back, step-refused}
+use Rattle.masks.proofs.RefusalLaws.{passed-back, step-refused}
 use Rattle.masks.proofs.iterator.BitmapIter.nth.Goals as goal
 
 pub returns-in_err-map_err : goal.returns-in_err-map_err
 unfolding nth_flag
 returns-in_err-map_err c =
-    let was : Err c.in_err-map_err.field-0.0 ≡ with_state c.check_cursor.result c.args.self = search rules in
-    step-refused _ _ _ was _ c.from_residual.ensures.1 _ c.check_cursor.ensures _
+    step-refused _ _ _ (search rules) _ c.from_residual.ensures.1 _ c.check_cursor.ensures _
 
 pub overflow_sub-self : goal.overflow_sub-self
 overflow_sub-self c =

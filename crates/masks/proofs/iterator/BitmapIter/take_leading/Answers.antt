@@ -1,5 +1,5 @@
 -- By cases on the number of the cursor's checks; the run of equal flags ends inside the span (`alike-inside`), so the place fits.
-use Rattle.std.proofs.Common.{rules, Err, ◌≡◌}
+use Rattle.std.proofs.Common.{rules}
 use mathlib.Core.Path.{sym, ap, ◌∙◌}
 use Prim.Native.Nat.{ℕ, ◌+◌}
 use native.Mathlib.Omega.{arith}
@@ -9,14 +9,13 @@ use Rattle.masks.specs.Iterator.{take_leading, moved_to}
 use Rattle.masks.proofs.CheckLaws.{is-given}
 use Rattle.masks.proofs.CursorLaws.{cursor-allowed}
 use Rattle.masks.proofs.IteratorLaws.{alike-inside}
-use Rattle.masks.proofs.RefusalLaws.{with_state, back-refused, passed-back}
+use Rattle.masks.proofs.RefusalLaws.{back-refused, passed-back}
 use Rattle.masks.proofs.iterator.BitmapIter.take_leading.Goals as goal
 
 pub returns-in_err-map_err : goal.returns-in_err-map_err
 unfolding take_leading
 returns-in_err-map_err c =
-    let was : Err c.in_err-map_err.field-0.0 ≡ with_state c.check_cursor.result c.args.self = search rules in
-    back-refused _ _ _ was _ c.from_residual.ensures.1 _ c.check_cursor.ensures _
+    back-refused _ _ _ (search rules) _ c.from_residual.ensures.1 _ c.check_cursor.ensures _
 
 pub leading_from-taken-requires : goal.leading_from-taken-requires
 leading_from-taken-requires c =

@@ -1,5 +1,5 @@
 -- By cases on the number of the checks; after the zeros at the place the search found no run (`no_run`) or one (`a-run`).
-use Rattle.std.proofs.Common.{rules, Err, ◌≡◌}
+use Rattle.std.proofs.Common.{rules}
 use mathlib.Core.Path.{sym, ap, ◌∙◌}
 use native.Mathlib.Omega.{arith}
 use Rattle.words.proofs.Windows.{length-window}
@@ -11,14 +11,13 @@ use Rattle.masks.proofs.CheckLaws.{is-given}
 use Rattle.masks.proofs.CursorLaws.{cursor-allowed}
 use Rattle.masks.proofs.IteratorLaws.{alike-inside}
 use Rattle.masks.proofs.RunLaws.{a-run, no_run, run_inside}
-use Rattle.masks.proofs.RefusalLaws.{with_state, passed-back, step-refused}
+use Rattle.masks.proofs.RefusalLaws.{passed-back, step-refused}
 use Rattle.masks.proofs.slice_iterator.SlicesIterator.next.Goals as goal
 
 pub returns-in_err-map_err : goal.returns-in_err-map_err
 unfolding next_slice
 returns-in_err-map_err c =
-    let was : Err c.in_err-map_err.field-0.0 ≡ with_state c.check_cursor.result c.args.self = search rules in
-    step-refused _ _ _ was _ c.from_residual.ensures.1 _ c.check_cursor.ensures _
+    step-refused _ _ _ (search rules) _ c.from_residual.ensures.1 _ c.check_cursor.ensures _
 
 pub invariant_of-span : goal.invariant_of-span
 invariant_of-span c =

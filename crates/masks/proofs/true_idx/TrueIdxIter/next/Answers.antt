@@ -1,5 +1,5 @@
 -- By cases on the number of the checks; after the zeros at the place the span ends (`no_one`) or a one follows (`a_one`).
-use Rattle.std.proofs.Common.{rules, Err, ◌≡◌}
+use Rattle.std.proofs.Common.{rules}
 use mathlib.Core.Path.{sym, ap, ◌∙◌}
 use native.Mathlib.Omega.{arith}
 use Prim.Native.Nat.{◌+◌}
@@ -9,14 +9,13 @@ use Rattle.masks.specs.declared.true_idx.TrueIdxIter.{TrueIdxIter}
 use Rattle.masks.specs.TrueIdx.{next_true}
 use Rattle.masks.proofs.CheckLaws.{is-given}
 use Rattle.masks.proofs.TrueIdxLaws.{true-allowed, a_one, no_one, zeros_within}
-use Rattle.masks.proofs.RefusalLaws.{with_state, passed-back, step-refused}
+use Rattle.masks.proofs.RefusalLaws.{passed-back, step-refused}
 use Rattle.masks.proofs.true_idx.TrueIdxIter.next.Goals as goal
 
 pub returns-in_err-map_err : goal.returns-in_err-map_err
 unfolding next_true
 returns-in_err-map_err c =
-    let was : Err c.in_err-map_err.field-0.0 ≡ with_state c.check_next.result c.args.self = search rules in
-    step-refused _ _ _ was _ c.from_residual.ensures.1 _ c.check_next.ensures _
+    step-refused _ _ _ (search rules) _ c.from_residual.ensures.1 _ c.check_next.ensures _
 
 pub zeros_next-requires : goal.zeros_next-requires
 zeros_next-requires c =

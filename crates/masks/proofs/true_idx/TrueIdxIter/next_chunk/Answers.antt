@@ -1,20 +1,19 @@
 -- By cases on the number of the checks: `refused-way` or `given-way`.
-use Rattle.std.proofs.Common.{rules, Err, ◌≡◌}
+use Rattle.std.proofs.Common.{rules}
 use mathlib.Core.Path.{sym, ap, ◌∙◌}
-use Rattle.masks.proofs.CheckLaws.{refused-way, given-way}
+use Rattle.masks.proofs.CheckLaws.{given-way}
 use Rattle.masks.proofs.PositionLaws.{told, within-out}
 use Rattle.masks.specs.Answer.{given}
 use Rattle.masks.specs.declared.true_idx.TrueIdxIter.{TrueIdxIter}
 use Rattle.masks.specs.Positions.{next_positions, positions_over}
-use Rattle.masks.proofs.RefusalLaws.{with_state, passed-back, failed-back, back-is}
+use Rattle.masks.proofs.RefusalLaws.{passed-back, refused-way}
 use Rattle.masks.proofs.true_idx.TrueIdxIter.next_chunk.Goals as goal
 
 pub returns-in_err-map_err : goal.returns-in_err-map_err
 unfolding next_positions positions_over
 returns-in_err-map_err c =
-    let was : Err c.in_err-map_err.field-0.0 ≡ with_state c.check_next.result c.args.self = search rules in
-    let both = refused-way _ _ _ _ c.check_next.ensures _ _ (failed-back _ _ _ was) in
-    record { answer = back-is _ _ _ was _ c.from_residual.ensures.1 ∙ both.0; positions = both.1 }
+    let both = refused-way _ c.args.self _ (search rules) _ c.from_residual.ensures.1 _ c.check_next.ensures _ _ _ in
+    record { answer = both.0; positions = both.1 }
 
 pub write_positions-count-requires : goal.write_positions-count-requires
 write_positions-count-requires c = sym c.check_next.ensures ∙ passed-back _ _ _ c.map_err.ensures.variant c.in_ok-map_err.was

@@ -2,7 +2,7 @@
 use Rattle.std.proofs.Common.{◌≤◌, ◌*◌, Bool, List, ◌≡◌, length}
 use Rattle.words.specs.Flags.{flags_of, over, window}
 use Rattle.words.specs.Loops.{combined}
-use Rattle.words.proofs.loops.combine_long.Given as goal
+use Rattle.words.proofs.loops.combine.Given as goal
 
 abbrev pub invariant-loop-i : goal.invariant-loop-i
 invariant-loop-i l =
