@@ -4,11 +4,11 @@
     python3 tests/calls_page.py --write    writes these cells anew
 
 Taken from the sources: a call's arguments and the definitions that its `ensures` cite (src/*.rt), the numbers by which it may
-refuse (specs/Refusals.antt), the wrong answers tried (specs/Wrong*.antt), and how many lines a file has: those with definitions
+refuse (statements/Refusals.antt), the wrong answers tried (tables/Wrong*.antt), and how many lines a file has: those with definitions
 and comments, without imports and empty lines. Written by hand are the column `answer`, the order of the rows, and the table of
 edits. Also checked: that the first table has exactly the files that public contracts reach, that these define nothing that no
-contract reaches, that each file of specs/ is named, that specs/Witnesses.antt names each call that may refuse, and that the wrong
-answer of each edit is one of its call's row. The pages of SAID_IN contain the sum of the first table."""
+contract reaches, that each file of specs/, statements/ and tables/ is named, that tables/Witnesses.antt names each call that may
+refuse, and that the wrong answer of each edit is one of its call's row. The pages of SAID_IN contain the sum of the first table."""
 import glob
 import os
 import re
@@ -29,14 +29,16 @@ def read(*path):
         return file.read()
 
 
-def specs(crate, pattern):
-    found = sorted(glob.glob(os.path.join(ROOT, "crates", crate, "specs", pattern)))
+def beside(crate, pattern):
+    """Returns the texts of the files below a crate's proofs/ that match."""
+    found = sorted(glob.glob(os.path.join(ROOT, "crates", crate, "proofs", pattern)))
     return [read(path) for path in found]
 
 
 def definitions():
-    """Returns the files of definitions, without the lists of modules."""
-    found = glob.glob(os.path.join(ROOT, "crates", "*", "specs", "*.antt"))
+    """Returns the files of definitions, of statements and of tables, without the lists of modules."""
+    folders = ("specs", "proofs/statements", "proofs/tables")
+    found = [path for folder in folders for path in glob.glob(os.path.join(ROOT, "crates", "*", folder, "*.antt"))]
     paths = sorted(os.path.relpath(path, os.path.join(ROOT, "crates")) for path in found)
     return [path for path in paths if not path.endswith("/Lib.antt")]
 
@@ -162,13 +164,13 @@ def unreached(files):
     return [f"{file}: no contract reaches {name}" for name in sorted(set(known) - found - PLAIN) for file, _ in known[name]]
 
 
-# ---- the tables of specs/
+# ---- statements and tables
 
 
 def refusals(crate):
     """Returns the numbers that `may_give` lists, by the calls named in the comment above them; without names, for the whole crate."""
     found = {}
-    for text in specs(crate, "Refusals.antt"):
+    for text in beside(crate, "statements/Refusals.antt"):
         table = text[text.index("abbrev pub may_give") :]
         names, above = [], ""
         for line in table.split("\n\n")[0].split("\n"):
@@ -185,7 +187,7 @@ def refusals(crate):
 def wrong_answers(crate):
     """Returns the faults named in the tables of wrong answers, by call, two for each row."""
     found = {}
-    for text in specs(crate, "Wrong*.antt"):
+    for text in beside(crate, "tables/Wrong*.antt"):
         faults = []
         for line in text.split("\n"):
             row = re.match(r"  -- `([\w:]+)`", line)
@@ -198,7 +200,7 @@ def wrong_answers(crate):
 
 
 def witnessed(crate):
-    return {name for text in specs(crate, "Witnesses.antt") for name in re.findall(r"`([\w:]+)`", text)}
+    return {name for text in beside(crate, "tables/Witnesses.antt") for name in re.findall(r"`([\w:]+)`", text)}
 
 
 # ---- the page
@@ -215,14 +217,14 @@ def facts():
             if name in rows:
                 complaints.append(f"two public functions are named {name}")
             if name in numbers and name not in named:
-                complaints.append(f"{crate}/specs/Witnesses.antt does not name {name}")
+                complaints.append(f"{crate}/proofs/tables/Witnesses.antt does not name {name}")
             rows[name] = {
                 "call": f"`{name}({', '.join(args)})`",
                 "checks": " ".join(checks) or "none",
                 "definition": "; ".join(f"`{d}`" for d in definitions).replace("|", "\\|"),
                 "wrong answers ruled out": "; ".join(wrong.pop(name, [])),
             }
-        complaints += [f"{crate}/specs/Wrong*.antt: no public function {name}" for name in wrong]
+        complaints += [f"{crate}/proofs/tables/Wrong*.antt: no public function {name}" for name in wrong]
     return rows, complaints
 
 

@@ -34,7 +34,7 @@ NUMBERS = {
     "PW_REFUSED_ADDRESS_REMAINDER": (CHECKS + "Checks.antt", r"check (\d+) \(leb address 7\)"),
     "PW_REFUSED_OUTPUT_TOO_SMALL": (CHECKS + "Checks.antt", r"check (\d+) \(leb \(8 \* \(\(n \+ 63\) / 64\)\) size\)"),
     "PW_REFUSED_SERIAL_CONFLICT": (CHECKS + "Superseding.antt", r"check (\d+) \(agree "),
-    "PW_REFUSED_IMPOSSIBLE_WINDOW": ("crates/activity/specs/Refusals.antt", r"\nmay_give = (\d+) ∷ \[\]"),
+    "PW_REFUSED_IMPOSSIBLE_WINDOW": ("crates/activity/proofs/statements/Refusals.antt", r"\nmay_give = (\d+) ∷ \[\]"),
 }
 
 
@@ -120,7 +120,7 @@ def compared():
     answers = {"u8", *(name for name, (_, fields) in records().items() if fields[0][0] == "refusal")}
     for export in exports():
         if (export.name in refusals()) != (export.result in answers):
-            yield f"crates/capi/specs/Refusals.antt and {export.name} differ in whether it can refuse"
+            yield f"crates/capi/proofs/statements/Refusals.antt and {export.name} differ in whether it can refuse"
 
 
 def main():

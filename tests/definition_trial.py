@@ -10,7 +10,8 @@ import tempfile
 
 from source_types import types_only
 
-NAMED = re.compile(r"\bRattle\.(\w+)\.(specs|proofs)\.([A-Z]\w*)\b")
+# A module's name is the path of its file below specs/ or proofs/, with dots: `Mask`, `computed.EdgeRows`.
+NAMED = re.compile(r"\bRattle\.(\w+)\.(specs|proofs)\.((?:[a-z]\w*\.)?[A-Z]\w*)\b")
 CONTROLS = 100000  # variants with this number or a larger one are unedited
 
 
@@ -40,6 +41,11 @@ def below(crates, names):
     for name in names:
         visit(name)
     return seen
+
+
+def path_of(name):
+    """Returns the path of a module's file below specs/ or proofs/."""
+    return name.replace(".", "/") + ".antt"
 
 
 def toolchain():
@@ -83,8 +89,9 @@ class Trial:
         self.kept.mkdir()
         self.texts, self.uses = {}, {}
         for part in ("specs", "proofs"):
-            for path in root.glob(f"crates/*/{part}/*.antt"):
-                module = (path.parent.parent.name, part, path.stem)
+            for path in (*root.glob(f"crates/*/{part}/*.antt"), *root.glob(f"crates/*/{part}/*/*.antt")):
+                crate, _, *names = path.relative_to(root / "crates").with_suffix("").parts
+                module = (crate, part, ".".join(names))
                 self.texts[module] = path.read_text(encoding="utf-8")
                 self.uses[module] = set(NAMED.findall(self.texts[module]))
 
@@ -102,7 +109,7 @@ class Trial:
         """Returns the files of proofs/ that these places use, themselves included: pairs of crate and name. Other proofs are not needed."""
         for crate, name in places:
             if (crate, "proofs", name) not in self.texts:
-                fail(f"there is no crates/{crate}/proofs/{name}.antt")
+                fail(f"there is no crates/{crate}/proofs/{path_of(name)}")
         used = self.all_used((crate, "proofs", name) for crate, name in places)
         return {(crate, name) for crate, part, name in used if part == "proofs"}
 
@@ -123,14 +130,23 @@ class Trial:
                 copy.parent.mkdir(parents=True, exist_ok=True)
                 copy.write_text(types_only(path.read_text(encoding="utf-8")), encoding="utf-8")
             (folder / crate / "proofs").mkdir(parents=True)
-            mine = sorted(name for other, name in files if other == crate)
-            for name in mine:
-                shutil.copy(source / "proofs" / f"{name}.antt", folder / crate / "proofs")
-            if (source / "proofs" / "Lib.antt").is_file():
-                text = "".join(f"pub mod {name}\n" for name in mine)
-                (folder / crate / "proofs" / "Lib.antt").write_text(text, encoding="utf-8")
+            for name in sorted(name for other, name in files if other == crate):
+                copy = folder / crate / "proofs" / path_of(name)
+                copy.parent.mkdir(exist_ok=True)
+                shutil.copy(source / "proofs" / path_of(name), copy)
+                self.list_module(folder, crate, "proofs", name)
         (folder / "top" / "src").mkdir(parents=True)
         (folder / "top" / "src" / "lib.rt").write_text("// Nothing: what is checked are the libraries.\n", encoding="utf-8")
+
+    def list_module(self, folder, crate, part, name):
+        """Adds a module of a copy to the list that it belongs to: Lib.antt, or that of its folder. Lib.antt lists a folder unless it has
+        the name of a module of src/."""
+        above, _, last = name.rpartition(".")
+        lists = folder / crate / part / path_of(above or "Lib")
+        if above and not lists.exists() and not (folder / crate / "src" / f"{above}.rt").exists():
+            self.list_module(folder, crate, part, above)
+        with open(lists, "a", encoding="utf-8") as listed:
+            listed.write(f"pub mod {last}\n")
 
     def check(self, folder, names, kept):
         """Runs the checker on a copy. Returns its status and its output."""
@@ -189,7 +205,7 @@ class Trial:
             if isinstance(changed, str):
                 return changed
             for (crate, part, name), text in changed.items():
-                (folder / crate / part / f"{name}.antt").write_text(text, encoding="utf-8")
+                (folder / crate / part / path_of(name)).write_text(text, encoding="utf-8")
             return None
 
         return accepted_specs(self.run({entry.crate}, places, edit, entry.number))
@@ -198,9 +214,8 @@ class Trial:
         """Adds a variant of these modules to a copy: files NAME_vN, which use each other by these names and other modules unchanged."""
         for (crate, part, name), text in texts.items():
             text = NAMED.sub(lambda use: f"{use[0]}_v{number}" if use.groups() in texts else use[0], text)
-            (folder / crate / part / f"{name}_v{number}.antt").write_text(text, encoding="utf-8")
-            with open(folder / crate / part / "Lib.antt", "a", encoding="utf-8") as listed:
-                listed.write(f"pub mod {name}_v{number}\n")
+            (folder / crate / part / path_of(f"{name}_v{number}")).write_text(text, encoding="utf-8")
+            self.list_module(folder, crate, part, f"{name}_v{number}")
 
     def together(self, entries):
         """Tries entries in one run: for each a variant of the modules between its place and its edited files; and for each such set of
@@ -236,6 +251,8 @@ class Trial:
 
 def accepted_specs(found):
     """Returns the refusals of an entry, or that a definition is not accepted, in which case the refusal shows nothing."""
-    if not isinstance(found, str) and any(refusal.part == "specs" for refusal in found):
-        return "a definition is not accepted: " + next(refusal.where() for refusal in found if refusal.part == "specs")
+    if not isinstance(found, str):
+        for refusal in found:
+            if refusal.part == "specs" or refusal.file.startswith(("statements/", "tables/")):
+                return f"a definition is not accepted: {refusal.where()}"
     return found

@@ -120,9 +120,9 @@ def records():
 
 
 def refusals():
-    """Returns the numbers that specs/Refusals.antt lists for each export that can refuse."""
+    """Returns the numbers that proofs/statements/Refusals.antt lists for each export that can refuse."""
     found = {}
-    for field in re.split(r"\n  pub ", (CAPI / "specs/Refusals.antt").read_text()):
+    for field in re.split(r"\n  pub ", (CAPI / "proofs/statements/Refusals.antt").read_text()):
         listed = re.match(r"(pw_\w+) :.*?\b(?:Gives\w*|Appends|Combines|Counts) (?:\(([\d ∷]+)\[\]\)|\[\])", field, re.S)
         if listed:
             found[listed[1]] = re.findall(r"\d+", listed[2] or "")

@@ -42,7 +42,6 @@ the edit and once without it. The latter must be accepted, else the entry is tri
 The status is 1 if an entry was not refused as it must be or is open, and 2 if the unedited copy is not accepted."""
 import argparse
 import concurrent.futures
-import fnmatch
 import os
 import pathlib
 import re
@@ -53,10 +52,16 @@ import time
 from definition_trial import Trial, fail, read_crates
 
 ROOT = pathlib.Path(__file__).resolve().parent.parent
-TABLES = ("Examples", "Witnesses", "Wrong*", "*Rows", "GoesOn")
-THEOREMS = ("Histories", "Plain", "*Plain", "RunsWhole", "SearchCursor", "SliceTruth", "TrueLaws", "Accepted", "AndNotFlag", "Refusals")
-THEOREMS += ("Minutes", "CombinedLaws", "Rounds")
+TABLES = ("computed/*",)
+THEOREMS = ("theorems/*",)
+SLOW = ("computed/GoesOn",)  # a table that takes longer than all others
 TOGETHER = 20
+
+
+def place_of(text):
+    """Returns the crate and the module of a place: CRATE/FILE, or CRATE/FOLDER/FILE, before a theorem's name."""
+    crate, _, file = text.split(" ")[0].partition("/")
+    return crate, file.replace("/", ".")
 
 
 class Entry:
@@ -91,13 +96,14 @@ class Entry:
     @property
     def at(self):
         """Returns the crate and the file of its place."""
-        return tuple(self.place.split(" ")[0].split("/"))
+        return place_of(self.place)
 
     def changed(self, texts):
         """Returns the modules that it edits with their new texts, from all texts by module; or what is wrong with the entry."""
         found = {}
         for file, old, new in self.pairs:
-            module = (self.crate, *file.removesuffix(".antt").split("/"))
+            part, *names = file.removesuffix(".antt").split("/")
+            module = (self.crate, part, ".".join(names))
             text = found.get(module, texts.get(module, ""))
             if text.count(old) != 1:
                 return f"its text is in {file} {text.count(old)} times: {old[:90]}"
@@ -146,7 +152,7 @@ def sort_out(found):
 def give_place(root, entry, found):
     """Writes what refuses an entry into the list of its crate: a table, or else a theorem."""
     refused = [r for r in found if not r.blocked] if not isinstance(found, str) else []
-    tables, theorems = [r for r in refused if r.among(TABLES[:-1])], [r for r in refused if r.among(THEOREMS)]
+    tables, theorems = [r for r in refused if r.among(TABLES)], [r for r in refused if r.among(THEOREMS)]
     path, block = root / "tests" / "wrong" / f"{entry.crate}.txt", "\n".join(entry.lines)
     if tables:
         line = f"table: {tables[0].crate}/{tables[0].file}"
@@ -216,10 +222,11 @@ def main():
         chosen = [entry for entry in chosen if not entry.place]
     if not chosen:
         fail("there is no such entry")
-    everywhere = [(path.parent.parent.name, path.stem) for path in sorted(options.root.glob("crates/*/proofs/*.antt"))
-                  if path.stem != "Lib" and path.parent.parent.name not in ("capi", "requests")
-                  and any(fnmatch.fnmatchcase(path.stem, p) for p in (TABLES[:-1] if options.tables else TABLES + THEOREMS))]
-    of = {e.number: everywhere if options.find else [tuple(e.place.split(" ")[0].split("/"))] for e in chosen if e.place or options.find}
+    everywhere = [place_of(f"{path.parts[-4]}/{path.parts[-2]}/{path.stem}")
+                  for pattern in (TABLES if options.tables else TABLES + THEOREMS)
+                  for path in sorted(options.root.glob(f"crates/*/proofs/{pattern}.antt"))
+                  if path.parts[-4] != "capi" and not (options.tables and f"{path.parts[-2]}/{path.stem}" in SLOW)]
+    of = {e.number: everywhere if options.find else [e.at] for e in chosen if e.place or options.find}
     failed = 0
     if not options.find:
         for entry in (e for e in chosen if not e.place):

@@ -1,8 +1,5 @@
--- The laws of the crate, and the theorems on runs of minutes.
-pub mod CheckLaws
-pub mod MinuteLaws
-pub mod Minutes
-pub mod Refusals
-pub mod WindowLaws
-pub mod Witnesses
-pub mod WrongAnswers
+-- The laws of the crate, below the name of the module that they serve; theorems, what they state, and tables.
+pub mod computed
+pub mod statements
+pub mod tables
+pub mod theorems

@@ -1,4 +1,3 @@
--- The laws of the crate.
-pub mod RecordLaws
-pub mod Refusals
-pub mod WindowLaws
+-- The laws of the crate, below the name of the module that they serve; theorems, what they state, and tables.
+pub mod statements
+pub mod theorems

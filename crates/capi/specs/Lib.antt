@@ -3,5 +3,4 @@
 -- What a call answers is defined in words, activity, masks and dispatch.
 pub mod Answers
 pub mod Records
-pub mod Refusals
 pub mod Window

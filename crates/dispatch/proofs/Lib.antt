@@ -1,11 +1,5 @@
--- The laws of the crate.
-pub mod AndNotFlag
-pub mod AnswerPlain
-pub mod DispatchLaws
-pub mod OfferLaws
-pub mod Refusals
-pub mod Uncounted
-pub mod RoundLaws
-pub mod Rounds
-pub mod WrongAnswers
-pub mod WrongOffers
+-- The laws of the crate, below the name of the module that they serve; theorems, what they state, and tables.
+pub mod computed
+pub mod statements
+pub mod tables
+pub mod theorems

@@ -1,15 +1,7 @@
--- The theorem on histories with its laws, and the theorem on run lists.
-pub mod AgreementLaws
-pub mod CombinedLaws
-pub mod GoesOn
-pub mod Histories
-pub mod HistoryLaws
-pub mod HistoryTheorem
-pub mod MaskRowLaws
-pub mod ReferenceLaws
-pub mod RowLaws
-pub mod RunListLaws
-pub mod RunListRows
-pub mod RunLists
-pub mod Serials
-pub mod TruthfulLaws
+-- The laws of the crate, below the name of the module that they serve; theorems, what they state, and tables.
+pub mod computed
+pub mod history
+pub mod run_lists
+pub mod statements
+pub mod tables
+pub mod theorems

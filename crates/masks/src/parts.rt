@@ -3,7 +3,7 @@ ghost use Rattle.std.specs.Prelude.{◌≡◌, ℕ, Bool, List, ◌++◌, ◌+�
 ghost use Rattle.std.proofs.Common.{sym, ap, ◌∙◌, append_assoc};
 ghost use Rattle.words.specs.Ends.{leading, trailing};
 ghost use Rattle.words.specs.Flags.{count, word_flags};
-ghost use Rattle.words.proofs.EndLaws.{leading_le, leading-some, leading-all, trailing_le, trailing-some, trailing-all};
+ghost use Rattle.words.proofs.ends.EndLaws.{leading_le, leading-some, leading-all, trailing_le, trailing-some, trailing-all};
 ghost use Rattle.masks.specs.Aligned.{aligned_split};
 ghost use Rattle.masks.specs.Checks.{limit};
 ghost use Rattle.masks.specs.Workers.{bulk_flags, prefix_flags, split_flags, suffix_flags, parts-in-row};

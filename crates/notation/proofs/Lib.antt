@@ -1,2 +1,2 @@
-mod LineLaws
-mod SumLaws
+-- The laws of the crate, below the name of the module that they serve.
+

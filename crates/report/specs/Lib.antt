@@ -1,4 +1,2 @@
 -- What the contracts of this crate mean.
 pub mod Numbers
-pub mod ReportPlain
-pub mod WrongAnswers

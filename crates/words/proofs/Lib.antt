@@ -1,22 +1,4 @@
--- The laws of the crate, a file for each topic. Those marked `pub` are used by the crates above.
-mod AdderLaws
-pub mod AnyFlag
-mod Behind
-pub mod Bits
-pub mod Bytes
-pub mod ColumnLaws
-pub mod Combining
-pub mod Counting
-pub mod EndLaws
-pub mod Loads
-pub mod Merging
-pub mod NthLaws
-pub mod Plain
-mod PlaneLaws
-pub mod PlaneReads
-mod RowLaws
-pub mod UniformLaws
-pub mod Windows
-pub mod Writing
-pub mod WordRows
-pub mod WrongAnswers
+-- The laws of the crate, below the name of the module that they serve; theorems, what they state, and tables.
+pub mod computed
+pub mod tables
+pub mod theorems

@@ -1,7 +1,7 @@
 -- Numbers, words and lent bytes as lists of flags.
 --
 -- Arrow's numbering: flag j of a buffer is bit j mod 8 of byte j div 8, least significant bit first. `flag_at` is that sentence;
--- `flags_of` is the list of all flags of a buffer. `proofs/Plain.antt` proves each list below to be what its plain reading says.
+-- `flags_of` is the list of all flags of a buffer. `proofs/theorems/Plain.antt` proves each list below to be what its plain reading says.
 use Rattle.std.specs.Prelude.{ℕ, zero, suc, ◌+◌, ◌*◌, ◌/◌, ◌%◌, ◌^◌, Bool, true, false, List, [], ◌∷◌, ◌++◌, take, drop, get_or}
 
 -- a binary digit as a flag, and back

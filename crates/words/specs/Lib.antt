@@ -10,5 +10,3 @@ pub mod Nth
 pub mod Ops
 pub mod Planes
 pub mod Uniform
-pub mod WordRows
-pub mod WrongAnswers

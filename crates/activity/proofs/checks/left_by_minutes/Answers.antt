@@ -1,6 +1,6 @@
 -- `fill-most`: at most 256 words are kept.
 use Rattle.std.proofs.Common.{sym, ◌∙◌}
-use Rattle.activity.proofs.CheckLaws.{fill-most}
+use Rattle.activity.proofs.checks.CheckLaws.{fill-most}
 use Rattle.activity.proofs.checks.left_by_minutes.Goals as goal
 
 pub words_fit-requires : goal.words_fit-requires

@@ -1,6 +1,6 @@
 -- `words-yes`, `words-no`: one for each end.
 use Rattle.std.proofs.Common.{rules, ◌≡◌, length}
-use Rattle.activity.proofs.CheckLaws.{zero-rest, words-yes, words-no}
+use Rattle.activity.proofs.checks.CheckLaws.{zero-rest, words-yes, words-no}
 use Rattle.activity.proofs.checks.words_fit.Goals as goal
 
 pub returns-then-all_zero : goal.returns-then-all_zero

@@ -1,6 +1,6 @@
 -- Two halves (`exchanged-halves`), each of which counts the old word's flags (`holds-low`, `holds-high`).
 use Rattle.std.proofs.Common.{length-take, arith}
-use Rattle.activity.proofs.WindowLaws.{holds-low, holds-high, second-long, exchanged-halves}
+use Rattle.activity.proofs.window.WindowLaws.{holds-low, holds-high, second-long, exchanged-halves}
 use Rattle.activity.proofs.exchange.exchange.Goals as goal
 
 pub exchange_half-requires : goal.exchange_half-requires

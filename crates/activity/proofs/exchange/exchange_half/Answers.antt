@@ -1,9 +1,9 @@
 -- An iteration exchanges one more count (`exchanged-more`) by the flags of both words (`mask-digit`).
 use Rattle.std.proofs.Common.{◌≡◌, ◌+◌, ◌<◌, refl, get_or, length, length-set, ◌∙◌, arith}
 use Rattle.words.specs.Planes.{digit_of}
-use Rattle.words.proofs.PlaneReads.{digit_few, mask-digit}
+use Rattle.words.proofs.columns.PlaneReads.{digit_few, mask-digit}
 use Rattle.activity.specs.Workers.{Holds, Exchanged}
-use Rattle.activity.proofs.WindowLaws.{exchanged-more, rest-stays}
+use Rattle.activity.proofs.window.WindowLaws.{exchanged-more, rest-stays}
 use Rattle.activity.proofs.exchange.exchange_half.Goals as goal
 
 pub loop-c-init : goal.loop-c-init

@@ -1,7 +1,7 @@
 -- `holds_oldest`: the flags of the word at the place are counted; `minute-made`: the record's parts.
 use Rattle.std.proofs.Common.{refl, rules}
 use Rattle.activity.specs.Lent.{window_at}
-use Rattle.activity.proofs.WindowLaws.{holds_oldest, minute-made}
+use Rattle.activity.proofs.window.WindowLaws.{holds_oldest, minute-made}
 use Rattle.activity.proofs.lent.minute_in.Goals as goal
 
 pub exchange-requires : goal.exchange-requires

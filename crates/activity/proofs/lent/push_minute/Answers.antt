@@ -1,6 +1,6 @@
 -- `good_of`: what a record that passes the check fulfils, fact by fact.
 use Rattle.std.proofs.Common.{sym, ◌∙◌, ◌≡◌, true, rules}
-use Rattle.activity.proofs.CheckLaws.{good_of}
+use Rattle.activity.proofs.checks.CheckLaws.{good_of}
 use Rattle.activity.proofs.lent.push_minute.Goals as goal
 
 pub minute_in-requires : goal.minute_in-requires

@@ -1,8 +1,8 @@
 -- The flag of `and_not_at` is known, and whether there is a permission mask (`DispatchLaws`).
 use Rattle.std.proofs.Common.{sym, ◌∙◌, rules}
 use Rattle.dispatch.specs.Dispatch.{reassignable}
-use Rattle.masks.proofs.RefusalLaws.{exit-is}
-use Rattle.dispatch.proofs.DispatchLaws.{flag-given, rule-given, refusal-given}
+use Rattle.masks.proofs.refusal.RefusalLaws.{exit-is}
+use Rattle.dispatch.proofs.dispatch.DispatchLaws.{flag-given, rule-given, refusal-given}
 use Rattle.dispatch.proofs.dispatch.may_reassign.Goals as goal
 
 pub returns-in_err-flag : goal.returns-in_err-flag

@@ -1,7 +1,7 @@
 -- What the search finds is what is offered (`found-way`, `found-bound`); a refusal is passed on.
 use Rattle.std.proofs.Common.{arith, ℕ, Option, Ok, Err, sym, ap, ◌≡◌, ◌∙◌, rules}
 use Rattle.masks.specs.Answer.{answer}
-use Rattle.dispatch.proofs.OfferLaws.{found-bound, found_inside, found-way, offer-exit, refused-way}
+use Rattle.dispatch.proofs.offer.OfferLaws.{found-bound, found_inside, found-way, offer-exit, refused-way}
 use Rattle.dispatch.specs.Offer.{moved_to}
 use Rattle.dispatch.proofs.offer.offer_next.Goals as goal
 

@@ -1,7 +1,7 @@
 -- A search over a revocation mask makes its checks (`none-way`, `none-refused`); without one no check is made (`no-mask-way`).
 use Rattle.std.proofs.Common.{Ok, Err, sym, ap, ◌≡◌, ◌∙◌, rules}
 use Rattle.masks.specs.Answer.{answer}
-use Rattle.dispatch.proofs.OfferLaws.{no-mask-way, none-refused, none-way, offer-exit}
+use Rattle.dispatch.proofs.offer.OfferLaws.{no-mask-way, none-refused, none-way, offer-exit}
 use Rattle.dispatch.proofs.offer.offer_none.Goals as goal
 
 pub returns-in_err-map_err-clause-answer : goal.returns-in_err-map_err-clause-answer

@@ -3,8 +3,8 @@ use Rattle.std.proofs.Common.{refl, ◌∙◌}
 use Rattle.masks.specs.Checks.{rank, place_in, span_checks}
 use Rattle.masks.specs.Checks.{address_checks}
 use Rattle.masks.specs.Aligned.{aligned_checks}
-use Rattle.masks.proofs.CheckLaws.{first-number, passed-before}
-use Rattle.masks.proofs.RefusalLaws.{number-ne0, exit-number}
+use Rattle.masks.proofs.checks.CheckLaws.{first-number, passed-before}
+use Rattle.masks.proofs.refusal.RefusalLaws.{number-ne0, exit-number}
 use Rattle.masks.proofs.aligned.check_aligned.Goals as goal
 
 pub returns-in_err-check_span : goal.returns-in_err-check_span

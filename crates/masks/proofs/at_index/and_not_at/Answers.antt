@@ -3,9 +3,9 @@ use mathlib.Core.Path.{refl, sym, ap, ap₂, ◌∙◌}
 use mathlib.Core.Bool.{Bool, not, ◌&&◌}
 use Rattle.masks.specs.Answer.{given}
 use Rattle.masks.specs.AtIndex.{and_not_at_of, and_not_flag}
-use Rattle.masks.proofs.AtIndexLaws.{passed-masks}
-use Rattle.masks.proofs.CheckLaws.{is-given}
-use Rattle.masks.proofs.RefusalLaws.{exit-refused}
+use Rattle.masks.proofs.at_index.AtIndexLaws.{passed-masks}
+use Rattle.masks.proofs.checks.CheckLaws.{is-given}
+use Rattle.masks.proofs.refusal.RefusalLaws.{exit-refused}
 use Rattle.masks.proofs.at_index.and_not_at.Goals as goal
 
 pub returns-in_err-check_and_not_at : goal.returns-in_err-check_and_not_at

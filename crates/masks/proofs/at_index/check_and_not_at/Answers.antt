@@ -1,6 +1,6 @@
 -- The checks of each mask and those of two masks, joined by `two-pieces`.
 use Rattle.masks.specs.AtIndex.{and_not_at_checks}
-use Rattle.masks.proofs.CheckLaws.{two-pieces}
+use Rattle.masks.proofs.checks.CheckLaws.{two-pieces}
 use Rattle.masks.proofs.at_index.check_and_not_at.Goals as goal
 
 pub returns : goal.returns

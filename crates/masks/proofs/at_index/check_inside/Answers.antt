@@ -2,8 +2,8 @@
 use Rattle.std.proofs.Common.{refl, ◌∙◌}
 use Rattle.masks.specs.Checks.{rank, place_in, span_checks}
 use Rattle.masks.specs.Mask.{mask_checks}
-use Rattle.masks.proofs.CheckLaws.{first-number, one-check, passed-before}
-use Rattle.masks.proofs.RefusalLaws.{number-ne0, exit-number}
+use Rattle.masks.proofs.checks.CheckLaws.{first-number, one-check, passed-before}
+use Rattle.masks.proofs.refusal.RefusalLaws.{number-ne0, exit-number}
 use Rattle.masks.proofs.at_index.check_inside.Goals as goal
 
 pub returns-in_err-check_mask : goal.returns-in_err-check_mask

@@ -2,7 +2,7 @@
 use mathlib.Core.Path.{refl}
 use Rattle.masks.specs.AtIndex.{length_checks}
 use Rattle.masks.specs.Checks.{first_failed}
-use Rattle.masks.proofs.CheckLaws.{one-check}
+use Rattle.masks.proofs.checks.CheckLaws.{one-check}
 use Rattle.masks.proofs.at_index.check_lengths.Goals as goal
 
 pub returns-in-Some-Some : goal.returns-in-Some-Some

@@ -1,6 +1,6 @@
 -- By cases on the mask: the flag of a present one is inside it, by `requires` (`flag-inside`); for none the answer is `absent`.
 use Rattle.masks.specs.AtIndex.{flag_or}
-use Rattle.masks.proofs.AtIndexLaws.{flag-inside}
+use Rattle.masks.proofs.at_index.AtIndexLaws.{flag-inside}
 use Rattle.masks.proofs.at_index.flag_or.Goals as goal
 
 pub returns-in-Some : goal.returns-in-Some

@@ -1,6 +1,6 @@
 -- The mask's checks, then the four of the piece, in order: `two-pieces`, `check-before` and `one-check`.
 use Rattle.masks.specs.Mask.{piece_checks}
-use Rattle.masks.proofs.CheckLaws.{two-pieces, check-before, one-check}
+use Rattle.masks.proofs.checks.CheckLaws.{two-pieces, check-before, one-check}
 use Rattle.masks.proofs.bitmap.check_piece.Goals as goal
 
 pub returns : goal.returns

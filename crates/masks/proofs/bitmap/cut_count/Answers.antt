@@ -1,5 +1,5 @@
 -- By cases on the mask's count: recounted (`cut-known`), kept or unknown; the check closes the goals of the last two by itself.
-use Rattle.masks.proofs.MaskLaws.{cut-known}
+use Rattle.masks.proofs.bitmap.MaskLaws.{cut-known}
 use Rattle.std.proofs.Common.{arith}
 use mathlib.Core.Path.{sym, ◌∙◌}
 use Rattle.masks.proofs.bitmap.cut_count.Goals as goal

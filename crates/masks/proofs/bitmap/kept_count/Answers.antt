@@ -2,7 +2,7 @@
 use mathlib.Core.Path.{◌≡◌, ◌∙◌}
 use native.Mathlib.Omega.{arith}
 use Rattle.masks.specs.Mask.{kept_count}
-use Rattle.masks.proofs.CheckLaws.{when-eq, when-ne}
+use Rattle.masks.proofs.checks.CheckLaws.{when-eq, when-ne}
 use Rattle.masks.proofs.bitmap.kept_count.Goals as goal
 
 pub returns-in-0 : goal.returns-in-0

@@ -1,6 +1,6 @@
 -- One law for each arm: a possible count, more zeros left than the piece has flags, or fewer zeros than were cut off.
 use Rattle.std.proofs.Common.{Ok, Some, ℕ, arith, ap, ◌∙◌}
-use Rattle.masks.proofs.MaskLaws.{below-cut, above-length, within_both}
+use Rattle.masks.proofs.bitmap.MaskLaws.{below-cut, above-length, within_both}
 use Rattle.masks.proofs.bitmap.recount.Goals as goal
 
 pub returns-in-Some : goal.returns-in-Some

@@ -1,7 +1,7 @@
 -- No zeros or all zeros (`recounts-no`), else the comparison with the threshold (`recounts-by`).
 use Rattle.std.proofs.Common.{ℕ, ap, ◌∙◌, rules}
 use Rattle.std.specs.Prelude.{leb}
-use Rattle.masks.proofs.MaskLaws.{recounts-no, recounts-by}
+use Rattle.masks.proofs.bitmap.MaskLaws.{recounts-no, recounts-by}
 use Rattle.masks.proofs.bitmap.recounts.Goals as goal
 
 pub returns-then-zeros-old : goal.returns-then-zeros-old

@@ -4,8 +4,8 @@ use Rattle.masks.specs.Checks.{rank, place_in, span_checks}
 use Rattle.masks.specs.Checks.{output_checks}
 use Rattle.masks.specs.Combine.{not_checks}
 use Rattle.masks.specs.Mask.{mask_checks}
-use Rattle.masks.proofs.CheckLaws.{first-number, passed-before}
-use Rattle.masks.proofs.RefusalLaws.{number-ne0, exit-number}
+use Rattle.masks.proofs.checks.CheckLaws.{first-number, passed-before}
+use Rattle.masks.proofs.refusal.RefusalLaws.{number-ne0, exit-number}
 use Rattle.masks.proofs.bitmap_ops.check_not.Goals as goal
 
 pub returns-in_err-check_mask : goal.returns-in_err-check_mask

@@ -1,7 +1,7 @@
 -- The checks of two masks, of the lengths and of the output, in order: `two-pieces` and `check-before`.
 use Rattle.masks.specs.Combine.{pair_checks}
 use mathlib.Core.Path.{refl}
-use Rattle.masks.proofs.CheckLaws.{two-pieces, check-before}
+use Rattle.masks.proofs.checks.CheckLaws.{two-pieces, check-before}
 use Rattle.masks.proofs.bitmap_ops.check_pair.Goals as goal
 
 pub returns : goal.returns

@@ -1,7 +1,7 @@
 -- The checks of three masks, of two lengths and of the output, in order: `two-pieces` and `check-before`.
 use mathlib.Core.Path.{refl}
 use Rattle.masks.specs.Combine.{select_checks}
-use Rattle.masks.proofs.CheckLaws.{two-pieces, check-before}
+use Rattle.masks.proofs.checks.CheckLaws.{two-pieces, check-before}
 use Rattle.masks.proofs.bitmap_ops.check_select.Goals as goal
 
 pub returns : goal.returns

@@ -2,8 +2,8 @@
 -- the `match` is still the one that was found before it (`same`).
 use mathlib.Core.Path.{◌≡◌, refl, sym, ◌∙◌}
 use Rattle.std.proofs.Common.{rules}
-use Rattle.masks.proofs.CombineLaws.{pair_lengths, pair-refused, pair-given, pair-written}
-use Rattle.masks.proofs.RefusalLaws.{exit-is, number-ne0}
+use Rattle.masks.proofs.bitmap_ops.CombineLaws.{pair_lengths, pair-refused, pair-given, pair-written}
+use Rattle.masks.proofs.refusal.RefusalLaws.{exit-is, number-ne0}
 use Rattle.masks.proofs.bitmap_ops.combine_two.Goals as goal
 use Rattle.masks.proofs.bitmap_ops.combine_two.Goals.{in-Some, in-None}
 

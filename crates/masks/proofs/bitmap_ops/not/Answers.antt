@@ -1,8 +1,8 @@
 -- By cases on the number of the checks; the operation `Not` reads only the first of three lists (`not-each`).
 use mathlib.Core.Path.{refl, ◌∙◌}
 use Rattle.std.proofs.Common.{rules}
-use Rattle.masks.proofs.CombineLaws.{each-refused, each-given, not-each, one-serial}
-use Rattle.masks.proofs.RefusalLaws.{exit-is, number-ne0}
+use Rattle.masks.proofs.bitmap_ops.CombineLaws.{each-refused, each-given, not-each, one-serial}
+use Rattle.masks.proofs.refusal.RefusalLaws.{exit-is, number-ne0}
 use Rattle.masks.proofs.bitmap_ops.not.Goals as goal
 
 pub returns-in_err-check_not : goal.returns-in_err-check_not

@@ -1,8 +1,8 @@
 -- By cases on the number of the checks; if all pass, the lengths are equal (`select_lengths`), and the kernel's flags are those chosen.
 use mathlib.Core.Path.{refl, sym, ◌∙◌}
 use Rattle.std.proofs.Common.{rules}
-use Rattle.masks.proofs.CombineLaws.{each-refused, each-given, select_lengths, select-each}
-use Rattle.masks.proofs.RefusalLaws.{exit-is, number-ne0}
+use Rattle.masks.proofs.bitmap_ops.CombineLaws.{each-refused, each-given, select_lengths, select-each}
+use Rattle.masks.proofs.refusal.RefusalLaws.{exit-is, number-ne0}
 use Rattle.masks.proofs.bitmap_ops.select.Goals as goal
 
 pub returns-in_err-check_select : goal.returns-in_err-check_select

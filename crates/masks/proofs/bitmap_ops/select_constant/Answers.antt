@@ -2,8 +2,8 @@
 -- contract's.
 use mathlib.Core.Path.{refl, sym, ◌∙◌}
 use Rattle.std.proofs.Common.{rules}
-use Rattle.masks.proofs.CombineLaws.{each-refused, each-given, pair_lengths, constant-length, written-set, written-clear}
-use Rattle.masks.proofs.RefusalLaws.{exit-is, number-ne0}
+use Rattle.masks.proofs.bitmap_ops.CombineLaws.{each-refused, each-given, pair_lengths, constant-length, written-set, written-clear}
+use Rattle.masks.proofs.refusal.RefusalLaws.{exit-is, number-ne0}
 use Rattle.masks.proofs.bitmap_ops.select_constant.Goals as goal
 use Rattle.masks.proofs.bitmap_ops.select_constant.Goals.{then-flag, else-flag}
 

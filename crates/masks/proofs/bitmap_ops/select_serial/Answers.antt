@@ -1,5 +1,5 @@
 -- The largest of three serials, by two tests: `three-serials`.
-use Rattle.masks.proofs.CombineLaws.{three-serials}
+use Rattle.masks.proofs.bitmap_ops.CombineLaws.{three-serials}
 use Rattle.masks.proofs.bitmap_ops.select_serial.Goals as goal
 
 pub returns : goal.returns

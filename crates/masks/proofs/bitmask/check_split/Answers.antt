@@ -1,7 +1,7 @@
 -- The span's checks, the second part's start, and that the cut is inside, in order: `two-pieces` and `one-check`.
 use mathlib.Core.Path.{refl}
 use Rattle.masks.specs.Bitmask.{split_checks}
-use Rattle.masks.proofs.CheckLaws.{two-pieces, one-check}
+use Rattle.masks.proofs.checks.CheckLaws.{two-pieces, one-check}
 use Rattle.masks.proofs.bitmask.check_split.Goals as goal
 
 pub returns : goal.returns

@@ -2,8 +2,8 @@
 use mathlib.Core.Path.{◌∙◌}
 use Rattle.masks.specs.Bitmask.{window_at, window_word}
 use Rattle.masks.specs.Lent.{Part}
-use Rattle.masks.proofs.LentLaws.{refused-alike, given-alike}
-use Rattle.masks.proofs.RefusalLaws.{exit-is}
+use Rattle.masks.proofs.span.LentLaws.{refused-alike, given-alike}
+use Rattle.masks.proofs.refusal.RefusalLaws.{exit-is}
 use Rattle.masks.proofs.bitmask.get_u32.Goals as goal
 
 pub returns-in_err-span : goal.returns-in_err-span

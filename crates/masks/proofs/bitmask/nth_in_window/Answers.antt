@@ -1,6 +1,6 @@
 -- No window has more than 32 set flags, so the search is for the lesser of n and 32: `ask_least`.
 use Rattle.std.proofs.Common.{◌≡◌, ◌∙◌, rules}
-use Rattle.masks.proofs.SearchLaws.{ask_least}
+use Rattle.masks.proofs.bitmask.SearchLaws.{ask_least}
 use Rattle.masks.proofs.bitmask.nth_in_window.Goals as goal
 
 pub returns : goal.returns

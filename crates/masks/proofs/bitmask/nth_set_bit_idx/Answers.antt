@@ -3,8 +3,8 @@ use mathlib.Core.Path.{◌∙◌}
 use Rattle.words.specs.Loops.{stretch}
 use Rattle.masks.specs.Search.{search_from, nth_from}
 use Rattle.masks.specs.Lent.{Part}
-use Rattle.masks.proofs.LentLaws.{refused-alike, given-alike}
-use Rattle.masks.proofs.RefusalLaws.{exit-is}
+use Rattle.masks.proofs.span.LentLaws.{refused-alike, given-alike}
+use Rattle.masks.proofs.refusal.RefusalLaws.{exit-is}
 use Rattle.masks.proofs.bitmask.nth_set_bit_idx.Goals as goal
 
 pub returns-in_err-span : goal.returns-in_err-span

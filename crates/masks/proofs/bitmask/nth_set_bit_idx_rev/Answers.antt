@@ -1,11 +1,11 @@
 -- By cases on the span's checks: `refused-alike` or `given-alike`.
 use mathlib.Core.Path.{◌∙◌}
 use Rattle.words.specs.Loops.{stretch}
-use Rattle.masks.proofs.SearchLaws.{span-most}
+use Rattle.masks.proofs.bitmask.SearchLaws.{span-most}
 use Rattle.masks.specs.Search.{search_back, nth_back}
 use Rattle.masks.specs.Lent.{Part}
-use Rattle.masks.proofs.LentLaws.{refused-alike, given-alike}
-use Rattle.masks.proofs.RefusalLaws.{exit-is}
+use Rattle.masks.proofs.span.LentLaws.{refused-alike, given-alike}
+use Rattle.masks.proofs.refusal.RefusalLaws.{exit-is}
 use Rattle.masks.proofs.bitmask.nth_set_bit_idx_rev.Goals as goal
 
 pub returns-in_err-span : goal.returns-in_err-span

@@ -1,9 +1,9 @@
 -- A window of 32 flags has no set flag number 32, so the answer is the number of the set flags (`nth-missing`).
 use Rattle.std.proofs.Common.{Err, ◌≡◌, ◌∙◌, arith, rules}
 use Rattle.words.specs.Flags.{bits, count}
-use Rattle.words.proofs.Bits.{length-bits}
-use Rattle.words.proofs.Counting.{count-le}
-use Rattle.words.proofs.Plain.{nth-missing}
+use Rattle.words.proofs.flags.Bits.{length-bits}
+use Rattle.words.proofs.counts.Counting.{count-le}
+use Rattle.words.proofs.theorems.Plain.{nth-missing}
 use Rattle.masks.proofs.bitmask.ones_in_window.Goals as goal
 
 pub returns : goal.returns

@@ -2,7 +2,7 @@
 use Rattle.std.proofs.Common.{Ok, ◌≡◌, ◌∙◌, rules}
 use Rattle.words.specs.Flags.{bits}
 use Rattle.words.specs.Nth.{nth_place}
-use Rattle.words.proofs.Plain.{nth-found}
+use Rattle.words.proofs.theorems.Plain.{nth-found}
 use Rattle.masks.proofs.bitmask.place_in_window.Goals as goal
 
 pub returns : goal.returns

@@ -2,9 +2,9 @@
 use mathlib.Core.Path.{refl, sym}
 use native.Mathlib.Omega.{arith}
 use Rattle.masks.specs.Bitmask.{split_at}
-use Rattle.masks.proofs.BitmaskLaws.{split-allowed}
-use Rattle.masks.proofs.CheckLaws.{is-given}
-use Rattle.masks.proofs.RefusalLaws.{exit-refused}
+use Rattle.masks.proofs.bitmask.BitmaskLaws.{split-allowed}
+use Rattle.masks.proofs.checks.CheckLaws.{is-given}
+use Rattle.masks.proofs.refusal.RefusalLaws.{exit-refused}
 use Rattle.masks.proofs.bitmask.split_at_unchecked.Goals as goal
 
 pub returns-in_err-check_split : goal.returns-in_err-check_split

@@ -1,9 +1,9 @@
 -- Eight bytes moved down by at most 32 flags keep 32 (`load-mid`, `moved-flags`), and the low ones are the window (`near-value`).
 use native.Mathlib.Omega.{arith}
-use Rattle.words.proofs.Loads.{load-mid}
-use Rattle.masks.proofs.BitmaskLaws.{narrow}
-use Rattle.masks.proofs.PartLaws.{moved-flags}
-use Rattle.masks.proofs.SpanLaws.{near-value}
+use Rattle.words.proofs.word.Loads.{load-mid}
+use Rattle.masks.proofs.bitmask.BitmaskLaws.{narrow}
+use Rattle.masks.proofs.utils.PartLaws.{moved-flags}
+use Rattle.masks.proofs.span.SpanLaws.{near-value}
 use borrow.Author.Rules.{rules}
 use Rattle.masks.proofs.bitmask.word_window.Goals as goal
 

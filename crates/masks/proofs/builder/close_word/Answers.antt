@@ -1,11 +1,11 @@
 -- The word is full: it is stored and counted, and no word is in progress (`push-closed`).
 use Rattle.words.specs.Flags.{word_flags}
 use native.Mathlib.Omega.{arith}
-use Rattle.words.proofs.Bits.{length-bits}
-use Rattle.words.proofs.Counting.{count-le}
-use Rattle.masks.proofs.ExtendLaws.{push-closed}
-use Rattle.masks.proofs.PushLaws.{grown-way, or-merged}
-use Rattle.masks.proofs.RoomLaws.{word-stored}
+use Rattle.words.proofs.flags.Bits.{length-bits}
+use Rattle.words.proofs.counts.Counting.{count-le}
+use Rattle.masks.proofs.extend.ExtendLaws.{push-closed}
+use Rattle.masks.proofs.builder.PushLaws.{grown-way, or-merged}
+use Rattle.masks.proofs.builder.RoomLaws.{word-stored}
 use Rattle.masks.proofs.builder.close_word.Goals as goal
 
 pub overflow_add-ones : goal.overflow_add-ones

@@ -1,7 +1,7 @@
 -- A word in progress is stored after the finished ones (`freeze-word`); without one the buffer is frozen already (`freeze-whole`).
 use native.Mathlib.Omega.{arith}
-use Rattle.masks.proofs.FreezeLaws.{freeze-word, freeze-whole}
-use Rattle.masks.proofs.RoomLaws.{word-stored}
+use Rattle.masks.proofs.builder.FreezeLaws.{freeze-word, freeze-whole}
+use Rattle.masks.proofs.builder.RoomLaws.{word-stored}
 use Rattle.masks.proofs.builder.finish.Goals as goal
 
 pub returns-then-b-ne0 : goal.returns-then-b-ne0

@@ -5,11 +5,11 @@ use mathlib.Core.Path.{ap, ◌∙◌}
 use native.Mathlib.Omega.{arith}
 use borrow.Author.Rules.{rules}
 use Rattle.masks.specs.Builder.{appended}
-use Rattle.masks.proofs.AppendLaws.{append-then}
-use Rattle.masks.proofs.InsideLaws.{cut-whole, front-padded, inside-padded, length-rest, none-padded, rest-padded}
-use Rattle.masks.proofs.PartLaws.{length-low}
-use Rattle.masks.proofs.PushLaws.{grown-way, push-begun}
-use Rattle.masks.proofs.RoomLaws.{length-then, room-less}
+use Rattle.masks.proofs.builder.AppendLaws.{append-then}
+use Rattle.masks.proofs.builder.InsideLaws.{cut-whole, front-padded, inside-padded, length-rest, none-padded, rest-padded}
+use Rattle.masks.proofs.utils.PartLaws.{length-low}
+use Rattle.masks.proofs.builder.PushLaws.{grown-way, push-begun}
+use Rattle.masks.proofs.builder.RoomLaws.{length-then, room-less}
 use Rattle.masks.proofs.builder.push_flags.Goals as goal
 
 pub push_inside-requires : goal.push_inside-requires

@@ -1,5 +1,5 @@
 -- The word in progress has room for all flags (`push-within`).
-use Rattle.masks.proofs.PushLaws.{grown-way, push-within}
+use Rattle.masks.proofs.builder.PushLaws.{grown-way, push-within}
 use borrow.Author.Rules.{rules}
 use Rattle.masks.proofs.builder.push_inside.Goals as goal
 

@@ -3,7 +3,7 @@ use Prim.Native.Nat.{◌+◌}
 use native.Mathlib.Omega.{arith}
 use borrow.Author.Tests.{le-leb, lt-leb}
 use Rattle.masks.specs.Checks.{limit}
-use Rattle.masks.proofs.RoomLaws.{in-limit, over-limit}
+use Rattle.masks.proofs.builder.RoomLaws.{in-limit, over-limit}
 use Rattle.masks.proofs.checks.check_builder.Goals as goal
 
 pub returns-then-b-gt-LIMIT : goal.returns-then-b-gt-LIMIT

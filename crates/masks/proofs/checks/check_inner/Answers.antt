@@ -2,9 +2,9 @@
 use Rattle.std.proofs.Common.{refl, ◌∙◌}
 use Rattle.masks.specs.Appends.{inner_checks}
 use Rattle.masks.specs.Checks.{rank, place_in}
-use Rattle.masks.proofs.CheckLaws.{one-check, passed-before}
-use Rattle.masks.proofs.OrderLaws.{limit-first}
-use Rattle.masks.proofs.RefusalLaws.{number-ne0, exit-number}
+use Rattle.masks.proofs.checks.CheckLaws.{one-check, passed-before}
+use Rattle.masks.proofs.checks.OrderLaws.{limit-first}
+use Rattle.masks.proofs.refusal.RefusalLaws.{number-ne0, exit-number}
 use Rattle.masks.proofs.checks.check_inner.Goals as goal
 
 pub returns-in_err-check_limit : goal.returns-in_err-check_limit

@@ -1,5 +1,5 @@
 -- `one-check` at number 1.
-use Rattle.masks.proofs.CheckLaws.{one-check}
+use Rattle.masks.proofs.checks.CheckLaws.{one-check}
 use Rattle.masks.proofs.checks.check_limit.Goals as goal
 
 pub returns : goal.returns

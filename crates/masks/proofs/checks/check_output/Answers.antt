@@ -1,6 +1,6 @@
 -- `one-check`, and `output-test`: comparing words equals comparing bytes.
 use Rattle.masks.specs.Checks.{output_checks}
-use Rattle.masks.proofs.CheckLaws.{one-check, output-test}
+use Rattle.masks.proofs.checks.CheckLaws.{one-check, output-test}
 use Rattle.masks.proofs.checks.check_output.Goals as goal
 
 pub returns : goal.returns

@@ -1,6 +1,6 @@
 -- A buffer that is too small sets the number (`small-room`); else the ones do (`ones_over`), and then the word (`word-decides`).
 use Rattle.std.proofs.Common.{arith}
-use Rattle.masks.proofs.RoomLaws.{small-room, ones_over, word-decides}
+use Rattle.masks.proofs.builder.RoomLaws.{small-room, ones_over, word-decides}
 use Rattle.masks.proofs.checks.check_room.Goals as goal
 
 pub returns-then-size-div_ceil : goal.returns-then-size-div_ceil

@@ -3,8 +3,8 @@ use Rattle.std.proofs.Common.{◌∙◌, ◌&&◌, sym, rules}
 use Rattle.std.proofs.lemmas.Bool.{and_parts}
 use mathlib.Core.Path.{ap₂}
 use borrow.Author.Tests.{leb-true}
-use Rattle.masks.proofs.CheckLaws.{passed-one, span-refused, span-within}
-use Rattle.masks.proofs.RefusalLaws.{exit-number, number-ne0}
+use Rattle.masks.proofs.checks.CheckLaws.{passed-one, span-refused, span-within}
+use Rattle.masks.proofs.refusal.RefusalLaws.{exit-number, number-ne0}
 use Rattle.masks.proofs.checks.check_span.Goals as goal
 
 pub returns-in_err-check : goal.returns-in_err-check

@@ -1,5 +1,5 @@
 -- The earlier of the numbers of the span and of the builder (`two-pieces`).
-use Rattle.masks.proofs.CheckLaws.{two-pieces}
+use Rattle.masks.proofs.checks.CheckLaws.{two-pieces}
 use Rattle.masks.proofs.checks.check_span_grow.Goals as goal
 
 pub returns : goal.returns

@@ -3,8 +3,8 @@ use Rattle.std.proofs.Common.{refl}
 use mathlib.Core.Path.{◌∙◌}
 use borrow.Author.Tests.{le-leb, lt-leb}
 use Rattle.masks.specs.Checks.{rank, place_in}
-use Rattle.masks.proofs.CheckLaws.{first-number, one-check, passed-before}
-use Rattle.masks.proofs.RefusalLaws.{number-ne0, exit-number}
+use Rattle.masks.proofs.checks.CheckLaws.{first-number, one-check, passed-before}
+use Rattle.masks.proofs.refusal.RefusalLaws.{number-ne0, exit-number}
 use Rattle.masks.proofs.checks.check_word.Goals as goal
 use Rattle.masks.proofs.checks.check_word.Goals.{then-k-le64, else-k-le64}
 

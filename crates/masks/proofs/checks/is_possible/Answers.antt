@@ -1,7 +1,7 @@
 -- By cases on the tests made: each case fixes the contract's conjunction.
 use Rattle.std.proofs.Common.{◌∙◌, sym}
 use Rattle.masks.specs.Builder.{possible}
-use Rattle.masks.proofs.CheckLaws.{both-tested, first-tested, possible-not, third-decides}
+use Rattle.masks.proofs.checks.CheckLaws.{both-tested, first-tested, possible-not, third-decides}
 use Rattle.masks.proofs.checks.is_possible.Goals as goal
 use Rattle.masks.proofs.checks.is_possible.Goals.{then-none_from, else-none_from}
 

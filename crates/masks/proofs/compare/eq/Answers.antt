@@ -1,11 +1,11 @@
 -- By cases on the number of the checks; then masks of unequal lengths differ (`lengths_differ`), else the flags are compared.
 use mathlib.Core.Path.{refl, sym, ap, ◌∙◌}
-use Rattle.words.proofs.Windows.{length-window}
+use Rattle.words.proofs.flags.Windows.{length-window}
 use Rattle.masks.specs.Answer.{given}
 use Rattle.masks.specs.Compare.{eq_of}
-use Rattle.masks.proofs.CheckLaws.{two-pieces, is-given}
-use Rattle.masks.proofs.RefusalLaws.{exit-refused}
-use Rattle.masks.proofs.CompareLaws.{lengths_differ, same-length-eq}
+use Rattle.masks.proofs.checks.CheckLaws.{two-pieces, is-given}
+use Rattle.masks.proofs.refusal.RefusalLaws.{exit-refused}
+use Rattle.masks.proofs.compare.CompareLaws.{lengths_differ, same-length-eq}
 use borrow.Author.Tests.{ne_eqb}
 use Rattle.masks.proofs.compare.eq.Goals as goal
 

@@ -3,9 +3,9 @@ use mathlib.Core.Path.{refl, sym, ap, ◌∙◌}
 use Rattle.std.proofs.Common.{arith}
 use Rattle.masks.specs.Answer.{given}
 use Rattle.masks.specs.Compare.{edges_of}
-use Rattle.masks.proofs.CheckLaws.{is-given}
-use Rattle.masks.proofs.MaskLaws.{mask-allowed}
-use Rattle.masks.proofs.RefusalLaws.{exit-refused}
+use Rattle.masks.proofs.checks.CheckLaws.{is-given}
+use Rattle.masks.proofs.bitmap.MaskLaws.{mask-allowed}
+use Rattle.masks.proofs.refusal.RefusalLaws.{exit-refused}
 use Rattle.masks.proofs.compare.num_edges.Goals as goal
 
 pub returns-in_err-check_mask : goal.returns-in_err-check_mask

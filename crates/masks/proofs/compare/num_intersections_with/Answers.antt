@@ -2,9 +2,9 @@
 use mathlib.Core.Path.{refl, sym, ap, ◌∙◌}
 use Rattle.masks.specs.Answer.{given}
 use Rattle.masks.specs.Compare.{common_of, common_checks}
-use Rattle.masks.proofs.CheckLaws.{two-pieces, one-check, is-given}
-use Rattle.masks.proofs.CompareLaws.{common-ones, common_lengths}
-use Rattle.masks.proofs.RefusalLaws.{exit-refused}
+use Rattle.masks.proofs.checks.CheckLaws.{two-pieces, one-check, is-given}
+use Rattle.masks.proofs.compare.CompareLaws.{common-ones, common_lengths}
+use Rattle.masks.proofs.refusal.RefusalLaws.{exit-refused}
 use Rattle.masks.proofs.compare.num_intersections_with.Goals as goal
 
 pub returns-in_err-earlier : goal.returns-in_err-earlier

@@ -2,8 +2,8 @@
 use Rattle.std.proofs.Common.{refl, ◌∙◌}
 use Rattle.masks.specs.Checks.{rank, place_in, span_checks}
 use Rattle.masks.specs.Cursor.{cursor_checks}
-use Rattle.masks.proofs.CheckLaws.{first-number, one-check, passed-before}
-use Rattle.masks.proofs.RefusalLaws.{number-ne0, exit-number}
+use Rattle.masks.proofs.checks.CheckLaws.{first-number, one-check, passed-before}
+use Rattle.masks.proofs.refusal.RefusalLaws.{number-ne0, exit-number}
 use Rattle.masks.proofs.cursor.check_cursor.Goals as goal
 
 pub returns-in_err-check_span : goal.returns-in_err-check_span

@@ -3,13 +3,13 @@
 use Prim.Native.Nat.{◌-◌, ◌%◌, ◌≤◌}
 use mathlib.Core.Path.{ap, ◌∙◌}
 use native.Mathlib.Omega.{arith}
-use Rattle.words.proofs.Windows.{length-copies}
+use Rattle.words.proofs.flags.Windows.{length-copies}
 use Rattle.masks.specs.Builder.{appended}
-use Rattle.masks.proofs.AppendLaws.{constant-front}
-use Rattle.masks.proofs.ExtendLaws.{append-three, copies-three}
-use Rattle.masks.proofs.InsideLaws.{front-padded, inside-padded}
-use Rattle.masks.proofs.PartLaws.{length-low}
-use Rattle.masks.proofs.RoomLaws.{room-then, length-then}
+use Rattle.masks.proofs.builder.AppendLaws.{constant-front}
+use Rattle.masks.proofs.extend.ExtendLaws.{append-three, copies-three}
+use Rattle.masks.proofs.builder.InsideLaws.{front-padded, inside-padded}
+use Rattle.masks.proofs.utils.PartLaws.{length-low}
+use Rattle.masks.proofs.builder.RoomLaws.{room-then, length-then}
 use Rattle.masks.proofs.extend.append_copies.Goals as goal
 
 pub push_inside-requires : goal.push_inside-requires

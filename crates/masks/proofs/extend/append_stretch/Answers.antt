@@ -3,11 +3,11 @@
 use Prim.Native.Nat.{◌-◌, ◌*◌, ◌/◌, ◌≤◌}
 use mathlib.Core.Path.{ap, ◌∙◌}
 use native.Mathlib.Omega.{arith}
-use Rattle.words.proofs.Windows.{length-window}
+use Rattle.words.proofs.flags.Windows.{length-window}
 use Rattle.masks.specs.Builder.{appended}
-use Rattle.masks.proofs.ExtendLaws.{append-three, window-three, stretch-front}
-use Rattle.masks.proofs.PartLaws.{length-low}
-use Rattle.masks.proofs.RoomLaws.{room-then, length-then}
+use Rattle.masks.proofs.extend.ExtendLaws.{append-three, window-three, stretch-front}
+use Rattle.masks.proofs.utils.PartLaws.{length-low}
+use Rattle.masks.proofs.builder.RoomLaws.{room-then, length-then}
 use Rattle.masks.proofs.extend.append_stretch.Goals as goal
 
 pub returns-then-n-le64 : goal.returns-then-n-le64

@@ -1,11 +1,11 @@
 -- `append-whole`: no word is in progress; whole words are stored at the first unfilled one. Ones are at most the flags, so the sum fits.
-use Rattle.words.proofs.Counting.{count-within}
+use Rattle.words.proofs.counts.Counting.{count-within}
 use Rattle.words.specs.Flags.{flags_of}
 use native.Mathlib.Omega.{arith}
-use Rattle.words.proofs.Bytes.{over-from}
-use Rattle.words.proofs.Windows.{length-window}
-use Rattle.masks.proofs.ExtendLaws.{append-whole}
-use Rattle.masks.proofs.PushLaws.{grown-way}
+use Rattle.words.proofs.flags.Bytes.{over-from}
+use Rattle.words.proofs.flags.Windows.{length-window}
+use Rattle.masks.proofs.extend.ExtendLaws.{append-whole}
+use Rattle.masks.proofs.builder.PushLaws.{grown-way}
 use Rattle.masks.proofs.extend.copy_words.Goals as goal
 
 pub overflow_add-ones : goal.overflow_add-ones

@@ -1,11 +1,11 @@
 -- `append-whole`: no word is in progress; whole words are stored at the first unfilled one; `count-copies` counts their ones.
 use mathlib.Core.Path.{sym, ◌∙◌}
 use native.Mathlib.Omega.{arith}
-use Rattle.words.proofs.Bytes.{over-from}
-use Rattle.words.proofs.Counting.{count-copies}
-use Rattle.words.proofs.Windows.{length-copies}
-use Rattle.masks.proofs.ExtendLaws.{append-whole, ones-of, words-filled}
-use Rattle.masks.proofs.PushLaws.{grown-way}
+use Rattle.words.proofs.flags.Bytes.{over-from}
+use Rattle.words.proofs.counts.Counting.{count-copies}
+use Rattle.words.proofs.flags.Windows.{length-copies}
+use Rattle.masks.proofs.extend.ExtendLaws.{append-whole, ones-of, words-filled}
+use Rattle.masks.proofs.builder.PushLaws.{grown-way}
 use Rattle.masks.proofs.extend.fill_words.Goals as goal
 
 pub returns : goal.returns

@@ -2,7 +2,7 @@
 use Rattle.std.proofs.Common.{◌∙◌, ltb, rules, tests}
 use Rattle.std.proofs.lemmas.Iterator.{YieldsList-from_slice}
 use Rattle.std.proofs.lemmas.Iterator.Search.{all_from_yields_List}
-use Rattle.masks.proofs.GatherLaws.{below-is-all}
+use Rattle.masks.proofs.builder.GatherLaws.{below-is-all}
 use Rattle.masks.proofs.gather.all_below.Goals as goal
 
 pub returns : goal.returns

@@ -1,8 +1,8 @@
 -- One more part is `part-step`, with the room that `part-room` leaves; at the end nothing is left.
 use Rattle.std.proofs.Common.{rules}
 use Rattle.masks.specs.Builder.{filling}
-use Rattle.masks.proofs.AppendLaws.{append-none}
-use Rattle.masks.proofs.GatherLaws.{none-more, nothing-left, part-room, part-step}
+use Rattle.masks.proofs.builder.AppendLaws.{append-none}
+use Rattle.masks.proofs.builder.GatherLaws.{none-more, nothing-left, part-room, part-step}
 use Rattle.masks.proofs.gather.append_gathered.Goals as goal
 
 pub loop-part-init : goal.loop-part-init

@@ -1,6 +1,6 @@
 -- The invariant: the first i flags of w are those at the first i indices. Adding one more is the law `word-step`.
 use Rattle.std.proofs.Common.{refl}
-use Rattle.masks.proofs.GatherLaws.{gathered_none, word-step}
+use Rattle.masks.proofs.builder.GatherLaws.{gathered_none, word-step}
 use Rattle.masks.proofs.gather.gather_word.Goals as goal
 
 pub loop-i-init : goal.loop-i-init

@@ -1,6 +1,6 @@
 -- Inside the span the flag is one of the bytes (`flag-inside`); past it the flag is 0 (`flag-past`).
 use Rattle.std.proofs.Common.{◌∙◌, le-ltb}
-use Rattle.masks.proofs.GatherLaws.{flag-inside, flag-past}
+use Rattle.masks.proofs.builder.GatherLaws.{flag-inside, flag-past}
 use Rattle.masks.proofs.gather.span_flag.Goals as goal
 
 pub returns-then-at-span : goal.returns-then-at-span

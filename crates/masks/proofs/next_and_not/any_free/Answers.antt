@@ -1,5 +1,5 @@
 -- By cases on the second mask: a stretch of both buffers (`any-both`) or of the first (`any-alone`) is a part of the flags searched.
-use Rattle.masks.proofs.NextAndNotLaws.{any-both, any-alone}
+use Rattle.masks.proofs.next_and_not.NextAndNotLaws.{any-both, any-alone}
 use Rattle.masks.proofs.next_and_not.any_free.Goals as goal
 
 pub returns-in-Some : goal.returns-in-Some

@@ -1,7 +1,7 @@
 -- The checks of the first mask, of the second and of the place, joined: `two-pieces`.
 use mathlib.Core.Path.{refl}
 use Rattle.masks.specs.NextAndNot.{next_checks}
-use Rattle.masks.proofs.CheckLaws.{one-check, two-pieces}
+use Rattle.masks.proofs.checks.CheckLaws.{one-check, two-pieces}
 use Rattle.masks.proofs.next_and_not.check_next.Goals as goal
 
 pub returns : goal.returns

@@ -3,8 +3,8 @@ use Rattle.std.proofs.Common.{refl, ◌∙◌}
 use Rattle.masks.specs.Checks.{first_failed, rank, place_in, span_checks}
 use Rattle.masks.specs.Mask.{mask_checks}
 use Rattle.masks.specs.NextAndNot.{other_checks}
-use Rattle.masks.proofs.CheckLaws.{first-number, one-check, passed-before}
-use Rattle.masks.proofs.RefusalLaws.{number-ne0, exit-number}
+use Rattle.masks.proofs.checks.CheckLaws.{first-number, one-check, passed-before}
+use Rattle.masks.proofs.refusal.RefusalLaws.{number-ne0, exit-number}
 use Rattle.masks.proofs.next_and_not.check_other.Goals as goal
 
 pub returns-in_err-check_mask-in-Some : goal.returns-in_err-check_mask-in-Some

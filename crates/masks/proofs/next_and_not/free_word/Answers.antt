@@ -1,5 +1,5 @@
 -- By cases on the second mask: the first flags of the word of both (`word-both`) or of the first (`word-alone`) are those searched.
-use Rattle.masks.proofs.NextAndNotLaws.{word-both, word-alone}
+use Rattle.masks.proofs.next_and_not.NextAndNotLaws.{word-both, word-alone}
 use Rattle.masks.proofs.next_and_not.free_word.Goals as goal
 
 pub returns-in-Some : goal.returns-in-Some

@@ -4,9 +4,9 @@ use mathlib.Core.Path.{refl, sym, ap, ◌∙◌}
 use native.Mathlib.Omega.{arith}
 use Rattle.masks.specs.Answer.{given}
 use Rattle.masks.specs.NextAndNot.{next_and_not_of}
-use Rattle.masks.proofs.CheckLaws.{is-given}
-use Rattle.masks.proofs.NextAndNotLaws.{before-allowed, found-ahead, found_before, found_none, found-word, free-length, next-allowed}
-use Rattle.masks.proofs.RefusalLaws.{exit-refused}
+use Rattle.masks.proofs.checks.CheckLaws.{is-given}
+use Rattle.masks.proofs.next_and_not.NextAndNotLaws.{before-allowed, found-ahead, found_before, found_none, found-word, free-length, next-allowed}
+use Rattle.masks.proofs.refusal.RefusalLaws.{exit-refused}
 use Rattle.masks.proofs.next_and_not.next_and_not.Goals as goal
 
 pub returns-in_err-check_next : goal.returns-in_err-check_next

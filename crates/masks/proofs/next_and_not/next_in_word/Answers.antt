@@ -1,7 +1,7 @@
 -- A flag is found at or after the place (`found-ahead`), or before it (`found_before`), or nowhere (`found_none`).
 use mathlib.Core.Path.{refl}
 use native.Mathlib.Omega.{arith}
-use Rattle.masks.proofs.NextAndNotLaws.{found-ahead, found_before, found_none, long-word, word-ahead, word-before}
+use Rattle.masks.proofs.next_and_not.NextAndNotLaws.{found-ahead, found_before, found_none, long-word, word-ahead, word-before}
 use Rattle.masks.proofs.next_and_not.next_in_word.Goals as goal
 
 pub returns-then-ahead-n : goal.returns-then-ahead-n

@@ -1,6 +1,6 @@
 -- The invariant: no flag searched is set from the place up to `at`. A block without a set flag keeps it (`passed-block`).
 use native.Mathlib.Omega.{arith}
-use Rattle.masks.proofs.NextAndNotLaws.{free-length, passed-block}
+use Rattle.masks.proofs.next_and_not.NextAndNotLaws.{free-length, passed-block}
 use Rattle.masks.proofs.next_and_not.pass_blocks.Goals as goal
 
 pub loop-at-preserved : goal.loop-at-preserved

@@ -4,7 +4,7 @@ use mathlib.Core.Path.{ap, ◌∙◌}
 use mathlib.Core.Bool.{false}
 use native.Mathlib.Omega.{arith}
 use Rattle.words.specs.Ends.{leading}
-use Rattle.masks.proofs.NextAndNotLaws.{free-length, passed-end, passed-more, passed-stop, word-most}
+use Rattle.masks.proofs.next_and_not.NextAndNotLaws.{free-length, passed-end, passed-more, passed-stop, word-most}
 use Rattle.masks.proofs.next_and_not.zeros_ahead.Goals as goal
 
 pub overflow_add-at : goal.overflow_add-at

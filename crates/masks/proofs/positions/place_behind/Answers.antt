@@ -1,6 +1,6 @@
 -- One law for each of the three answers: fewer positions than places, no place, or a last position written.
 use mathlib.Core.Path.{refl}
-use Rattle.masks.proofs.PositionLaws.{place-few, place_none, place-last}
+use Rattle.masks.proofs.positions.PositionLaws.{place-few, place_none, place-last}
 use Rattle.masks.proofs.positions.place_behind.Goals as goal
 
 pub returns-then-count-out : goal.returns-then-count-out

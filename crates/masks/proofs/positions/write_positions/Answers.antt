@@ -1,7 +1,7 @@
 -- With a mask by its words (`masked-written`), without one as a row (`row_written`).
 use native.Mathlib.Omega.{arith}
-use Rattle.masks.proofs.PositionLaws.{masked-written, row_written}
-use Rattle.masks.proofs.TrueIdxLaws.{masked-allowed, true-allowed}
+use Rattle.masks.proofs.positions.PositionLaws.{masked-written, row_written}
+use Rattle.masks.proofs.true_idx.TrueIdxLaws.{masked-allowed, true-allowed}
 use Rattle.masks.proofs.positions.write_positions.Goals as goal
 
 pub invariant_of-span : goal.invariant_of-span

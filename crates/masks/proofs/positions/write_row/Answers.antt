@@ -1,6 +1,6 @@
 -- The invariant: the first i positions are written over the part. Writing one more is the law `row_step`.
 use mathlib.Core.Path.{refl}
-use Rattle.masks.proofs.PositionLaws.{row-none, row_step, row-all}
+use Rattle.masks.proofs.positions.PositionLaws.{row-none, row_step, row-all}
 use Rattle.masks.proofs.positions.write_row.Goals as goal
 
 pub loop-i-init : goal.loop-i-init

@@ -1,5 +1,5 @@
 -- `row-mid`: a row over a part of the output.
-use Rattle.masks.proofs.PositionLaws.{row-mid}
+use Rattle.masks.proofs.positions.PositionLaws.{row-mid}
 use Rattle.masks.proofs.positions.write_run.Goals as goal
 
 pub returns : goal.returns

@@ -4,9 +4,9 @@ use mathlib.Core.Bool.{true, false}
 use mathlib.Core.Path.{refl}
 use native.Mathlib.Omega.{arith}
 use Rattle.words.specs.Flags.{bits}
-use Rattle.words.proofs.Bits.{length-bits}
-use Rattle.masks.proofs.PositionLaws.{begins, finished, full}
-use Rattle.masks.proofs.PositionRuns.{no_ones, some-ones, shorter, turned, no_more, lead-within}
+use Rattle.words.proofs.flags.Bits.{length-bits}
+use Rattle.masks.proofs.positions.PositionLaws.{begins, finished, full}
+use Rattle.masks.proofs.positions.PositionRuns.{no_ones, some-ones, shorter, turned, no_more, lead-within}
 use Rattle.masks.proofs.positions.write_word.Goals as goal
 
 pub loop-done-init : goal.loop-done-init

@@ -4,7 +4,7 @@ use Prim.Native.Nat.{◌≤◌, ◌+◌, ◌*◌}
 use lib.ListN.{length}
 use Rattle.words.specs.Flags.{bits}
 use Rattle.masks.specs.TrueIdx.{ones_from}
-use Rattle.masks.proofs.PositionLaws.{UnderWay}
+use Rattle.masks.proofs.positions.PositionLaws.{UnderWay}
 use Rattle.masks.proofs.positions.write_word.Given as goal
 
 abbrev pub invariant-loop-done : goal.invariant-loop-done

@@ -1,8 +1,8 @@
 -- The invariant: the output is under way (`UnderWay`), with the positions at or after `at`. One more word is the law `word-on`.
 use mathlib.Core.Path.{refl}
 use native.Mathlib.Omega.{arith}
-use Rattle.masks.proofs.PositionLaws.{begins, finished, full}
-use Rattle.masks.proofs.PositionRuns.{word-on, none-behind}
+use Rattle.masks.proofs.positions.PositionLaws.{begins, finished, full}
+use Rattle.masks.proofs.positions.PositionRuns.{word-on, none-behind}
 use Rattle.masks.proofs.positions.write_words.Goals as goal
 
 pub loop-at-init : goal.loop-at-init

@@ -2,7 +2,7 @@
 use Prim.Native.Nat.{◌≤◌, ◌-◌}
 use Rattle.words.specs.Loops.{stretch}
 use Rattle.masks.specs.TrueIdx.{ones_left}
-use Rattle.masks.proofs.PositionLaws.{UnderWay}
+use Rattle.masks.proofs.positions.PositionLaws.{UnderWay}
 use Rattle.masks.proofs.positions.write_words.Given as goal
 
 abbrev pub invariant-loop-at : goal.invariant-loop-at

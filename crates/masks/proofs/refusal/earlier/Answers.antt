@@ -2,8 +2,8 @@
 use mathlib.Core.Path.{sym, ap, ap₂, ◌∙◌}
 use Rattle.masks.specs.Checks.{earlier as earlier_of}
 use Rattle.masks.specs.Refusal.{failure_of, number}
-use Rattle.masks.proofs.CheckLaws.{earlier-none, none-earlier}
-use Rattle.masks.proofs.RefusalLaws.{least-number}
+use Rattle.masks.proofs.checks.CheckLaws.{earlier-none, none-earlier}
+use Rattle.masks.proofs.refusal.RefusalLaws.{least-number}
 use Rattle.masks.proofs.refusal.earlier.Goals as goal
 
 pub returns-in-Err-Err : goal.returns-in-Err-Err

@@ -1,8 +1,8 @@
 -- By cases on the repeats: for none nothing is appended (`no-repeats`), for one the stretch itself (`one-repeat`), else `append_runs`.
 use mathlib.Core.Path.{sym, ap, ◌∙◌}
 use Rattle.masks.specs.Builder.{filling, appended}
-use Rattle.masks.proofs.AppendLaws.{append-none}
-use Rattle.masks.proofs.RepeatLaws.{no-repeats, one-repeat}
+use Rattle.masks.proofs.builder.AppendLaws.{append-none}
+use Rattle.masks.proofs.builder.RepeatLaws.{no-repeats, one-repeat}
 use Rattle.masks.proofs.repeat.append_repeated.Goals as goal
 
 pub returns-then-repeats-eq0 : goal.returns-then-repeats-eq0

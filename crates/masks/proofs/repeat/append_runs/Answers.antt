@@ -1,7 +1,7 @@
 -- The invariant: the first i flags are appended, each repeated. One more is the law `runs-step`, with the room of `runs-room`.
 use mathlib.Core.Path.{sym, ap, ◌∙◌}
-use Rattle.masks.proofs.AppendLaws.{append-none}
-use Rattle.masks.proofs.RepeatLaws.{nothing_yet, runs-step, runs-room}
+use Rattle.masks.proofs.builder.AppendLaws.{append-none}
+use Rattle.masks.proofs.builder.RepeatLaws.{nothing_yet, runs-step, runs-room}
 use Rattle.masks.specs.Builder.{filling, appended}
 use Rattle.masks.proofs.repeat.append_runs.Goals as goal
 

@@ -1,5 +1,5 @@
 -- `exact-product`: a product that does not fit fails check 1, which comes first, as the largest number does.
-use Rattle.masks.proofs.RepeatLaws.{exact-product}
+use Rattle.masks.proofs.builder.RepeatLaws.{exact-product}
 use Rattle.masks.proofs.repeat.check_product.Goals as goal
 
 pub returns : goal.returns

@@ -2,7 +2,7 @@
 use Rattle.std.specs.Bool.{then_some}
 use mathlib.Core.Bool.{Bool}
 use mathlib.Core.Path.{sym, ap, ◌∙◌}
-use Rattle.masks.proofs.CombineLaws.{either_first, either_second}
+use Rattle.masks.proofs.bitmap_ops.CombineLaws.{either_first, either_second}
 use Rattle.masks.proofs.shortcuts.either_all.Goals as goal
 use Rattle.masks.proofs.shortcuts.either_all.Goals.{then-is_all_early, else-is_all_early}
 

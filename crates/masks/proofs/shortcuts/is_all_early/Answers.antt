@@ -6,7 +6,7 @@ use lib.Dec.{eqb}
 use Rattle.masks.specs.Mask.{zero_count}
 use Rattle.masks.specs.Utils.{zeros}
 use Rattle.masks.specs.Workers.{zeros_of_all}
-use Rattle.masks.proofs.SpanLaws.{whole-stretch}
+use Rattle.masks.proofs.span.SpanLaws.{whole-stretch}
 use Rattle.masks.proofs.shortcuts.is_all_early.Goals as goal
 
 pub returns-in-Some : goal.returns-in-Some

@@ -1,5 +1,5 @@
 -- By cases on the operation: `and` and `or` look for a mask that is all of one flag (`by-and`, `by-or`).
-use Rattle.masks.proofs.CombineLaws.{by-and, by-or, not-short}
+use Rattle.masks.proofs.bitmap_ops.CombineLaws.{by-and, by-or, not-short}
 use Rattle.masks.proofs.shortcuts.pair_shortcut.Goals as goal
 use Rattle.masks.proofs.shortcuts.pair_shortcut.Goals.{in-And, in-Or}
 

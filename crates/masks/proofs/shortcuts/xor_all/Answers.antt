@@ -1,6 +1,6 @@
 -- By cases on the two tests: each path has the outcomes that it needs.
 use mathlib.Core.Path.{sym, ◌∙◌}
-use Rattle.masks.proofs.CombineLaws.{xor_same, xor_opposite, xor-mixed}
+use Rattle.masks.proofs.bitmap_ops.CombineLaws.{xor_same, xor_opposite, xor-mixed}
 use Rattle.masks.proofs.shortcuts.xor_all.Goals as goal
 
 pub returns-then-is_all_early : goal.returns-then-is_all_early

@@ -1,6 +1,6 @@
 -- The first mask is all zero (`xor-clear`), all one (`xor-full`), or neither (`xor-other`).
 use mathlib.Core.Path.{sym, ◌∙◌}
-use Rattle.masks.proofs.CombineLaws.{xor-clear, xor-full, xor-other}
+use Rattle.masks.proofs.bitmap_ops.CombineLaws.{xor-clear, xor-full, xor-other}
 use Rattle.masks.proofs.shortcuts.xor_shortcut.Goals as goal
 
 pub returns-then-is_all_early : goal.returns-then-is_all_early

@@ -3,7 +3,7 @@
 -- the span's end (`walk_end`).
 use mathlib.Core.Path.{refl}
 use native.Mathlib.Omega.{arith}
-use Rattle.masks.proofs.RunLaws.{walk-byte, walk-stop, walk-zero, walk-one, walk_end}
+use Rattle.masks.proofs.slice_iterator.RunLaws.{walk-byte, walk-stop, walk-zero, walk-one, walk_end}
 use borrow.Author.Rules.{rules}
 use Rattle.masks.proofs.slice_iterator.run_from.Goals as goal
 

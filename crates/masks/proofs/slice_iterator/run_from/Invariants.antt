@@ -4,7 +4,7 @@
 use mathlib.Core.Path.{◌≡◌}
 use Prim.Native.Nat.{◌+◌, ◌-◌, ◌*◌, ◌/◌, ◌≤◌}
 use Rattle.words.specs.Loops.{stretch}
-use Rattle.masks.proofs.RunLaws.{Walking}
+use Rattle.masks.proofs.slice_iterator.RunLaws.{Walking}
 use Rattle.masks.proofs.slice_iterator.run_from.Given as goal
 
 abbrev pub invariant-bits : goal.invariant-bits

@@ -1,6 +1,6 @@
 -- `low_value`: the k low flags of the word read at `bit`, as a number.
 use borrow.Author.Rules.{rules}
-use Rattle.masks.proofs.SpanLaws.{low_value}
+use Rattle.masks.proofs.span.SpanLaws.{low_value}
 use Rattle.masks.proofs.span.flags_word.Goals as goal
 
 pub returns : goal.returns

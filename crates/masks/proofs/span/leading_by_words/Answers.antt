@@ -1,7 +1,7 @@
 -- The invariant: the flags from `place` to `at` equal `flag`. A word of such flags keeps it (`alike-more`) or is the last (`alike-last`),
 -- another ends the loop (`alike-stop`).
 use native.Mathlib.Omega.{arith}
-use Rattle.masks.proofs.IteratorLaws.{alike-stop, alike-more, alike-last, alike-whole}
+use Rattle.masks.proofs.iterator.IteratorLaws.{alike-stop, alike-more, alike-last, alike-whole}
 use Rattle.masks.proofs.span.leading_by_words.Goals.{else-loop-at-test, then-loop-at-test+else-same-k+else-length-at-gt64}
 use Rattle.masks.proofs.span.leading_by_words.Goals as goal
 

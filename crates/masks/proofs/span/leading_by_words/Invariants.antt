@@ -1,6 +1,6 @@
 -- The invariant: the flags from `place` to `at` equal `flag`. A word of such flags keeps it (`alike-more`), another ends the loop
 -- (`alike-stop`).
-use Rattle.masks.proofs.IteratorLaws.{Alike}
+use Rattle.masks.proofs.iterator.IteratorLaws.{Alike}
 use Prim.Native.Nat.{◌-◌}
 use Rattle.words.specs.Loops.{stretch}
 use Rattle.masks.proofs.span.leading_by_words.Given as goal

@@ -1,7 +1,7 @@
 -- A flag that differs in the first word, else word by word.
 use native.Mathlib.Omega.{arith}
-use Rattle.masks.proofs.ExtendLaws.{stretch-front}
-use Rattle.masks.proofs.IteratorLaws.{word-alike}
+use Rattle.masks.proofs.extend.ExtendLaws.{stretch-front}
+use Rattle.masks.proofs.iterator.IteratorLaws.{word-alike}
 use Rattle.masks.proofs.span.leading_from.Goals as goal
 
 pub returns-then-same-k : goal.returns-then-same-k

@@ -2,8 +2,8 @@
 use mathlib.Core.Path.{◌≡◌, sym, ◌∙◌}
 use Prim.Native.Nat.{◌-◌}
 use native.Mathlib.Omega.{arith}
-use Rattle.words.proofs.Loads.{near-first}
-use Rattle.masks.proofs.IteratorLaws.{word-alike, word-all-alike}
+use Rattle.words.proofs.word.Loads.{near-first}
+use Rattle.masks.proofs.iterator.IteratorLaws.{word-alike, word-all-alike}
 use Rattle.masks.proofs.span.zeros_from.Goals as goal
 
 pub returns-then-same-k : goal.returns-then-same-k

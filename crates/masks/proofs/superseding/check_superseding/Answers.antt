@@ -1,7 +1,7 @@
 -- Masks of unequal serials pass check 14 (`apart`); for equal serials `eq` compares the flags (`compared`, `not-compared`).
 use mathlib.Core.Path.{◌∙◌}
-use Rattle.masks.proofs.SupersedingLaws.{apart, compared, not-compared}
-use Rattle.masks.proofs.RefusalLaws.{exit-number}
+use Rattle.masks.proofs.superseding.SupersedingLaws.{apart, compared, not-compared}
+use Rattle.masks.proofs.refusal.RefusalLaws.{exit-number}
 use Rattle.masks.proofs.superseding.check_superseding.Goals as goal
 
 pub returns-then-first-second : goal.returns-then-first-second

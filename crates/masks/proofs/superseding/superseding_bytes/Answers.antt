@@ -1,7 +1,7 @@
 -- By cases on the answer of `superseding_part`: a part lies in its slice (`given_inside`), and its bytes are the contract's.
 use mathlib.Core.Path.{sym, ap, ◌∙◌}
 use Rattle.masks.specs.Answer.{answer}
-use Rattle.masks.proofs.SupersedingLaws.{first-inside, given_inside, second-inside}
+use Rattle.masks.proofs.superseding.SupersedingLaws.{first-inside, given_inside, second-inside}
 use Rattle.masks.proofs.superseding.superseding_bytes.Goals as goal
 
 pub slice_bounds-result-start : goal.slice_bounds-result-start

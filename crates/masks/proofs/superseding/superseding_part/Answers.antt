@@ -1,8 +1,8 @@
 -- By cases on the number of the checks; if all pass, the larger serial wins: `second_wins` or `first_wins`.
 use mathlib.Core.Path.{refl, sym}
 use Rattle.masks.specs.Superseding.{superseding_of}
-use Rattle.masks.proofs.SupersedingLaws.{first-allowed-mask, first_wins, second-allowed-mask, second_wins}
-use Rattle.masks.proofs.RefusalLaws.{exit-refused}
+use Rattle.masks.proofs.superseding.SupersedingLaws.{first-allowed-mask, first_wins, second-allowed-mask, second_wins}
+use Rattle.masks.proofs.refusal.RefusalLaws.{exit-refused}
 use Rattle.masks.proofs.superseding.superseding_part.Goals as goal
 
 pub returns-in_err-check_superseding : goal.returns-in_err-check_superseding

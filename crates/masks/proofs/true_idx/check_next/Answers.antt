@@ -2,9 +2,9 @@
 use Rattle.std.proofs.Common.{refl, ◌∙◌}
 use Rattle.masks.specs.Checks.{rank, place_in}
 use Rattle.masks.specs.TrueIdx.{true_checks}
-use Rattle.masks.proofs.CheckLaws.{one-check, passed-before}
-use Rattle.masks.proofs.OrderLaws.{limit-first}
-use Rattle.masks.proofs.RefusalLaws.{number-ne0, exit-number}
+use Rattle.masks.proofs.checks.CheckLaws.{one-check, passed-before}
+use Rattle.masks.proofs.checks.OrderLaws.{limit-first}
+use Rattle.masks.proofs.refusal.RefusalLaws.{number-ne0, exit-number}
 use Rattle.masks.proofs.true_idx.check_next.Goals as goal
 
 pub returns-then-cursor : goal.returns-then-cursor

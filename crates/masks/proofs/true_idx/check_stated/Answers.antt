@@ -3,9 +3,9 @@ use Rattle.std.proofs.Common.{refl, ◌∙◌}
 use Rattle.masks.specs.Checks.{rank, place_in, span_checks}
 use Rattle.masks.specs.Mask.{mask_checks}
 use Rattle.masks.specs.TrueIdx.{new_true_checks}
-use Rattle.masks.proofs.CheckLaws.{first-number, one-check, passed-before}
-use Rattle.masks.proofs.OrderLaws.{limit-first}
-use Rattle.masks.proofs.RefusalLaws.{number-ne0, exit-number}
+use Rattle.masks.proofs.checks.CheckLaws.{first-number, one-check, passed-before}
+use Rattle.masks.proofs.checks.OrderLaws.{limit-first}
+use Rattle.masks.proofs.refusal.RefusalLaws.{number-ne0, exit-number}
 use Rattle.masks.proofs.true_idx.check_stated.Goals as goal
 
 pub returns-in_err-check_limit : goal.returns-in_err-check_limit

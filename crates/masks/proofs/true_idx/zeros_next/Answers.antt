@@ -3,7 +3,7 @@ use mathlib.Core.Bool.{Bool, false}
 use mathlib.Core.List.{List}
 use mathlib.Core.Path.{sym, ap, ◌∙◌}
 use Rattle.masks.specs.Iterator.{leading_from}
-use Rattle.masks.proofs.TrueIdxLaws.{with-mask, without-mask}
+use Rattle.masks.proofs.true_idx.TrueIdxLaws.{with-mask, without-mask}
 use Rattle.masks.proofs.true_idx.zeros_next.Goals as goal
 
 pub returns-then-cursor : goal.returns-then-cursor

@@ -1,6 +1,6 @@
 -- `all-zeros`: the words crate counts the ones, this one the zeros.
-use Rattle.words.proofs.Windows.{length-window}
-use Rattle.masks.proofs.PartLaws.{all-zeros}
+use Rattle.words.proofs.flags.Windows.{length-window}
+use Rattle.masks.proofs.utils.PartLaws.{all-zeros}
 use Rattle.masks.proofs.utils.all_flags.Goals as goal
 
 pub returns : goal.returns

@@ -3,10 +3,10 @@ use mathlib.Core.Path.{refl, sym, ap, ◌∙◌}
 use native.Mathlib.Omega.{arith}
 use Rattle.masks.specs.Answer.{given}
 use Rattle.masks.specs.Utils.{span_count, zeros}
-use Rattle.masks.proofs.CheckLaws.{is-given, is-empty, not-empty}
-use Rattle.masks.proofs.SpanLaws.{whole-stretch}
-use Rattle.masks.proofs.SplitLaws.{aligned-allowed}
-use Rattle.masks.proofs.RefusalLaws.{exit-not-empty}
+use Rattle.masks.proofs.checks.CheckLaws.{is-given, is-empty, not-empty}
+use Rattle.masks.proofs.span.SpanLaws.{whole-stretch}
+use Rattle.masks.proofs.aligned.SplitLaws.{aligned-allowed}
+use Rattle.masks.proofs.refusal.RefusalLaws.{exit-not-empty}
 use Rattle.masks.proofs.utils.count_zeros.Goals as goal
 
 pub returns-then-length-eq0 : goal.returns-then-length-eq0

@@ -1,7 +1,7 @@
 -- The flags of the split are the span's (`split-number`).
 use Rattle.std.proofs.Common.{ap, ◌∙◌}
 use Rattle.masks.specs.Workers.{split_flags}
-use Rattle.masks.proofs.SplitLaws.{split-number}
+use Rattle.masks.proofs.aligned.SplitLaws.{split-number}
 use Rattle.masks.proofs.utils.long_run.Goals as goal
 
 pub returns : goal.returns

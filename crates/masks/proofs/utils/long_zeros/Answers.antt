@@ -1,10 +1,10 @@
 -- The ones of the split are the span's (`split-count`), and its zeros are the other flags (`zeros-rest`).
 use Rattle.std.proofs.Common.{arith, ap, ◌∙◌}
-use Rattle.words.proofs.Windows.{length-window}
+use Rattle.words.proofs.flags.Windows.{length-window}
 use Rattle.words.specs.Flags.{count}
 use Rattle.masks.specs.Workers.{split_flags}
-use Rattle.masks.proofs.PartLaws.{ones-most, zeros-rest}
-use Rattle.masks.proofs.SplitLaws.{split-count}
+use Rattle.masks.proofs.utils.PartLaws.{ones-most, zeros-rest}
+use Rattle.masks.proofs.aligned.SplitLaws.{split-count}
 use Rattle.masks.proofs.utils.long_zeros.Goals as goal
 
 pub overflow_sub-result : goal.overflow_sub-result

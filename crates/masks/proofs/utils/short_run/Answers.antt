@@ -1,6 +1,6 @@
 -- All flags are in the one word that is loaded (`near_word`).
 use mathlib.Core.Path.{ap, ◌∙◌}
-use Rattle.words.proofs.Loads.{near-first}
+use Rattle.words.proofs.word.Loads.{near-first}
 use Rattle.masks.proofs.utils.short_run.Goals as goal
 
 pub returns : goal.returns

@@ -1,9 +1,9 @@
 -- All flags are in the one word that is loaded (`near_word`), and the zeros are the flags that are not set (`zeros-rest`).
 use mathlib.Core.Path.{ap, ◌∙◌}
 use Rattle.words.specs.Flags.{count}
-use Rattle.words.proofs.Windows.{length-window}
-use Rattle.words.proofs.Loads.{near-first}
-use Rattle.masks.proofs.PartLaws.{ones-most, zeros-rest}
+use Rattle.words.proofs.flags.Windows.{length-window}
+use Rattle.words.proofs.word.Loads.{near-first}
+use Rattle.masks.proofs.utils.PartLaws.{ones-most, zeros-rest}
 use Rattle.masks.proofs.utils.short_zeros.Goals as goal
 
 pub overflow_sub-result : goal.overflow_sub-result

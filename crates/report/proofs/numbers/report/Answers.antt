@@ -6,8 +6,8 @@ use Rattle.masks.specs.Answer.{answer, answer_back}
 use Rattle.masks.specs.Compare.{edges_of}
 use Rattle.masks.specs.Mask.{unset_bits_of}
 use Rattle.masks.specs.declared.bitmap.Recounted.{Recounted}
-use Rattle.masks.proofs.AnswerLaws.{given-value}
-use Rattle.report.proofs.NumberLaws.{numbers-given, ok-given, ok-given_back, too_long, whole-accepted}
+use Rattle.masks.proofs.refusal.AnswerLaws.{given-value}
+use Rattle.report.proofs.numbers.NumberLaws.{numbers-given, ok-given, ok-given_back, too_long, whole-accepted}
 use Rattle.report.proofs.numbers.report.Goals as goal
 
 pub returns-then-bytes-gt65536 : goal.returns-then-bytes-gt65536

@@ -5,7 +5,7 @@ use Rattle.std.proofs.Common.{rules}
 use mathlib.Core.Path.{ap, sym, ◌∙◌}
 use native.Mathlib.Omega.{arith}
 use Rattle.masks.specs.SliceIterator.{new_slices}
-use Rattle.report.proofs.NumberLaws.{ok-given, none-counted, no_run, ok-next, ok-same, run-passed}
+use Rattle.report.proofs.numbers.NumberLaws.{ok-given, none-counted, no_run, ok-next, ok-same, run-passed}
 use Rattle.report.proofs.numbers.runs_of.Goals as goal
 
 pub unwrap-cursor-requires : goal.unwrap-cursor-requires

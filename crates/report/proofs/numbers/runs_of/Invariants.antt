@@ -1,6 +1,6 @@
 -- The invariant: the runs counted and those after the cursor's place are all. Each iteration passes over one (`run-passed`).
 use Prim.Native.Nat.{◌-◌}
-use Rattle.report.proofs.NumberLaws.{RunsCounted}
+use Rattle.report.proofs.numbers.NumberLaws.{RunsCounted}
 use Rattle.report.proofs.numbers.runs_of.Given as goal
 
 abbrev pub invariant-loop-next : goal.invariant-loop-next

@@ -1,6 +1,6 @@
 -- `counted_first`: the numbers of planes that have the sums of the first words; `wrote-few`: of fewer than 32 words five planes have them.
 use Rattle.std.proofs.Common.{◌≡◌, ◌<◌, length, take, length-take, rules, refl, arith}
-use Rattle.words.proofs.PlaneLaws.{counted_first, wrote-few}
+use Rattle.words.proofs.planes.PlaneLaws.{counted_first, wrote-few}
 use Rattle.words.proofs.columns.column_counts.Goals as goal
 
 pub returns-then-n-lt32 : goal.returns-then-n-lt32

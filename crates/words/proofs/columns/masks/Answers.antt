@@ -1,6 +1,6 @@
 -- Each number is what the closure returns for its column (`mask_value`).
 use Rattle.std.proofs.Common.{◌≡◌, ◌*◌, ◌^◌, ◌%◌, ◌∙◌, rules, get_or}
-use Rattle.words.proofs.PlaneReads.{mask_value}
+use Rattle.words.proofs.columns.PlaneReads.{mask_value}
 use Rattle.words.proofs.columns.masks.Goals as goal
 
 pub returns : goal.returns

@@ -3,10 +3,10 @@ use Rattle.std.proofs.Common.{ap, sym, ◌∙◌, length, arith, refl, true, fal
 use Rattle.std.proofs.lemmas.Iterator.{YieldsList-from_range, cases_from_any}
 use Rattle.words.specs.Counts.{any_set}
 use Rattle.words.specs.Loops.{combined}
-use Rattle.words.proofs.AnyFlag.{any-short, any-exit, any-zero, any-among, none-among, Said}
+use Rattle.words.proofs.counts.AnyFlag.{any-short, any-exit, any-zero, any-among, none-among, Said}
 use Rattle.std.proofs.lemmas.Bool.{true≢false}
-use Rattle.words.proofs.Behind.{any-finish}
-use Rattle.words.proofs.Combining.{zip-later, length-zip}
+use Rattle.words.proofs.loops.RestLaws.{any-finish}
+use Rattle.words.proofs.ops.Combining.{zip-later, length-zip}
 use Rattle.words.proofs.counts.any_set.Goals as goal
 use Rattle.words.proofs.counts.any_set.Goals.{then-any_whole, else-any_whole}
 

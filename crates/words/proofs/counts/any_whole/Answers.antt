@@ -1,9 +1,9 @@
 -- The invariant: no flag of the first i words is set. A block with one ends the loop (`any-exit`), one without is passed over (`any-more`).
 use Rattle.std.proofs.Common.{◌*◌, ◌∙◌, ap, arith, sym}
 use Rattle.words.specs.Counts.{any_set}
-use Rattle.words.proofs.AnyFlag.{any-exit, any-more, zero-any}
-use Rattle.words.proofs.Combining.{zip-later, length-zip}
-use Rattle.words.proofs.Counting.{count_none, count-all}
+use Rattle.words.proofs.counts.AnyFlag.{any-exit, any-more, zero-any}
+use Rattle.words.proofs.ops.Combining.{zip-later, length-zip}
+use Rattle.words.proofs.counts.Counting.{count_none, count-all}
 use Rattle.words.proofs.counts.any_whole.Goals as goal
 
 pub loop-i-init : goal.loop-i-init

@@ -1,7 +1,7 @@
 -- If all words are whole and in range the kernel's n words are the stretch (`count-stretch`, `write-stretch`); else by two passes.
 use Rattle.std.proofs.Common.{arith}
-use Rattle.words.proofs.Counting.{count-stretch}
-use Rattle.words.proofs.Writing.{write-stretch}
+use Rattle.words.proofs.counts.Counting.{count-stretch}
+use Rattle.words.proofs.loops.Writing.{write-stretch}
 use Rattle.words.proofs.counts.copy_count.Goals as goal
 
 pub returns-then-start-eq0 : goal.returns-then-start-eq0

@@ -1,9 +1,9 @@
 -- At most a word by `count-near`; else in three parts, whose counts `count-parts` adds. Each is at most its part's length, so the sums fit.
 use Rattle.std.proofs.Common.{◌≡◌, refl, arith, ℕ, ◌+◌, ◌-◌, ◌*◌, ◌/◌, ◌%◌, ◌≤◌, ◌<◌, min, List, length}
-use Rattle.words.proofs.Bytes.{length-flags}
+use Rattle.words.proofs.flags.Bytes.{length-flags}
 use Rattle.words.specs.Flags.{flags_of}
-use Rattle.words.proofs.Counting.{count-parts, count-within}
-use Rattle.words.proofs.RowLaws.{count-first-flags, count-near, count-near-all}
+use Rattle.words.proofs.counts.Counting.{count-parts, count-within}
+use Rattle.words.proofs.rows.RowLaws.{count-first-flags, count-near, count-near-all}
 use Rattle.words.proofs.counts.count_mixed.Goals as goal
 
 -- the three parts of `len` flags, of which n whole words

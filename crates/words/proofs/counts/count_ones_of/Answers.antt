@@ -1,9 +1,9 @@
 -- Whole words first, then word by word to the end of the bytes or of the length, then the flags that are left after them.
-use Rattle.words.proofs.Counting.{count-step, count_fits, count_most, count-short}
-use Rattle.words.proofs.Behind.{count-finish}
+use Rattle.words.proofs.counts.Counting.{count-step, count_fits, count_most, count-short}
+use Rattle.words.proofs.loops.RestLaws.{count-finish}
 use Rattle.std.proofs.Common.{ap, ◌∙◌, length, arith}
 use Rattle.words.specs.Flags.{count}
-use Rattle.words.proofs.Combining.{zip-later, length-zip}
+use Rattle.words.proofs.ops.Combining.{zip-later, length-zip}
 use Rattle.words.proofs.counts.count_ones_of.Goals as goal
 
 pub returns-then-len-le64 : goal.returns-then-len-le64

@@ -1,9 +1,9 @@
 -- `same-any`: lists of equal lengths are the same if and only if no flag of their `xor` is set.
 use Rattle.std.proofs.Common.{not, ap, sym, take, arith, ℕ, ◌≡◌, ◌-◌, ◌*◌, ◌∙◌}
 use Rattle.words.specs.Flags.{bits, window}
-use Rattle.words.proofs.AnyFlag.{any-short, same-any}
-use Rattle.words.proofs.Combining.{cut_word, length-zip}
-use Rattle.words.proofs.Windows.{length-window}
+use Rattle.words.proofs.counts.AnyFlag.{any-short, same-any}
+use Rattle.words.proofs.ops.Combining.{cut_word, length-zip}
+use Rattle.words.proofs.flags.Windows.{length-window}
 use Rattle.words.proofs.counts.equal.Goals as goal
 
 pub returns-then-len-le64 : goal.returns-then-len-le64

@@ -1,5 +1,5 @@
 -- `word-any`: a number is 0 if and only if no flag of its bits is set.
-use Rattle.words.proofs.AnyFlag.{word-any}
+use Rattle.words.proofs.counts.AnyFlag.{word-any}
 use Rattle.words.proofs.counts.is_set.Goals as goal
 
 pub returns : goal.returns

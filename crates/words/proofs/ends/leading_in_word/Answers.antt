@@ -2,8 +2,8 @@
 -- count of the first k flags (`leading-take`).
 use Rattle.std.proofs.Common.{false, ap, ◌∙◌, ℕ, min}
 use Rattle.words.specs.Ends.{leading}
-use Rattle.words.proofs.Bits.{bits-not}
-use Rattle.words.proofs.EndLaws.{front-bits, leading-not, leading-take}
+use Rattle.words.proofs.flags.Bits.{bits-not}
+use Rattle.words.proofs.ends.EndLaws.{front-bits, leading-not, leading-take}
 use Rattle.words.proofs.ends.leading_in_word.Goals as goal
 
 pub returns-then-flag : goal.returns-then-flag

@@ -2,8 +2,8 @@
 -- `end-bits` counts zeros; those of the inverted word are the ones of the word (`trailing-not`).
 use Rattle.std.proofs.Common.{false, refl, sym, ap, ◌∙◌, arith, mod-lt, pow_pos}
 use Rattle.words.specs.Ends.{trailing}
-use Rattle.words.proofs.Bits.{bits-not}
-use Rattle.words.proofs.EndLaws.{end-bits, trailing-not, trailing-shifted, take_none}
+use Rattle.words.proofs.flags.Bits.{bits-not}
+use Rattle.words.proofs.ends.EndLaws.{end-bits, trailing-not, trailing-shifted, take_none}
 use Rattle.words.proofs.ends.trailing_in_word.Goals as goal
 
 pub returns-then-n-eq0 : goal.returns-then-n-eq0

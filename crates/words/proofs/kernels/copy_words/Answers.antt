@@ -1,8 +1,8 @@
 -- The invariant: i words are written and counted. One more is the laws `write_step` and `count-step`, of the word by `span-word`.
 use Rattle.std.proofs.Common.{arith, refl}
-use Rattle.words.proofs.Counting.{count_none, count-step, count-within, count_word, count-all, span-word}
-use Rattle.words.proofs.Windows.{length-window}
-use Rattle.words.proofs.Writing.{write-none, write_step, write-all}
+use Rattle.words.proofs.counts.Counting.{count_none, count-step, count-within, count_word, count-all, span-word}
+use Rattle.words.proofs.flags.Windows.{length-window}
+use Rattle.words.proofs.loops.Writing.{write-none, write_step, write-all}
 use Rattle.words.proofs.kernels.copy_words.Goals as goal
 
 pub loop-i-init : goal.loop-i-init

@@ -1,6 +1,6 @@
 -- Each byte has the flag eight times (`filled_all`).
 use Rattle.std.proofs.Common.{arith}
-use Rattle.words.proofs.Writing.{filled_all}
+use Rattle.words.proofs.loops.Writing.{filled_all}
 use Rattle.words.proofs.kernels.fill_bytes.Goals as goal
 
 pub returns : goal.returns

@@ -2,9 +2,9 @@
 -- invariant: where the loop began with the whole words over flags F, i words are over F. One more is `write_step`, the end `write-end`.
 use Rattle.std.proofs.Common.{refl, ap, ◌∙◌, arith, rules}
 use Rattle.words.specs.Flags.{over}
-use Rattle.words.proofs.Bytes.{length-flags}
-use Rattle.words.proofs.Combining.{zip-later, length-zip}
-use Rattle.words.proofs.Writing.{write-once, write-nothing, write_step, write-end}
+use Rattle.words.proofs.flags.Bytes.{length-flags}
+use Rattle.words.proofs.ops.Combining.{zip-later, length-zip}
+use Rattle.words.proofs.loops.Writing.{write-once, write-nothing, write_step, write-end}
 use Rattle.words.proofs.loops.combine.Goals as goal
 
 pub returns-then-len-gt0 : goal.returns-then-len-gt0

@@ -2,7 +2,7 @@
 use Rattle.words.specs.Flags.{flags_of, over}
 use Rattle.words.specs.Loops.{stretch, whole_words}
 use Rattle.std.proofs.Common.{Bool, true, false, ◌||◌, ◌≡◌, refl, ap, ◌∙◌}
-use Rattle.words.proofs.Combining.{zip-self}
+use Rattle.words.proofs.ops.Combining.{zip-self}
 use Rattle.words.proofs.loops.copy.Goals as goal
 
 or_self : (x : Bool) → (x || x) ≡ x

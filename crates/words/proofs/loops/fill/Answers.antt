@@ -1,9 +1,9 @@
 -- After the whole words at most one more is stored (`write_step`); then the output is full or has all flags (`write-end`).
 use Rattle.std.proofs.Common.{ap, refl, ◌∙◌, arith}
 use Rattle.words.specs.Flags.{over}
-use Rattle.words.proofs.Bytes.{length-flags}
-use Rattle.words.proofs.Windows.{copies-window, length-copies}
-use Rattle.words.proofs.Writing.{fill-front, write_step, write-end, copies-cut}
+use Rattle.words.proofs.flags.Bytes.{length-flags}
+use Rattle.words.proofs.flags.Windows.{copies-window, length-copies}
+use Rattle.words.proofs.loops.Writing.{fill-front, write_step, write-end, copies-cut}
 use Rattle.words.proofs.loops.fill.Goals as goal
 
 pub returns-then-done-len : goal.returns-then-done-len

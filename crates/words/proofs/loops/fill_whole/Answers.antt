@@ -1,6 +1,6 @@
 -- `fill-front`: the bytes of n words are filled.
 use Rattle.std.proofs.Common.{arith}
-use Rattle.words.proofs.Writing.{fill-front}
+use Rattle.words.proofs.loops.Writing.{fill-front}
 use Rattle.words.proofs.loops.fill_whole.Goals as goal
 
 pub returns : goal.returns

@@ -1,5 +1,5 @@
 -- `cut_word`: three windows of 64 flags are combined, and cut where the length ends.
-use Rattle.words.proofs.Combining.{cut_word}
+use Rattle.words.proofs.ops.Combining.{cut_word}
 use Rattle.words.proofs.loops.triple_word.Goals as goal
 
 pub returns : goal.returns

@@ -1,5 +1,5 @@
 -- One law for each branch: an offset of 0, one of 64 or more, or the high bits of one word and the low bits of the next.
-use Rattle.words.proofs.Merging.{merge-bits, merge-past}
+use Rattle.words.proofs.merge.Merging.{merge-bits, merge-past}
 use Rattle.words.proofs.merge.merge_reversed.Goals as goal
 
 pub returns-then-offset-ge64 : goal.returns-then-offset-ge64

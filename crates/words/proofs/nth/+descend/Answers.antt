@@ -1,6 +1,6 @@
 -- In each half the place of the set flag is found by the laws of a list cut in two.
 use Rattle.std.proofs.Common.{◌/◌, arith}
-use Rattle.words.proofs.NthLaws.{ones_low, behind-le, behind-ones, half-fits, half_place, place-lt, place-one}
+use Rattle.words.proofs.nth.NthLaws.{ones_low, behind-le, behind-ones, half-fits, half_place, place-lt, place-one}
 use Rattle.words.proofs.nth.+descend.Goals as goal
 
 pub returns-then-width-le1 : goal.returns-then-width-le1

@@ -1,7 +1,7 @@
 -- The laws of the answer at any width.
 use Rattle.std.proofs.Common.{arith}
-use Rattle.words.proofs.Counting.{ones-bits}
-use Rattle.words.proofs.NthLaws.{found, missing}
+use Rattle.words.proofs.counts.Counting.{ones-bits}
+use Rattle.words.proofs.nth.NthLaws.{found, missing}
 use Rattle.words.proofs.nth.nth_set_bit.Goals as goal
 
 pub descend-requires : goal.descend-requires

@@ -1,5 +1,5 @@
 -- `bits-and` at width 64.
-use Rattle.words.proofs.Bits.{bits-and}
+use Rattle.words.proofs.flags.Bits.{bits-and}
 use Rattle.words.proofs.ops.and_word.Goals as goal
 
 pub returns : goal.returns

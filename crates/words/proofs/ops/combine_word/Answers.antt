@@ -3,8 +3,8 @@ use Rattle.std.proofs.Common.{◌≡◌, sym, ◌∙◌, not, ◌&&◌, ◌||◌
 use Rattle.std.proofs.Math.Bool.{xor}
 use Rattle.words.specs.Flags.{bits}
 use Rattle.words.specs.Ops.{and_not, or_not}
-use Rattle.words.proofs.Bits.{length-bits}
-use Rattle.words.proofs.Combining.{zip_first, zip_two}
+use Rattle.words.proofs.flags.Bits.{length-bits}
+use Rattle.words.proofs.ops.Combining.{zip_first, zip_two}
 use Rattle.words.proofs.ops.combine_word.Goals as goal
 
 same : (x y : ℕ) → length (bits 64 x) ≡ length (bits 64 y)

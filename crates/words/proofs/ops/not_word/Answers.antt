@@ -1,5 +1,5 @@
 -- `bits-not` at width 64.
-use Rattle.words.proofs.Bits.{bits-not}
+use Rattle.words.proofs.flags.Bits.{bits-not}
 use Rattle.words.proofs.ops.not_word.Goals as goal
 
 pub returns : goal.returns

@@ -1,7 +1,7 @@
 -- `bits-or`, `bits-and` and `bits-not` for the flags of the parts; by `select-flags` these make the choice, flag by flag.
 use Rattle.std.proofs.Common.{sym, ◌∙◌}
-use Rattle.words.proofs.Bits.{bits-and, bits-or, bits-not, length-bits}
-use Rattle.words.proofs.Combining.{select-flags}
+use Rattle.words.proofs.flags.Bits.{bits-and, bits-or, bits-not, length-bits}
+use Rattle.words.proofs.ops.Combining.{select-flags}
 use Rattle.words.proofs.ops.select_word.Goals as goal
 
 pub returns : goal.returns

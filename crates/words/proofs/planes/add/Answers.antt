@@ -1,6 +1,6 @@
 -- The invariant: what the planes above the first i become, with the carry, is what all become (`way_step`).
 use Rattle.std.proofs.Common.{◌∙◌, arith}
-use Rattle.words.proofs.PlaneLaws.{way_none, way_step, way_end}
+use Rattle.words.proofs.planes.PlaneLaws.{way_none, way_step, way_end}
 use Rattle.words.proofs.planes.add.Goals as goal
 
 pub loop-plane-init : goal.loop-plane-init

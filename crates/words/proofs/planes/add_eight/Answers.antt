@@ -1,6 +1,6 @@
 -- `eight_grown`: two fours and a full adder; what is left is added to the planes above the first three (`added_part`).
 use Rattle.std.proofs.Common.{◌≡◌, length, set, drop, length-set, length-drop, take_all, arith}
-use Rattle.words.proofs.AdderLaws.{added_part, eight_grown}
+use Rattle.words.proofs.planes.AdderLaws.{added_part, eight_grown}
 use Rattle.words.proofs.planes.add_eight.Goals as goal
 
 pub returns : goal.returns

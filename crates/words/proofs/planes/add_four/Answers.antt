@@ -1,5 +1,5 @@
 -- `four-more`: the three full adders, column by column.
-use Rattle.words.proofs.AdderLaws.{four-more}
+use Rattle.words.proofs.planes.AdderLaws.{four-more}
 use Rattle.words.proofs.planes.add_four.Goals as goal
 
 pub returns : goal.returns

@@ -1,6 +1,6 @@
 -- One more digit keeps the sum below the next power of two (`sum_more`), and what is left makes the rest (`column_more`).
 use Rattle.std.proofs.Common.{refl, arith}
-use Rattle.words.proofs.PlaneReads.{digits_none, digits_all, column_more, sum_more}
+use Rattle.words.proofs.columns.PlaneReads.{digits_none, digits_all, column_more, sum_more}
 use Rattle.words.proofs.planes.column_by.Goals as goal
 
 pub loop-i-init : goal.loop-i-init

@@ -1,6 +1,6 @@
 -- Two halves (`wrote_halves`).
 use Rattle.std.proofs.Common.{◌≡◌, length, refl, rules}
-use Rattle.words.proofs.PlaneLaws.{wrote_halves}
+use Rattle.words.proofs.planes.PlaneLaws.{wrote_halves}
 use Rattle.words.proofs.planes.spread.Goals as goal
 
 pub returns : goal.returns

@@ -1,6 +1,6 @@
 -- The invariant: the first c numbers are written (`wrote_step`).
 use Rattle.std.proofs.Common.{arith}
-use Rattle.words.proofs.PlaneLaws.{wrote_none, wrote_step}
+use Rattle.words.proofs.planes.PlaneLaws.{wrote_none, wrote_step}
 use Rattle.words.proofs.planes.spread_half.Goals as goal
 
 pub loop-c-init : goal.loop-c-init

@@ -1,7 +1,7 @@
 -- The words that are left are the end of all: eight more are added (`totals_grown`), then one more (`one_grown`).
 use Rattle.std.proofs.Common.{◌≡◌, ◌∙◌, ◌<◌, ap, length, rules}
 use Rattle.std.specs.Slice.Iter.{chunks_exact_rest}
-use Rattle.words.proofs.PlaneLaws.{end_none, end_more, end_all, one_left, totals_none, totals_grown}
+use Rattle.words.proofs.planes.PlaneLaws.{end_none, end_more, end_all, one_left, totals_none, totals_grown}
 use Rattle.words.proofs.planes.totals.Goals as goal
 
 pub loop-eight-init : goal.loop-eight-init

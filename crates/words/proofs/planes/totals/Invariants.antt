@@ -2,7 +2,7 @@
 use Rattle.std.proofs.Common.{◌≡◌, drop}
 use Rattle.std.specs.Slice.Iter.{chunks_exact_rest, chunks_exact_size}
 use Rattle.words.specs.Planes.{Totals}
-use Rattle.words.proofs.PlaneLaws.{EndOf}
+use Rattle.words.proofs.planes.PlaneLaws.{EndOf}
 use Rattle.words.proofs.planes.totals.Given as goal
 
 abbrev pub invariant-loop-eight : goal.invariant-loop-eight

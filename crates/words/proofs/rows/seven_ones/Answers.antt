@@ -1,7 +1,7 @@
 -- Four full adders; each count is at most 64, so the sums fit.
 use Rattle.std.proofs.Common.{arith}
-use Rattle.words.proofs.Counting.{count_word}
-use Rattle.words.proofs.RowLaws.{seven_sum}
+use Rattle.words.proofs.counts.Counting.{count_word}
+use Rattle.words.proofs.rows.RowLaws.{seven_sum}
 use Rattle.words.proofs.rows.seven_ones.Goals as goal
 
 pub overflow_mul-result : goal.overflow_mul-result

@@ -2,7 +2,7 @@
 -- if the first two have none, the answer is that of the last (`all_more`).
 use Rattle.std.proofs.Common.{refl, sym, ◌∙◌, ◌-◌, ◌%◌, arith}
 use Rattle.std.proofs.lemmas.Bool.{true≢false}
-use Rattle.words.proofs.UniformLaws.{all-exit, all_more, first-are, near-are}
+use Rattle.words.proofs.uniform.UniformLaws.{all-exit, all_more, first-are, near-are}
 use Rattle.words.proofs.uniform.all_are.Goals as goal
 use Rattle.words.proofs.uniform.all_are.Goals.{then-low_are, else-low_are}
 

@@ -1,7 +1,7 @@
 -- The invariant: `others` has a set flag if and only if one of the first i words has a flag other than `flag`. One more is `any_step`.
 use Rattle.std.proofs.Common.{ap, ◌∙◌, not, arith}
-use Rattle.words.proofs.AnyFlag.{any_none, any_step, any-all}
-use Rattle.words.proofs.UniformLaws.{all_any, length_unlike, map-word}
+use Rattle.words.proofs.counts.AnyFlag.{any_none, any_step, any-all}
+use Rattle.words.proofs.uniform.UniformLaws.{all_any, length_unlike, map-word}
 use Rattle.words.proofs.uniform.block_is.Goals as goal
 
 pub loop-i-init : goal.loop-i-init

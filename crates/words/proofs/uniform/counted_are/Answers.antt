@@ -1,5 +1,5 @@
 -- The definition, by the count.
-use Rattle.words.proofs.UniformLaws.{counted-one, counted-zero}
+use Rattle.words.proofs.uniform.UniformLaws.{counted-one, counted-zero}
 use Rattle.words.proofs.uniform.counted_are.Goals as goal
 
 pub returns-then-flag : goal.returns-then-flag

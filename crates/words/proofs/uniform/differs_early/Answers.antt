@@ -1,6 +1,6 @@
 -- With too few bytes the answer is false (`too_few`). Else it is that of the flags of the first load (`differs`).
 use Rattle.std.proofs.Common.{arith}
-use Rattle.words.proofs.UniformLaws.{differs, enough, too_few}
+use Rattle.words.proofs.uniform.UniformLaws.{differs, enough, too_few}
 use Rattle.words.proofs.uniform.differs_early.Goals as goal
 
 pub returns-then-bytes-end : goal.returns-then-bytes-end

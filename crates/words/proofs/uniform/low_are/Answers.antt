@@ -1,5 +1,5 @@
 -- `all-low`: no flag that differs is among the k low ones.
-use Rattle.words.proofs.UniformLaws.{all-low}
+use Rattle.words.proofs.uniform.UniformLaws.{all-low}
 use Rattle.words.proofs.uniform.low_are.Goals as goal
 
 pub returns : goal.returns

@@ -1,5 +1,5 @@
 -- The flags that differ from 1 are the inverted flags (`unlike_one`); those that differ from 0 are the set flags (`unlike_zero`).
-use Rattle.words.proofs.UniformLaws.{unlike_one, unlike_zero}
+use Rattle.words.proofs.uniform.UniformLaws.{unlike_one, unlike_zero}
 use Rattle.words.proofs.uniform.unlike.Goals as goal
 
 pub returns-then-flag : goal.returns-then-flag

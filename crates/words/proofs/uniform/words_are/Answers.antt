@@ -1,7 +1,7 @@
 -- The invariant: all flags of the first i words are `flag`. A block with another ends the loop (`all-exit`), one without is passed over
 -- (`all_more`).
 use Rattle.std.proofs.Common.{sym, ◌∙◌, arith}
-use Rattle.words.proofs.UniformLaws.{all-empty, all-exit, all_more}
+use Rattle.words.proofs.uniform.UniformLaws.{all-empty, all-exit, all_more}
 use Rattle.words.proofs.uniform.words_are.Goals as goal
 
 pub loop-i-init : goal.loop-i-init

@@ -1,5 +1,5 @@
 -- Below 64 the low flags and the shifted ones do not overlap (`behind-some`); else the first word is the whole window (`behind-all`).
-use Rattle.words.proofs.Merging.{behind-some, behind-all}
+use Rattle.words.proofs.merge.Merging.{behind-some, behind-all}
 use Rattle.words.proofs.word.behind.Goals as goal
 
 pub returns-then-k-ge64 : goal.returns-then-k-ge64

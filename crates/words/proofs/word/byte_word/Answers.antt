@@ -1,7 +1,7 @@
 -- If nothing is left the window is past the end; near the end it is that of `last_word`, starting at the byte's first flag.
 use Rattle.std.proofs.Common.{◌≡◌, ap, ◌∙◌, ◌+◌, ◌*◌, ℕ, arith}
 use Rattle.words.specs.Flags.{flags_of, window}
-use Rattle.words.proofs.Loads.{byte_past}
+use Rattle.words.proofs.word.Loads.{byte_past}
 use Rattle.words.proofs.word.byte_word.Goals as goal
 
 pub returns-then-n-at : goal.returns-then-n-at

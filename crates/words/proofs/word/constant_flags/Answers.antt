@@ -1,5 +1,5 @@
 -- If n is 64 or more the word is all of the flag (`copies-past`); below, 2 to the n less one, or 0 less 0 (`copies-some`).
-use Rattle.words.proofs.Merging.{copies-past, copies-some}
+use Rattle.words.proofs.merge.Merging.{copies-past, copies-some}
 use Rattle.words.proofs.word.constant_flags.Goals as goal
 
 pub returns-then-n-ge64 : goal.returns-then-n-ge64

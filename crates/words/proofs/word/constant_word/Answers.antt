@@ -1,5 +1,5 @@
 -- In each branch the flag is known: `bits-ones` or `bits-zero`.
-use Rattle.words.proofs.Bits.{bits-zero, bits-ones}
+use Rattle.words.proofs.flags.Bits.{bits-zero, bits-ones}
 use Rattle.words.proofs.word.constant_word.Goals as goal
 
 pub returns-then-flag : goal.returns-then-flag

@@ -1,5 +1,5 @@
 -- `bits-shr` below 64; if k is 64 or more the window is past the word's end (`down-all`).
-use Rattle.words.proofs.Loads.{bits-shr, down-all}
+use Rattle.words.proofs.word.Loads.{bits-shr, down-all}
 use Rattle.words.proofs.word.down.Goals as goal
 
 pub returns-then-k-lt64 : goal.returns-then-k-lt64

@@ -1,6 +1,6 @@
 -- `read-flag`: the flag is a bit of its byte; past the last byte it is false (`no_flag`).
 use Rattle.std.proofs.Common.{◌∙◌, le-ltb}
-use Rattle.words.proofs.Plain.{read-flag, no_flag}
+use Rattle.words.proofs.theorems.Plain.{read-flag, no_flag}
 use Rattle.words.proofs.word.flag_at.Goals as goal
 
 pub returns-then-at-bytes : goal.returns-then-at-bytes

@@ -1,6 +1,6 @@
 -- `load-eight`: the eight bytes are an array, and its number has their flags.
 use Rattle.std.proofs.lemmas.Result.{MatchResult-at_ok}
-use Rattle.words.proofs.Loads.{load-eight}
+use Rattle.words.proofs.word.Loads.{load-eight}
 use Rattle.words.proofs.word.full_word.Goals as goal
 
 pub returns : goal.returns

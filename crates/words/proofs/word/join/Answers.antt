@@ -1,6 +1,6 @@
 -- The invariant: w is the number of the first i bytes. One more byte is the law `up_step`.
 use Rattle.std.proofs.Common.{arith}
-use Rattle.words.proofs.Loads.{up_none, up_step, up-all}
+use Rattle.words.proofs.word.Loads.{up_none, up_step, up-all}
 use Rattle.words.proofs.word.join.Goals as goal
 
 pub loop-i-init : goal.loop-i-init

@@ -1,6 +1,6 @@
 -- All bytes, if there are fewer than eight, or the last eight, are loaded and shifted right.
 use Rattle.std.proofs.Common.{arith}
-use Rattle.words.proofs.Loads.{at-few, at_last}
+use Rattle.words.proofs.word.Loads.{at-few, at_last}
 use Rattle.words.proofs.word.last_word.Goals as goal
 
 pub returns-then-n-lt8 : goal.returns-then-n-lt8

@@ -1,5 +1,5 @@
 -- Below 64 the remainder by 2 ^ k keeps the k low bits (`low-some`); if k is 64 or more all are kept (`low-all`).
-use Rattle.words.proofs.Loads.{low-all, low-some}
+use Rattle.words.proofs.word.Loads.{low-all, low-some}
 use Rattle.words.proofs.word.low_flags.Goals as goal
 
 pub returns-then-k-ge64 : goal.returns-then-k-ge64

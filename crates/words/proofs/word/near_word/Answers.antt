@@ -1,5 +1,5 @@
 -- `near-all`: eight bytes shifted right by less than a byte.
-use Rattle.words.proofs.Loads.{near-all}
+use Rattle.words.proofs.word.Loads.{near-all}
 use Rattle.words.proofs.word.near_word.Goals as goal
 
 pub returns : goal.returns

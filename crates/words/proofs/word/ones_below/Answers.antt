@@ -1,6 +1,6 @@
 -- One law for each branch: no flag, all flags of the word, or the k low ones, shifted to the top of the word and counted there.
 use Rattle.std.proofs.Common.{refl}
-use Rattle.words.proofs.NthLaws.{ones_none, ones-taken, ones-whole}
+use Rattle.words.proofs.nth.NthLaws.{ones_none, ones-taken, ones-whole}
 use Rattle.words.proofs.word.ones_below.Goals as goal
 
 pub returns-then-k-eq0 : goal.returns-then-k-eq0

@@ -1,5 +1,5 @@
 -- `shifted`: two windows of one list, eight flags apart, joined by `or`; they agree where they overlap.
-use Rattle.words.proofs.Merging.{shifted}
+use Rattle.words.proofs.merge.Merging.{shifted}
 use Rattle.std.proofs.Common.{rules}
 use Rattle.words.proofs.word.shifted_word.Goals as goal
 

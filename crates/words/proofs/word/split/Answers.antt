@@ -1,6 +1,6 @@
 -- `split-all`: the bytes of the word, as many as there is room for.
 use Rattle.std.proofs.Common.{◌∙◌, ap, take, length}
-use Rattle.words.proofs.Loads.{split-all}
+use Rattle.words.proofs.word.Loads.{split-all}
 use Rattle.words.proofs.word.split.Goals as goal
 
 pub returns : goal.returns

@@ -1,7 +1,7 @@
 -- Inside the output the rest that begins at `at` is lent (`over-from`); past its end there is nothing to write over (`over_at-past`).
 use Rattle.std.proofs.Common.{arith}
-use Rattle.words.proofs.Bytes.{over-from, length-flags}
-use Rattle.words.proofs.Windows.{over_at-past}
+use Rattle.words.proofs.flags.Bytes.{over-from, length-flags}
+use Rattle.words.proofs.flags.Windows.{over_at-past}
 use Rattle.words.proofs.word.store_at.Goals as goal
 
 pub returns-then-at-out : goal.returns-then-at-out

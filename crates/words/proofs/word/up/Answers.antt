@@ -1,5 +1,5 @@
 -- `up-some` below 64; if k is 64 or more the window has only the zeros in front (`up-past`).
-use Rattle.words.proofs.Merging.{up-past, up-some}
+use Rattle.words.proofs.merge.Merging.{up-past, up-some}
 use Rattle.words.proofs.word.up.Goals as goal
 
 pub returns-then-k-lt64 : goal.returns-then-k-lt64

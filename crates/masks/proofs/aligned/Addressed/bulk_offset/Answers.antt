@@ -1,6 +1,6 @@
 -- By cases on the test, which is the definition's.
 use Rattle.masks.specs.Aligned.{bulk_offset}
-use Rattle.masks.proofs.CheckLaws.{when-le, when-gt}
+use Rattle.masks.proofs.checks.CheckLaws.{when-le, when-gt}
 use Rattle.masks.proofs.aligned.Addressed.bulk_offset.Goals as goal
 
 pub returns-then-self-to_aligned : goal.returns-then-self-to_aligned

@@ -3,8 +3,8 @@ use mathlib.Core.Path.{ap, ◌∙◌}
 use Prim.Native.Nat.{ℕ, ◌+◌, ◌/◌}
 use native.Mathlib.Omega.{arith}
 use Rattle.masks.specs.Aligned.{bulk_start_of}
-use Rattle.masks.proofs.CheckLaws.{when-le, when-gt}
-use Rattle.masks.proofs.SplitLaws.{offset-of}
+use Rattle.masks.proofs.checks.CheckLaws.{when-le, when-gt}
+use Rattle.masks.proofs.aligned.SplitLaws.{offset-of}
 use Rattle.masks.proofs.aligned.Addressed.bulk_start.Goals as goal
 
 pub overflow_add-result : goal.overflow_add-result

@@ -1,6 +1,6 @@
 -- The fields are what the calls ensure (congruence); `placed` says that the prefix fits in the span and in a word.
 use native.Mathlib.Omega.{arith}
-use Rattle.masks.proofs.SplitLaws.{placed}
+use Rattle.masks.proofs.aligned.SplitLaws.{placed}
 use Rattle.masks.proofs.aligned.Addressed.split.Goals as goal
 
 pub overflow_sub-rest : goal.overflow_sub-rest

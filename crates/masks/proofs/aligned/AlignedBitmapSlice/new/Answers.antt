@@ -3,9 +3,9 @@ use Rattle.std.proofs.Common.{rules}
 use mathlib.Core.Path.{refl, sym, ap, ◌∙◌}
 use Rattle.masks.specs.Aligned.{aligned_of}
 use Rattle.masks.specs.Answer.{given}
-use Rattle.masks.proofs.CheckLaws.{is-given, is-empty, not-empty}
-use Rattle.masks.proofs.SplitLaws.{aligned-allowed}
-use Rattle.masks.proofs.RefusalLaws.{exit-not-empty}
+use Rattle.masks.proofs.checks.CheckLaws.{is-given, is-empty, not-empty}
+use Rattle.masks.proofs.aligned.SplitLaws.{aligned-allowed}
+use Rattle.masks.proofs.refusal.RefusalLaws.{exit-not-empty}
 use Rattle.masks.proofs.aligned.AlignedBitmapSlice.new.Goals as goal
 
 pub returns-then-length-eq0 : goal.returns-then-length-eq0

@@ -4,9 +4,9 @@ use Rattle.masks.specs.Checks.{rank, place_in, output_checks}
 use Rattle.masks.specs.Mask.{new_zeroed_of, new_zeroed_bytes, zeroed_checks}
 use mathlib.Core.Path.{refl, ◌∙◌, ap}
 use Rattle.std.proofs.Common.{rules}
-use Rattle.masks.proofs.CombineLaws.{frozen-written}
-use Rattle.masks.proofs.CheckLaws.{first-number, passed-before, is-given, is-kept, is-new}
-use Rattle.masks.proofs.RefusalLaws.{exit-refused, number-ne0}
+use Rattle.masks.proofs.bitmap_ops.CombineLaws.{frozen-written}
+use Rattle.masks.proofs.checks.CheckLaws.{first-number, passed-before, is-given, is-kept, is-new}
+use Rattle.masks.proofs.refusal.RefusalLaws.{exit-refused, number-ne0}
 use Rattle.masks.proofs.bitmap.Bitmap.new_zeroed.Goals as goal
 
 pub returns-in_err-check_limit : goal.returns-in_err-check_limit

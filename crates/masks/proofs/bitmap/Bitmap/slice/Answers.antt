@@ -1,13 +1,13 @@
 -- One law for each answer: refused by the piece's checks, refused by check 7 if the recount is wrong, or given.
 use Rattle.std.proofs.Common.{rules, Ok, Err, ◌≡◌}
 use native.Mathlib.Omega.{arith}
-use Rattle.masks.proofs.MaskLaws.{cut-error, piece-allowed, slice-refused, slice_wrong, slice-right}
+use Rattle.masks.proofs.bitmap.MaskLaws.{cut-error, piece-allowed, slice-refused, slice_wrong, slice-right}
 use mathlib.Core.Path.{sym, ap, ◌∙◌}
 use Rattle.masks.specs.Answer.{given, refused}
 use Rattle.masks.specs.Mask.{cut_zeros}
 use Rattle.masks.specs.Refusal.{number}
 use Rattle.masks.specs.declared.refusal.Refusal.{Refusal}
-use Rattle.masks.proofs.RefusalLaws.{with_state, back-err, back-exit, back-is, failed-back, passed-back}
+use Rattle.masks.proofs.refusal.RefusalLaws.{with_state, back-err, back-exit, back-is, failed-back, passed-back}
 use Rattle.masks.proofs.bitmap.Bitmap.slice.Goals as goal
 
 pub returns-in_err-map_err : goal.returns-in_err-map_err

@@ -2,8 +2,8 @@
 use mathlib.Core.Path.{refl, ap, ◌∙◌}
 use Rattle.masks.specs.Answer.{given}
 use Rattle.masks.specs.Mask.{try_new_of}
-use Rattle.masks.proofs.CheckLaws.{is-given}
-use Rattle.masks.proofs.RefusalLaws.{exit-refused}
+use Rattle.masks.proofs.checks.CheckLaws.{is-given}
+use Rattle.masks.proofs.refusal.RefusalLaws.{exit-refused}
 use Rattle.masks.proofs.bitmap.Bitmap.try_new.Goals as goal
 
 pub returns-in_err-check_span : goal.returns-in_err-check_span

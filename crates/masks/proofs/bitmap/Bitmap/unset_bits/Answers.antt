@@ -5,9 +5,9 @@ use Rattle.masks.specs.declared.bitmap.Bitmap.{Bitmap}
 use Rattle.masks.specs.Answer.{given}
 use Rattle.masks.specs.Mask.{count_or, mask_flags, unset_bits_of, zero_count}
 use Rattle.masks.specs.Utils.{zeros}
-use Rattle.masks.proofs.CheckLaws.{is-given}
-use Rattle.masks.proofs.RefusalLaws.{back-refused, passed-back}
-use Rattle.masks.proofs.MaskLaws.{mask-allowed}
+use Rattle.masks.proofs.checks.CheckLaws.{is-given}
+use Rattle.masks.proofs.refusal.RefusalLaws.{back-refused, passed-back}
+use Rattle.masks.proofs.bitmap.MaskLaws.{mask-allowed}
 use Rattle.masks.proofs.bitmap.Bitmap.unset_bits.Goals.{in-Some, in-None}
 use Rattle.masks.proofs.bitmap.Bitmap.unset_bits.Goals as goal
 

@@ -3,14 +3,14 @@
 use Rattle.std.proofs.Common.{rules}
 use mathlib.Core.Path.{refl, sym, ap, ◌∙◌}
 use native.Mathlib.Omega.{arith}
-use Rattle.words.proofs.Windows.{length-copies}
+use Rattle.words.proofs.flags.Windows.{length-copies}
 use Rattle.masks.specs.Appends.{constant_checks}
 use Rattle.masks.specs.Builder.{appended}
-use Rattle.masks.proofs.CheckLaws.{two-pieces, passed-left}
-use Rattle.masks.proofs.AppendLaws.{append-way}
-use Rattle.masks.proofs.InsideLaws.{constant-passed, front-padded, inside-padded}
-use Rattle.masks.proofs.RoomLaws.{room_of}
-use Rattle.masks.proofs.RefusalLaws.{passed-back, refused-way}
+use Rattle.masks.proofs.checks.CheckLaws.{two-pieces, passed-left}
+use Rattle.masks.proofs.builder.AppendLaws.{append-way}
+use Rattle.masks.proofs.builder.InsideLaws.{constant-passed, front-padded, inside-padded}
+use Rattle.masks.proofs.builder.RoomLaws.{room_of}
+use Rattle.masks.proofs.refusal.RefusalLaws.{passed-back, refused-way}
 use Rattle.masks.proofs.builder.BitmapBuilder.extend_constant.Goals as goal
 
 pub push_inside-requires : goal.push_inside-requires

@@ -4,15 +4,15 @@ use Rattle.std.proofs.Common.{rules}
 use Prim.Native.Nat.{◌≤◌}
 use mathlib.Core.Path.{ap, ◌∙◌}
 use native.Mathlib.Omega.{arith}
-use Rattle.words.proofs.Loads.{near-first}
+use Rattle.words.proofs.word.Loads.{near-first}
 use Rattle.masks.specs.Appends.{span_grow_checks}
 use Rattle.masks.specs.Builder.{appended}
-use Rattle.masks.proofs.AppendLaws.{append-way}
-use Rattle.masks.proofs.ExtendLaws.{few-inside}
-use Rattle.masks.proofs.InsideLaws.{front-padded, inside-padded}
-use Rattle.masks.proofs.PartLaws.{length-low}
-use Rattle.masks.proofs.RoomLaws.{grow-allowed}
-use Rattle.masks.proofs.RefusalLaws.{passed-back, refused-way}
+use Rattle.masks.proofs.builder.AppendLaws.{append-way}
+use Rattle.masks.proofs.extend.ExtendLaws.{few-inside}
+use Rattle.masks.proofs.builder.InsideLaws.{front-padded, inside-padded}
+use Rattle.masks.proofs.utils.PartLaws.{length-low}
+use Rattle.masks.proofs.builder.RoomLaws.{grow-allowed}
+use Rattle.masks.proofs.refusal.RefusalLaws.{passed-back, refused-way}
 use Rattle.masks.proofs.builder.BitmapBuilder.extend_from_slice.Goals as goal
 
 pub returns-in_err-map_err : goal.returns-in_err-map_err

@@ -1,10 +1,10 @@
 -- By cases on the number of the checks: `refused-way` or `given-way`; if all pass, the ones are at most the length (`ones-fit`).
 use Rattle.std.proofs.Common.{rules}
 use mathlib.Core.Path.{sym, ◌∙◌}
-use Rattle.masks.proofs.CheckLaws.{given-way}
-use Rattle.masks.proofs.FreezeLaws.{same-checks, ones-fit}
-use Rattle.masks.proofs.RoomLaws.{room_of}
-use Rattle.masks.proofs.RefusalLaws.{passed-back, refused-way}
+use Rattle.masks.proofs.checks.CheckLaws.{given-way}
+use Rattle.masks.proofs.builder.FreezeLaws.{same-checks, ones-fit}
+use Rattle.masks.proofs.builder.RoomLaws.{room_of}
+use Rattle.masks.proofs.refusal.RefusalLaws.{passed-back, refused-way}
 use Rattle.masks.proofs.builder.BitmapBuilder.freeze.Goals as goal
 
 pub returns-in_err-map_err : goal.returns-in_err-map_err

@@ -1,10 +1,10 @@
 -- By cases on the number of the checks: `refused-way` or `given-way`; then on the ones and the length: `all_set` or `not-all-set`.
 use Rattle.std.proofs.Common.{rules}
 use mathlib.Core.Path.{sym, ◌∙◌}
-use Rattle.masks.proofs.CheckLaws.{given-way}
-use Rattle.masks.proofs.FreezeLaws.{same-checks, ones-fit, all_set, not-all-set}
-use Rattle.masks.proofs.RoomLaws.{room_of}
-use Rattle.masks.proofs.RefusalLaws.{passed-back, refused-way}
+use Rattle.masks.proofs.checks.CheckLaws.{given-way}
+use Rattle.masks.proofs.builder.FreezeLaws.{same-checks, ones-fit, all_set, not-all-set}
+use Rattle.masks.proofs.builder.RoomLaws.{room_of}
+use Rattle.masks.proofs.refusal.RefusalLaws.{passed-back, refused-way}
 use Rattle.masks.proofs.builder.BitmapBuilder.into_opt_validity.Goals as goal
 
 pub returns-in_err-map_err : goal.returns-in_err-map_err

@@ -3,10 +3,10 @@ use Rattle.std.proofs.Common.{rules}
 use mathlib.Core.Path.{sym, ◌∙◌}
 use native.Mathlib.Omega.{arith}
 use Rattle.masks.specs.Appends.{span_grow_checks}
-use Rattle.masks.proofs.CheckLaws.{two-pieces, passed-left, passed-right, span-allowed}
-use Rattle.masks.proofs.AppendLaws.{append-way}
-use Rattle.masks.proofs.RoomLaws.{room_of}
-use Rattle.masks.proofs.RefusalLaws.{passed-back, refused-way}
+use Rattle.masks.proofs.checks.CheckLaws.{two-pieces, passed-left, passed-right, span-allowed}
+use Rattle.masks.proofs.builder.AppendLaws.{append-way}
+use Rattle.masks.proofs.builder.RoomLaws.{room_of}
+use Rattle.masks.proofs.refusal.RefusalLaws.{passed-back, refused-way}
 use Rattle.masks.proofs.builder.BitmapBuilder.opt_gather_extend_from_slice.Goals as goal
 
 pub returns-in_err-map_err : goal.returns-in_err-map_err

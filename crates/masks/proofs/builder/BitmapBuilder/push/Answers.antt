@@ -3,9 +3,9 @@ use Rattle.std.proofs.Common.{rules}
 use mathlib.Core.Path.{sym, ap, ◌∙◌}
 use native.Mathlib.Omega.{arith}
 use Rattle.masks.specs.Builder.{appended}
-use Rattle.masks.proofs.AppendLaws.{append-way, constant-front, one-copy}
-use Rattle.masks.proofs.RoomLaws.{room_of}
-use Rattle.masks.proofs.RefusalLaws.{passed-back, refused-way}
+use Rattle.masks.proofs.builder.AppendLaws.{append-way, constant-front, one-copy}
+use Rattle.masks.proofs.builder.RoomLaws.{room_of}
+use Rattle.masks.proofs.refusal.RefusalLaws.{passed-back, refused-way}
 use Rattle.masks.proofs.builder.BitmapBuilder.push.Goals as goal
 
 pub returns-in_err-map_err : goal.returns-in_err-map_err

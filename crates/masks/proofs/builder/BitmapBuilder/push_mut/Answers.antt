@@ -3,7 +3,7 @@ use mathlib.Core.Path.{sym, ap, ◌∙◌}
 use Rattle.masks.specs.Answer.{answer_back}
 use Rattle.masks.specs.Appends.{append_answer, append_bytes, push_flag}
 use Rattle.masks.specs.declared.builder.BitmapBuilder.{BitmapBuilder}
-use Rattle.masks.proofs.AppendLaws.{refused-kept, renewed_done}
+use Rattle.masks.proofs.builder.AppendLaws.{refused-kept, renewed_done}
 use Rattle.masks.proofs.builder.BitmapBuilder.push_mut.Goals as goal
 
 pub returns-in-Ok : goal.returns-in-Ok

@@ -2,10 +2,10 @@
 use Rattle.std.proofs.Common.{rules}
 use mathlib.Core.Path.{sym, ◌∙◌}
 use Rattle.masks.specs.Appends.{word_checks}
-use Rattle.masks.proofs.CheckLaws.{two-pieces, passed-left, passed-right}
-use Rattle.masks.proofs.AppendLaws.{append-way}
-use Rattle.masks.proofs.RoomLaws.{room_of, word-allowed}
-use Rattle.masks.proofs.RefusalLaws.{passed-back, refused-way}
+use Rattle.masks.proofs.checks.CheckLaws.{two-pieces, passed-left, passed-right}
+use Rattle.masks.proofs.builder.AppendLaws.{append-way}
+use Rattle.masks.proofs.builder.RoomLaws.{room_of, word-allowed}
+use Rattle.masks.proofs.refusal.RefusalLaws.{passed-back, refused-way}
 use Rattle.masks.proofs.builder.BitmapBuilder.push_word_with_len_unchecked.Goals as goal
 
 pub returns-in_err-map_err : goal.returns-in_err-map_err

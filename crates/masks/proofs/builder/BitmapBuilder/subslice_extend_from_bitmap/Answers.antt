@@ -2,13 +2,13 @@
 use Rattle.std.proofs.Common.{rules}
 use mathlib.Core.Path.{sym, ap, ◌∙◌}
 use native.Mathlib.Omega.{arith}
-use Rattle.words.proofs.Windows.{in_window}
+use Rattle.words.proofs.flags.Windows.{in_window}
 use Rattle.masks.specs.Appends.{subslice_checks}
 use Rattle.masks.specs.Builder.{appended}
-use Rattle.masks.proofs.CheckLaws.{two-pieces, passed-left, passed-right}
-use Rattle.masks.proofs.AppendLaws.{append-way}
-use Rattle.masks.proofs.RoomLaws.{room_of, inner-allowed}
-use Rattle.masks.proofs.RefusalLaws.{passed-back, refused-way}
+use Rattle.masks.proofs.checks.CheckLaws.{two-pieces, passed-left, passed-right}
+use Rattle.masks.proofs.builder.AppendLaws.{append-way}
+use Rattle.masks.proofs.builder.RoomLaws.{room_of, inner-allowed}
+use Rattle.masks.proofs.refusal.RefusalLaws.{passed-back, refused-way}
 use Rattle.masks.proofs.builder.BitmapBuilder.subslice_extend_from_bitmap.Goals as goal
 
 pub returns-in_err-map_err : goal.returns-in_err-map_err

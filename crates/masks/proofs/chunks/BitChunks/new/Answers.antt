@@ -1,8 +1,8 @@
 -- By cases on the number of the span's checks: `exit-refused` or `is-given`.
 use mathlib.Core.Path.{refl}
 use Rattle.masks.specs.Chunks.{new_chunks}
-use Rattle.masks.proofs.CheckLaws.{is-given}
-use Rattle.masks.proofs.RefusalLaws.{exit-refused}
+use Rattle.masks.proofs.checks.CheckLaws.{is-given}
+use Rattle.masks.proofs.refusal.RefusalLaws.{exit-refused}
 use Rattle.masks.proofs.chunks.BitChunks.new.Goals as goal
 
 pub returns-in_err-check_span : goal.returns-in_err-check_span

@@ -3,11 +3,11 @@ use mathlib.Core.Path.{sym, ap, ◌∙◌}
 use Rattle.masks.specs.Answer.{given}
 use Rattle.masks.specs.Chunks.{next_chunk}
 use Rattle.std.proofs.Common.{arith}
-use Rattle.masks.proofs.CheckLaws.{is-given}
-use Rattle.masks.proofs.ChunkLaws.{a_word, no_word}
-use Rattle.masks.proofs.CursorLaws.{cursor-allowed}
+use Rattle.masks.proofs.checks.CheckLaws.{is-given}
+use Rattle.masks.proofs.chunks.ChunkLaws.{a_word, no_word}
+use Rattle.masks.proofs.cursor.CursorLaws.{cursor-allowed}
 use borrow.Author.Rules.{rules}
-use Rattle.masks.proofs.RefusalLaws.{passed-back, step-refused}
+use Rattle.masks.proofs.refusal.RefusalLaws.{passed-back, step-refused}
 use Rattle.masks.proofs.chunks.BitChunks.next.Goals as goal
 
 pub returns-in_err-map_err : goal.returns-in_err-map_err

@@ -5,10 +5,10 @@ use native.Mathlib.Omega.{arith}
 use Prim.Native.Nat.{ℕ, ◌%◌}
 use Rattle.masks.specs.Answer.{given}
 use Rattle.masks.specs.Chunks.{chunks_remainder}
-use Rattle.masks.proofs.CheckLaws.{is-given}
-use Rattle.masks.proofs.ChunkLaws.{remainder-value}
-use Rattle.masks.proofs.CursorLaws.{cursor-allowed}
-use Rattle.masks.proofs.RefusalLaws.{back-refused, passed-back}
+use Rattle.masks.proofs.checks.CheckLaws.{is-given}
+use Rattle.masks.proofs.chunks.ChunkLaws.{remainder-value}
+use Rattle.masks.proofs.cursor.CursorLaws.{cursor-allowed}
+use Rattle.masks.proofs.refusal.RefusalLaws.{back-refused, passed-back}
 use Rattle.masks.proofs.chunks.BitChunks.remainder.Goals as goal
 
 pub returns-in_err-map_err : goal.returns-in_err-map_err

@@ -3,8 +3,8 @@ use Rattle.std.proofs.Common.{rules}
 use mathlib.Core.Path.{refl, ap, ◌∙◌}
 use Rattle.masks.specs.Answer.{given}
 use Rattle.masks.specs.Iterator.{new_iter}
-use Rattle.masks.proofs.CheckLaws.{is-given, is-empty, not-empty}
-use Rattle.masks.proofs.RefusalLaws.{exit-not-empty}
+use Rattle.masks.proofs.checks.CheckLaws.{is-given, is-empty, not-empty}
+use Rattle.masks.proofs.refusal.RefusalLaws.{exit-not-empty}
 use Rattle.masks.proofs.iterator.BitmapIter.new.Goals as goal
 
 pub returns-then-length-eq0 : goal.returns-then-length-eq0

@@ -6,10 +6,10 @@ use Rattle.masks.specs.Answer.{given}
 use Rattle.masks.specs.Cursor.{item, ended}
 use Rattle.masks.specs.Iterator.{nth_flag}
 use Rattle.masks.specs.declared.iterator.BitmapIter.{BitmapIter}
-use Rattle.masks.proofs.CheckLaws.{is-given}
-use Rattle.masks.proofs.CursorLaws.{cursor-allowed}
-use Rattle.masks.proofs.IteratorLaws.{a-flag, no_flag}
-use Rattle.masks.proofs.RefusalLaws.{passed-back, step-refused}
+use Rattle.masks.proofs.checks.CheckLaws.{is-given}
+use Rattle.masks.proofs.cursor.CursorLaws.{cursor-allowed}
+use Rattle.masks.proofs.iterator.IteratorLaws.{a-flag, no_flag}
+use Rattle.masks.proofs.refusal.RefusalLaws.{passed-back, step-refused}
 use Rattle.masks.proofs.iterator.BitmapIter.nth.Goals as goal
 
 pub returns-in_err-map_err : goal.returns-in_err-map_err

@@ -6,10 +6,10 @@ use native.Mathlib.Omega.{arith}
 use Rattle.masks.specs.Answer.{given}
 use Rattle.masks.specs.declared.iterator.BitmapIter.{BitmapIter}
 use Rattle.masks.specs.Iterator.{take_leading, moved_to}
-use Rattle.masks.proofs.CheckLaws.{is-given}
-use Rattle.masks.proofs.CursorLaws.{cursor-allowed}
-use Rattle.masks.proofs.IteratorLaws.{alike-inside}
-use Rattle.masks.proofs.RefusalLaws.{back-refused, passed-back}
+use Rattle.masks.proofs.checks.CheckLaws.{is-given}
+use Rattle.masks.proofs.cursor.CursorLaws.{cursor-allowed}
+use Rattle.masks.proofs.iterator.IteratorLaws.{alike-inside}
+use Rattle.masks.proofs.refusal.RefusalLaws.{back-refused, passed-back}
 use Rattle.masks.proofs.iterator.BitmapIter.take_leading.Goals as goal
 
 pub returns-in_err-map_err : goal.returns-in_err-map_err

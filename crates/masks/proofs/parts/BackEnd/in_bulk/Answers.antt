@@ -2,7 +2,7 @@
 use mathlib.Core.Path.{◌≡◌, refl, ap, ◌∙◌}
 use Prim.Native.Nat.{ℕ, ◌+◌, ◌-◌, ◌*◌}
 use native.Mathlib.Omega.{arith}
-use Rattle.masks.proofs.PartLaws.{end-exit, end_step, end-all}
+use Rattle.masks.proofs.utils.PartLaws.{end-exit, end_step, end-all}
 use Rattle.masks.proofs.parts.BackEnd.in_bulk.Goals as goal
 
 pub returns-then-alike-lt64 : goal.returns-then-alike-lt64

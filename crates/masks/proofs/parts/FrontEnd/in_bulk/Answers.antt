@@ -1,6 +1,6 @@
 -- The invariant: the first i words consist of equal flags.
 use mathlib.Core.Path.{refl}
-use Rattle.masks.proofs.PartLaws.{front-exit, front-step, front-all}
+use Rattle.masks.proofs.utils.PartLaws.{front-exit, front-step, front-all}
 use Rattle.masks.proofs.parts.FrontEnd.in_bulk.Goals as goal
 
 pub returns-then-alike-lt64 : goal.returns-then-alike-lt64

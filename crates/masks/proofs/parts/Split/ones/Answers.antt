@@ -1,8 +1,8 @@
 -- `count-three` adds the counts of the three parts; each is at most its part's length, so the sums fit.
 use native.Mathlib.Omega.{arith}
 use Rattle.masks.specs.Workers.{split_flags}
-use Rattle.words.proofs.Counting.{low-within, count-within}
-use Rattle.masks.proofs.PartLaws.{count-taken, count-three}
+use Rattle.words.proofs.counts.Counting.{low-within, count-within}
+use Rattle.masks.proofs.utils.PartLaws.{count-taken, count-three}
 use Rattle.masks.proofs.parts.Split.ones.Goals as goal
 
 pub overflow_add-result : goal.overflow_add-result

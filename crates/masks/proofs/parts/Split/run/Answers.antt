@@ -1,7 +1,7 @@
 -- Part by part, by the laws of the end: the next part is read if all flags of one are equal.
 use Rattle.std.proofs.Common.{arith, sym, ap, ◌≡◌, ◌+◌, ◌*◌, ◌∙◌, length}
-use Rattle.words.proofs.Windows.{length-window}
-use Rattle.masks.proofs.PartLaws.{of-part}
+use Rattle.words.proofs.flags.Windows.{length-window}
+use Rattle.masks.proofs.utils.PartLaws.{of-part}
 use Rattle.masks.specs.Workers.{bulk_flags}
 use Rattle.masks.proofs.parts.Split.run.Goals as goal
 

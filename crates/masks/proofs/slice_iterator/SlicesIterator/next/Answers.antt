@@ -2,16 +2,16 @@
 use Rattle.std.proofs.Common.{rules}
 use mathlib.Core.Path.{sym, ap, ◌∙◌}
 use native.Mathlib.Omega.{arith}
-use Rattle.words.proofs.Windows.{length-window}
+use Rattle.words.proofs.flags.Windows.{length-window}
 use Rattle.masks.specs.Answer.{given}
 use Rattle.masks.specs.Cursor.{item, ended}
 use Rattle.masks.specs.declared.slice_iterator.SlicesIterator.{SlicesIterator}
 use Rattle.masks.specs.SliceIterator.{next_slice}
-use Rattle.masks.proofs.CheckLaws.{is-given}
-use Rattle.masks.proofs.CursorLaws.{cursor-allowed}
-use Rattle.masks.proofs.IteratorLaws.{alike-inside}
-use Rattle.masks.proofs.RunLaws.{a-run, no_run, run_inside}
-use Rattle.masks.proofs.RefusalLaws.{passed-back, step-refused}
+use Rattle.masks.proofs.checks.CheckLaws.{is-given}
+use Rattle.masks.proofs.cursor.CursorLaws.{cursor-allowed}
+use Rattle.masks.proofs.iterator.IteratorLaws.{alike-inside}
+use Rattle.masks.proofs.slice_iterator.RunLaws.{a-run, no_run, run_inside}
+use Rattle.masks.proofs.refusal.RefusalLaws.{passed-back, step-refused}
 use Rattle.masks.proofs.slice_iterator.SlicesIterator.next.Goals as goal
 
 pub returns-in_err-map_err : goal.returns-in_err-map_err

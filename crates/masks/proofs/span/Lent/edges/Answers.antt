@@ -1,5 +1,5 @@
 -- At most one flag has no edge (`edges_few`); else the edges are the ones of the `xor` with the list moved by one flag (`edges-many`).
-use Rattle.masks.proofs.CompareLaws.{edges_few, edges-many}
+use Rattle.masks.proofs.compare.CompareLaws.{edges_few, edges-many}
 use Rattle.masks.proofs.span.Lent.edges.Goals as goal
 
 pub returns-then-self-le1 : goal.returns-then-self-le1

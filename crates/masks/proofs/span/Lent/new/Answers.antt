@@ -1,9 +1,9 @@
 -- By cases on the number of the span's checks: `is-refused` or `is-given`; if all pass, the span's facts hold (`span-allowed`).
 use mathlib.Core.Path.{refl, sym, ◌∙◌}
 use Rattle.std.proofs.Common.{arith}
-use Rattle.masks.proofs.CheckLaws.{is-refused, is-given, span-allowed}
-use Rattle.masks.proofs.LentLaws.{lent-exit}
-use Rattle.masks.proofs.RefusalLaws.{number-ne0}
+use Rattle.masks.proofs.checks.CheckLaws.{is-refused, is-given, span-allowed}
+use Rattle.masks.proofs.span.LentLaws.{lent-exit}
+use Rattle.masks.proofs.refusal.RefusalLaws.{number-ne0}
 use Rattle.masks.proofs.span.Lent.new.Goals as goal
 
 pub returns-in_err-check_span : goal.returns-in_err-check_span

@@ -2,8 +2,8 @@
 -- has too few set flags (`turn-down`).
 use mathlib.Core.Path.{◌∙◌}
 use native.Mathlib.Omega.{arith}
-use Rattle.masks.proofs.BitmaskLaws.{window-whole}
-use Rattle.masks.proofs.SearchLaws.{turn-down, enough}
+use Rattle.masks.proofs.bitmask.BitmaskLaws.{window-whole}
+use Rattle.masks.proofs.bitmask.SearchLaws.{turn-down, enough}
 use Rattle.masks.proofs.span.Lent.pass_back.Goals as goal
 
 pub returns-then-left-ones : goal.returns-then-left-ones

@@ -2,8 +2,8 @@
 -- flags (`turn-only`).
 use mathlib.Core.Path.{◌∙◌}
 use native.Mathlib.Omega.{arith}
-use Rattle.masks.proofs.BitmaskLaws.{window-flags, window-whole}
-use Rattle.masks.proofs.SearchLaws.{turn-only, enough}
+use Rattle.masks.proofs.bitmask.BitmaskLaws.{window-flags, window-whole}
+use Rattle.masks.proofs.bitmask.SearchLaws.{turn-only, enough}
 use Rattle.masks.proofs.span.Lent.pass_windows.Goals as goal
 
 pub returns-then-left-ones : goal.returns-then-left-ones

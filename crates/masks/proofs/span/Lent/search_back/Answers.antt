@@ -2,7 +2,7 @@
 use mathlib.Core.Path.{◌≡◌, ◌∙◌}
 use native.Mathlib.Omega.{arith}
 use Rattle.masks.specs.Bitmask.{window_word}
-use Rattle.masks.proofs.SearchLaws.{turn-back, turn-down, place-below}
+use Rattle.masks.proofs.bitmask.SearchLaws.{turn-back, turn-down, place-below}
 use Rattle.masks.proofs.span.Lent.search_back.Goals as goal
 
 pub overflow_add-position : goal.overflow_add-position

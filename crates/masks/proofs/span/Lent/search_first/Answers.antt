@@ -4,7 +4,7 @@ use mathlib.Core.Path.{◌≡◌, ap, ◌∙◌}
 use Prim.Native.Nat.{◌+◌}
 use native.Mathlib.Omega.{arith}
 use Rattle.masks.specs.Bitmask.{window_word}
-use Rattle.masks.proofs.SearchLaws.{turn-back, turn-down, back_none}
+use Rattle.masks.proofs.bitmask.SearchLaws.{turn-back, turn-down, back_none}
 use Rattle.masks.proofs.span.Lent.search_first.Goals as goal
 
 pub returns-then-n-ones : goal.returns-then-n-ones

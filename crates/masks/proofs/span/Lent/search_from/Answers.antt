@@ -3,9 +3,9 @@ use mathlib.Core.Path.{sym, ◌∙◌, subst}
 use Prim.Native.Nat.{ℕ, ◌≤◌}
 use native.Mathlib.Omega.{arith}
 use Rattle.words.specs.Flags.{bits, count}
-use Rattle.words.proofs.Bits.{length-bits}
-use Rattle.masks.proofs.BitmaskLaws.{window-flags}
-use Rattle.masks.proofs.SearchLaws.{seen-there, seen-only, turn-there, turn-only, turn_end}
+use Rattle.words.proofs.flags.Bits.{length-bits}
+use Rattle.masks.proofs.bitmask.BitmaskLaws.{window-flags}
+use Rattle.masks.proofs.bitmask.SearchLaws.{seen-there, seen-only, turn-there, turn-only, turn_end}
 use Rattle.masks.proofs.span.Lent.search_from.Goals as goal
 
 pub returns-then-from-self : goal.returns-then-from-self

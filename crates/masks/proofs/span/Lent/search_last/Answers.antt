@@ -3,12 +3,12 @@ use Rattle.std.proofs.Common.{Ok, Err, Some, None, ⊎_elim, ◌≡◌, ◌∙�
 use Rattle.std.proofs.lemmas.Bool.{cases_lt}
 use Rattle.words.specs.Flags.{bits, count}
 use Rattle.words.specs.Nth.{nth_place}
-use Rattle.words.proofs.Bits.{length-bits}
-use Rattle.words.proofs.NthLaws.{nth-lt}
-use Rattle.words.proofs.Plain.{nth-found, nth-missing}
+use Rattle.words.proofs.flags.Bits.{length-bits}
+use Rattle.words.proofs.nth.NthLaws.{nth-lt}
+use Rattle.words.proofs.theorems.Plain.{nth-found, nth-missing}
 use Rattle.std.proofs.iter.Serving.{serving}
-use Rattle.masks.proofs.BitmaskLaws.{window-flags}
-use Rattle.masks.proofs.SearchLaws.{seen-there, seen-only, turn-there, turn_last}
+use Rattle.masks.proofs.bitmask.BitmaskLaws.{window-flags}
+use Rattle.masks.proofs.bitmask.SearchLaws.{seen-there, seen-only, turn-there, turn_last}
 use Rattle.masks.proofs.span.Lent.search_last.Goals as goal
 
 pub map-requires : goal.map-requires

@@ -1,9 +1,9 @@
 -- At most 32 flags are taken of a word that has 57 (`near-value`), so they fit 32 bits (`narrow`); past the length the window is 0.
 use native.Mathlib.Omega.{arith}
 use borrow.Author.Rules.{rules}
-use Rattle.words.proofs.Loads.{near-first}
-use Rattle.masks.proofs.BitmaskLaws.{narrow, window-value, window-none}
-use Rattle.masks.proofs.SpanLaws.{near-value}
+use Rattle.words.proofs.word.Loads.{near-first}
+use Rattle.masks.proofs.bitmask.BitmaskLaws.{narrow, window-value, window-none}
+use Rattle.masks.proofs.span.SpanLaws.{near-value}
 use Rattle.masks.proofs.span.Lent.window.Goals as goal
 
 pub returns-then-index-self : goal.returns-then-index-self

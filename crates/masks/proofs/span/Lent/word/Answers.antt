@@ -1,5 +1,5 @@
 -- A start at a byte is one load; inside a byte two neighbouring words are merged (`inside-byte`).
-use Rattle.masks.proofs.ChunkLaws.{inside-byte}
+use Rattle.masks.proofs.chunks.ChunkLaws.{inside-byte}
 use Rattle.masks.proofs.span.Lent.word.Goals as goal
 
 pub returns : goal.returns

@@ -1,6 +1,6 @@
 -- The sum of the two calls' results; zeros are at most the flags counted (`zeros-most`), so it fits.
-use Rattle.words.proofs.Windows.{length-window}
-use Rattle.masks.proofs.PartLaws.{zeros-most}
+use Rattle.words.proofs.flags.Windows.{length-window}
+use Rattle.masks.proofs.utils.PartLaws.{zeros-most}
 use mathlib.Core.Path.{ap₂}
 use Prim.Native.Nat.{ℕ, ◌+◌}
 use native.Mathlib.Omega.{arith}

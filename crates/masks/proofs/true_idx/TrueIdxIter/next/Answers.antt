@@ -7,9 +7,9 @@ use Rattle.masks.specs.Answer.{given}
 use Rattle.masks.specs.Cursor.{item, ended}
 use Rattle.masks.specs.declared.true_idx.TrueIdxIter.{TrueIdxIter}
 use Rattle.masks.specs.TrueIdx.{next_true}
-use Rattle.masks.proofs.CheckLaws.{is-given}
-use Rattle.masks.proofs.TrueIdxLaws.{true-allowed, a_one, no_one, zeros_within}
-use Rattle.masks.proofs.RefusalLaws.{passed-back, step-refused}
+use Rattle.masks.proofs.checks.CheckLaws.{is-given}
+use Rattle.masks.proofs.true_idx.TrueIdxLaws.{true-allowed, a_one, no_one, zeros_within}
+use Rattle.masks.proofs.refusal.RefusalLaws.{passed-back, step-refused}
 use Rattle.masks.proofs.true_idx.TrueIdxIter.next.Goals as goal
 
 pub returns-in_err-map_err : goal.returns-in_err-map_err

@@ -1,12 +1,12 @@
 -- By cases on the number of the checks: `refused-way` or `given-way`.
 use Rattle.std.proofs.Common.{rules}
 use mathlib.Core.Path.{sym, ap, ◌∙◌}
-use Rattle.masks.proofs.CheckLaws.{given-way}
-use Rattle.masks.proofs.PositionLaws.{told, within-out}
+use Rattle.masks.proofs.checks.CheckLaws.{given-way}
+use Rattle.masks.proofs.positions.PositionLaws.{told, within-out}
 use Rattle.masks.specs.Answer.{given}
 use Rattle.masks.specs.declared.true_idx.TrueIdxIter.{TrueIdxIter}
 use Rattle.masks.specs.Positions.{next_positions, positions_over}
-use Rattle.masks.proofs.RefusalLaws.{passed-back, refused-way}
+use Rattle.masks.proofs.refusal.RefusalLaws.{passed-back, refused-way}
 use Rattle.masks.proofs.true_idx.TrueIdxIter.next_chunk.Goals as goal
 
 pub returns-in_err-map_err : goal.returns-in_err-map_err

@@ -1,6 +1,6 @@
 -- The line goes on with the bytes before the line feed.
 use Rattle.std.proofs.Common.{rules, arith}
-use Rattle.notation.proofs.LineLaws.{line-taken, left-taken}
+use Rattle.notation.proofs.lines.LineLaws.{line-taken, left-taken}
 use Rattle.notation.proofs.lines.Lines.take.Goals as goal
 
 pub returns-in-None-clause-line : goal.returns-in-None-clause-line

@@ -3,7 +3,7 @@ use Rattle.std.proofs.Common.{rules, ◌≡◌, ◌∙◌, ap, sym, length, fold
 use Rattle.std.specs.Iterator.Runs.{YieldsRun, Trigger}
 use Rattle.std.specs.Slice.Iter.{chunks_rest, chunks_size, chunk_count}
 use Rattle.notation.specs.Sums.{parts_mixed}
-use Rattle.notation.proofs.SumLaws.{with_part, parts-taken, part-count}
+use Rattle.notation.proofs.sums.SumLaws.{with_part, parts-taken, part-count}
 use Rattle.notation.proofs.sums.Checksum.bytes.Goals as goal
 
 pub returns : goal.returns

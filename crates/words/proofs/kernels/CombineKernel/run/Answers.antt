@@ -1,7 +1,7 @@
 -- The invariant: i words are written. One more is the law `write_step`.
 use Rattle.std.proofs.Common.{arith}
-use Rattle.words.proofs.Combining.{length-zip}
-use Rattle.words.proofs.Writing.{write-none, write_step, write-all}
+use Rattle.words.proofs.ops.Combining.{length-zip}
+use Rattle.words.proofs.loops.Writing.{write-none, write_step, write-all}
 use Rattle.words.proofs.kernels.CombineKernel.run.Goals as goal
 
 pub loop-i-init : goal.loop-i-init

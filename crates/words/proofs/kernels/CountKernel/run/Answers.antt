@@ -1,7 +1,7 @@
 -- The invariant: `ones` counts i words. One more is the law `count-step`; a count is at most the flags counted, so the sum fits.
 use Rattle.std.proofs.Common.{arith}
-use Rattle.words.proofs.Combining.{length-zip}
-use Rattle.words.proofs.Counting.{count_none, count-step, count-within, count_word, count-all}
+use Rattle.words.proofs.ops.Combining.{length-zip}
+use Rattle.words.proofs.counts.Counting.{count_none, count-step, count-within, count_word, count-all}
 use Rattle.words.proofs.kernels.CountKernel.run.Goals as goal
 
 pub loop-i-init : goal.loop-i-init

@@ -1,7 +1,7 @@
 -- The invariant: a flag of `all` is set if and only if one of the first i words has a set flag. One more is the law `any_step`.
 use Rattle.std.proofs.Common.{arith}
-use Rattle.words.proofs.AnyFlag.{any_none, any_step, any-all}
-use Rattle.words.proofs.Combining.{length-zip}
+use Rattle.words.proofs.counts.AnyFlag.{any_none, any_step, any-all}
+use Rattle.words.proofs.ops.Combining.{length-zip}
 use Rattle.words.proofs.kernels.JoinKernel.run.Goals as goal
 
 pub loop-i-init : goal.loop-i-init

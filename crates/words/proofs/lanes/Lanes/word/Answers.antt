@@ -1,6 +1,6 @@
 -- `zip_word`: the words of the three, combined, are a word of the three combined.
 use Rattle.std.proofs.Common.{arith, refl}
-use Rattle.words.proofs.Combining.{zip_word}
+use Rattle.words.proofs.ops.Combining.{zip_word}
 use Rattle.words.proofs.lanes.Lanes.word.Goals as goal
 
 pub returns : goal.returns

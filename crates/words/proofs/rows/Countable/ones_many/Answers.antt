@@ -1,7 +1,7 @@
 -- The rows and what is left (`rows-rest`).
 use Rattle.std.proofs.Common.{arith}
-use Rattle.words.proofs.Counting.{count-within}
-use Rattle.words.proofs.RowLaws.{rows-rest}
+use Rattle.words.proofs.counts.Counting.{count-within}
+use Rattle.words.proofs.rows.RowLaws.{rows-rest}
 use Rattle.words.proofs.rows.Countable.ones_many.Goals as goal
 
 pub overflow_add-result : goal.overflow_add-result

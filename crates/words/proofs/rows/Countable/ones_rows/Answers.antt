@@ -1,7 +1,7 @@
 -- The invariant: `ones` counts the first i words of each row. One more word of each is `rows_step`; the rows in full are the stretch
 -- (`rows_all`).
 use Rattle.std.proofs.Common.{arith}
-use Rattle.words.proofs.RowLaws.{rows_none, rows-most, seven_most, rows_step, rows_all}
+use Rattle.words.proofs.rows.RowLaws.{rows_none, rows-most, seven_most, rows_step, rows_all}
 use Rattle.words.proofs.rows.Countable.ones_rows.Goals as goal
 
 pub loop-i-init : goal.loop-i-init

@@ -2,7 +2,7 @@
 -- (`rows_all`).
 use Rattle.std.proofs.Common.{◌*◌, ◌≡◌}
 use Rattle.words.specs.Flags.{flags_of}
-use Rattle.words.proofs.RowLaws.{rows_ones}
+use Rattle.words.proofs.rows.RowLaws.{rows_ones}
 use Rattle.words.proofs.rows.Countable.ones_rows.Given as goal
 
 abbrev pub invariant-loop-i : goal.invariant-loop-i

@@ -1,0 +1,2 @@
+-- What the proofs of several functions of src/checks.rt use.
+pub mod CheckLaws

@@ -1,0 +1,3 @@
+-- The rows of `tables/`, by computation.
+pub mod Witnesses
+pub mod WrongAnswers

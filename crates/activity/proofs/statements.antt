@@ -1,0 +1,3 @@
+-- What the theorems state. No contract of a function cites these definitions.
+pub mod Minutes
+pub mod Refusals

@@ -1,0 +1,2 @@
+-- What the proofs of several functions of src/records.rt use.
+pub mod RecordLaws

@@ -1,0 +1,2 @@
+-- What the theorems state. No contract of a function cites these definitions.
+pub mod Refusals

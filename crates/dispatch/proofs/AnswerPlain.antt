@@ -1,9 +1,0 @@
--- The answers of `may_reassign` and `offer` have the plain reading of `specs/AnswerPlain.antt`.
-use mathlib.Core.Path.{refl}
-use Rattle.dispatch.specs.AnswerPlain.{AnswerPlain, OfferPlain}
-
-pub answer-plain : AnswerPlain
-answer-plain = record { gives = λ a. refl; refuses = λ r. refl }
-
-pub offer-plain : OfferPlain
-offer-plain = record { gives = λ o. refl; refuses = λ e. refl }

@@ -1,0 +1,2 @@
+-- What the proofs of several functions of src/dispatch.rt use.
+pub mod DispatchLaws

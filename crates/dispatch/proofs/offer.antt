@@ -1,0 +1,3 @@
+-- What the proofs of several functions of src/offer.rt use.
+pub mod OfferLaws
+pub mod RoundLaws

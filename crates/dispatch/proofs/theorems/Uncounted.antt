@@ -1,0 +1,32 @@
+-- The theorem on counts for `may_reassign`, proved: its checks are those with the mask's count unknown, and its flag reads no count.
+use Rattle.std.specs.Prelude.{Option, Some, None}
+use Prim.Native.Nat.{ℕ}
+use mathlib.Core.Path.{◌≡◌, refl, ap, ◌∙◌}
+use mathlib.Core.Bool.{Bool}
+use mathlib.Core.List.{List}
+use Rattle.masks.specs.Answer.{checked}
+use Rattle.masks.specs.AtIndex.{and_not_at_checks, and_not_flag, flag_or}
+use Rattle.masks.specs.Checks.{Check}
+use Rattle.masks.proofs.statements.CountsUnseen.{forgot}
+use Rattle.masks.specs.declared.bitmap.Bitmap.{Bitmap}
+use Rattle.masks.proofs.theorems.Uncounted.{at-checks-left, at-checks-right}
+use Rattle.dispatch.proofs.statements.CountsUnseen.{CountsUnseen}
+use Rattle.dispatch.specs.Dispatch.{may_reassign, reassignable}
+
+-- the truck's flag reads no count of the revocation mask, whether there is a permission mask or not
+flag_unseen : (p : Option Bitmap) (p_bytes : List ℕ) (r : Bitmap) (r_bytes : List ℕ) (t : ℕ)
+    → reassignable p p_bytes (Some r) r_bytes t ≡ reassignable p p_bytes (Some (forgot r)) r_bytes t
+unfolding reassignable and_not_flag flag_or
+flag_unseen (Some p) p_bytes r r_bytes t = refl
+flag_unseen None p_bytes r r_bytes t = refl
+
+pub counts_unseen : CountsUnseen
+unfolding may_reassign reassignable and_not_flag flag_or
+counts_unseen =
+    record {
+      permission = λ p p_bytes e r r_bytes t.
+          ap (λ (cs : List Check). checked cs tt (reassignable (Some p) p_bytes r r_bytes t)) (at-checks-left p p_bytes e r r_bytes t);
+      revocation = λ r r_bytes e p p_bytes t.
+          ap (λ (cs : List Check). checked cs tt (reassignable p p_bytes (Some r) r_bytes t)) (at-checks-right r r_bytes e p p_bytes t)
+          ∙ ap (λ (x : Bool). checked (and_not_at_checks p p_bytes (Some (forgot r)) r_bytes t) tt x) (flag_unseen p p_bytes r r_bytes t);
+    }

@@ -1,0 +1,3 @@
+-- What the proofs of several functions of src/rows.rt use.
+pub mod MaskRowLaws
+pub mod RowLaws

@@ -1,0 +1,2 @@
+-- What the theorem on run lists uses.
+pub mod RunListLaws

@@ -1,0 +1,3 @@
+-- What the proofs of several functions of src/bitmask.rt use.
+pub mod BitmaskLaws
+pub mod SearchLaws

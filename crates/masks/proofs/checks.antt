@@ -1,0 +1,4 @@
+-- What the proofs of several functions of src/checks.rt use.
+pub mod CheckLaws
+pub mod LengthLaws
+pub mod OrderLaws

@@ -1,0 +1,2 @@
+-- What the proofs of several functions of src/chunks.rt use.
+pub mod ChunkLaws

@@ -1,0 +1,2 @@
+-- What the proofs of several functions of src/compare.rt use.
+pub mod CompareLaws

@@ -1,0 +1,9 @@
+-- The rows of `tables/`, by computation.
+pub mod EdgeRows
+pub mod Examples
+pub mod OrderRows
+pub mod RuleRows
+pub mod StartRows
+pub mod Witnesses
+pub mod WrongAnswers
+pub mod WrongNext

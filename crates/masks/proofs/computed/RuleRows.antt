@@ -1,0 +1,29 @@
+-- The rows of `proofs/tables/RuleRows.antt`, all at once and by computation.
+use mathlib.Core.Path.{refl}
+use mathlib.Core.Bool.{xor}
+use Rattle.words.specs.Counts.{any_set}
+use Rattle.words.specs.Flags.{bits, copies, count, flags_of, over, window, word_of}
+use Rattle.words.specs.Ops.{zip3}
+use Rattle.masks.specs.Answer.{decided, kept}
+use Rattle.masks.specs.Appends.{all_below, constant_checks, gather_checks, gathered, span_grow_checks, word_checks}
+use Rattle.masks.specs.Builder.{appended, builder_checks, builder_flags, in_progress, possible}
+use Rattle.masks.specs.Checks.{earlier, first_failed, rank, place_in, output_checks, span_checks}
+use Rattle.masks.specs.Combine.{each_bytes, each_of, largest_serial, not_checks, pair_bytes, pair_checks, pair_flags, pair_mask, pair_of}
+use Rattle.masks.specs.Combine.{shortcut}
+use Rattle.masks.specs.Freeze.{frozen_over}
+use Rattle.masks.specs.Frozen.{frozen, over_from, packed}
+use Rattle.masks.specs.Mask.{cut_zeros, kept_count, mask_checks, piece_checks, recounts, slice_checks, slice_of, try_new_of, unset_bits_of}
+use Rattle.masks.specs.Mask.{zero_count}
+use Rattle.masks.proofs.tables.RuleRows.{rows, RulesHold}
+use Rattle.masks.specs.Utils.{zeros}
+
+pub all_hold : RulesHold
+unfolding
+    rows
+    bits word_of flags_of count copies window over any_set zip3 xor
+    first_failed earlier rank place_in span_checks output_checks decided kept
+    mask_checks try_new_of unset_bits_of zero_count zeros slice_of slice_checks piece_checks cut_zeros recounts kept_count
+    packed frozen over_from in_progress appended builder_flags possible builder_checks
+    constant_checks word_checks span_grow_checks gather_checks all_below gathered frozen_over
+    pair_of pair_bytes pair_checks pair_flags pair_mask shortcut each_of each_bytes largest_serial not_checks
+all_hold = refl

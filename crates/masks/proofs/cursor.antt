@@ -1,0 +1,3 @@
+-- What the proofs of several functions of src/cursor.rt use.
+pub mod CursorLaws
+pub mod ListingLaws

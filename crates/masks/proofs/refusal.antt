@@ -1,0 +1,3 @@
+-- What the proofs of several functions of src/refusal.rt use.
+pub mod AnswerLaws
+pub mod RefusalLaws

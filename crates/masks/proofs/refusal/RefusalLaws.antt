@@ -1,0 +1,171 @@
+-- The early exit of a `?`: the answer of the call there, and what holds after it. Also: the order of the refusals is that of their numbers.
+use Rattle.std.proofs.Common.{◌≡◌, refl, ℕ, zero, suc, ◌<◌, Bool, true, false, List, [], ◌∷◌, length, get_or, Result, Ok, Err}
+use Rattle.std.specs.Prelude.{◌&&◌, eqb}
+use Rattle.std.specs.Result.{IsErrAnd, is_ok}
+use Rattle.std.proofs.lemmas.Result.{err_from_is_err_and}
+use Rattle.std.specs.Ordering.{ord_min}
+use Rattle.std.proofs.lemmas.Bool.{and_parts}
+use mathlib.Core.Path.{sym, ap, ◌∙◌}
+use native.Mathlib.Omega.{arith}
+use borrow.Author.Tests.{eqb-true}
+use Rattle.masks.specs.Answer.{Answer, answer, answer_back, decided, kept, refused, unless_empty}
+use Rattle.masks.proofs.checks.CheckLaws.{is-kept, is-refused, not-empty}
+use Rattle.masks.specs.Checks.{earlier, rank, place_in}
+use Rattle.masks.specs.Cursor.{answer_step, Step}
+use Rattle.masks.specs.Refusal.{number, failure_of}
+use Rattle.masks.specs.declared.cursor.Step.{Step as Stepped}
+use Rattle.masks.specs.declared.refusal.Refusal.{Refusal}
+use Rattle.masks.specs.declared.refusal.Refusal.TheVariants.{OverLimit, PastBytes, FalseCount, UnequalLists, ImpossibleBuilder}
+use Rattle.masks.specs.declared.refusal.Refusal.TheVariants.{UnequalLengths, Outside, WrongRecount, WrongAddress, ShortOutput}
+use Rattle.masks.specs.declared.refusal.Refused.{Refused}
+use Rattle.masks.specs.contracts.refusal.RefusalOrd.TheImpl.{cmp-value}
+
+-- ---- what holds of each refusal
+
+abbrev refusals : List Refusal
+refusals =
+    OverLimit
+    ∷ PastBytes
+    ∷ FalseCount
+    ∷ UnequalLists
+    ∷ ImpossibleBuilder
+    ∷ UnequalLengths
+    ∷ Outside
+    ∷ WrongRecount
+    ∷ WrongAddress
+    ∷ ShortOutput
+    ∷ []
+
+abbrev all : (Refusal → Bool) → List Refusal → Bool
+all p [] = true
+all p (x ∷ xs) = p x && all p xs
+
+at : (p : Refusal → Bool) (l : List Refusal) → all p l ≡ true → (k : ℕ) → k < length l → p (get_or l k OverLimit) ≡ true
+at p [] e k h = absurd (omega (arith, h))
+at p (x ∷ xs) e zero h = (and_parts _ _ e).0
+at p (x ∷ xs) e (suc k) h = at p xs (and_parts _ _ e).1 k (omega (arith, h))
+
+of-each : (p : Refusal → Bool) → all p refusals ≡ true → (r : Refusal) → p r ≡ true
+of-each p e OverLimit = at p refusals e 0 (omega arith)
+of-each p e PastBytes = at p refusals e 1 (omega arith)
+of-each p e FalseCount = at p refusals e 2 (omega arith)
+of-each p e UnequalLists = at p refusals e 3 (omega arith)
+of-each p e ImpossibleBuilder = at p refusals e 4 (omega arith)
+of-each p e UnequalLengths = at p refusals e 5 (omega arith)
+of-each p e Outside = at p refusals e 6 (omega arith)
+of-each p e WrongRecount = at p refusals e 7 (omega arith)
+of-each p e WrongAddress = at p refusals e 8 (omega arith)
+of-each p e ShortOutput = at p refusals e 9 (omega arith)
+
+-- refusals are declared in the order of their numbers' ranks
+pub least-number : (x y : Refusal) → number (ord_min cmp-value.it x y) ≡ earlier (number x) (number y)
+unfolding earlier rank place_in
+least-number x y =
+    eqb-true _ _ (of-each (λ b. eqb (number (ord_min cmp-value.it x b)) (earlier (number x) (number b)))
+    (of-each (λ a. all (λ b. eqb (number (ord_min cmp-value.it a b)) (earlier (number a) (number b))) refusals) refl x) y)
+
+-- no refusal has the number 0, which means that no check failed
+pub number-ne0 : (r : Refusal) → number r ≡ 0 → ⊥
+number-ne0 OverLimit e = omega arith
+number-ne0 PastBytes e = omega arith
+number-ne0 FalseCount e = omega arith
+number-ne0 UnequalLists e = omega arith
+number-ne0 ImpossibleBuilder e = omega arith
+number-ne0 UnequalLengths e = omega arith
+number-ne0 Outside e = omega arith
+number-ne0 WrongRecount e = omega arith
+number-ne0 WrongAddress e = omega arith
+number-ne0 ShortOutput e = omega arith
+
+-- ---- the early exit of a `?` in calls whose refusal carries no record
+
+-- the early exit of a function that makes checks
+pub exit-number : (result : Result (Unit {0}) Refusal) (e : Refusal) → IsErrAnd result (λ (y : Refusal). y ≡ e)
+    → failure_of result ≡ number e
+exit-number result e h = let p = err_from_is_err_and result h in ap failure_of p.1 ∙ ap number p.2
+
+-- ---- the early exit in calls whose refusal carries the record
+
+abbrev error-of : {S A : Type 0} → Refused S → Result A (Refused S) → Refused S
+error-of d (Ok a) = d
+error-of d (Err x) = x
+
+-- the result of a check, with the record added to a refusal
+abbrev pub with_state : {S A : Type 0} → Result A Refusal → S → Result A (Refused S)
+with_state (Ok a) s = Ok a
+with_state (Err k) s = Err (record { refusal = k; state = s })
+
+-- an error of `with_state` has the check's refusal and the record
+pub back-err : {S A : Type 0} (r : Result A Refusal) (s : S) (x : Refused S) → Err x ≡ with_state r s → (r ≡ Err x.refusal) × (x.state ≡ s)
+back-err (Ok a) s x e = cc
+back-err (Err k) s x e = let p = ap (error-of x) e in (ap (λ (y : Refused _). Err y.refusal) (sym p), ap (λ (y : Refused _). y.state) p)
+
+-- the checks pass if the result with the record, which is `Ok` exactly if theirs is, is `Ok`
+pub passed-back : {S : Type 0} (r : Result (Unit {0}) Refusal) (m : Result (Unit {0}) (Refused S)) (u : Unit {0}) → is_ok m ≡ is_ok r
+    → m ≡ Ok u → failure_of r ≡ 0
+passed-back (Ok a) m u v w = refl
+passed-back (Err k) m u v w = let e : true ≡ false = sym (ap is_ok w) ∙ v in cc
+
+-- if the result with the record is an error, the number of the checks is not 0
+pub failed-back : {S : Type 0} (r : Result (Unit {0}) Refusal) (s : S) (x : Refused S) → Err x ≡ with_state r s → failure_of r ≡ 0 → ⊥
+failed-back r s x e h = number-ne0 x.refusal (sym (ap failure_of (back-err r s x e).0) ∙ h)
+
+-- the answer of a call without a record, after a failed check
+pub exit-is : {A : Type 0} (result : Result A Refusal) (e : Refusal) → IsErrAnd result (λ (y : Refusal). y ≡ e)
+    → answer result ≡ refused (number e) tt
+exit-is result e h = let p = err_from_is_err_and result h in ap answer (p.1 ∙ ap (λ (y : Refusal). Err y) p.2)
+
+same-refused : {S A : Type 0} (r : Result (Unit {0}) Refusal) (s : S) (x : Refused S) → Err x ≡ with_state r s
+    → ◌≡◌ {A = Answer S A} (refused (number x.refusal) x.state) (refused (failure_of r) s)
+same-refused r s x e =
+    let p = back-err r s x e in
+    ap (refused (number x.refusal)) p.1 ∙ ap (λ (n : ℕ). refused n s) (sym (ap failure_of p.0))
+
+pub back-is : {S A : Type 0} (r : Result (Unit {0}) Refusal) (s : S) (x : Refused S) → Err x ≡ with_state r s
+    → (result : Result A (Refused S)) → IsErrAnd result (λ (y : Refused S). y ≡ x) → answer_back result ≡ refused (failure_of r) s
+back-is r s x e result h =
+    let p = err_from_is_err_and result h in
+    ap answer_back (p.1 ∙ ap (λ (y : Refused _). Err y) p.2) ∙ same-refused r s x e
+
+pub step-is : {S A : Type 0} (r : Result (Unit {0}) Refusal) (s : S) (x : Refused S) → Err x ≡ with_state r s
+    → (result : Result (Stepped A S) (Refused S)) → IsErrAnd result (λ (y : Refused S). y ≡ x)
+    → answer_step result ≡ refused (failure_of r) s
+step-is r s x e result h =
+    let p = err_from_is_err_and result h in
+    ap answer_step (p.1 ∙ ap (λ (y : Refused _). Err y) p.2) ∙ same-refused r s x e
+
+-- the answer of a call whose checks also return a value
+pub back-exit : {S T A : Type 0} (r : Result T Refusal) (s : S) (x : Refused S) → Err x ≡ with_state r s
+    → (result : Result A (Refused S)) → IsErrAnd result (λ (y : Refused S). y ≡ x) → answer_back result ≡ refused (number x.refusal) s
+back-exit r s x e result h =
+    let p = err_from_is_err_and result h in
+    ap answer_back (p.1 ∙ ap (λ (y : Refused _). Err y) p.2) ∙ ap (refused (number x.refusal)) (back-err r s x e).1
+
+-- ---- the early exit of a `?` answers by the number of the checks
+
+pub exit-refused : {A : Type 0} (result : Result A Refusal) (e : Refusal) → IsErrAnd result (λ (y : Refusal). y ≡ e)
+    → (m : ℕ) → number e ≡ m → (a : A) → answer result ≡ decided m tt a
+exit-refused result e h m p a = exit-is result e h ∙ is-refused (number e) m tt a p (number-ne0 e)
+
+-- of a call over a bare span, behind the test for no flags
+pub exit-not-empty : {A : Type 0} (result : Result A Refusal) (e : Refusal) → IsErrAnd result (λ (y : Refusal). y ≡ e)
+    → (n : ℕ) → (n ≡ 0 → ⊥) → (m : ℕ) → number e ≡ m → (x : Answer (Unit {0}) A) (a : A)
+    → answer result ≡ unless_empty n x (decided m tt a)
+exit-not-empty result e h n some m p x a = not-empty n x (decided m tt a) (answer result) some (exit-refused result e h m p a)
+
+pub back-refused : {S A : Type 0} (r : Result (Unit {0}) Refusal) (s : S) (x : Refused S) → Err x ≡ with_state r s
+    → (result : Result A (Refused S)) → IsErrAnd result (λ (y : Refused S). y ≡ x)
+    → (m : ℕ) → failure_of r ≡ m → (a : A) → answer_back result ≡ decided m s a
+back-refused r s x e result h m p a = back-is r s x e result h ∙ is-refused (failure_of r) m s a p (failed-back r s x e)
+
+pub step-refused : {S A : Type 0} (r : Result (Unit {0}) Refusal) (s : S) (x : Refused S) → Err x ≡ with_state r s
+    → (result : Result (Stepped A S) (Refused S)) → IsErrAnd result (λ (y : Refused S). y ≡ x)
+    → (m : ℕ) → failure_of r ≡ m → (a : Step S A) → answer_step result ≡ decided m s a
+step-refused r s x e result h m p a = step-is r s x e result h ∙ is-refused (failure_of r) m s a p (failed-back r s x e)
+
+-- so are the two promises of a call that may write: its answer and its bytes
+pub refused-way : {S A B : Type 0} (r : Result (Unit {0}) Refusal) (s : S) (x : Refused S) → Err x ≡ with_state r s
+    → (result : Result A (Refused S)) → IsErrAnd result (λ (y : Refused S). y ≡ x)
+    → (m : ℕ) → failure_of r ≡ m → (a : A) (new old : B) → (answer_back result ≡ decided m s a) × (old ≡ kept m new old)
+refused-way r s x e result h m p a new old =
+    (back-refused r s x e result h m p a, is-kept (failure_of r) m new old p (failed-back r s x e))

@@ -1,0 +1,3 @@
+-- What the proofs of several functions of src/span.rt use.
+pub mod LentLaws
+pub mod SpanLaws

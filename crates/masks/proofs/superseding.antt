@@ -1,0 +1,2 @@
+-- What the proofs of several functions of src/superseding.rt use.
+pub mod SupersedingLaws

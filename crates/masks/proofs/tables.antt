@@ -1,0 +1,13 @@
+-- Tables of inputs with their answers, and of wrong answers: they pin the definitions, and no contract cites them.
+pub mod EdgeRows
+pub mod Examples
+pub mod OrderRows
+pub mod RuleRows
+pub mod StartRows
+pub mod Witnesses
+pub mod WrongBuilders
+pub mod WrongCursors
+pub mod WrongMasks
+pub mod WrongNext
+pub mod WrongSerials
+pub mod WrongSpans

@@ -1,0 +1,21 @@
+-- The theorems, which no function needs.
+pub mod Accepted
+pub mod AndNotFlag
+pub mod AnswerPlain
+pub mod AppendPlain
+pub mod CountPlain
+pub mod CursorPlain
+pub mod NextPlain
+pub mod PairPlain
+pub mod PositionsPlain
+pub mod Refusals
+pub mod RunsPlain
+pub mod RunsWhole
+pub mod SearchCursor
+pub mod SearchPlain
+pub mod SerialPlain
+pub mod ShortcutsUnseen
+pub mod SliceTruth
+pub mod SupersedingPlain
+pub mod TrueIdxPlain
+pub mod Uncounted

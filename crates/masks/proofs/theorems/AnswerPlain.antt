@@ -1,0 +1,33 @@
+-- The statements of `proofs/statements/AnswerPlain.antt`: what each answer means.
+use mathlib.Core.Path.{refl}
+use Rattle.masks.specs.Answer.{decided}
+use Rattle.masks.proofs.statements.AnswerPlain.{AnswersPlain}
+
+pub answers-plain : AnswersPlain
+unfolding decided
+answers-plain =
+    record {
+      gives = λ a. refl;
+      refuses = λ r. refl;
+      gives_back = λ a. refl;
+      refuses_back = λ r s. refl;
+      steps = λ a c. refl;
+      ends = λ c. refl;
+      refuses_step = λ r c. refl;
+      changed = λ b. refl;
+      passes = refl;
+      fails = λ r. refl;
+      numbers =
+          record {
+            over_limit = refl;
+            past_bytes = refl;
+            false_count = refl;
+            impossible_builder = refl;
+            unequal_lengths = refl;
+            outside = refl;
+            wrong_recount = refl;
+            wrong_address = refl;
+            short_output = refl;
+            unequal_lists = refl;
+          };
+    }

@@ -1,0 +1,2 @@
+-- What the proofs of several functions of src/lines.rt use.
+pub mod LineLaws

@@ -1,0 +1,2 @@
+-- What the proofs of several functions of src/numbers.rt use.
+pub mod NumberLaws

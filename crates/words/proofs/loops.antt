@@ -1,0 +1,3 @@
+-- What the proofs of several functions of src/loops.rt use.
+pub mod RestLaws
+pub mod Writing

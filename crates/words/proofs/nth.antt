@@ -1,0 +1,2 @@
+-- What the proofs of several functions of src/nth.rt use.
+pub mod NthLaws

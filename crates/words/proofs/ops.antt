@@ -1,0 +1,2 @@
+-- What the proofs of several functions of src/ops.rt use.
+pub mod Combining

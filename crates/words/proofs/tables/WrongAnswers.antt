@@ -1,0 +1,74 @@
+-- Wrong answers that the contracts rule out, two for each call of document 01.
+--
+-- A contract says that an answer equals a definition at the call's arguments. So it rules out every other answer. A row has a call's
+-- definition at one input, its value there, and two answers that a faulty function would return, the fault named above each.
+-- `proofs/computed/WrongAnswers.antt` proves the rows by computing them.
+use Rattle.std.specs.Prelude.{◌≡◌, [], ◌∷◌, Ok, Err}
+use Rattle.words.specs.Flags.{bits, flags_of, window, word_flags}
+use Rattle.words.specs.Merge.{merged}
+use Rattle.words.specs.Nth.{nth_one}
+
+-- the value of a definition is the right answer and neither of the wrong ones
+pub record Tried {A : Type 0} (answer right first second : A) : Type 0 where
+  pub is_right : answer ≡ right
+  pub not_first : answer ≡ first → ⊥
+  pub not-second : answer ≡ second → ⊥
+
+-- a contract on a word is about its 64 flags
+pub record WrongAnswers : Type 0 where
+  -- `load_padded_le_u64` of the bytes 0x2D, 0x01
+  pub load-padded : Tried (window (flags_of (0x2D ∷ 0x01 ∷ [])) 0 64)
+      (word_flags 0x012D)
+      -- bytes in the other order
+      (word_flags 0x2D01)
+      -- absent bytes in front
+      (word_flags 0x012D000000000000)
+  -- `merge_reversed` of the words 8 and 5 at offset 3
+  pub merge_reversed : Tried (merged (word_flags 8) (word_flags 5) 3)
+      (word_flags 0xA000000000000001)
+      -- the next word left out
+      (word_flags 1)
+      -- the next word not shifted
+      (word_flags 5)
+  -- `merge_reversed` of the words 8 and 5 at offset 0
+  pub merge-reversed-at_0 : Tried (merged (word_flags 8) (word_flags 5) 0)
+      (word_flags 8)
+      -- a shift by 64 that does nothing
+      (word_flags 13)
+      -- the next word
+      (word_flags 5)
+  -- `nth_set_bit_u32` of 0x2D, whose bits 0, 2, 3 and 5 are set, with n 2
+  pub nth_set_bit_u32 : Tried (nth_one (bits 32 0x2D) 2)
+      (Ok 3)
+      -- n counted from 1
+      (Ok 2)
+      -- zeros counted
+      (Ok 6)
+  -- `nth_set_bit_u32` of 0x2D with n 4
+  pub nth-set-bit-u32-missing : Tried (nth_one (bits 32 0x2D) 4)
+      (Err 4)
+      -- 0 in place of the number
+      (Err 0)
+      -- the number of zeros
+      (Err 28)
+  -- `nth_set_bit_u64` of a word with the bits 0 and 40 set, with n 1
+  pub nth_set_bit_u64 : Tried (nth_one (bits 64 0x10000000001) 1)
+      (Ok 40)
+      -- the upper half not read
+      (Err 1)
+      -- the place in the upper half
+      (Ok 8)
+  -- `nth_set_bit_u64` of that word with n 2
+  pub nth-set-bit-u64-missing : Tried (nth_one (bits 64 0x10000000001) 2)
+      (Err 2)
+      -- 0 in place of the number
+      (Err 0)
+      -- the number of zeros
+      (Err 62)
+  -- `nth_set_bit_u64` of that word with n 7
+  pub nth-set-bit-u64-few : Tried (nth_one (bits 64 0x10000000001) 7)
+      (Err 2)
+      -- n itself
+      (Err 7)
+      -- the upper half not counted
+      (Err 1)

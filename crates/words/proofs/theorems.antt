@@ -1,0 +1,2 @@
+-- The theorems, which no function needs.
+pub mod Plain

@@ -1,0 +1,2 @@
+-- What the proofs of several functions of src/word.rt use.
+pub mod Loads
