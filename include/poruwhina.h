@@ -15,7 +15,7 @@
  * offer, a window's numbers. Every other field is then 0.
  *
  * Each call that takes a mask whose count is known counts its zeros again, and refuses a count that is not exact. A record that this
- * library returned may be passed without its count (`known` 0), with the bytes that it belongs to: every answer is the same, except the
+ * library returned may be passed without its count (`known` 0), with the bytes that it belongs to: this changes no answer except the
  * counts in returned records, and nothing is counted again. Pass a record from elsewhere with its count: without it a false count is not
  * found.
  *
@@ -145,7 +145,7 @@ typedef struct {
     pw_mask mask;
 } pw_mask_answer;
 
-/* A mask, if `present`. If it is false and nothing is refused, all flags are set. */
+/* A mask, if `present`. If `present` is false and `refusal` is 0, all flags are set, or there are none. */
 typedef struct {
     uint8_t refusal;
     bool present;
@@ -159,8 +159,9 @@ typedef struct {
     pw_mask mask;
 } pw_zeros_answer;
 
-/* The winner of two masks. It is the second one if `second` is true, else the first. Its bytes are those from `from` to before `to` of
- * the slice passed with it, and `mask` is its record over them. On refusal they are an empty part of the first slice. */
+/* The winner of two masks. It is the second one if `second` is true, else the first. Its bytes are those of the slice passed with it
+ * that are numbered `from` up to, not including, `to`; `mask` is its record over them. On refusal they are an empty part of the first
+ * slice. */
 typedef struct {
     uint8_t refusal;
     bool second;
@@ -239,33 +240,33 @@ pw_nth_answer pw_nth_set_bit_u32(uint32_t w, uint32_t n);
 
 /* ---- The calls over spans without a mask: the aligned split, the counts, a span split in two, 32 flags as a number. */
 
-/* Splits a span into a prefix, whole words at addresses divisible by 8, and a suffix. `address` is the remainder by 8 of the address
- * of the first byte. A span that lies in eight bytes is all prefix. With length 0 every field is 0, without any check. Refuses with 1,
- * 2, 8; every other field is then 0. */
+/* Splits a span into a prefix, whole words at addresses divisible by 8, and a suffix. `address` is the address of the first byte
+ * modulo 8. A span that lies in eight bytes is all prefix. With length 0 every field is 0, without any check. Refuses with 1, 2, 8;
+ * every other field is then 0. */
 pw_split_answer pw_aligned_new(const uint8_t *bytes, size_t bytes_len, size_t start, size_t length, size_t address);
 
-/* Counts the zeros of a span. `address` is the remainder by 8 of the address of the first byte; the count does not depend on it. With
- * length 0 returns 0 without any check. Refuses with 1, 2, 8; every other field is then 0. */
+/* Counts the zeros of a span. `address` is the address of the first byte modulo 8; the count does not depend on it. With length 0
+ * returns 0 without any check. Refuses with 1, 2, 8; every other field is then 0. */
 pw_number pw_count_zeros(const uint8_t *bytes, size_t bytes_len, size_t start, size_t length, size_t address);
 
-/* Counts the zeros before the first one of a span, or the whole length if no flag is set. `address` is the remainder by 8 of the
- * address of the first byte; the count does not depend on it. With length 0 returns 0 without any check. Refuses with 1, 2, 8; every
- * other field is then 0. */
+/* Counts the zeros before the first set flag of a span, or the whole length if no flag is set. `address` is the address of the first
+ * byte modulo 8; the count does not depend on it. With length 0 returns 0 without any check. Refuses with 1, 2, 8; every other field
+ * is then 0. */
 pw_number pw_leading_zeros(const uint8_t *bytes, size_t bytes_len, size_t start, size_t length, size_t address);
 
-/* Counts the ones before the first zero of a span, or the whole length if every flag is set. `address` is the remainder by 8 of the
- * address of the first byte; the count does not depend on it. With length 0 returns 0 without any check. Refuses with 1, 2, 8; every
- * other field is then 0. */
+/* Counts the ones before the first zero of a span, or the whole length if every flag is set. `address` is the address of the first
+ * byte modulo 8; the count does not depend on it. With length 0 returns 0 without any check. Refuses with 1, 2, 8; every other field
+ * is then 0. */
 pw_number pw_leading_ones(const uint8_t *bytes, size_t bytes_len, size_t start, size_t length, size_t address);
 
-/* Counts the zeros after the last one of a span, or the whole length if no flag is set. `address` is the remainder by 8 of the address
- * of the first byte; the count does not depend on it. With length 0 returns 0 without any check. Refuses with 1, 2, 8; every other
- * field is then 0. */
+/* Counts the zeros after the last set flag of a span, or the whole length if no flag is set. `address` is the address of the first
+ * byte modulo 8; the count does not depend on it. With length 0 returns 0 without any check. Refuses with 1, 2, 8; every other field
+ * is then 0. */
 pw_number pw_trailing_zeros(const uint8_t *bytes, size_t bytes_len, size_t start, size_t length, size_t address);
 
-/* Counts the ones after the last zero of a span, or the whole length if every flag is set. `address` is the remainder by 8 of the
- * address of the first byte; the count does not depend on it. With length 0 returns 0 without any check. Refuses with 1, 2, 8; every
- * other field is then 0. */
+/* Counts the ones after the last zero of a span, or the whole length if every flag is set. `address` is the address of the first byte
+ * modulo 8; the count does not depend on it. With length 0 returns 0 without any check. Refuses with 1, 2, 8; every other field is
+ * then 0. */
 pw_number pw_trailing_ones(const uint8_t *bytes, size_t bytes_len, size_t start, size_t length, size_t address);
 
 /* Returns two spans: the first `at` flags, and the flags starting at `at`. `at` may equal the length; above it the call is refused
@@ -455,8 +456,8 @@ pw_flag pw_and_not_at(bool first_present, pw_mask first, const uint8_t *first_by
 
 /* ---- The search for a flag that is set in one mask and not in another. */
 
-/* Returns the first position at or after `from` that is set in the first mask and not in the second, else the first one at or after 0;
- * `found` is false if there is no such position. If `second_present` is false there is no second mask, which means all zeros: its
+/* Returns the first position at or after `from` that is set in the first mask and not in the second, else the first such position from
+ * 0; `found` is false if there is no such position. If `second_present` is false there is no second mask, which means all zeros: its
  * record and bytes are not read, and refusal 5 does not occur. `windows` counts the windows of 32 flags read: they begin at `from` and
  * every 32 flags after it, below the length, then at 0 and every 32 flags after it, below `from`; the last one read holds the
  * position, or all are read. A `from` equal to the length is allowed; above it the call is refused with 6. Refuses with 1, 2, 3, 5, 6;
@@ -528,12 +529,12 @@ pw_flag pw_may_reassign(bool permitted, pw_mask permission, const uint8_t *permi
 
 /* ---- The next truck that dispatch offers. */
 
-/* Returns the first truck at or after `cursor` that is permitted and not revoked, else the first one from truck 0, and in `cursor` the
- * number after that truck, for the next call. If there is no such truck, `found` is false and `cursor` is unchanged. `windows` counts
- * windows of 32 flags as pw_next_and_not does, at most ceil(length / 32) + 1. If `permitted` is false there is no permission mask: no
- * truck is found, and `windows` is 0. If `revoked` is false there is no revocation mask, and no truck is revoked. The record and bytes
- * of an absent mask are not read. Refusal 5 occurs only with both masks; 6 only with a permission mask, if `cursor` is above its
- * length. Refuses with 1, 2, 3, 5, 6; `cursor` is unchanged, and every other field is 0. */
+/* Returns the first truck at or after `cursor` that is permitted and not revoked, else the first such truck from 0, and in `cursor`
+ * the number after that truck, for the next call. If there is no such truck, `found` is false and `cursor` is unchanged. `windows`
+ * counts windows of 32 flags as pw_next_and_not does, at most ceil(length / 32) + 1. If `permitted` is false there is no permission
+ * mask: no truck is found, and `windows` is 0. If `revoked` is false there is no revocation mask, and no truck is revoked. The record
+ * and bytes of an absent mask are not read. Refusal 5 occurs only with both masks; 6 only with a permission mask, if `cursor` is above
+ * its length. Refuses with 1, 2, 3, 5, 6; `cursor` is unchanged, and every other field is 0. */
 pw_offer_answer pw_offer(bool permitted, pw_mask permission, const uint8_t *permission_bytes,
     size_t permission_bytes_len, bool revoked, pw_mask revocation, const uint8_t *revocation_bytes,
     size_t revocation_bytes_len, size_t cursor);
@@ -569,14 +570,15 @@ static inline pw_serial_builder pw_serial_builder_new(uint32_t serial) {
     return b;
 }
 
-/* pw_push of the builder and its serial. Returns 0, or the number of a refusal, after which the builder is unchanged. */
+/* Calls pw_push with the builder and its serial, and returns 0, or the number of a refusal, after which the builder is unchanged. */
 static inline uint8_t pw_serial_push(pw_serial_builder *b, uint8_t *buf, size_t buf_len, bool flag) {
     pw_builder_answer a = pw_push(b->builder.length, b->builder.word, b->builder.ones, buf, buf_len, flag);
     b->builder = a.builder;
     return a.refusal;
 }
 
-/* pw_extend_constant of the builder and its serial. Returns 0, or the number of a refusal, after which the builder is unchanged. */
+/* Calls pw_extend_constant with the builder and its serial, and returns 0, or the number of a refusal, after which the builder is
+ * unchanged. */
 static inline uint8_t pw_serial_extend_constant(pw_serial_builder *b, uint8_t *buf, size_t buf_len, size_t n,
     bool flag) {
     pw_builder_answer a = pw_extend_constant(b->builder.length, b->builder.word, b->builder.ones, buf, buf_len, n, flag);
@@ -584,8 +586,8 @@ static inline uint8_t pw_serial_extend_constant(pw_serial_builder *b, uint8_t *b
     return a.refusal;
 }
 
-/* pw_push_word_with_len_unchecked of the builder and its serial. Returns 0, or the number of a refusal, after which the builder is
- * unchanged. */
+/* Calls pw_push_word_with_len_unchecked with the builder and its serial, and returns 0, or the number of a refusal, after which the
+ * builder is unchanged. */
 static inline uint8_t pw_serial_push_word_with_len_unchecked(pw_serial_builder *b, uint8_t *buf, size_t buf_len,
     uint64_t flags, size_t n) {
     pw_builder_answer a = pw_push_word_with_len_unchecked(b->builder.length, b->builder.word, b->builder.ones, buf, buf_len,
@@ -594,7 +596,8 @@ static inline uint8_t pw_serial_push_word_with_len_unchecked(pw_serial_builder *
     return a.refusal;
 }
 
-/* pw_extend_from_slice of the builder and its serial. Returns 0, or the number of a refusal, after which the builder is unchanged. */
+/* Calls pw_extend_from_slice with the builder and its serial, and returns 0, or the number of a refusal, after which the builder is
+ * unchanged. */
 static inline uint8_t pw_serial_extend_from_slice(pw_serial_builder *b, uint8_t *buf, size_t buf_len,
     const uint8_t *bytes, size_t bytes_len, size_t start, size_t n) {
     pw_builder_answer a = pw_extend_from_slice(b->builder.length, b->builder.word, b->builder.ones, buf, buf_len, bytes,
@@ -603,8 +606,8 @@ static inline uint8_t pw_serial_extend_from_slice(pw_serial_builder *b, uint8_t 
     return a.refusal;
 }
 
-/* pw_extend_each_repeated_from_slice_unchecked of the builder and its serial. Returns 0, or the number of a refusal, after which the
- * builder is unchanged. */
+/* Calls pw_extend_each_repeated_from_slice_unchecked with the builder and its serial, and returns 0, or the number of a refusal, after
+ * which the builder is unchanged. */
 static inline uint8_t pw_serial_extend_each_repeated_from_slice_unchecked(pw_serial_builder *b, uint8_t *buf,
     size_t buf_len, const uint8_t *bytes, size_t bytes_len, size_t start, size_t n, size_t repeats) {
     pw_builder_answer a = pw_extend_each_repeated_from_slice_unchecked(b->builder.length, b->builder.word, b->builder.ones,
@@ -613,8 +616,8 @@ static inline uint8_t pw_serial_extend_each_repeated_from_slice_unchecked(pw_ser
     return a.refusal;
 }
 
-/* pw_subslice_extend_from_bitmap of the builder and its serial. Returns 0, or the number of a refusal, after which the builder is
- * unchanged. */
+/* Calls pw_subslice_extend_from_bitmap with the builder and its serial, and returns 0, or the number of a refusal, after which the
+ * builder is unchanged. */
 static inline uint8_t pw_serial_subslice_extend_from_bitmap(pw_serial_builder *b, uint8_t *buf, size_t buf_len,
     pw_mask mask, const uint8_t *bytes, size_t bytes_len, size_t start, size_t n) {
     pw_builder_answer a = pw_subslice_extend_from_bitmap(b->builder.length, b->builder.word, b->builder.ones, buf, buf_len,
@@ -623,8 +626,8 @@ static inline uint8_t pw_serial_subslice_extend_from_bitmap(pw_serial_builder *b
     return a.refusal;
 }
 
-/* pw_gather_extend_from_slice of the builder and its serial. Returns 0, or the number of a refusal, after which the builder is
- * unchanged. */
+/* Calls pw_gather_extend_from_slice with the builder and its serial, and returns 0, or the number of a refusal, after which the
+ * builder is unchanged. */
 static inline uint8_t pw_serial_gather_extend_from_slice(pw_serial_builder *b, uint8_t *buf, size_t buf_len,
     const uint8_t *bytes, size_t bytes_len, size_t start, size_t n, const uint32_t *idxs, size_t idxs_len) {
     pw_builder_answer a = pw_gather_extend_from_slice(b->builder.length, b->builder.word, b->builder.ones, buf, buf_len,
@@ -633,8 +636,8 @@ static inline uint8_t pw_serial_gather_extend_from_slice(pw_serial_builder *b, u
     return a.refusal;
 }
 
-/* pw_opt_gather_extend_from_slice of the builder and its serial. Returns 0, or the number of a refusal, after which the builder is
- * unchanged. */
+/* Calls pw_opt_gather_extend_from_slice with the builder and its serial, and returns 0, or the number of a refusal, after which the
+ * builder is unchanged. */
 static inline uint8_t pw_serial_opt_gather_extend_from_slice(pw_serial_builder *b, uint8_t *buf, size_t buf_len,
     const uint8_t *bytes, size_t bytes_len, size_t start, size_t n, const uint32_t *idxs, size_t idxs_len) {
     pw_builder_answer a = pw_opt_gather_extend_from_slice(b->builder.length, b->builder.word, b->builder.ones, buf, buf_len,
@@ -643,12 +646,12 @@ static inline uint8_t pw_serial_opt_gather_extend_from_slice(pw_serial_builder *
     return a.refusal;
 }
 
-/* pw_freeze of the builder and its serial. The builder stays as it is. */
+/* Calls pw_freeze with the builder and its serial, and returns its answer. The builder does not change. */
 static inline pw_mask_answer pw_serial_freeze(const pw_serial_builder *b, uint8_t *buf, size_t buf_len) {
     return pw_freeze(b->builder.length, b->builder.word, b->builder.ones, buf, buf_len, b->serial);
 }
 
-/* pw_into_opt_validity of the builder and its serial. The builder stays as it is. */
+/* Calls pw_into_opt_validity with the builder and its serial, and returns its answer. The builder does not change. */
 static inline pw_validity_answer pw_serial_into_opt_validity(const pw_serial_builder *b, uint8_t *buf,
     size_t buf_len) {
     return pw_into_opt_validity(b->builder.length, b->builder.word, b->builder.ones, buf, buf_len, b->serial);

@@ -60,8 +60,16 @@ def head_of(text, at):
 
 
 def arguments(head):
-    inside = head[head.index("(") + 1 : head.index(")")]
-    return [part.split(":")[0].split()[-1].lstrip("&") for part in inside.split(",") if part.strip()]
+    at = head.index("(") + 1
+    depth, parts = 1, [""]
+    while depth:
+        depth += {"(": 1, "[": 1, "<": 1, ")": -1, "]": -1, ">": -1}.get(head[at], 0)
+        if head[at] == "," and depth == 1:
+            parts.append("")
+        elif depth:
+            parts[-1] += head[at]
+        at += 1
+    return [part.split(":")[0].split()[-1].lstrip("&") for part in parts if part.strip()]
 
 
 def promised(head):

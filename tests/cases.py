@@ -3,7 +3,7 @@
 
     python3 tests/cases.py crates/cases/stdin
 
-The answers are those of tests/document01.py. A difference is printed with its line; the exit status is 1 if there is one.
+The answers are those of tests/reference.py. A difference is printed with its line; the exit status is 1 if there is one.
 
 A line lends bytes (`x`, `y`, `z` to read, `o` to write) or numbers (`i`), or is a request with its answer, `NAME ARGUMENT .. = ANSWER ..`,
 and after `|` what the output holds after the call. A range has several values for some arguments, with commas or as `A..B`, and as its
@@ -14,7 +14,7 @@ import sys
 from itertools import product
 
 sys.dont_write_bytecode = True
-from document01 import *
+from reference import *
 
 SHOWN = 20
 
@@ -67,9 +67,9 @@ CALLS = {
     "word_from": ("n", lambda l, bit: [piece(l.x, bit, 64)]),
     "flag_at": ("n", lambda l, bit: [piece(l.x, bit, 1)]),
     "low_flags": ("nn", lambda l, w, k: [w & full(min(k, 64))]),
-    "down": ("nn", lambda l, w, k: [w >> min(k, 64)]),
-    "up": ("nn", lambda l, w, k: [w << min(k, 64) & WORD]),
-    "behind": ("nnn", lambda l, a, k, b: [(a & full(min(k, 64)) | b << min(k, 64)) & WORD]),
+    "shr_or_zero": ("nn", lambda l, w, k: [w >> min(k, 64)]),
+    "shl_or_zero": ("nn", lambda l, w, k: [w << min(k, 64) & WORD]),
+    "concat_low": ("nnn", lambda l, a, k, b: [(a & full(min(k, 64)) | b << min(k, 64)) & WORD]),
     "constant_word": ("n", lambda l, flag: [WORD * flag]),
     "constant_flags": ("nn", lambda l, flag, n: [full(min(n, 64)) * flag]),
     "ones_in_word": ("n", lambda l, w: [w.bit_count()]),

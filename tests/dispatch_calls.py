@@ -3,7 +3,7 @@
     python3 tests/dispatch_calls.py            reads crates/dispatch/src
     python3 tests/dispatch_calls.py FOLDER     reads the sources of that folder instead
 
-By document 01 dispatch uses only combinations and searches of masks. A call is found by its name where it is imported (`use
+By the reference dispatch uses only combinations and searches of masks. A call is found by its name where it is imported (`use
 masks::module::name;`, or among others in braces) or written with its path, a method by its name after a dot or after its type. Of the
 types of masks, only those may be named that a combination or a search takes or returns. Nothing of words may be used."""
 import pathlib

@@ -76,10 +76,10 @@ def by_pointer(export, rest):
         lines += f"    {c_name(export.result)} a = {called}    b->builder = a.builder;\n    return a.refusal;\n}}\n"
     else:
         lines += f"    return {called}}}\n"
-    told = "The builder stays as it is."
+    told = "returns its answer. The builder does not change."
     if appends:
-        told = "Returns 0, or the number of a refusal, after which the builder is unchanged."
-    return comment(f"{export.name} of the builder and its serial. {told}") + lines
+        told = "returns 0, or the number of a refusal, after which the builder is unchanged."
+    return comment(f"Calls {export.name} with the builder and its serial, and {told}") + lines
 
 
 def version():

@@ -4,7 +4,7 @@
     python3 tests/maskreport.py CASE stdin > crates/CRATE/stdin
     python3 tests/maskreport.py CASE stdout > crates/CRATE/stdout
 
-CASE is `example`, document 01's byte, for the crate maskreport; `empty`, `full` and `over`, that is no bytes, as many as it takes at
+CASE is `example`, the reference's byte, for the crate maskreport; `empty`, `full` and `over`, that is no bytes, as many as it takes at
 most, and one more, for maskreport_empty, maskreport_full and maskreport_over. The numbers are counted over the list of flags."""
 import sys
 from itertools import groupby

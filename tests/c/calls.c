@@ -1,5 +1,5 @@
 /* Uses every export from C, through include/poruwhina.h. The expected answers were computed by hand: "example N" is an example of
- * document 01, "edge" one of its edges. Prints a line for each wrong answer, then the totals; exits with 1 if one is wrong. tests/c/run
+ * the reference, "edge" one of its edges. Prints a line for each wrong answer, then the totals; exits with 1 if one is wrong. tests/c/run
  * builds and runs it. */
 #include "poruwhina.h"
 

@@ -4,7 +4,8 @@
 //! A [`Bitmap`] is made from bytes, from flags or by a [`BitmapBuilder`]. It can be sliced, combined with others, counted, searched
 //! and iterated over. [`may_reassign`] answers for one truck, [`offer`] returns the next one. An [`ActivityWindow`] counts in how many
 //! of the last minutes each truck was busy. The names are those of polars-arrow's bitmap module, of which the library is a port. A call
-//! that cannot be carried out returns a [`Refusal`], which has a number and a message, and has changed nothing.
+//! that cannot be carried out returns a [`Refusal`], which has a number and a message, and has changed nothing; operators and conversions
+//! panic instead.
 //!
 //! ```
 //! use poruwhina::{Bitmap, BitmapBuilder, Permission, may_reassign};
@@ -39,15 +40,16 @@
 //! - **The bytes are never altered.** A `Bitmap` takes them by value, lends them only as `&[u8]` and has no method that writes
 //!   them. Clones and slices share them in a private [`Arc`](std::sync::Arc).
 //! - **A known count is exact.** It comes from the library's own answers for these bytes. A caller cannot reach the field, and a
-//!   stated count ([`Bitmap::try_from_counted_span`]) is refused unless it is exact. So masks are passed to calls without their
-//!   counts: only the answer of `slice` depends on them, and nothing is counted again.
+//!   stated count ([`Bitmap::try_from_counted_span`]) is refused unless it is exact. So every call except `slice` is passed the mask
+//!   without its count, and does not count again. Of their answers only the count in the record of `superseding` would differ; the
+//!   crate keeps the winner's own instead.
 //!
 //! In addition, the crate does for each call what its caller must do:
 //!
 //! - **Outputs and inputs do not overlap.** A result is written to a new `Vec`, a builder's flags to the builder's own, borrowed
 //!   `&mut` for the call.
 //! - **Lengths.** The library checks each length that safe code passes. The crate computes sizes only from lengths that it has
-//!   first bounded by [`Bitmap::LIMIT`], so no sum wraps and no memory is allocated that is not needed.
+//!   first bounded by [`Bitmap::LIMIT`], so no sum wraps and no output is longer than the frozen bytes of that many flags.
 //! - **Threads.** The library has no state of its own: calls read and write only the slices lent to them. [`Bitmap`] and the
 //!   iterators are `Send` and `Sync` since their fields are. The only field that changes through `&self` is the kept count, in
 //!   a [`OnceLock`](std::sync::OnceLock): a thread reads it unset or complete, and every thread would set the same number.
@@ -103,8 +105,8 @@
 //!
 //! The Rust of this crate is not proved. It keeps records and bytes, keeps the positions that a call returned until they are requested,
 //! allocates memory, and computes the number of bytes for a number of flags. It subtracts the zeros from the length for
-//! [`Bitmap::set_bits`] and a place from a length for the iterators' `size_hint`, and makes `Option`, `Result` and text from answers. It
-//! never reads or writes a flag itself. The README lists what else must be believed.
+//! [`Bitmap::set_bits`] and a place from a length for the iterators' `size_hint`, ends a round of [`offers`] at its first truck, and makes
+//! `Option`, `Result` and text from answers. It never reads or writes a flag itself. The README lists what else must be believed.
 //!
 //! # What a call costs
 //!

@@ -7,6 +7,15 @@ use crate::iterator::record_or_absent;
 use crate::refusal::{Refusal, check};
 
 /// The answer of [`offer`].
+///
+/// ```
+/// use poruwhina::{Bitmap, Permission, Refusal, offer};
+///
+/// let mask = Bitmap::from([false, true]);
+/// let answer = offer(Permission::Mask(&mask), None, 0)?;
+/// assert_eq!((answer.truck, answer.cursor, answer.windows), (Some(1), 2, 1));
+/// # Ok::<(), Refusal>(())
+/// ```
 #[derive(Clone, Copy, Debug, PartialEq, Eq)]
 pub struct Offer {
     /// The truck, or none if no truck is permitted and not revoked.
@@ -17,7 +26,7 @@ pub struct Offer {
     pub windows: usize,
 }
 
-/// Returns the first truck at or after `cursor` that is permitted and not revoked, else the first one from truck 0. With
+/// Returns the first truck at or after `cursor` that is permitted and not revoked, else the first such truck from 0. With
 /// [`Permission::NoMask`] there is no such truck for any cursor, and no window is read. Refused with 5 if the masks differ in length,
 /// with 6 if `cursor` is above the length; a cursor equal to it is allowed.
 ///
@@ -65,6 +74,14 @@ pub fn offers<'a>(permission: Permission<'a>, revocation: Option<&'a Bitmap>, cu
 }
 
 /// The iterator that [`offers`] returns: one call of the library for each truck.
+///
+/// ```
+/// use poruwhina::{Bitmap, Permission, Refusal, offers};
+///
+/// let mask = Bitmap::from([true, false, true]);
+/// assert_eq!(offers(Permission::Mask(&mask), None, 1)?.collect::<Vec<_>>(), [2, 0]);
+/// # Ok::<(), Refusal>(())
+/// ```
 #[derive(Clone, Debug)]
 pub struct Offers<'a> {
     permission: Permission<'a>,
@@ -79,6 +96,17 @@ pub struct Offers<'a> {
 
 impl Offers<'_> {
     /// Returns the cursor for a later call: one past the truck returned last, or before the first one the cursor passed to [`offers`].
+    ///
+    /// ```
+    /// use poruwhina::{Bitmap, Permission, Refusal, offers};
+    ///
+    /// let mask = Bitmap::from([true, false, true]);
+    /// let mut round = offers(Permission::Mask(&mask), None, 1)?;
+    /// assert_eq!(round.cursor(), 1);
+    /// assert_eq!(round.next(), Some(2));
+    /// assert_eq!(round.cursor(), 3);
+    /// # Ok::<(), Refusal>(())
+    /// ```
     pub fn cursor(&self) -> usize {
         self.cursor
     }

@@ -20,7 +20,7 @@ pub const GATHER: &str = "gather_extend_from_slice";
 pub const OPT_GATHER: &str = "opt_gather_extend_from_slice";
 
 pub fn write(f: &mut File) {
-    f.note("the builder: document 01's examples");
+    f.note("the builder: the reference's examples");
     examples(f);
     f.note("the builder: flags and words pushed");
     pushes(f);

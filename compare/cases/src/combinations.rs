@@ -22,7 +22,7 @@ const FAULTS: [(u64, u64, &str); 8] = [
 ];
 
 pub fn write(f: &mut File) {
-    f.note("masks: document 01's examples");
+    f.note("masks: the reference's examples");
     examples(f);
     f.note("masks: combinations");
     combining(f);

@@ -29,7 +29,7 @@ const FAULTS: [(u64, u64, u64); 16] = [
 ];
 
 pub fn write(f: &mut File) {
-    f.note("cursors: document 01's examples");
+    f.note("cursors: the reference's examples");
     examples(f);
     f.note("cursors: every place");
     places(f);

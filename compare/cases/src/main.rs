@@ -33,18 +33,18 @@ use std::path::PathBuf;
 use std::process::ExitCode;
 
 /// The calls in the order in which the program prints them.
-const ORDER: &str = "merge_reversed nth_set_bit_u32 nth_set_bit_u64 low_flags down up behind constant_word constant_flags ones_in_word \
-    ones_below none_from leading_in_word trailing_in_word combine_word and_word and_not_word or_word or_not_word xor_word not_word \
-    select_word load_padded_le_u64 byte_word word_from flag_at count_ones equal count_ones_of any_set \
+const ORDER: &str = "merge_reversed nth_set_bit_u32 nth_set_bit_u64 low_flags shr_or_zero shl_or_zero concat_low constant_word \
+    constant_flags ones_in_word ones_below none_from leading_in_word trailing_in_word combine_word and_word and_not_word or_word \
+    or_not_word xor_word not_word select_word load_padded_le_u64 byte_word word_from flag_at count_ones equal count_ones_of any_set \
     AlignedBitmapSlice::new split_at_unchecked get_u32 nth_set_bit_idx nth_set_bit_idx_rev count_zeros leading_zeros leading_ones \
     trailing_zeros trailing_ones BitChunks::new BitChunksExact::new BitChunks::next remainder BitmapBuilder::new Bitmap::new try_new \
     slice unset_bits num_edges eq num_intersections_with and_not_at may_reassign superseding_part superseding superseding_bytes \
-    SlicesIterator::new SlicesIterator::next \
-    TrueIdxIter::new TrueIdxIter::next BitmapIter::new BitmapIter::next nth take_leading_ones take_leading_zeros store_le_u64 store_at \
-    store_whole copy copy_count fill fill_whole combine push push_mut push_word_with_len_unchecked extend_constant freeze \
-    into_opt_validity new_zeroed extend_from_slice extend_each_repeated_from_slice_unchecked subslice_extend_from_bitmap and and_not or \
-    or_not xor not select select_constant gather_extend_from_slice opt_gather_extend_from_slice next_chunk counts \
-    ActivityWindow::new push_minute push_minutes next_and_not offer";
+    SlicesIterator::new SlicesIterator::next TrueIdxIter::new TrueIdxIter::next BitmapIter::new BitmapIter::next nth take_leading_ones \
+    take_leading_zeros store_le_u64 store_at store_whole copy copy_count fill fill_whole combine push push_mut \
+    push_word_with_len_unchecked extend_constant freeze into_opt_validity new_zeroed extend_from_slice \
+    extend_each_repeated_from_slice_unchecked subslice_extend_from_bitmap and and_not or or_not xor not select select_constant \
+    gather_extend_from_slice opt_gather_extend_from_slice next_chunk counts ActivityWindow::new push_minute push_minutes next_and_not \
+    offer";
 
 fn main() -> ExitCode {
     let arguments: Vec<String> = std::env::args().skip(1).collect();

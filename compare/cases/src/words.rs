@@ -58,11 +58,11 @@ fn single_words(f: &mut File) {
         let word = show(word);
         f.ask(&format!("ones_in_word {word}"));
         f.ask(&format!("not_word {word}"));
-        for name in ["low_flags", "down", "up", "ones_below", "none_from"] {
+        for name in ["low_flags", "shr_or_zero", "shl_or_zero", "ones_below", "none_from"] {
             f.ask(&format!("{name} {word} {}", PLACES[i]));
             f.ask(&format!("{name} {word} 0..67,{places}"));
         }
-        f.ask(&format!("behind {word} 0..67,{places} {words}"));
+        f.ask(&format!("concat_low {word} 0..67,{places} {words}"));
         for place in PLACES {
             f.ask(&format!("merge_reversed {word} {} {}", show(WORDS[(3 * i + 1) % 10]), show(place)));
             f.ask(&format!("nth_set_bit_u64 {word} {}", show(place)));

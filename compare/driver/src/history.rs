@@ -1,5 +1,5 @@
 //! Histories: a builder, then a mask, through many calls, refused ones included. Each call is compared by itself. After each call the
-//! library's state is compared with document 01's reference list and with a builder or bitmap of the original after equal calls.
+//! library's state is compared with the reference list and with a builder or bitmap of the original after equal calls.
 
 use crate::choices::{Choices, Random};
 use crate::compare::{Counts, Difference, compare};

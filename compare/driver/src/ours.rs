@@ -151,7 +151,7 @@ pub fn taken(a: calls::Step) -> Answer {
     Answer { refusal: a.refusal, values: there(a.found, vec![a.count as u64]), state: cursor_state(a.cursor) }
 }
 
-/// Returns the remainder. The call moves no cursor; by document 01 it returns the cursor only with a refusal.
+/// Returns the remainder. The call moves no cursor; by the reference it returns the cursor only with a refusal.
 pub fn remainder(a: calls::Step) -> Answer {
     if a.refusal != 0 {
         return run(a);

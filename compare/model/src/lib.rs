@@ -1,7 +1,7 @@
-//! The calls of the library as document 01 and paper 02 define them, flag by flag over lists of flags.
+//! The calls of the library as the reference and paper 02 define them, flag by flag over lists of flags.
 //!
 //! Nothing here is taken from the library: no word is shifted, no count is kept in addition to the flags, and each sum is taken in 128
-//! bits. It is slow and meant to be read next to document 01. A public function without a comment models the call of its name.
+//! bits. It is slow and meant to be read next to the reference. A public function without a comment models the call of its name.
 
 pub mod activity;
 pub mod builder;

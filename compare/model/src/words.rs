@@ -75,17 +75,17 @@ pub fn low_flags(word: u64, k: usize) -> Answer {
 }
 
 /// Returns the flags moved down by k; the first k are dropped, and zeros are above.
-pub fn down(word: u64, k: usize) -> Answer {
+pub fn shr_or_zero(word: u64, k: usize) -> Answer {
     cut(word_flags(word).split_off(k.min(64)))
 }
 
 /// Returns the flags moved up by k, zeros below.
-pub fn up(word: u64, k: usize) -> Answer {
+pub fn shl_or_zero(word: u64, k: usize) -> Answer {
     cut([vec![false; k.min(64)], word_flags(word)].concat())
 }
 
 /// Returns the first k flags of `a`, then those of `b`.
-pub fn behind(a: u64, k: usize, b: u64) -> Answer {
+pub fn concat_low(a: u64, k: usize, b: u64) -> Answer {
     cut([front(a, k), word_flags(b)].concat())
 }
 

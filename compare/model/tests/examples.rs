@@ -1,4 +1,4 @@
-//! The examples and edges of document 01, compared with the model.
+//! The examples and edges of the reference, compared with the model.
 
 use model::combine::{Op, combine, select};
 use model::spans::{Count, count, nth_set_bit_idx, nth_set_bit_idx_rev};

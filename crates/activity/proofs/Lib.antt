@@ -1,4 +1,4 @@
--- The laws of the crate, below the name of the module that they serve; theorems, what they state, and tables.
+-- Folders that no module of src/ names: tables, their rows computed, theorems, what they state. The laws are in the folders of modules.
 pub mod computed
 pub mod statements
 pub mod tables

@@ -1,2 +1,2 @@
--- What the proofs of several functions of src/window.rt use.
+-- What the proofs of src/exchange.rt and src/lent.rt use, and the theorems.
 pub mod WindowLaws

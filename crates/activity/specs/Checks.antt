@@ -32,6 +32,6 @@ same_numbers (m ∷ a) (n ∷ b) = eqb m n && same_numbers a b
 unfoldable pub words_fit : List ℕ → List ℕ → ℕ → Bool
 words_fit words counts fill = all_zero (drop fill words) && same_numbers counts (column_counts (take fill words))
 
--- the check of a record. `Minutes` states that a record passes it if and only if a run of minutes leaves it.
+-- the check of a record. `proofs/statements/Minutes.antt` states that a record passes it if and only if a run of minutes leaves it.
 unfoldable pub left_by_minutes : ActivityWindow → Bool
 left_by_minutes a = numbers_fit a.place a.fill a.width && words_fit a.words a.counts a.fill

@@ -11,7 +11,7 @@ pub record Good (a : ActivityWindow) : Type 0 where
   pub most : a.width ≤ 256
   pub inside : a.place < a.width
   pub within : a.fill ≤ a.width
-  pub behind : a.fill < a.width → a.place ≡ a.fill
+  pub after : a.fill < a.width → a.place ≡ a.fill
   pub unused : all_zero (drop a.fill a.words) ≡ true
   pub counted : a.counts ≡ column_counts (take a.fill a.words)
 

@@ -2,7 +2,7 @@
 ghost use Rattle.std.specs.Prelude.{ℕ, ◌≡◌, ◌+◌, ◌/◌, ◌%◌, ◌^◌, ◌≤◌, ◌<◌, get_or, length};
 ghost use Rattle.activity.specs.Workers.{Holds, Exchanged};
 
-use words::columns::{digit_by, masks};
+use words::columns::{digit_by, single_flags};
 
 // Returns `count` with the flag `plus` added and the flag `minus` taken off.
 fn moved(count: u32, plus: u32, minus: u32) -> u32
@@ -38,7 +38,7 @@ pub(crate) fn exchange(counts: &mut [u32; 64], old: u64, new: u64)
     requires { Holds counts.old 0 64 old }
     ensures { (length counts.new ≡ 64) × Exchanged counts.old 0 old new counts.new 64 }
 {
-    let tests = masks();
+    let tests = single_flags();
     exchange_half(&mut counts[..32], &tests, 0, old, new);
     exchange_half(&mut counts[32..], &tests, 32, old, new);
 }

@@ -1,3 +1,3 @@
--- The laws of the crate, below the name of the module that they serve; theorems, what they state, and tables.
+-- Folders that no module of src/ names: the theorems and what they state. The laws are in the folders of modules.
 pub mod statements
 pub mod theorems

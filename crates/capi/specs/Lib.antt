@@ -1,6 +1,5 @@
--- What the contracts of this crate mean: how records and answers are passed as numbers, and by which numbers each
--- export may refuse.
--- What a call answers is defined in words, activity, masks and dispatch.
+-- What the contracts of this crate mean: how records and answers are passed as numbers. What a call answers is defined in words, activity,
+-- masks and dispatch.
 pub mod Answers
 pub mod Records
 pub mod Window

@@ -78,7 +78,7 @@ pub struct MaskAnswer {
     pub mask: Mask,
 }
 
-// A mask, if `present`. If it is false and nothing is refused, all flags are set.
+// A mask, if `present`. If `present` is false and `refusal` is 0, all flags are set, or there are none.
 #[repr(C)]
 #[derive(Clone, Copy, Default)]
 pub struct ValidityAnswer {
@@ -96,8 +96,8 @@ pub struct ZerosAnswer {
     pub mask: Mask,
 }
 
-// The winner of two masks. It is the second one if `second` is true, else the first. Its bytes are those from `from` to before `to` of the
-// slice passed with it, and `mask` is its record over them. On refusal they are an empty part of the first slice.
+// The winner of two masks. It is the second one if `second` is true, else the first. Its bytes are those of the slice passed with it that
+// are numbered `from` up to, not including, `to`; `mask` is its record over them. On refusal they are an empty part of the first slice.
 #[repr(C)]
 #[derive(Clone, Copy, Default)]
 pub struct PartAnswer {

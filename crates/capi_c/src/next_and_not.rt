@@ -7,7 +7,7 @@ ghost use Rattle.capi.specs.Records.{mask_in, optional_in};
 use capi::answers::NextAnswer;
 use capi::records::Mask;
 
-// Returns the first position at or after `from` that is set in the first mask and not in the second, else the first one at or after 0;
+// Returns the first position at or after `from` that is set in the first mask and not in the second, else the first such position from 0;
 // `found` is false if there is no such position. If `second_present` is false there is no second mask, which means all zeros: its record
 // and bytes are not read, and refusal 5 does not occur. `windows` counts the windows of 32 flags read: they begin at `from` and every 32
 // flags after it, below the length, then at 0 and every 32 flags after it, below `from`; the last one read holds the position, or all

@@ -7,7 +7,7 @@ ghost use Rattle.capi.specs.Records.{optional_in};
 use capi::answers::OfferAnswer;
 use capi::records::Mask;
 
-// Returns the first truck at or after `cursor` that is permitted and not revoked, else the first one from truck 0, and in `cursor` the
+// Returns the first truck at or after `cursor` that is permitted and not revoked, else the first such truck from 0, and in `cursor` the
 // number after that truck, for the next call. If there is no such truck, `found` is false and `cursor` is unchanged. `windows` counts
 // windows of 32 flags as pw_next_and_not does, at most ceil(length / 32) + 1. If `permitted` is false there is no permission mask: no
 // truck is found, and `windows` is 0. If `revoked` is false there is no revocation mask, and no truck is revoked. The record and bytes

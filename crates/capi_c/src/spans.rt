@@ -9,8 +9,8 @@ ghost use Rattle.capi.specs.Answers.{as_number, as_spans, as_split};
 
 use capi::answers::{Number, SpansAnswer, SplitAnswer};
 
-// Splits a span into a prefix, whole words at addresses divisible by 8, and a suffix. `address` is the remainder by 8 of the address of
-// the first byte. A span that lies in eight bytes is all prefix. With length 0 every field is 0, without any check.
+// Splits a span into a prefix, whole words at addresses divisible by 8, and a suffix. `address` is the address of the first byte modulo
+// 8. A span that lies in eight bytes is all prefix. With length 0 every field is 0, without any check.
 #[unsafe(no_mangle)]
 pub extern "C" fn pw_aligned_new(
     bytes: &[u8],
@@ -23,8 +23,8 @@ pub extern "C" fn pw_aligned_new(
     capi::spans::pw_aligned_new(bytes, start, length, address)
 }
 
-// Counts the zeros of a span. `address` is the remainder by 8 of the address of the first byte; the count does not depend on it. With
-// length 0 returns 0 without any check.
+// Counts the zeros of a span. `address` is the address of the first byte modulo 8; the count does not depend on it. With length 0 returns
+// 0 without any check.
 #[unsafe(no_mangle)]
 pub extern "C" fn pw_count_zeros(
     bytes: &[u8],
@@ -38,8 +38,8 @@ pub extern "C" fn pw_count_zeros(
     capi::spans::pw_count_zeros(bytes, start, length, address)
 }
 
-// Counts the zeros before the first one of a span, or the whole length if no flag is set. `address` is the remainder by 8 of the address
-// of the first byte; the count does not depend on it. With length 0 returns 0 without any check.
+// Counts the zeros before the first set flag of a span, or the whole length if no flag is set. `address` is the address of the first byte
+// modulo 8; the count does not depend on it. With length 0 returns 0 without any check.
 #[unsafe(no_mangle)]
 pub extern "C" fn pw_leading_zeros(
     bytes: &[u8],
@@ -53,8 +53,8 @@ pub extern "C" fn pw_leading_zeros(
     capi::spans::pw_leading_zeros(bytes, start, length, address)
 }
 
-// Counts the ones before the first zero of a span, or the whole length if every flag is set. `address` is the remainder by 8 of the
-// address of the first byte; the count does not depend on it. With length 0 returns 0 without any check.
+// Counts the ones before the first zero of a span, or the whole length if every flag is set. `address` is the address of the first byte
+// modulo 8; the count does not depend on it. With length 0 returns 0 without any check.
 #[unsafe(no_mangle)]
 pub extern "C" fn pw_leading_ones(
     bytes: &[u8],
@@ -68,8 +68,8 @@ pub extern "C" fn pw_leading_ones(
     capi::spans::pw_leading_ones(bytes, start, length, address)
 }
 
-// Counts the zeros after the last one of a span, or the whole length if no flag is set. `address` is the remainder by 8 of the address
-// of the first byte; the count does not depend on it. With length 0 returns 0 without any check.
+// Counts the zeros after the last set flag of a span, or the whole length if no flag is set. `address` is the address of the first byte
+// modulo 8; the count does not depend on it. With length 0 returns 0 without any check.
 #[unsafe(no_mangle)]
 pub extern "C" fn pw_trailing_zeros(
     bytes: &[u8],
@@ -83,8 +83,8 @@ pub extern "C" fn pw_trailing_zeros(
     capi::spans::pw_trailing_zeros(bytes, start, length, address)
 }
 
-// Counts the ones after the last zero of a span, or the whole length if every flag is set. `address` is the remainder by 8 of the
-// address of the first byte; the count does not depend on it. With length 0 returns 0 without any check.
+// Counts the ones after the last zero of a span, or the whole length if every flag is set. `address` is the address of the first byte
+// modulo 8; the count does not depend on it. With length 0 returns 0 without any check.
 #[unsafe(no_mangle)]
 pub extern "C" fn pw_trailing_ones(
     bytes: &[u8],

@@ -1,2 +1,2 @@
--- What the proofs of several functions of src/dispatch.rt use.
+-- What the proof of `may_reassign` uses, and the theorems on it.
 pub mod DispatchLaws

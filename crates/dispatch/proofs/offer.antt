@@ -1,3 +1,2 @@
 -- What the proofs of several functions of src/offer.rt use.
 pub mod OfferLaws
-pub mod RoundLaws

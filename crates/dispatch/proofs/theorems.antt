@@ -1,6 +1,7 @@
--- The theorems, which no function needs.
+-- The theorems, and `RoundLaws`, which `Rounds` uses. No function needs them.
 pub mod AndNotFlag
 pub mod AnswerPlain
 pub mod Refusals
+pub mod RoundLaws
 pub mod Rounds
 pub mod Uncounted

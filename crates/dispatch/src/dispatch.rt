@@ -13,8 +13,9 @@ use masks::bitmap::Bitmap;
 use masks::refusal::Refusal;
 
 // Returns whether truck number `truck` may be reassigned. If the permission mask is absent, the answer is no for every truck; an absent
-// mask of `TrueIdxIter` and the none of `into_opt_validity` mean all ones. An absent revocation mask takes nothing away. The checks are
-// those of `and_not_at`, so checks 1, 2, 3 and 6 apply to a revocation mask also without a permission mask.
+// mask of `TrueIdxIter` and the none of `into_opt_validity` mean all ones. An absent revocation mask takes nothing away. Refuses with 6 if
+// `truck` is not below the length of a mask that is present. The checks are those of `and_not_at`, so checks 1, 2, 3 and 6 apply to a
+// revocation mask also without a permission mask.
 pub fn may_reassign(
     permission: Option<Bitmap>,
     permission_bytes: &[u8],

@@ -7,7 +7,7 @@ use masks::bitmap::Bitmap;
 use masks::next_and_not::next_and_not;
 use masks::refusal::Refusal;
 
-// A truck and the cursor one past it, or none and the cursor unchanged; and the number of windows read.
+// A truck and the cursor one past it, or none and the cursor unchanged; and the number of windows of 32 flags that the search covers.
 #[derive(Clone, Copy, PartialEq, Eq, Debug)]
 pub struct Offering {
     pub truck: Option<usize>,
@@ -23,8 +23,9 @@ pub struct NoOffer {
     pub cursor: usize,
 }
 
-// Returns the first truck at or after the cursor that is permitted and not revoked, else the first one of all. Without a permission mask no
-// truck is offered and no window read, but checks 1, 2 and 3 apply to a revocation mask. A refusal has the cursor unchanged.
+// Returns the first truck at or after the cursor that is permitted and not revoked, else the first one of all. Refuses with 6 if the cursor
+// is above the length of the permission mask. Without a permission mask no truck is offered and no window counted, but checks 1, 2 and 3
+// apply to a revocation mask. A refusal has the cursor unchanged.
 pub fn offer(
     permission: Option<Bitmap>,
     permission_bytes: &[u8],

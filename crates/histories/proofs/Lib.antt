@@ -1,4 +1,5 @@
--- The laws of the crate, below the name of the module that they serve; theorems, what they state, and tables.
+-- Folders that no module of src/ names: laws for the theorems (`history`, `run_lists`), tables, their rows computed, theorems, what they
+-- state.
 pub mod computed
 pub mod history
 pub mod run_lists

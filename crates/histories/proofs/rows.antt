@@ -1,3 +1,3 @@
--- What the proofs of several functions of src/rows.rt use.
+-- What the theorems on histories use: the rows of src/rows.rt keep the invariant.
 pub mod MaskRowLaws
 pub mod RowLaws

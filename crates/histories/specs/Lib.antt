@@ -1,6 +1,5 @@
--- The statement of the theorem on histories: `ReferenceList`, `Rows`, `MaskRows`, `History`, `Agreement` and `Library`, in this order.
--- `Owed` is for engineers who add a row; `GoesOn` is a table of histories; `Serials` is about masks with unequal serials. The
--- statement of the theorem on run lists: `RunLists`, with a table, `RunListRows`.
+-- Calls that make a mask from masks, as rows, which the contracts of this crate cite, and the reference list's own words. The theorem
+-- on histories, which is stated in `proofs/statements/`, is about these; only it cites the tables of calls and what appends add.
 pub mod MaskRows
 pub mod ReferenceList
 pub mod Rows

@@ -80,7 +80,7 @@ combination_row invert out = not_row out
 combination_row select out = select_row out
 combination_row (select_constant x) out = constant_row x out
 
--- ---- the table: document 01's calls that make a mask from masks
+-- ---- the table: the reference's calls that make a mask from masks
 
 pub data MaskCall : Type 0 where
   slice : ℕ → ℕ → MaskCall

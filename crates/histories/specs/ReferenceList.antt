@@ -1,7 +1,7 @@
--- The reference list's own words (document 01's plain list): what spans, other masks and appends add to it, and what the operations
--- make of flags.
+-- The reference list's own words (the plain list of document 01, docs/REFERENCE.md): what spans, other masks and appends add to it, and
+-- what the operations make of flags.
 --
--- Written from document 01 and Arrow's numbering: `flag_at bytes j` is bit j mod 8 of byte j div 8, `bit_at w j` is bit j of w. This file
+-- Written from the reference and Arrow's numbering: `flag_at bytes j` is bit j mod 8 of byte j div 8, `bit_at w j` is bit j of w. This file
 -- has no definition that the contract of a history's call cites; `ReferenceLaws` proves that both say the same.
 use Rattle.std.specs.Prelude.{ℕ, zero, suc, ◌+◌, Bool, false, cond, not, ◌&&◌, ◌||◌, ltb, drop, replicate, take}
 use mathlib.Core.List.{List, [], ◌∷◌, flat_map, map, zip, zip_with}
@@ -59,10 +59,10 @@ flag_by_flag op l m = zip_with (pair_flag op) l m
 abbrev pub inverted : List Bool → List Bool
 inverted l = map not l
 
--- `select` takes the flag of the second list if that of the first is set, else that of the third,
+-- `select` takes the flag of the second list if that of the first is set, else that of the third
 abbrev pub selected : List Bool → List Bool → List Bool → List Bool
 selected s t f = zip_with (λ (x : Bool) (p : Bool × Bool). cond x p.0 p.1) s (zip t f)
 
--- or the constant c
+-- `select_constant` takes the flag of the second list if that of the first is set, else the constant c
 abbrev pub selected_or : Bool → List Bool → List Bool → List Bool
 selected_or c s t = zip_with (λ (x y : Bool). cond x y c) s t

@@ -1,3 +1,3 @@
--- What the proofs of several functions of src/bitmap_ops.rt use.
+-- What the proofs of src/bitmap_ops.rt and src/shortcuts.rt use. `FrozenLaws`, on bytes, is for every module that writes.
 pub mod CombineLaws
 pub mod FrozenLaws

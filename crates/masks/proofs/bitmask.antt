@@ -1,3 +1,3 @@
--- What the proofs of several functions of src/bitmask.rt use.
+-- What the proofs of src/bitmask.rt and src/span.rt use.
 pub mod BitmaskLaws
 pub mod SearchLaws

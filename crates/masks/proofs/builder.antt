@@ -1,4 +1,4 @@
--- What the proofs of several functions of src/builder.rt use.
+-- What the proofs of src/builder.rt, src/extend.rt, src/gather.rt and src/repeat.rt use.
 pub mod AppendLaws
 pub mod FreezeLaws
 pub mod GatherLaws

@@ -1,4 +1,4 @@
--- What the proofs of several functions of src/checks.rt use.
+-- What the proofs of all modules use on checks. `LengthLaws` is for theorems only.
 pub mod CheckLaws
 pub mod LengthLaws
 pub mod OrderLaws

@@ -1,3 +1,3 @@
--- What the proofs of several functions of src/cursor.rt use.
+-- What the proofs of all cursors use, and the theorems on what a cursor lists.
 pub mod CursorLaws
 pub mod ListingLaws

@@ -1,3 +1,3 @@
--- What the proofs of several functions of src/refusal.rt use.
+-- `RefusalLaws`: what the proofs of all calls use at a `?`. `AnswerLaws`: what other crates and the theorems use on answers.
 pub mod AnswerLaws
 pub mod RefusalLaws

@@ -1,3 +1,3 @@
--- What the proofs of several functions of src/span.rt use.
-pub mod LentLaws
+-- What the proofs of src/span.rt and src/bitmask.rt use, and others that load a word.
+pub mod CheckedSpanLaws
 pub mod SpanLaws

@@ -1,4 +1,4 @@
--- The theorems, which no function needs.
+-- The theorems. Proofs of functions use some laws of `Accepted`, `NextPlain`, `PairPlain`, `RunsPlain` and `TrueIdxPlain`.
 pub mod Accepted
 pub mod AndNotFlag
 pub mod AnswerPlain

@@ -1,2 +1,2 @@
--- What the proofs of several functions of src/utils.rt use.
+-- What the proofs of src/utils.rt and src/parts.rt use, and others that read a word's first flags.
 pub mod PartLaws

@@ -52,7 +52,7 @@ builder_flags f = window (flags_of f.bytes) 0 (64 * (f.builder.length / 64)) ++ 
 abbrev pub none_from : ℕ → ℕ → Bool
 none_from w k = not (any_set (drop k (word_flags w)))
 
--- check 4: no bit of the word from length mod 64 up is set, ones at most those of the finished words, a buffer that holds these
+-- check 4: no bit of the word from length mod 64 up is set, `ones` is at most the flags of the finished words, the buffer holds these
 unfoldable pub possible : BitmapBuilder → ℕ → Bool
 possible b size =
     none_from b.word (b.length % 64)

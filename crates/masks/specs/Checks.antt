@@ -1,4 +1,4 @@
--- The nine questions of document 01, and 14 of paper 02. Here a question is a check: its number, and whether
+-- The nine questions of document 01 (docs/REFERENCE.md), and 14 of paper 02. Here a question is a check: its number, and whether
 -- it is answered yes.
 --
 -- A call's checks are a list made of the pieces below. The number of the call is that of the first check that fails. First is the one of

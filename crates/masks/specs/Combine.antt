@@ -88,7 +88,7 @@ each_of cs masks n = checked cs tt (result_mask masks n (uncounted n))
 unfoldable pub each_bytes : List Check → List Bool → List ℕ → List ℕ
 each_bytes cs flags out = kept (first_failed cs) (over out (frozen flags)) out
 
--- `not` inverts each flag
+-- `not`, which inverts each flag: its checks, its flags, its answer, and what the output then holds
 unfoldable pub not_checks : Bitmap → List ℕ → ℕ → List Check
 not_checks m bytes size = mask_checks m bytes ++ output_checks m.length size
 
@@ -101,7 +101,7 @@ not_of m bytes out = each_of (not_checks m bytes (length out)) (m ∷ []) m.leng
 abbrev pub not_bytes : Bitmap → List ℕ → List ℕ → List ℕ
 not_bytes m bytes out = each_bytes (not_checks m bytes (length out)) (not_flags m bytes) out
 
--- `select` takes the second mask's flag where the first's is 1, else the third's
+-- `select`, which takes the second mask's flag where the first's is 1, else the third's: as for `not`
 unfoldable pub select_checks : Bitmap → List ℕ → Bitmap → List ℕ → Bitmap → List ℕ → ℕ → List Check
 select_checks s s_bytes t t_bytes f f_bytes size =
     mask_checks s s_bytes
@@ -119,7 +119,7 @@ abbrev pub select_bytes : Bitmap → List ℕ → Bitmap → List ℕ → Bitmap
 select_bytes s s_bytes t t_bytes f f_bytes out =
     each_bytes (select_checks s s_bytes t t_bytes f f_bytes (length out)) (select_flags s s_bytes t t_bytes f f_bytes) out
 
--- `select_constant` takes the second mask's flag where the first's is 1, else the constant
+-- `select_constant`, which takes the second mask's flag where the first's is 1, else the constant; its checks are those of a pair
 abbrev pub select_constant_flags : Bitmap → List ℕ → Bitmap → List ℕ → Bool → List Bool
 select_constant_flags s s_bytes t t_bytes x = zip_with (λ p q. cond p q x) (mask_flags s s_bytes) (mask_flags t t_bytes)
 

@@ -10,15 +10,15 @@ use Rattle.masks.specs.declared.bitmap.Bitmap.{Bitmap}
 use Rattle.masks.specs.declared.builder.BitmapBuilder.{BitmapBuilder}
 
 -- the ones of a builder: those of the finished words, and those in the word in progress
-abbrev pub all_ones : BitmapBuilder → ℕ
-all_ones b = b.ones + count (word_flags b.word)
+abbrev pub total_ones : BitmapBuilder → ℕ
+total_ones b = b.ones + count (word_flags b.word)
 
 abbrev pub frozen_mask : BitmapBuilder → Bitmap
-frozen_mask b = mask_under b.serial 0 b.length (Some (b.length - all_ones b))
+frozen_mask b = mask_under b.serial 0 b.length (Some (b.length - total_ones b))
 
 -- the mask of a builder; none exactly when the ones equal the length
 abbrev pub validity_of : BitmapBuilder → Option Bitmap
-validity_of b = cond (eqb (all_ones b) b.length) None (Some (frozen_mask b))
+validity_of b = cond (eqb (total_ones b) b.length) None (Some (frozen_mask b))
 
 -- checks 1, 4 and 9 of a builder over a buffer of `size` bytes
 abbrev pub freeze_checks : BitmapBuilder → ℕ → List Check

@@ -11,7 +11,7 @@ packed (suc n) l = word_of (window l 0 8) ∷ packed n (drop 8 l)
 abbrev pub frozen_size : ℕ → ℕ
 frozen_size n = 8 * ((n + 63) / 64)
 
--- document 01's frozen bytes: whole words, with zero bits after the last flag
+-- the frozen bytes of the reference (docs/REFERENCE.md): whole words, with zero bits after the last flag
 unfoldable pub frozen : List Bool → List ℕ
 frozen l = packed (frozen_size (length l)) l
 

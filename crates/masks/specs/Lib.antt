@@ -14,7 +14,7 @@ pub mod Cursor
 pub mod Freeze
 pub mod Frozen
 pub mod Iterator
-pub mod Lent
+pub mod CheckedSpan
 pub mod Mask
 pub mod NextAndNot
 pub mod Positions

@@ -87,7 +87,7 @@ unfoldable pub cut_zeros : Bitmap → List ℕ → ℕ → ℕ → ℕ
 cut_zeros m bytes offset n =
     zeros (stretch bytes m.start offset) + zeros (stretch bytes (m.start + offset + n) (m.length - (offset + n)))
 
--- whether a known count z of `old` flags, neither none nor all of them, is recounted for a slice of n flags
+-- whether a slice of n of `old` flags recounts a known count z: z is neither 0 nor `old`, and at most max(old div 5, 32) are cut off
 unfoldable pub recounts : ℕ → ℕ → ℕ → Bool
 recounts old n z = not (eqb z 0) && (not (eqb z old) && leb old (n + max (old / 5) 32))
 

@@ -12,15 +12,15 @@ left_of c bytes = ones_left (true_flags c bytes) c.place
 
 -- the place of a cursor with these positions left after n of them: its old place, if n is 0; one past the n-th; the length, if fewer than n
 -- are left
-unfoldable pub place_behind : TrueIdxIter → List ℕ → ℕ → ℕ
-place_behind c left zero = c.place
-place_behind c left (suc k) = cond (ltb k (length left)) (get_or left k 0 + 1) c.length
+unfoldable pub place_after : TrueIdxIter → List ℕ → ℕ → ℕ
+place_after c left zero = c.place
+place_after c left (suc k) = cond (ltb k (length left)) (get_or left k 0 + 1) c.length
 
 -- the answer of `next_chunk` with an output of `room` places: how many positions are written, and the cursor after them
 unfoldable pub next_positions : TrueIdxIter → List ℕ → ℕ → Answer TrueIdxIter (ℕ × TrueIdxIter)
 next_positions c bytes room =
     checked (true_checks c (length bytes)) c
-    (length (take room (left_of c bytes)), true_moved c (place_behind c (left_of c bytes) room))
+    (length (take room (left_of c bytes)), true_moved c (place_after c (left_of c bytes) room))
 
 -- the output after `next_chunk`: the positions at its start, as many as fit; the rest of it is unchanged
 unfoldable pub positions_over : TrueIdxIter → List ℕ → List ℕ → List ℕ

@@ -1,4 +1,4 @@
--- The number of each refusal, as in document 01 and paper 02.
+-- The number of each refusal, as in the reference and paper 02.
 use Rattle.std.specs.Prelude.{ℕ, Result, Ok, Err}
 use Rattle.masks.specs.declared.refusal.Refusal.{Refusal}
 use Rattle.masks.specs.declared.refusal.Refusal.TheVariants.{OverLimit, PastBytes, FalseCount, UnequalLists, ImpossibleBuilder}

@@ -42,7 +42,7 @@ abbrev pub record_of : Answer (Unit {0}) Part → Answer (Unit {0}) Bitmap
 record_of (given p) = given p.mask
 record_of (refused k s) = refused k s
 
--- the bytes from number `from` to before number `to`; of a part, those of the slice that it is of
+-- the bytes from number `from` to before number `to`; `part_bytes`: those of a part, in the slice that it names
 abbrev pub within : ℕ → ℕ → List ℕ → List ℕ
 within from to bytes = take (to - from) (drop from bytes)
 

@@ -38,13 +38,6 @@ pub parts-in-row : (bytes : List ℕ) (s : AlignedBitmapSlice)
 unfolding split_flags
 parts-in-row bytes s = refl
 
--- a split of a span within the flag limit: what the counts over its parts require
-pub record Bounded (s : AlignedBitmapSlice) : Type 0 where
-  pub prefix_fits : s.prefix_len ≤ 64
-  pub suffix_fits : s.suffix_len ≤ 64
-  pub bulk_starts : s.bulk_start ≤ limit
-  pub bulk_fits : s.bulk_len ≤ limit / 64
-
 -- ---- `bitmap`: a slice and its count
 
 -- what is known of a piece whose checks 1, 2, 3 and 6 have passed
@@ -135,7 +128,7 @@ abbrev pub Beside : ℕ → Option Bitmap → Type 0
 Beside n (Some b) = (b.start ≤ limit) × (n ≡ b.length)
 Beside n None = Unit {0}
 
--- the first `end` flags of l: those from `from` to before `at` are zeros
+-- l is a list of flags searched up to before flag `end`: those from `from` to before `at` are zeros
 pub record PassedTo (l : List Bool) (end from at : ℕ) : Type 0 where
   pub low : from ≤ at
   pub inside : at ≤ end

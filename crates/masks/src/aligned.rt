@@ -1,5 +1,5 @@
 // The aligned split of a span: prefix, whole words, suffix.
-ghost use Rattle.std.specs.Prelude.{◌≡◌, ◌*◌, ◌≤◌, length};
+ghost use Rattle.std.specs.Prelude.{◌≡◌, ◌*◌, ◌≤◌};
 ghost use Rattle.masks.specs.Answer.{answer};
 ghost use Rattle.masks.specs.Refusal.{failure_of};
 ghost use Rattle.masks.specs.Aligned.{aligned_of, aligned_checks, aligned_split, prefix_length, bulk_start_of, bulk_offset};
@@ -22,7 +22,8 @@ pub struct AlignedBitmapSlice {
 }
 
 impl AlignedBitmapSlice {
-    // Splits a span. `address` is the address of `bytes[0]` modulo 8. For length 0 all parts are empty and nothing is checked.
+    // Splits a span. `address` is the address of `bytes[0]` modulo 8; one above 7 is refused with 8. For length 0 all parts are empty and
+    // nothing is checked.
     pub fn new(
         bytes: &[u8],
         start: usize,
@@ -45,6 +46,7 @@ impl AlignedBitmapSlice {
     }
 }
 
+// Makes checks 1 and 2 of a span over `size` bytes, and check 8 of its address remainder.
 pub(crate) fn check_aligned(
     start: usize,
     length: usize,
@@ -82,6 +84,7 @@ impl Addressed<'_> {
         }
     }
 
+    // Returns how many flags the prefix has: all of a span that fits one word starting at its first byte.
     fn prefix_length(&self) -> usize
         ensures { result ≡ prefix_length self.now.start self.now.length self.now.address }
     {
@@ -92,6 +95,7 @@ impl Addressed<'_> {
         }
     }
 
+    // Returns the byte at which the whole words begin; 0 for a span that fits one word starting at its first byte.
     fn bulk_start(&self) -> usize
         ensures { result ≡ bulk_start_of self.now.start self.now.length self.now.address }
     {
@@ -102,6 +106,7 @@ impl Addressed<'_> {
         }
     }
 
+    // Returns the three parts of the span.
     pub(crate) fn split(&self) -> AlignedBitmapSlice
         ensures { result ≡ aligned_split self.now.bytes.now self.now.start self.now.length self.now.address }
     {

@@ -1,5 +1,5 @@
-// The mask: its record, and the calls that make one, cut it and count it. As in document 01, a mask and its bytes are two parameters; they
-// become a `Lent` once the mask's checks have passed.
+// The mask: its record, and the calls that make one, cut it and count it. As in the reference, a mask and its bytes are two parameters;
+// they become a `CheckedSpan` once the mask's checks have passed.
 ghost use Rattle.std.specs.Prelude.{◌≡◌, ◌+◌, ◌≤◌, length as list_length};
 ghost use Rattle.masks.specs.Answer.{answer, answer_back};
 ghost use Rattle.masks.specs.Refusal.{failure_of};
@@ -12,8 +12,8 @@ ghost use Rattle.masks.specs.Workers.{cut_of, outside, recounted_of, PieceAllowe
 
 use crate::checks::{check_limit, check_mask, check_output, check_span, sum_at_most};
 use crate::refusal::{Refusal, Refused, check, earlier};
-use crate::span::Lent;
-use words::flags::Flags;
+use crate::span::CheckedSpan;
+use words::flags::Operand;
 use words::loops::fill;
 
 // A mask: a span of its bytes, its zero count if it is known, and the serial of the revocation list that it was drawn up under. The Rust's
@@ -44,7 +44,8 @@ impl Bitmap {
         mask_of(0, 0, Some(0))
     }
 
-    // Returns a mask of `length` zeros and writes its frozen bytes to the start of `out`.
+    // Returns a mask of `length` zeros and writes its frozen bytes to the start of `out`. Refuses with 1 if `length` is above the flag
+    // limit, with 9 if `out` is too short.
     pub fn new_zeroed(length: usize, out: &mut [u8]) -> Result<Bitmap, Refusal>
         ensures answer { answer result ≡ new_zeroed_of length out.old }
         ensures bytes { out.new ≡ new_zeroed_bytes length out.old }
@@ -56,6 +57,7 @@ impl Bitmap {
     }
 
     // Returns the mask of `length` flags of `bytes` starting at `start`. Its zeros are not counted; the count is known only for length 0.
+    // Refuses with 1 if `start` or `length` is above the flag limit, with 2 if the flags end past the bytes.
     pub fn try_new(bytes: &[u8], start: usize, length: usize) -> Result<Bitmap, Refusal>
         ensures { answer result ≡ try_new_of bytes.now start length }
     {
@@ -72,7 +74,7 @@ impl Bitmap {
         let zeros = match self.unset {
             Some(zeros) => zeros,
             None => {
-                let span = Lent {
+                let span = CheckedSpan {
                     bytes,
                     start: self.start,
                     length: self.length,
@@ -87,16 +89,17 @@ impl Bitmap {
     }
 
     // Returns the mask's flags in the form in which the combinations take an operand.
-    pub(crate) fn flags<'a>(self, bytes: &'a [u8]) -> Flags<'a>
+    pub(crate) fn flags<'a>(self, bytes: &'a [u8]) -> Operand<'a>
         ensures { (result.bytes.now ≡ bytes.now) × (result.start ≡ self.start) }
     {
-        Flags {
+        Operand {
             bytes,
             start: self.start,
         }
     }
 
-    // Returns the mask of the `length` flags starting at `offset`, under the same serial.
+    // Returns the mask of the `length` flags starting at `offset`, under the serial of this one. Refuses with 6 if they do not all lie in
+    // this mask, with 1 if `offset`, `length` or their start in the bytes is above the flag limit.
     pub fn slice(
         self,
         bytes: &[u8],
@@ -157,6 +160,7 @@ pub(crate) fn not_counted(length: usize) -> Option<usize>
     if length == 0 { Some(0) } else { None }
 }
 
+// Makes checks 1, 2, 3 and 6 of a slice of `length` flags of a mask starting at `offset`.
 fn check_piece(mask: Bitmap, bytes: &[u8], offset: usize, length: usize) -> Result<(), Refusal>
     ensures { failure_of result ≡ first_failed (piece_checks mask bytes.now offset length) }
 {
@@ -171,14 +175,15 @@ fn check_piece(mask: Bitmap, bytes: &[u8], offset: usize, length: usize) -> Resu
     earlier(check_mask(mask, bytes), piece)
 }
 
-// Returns whether a slice of n of `old` flags recounts the known number of zeros.
+// Returns whether a slice of n of `old` flags recounts the known number of zeros: if not all flags are equal, and it cuts off at most a
+// fifth of the flags, or at most 32.
 fn recounts(old: usize, n: usize, zeros: usize) -> bool
     ensures { result ≡ recounts_of old n zeros }
 {
     zeros != 0 && zeros != old && old.saturating_sub(n) <= (old / 5).max(32)
 }
 
-impl Lent<'_> {
+impl CheckedSpan<'_> {
     // Counts the zeros before and after the slice of n flags starting at `offset`.
     fn zeros_cut(&self, offset: usize, n: usize) -> usize
         requires { offset + n ≤ self.now.length }
@@ -186,12 +191,12 @@ impl Lent<'_> {
     {
         let end = offset + n;
         let before = self.front(offset);
-        let behind = Lent {
+        let after = CheckedSpan {
             bytes: self.bytes,
             start: self.start + offset + n,
             length: self.length - end,
         };
-        before.zeros() + behind.zeros()
+        before.zeros() + after.zeros()
     }
 }
 
@@ -204,7 +209,7 @@ fn cut_count(mask: Bitmap, bytes: &[u8], offset: usize, n: usize) -> Result<Opti
         None => Ok(None),
         Some(zeros) => {
             if recounts(mask.length, n, zeros) {
-                let span = Lent {
+                let span = CheckedSpan {
                     bytes,
                     start: mask.start,
                     length: mask.length,

@@ -1,5 +1,6 @@
-// The combinations: each writes its flags as frozen bytes to the start of a lent output. Spans start at any bit. The crate `words` writes
-// whole words of flags, which are the frozen bytes of the contracts by the law `frozen-written` of `CombineLaws`.
+// The combinations: each writes its flags as frozen bytes to the start of a lent output. Masks start at any bit. Each refuses with 5 if the
+// lengths of its masks differ, with 9 if the output is too short; nothing is then written. The crate `words` writes whole words of flags,
+// which are the frozen bytes of the contracts by the law `frozen-written` of `CombineLaws`.
 ghost use Rattle.std.specs.Prelude.{◌≡◌, [], ◌∷◌};
 ghost use Rattle.words.specs.declared.ops.Op.TheVariants.{And, AndNot, Or, OrNot, Xor};
 ghost use Rattle.masks.specs.Answer.{answer};
@@ -37,19 +38,20 @@ fn select_serial(selector: Bitmap, truthy: Bitmap, falsy: Bitmap) -> u32
     selector.serial.max(truthy.serial.max(falsy.serial))
 }
 
+// Makes the checks of two masks, check 5 of their lengths, and check 9 of an output of `size` bytes.
 fn check_pair(
     lhs: Bitmap,
-    left: &[u8],
+    lhs_bytes: &[u8],
     rhs: Bitmap,
-    right: &[u8],
+    rhs_bytes: &[u8],
     size: usize,
 ) -> Result<(), Refusal>
-    ensures { failure_of result ≡ first_failed (pair_checks lhs left.now rhs right.now size) }
+    ensures { failure_of result ≡ first_failed (pair_checks lhs lhs_bytes.now rhs rhs_bytes.now size) }
 {
     let room = check_output(lhs.length, size);
     let equal = check(Refusal::UnequalLengths, lhs.length == rhs.length);
-    let second = check_mask(rhs, right);
-    let first = check_mask(lhs, left);
+    let second = check_mask(rhs, rhs_bytes);
+    let first = check_mask(lhs, lhs_bytes);
     earlier(first, earlier(second, earlier(equal, room)))
 }
 
@@ -59,24 +61,24 @@ fn check_pair(
 fn combine_two(
     op: Op,
     lhs: Bitmap,
-    left: &[u8],
+    lhs_bytes: &[u8],
     rhs: Bitmap,
-    right: &[u8],
+    rhs_bytes: &[u8],
     out: &mut [u8],
 ) -> Result<Bitmap, Refusal>
-    ensures answer { answer result ≡ pair_of op lhs left.now rhs right.now out.old }
-    ensures bytes { out.new ≡ pair_bytes op lhs left.now rhs right.now out.old }
+    ensures answer { answer result ≡ pair_of op lhs lhs_bytes.now rhs rhs_bytes.now out.old }
+    ensures bytes { out.new ≡ pair_bytes op lhs lhs_bytes.now rhs rhs_bytes.now out.old }
 {
-    check_pair(lhs, left, rhs, right, out.len())?;
-    let a = lhs.flags(left);
-    let b = rhs.flags(right);
-    let by = pair_shortcut(op, lhs, left, rhs, right);
+    check_pair(lhs, lhs_bytes, rhs, rhs_bytes, out.len())?;
+    let a = lhs.flags(lhs_bytes);
+    let b = rhs.flags(rhs_bytes);
+    let shortcut = pair_shortcut(op, lhs, lhs_bytes, rhs, rhs_bytes);
     let n = lhs.length;
-    match by {
+    match shortcut {
         Some(flag) => fill(flag, n, out),
         None => combine(op, &a, &b, &b, n, out),
     }
-    let unset = result_count(by, n);
+    let unset = result_count(shortcut, n);
     let serial = pair_serial(lhs, rhs);
     Ok(result_mask(serial, n, unset))
 }
@@ -85,73 +87,76 @@ fn combine_two(
 // are the Rust's names for `combine_two`.
 pub fn and(
     lhs: Bitmap,
-    left: &[u8],
+    lhs_bytes: &[u8],
     rhs: Bitmap,
-    right: &[u8],
+    rhs_bytes: &[u8],
     out: &mut [u8],
 ) -> Result<Bitmap, Refusal>
-    ensures answer { answer result ≡ pair_of And lhs left.now rhs right.now out.old }
-    ensures bytes { out.new ≡ pair_bytes And lhs left.now rhs right.now out.old }
+    ensures answer { answer result ≡ pair_of And lhs lhs_bytes.now rhs rhs_bytes.now out.old }
+    ensures bytes { out.new ≡ pair_bytes And lhs lhs_bytes.now rhs rhs_bytes.now out.old }
 {
-    combine_two(Op::And, lhs, left, rhs, right, out)
+    combine_two(Op::And, lhs, lhs_bytes, rhs, rhs_bytes, out)
 }
 
-// Writes the flags that are set in the first mask and not in the second.
+// Writes the flags that are set in the first mask and not in the second as frozen bytes to the start of `out`, and returns the mask of
+// them.
 pub fn and_not(
     lhs: Bitmap,
-    left: &[u8],
+    lhs_bytes: &[u8],
     rhs: Bitmap,
-    right: &[u8],
+    rhs_bytes: &[u8],
     out: &mut [u8],
 ) -> Result<Bitmap, Refusal>
-    ensures answer { answer result ≡ pair_of AndNot lhs left.now rhs right.now out.old }
-    ensures bytes { out.new ≡ pair_bytes AndNot lhs left.now rhs right.now out.old }
+    ensures answer { answer result ≡ pair_of AndNot lhs lhs_bytes.now rhs rhs_bytes.now out.old }
+    ensures bytes { out.new ≡ pair_bytes AndNot lhs lhs_bytes.now rhs rhs_bytes.now out.old }
 {
-    combine_two(Op::AndNot, lhs, left, rhs, right, out)
+    combine_two(Op::AndNot, lhs, lhs_bytes, rhs, rhs_bytes, out)
 }
 
-// Writes the flags that are set in either mask.
+// Writes the flags that are set in at least one of two masks as frozen bytes to the start of `out`, and returns the mask of them.
 pub fn or(
     lhs: Bitmap,
-    left: &[u8],
+    lhs_bytes: &[u8],
     rhs: Bitmap,
-    right: &[u8],
+    rhs_bytes: &[u8],
     out: &mut [u8],
 ) -> Result<Bitmap, Refusal>
-    ensures answer { answer result ≡ pair_of Or lhs left.now rhs right.now out.old }
-    ensures bytes { out.new ≡ pair_bytes Or lhs left.now rhs right.now out.old }
+    ensures answer { answer result ≡ pair_of Or lhs lhs_bytes.now rhs rhs_bytes.now out.old }
+    ensures bytes { out.new ≡ pair_bytes Or lhs lhs_bytes.now rhs rhs_bytes.now out.old }
 {
-    combine_two(Op::Or, lhs, left, rhs, right, out)
+    combine_two(Op::Or, lhs, lhs_bytes, rhs, rhs_bytes, out)
 }
 
-// Writes the flags that are set in the first mask or not set in the second.
+// Writes the flags that are set in the first mask or not set in the second as frozen bytes to the start of `out`, and returns the mask of
+// them.
 pub fn or_not(
     lhs: Bitmap,
-    left: &[u8],
+    lhs_bytes: &[u8],
     rhs: Bitmap,
-    right: &[u8],
+    rhs_bytes: &[u8],
     out: &mut [u8],
 ) -> Result<Bitmap, Refusal>
-    ensures answer { answer result ≡ pair_of OrNot lhs left.now rhs right.now out.old }
-    ensures bytes { out.new ≡ pair_bytes OrNot lhs left.now rhs right.now out.old }
+    ensures answer { answer result ≡ pair_of OrNot lhs lhs_bytes.now rhs rhs_bytes.now out.old }
+    ensures bytes { out.new ≡ pair_bytes OrNot lhs lhs_bytes.now rhs rhs_bytes.now out.old }
 {
-    combine_two(Op::OrNot, lhs, left, rhs, right, out)
+    combine_two(Op::OrNot, lhs, lhs_bytes, rhs, rhs_bytes, out)
 }
 
-// Writes the flags that are set in exactly one of the masks.
+// Writes the flags that are set in exactly one of two masks as frozen bytes to the start of `out`, and returns the mask of them.
 pub fn xor(
     lhs: Bitmap,
-    left: &[u8],
+    lhs_bytes: &[u8],
     rhs: Bitmap,
-    right: &[u8],
+    rhs_bytes: &[u8],
     out: &mut [u8],
 ) -> Result<Bitmap, Refusal>
-    ensures answer { answer result ≡ pair_of Xor lhs left.now rhs right.now out.old }
-    ensures bytes { out.new ≡ pair_bytes Xor lhs left.now rhs right.now out.old }
+    ensures answer { answer result ≡ pair_of Xor lhs lhs_bytes.now rhs rhs_bytes.now out.old }
+    ensures bytes { out.new ≡ pair_bytes Xor lhs lhs_bytes.now rhs rhs_bytes.now out.old }
 {
-    combine_two(Op::Xor, lhs, left, rhs, right, out)
+    combine_two(Op::Xor, lhs, lhs_bytes, rhs, rhs_bytes, out)
 }
 
+// Makes the checks of a mask, and check 9 of an output of `size` bytes.
 fn check_not(mask: Bitmap, bytes: &[u8], size: usize) -> Result<(), Refusal>
     ensures { failure_of result ≡ first_failed (not_checks mask bytes.now size) }
 {
@@ -159,7 +164,7 @@ fn check_not(mask: Bitmap, bytes: &[u8], size: usize) -> Result<(), Refusal>
     check_output(mask.length, size)
 }
 
-// Writes the inverted flags of a mask.
+// Writes the inverted flags of a mask as frozen bytes to the start of `out`, and returns the mask of them.
 pub fn not(mask: Bitmap, bytes: &[u8], out: &mut [u8]) -> Result<Bitmap, Refusal>
     ensures answer { answer result ≡ not_of mask bytes.now out.old }
     ensures bytes { out.new ≡ not_bytes mask bytes.now out.old }
@@ -172,68 +177,80 @@ pub fn not(mask: Bitmap, bytes: &[u8], out: &mut [u8]) -> Result<Bitmap, Refusal
     Ok(result_mask(mask.serial, n, unset))
 }
 
+// Makes the checks of three masks, check 5 of their lengths, and check 9 of an output of `size` bytes.
 fn check_select(
     selector: Bitmap,
-    by: &[u8],
+    selector_bytes: &[u8],
     truthy: Bitmap,
-    yes: &[u8],
+    truthy_bytes: &[u8],
     falsy: Bitmap,
-    no: &[u8],
+    falsy_bytes: &[u8],
     size: usize,
 ) -> Result<(), Refusal>
-    ensures { failure_of result ≡ first_failed (select_checks selector by.now truthy yes.now falsy no.now size) }
+    ensures { failure_of result ≡ first_failed
+        (select_checks selector selector_bytes.now truthy truthy_bytes.now falsy falsy_bytes.now size) }
 {
     let room = check_output(selector.length, size);
     let third = check(Refusal::UnequalLengths, selector.length == falsy.length);
     let second = check(Refusal::UnequalLengths, selector.length == truthy.length);
     let lengths = earlier(second, earlier(third, room));
-    let masks = earlier(check_mask(falsy, no), lengths);
+    let masks = earlier(check_mask(falsy, falsy_bytes), lengths);
     earlier(
-        check_mask(selector, by),
-        earlier(check_mask(truthy, yes), masks),
+        check_mask(selector, selector_bytes),
+        earlier(check_mask(truthy, truthy_bytes), masks),
     )
 }
 
-// Writes the second mask's flag where the first mask's flag is set, and the third's elsewhere.
+// Writes the flag of `truthy` where that of `selector` is set, and that of `falsy` elsewhere, as frozen bytes to the start of `out`, and
+// returns the mask of them. `by`, `yes` and `no` are the bytes of the three masks.
 pub fn select(
     selector: Bitmap,
-    by: &[u8],
+    selector_bytes: &[u8],
     truthy: Bitmap,
-    yes: &[u8],
+    truthy_bytes: &[u8],
     falsy: Bitmap,
-    no: &[u8],
+    falsy_bytes: &[u8],
     out: &mut [u8],
 ) -> Result<Bitmap, Refusal>
-    ensures answer { answer result ≡ select_of selector by.now truthy yes.now falsy no.now out.old }
-    ensures bytes { out.new ≡ select_bytes selector by.now truthy yes.now falsy no.now out.old }
+    ensures answer { answer result ≡ select_of selector selector_bytes.now truthy truthy_bytes.now falsy falsy_bytes.now out.old }
+    ensures bytes { out.new ≡ select_bytes selector selector_bytes.now truthy truthy_bytes.now falsy falsy_bytes.now out.old }
 {
-    check_select(selector, by, truthy, yes, falsy, no, out.len())?;
+    check_select(
+        selector,
+        selector_bytes,
+        truthy,
+        truthy_bytes,
+        falsy,
+        falsy_bytes,
+        out.len(),
+    )?;
     let n = selector.length;
-    let a = selector.flags(by);
-    let b = truthy.flags(yes);
-    let c = falsy.flags(no);
+    let a = selector.flags(selector_bytes);
+    let b = truthy.flags(truthy_bytes);
+    let c = falsy.flags(falsy_bytes);
     combine(Op::Select, &a, &b, &c, n, out);
     let unset = not_counted(n);
     let serial = select_serial(selector, truthy, falsy);
     Ok(result_mask(serial, n, unset))
 }
 
-// Writes the second mask's flag where the first mask's flag is set, and the constant elsewhere.
+// Writes the flag of `truthy` where that of `selector` is set, and `flag` elsewhere, as frozen bytes to the start of `out`, and returns the
+// mask of them. `by` and `yes` are the bytes of the two masks.
 pub fn select_constant(
     selector: Bitmap,
-    by: &[u8],
+    selector_bytes: &[u8],
     truthy: Bitmap,
-    yes: &[u8],
+    truthy_bytes: &[u8],
     flag: bool,
     out: &mut [u8],
 ) -> Result<Bitmap, Refusal>
-    ensures answer { answer result ≡ select_constant_of selector by.now truthy yes.now flag out.old }
-    ensures bytes { out.new ≡ select_constant_bytes selector by.now truthy yes.now flag out.old }
+    ensures answer { answer result ≡ select_constant_of selector selector_bytes.now truthy truthy_bytes.now flag out.old }
+    ensures bytes { out.new ≡ select_constant_bytes selector selector_bytes.now truthy truthy_bytes.now flag out.old }
 {
-    check_pair(selector, by, truthy, yes, out.len())?;
+    check_pair(selector, selector_bytes, truthy, truthy_bytes, out.len())?;
     let n = selector.length;
-    let a = selector.flags(by);
-    let b = truthy.flags(yes);
+    let a = selector.flags(selector_bytes);
+    let b = truthy.flags(truthy_bytes);
     if flag {
         combine(Op::OrNot, &b, &a, &a, n, out);
     } else {

@@ -13,9 +13,9 @@ ghost use Rattle.masks.specs.Workers.{PassedFrom, PassedBack};
 use crate::bitmap::Bitmap;
 use crate::checks::{check_span, sum_at_most};
 use crate::refusal::{Refusal, check, earlier};
-use crate::span::Lent;
+use crate::span::CheckedSpan;
 use words::nth::nth_set_bit_u32;
-use words::word::{down, load_padded_le_u64, low_flags, near_word};
+use words::word::{load_padded_le_u64, low_flags, near_word, shr_or_zero};
 
 // A span: a start bit and a length in bits. The Rust's `BitMask`, with the bytes lent to each call.
 #[derive(Clone, Copy, PartialEq, Eq, Debug)]
@@ -24,6 +24,7 @@ pub struct Span {
     pub length: usize,
 }
 
+// Makes checks 1, 2 and 6 of a span over `size` bytes that is split at `at`.
 fn check_split(start: usize, length: usize, at: usize, size: usize) -> Result<(), Refusal>
     ensures { failure_of result ≡ first_failed (split_checks start length at size) }
 {
@@ -36,7 +37,8 @@ fn check_split(start: usize, length: usize, at: usize, size: usize) -> Result<()
     )
 }
 
-// Splits a span in two: the flags below `at`, which is at most the length, and the rest.
+// Splits a span in two: the flags below `at`, and the rest. Refuses with 6 if `at` is above the length, with 1 if `start + at` is above the
+// flag limit.
 pub fn split_at_unchecked(
     bytes: &[u8],
     start: usize,
@@ -61,7 +63,7 @@ pub fn split_at_unchecked(
 pub fn get_u32(bytes: &[u8], start: usize, length: usize, index: usize) -> Result<u32, Refusal>
     ensures { answer result ≡ window_at bytes.now start length index }
 {
-    let span = Lent::new(bytes, start, length)?;
+    let span = CheckedSpan::new(bytes, start, length)?;
     Ok(span.window(index))
 }
 
@@ -75,11 +77,12 @@ pub fn nth_set_bit_idx(
 ) -> Result<Option<usize>, Refusal>
     ensures { answer result ≡ search_from bytes.now start length n from }
 {
-    let span = Lent::new(bytes, start, length)?;
-    Ok(span.search_from(n, from))
+    let span = CheckedSpan::new(bytes, start, length)?;
+    Ok(span.nth_from(n, from))
 }
 
-// Returns the position of the n-th set flag below `end`, counting down from 0, or none. `end` may exceed the length.
+// Returns the position of the n-th set flag below `end`, where the last one is number 0, or none if there are at most n. `end` may exceed
+// the length.
 pub fn nth_set_bit_idx_rev(
     bytes: &[u8],
     start: usize,
@@ -89,8 +92,8 @@ pub fn nth_set_bit_idx_rev(
 ) -> Result<Option<usize>, Refusal>
     ensures { answer result ≡ search_back bytes.now start length n end }
 {
-    let span = Lent::new(bytes, start, length)?;
-    Ok(span.search_back(n, end.min(span.length)))
+    let span = CheckedSpan::new(bytes, start, length)?;
+    Ok(span.nth_back(n, end.min(span.length)))
 }
 
 // Loads the 32 flags starting at flag 8 * at + k. The eight bytes are in range, so there is one load and no test. The conversions of this
@@ -100,7 +103,7 @@ fn word_window(bytes: &[u8], at: usize, k: usize) -> u32
     ensures { result ≡ word_of (stretch bytes.now (8 * at + k) 32) }
 {
     let end = at + 8;
-    low_flags(down(load_padded_le_u64(&bytes[at..end]), k), 32) as u32
+    low_flags(shr_or_zero(load_padded_le_u64(&bytes[at..end]), k), 32) as u32
 }
 
 // The place that a search has reached, and how many set flags it has yet to pass over.
@@ -110,7 +113,7 @@ struct Passed {
     left: usize,
 }
 
-impl Lent<'_> {
+impl CheckedSpan<'_> {
     // Returns the 32 flags starting at `index`, with zeros past the end of the span. One load.
     fn window(self, index: usize) -> u32
         ensures { result ≡ window_word self.entry.bytes.now self.entry.start self.entry.length index }
@@ -127,7 +130,7 @@ impl Lent<'_> {
         requires { end ≤ self.length }
         ensures { (result.bytes.now ≡ self.entry.bytes.now) × ((result.start ≡ self.entry.start) × (result.length ≡ end)) }
     {
-        Lent {
+        CheckedSpan {
             bytes: self.bytes,
             start: self.start,
             length: end,
@@ -136,7 +139,7 @@ impl Lent<'_> {
 
     // Passes over the windows that have too few set flags, up to one with enough of them or to the last 63 flags. A window before these has
     // eight bytes starting at its first byte, so that an iteration is one load and one count. A `while`, since the result is `at` after the
-    // loop, which the variable of a `for` doesn't reach.
+    // loop, which the variable of a `for` does not reach.
     fn pass_windows(self, n: usize, from: usize) -> Passed
         requires { from < self.length }
         ensures { PassedFrom self.entry.bytes.now self.entry.start self.entry.length n from result.left result.at }
@@ -158,7 +161,7 @@ impl Lent<'_> {
 
     // Returns the position of the n-th set flag at or after `from`, or none. Where `pass_windows` stops, the flag is in that window or in
     // the one after it, so two windows are read and no loop is needed.
-    fn search_from(self, n: usize, from: usize) -> Option<usize>
+    fn nth_from(self, n: usize, from: usize) -> Option<usize>
         ensures { result ≡ nth_from (stretch self.entry.bytes.now self.entry.start self.entry.length) n from }
     {
         if from >= self.length {
@@ -213,7 +216,7 @@ impl Lent<'_> {
     }
 
     // Returns the position of the n-th set flag below `end`, counting down, or none. The window below `below` has zeros above its end.
-    fn search_back(self, n: usize, end: usize) -> Option<usize>
+    fn nth_back(self, n: usize, end: usize) -> Option<usize>
         requires { end ≤ self.length }
         ensures { result ≡ nth_back (stretch self.entry.bytes.now self.entry.start self.entry.length) n end }
     {

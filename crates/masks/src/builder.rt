@@ -1,18 +1,19 @@
-// The builder: flags are appended to a lent buffer. A word is written when it is full.
+// The builder: flags are appended to a lent buffer. A word is written when it is full. Each append refuses with 1 if the new length is
+// above the flag limit, with 4 if no calls leave such a builder, with 9 if the buffer is too short for the new length.
 ghost use Rattle.std.specs.Prelude.{◌≡◌, List, ℕ, ◌≤◌, ◌-◌, ◌%◌, length, take};
 ghost use Rattle.words.specs.Flags.{word_flags};
 ghost use Rattle.masks.specs.Refusal.{failure_of};
 ghost use Rattle.masks.specs.Answer.{answer_back};
 ghost use Rattle.masks.specs.Appends.{append_answer, append_bytes, change_answer, push_flag, push_word};
 ghost use Rattle.masks.specs.Builder.{builder_under, new_builder, rebuilt, filling, appended};
-ghost use Rattle.masks.specs.Freeze.{all_ones, frozen_mask, freeze_bytes, freeze_of, frozen_over, into_opt_validity_of};
+ghost use Rattle.masks.specs.Freeze.{total_ones, frozen_mask, freeze_bytes, freeze_of, frozen_over, into_opt_validity_of};
 ghost use Rattle.masks.specs.Workers.{Inside, Room};
 
 use crate::bitmap::{Bitmap, mask_under};
 use crate::checks::{check_builder, check_word};
 use crate::refusal::{Refusal, Refused, earlier};
 use words::ops::or_word;
-use words::word::{constant_word, down, low_flags, ones_in_word, store_whole, up};
+use words::word::{constant_word, low_flags, ones_in_word, shl_or_zero, shr_or_zero, store_whole};
 
 // A builder: its length, the word in progress, the ones in the finished words, and the serial that its mask will have. The Rust's
 // `BitmapBuilder` with a serial, its buffer lent to each call.
@@ -41,7 +42,7 @@ impl BitmapBuilder {
         Ok(push_flags(self, buf, constant_word(flag), 1))
     }
 
-    // Appends one flag and changes the caller's own record; if it refuses, the record is unchanged. A named form of document 01: length,
+    // Appends one flag and changes the caller's own record; if it refuses, the record is unchanged. A named form of the reference: length,
     // word and ones are taken apart, pushed by value and stored back; the serial stays.
     pub fn push_mut(&mut self, buf: &mut [u8], flag: bool) -> Result<(), Refusal>
         ensures answer { change_answer (failure_of result) self.new ≡ append_answer (push_flag flag) self.old buf.old }
@@ -59,7 +60,7 @@ impl BitmapBuilder {
         }
     }
 
-    // Appends the first k flags of a word, at most 64; no bit from k up may be set.
+    // Appends the first k flags of a word. Refuses with 6 if k is above 64 or a bit from k up is set.
     pub fn push_word_with_len_unchecked(
         self,
         buf: &mut [u8],
@@ -91,7 +92,7 @@ impl BitmapBuilder {
     {
         check_builder(self, 0, buf.len()).map_err(|r| r.with(self))?;
         finish(self, buf);
-        if all_ones(self) == self.length {
+        if total_ones(self) == self.length {
             return Ok(None);
         }
         Ok(Some(frozen_mask(self)))
@@ -127,7 +128,7 @@ pub(crate) fn push_inside(b: BitmapBuilder, flags: u64, k: usize) -> BitmapBuild
     requires { Inside b flags k }
     ensures { (bytes : List ℕ) → filling result bytes ≡ appended (filling b bytes) (take k (word_flags flags)) }
 {
-    let low = or_word(b.word, up(flags, b.length % 64));
+    let low = or_word(b.word, shl_or_zero(flags, b.length % 64));
     let longer = b.length + k;
     grown(b, longer, low, b.ones)
 }
@@ -143,7 +144,7 @@ pub(crate) fn push_flags(b: BitmapBuilder, buf: &mut [u8], word: u64, k: usize) 
         return push_inside(b, flags, k);
     }
     let longer = b.length + k;
-    let rest = down(flags, 64 - fill);
+    let rest = shr_or_zero(flags, 64 - fill);
     let closed = close_word(b, buf, flags);
     grown(closed, longer, rest, closed.ones)
 }
@@ -154,7 +155,7 @@ pub(crate) fn close_word(b: BitmapBuilder, buf: &mut [u8], word: u64) -> BitmapB
     ensures { filling result buf.new ≡ appended (filling b buf.old) (take (64 - b.length % 64) (word_flags word)) }
 {
     let fill = b.length % 64;
-    let low = or_word(b.word, up(word, fill));
+    let low = or_word(b.word, shl_or_zero(word, fill));
     let longer = b.length + (64 - fill);
     store_whole(buf, 8 * (b.length / 64), low);
     let ones = b.ones + ones_in_word(low);
@@ -172,17 +173,18 @@ fn finish(b: BitmapBuilder, buf: &mut [u8])
 }
 
 // Adds the ones of the finished words and of the word in progress.
-fn all_ones(b: BitmapBuilder) -> usize
-    requires { all_ones b ≤ b.length }
-    ensures { result ≡ all_ones b }
+fn total_ones(b: BitmapBuilder) -> usize
+    requires { total_ones b ≤ b.length }
+    ensures { result ≡ total_ones b }
 {
     b.ones + ones_in_word(b.word)
 }
 
+// Returns the mask of a builder's flags, with its zero count known.
 fn frozen_mask(b: BitmapBuilder) -> Bitmap
-    requires { all_ones b ≤ b.length }
+    requires { total_ones b ≤ b.length }
     ensures { result ≡ frozen_mask b }
 {
-    let zeros = b.length - all_ones(b);
+    let zeros = b.length - total_ones(b);
     mask_under(b.serial, 0, b.length, Some(zeros))
 }

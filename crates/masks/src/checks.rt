@@ -1,4 +1,4 @@
-// The checks that the calls share. Public are those from which crates above masks make their own checks.
+// The checks that the calls share. Those that are public are for crates above masks, to make checks of their own from; so far none does.
 ghost use Rattle.std.specs.Prelude.{◌≡◌, cond, ◌&&◌, [], ◌∷◌, ◌++◌, ◌+◌, ◌≤◌, eqb, leb};
 ghost use Rattle.masks.specs.Refusal.{failure_of};
 ghost use Rattle.masks.specs.Checks.{first_failed, limit, check, within_limit, span_checks, address_checks, output_checks};
@@ -14,6 +14,7 @@ use crate::refusal::{Refusal, check, earlier};
 use crate::utils::{all_flags, zeros_at};
 use words::counts::none_from;
 
+// Returns whether n is at most the flag limit.
 pub(crate) fn within_limit(n: usize) -> bool
     ensures { result ≡ leb n limit }
 {
@@ -33,6 +34,7 @@ pub fn check_span(start: usize, length: usize, size: usize) -> Result<(), Refusa
     check(Refusal::PastBytes, end <= size)
 }
 
+// Makes check 8: an address remainder is at most 7.
 pub(crate) fn check_address(address: usize) -> Result<(), Refusal>
     ensures { failure_of result ≡ first_failed (address_checks address) }
 {
@@ -41,7 +43,7 @@ pub(crate) fn check_address(address: usize) -> Result<(), Refusal>
 
 // Returns whether z is the number of zeros of a span. Counts them, except if z is 0 or the length: then it looks for a flag that differs.
 // Takes the span as three arguments, in registers, as `zeros_at` does; `count_valid` below passes those of the mask.
-fn count_is(z: usize, bytes: &[u8], start: usize, length: usize) -> bool
+fn is_zero_count(z: usize, bytes: &[u8], start: usize, length: usize) -> bool
     requires { (start ≤ limit) × (length ≤ limit) }
     ensures { result ≡ eqb z (zeros (stretch bytes.now start length)) }
 {
@@ -61,7 +63,7 @@ fn count_valid(mask: Bitmap, bytes: &[u8]) -> bool
     ensures { result ≡ count_valid mask bytes.now }
 {
     match mask.unset {
-        Some(z) => count_is(z, &bytes[0..], mask.start, mask.length),
+        Some(z) => is_zero_count(z, &bytes[0..], mask.start, mask.length),
         None => true,
     }
 }

@@ -9,7 +9,7 @@ ghost use Rattle.masks.specs.Chunks.{new_chunks, next_chunk, chunks_remainder};
 use crate::checks::check_span;
 use crate::cursor::{Step, check_cursor};
 use crate::refusal::{Refusal, Refused};
-use crate::span::{Lent, flags_word};
+use crate::span::{CheckedSpan, flags_word};
 use words::merge::merge_reversed;
 use words::word::byte_word;
 
@@ -50,7 +50,7 @@ impl BitChunks {
             });
         }
         let further = self.place + 1;
-        let span = Lent {
+        let span = CheckedSpan {
             bytes,
             start: self.start,
             length: self.length,
@@ -85,7 +85,7 @@ impl BitChunksExact {
     }
 }
 
-impl Lent<'_> {
+impl CheckedSpan<'_> {
     // Reads the 64 flags starting at flag 64 * k, all in range. Merges two words if the start is inside a byte. Speed: by `word_from`,
     // which promises the same, `next` took 1.06 times the instructions.
     fn word(self, k: usize) -> u64

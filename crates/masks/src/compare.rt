@@ -7,25 +7,25 @@ ghost use Rattle.masks.specs.Compare.{common_of, edges, edges_of, eq_of};
 use crate::bitmap::Bitmap;
 use crate::checks::check_mask;
 use crate::refusal::{Refusal, check, earlier};
-use crate::span::Lent;
+use crate::span::CheckedSpan;
 use words::counts::{count_ones_of, equal};
-use words::flags::Flags;
+use words::flags::Operand;
 use words::ops::Op;
 
 // Returns whether two masks have the same length and flags. Compiled into its callers: as a function of its own 40 flags took 32
 // instructions more.
 #[inline(always)]
-pub fn eq(lhs: Bitmap, left: &[u8], rhs: Bitmap, right: &[u8]) -> Result<bool, Refusal>
-    ensures { answer result ≡ eq_of lhs left.now rhs right.now }
+pub fn eq(lhs: Bitmap, lhs_bytes: &[u8], rhs: Bitmap, rhs_bytes: &[u8]) -> Result<bool, Refusal>
+    ensures { answer result ≡ eq_of lhs lhs_bytes.now rhs rhs_bytes.now }
 {
-    earlier(check_mask(lhs, left), check_mask(rhs, right))?;
+    earlier(check_mask(lhs, lhs_bytes), check_mask(rhs, rhs_bytes))?;
     let n = lhs.length;
-    let a = lhs.flags(left);
-    let b = rhs.flags(right);
+    let a = lhs.flags(lhs_bytes);
+    let b = rhs.flags(rhs_bytes);
     Ok(n == rhs.length && equal(&a, &b, n))
 }
 
-impl Lent<'_> {
+impl CheckedSpan<'_> {
     // Counts the edges: the ones of the flags xor the flags shifted by one.
     fn edges(&self) -> usize
         ensures { result ≡ edges (stretch self.now.bytes.now self.now.start self.now.length) }
@@ -33,11 +33,11 @@ impl Lent<'_> {
         if self.length <= 1 {
             return 0;
         }
-        let own = Flags {
+        let own = Operand {
             bytes: self.bytes,
             start: self.start,
         };
-        let next = Flags {
+        let next = Operand {
             bytes: self.bytes,
             start: self.start + 1,
         };
@@ -50,7 +50,7 @@ pub fn num_edges(mask: Bitmap, bytes: &[u8]) -> Result<usize, Refusal>
     ensures { answer result ≡ edges_of mask bytes.now }
 {
     check_mask(mask, bytes)?;
-    let span = Lent {
+    let span = CheckedSpan {
         bytes,
         start: mask.start,
         length: mask.length,
@@ -58,19 +58,19 @@ pub fn num_edges(mask: Bitmap, bytes: &[u8]) -> Result<usize, Refusal>
     Ok(span.edges())
 }
 
-// Counts the flags that are set in both masks, whose lengths must be equal.
+// Counts the flags that are set in both masks. Refuses with 5 if their lengths differ.
 pub fn num_intersections_with(
     lhs: Bitmap,
-    left: &[u8],
+    lhs_bytes: &[u8],
     rhs: Bitmap,
-    right: &[u8],
+    rhs_bytes: &[u8],
 ) -> Result<usize, Refusal>
-    ensures { answer result ≡ common_of lhs left.now rhs right.now }
+    ensures { answer result ≡ common_of lhs lhs_bytes.now rhs rhs_bytes.now }
 {
     let same = check(Refusal::UnequalLengths, lhs.length == rhs.length);
-    let second = check_mask(rhs, right);
-    earlier(check_mask(lhs, left), earlier(second, same))?;
-    let a = lhs.flags(left);
-    let b = rhs.flags(right);
+    let second = check_mask(rhs, rhs_bytes);
+    earlier(check_mask(lhs, lhs_bytes), earlier(second, same))?;
+    let a = lhs.flags(lhs_bytes);
+    let b = rhs.flags(rhs_bytes);
     Ok(count_ones_of(Op::And, &a, &b, &b, lhs.length))
 }

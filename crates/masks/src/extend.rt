@@ -1,6 +1,6 @@
 // Long extensions of a builder: up to a full word, then whole words written straight to the buffer, then the rest. The workers require
 // `Room`, a fact about the builder, the number of flags to append and the buffer. It is no field of a struct, since that number is another
-// one at each call; a builder and its buffer stay two parameters, as document 01 lends them.
+// one at each call; a builder and its buffer stay two parameters, as the reference lends them.
 ghost use Rattle.std.specs.Prelude.{true, ◌&&◌, ◌≡◌, ◌+◌, ◌*◌, ◌%◌, ◌≤◌, ◌<◌, leb, ltb, length};
 ghost use Rattle.words.specs.Flags.{copies};
 ghost use Rattle.words.specs.Loops.{stretch};
@@ -13,7 +13,7 @@ use crate::bitmap::Bitmap;
 use crate::builder::{BitmapBuilder, close_word, grown, push_flags, push_inside};
 use crate::checks::{check_builder, check_inner, check_limit, check_mask, check_span_grow};
 use crate::refusal::{Refused, earlier};
-use crate::span::Lent;
+use crate::span::CheckedSpan;
 use words::counts::{copy_count, none_from};
 use words::loops::fill_whole;
 use words::word::{constant_flags, constant_word, low_flags, near_word, word_from};
@@ -32,14 +32,14 @@ impl BitmapBuilder {
         ensures answer { answer_back result ≡ append_answer (extend_constant n flag) self buf.old }
         ensures bytes { buf.new ≡ append_bytes (extend_constant n flag) self buf.old }
     {
-        if fits_inside(self, n, buf.len()) {
+        if fast_append_ok(self, n, buf.len()) {
             return Ok(push_inside(self, constant_flags(flag, n), n));
         }
         earlier(check_builder(self, n, buf.len()), check_limit(n)).map_err(|r| r.with(self))?;
         Ok(append_copies(self, buf, n, flag))
     }
 
-    // Appends the n flags of `bytes` starting at `start`.
+    // Appends the n flags of `bytes` starting at `start`. Refuses with 2 if they end past the bytes.
     pub fn extend_from_slice(
         self,
         buf: &mut [u8],
@@ -51,10 +51,10 @@ impl BitmapBuilder {
         ensures bytes { buf.new ≡ append_bytes (extend_slice bytes.now start n) self buf.old }
     {
         check_span_grow(start, n, bytes.len(), self, buf.len()).map_err(|r| r.with(self))?;
-        if stays_inside(self, n) {
+        if one_load_fits(self, n) {
             return Ok(push_inside(self, low_flags(near_word(bytes, start), n), n));
         }
-        let span = Lent {
+        let span = CheckedSpan {
             bytes,
             start,
             length: n,
@@ -62,7 +62,7 @@ impl BitmapBuilder {
         Ok(append_stretch(self, buf, &span))
     }
 
-    // Appends the n flags of a mask starting at `start`.
+    // Appends the n flags of a mask starting at `start`. Refuses with 6 if they do not all lie in the mask.
     pub fn subslice_extend_from_bitmap(
         self,
         buf: &mut [u8],
@@ -82,7 +82,7 @@ impl BitmapBuilder {
             ),
         )
         .map_err(|r| r.with(self))?;
-        let span = Lent {
+        let span = CheckedSpan {
             bytes,
             start: mask.start + start,
             length: n,
@@ -91,8 +91,8 @@ impl BitmapBuilder {
     }
 }
 
-// Returns true only if no check fails and the word in progress has room for n flags: so in most calls, for which no further check is made.
-fn fits_inside(b: BitmapBuilder, n: usize, size: usize) -> bool
+// Returns true only if no check fails and the word in progress has room for n flags, as in most calls: these make no further check.
+fn fast_append_ok(b: BitmapBuilder, n: usize, size: usize) -> bool
     ensures { result ≡ true → (b.length % 64 + n < 64) × Room b n size }
 {
     let fill = b.length % 64;
@@ -103,7 +103,7 @@ fn fits_inside(b: BitmapBuilder, n: usize, size: usize) -> bool
 }
 
 // Returns whether n flags can be read by one load and fit in the word in progress.
-fn stays_inside(b: BitmapBuilder, n: usize) -> bool
+fn one_load_fits(b: BitmapBuilder, n: usize) -> bool
     ensures { result ≡ (leb n 57 && ltb (b.length % 64 + n) 64) }
 {
     n <= 57 && b.length % 64 + n < 64
@@ -150,12 +150,12 @@ fn fill_words(b: BitmapBuilder, buf: &mut [u8], whole: usize, flag: bool) -> Bit
 // a byte after it. Compiled into its callers: as a function of its own 40 flags that fill the word in progress take 231 instructions in
 // place of 178.
 #[inline(always)]
-pub(crate) fn append_stretch(b: BitmapBuilder, buf: &mut [u8], span: &Lent) -> BitmapBuilder
+pub(crate) fn append_stretch(b: BitmapBuilder, buf: &mut [u8], span: &CheckedSpan) -> BitmapBuilder
     requires { Room b span.now.length (length buf.old) }
     ensures { filling result buf.new ≡ appended (filling b buf.old)
         (stretch span.now.bytes.now span.now.start span.now.length) }
 {
-    let Lent {
+    let CheckedSpan {
         bytes,
         start,
         length: n,

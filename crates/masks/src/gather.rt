@@ -10,13 +10,13 @@ ghost use Rattle.masks.specs.Workers.{Room};
 use crate::builder::{BitmapBuilder, push_flags};
 use crate::checks::{check_builder, check_span};
 use crate::refusal::{Refusal, Refused, check, earlier};
-use crate::span::Lent;
-use words::word::{behind, constant_word, flag_at};
+use crate::span::CheckedSpan;
+use words::word::{concat_low, constant_word, flag_at};
 
 impl BitmapBuilder {
-    // Appends the flag at each index; refuses an index outside the span. This and `opt_gather_extend_from_slice` are the Rust's names over
-    // `append_gathered`. They differ in the check of the indices and in the definition that the contract names, so one function for both
-    // would take a flag and promise by cases.
+    // Appends the flag at each index; refuses with 6 if an index is not below the length of the span. This and
+    // `opt_gather_extend_from_slice` are the Rust's names over `append_gathered`. They differ in the check of the indices and in the
+    // definition that the contract names, so one function for both would take a flag and promise by cases.
     pub fn gather_extend_from_slice(
         self,
         buf: &mut [u8],
@@ -36,7 +36,7 @@ impl BitmapBuilder {
             check(Refusal::Outside, all_below(idxs, n)),
         )
         .map_err(|r| r.with(self))?;
-        let span = Lent {
+        let span = CheckedSpan {
             bytes,
             start,
             length: n,
@@ -61,7 +61,7 @@ impl BitmapBuilder {
             check_builder(self, idxs.len(), buf.len()),
         )
         .map_err(|r| r.with(self))?;
-        let span = Lent {
+        let span = CheckedSpan {
             bytes,
             start,
             length: n,
@@ -78,14 +78,14 @@ fn all_below(idxs: &[u32], n: usize) -> bool
 }
 
 // Returns the flag at an index of a span, or 0 if the index is not below its length.
-fn span_flag(span: &Lent, at: usize) -> bool
+fn span_flag(span: &CheckedSpan, at: usize) -> bool
     ensures { result ≡ get_or (stretch span.now.bytes.now span.now.start span.now.length) at false }
 {
     at < span.length && flag_at(span.bytes, span.start + at)
 }
 
 // Gathers the flags at up to 64 indices into a word.
-fn gather_word(span: &Lent, idxs: &[u32]) -> u64
+fn gather_word(span: &CheckedSpan, idxs: &[u32]) -> u64
     requires { length idxs.now ≤ 64 }
     ensures { take (length idxs.now) (word_flags result)
         ≡ gathered (stretch span.now.bytes.now span.now.start span.now.length) idxs.now }
@@ -93,12 +93,18 @@ fn gather_word(span: &Lent, idxs: &[u32]) -> u64
     let mut w: u64 = 0;
     for (i, x) in idxs.iter().enumerate() {
         let flag = span_flag(span, *x as usize);
-        w = behind(w, i, constant_word(flag));
+        w = concat_low(w, i, constant_word(flag));
     }
     w
 }
 
-fn append_gathered(b: BitmapBuilder, buf: &mut [u8], span: &Lent, idxs: &[u32]) -> BitmapBuilder
+// Appends the flag at each index of a span, a word at a time; 0 for an index that is not below its length.
+fn append_gathered(
+    b: BitmapBuilder,
+    buf: &mut [u8],
+    span: &CheckedSpan,
+    idxs: &[u32],
+) -> BitmapBuilder
     requires { Room b (length idxs.now) (length buf.old) }
     ensures { filling result buf.new ≡ appended (filling b buf.old)
         (gathered (stretch span.now.bytes.now span.now.start span.now.length) idxs.now) }

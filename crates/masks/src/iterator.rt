@@ -78,6 +78,7 @@ impl BitmapIter {
         self.take_leading(bytes, false)
     }
 
+    // Counts the flags in a row at the cursor that equal `flag`, and moves past them.
     fn take_leading(
         self,
         bytes: &[u8],
@@ -91,6 +92,7 @@ impl BitmapIter {
         Ok((taken, self.moved(past)))
     }
 
+    // Returns the cursor moved to `place`.
     fn moved(self, place: usize) -> Self
         ensures { result ≡ moved_to self place }
     {

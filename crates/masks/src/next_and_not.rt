@@ -18,11 +18,11 @@ use crate::checks::check_mask;
 use crate::refusal::{Refusal, check, earlier};
 use words::counts::any_set;
 use words::ends::leading_in_word;
-use words::flags::Flags;
+use words::flags::Operand;
 use words::ops::{Op, and_not_word};
-use words::word::{down, word_from};
+use words::word::{shr_or_zero, word_from};
 
-// A position, or none, and the number of windows read.
+// A position, or none, and the number of windows of 32 flags that the search covers.
 #[derive(Clone, Copy, PartialEq, Eq, Debug)]
 pub struct Found {
     pub position: Option<usize>,
@@ -31,7 +31,8 @@ pub struct Found {
 
 // Returns the first position at or after `from` that is set in the first mask and not in the second, else the first such position below
 // `from`, or none. An absent second mask takes nothing away. Windows begin at `from` and at every 32nd flag after it, then at 0 and at
-// every 32nd flag below `from`; the answer counts those up to the one that holds the position, or all.
+// every 32nd flag below `from`; the answer counts those up to the one that holds the position, or all. Refuses with 6 if `from` is above
+// the length.
 //
 // Masks of at most 64 flags are one word each, read once and searched twice, with no loop. This function and its checks are compiled into
 // its callers: with either as a function of its own 40 flags take 281 instructions in place of 247.
@@ -82,7 +83,7 @@ fn next_in_word(word: u64, n: usize, from: usize) -> Found
     requires { (n ≤ 64) × (from ≤ n) }
     ensures { result ≡ next_set n (take n (word_flags word)) from }
 {
-    let ahead = leading_in_word(false, down(word, from), n - from);
+    let ahead = leading_in_word(false, shr_or_zero(word, from), n - from);
     if ahead < n - from {
         return Found {
             position: Some(from + ahead),
@@ -154,13 +155,13 @@ fn any_free(
     requires { Searchable first second (at + n) first.length }
     ensures { result ≡ any_set (window (free_flags first first_bytes.now second second_bytes.now) at n) }
 {
-    let a = Flags {
+    let a = Operand {
         bytes: first_bytes,
         start: first.start + at,
     };
     match second {
         Some(m) => {
-            let b = Flags {
+            let b = Operand {
                 bytes: second_bytes,
                 start: m.start + at,
             };

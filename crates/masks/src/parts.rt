@@ -26,6 +26,7 @@ pub(crate) struct Split<'a> {
 }
 
 impl<'a> Split<'a> {
+    // Splits a span.
     pub(crate) fn new(span: &Addressed<'a>) -> Self
         ensures bytes { result.bytes.now ≡ span.now.bytes.now }
         ensures parts { result.parts ≡ aligned_split span.now.bytes.now span.now.start span.now.length span.now.address }

@@ -6,14 +6,14 @@ ghost use Rattle.words.specs.Loops.{stretch};
 ghost use Rattle.masks.specs.Answer.{answer_back};
 ghost use Rattle.masks.specs.Checks.{first_failed, limit};
 ghost use Rattle.masks.specs.Frozen.{over_from};
-ghost use Rattle.masks.specs.Positions.{place_behind, left_of, next_positions, positions_over};
+ghost use Rattle.masks.specs.Positions.{place_after, left_of, next_positions, positions_over};
 ghost use Rattle.masks.specs.TrueIdx.{ones_from, ones_left, true_checks};
 
 use crate::refusal::Refused;
-use crate::span::{Lent, flags_word};
+use crate::span::{CheckedSpan, flags_word};
 use crate::true_idx::{TrueIdxIter, check_next};
 use words::ends::leading_in_word;
-use words::word::down;
+use words::word::shr_or_zero;
 
 // Writes consecutive positions, starting with `first`, as the u32 that the gathers take as an index: by `as`, since each is proved to
 // fit.
@@ -51,7 +51,7 @@ fn write_word(out: &mut [u32], done: usize, word: u64, first: usize) -> usize
         if zeros >= 64 {
             return count;
         }
-        let rest = down(w, zeros);
+        let rest = shr_or_zero(w, zeros);
         let ones = leading_in_word(true, rest, 64);
         let n = ones.min(out.len() - count);
         write_run(out, count, at + zeros, n);
@@ -59,14 +59,14 @@ fn write_word(out: &mut [u32], done: usize, word: u64, first: usize) -> usize
         if n < ones {
             return count;
         }
-        w = down(rest, ones);
+        w = shr_or_zero(rest, ones);
         at += zeros + ones;
     }
 }
 
 // Writes the positions of the ones of a span at or after `place`, word by word, as many as fit, and returns their number. A `while`: by
 // `for at in (..).step_by(64)` 40 flags took 1.05 times the instructions where half are set, and 1.13 times where all are.
-fn write_words(out: &mut [u32], span: Lent, place: usize) -> usize
+fn write_words(out: &mut [u32], span: CheckedSpan, place: usize) -> usize
     requires { place ≤ span.length }
     ensures count { result ≡
         min (list_length out.old)
@@ -94,7 +94,7 @@ fn write_positions(cursor: TrueIdxIter, bytes: &[u8], out: &mut [u32]) -> usize
     ensures positions { out.new ≡ over out.old (left_of cursor bytes.now) }
 {
     if cursor.masked {
-        let span = Lent {
+        let span = CheckedSpan {
             bytes,
             start: cursor.start,
             length: cursor.length,
@@ -108,10 +108,10 @@ fn write_positions(cursor: TrueIdxIter, bytes: &[u8], out: &mut [u32]) -> usize
 
 // Returns the place of a cursor that has written `count` positions to `out`. `as`, since `usize` has no `From` of a u32. Speed: by `last`
 // and `map_or` `next_chunk` took 1.04 times the instructions.
-fn place_behind(cursor: TrueIdxIter, out: &[u32], count: usize) -> usize
+fn place_after(cursor: TrueIdxIter, out: &[u32], count: usize) -> usize
     requires { count ≤ list_length out.now }
     ensures { (old left : List ℕ) → out.now ≡ over old left → count ≡ min (list_length old) (list_length left)
-        → result ≡ place_behind cursor left (list_length old) }
+        → result ≡ place_after cursor left (list_length old) }
 {
     if count < out.len() {
         return cursor.length;
@@ -135,7 +135,7 @@ impl TrueIdxIter {
     {
         check_next(self, bytes.len()).map_err(|r| r.with(self))?;
         let count = write_positions(self, bytes, out);
-        let place = place_behind(self, out, count);
+        let place = place_after(self, out, count);
         Ok((count, self.moved(place)))
     }
 }

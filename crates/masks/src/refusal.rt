@@ -6,7 +6,7 @@ ghost use Rattle.masks.specs.Refusal.{failure_of, number};
 use std::error::Error;
 use std::fmt;
 
-// The checks that a call can fail, in their order: of several that fail the first one here is the answer. Each is a check of document 01
+// The checks that a call can fail, in their order: of several that fail the first one here is the answer. Each is a check of the reference
 // with its number (its question, answered no); 14 is one of paper 02.
 #[derive(Clone, Copy, PartialEq, Eq, PartialOrd, Ord, Debug)]
 pub enum Refusal {

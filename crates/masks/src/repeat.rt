@@ -12,7 +12,7 @@ use crate::builder::BitmapBuilder;
 use crate::checks::{check_builder, check_span};
 use crate::extend::{append_copies, append_stretch};
 use crate::refusal::{Refusal, Refused, earlier};
-use crate::span::Lent;
+use crate::span::CheckedSpan;
 use words::word::flag_at;
 
 impl BitmapBuilder {
@@ -33,7 +33,7 @@ impl BitmapBuilder {
             check_product(self, n, repeats, buf.len()),
         )
         .map_err(|r| r.with(self))?;
-        let span = Lent {
+        let span = CheckedSpan {
             bytes,
             start,
             length: n,
@@ -49,7 +49,13 @@ fn check_product(b: BitmapBuilder, n: usize, repeats: usize, size: usize) -> Res
     check_builder(b, n.saturating_mul(repeats), size)
 }
 
-fn append_repeated(b: BitmapBuilder, buf: &mut [u8], span: &Lent, repeats: usize) -> BitmapBuilder
+// Appends each flag of a span `repeats` times in turn.
+fn append_repeated(
+    b: BitmapBuilder,
+    buf: &mut [u8],
+    span: &CheckedSpan,
+    repeats: usize,
+) -> BitmapBuilder
     requires { Room b (span.now.length * repeats) (length buf.old) }
     ensures { filling result buf.new ≡ appended (filling b buf.old)
         (repeated repeats (stretch span.now.bytes.now span.now.start span.now.length)) }
@@ -64,7 +70,12 @@ fn append_repeated(b: BitmapBuilder, buf: &mut [u8], span: &Lent, repeats: usize
 }
 
 // Appends each flag `repeats` times, a run at a time. A range: flags are bits, and there is no slice of them.
-fn append_runs(b: BitmapBuilder, buf: &mut [u8], span: &Lent, repeats: usize) -> BitmapBuilder
+fn append_runs(
+    b: BitmapBuilder,
+    buf: &mut [u8],
+    span: &CheckedSpan,
+    repeats: usize,
+) -> BitmapBuilder
     requires { Room b (span.now.length * repeats) (length buf.old) }
     ensures { filling result buf.new ≡ appended (filling b buf.old)
         (repeated repeats (stretch span.now.bytes.now span.now.start span.now.length)) }

@@ -43,10 +43,16 @@ fn is_all_early(flag: bool, mask: Bitmap, bytes: &[u8]) -> bool
 }
 
 // Returns the shortcut of `and` (`flag` is 0) or `or` (`flag` is 1): `flag` if either mask is all `flag`, else none.
-fn either_all(flag: bool, lhs: Bitmap, left: &[u8], rhs: Bitmap, right: &[u8]) -> Option<bool>
-    ensures { result ≡ either_all flag (is_all flag lhs left.now) (is_all flag rhs right.now) }
+fn either_all(
+    flag: bool,
+    lhs: Bitmap,
+    lhs_bytes: &[u8],
+    rhs: Bitmap,
+    rhs_bytes: &[u8],
+) -> Option<bool>
+    ensures { result ≡ either_all flag (is_all flag lhs lhs_bytes.now) (is_all flag rhs rhs_bytes.now) }
 {
-    (is_all_early(flag, lhs, left) || is_all_early(flag, rhs, right)).then_some(flag)
+    (is_all_early(flag, lhs, lhs_bytes) || is_all_early(flag, rhs, rhs_bytes)).then_some(flag)
 }
 
 // Returns the shortcut of `xor` of `mask` with a mask that is all `flag`: 0 if `mask` is all `flag`, 1 if it is all the other flag, else
@@ -64,15 +70,15 @@ fn xor_all(flag: bool, mask: Bitmap, bytes: &[u8]) -> Option<bool>
 }
 
 // Returns the shortcut of `xor`: a flag if both masks are constant, else none.
-fn xor_shortcut(lhs: Bitmap, left: &[u8], rhs: Bitmap, right: &[u8]) -> Option<bool>
+fn xor_shortcut(lhs: Bitmap, lhs_bytes: &[u8], rhs: Bitmap, rhs_bytes: &[u8]) -> Option<bool>
     requires { lhs.length ≡ rhs.length }
-    ensures { result ≡ pair_shortcut Xor lhs left.now rhs right.now }
+    ensures { result ≡ pair_shortcut Xor lhs lhs_bytes.now rhs rhs_bytes.now }
 {
-    if is_all_early(false, lhs, left) {
-        return xor_all(false, rhs, right);
+    if is_all_early(false, lhs, lhs_bytes) {
+        return xor_all(false, rhs, rhs_bytes);
     }
-    if is_all_early(true, lhs, left) {
-        return xor_all(true, rhs, right);
+    if is_all_early(true, lhs, lhs_bytes) {
+        return xor_all(true, rhs, rhs_bytes);
     }
     None
 }
@@ -82,21 +88,21 @@ fn xor_shortcut(lhs: Bitmap, left: &[u8], rhs: Bitmap, right: &[u8]) -> Option<b
 pub(crate) fn pair_shortcut(
     op: Op,
     lhs: Bitmap,
-    left: &[u8],
+    lhs_bytes: &[u8],
     rhs: Bitmap,
-    right: &[u8],
+    rhs_bytes: &[u8],
 ) -> Option<bool>
     requires { lhs.length ≡ rhs.length }
-    ensures { result ≡ pair_shortcut op lhs left.now rhs right.now }
+    ensures { result ≡ pair_shortcut op lhs lhs_bytes.now rhs rhs_bytes.now }
 {
     // a `match`: the arms name a flag to look for, another shortcut, or none
     let flag = match op {
         Op::And => false,
         Op::Or => true,
-        Op::Xor => return xor_shortcut(lhs, left, rhs, right),
+        Op::Xor => return xor_shortcut(lhs, lhs_bytes, rhs, rhs_bytes),
         Op::AndNot | Op::OrNot | Op::Not | Op::Select => return None,
     };
-    either_all(flag, lhs, left, rhs, right)
+    either_all(flag, lhs, lhs_bytes, rhs, rhs_bytes)
 }
 
 // Returns the zero count of a result of n flags: n if a shortcut makes it all zeros, 0 for no flags, else unknown.

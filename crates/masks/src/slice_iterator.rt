@@ -10,7 +10,7 @@ use crate::bitmap::Bitmap;
 use crate::checks::check_mask;
 use crate::cursor::{Step, check_cursor};
 use crate::refusal::{Refusal, Refused};
-use crate::span::{Lent, zeros_from};
+use crate::span::{CheckedSpan, zeros_from};
 
 // A cursor over the runs of ones of a mask; its place counts flags. The Rust's `SlicesIterator`, with the bytes lent to each call.
 #[derive(Clone, Copy, PartialEq, Eq, Debug)]
@@ -29,7 +29,7 @@ pub struct Run {
 
 // Returns whether a byte is all ones, is entered at its first bit, and lies inside the span, of which `left` flags are left. With `&&` the
 // search for all runs took 1.02 times the instructions where half the flags are set, and 1.07 times where all are.
-fn all_ones(byte: u8, bit: usize, left: usize) -> bool
+fn is_full_byte(byte: u8, bit: usize, left: usize) -> bool
     ensures { result ≡ (eqb bit 0 && (eqb byte 255 && leb 8 left)) }
 {
     if bit == 0 {
@@ -41,8 +41,8 @@ fn all_ones(byte: u8, bit: usize, left: usize) -> bool
 
 // Returns the first run of ones at or after `place`; with no ones left an empty run at the length. Reads byte by byte and, inside a byte,
 // bit by bit; at the end of the run it leaves both loops. Passes over a byte of ones at once, and over a zero before the run. The two loops
-// are the walk of document 01, a named form.
-fn run_from(span: Lent, place: usize) -> Run
+// are the walk of document 01 (docs/REFERENCE.md), a named form.
+fn run_from(span: CheckedSpan, place: usize) -> Run
     requires { place ≤ span.length }
     ensures { result ≡ first_run (stretch span.entry.bytes.now span.entry.start span.entry.length) place }
 {
@@ -60,7 +60,7 @@ fn run_from(span: Lent, place: usize) -> Run
         let byte = span.bytes[flag / 8];
         let mut bit = flag % 8;
         let left = span.length - at;
-        if all_ones(byte, bit, left) {
+        if is_full_byte(byte, bit, left) {
             at += 8;
             continue 'bytes;
         }
@@ -104,7 +104,7 @@ impl SlicesIterator {
     {
         check_cursor(self.start, self.length, self.place, bytes.len()).map_err(|r| r.with(self))?;
         let near = self.place + zeros_from(bytes, self.start, self.length, self.place);
-        let span = Lent {
+        let span = CheckedSpan {
             bytes,
             start: self.start,
             length: self.length,
@@ -123,6 +123,7 @@ impl SlicesIterator {
         })
     }
 
+    // Returns the cursor moved to `place`.
     fn moved(self, place: usize) -> Self
         ensures { result ≡ slices_moved self place }
     {

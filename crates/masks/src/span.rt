@@ -12,7 +12,7 @@ use words::word::{low_flags, near_word, word_from};
 
 // A span of lent bytes that has passed checks 1 and 2, or a piece of such a span.
 #[derive(Clone, Copy)]
-pub(crate) struct Lent<'a> {
+pub(crate) struct CheckedSpan<'a> {
     pub bytes: &'a [u8],
     pub start: usize,
     pub length: usize,
@@ -21,15 +21,15 @@ pub(crate) struct Lent<'a> {
     ghost inside: { start + length ≤ 8 * list_length bytes.now },
 }
 
-impl Lent<'_> {
-    ghost use Rattle.masks.specs.Lent.{lent_answer, new_lent};
+impl CheckedSpan<'_> {
+    ghost use Rattle.masks.specs.CheckedSpan.{lent_answer, new_lent};
 
     // Makes checks 1 and 2 and returns the span.
-    pub(crate) fn new(bytes: &[u8], start: usize, length: usize) -> Result<Lent<'_>, Refusal>
+    pub(crate) fn new(bytes: &[u8], start: usize, length: usize) -> Result<CheckedSpan<'_>, Refusal>
         ensures { lent_answer result ≡ new_lent bytes.now start length }
     {
         check_span(start, length, bytes.len())?;
-        Ok(Lent {
+        Ok(CheckedSpan {
             bytes,
             start,
             length,
@@ -46,8 +46,9 @@ pub(crate) fn flags_word(bytes: &[u8], bit: usize, k: usize) -> u64
 }
 
 // Counts the flags in a row, starting at `place`, that equal `flag`. Reads the first word here, since the run is usually short. This,
-// `zeros_from` and `leading_by_words` take a span as three arguments, in registers: as methods of `Lent`, which is passed through memory to
-// a function that is not inlined, the next one of a random mask took 1.04 times the instructions and `take_leading` of 40 zeros 1.07 times.
+// `zeros_from` and `leading_by_words` take a span as three arguments, in registers: as methods of `CheckedSpan`, which is passed through
+// memory to a function that is not inlined, the next one of a random mask took 1.04 times the instructions and `take_leading` of 40 zeros
+// 1.07 times.
 pub(crate) fn leading_from(
     flag: bool,
     bytes: &[u8],

@@ -25,21 +25,21 @@ pub struct Part {
 // equal.
 fn check_superseding(
     first: Bitmap,
-    left: &[u8],
+    lhs_bytes: &[u8],
     second: Bitmap,
-    right: &[u8],
+    rhs_bytes: &[u8],
 ) -> Result<(), Refusal>
-    ensures { failure_of result ≡ first_failed (superseding_checks first left.now second right.now) }
+    ensures { failure_of result ≡ first_failed (superseding_checks first lhs_bytes.now second rhs_bytes.now) }
 {
     if first.serial != second.serial {
-        return earlier(check_mask(first, left), check_mask(second, right));
+        return earlier(check_mask(first, lhs_bytes), check_mask(second, rhs_bytes));
     }
-    let same = eq(first, left, second, right)?;
+    let same = eq(first, lhs_bytes, second, rhs_bytes)?;
     check(Refusal::UnequalLists, same)
 }
 
 // Returns the part of its slice that holds a mask, and the mask over that part. No type says that the mask's checks have passed: a `Bitmap`
-// is document 01's record, of any numbers, and a `Lent` has neither the count nor the serial that the part keeps.
+// is the reference's record, of any numbers, and a `CheckedSpan` has neither the count nor the serial that the part keeps.
 fn part_of(second: bool, mask: Bitmap) -> Part
     requires { (mask.start ≤ limit) × (mask.length ≤ limit) }
     ensures { result ≡ part_of second mask }

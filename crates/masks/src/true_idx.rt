@@ -14,7 +14,7 @@ use crate::refusal::{Refusal, Refused, check};
 use crate::span::zeros_from;
 
 // A cursor over the positions of the ones of a mask or, without a mask, over every position. The Rust's `TrueIdxIter`. `masked` replaces an
-// `Option` of the mask: document 01's cursor holds no mask, and the C interface passes the field.
+// `Option` of the mask: the reference's cursor holds no mask, and the C interface passes the field.
 #[derive(Clone, Copy, PartialEq, Eq, Debug)]
 pub struct TrueIdxIter {
     pub start: usize,
@@ -23,6 +23,7 @@ pub struct TrueIdxIter {
     pub masked: bool,
 }
 
+// Makes the checks of a new cursor over a mask: check 1 of the stated length, those of the mask, and check 5: the two lengths are equal.
 fn check_stated(length: usize, mask: Bitmap, bytes: &[u8]) -> Result<(), Refusal>
     ensures { failure_of result ≡ first_failed (new_true_checks length (Some mask) bytes.now) }
 {
@@ -31,6 +32,7 @@ fn check_stated(length: usize, mask: Bitmap, bytes: &[u8]) -> Result<(), Refusal
     check(Refusal::UnequalLengths, length == mask.length)
 }
 
+// Makes the checks of a new cursor; without a mask only check 1 of the stated length.
 fn check_new(length: usize, mask: Option<Bitmap>, bytes: &[u8]) -> Result<(), Refusal>
     ensures { failure_of result ≡ first_failed (new_true_checks length mask bytes.now) }
 {
@@ -40,6 +42,7 @@ fn check_new(length: usize, mask: Option<Bitmap>, bytes: &[u8]) -> Result<(), Re
     }
 }
 
+// Returns the cursor at place 0, over a mask or, without one, over every position below `length`.
 fn first_true(length: usize, mask: Option<Bitmap>) -> TrueIdxIter
     ensures { result ≡ first_true length mask }
 {
@@ -59,6 +62,7 @@ fn first_true(length: usize, mask: Option<Bitmap>) -> TrueIdxIter
     }
 }
 
+// Makes checks 1, 2 and 6 of a cursor over `size` bytes; without a mask only 1 and 6.
 pub(crate) fn check_next(cursor: TrueIdxIter, size: usize) -> Result<(), Refusal>
     ensures { failure_of result ≡ first_failed (true_checks cursor size) }
 {
@@ -70,8 +74,8 @@ pub(crate) fn check_next(cursor: TrueIdxIter, size: usize) -> Result<(), Refusal
     check(Refusal::Outside, cursor.place <= cursor.length)
 }
 
-// Counts the zeros before the next one; 0 without a mask. Takes the cursor's fields, as `zeros_from` does: over a `Lent`, `next` without a
-// mask took 1.08 times the instructions.
+// Counts the zeros before the next one; 0 without a mask. Takes the cursor's fields, as `zeros_from` does: over a `CheckedSpan`, `next`
+// without a mask took 1.08 times the instructions.
 fn zeros_next(cursor: TrueIdxIter, bytes: &[u8]) -> usize
     requires { (cursor.start ≤ limit) × ((cursor.length ≤ limit) × (cursor.place ≤ cursor.length)) }
     ensures { result ≡ leading_from false (true_flags cursor bytes.now) cursor.place }
@@ -83,8 +87,8 @@ fn zeros_next(cursor: TrueIdxIter, bytes: &[u8]) -> usize
 }
 
 impl TrueIdxIter {
-    // Returns a cursor at the first position. `length` must equal the length of the mask. No mask is Arrow's none, which means all ones:
-    // the cursor then returns every position below `length`.
+    // Returns a cursor at the first position. Refuses with 5 if `length` is not the length of the mask. No mask is Arrow's none, which
+    // means all ones: the cursor then returns every position below `length`.
     pub fn new(length: usize, mask: Option<Bitmap>, bytes: &[u8]) -> Result<TrueIdxIter, Refusal>
         ensures { answer result ≡ new_true length mask bytes.now }
     {
@@ -111,6 +115,7 @@ impl TrueIdxIter {
         })
     }
 
+    // Returns the cursor moved to `place`.
     pub(crate) fn moved(self, place: usize) -> Self
         ensures { result ≡ true_moved self place }
     {

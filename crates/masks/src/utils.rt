@@ -11,12 +11,12 @@ ghost use Rattle.masks.specs.Workers.{zeros_of_all};
 use crate::aligned::{Addressed, check_aligned};
 use crate::parts::{Back, End, Front, Split};
 use crate::refusal::Refusal;
-use crate::span::Lent;
+use crate::span::CheckedSpan;
 use words::uniform::{all_are, differs_early};
 use words::word::{near_word, ones_below};
 
 // Counts the zeros of a span that one word load covers. Separate, so that callers can inline it. This and `short_run` take the span as
-// three arguments: a `Lent` would require more of their callers than one load needs.
+// three arguments: a `CheckedSpan` would require more of their callers than one load needs.
 fn short_zeros(bytes: &[u8], start: usize, length: usize) -> usize
     requires { start % 8 + length ≤ 64 }
     ensures { result ≡ zeros (stretch bytes.now start length) }
@@ -49,7 +49,7 @@ pub(crate) fn zeros_at(bytes: &[u8], start: usize, length: usize, address: usize
     })
 }
 
-impl Lent<'_> {
+impl CheckedSpan<'_> {
     // Counts the zeros of the span.
     pub(crate) fn zeros(&self) -> usize
         ensures { result ≡ zeros (stretch self.now.bytes.now self.now.start self.now.length) }
@@ -58,8 +58,9 @@ impl Lent<'_> {
     }
 }
 
-// Returns whether all flags of a span are `flag`, as its number of zeros would say. They are not counted; the first word with another flag
-// ends the search. This and `other_early` take the span as three arguments, since they require nothing of it.
+// Returns whether all flags of a span equal `flag`: `all_are` of words under a contract by the number of zeros, which the checks cite. The
+// zeros are not counted; the first word with another flag ends the search. This and `other_early` take the span as three arguments, since
+// they require nothing of it.
 pub(crate) fn all_flags(flag: bool, bytes: &[u8], start: usize, length: usize) -> bool
     ensures { result ≡ eqb (zeros (stretch bytes.now start length)) (zeros_of_all flag length) }
 {

@@ -1,2 +1,2 @@
--- What the proofs of several functions of src/lines.rt use.
+-- What the proof of `Lines::take` uses.
 pub mod LineLaws

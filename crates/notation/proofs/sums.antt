@@ -1,2 +1,2 @@
--- What the proofs of several functions of src/sums.rt use.
+-- What the proof of `Checksum::bytes` uses.
 pub mod SumLaws

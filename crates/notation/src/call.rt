@@ -35,13 +35,13 @@ pub enum WordCall {
     NthSetBitU32,
     NthSetBitU64,
     LowFlags,
-    Down,
-    Up,
-    Behind,
+    ShrOrZero,
+    ShlOrZero,
+    ConcatLow,
     ConstantWord,
 }
 
-// Calls on words only, with a flag or a number of flags.
+// Further calls on words only: those of flags and of how many they are, and `combine_word`.
 #[derive(Clone, Copy, Debug, PartialEq, Eq)]
 pub enum FlagsCall {
     ConstantFlags,
@@ -112,7 +112,7 @@ pub enum ChunksCall {
     Remainder,
 }
 
-// Makers of builders and masks, and a mask over x.
+// Calls that make a builder or a mask, and calls on one mask over x.
 #[derive(Clone, Copy, Debug, PartialEq, Eq)]
 pub enum MaskCall {
     NewBuilder,
@@ -123,7 +123,7 @@ pub enum MaskCall {
     NumEdges,
 }
 
-// Two masks, over x and y.
+// Calls on two masks, over x and y, that write nothing.
 #[derive(Clone, Copy, Debug, PartialEq, Eq)]
 pub enum PairCall {
     Eq,
@@ -140,7 +140,7 @@ pub enum SupersedingCall {
     Bytes,
 }
 
-// The cursors over a mask's runs and ones.
+// Calls of the cursors over a mask's runs and over its ones.
 #[derive(Clone, Copy, Debug, PartialEq, Eq)]
 pub enum CursorCall {
     NewSlices,
@@ -149,7 +149,7 @@ pub enum CursorCall {
     NextTrueIdx,
 }
 
-// The cursor over flags.
+// Calls of the cursor over flags.
 #[derive(Clone, Copy, Debug, PartialEq, Eq)]
 pub enum BitsCall {
     New,
@@ -171,7 +171,7 @@ pub enum StoreCall {
     FillWhole,
 }
 
-// The builder, whose buffer is o.
+// Calls of the builder, whose buffer is o, that read nothing else.
 #[derive(Clone, Copy, Debug, PartialEq, Eq)]
 pub enum BuilderCall {
     Push,
@@ -200,7 +200,7 @@ pub enum MergeCall {
     Xor,
 }
 
-// Combinations that take one mask, or choose.
+// The combinations of one mask, and those by a selector.
 #[derive(Clone, Copy, Debug, PartialEq, Eq)]
 pub enum SelectCall {
     Not,
@@ -222,7 +222,7 @@ pub enum ListCall {
     Counts,
 }
 
-// The window of minutes, whose arrays are o.
+// Calls that write a window of minutes, whose arrays are o.
 #[derive(Clone, Copy, Debug, PartialEq, Eq)]
 pub enum MinutesCall {
     New,

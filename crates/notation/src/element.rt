@@ -10,7 +10,7 @@ use crate::sums::Checksum;
 use std::alloc::{AllocError, Global};
 
 pub(crate) trait Element: Copy + PartialEq {
-    // At most this many are lent.
+    // At most this many are lent; of bytes, those of 4,194,304 flags and 64 more.
     const ROOM: usize;
 
     // Reads a list of them, None if it has more than the room.

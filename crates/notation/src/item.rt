@@ -135,7 +135,7 @@ impl Item {
     }
 
     // Returns whether the item is equal to a token, or is `_` for a number.
-    pub(crate) fn says(self, token: Token) -> bool {
+    pub(crate) fn matches(self, token: Token) -> bool {
         let number = matches!(token, Token::Number(_));
         self == Item::from(token) || (self == Item::Any && number)
     }

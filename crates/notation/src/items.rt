@@ -87,10 +87,10 @@ impl Items {
 
     // Returns how many items there are, those of the answer included.
     fn len(&self) -> usize {
-        let told = self.answer().map_or(0, |items| items.len());
+        let expected = self.answer().map_or(0, |items| items.len());
         self.choices
             .iter()
-            .fold(told, |n, choice| n.saturating_add(choice.items.len()))
+            .fold(expected, |n, choice| n.saturating_add(choice.items.len()))
     }
 
     // Returns how many tokens are arguments, sizes and serials left out.

@@ -1,7 +1,7 @@
 // A line: what it lends, a request, or nothing. docs/REQUESTS.md has its meaning.
 ghost use Rattle.std.specs.Prelude.{◌≡◌, IfErr};
 ghost use Rattle.notation.specs.declared.fault.Fault.TheVariants.{Malformed};
-ghost use Rattle.notation.specs.Line.{said_by, said_of, lettered};
+ghost use Rattle.notation.specs.Line.{meaning_of, meaning, lettered};
 
 use crate::fault::Fault;
 use crate::lent::Letter;
@@ -20,7 +20,7 @@ pub enum Line<'a> {
 impl<'a> Line<'a> {
     // Reads a line. It is malformed if its first token is one byte that is neither `+` nor a letter of what is lent.
     pub fn read(text: &'a [u8]) -> Result<Line<'a>, Fault>
-        ensures said { said_of result ≡ said_by text.now }
+        ensures meaning { meaning result ≡ meaning_of text.now }
         ensures malformed { IfErr result (λ e. e ≡ Malformed) }
     {
         match text {
@@ -32,7 +32,7 @@ impl<'a> Line<'a> {
     }
 
     fn lettered(letter: u8, rest: &'a [u8]) -> Result<Line<'a>, Fault>
-        ensures said { said_of result ≡ lettered letter rest.now }
+        ensures meaning { meaning result ≡ lettered letter rest.now }
         ensures malformed { IfErr result (λ e. e ≡ Malformed) }
     {
         if letter == b'+' {

@@ -26,7 +26,7 @@ pub enum Step {
     Last,
 }
 
-// Lines are cut by hand: over `take(..).read_until(..)` the proof of `step` didn't close. For a reader whose bytes are not known, such as
+// Lines are cut by hand: over `take(..).read_until(..)` the proof of `step` did not close. For a reader whose bytes are not known, such as
 // standard input, the contract of `read_until` states neither what it takes of the buffer nor that it keeps to the limit; and that of
 // `skip_until` does not state whether it met a line feed.
 #[derive(Drop)]

@@ -39,9 +39,9 @@ pub(crate) static NAMES: [Named; CALLS] = names![
     "nth_set_bit_u32" 2 Nothing Call::Word(WordCall::NthSetBitU32);
     "nth_set_bit_u64" 2 Nothing Call::Word(WordCall::NthSetBitU64);
     "low_flags" 2 Nothing Call::Word(WordCall::LowFlags);
-    "down" 2 Nothing Call::Word(WordCall::Down);
-    "up" 2 Nothing Call::Word(WordCall::Up);
-    "behind" 3 Nothing Call::Word(WordCall::Behind);
+    "shr_or_zero" 2 Nothing Call::Word(WordCall::ShrOrZero);
+    "shl_or_zero" 2 Nothing Call::Word(WordCall::ShlOrZero);
+    "concat_low" 3 Nothing Call::Word(WordCall::ConcatLow);
     "constant_word" 1 Nothing Call::Word(WordCall::ConstantWord);
     "constant_flags" 2 Nothing Call::Flags(FlagsCall::ConstantFlags);
     "ones_in_word" 1 Nothing Call::Flags(FlagsCall::OnesInWord);

@@ -79,9 +79,9 @@ pub fn compare(
     ensures place { IfOk result (λ o. o.place ≡ reading.now.place) }
     ensures calls { IfOk result (λ o. o.calls ≡ ran.calls) }
     ensures made { is_some reading.now.items.answer ≡ false → IfOk result (λ o. o.verdict ≡ Made) }
-    ensures told { is_some reading.now.items.answer ≡ true → IfOk result (λ o. o.verdict ≢ Made) }
+    ensures expected { is_some reading.now.items.answer ≡ true → IfOk result (λ o. o.verdict ≢ Made) }
 {
-    let told = answer_verdict(reading, ran, &last.answer)?;
+    let expected = answer_verdict(reading, ran, &last.answer)?;
     // The arms of bytes and numbers are calls of `holds` at two types, so that no one pattern joins them.
     let held = match reading.compared() {
         Output::Bytes => holds(
@@ -104,19 +104,19 @@ pub fn compare(
         name: reading.named.name,
         place: reading.place,
         calls: ran.calls,
-        verdict: if held { told } else { Verdict::Differs },
+        verdict: if held { expected } else { Verdict::Differs },
     })
 }
 
 // Returns the verdict on the answer, without the output.
 fn answer_verdict(reading: &Reading, ran: Ran, answer: &Answer) -> Result<Verdict, Fault>
     ensures made { is_some reading.now.items.answer ≡ false → result ≡ Ok Made }
-    ensures told { is_some reading.now.items.answer ≡ true → IfOk result (λ v. v ≢ Made) }
+    ensures expected { is_some reading.now.items.answer ≡ true → IfOk result (λ v. v ≢ Made) }
 {
     let same = match reading.items.answer() {
         None => return Ok(Verdict::Made),
-        Some(told) if reading.items.is_ranged() => is_sum(told, ran)?,
-        Some(told) => is_answer(told, answer),
+        Some(expected) if reading.items.is_ranged() => is_sum(expected, ran)?,
+        Some(expected) => is_answer(expected, answer),
     };
     Ok(if same {
         Verdict::Same
@@ -126,8 +126,8 @@ fn answer_verdict(reading: &Reading, ran: Ran, answer: &Answer) -> Result<Verdic
 }
 
 // Returns whether the answer of a range is right: `#`, the number of calls, and the checksum.
-fn is_sum(told: &[Item], ran: Ran) -> Result<bool, Fault> {
-    match told {
+fn is_sum(expected: &[Item], ran: Ran) -> Result<bool, Fault> {
+    match expected {
         [Item::Calls(calls), sum] => {
             Ok(*calls == ran.calls && *sum == Item::from(Token::Number(ran.sum.value())))
         }
@@ -135,11 +135,11 @@ fn is_sum(told: &[Item], ran: Ran) -> Result<bool, Fault> {
     }
 }
 
-fn is_answer(told: &[Item], answer: &Answer) -> bool {
+fn is_answer(expected: &[Item], answer: &Answer) -> bool {
     let tokens = answer.as_slice();
-    told.len() == tokens.len()
-        && told
+    expected.len() == tokens.len()
+        && expected
             .iter()
             .zip(tokens)
-            .all(|(item, token)| item.says(*token))
+            .all(|(item, token)| item.matches(*token))
 }

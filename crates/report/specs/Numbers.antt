@@ -14,6 +14,6 @@ numbers_of l = record { flags = length l; zeros = zeros l; edges = edges l; runs
 abbrev pub most : ℕ
 most = 65536
 
--- the report on the bytes; none for more than `most`: this limit is the report's own, and no check has its number
+-- the report on the bytes; none for more than `most`: this limit is the report's own, and no refusal number belongs to it
 unfoldable pub report_of : List ℕ → Option Numbers
 report_of bytes = cond (leb (length bytes) most) (Some (numbers_of (flags_of bytes))) None

@@ -3,34 +3,34 @@ ghost use Rattle.std.specs.Prelude.{◌≡◌};
 ghost use Rattle.masks.specs.Appends.{change_answer, append_answer, append_bytes, push_flag};
 ghost use Rattle.masks.specs.Refusal.{failure_of};
 
-use crate::tell::Told;
-use crate::{tell, values};
+use crate::tokens::Answered;
+use crate::{tokens, values};
 use masks::builder::BitmapBuilder;
 use masks::refusal::Refusal;
 use notation::arguments::{Arguments, Serial};
 use notation::call::{BuilderCall, ExtendCall, GatherCall};
 use std::alloc::Global;
 
-pub(crate) fn answer(alloc: Global, call: BuilderCall, a: &Arguments, buf: &mut [u8]) -> Told {
+pub(crate) fn answer(alloc: Global, call: BuilderCall, a: &Arguments, buf: &mut [u8]) -> Answered {
     let b = values::builder(a);
     match call {
-        BuilderCall::Push => tell::answer_back(alloc, b.push(buf, a.flag(3))),
+        BuilderCall::Push => tokens::answer_back(alloc, b.push(buf, a.flag(3))),
         BuilderCall::PushMut => {
             let Lent { builder, answer } = push_lent(b, buf, a.flag(3));
-            tell::left(alloc, answer, builder)
+            tokens::left(alloc, answer, builder)
         }
         BuilderCall::PushWord => {
-            tell::answer_back(
+            tokens::answer_back(
                 alloc,
                 b.push_word_with_len_unchecked(buf, a.word(3), a.size(4)),
             )
         }
-        BuilderCall::ExtendConstant => tell::answer_back(
+        BuilderCall::ExtendConstant => tokens::answer_back(
             alloc,
             b.extend_constant(buf, a.size(3), a.flag(4)),
         ),
-        BuilderCall::Freeze => tell::answer_back(alloc, b.freeze(buf)),
-        BuilderCall::IntoOptValidity => tell::answer_back(alloc, b.into_opt_validity(buf)),
+        BuilderCall::Freeze => tokens::answer_back(alloc, b.freeze(buf)),
+        BuilderCall::IntoOptValidity => tokens::answer_back(alloc, b.into_opt_validity(buf)),
     }
 }
 
@@ -41,11 +41,11 @@ pub(crate) fn extending(
     a: &Arguments,
     x: &[u8],
     buf: &mut [u8],
-) -> Told {
+) -> Answered {
     let b = values::builder(a);
     let start = a.size(3);
     let n = a.size(4);
-    tell::answer_back(
+    tokens::answer_back(
         alloc,
         match call {
             ExtendCall::FromSlice => b.extend_from_slice(buf, x, start, n),
@@ -68,11 +68,11 @@ pub(crate) fn gathering(
     x: &[u8],
     idxs: &[u32],
     buf: &mut [u8],
-) -> Told {
+) -> Answered {
     let b = values::builder(a);
     let start = a.size(3);
     let n = a.size(4);
-    tell::answer_back(
+    tokens::answer_back(
         alloc,
         match call {
             GatherCall::FromSlice => b.gather_extend_from_slice(buf, x, start, n, idxs),

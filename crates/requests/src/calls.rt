@@ -1,9 +1,10 @@
-// How a call is made: each group of calls is lent what it reads and writes. Each of these modules has a `match` on the call: each arm names
-// another function, mostly with other parameters and another answer, and a table of those with equal ones would hold function pointers.
+// How a call is made: each group of calls is lent what it reads and writes. Each module `.._calls` has a `match` on the call: each arm
+// names another function, mostly with other parameters and another answer, and a table of those with equal ones would hold function
+// pointers.
 //
-// The allocator and the arguments are two parameters of all these functions: `tell` takes only the first and `values` only the second, so
+// The allocator and the arguments are two parameters of all these functions: `tokens` takes only the first and `values` only the second, so
 // that a struct of both would be taken apart in each body.
-use crate::tell::Told;
+use crate::tokens::Answered;
 use crate::{builder_calls, cursor_calls, mask_calls, minute_calls, span_calls, words_calls};
 use notation::arguments::Arguments;
 use notation::call::{Call, ListCall};
@@ -12,13 +13,14 @@ use notation::last::Last;
 use notation::lent::Parts;
 use std::alloc::Global;
 
+// Makes a call and returns its answer. Its output is the first bytes or numbers of `last`.
 pub(crate) fn answer(
     alloc: Global,
     call: Call,
     a: &Arguments,
     lent: Parts<'_>,
     last: &mut Last,
-) -> Told {
+) -> Answered {
     let Parts { x, y, z, i, .. } = lent;
     let out = last::first_mut(&mut last.bytes, a.sizes.o);
     let numbers = last::first_mut(&mut last.numbers, a.sizes.i);
@@ -51,7 +53,13 @@ pub(crate) fn answer(
 }
 
 // Makes the calls that write numbers.
-fn listing(alloc: Global, call: ListCall, a: &Arguments, x: &[u8], numbers: &mut [u32]) -> Told {
+fn listing(
+    alloc: Global,
+    call: ListCall,
+    a: &Arguments,
+    x: &[u8],
+    numbers: &mut [u32],
+) -> Answered {
     match call {
         ListCall::NextChunk => cursor_calls::chunk(alloc, a, x, numbers),
         ListCall::Counts => minute_calls::counts(alloc, a, x, numbers),

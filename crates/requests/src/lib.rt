@@ -11,6 +11,6 @@ mod minute_calls;
 pub mod run;
 mod session;
 mod span_calls;
-mod tell;
+mod tokens;
 mod values;
 mod words_calls;

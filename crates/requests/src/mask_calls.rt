@@ -1,6 +1,6 @@
 // The calls over masks: makers, slices, combinations, comparisons, searches, and those of dispatch.
-use crate::tell::Told;
-use crate::{tell, values};
+use crate::tokens::Answered;
+use crate::{tokens, values};
 use dispatch::dispatch::may_reassign;
 use dispatch::offer::offer;
 use masks::at_index::and_not_at;
@@ -13,15 +13,15 @@ use notation::call::{MaskCall, MergeCall, PairCall, SearchCall, SelectCall, Supe
 use notation::sums::Checksum;
 use std::alloc::Global;
 
-pub(crate) fn answer(alloc: Global, call: MaskCall, a: &Arguments, x: &[u8]) -> Told {
+pub(crate) fn answer(alloc: Global, call: MaskCall, a: &Arguments, x: &[u8]) -> Answered {
     let m = first(a);
     match call {
-        MaskCall::NewBuilder => tell::given(alloc, BitmapBuilder::new()),
-        MaskCall::New => tell::given(alloc, Bitmap::new()),
-        MaskCall::TryNew => tell::answer(alloc, Bitmap::try_new(x, a.size(0), a.size(1))),
-        MaskCall::Slice => tell::answer_back(alloc, m.slice(x, a.size(3), a.size(4))),
-        MaskCall::UnsetBits => tell::answer_back(alloc, m.unset_bits(x)),
-        MaskCall::NumEdges => tell::answer(alloc, compare::num_edges(m, x)),
+        MaskCall::NewBuilder => tokens::given(alloc, BitmapBuilder::new()),
+        MaskCall::New => tokens::given(alloc, Bitmap::new()),
+        MaskCall::TryNew => tokens::answer(alloc, Bitmap::try_new(x, a.size(0), a.size(1))),
+        MaskCall::Slice => tokens::answer_back(alloc, m.slice(x, a.size(3), a.size(4))),
+        MaskCall::UnsetBits => tokens::answer_back(alloc, m.unset_bits(x)),
+        MaskCall::NumEdges => tokens::answer(alloc, compare::num_edges(m, x)),
     }
 }
 
@@ -33,24 +33,30 @@ fn second(a: &Arguments) -> Bitmap {
     values::mask(a, 3, Serial::Second)
 }
 
-pub(crate) fn zeroed(alloc: Global, a: &Arguments, out: &mut [u8]) -> Told {
-    tell::answer(alloc, Bitmap::new_zeroed(a.size(0), out))
+pub(crate) fn zeroed(alloc: Global, a: &Arguments, out: &mut [u8]) -> Answered {
+    tokens::answer(alloc, Bitmap::new_zeroed(a.size(0), out))
 }
 
-pub(crate) fn comparing(alloc: Global, call: PairCall, a: &Arguments, x: &[u8], y: &[u8]) -> Told {
+pub(crate) fn comparing(
+    alloc: Global,
+    call: PairCall,
+    a: &Arguments,
+    x: &[u8],
+    y: &[u8],
+) -> Answered {
     let one = values::optional(a, 0, Serial::First);
     let other = values::optional(a, 4, Serial::Second);
     let index = a.size(8);
     match call {
-        PairCall::Eq => tell::answer(alloc, compare::eq(first(a), x, second(a), y)),
+        PairCall::Eq => tokens::answer(alloc, compare::eq(first(a), x, second(a), y)),
         PairCall::NumIntersectionsWith => {
-            tell::answer(
+            tokens::answer(
                 alloc,
                 compare::num_intersections_with(first(a), x, second(a), y),
             )
         }
-        PairCall::AndNotAt => tell::answer(alloc, and_not_at(one, x, other, y, index)),
-        PairCall::MayReassign => tell::answer(alloc, may_reassign(one, x, other, y, index)),
+        PairCall::AndNotAt => tokens::answer(alloc, and_not_at(one, x, other, y, index)),
+        PairCall::MayReassign => tokens::answer(alloc, may_reassign(one, x, other, y, index)),
     }
 }
 
@@ -61,15 +67,15 @@ pub(crate) fn choosing<'a>(
     a: &Arguments,
     x: &'a [u8],
     y: &'a [u8],
-) -> Told {
+) -> Answered {
     let one = first(a);
     let other = second(a);
     match call {
-        SupersedingCall::Part => tell::answer(
+        SupersedingCall::Part => tokens::answer(
             alloc,
             superseding::superseding_part(one, x, other, y),
         ),
-        SupersedingCall::Mask => tell::answer(alloc, superseding::superseding(one, x, other, y)),
+        SupersedingCall::Mask => tokens::answer(alloc, superseding::superseding(one, x, other, y)),
         SupersedingCall::Bytes => lent_part(
             alloc,
             superseding::superseding_bytes(one, x, other, y),
@@ -77,9 +83,9 @@ pub(crate) fn choosing<'a>(
     }
 }
 
-fn lent_part(alloc: Global, part: &[u8]) -> Told {
+fn lent_part(alloc: Global, part: &[u8]) -> Answered {
     let sum = Checksum::new().bytes(part);
-    tell::given(alloc, (part.len(), sum.value()))
+    tokens::given(alloc, (part.len(), sum.value()))
 }
 
 pub(crate) fn searching(
@@ -88,16 +94,16 @@ pub(crate) fn searching(
     a: &Arguments,
     x: &[u8],
     y: &[u8],
-) -> Told {
+) -> Answered {
     match call {
         SearchCall::NextAndNot => {
             let other = values::optional(a, 3, Serial::Second);
-            tell::answer(alloc, next_and_not(first(a), x, other, y, a.size(7)))
+            tokens::answer(alloc, next_and_not(first(a), x, other, y, a.size(7)))
         }
         SearchCall::Offer => {
             let one = values::optional(a, 0, Serial::First);
             let other = values::optional(a, 4, Serial::Second);
-            tell::offered(alloc, offer(one, x, other, y, a.size(8)))
+            tokens::offered(alloc, offer(one, x, other, y, a.size(8)))
         }
     }
 }
@@ -109,10 +115,10 @@ pub(crate) fn combining(
     x: &[u8],
     y: &[u8],
     out: &mut [u8],
-) -> Told {
+) -> Answered {
     let lhs = first(a);
     let rhs = second(a);
-    tell::answer(
+    tokens::answer(
         alloc,
         match call {
             MergeCall::And => bitmap_ops::and(lhs, x, rhs, y, out),
@@ -132,10 +138,10 @@ pub(crate) fn selecting(
     y: &[u8],
     z: &[u8],
     out: &mut [u8],
-) -> Told {
+) -> Answered {
     let one = first(a);
     let other = second(a);
-    tell::answer(
+    tokens::answer(
         alloc,
         match call {
             SelectCall::Not => bitmap_ops::not(one, x, out),

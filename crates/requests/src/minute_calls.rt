@@ -2,8 +2,8 @@
 //
 // The arrays of a window lie in bytes, little-endian: its 256 words, then its 64 counts, 2,304 bytes. Its place, its fill and its width are
 // the first three arguments, and come last in an answer.
-use crate::tell;
-use crate::tell::Told;
+use crate::tokens;
+use crate::tokens::Answered;
 use activity::window::{ActivityWindow, Refused};
 use notation::arguments::Arguments;
 use notation::call::MinutesCall;
@@ -14,7 +14,7 @@ use words::word;
 const COUNTS: usize = 2048;
 
 // Makes the calls that write a window.
-pub(crate) fn answer(alloc: Global, call: MinutesCall, a: &Arguments, out: &mut [u8]) -> Told {
+pub(crate) fn answer(alloc: Global, call: MinutesCall, a: &Arguments, out: &mut [u8]) -> Answered {
     match call {
         MinutesCall::New => made(alloc, a.size(0), out),
         MinutesCall::PushMinute => minutes(alloc, a, 1, out),
@@ -23,16 +23,16 @@ pub(crate) fn answer(alloc: Global, call: MinutesCall, a: &Arguments, out: &mut 
 }
 
 // Writes the counts of the window whose arrays are x, as numbers: 64 zeros if the call refuses.
-pub(crate) fn counts(alloc: Global, a: &Arguments, x: &[u8], numbers: &mut [u32]) -> Told {
+pub(crate) fn counts(alloc: Global, a: &Arguments, x: &[u8], numbers: &mut [u32]) -> Answered {
     let counts = window_of(a, x).counts();
     for (number, count) in numbers.iter_mut().zip(counts.unwrap_or([0; 64])) {
         *number = count;
     }
-    tell::answer(alloc, counts.map(|_| ()))
+    tokens::answer(alloc, counts.map(|_| ()))
 }
 
 // Makes a new window and writes it, or one of zeros if it is refused.
-fn made(alloc: Global, width: usize, out: &mut [u8]) -> Told {
+fn made(alloc: Global, width: usize, out: &mut [u8]) -> Answered {
     match ActivityWindow::new(width) {
         Ok(window) => left(alloc, Ok(()), window, out),
         Err(refused) => left(alloc, Err(refused), window(&[], 0, 0, 0), out),
@@ -42,7 +42,7 @@ fn made(alloc: Global, width: usize, out: &mut [u8]) -> Told {
 // Pushes a run of `many` minutes; each word is greater by a step than the one before it. After a refusal no minute is pushed. The minutes
 // are a number and no list, so the loop is over a range; `try_fold` would carry the word and the window as a pair through both ends: no
 // plainer.
-fn minutes(alloc: Global, a: &Arguments, many: u64, out: &mut [u8]) -> Told {
+fn minutes(alloc: Global, a: &Arguments, many: u64, out: &mut [u8]) -> Answered {
     let mut word = a.word(3);
     let mut now = window_of(a, out);
     for _ in 0..many {
@@ -81,7 +81,7 @@ fn window(bytes: &[u8], place: usize, fill: usize, width: usize) -> ActivityWind
 }
 
 // Writes the arrays of the window that a call left, and returns the answer.
-fn left(alloc: Global, r: Result<(), Refused>, window: ActivityWindow, out: &mut [u8]) -> Told {
+fn left(alloc: Global, r: Result<(), Refused>, window: ActivityWindow, out: &mut [u8]) -> Answered {
     for (part, word) in out.chunks_mut(8).zip(window.words) {
         word::store_le_u64(part, word);
     }
@@ -90,5 +90,5 @@ fn left(alloc: Global, r: Result<(), Refused>, window: ActivityWindow, out: &mut
     for (part, count) in rest.chunks_mut(4).zip(window.counts) {
         word::store_le_u64(part, u64::from(count));
     }
-    tell::left(alloc, r, (window.place, window.fill, window.width))
+    tokens::left(alloc, r, (window.place, window.fill, window.width))
 }

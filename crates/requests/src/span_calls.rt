@@ -1,6 +1,6 @@
 // The calls over bare spans of x.
-use crate::tell;
-use crate::tell::Told;
+use crate::tokens;
+use crate::tokens::Answered;
 use masks::aligned::AlignedBitmapSlice;
 use masks::chunks::{BitChunks, BitChunksExact};
 use masks::{bitmask, utils};
@@ -8,25 +8,28 @@ use notation::arguments::Arguments;
 use notation::call::{ChunksCall, CountCall, SpanCall};
 use std::alloc::Global;
 
-pub(crate) fn answer(alloc: Global, call: SpanCall, a: &Arguments, x: &[u8]) -> Told {
+pub(crate) fn answer(alloc: Global, call: SpanCall, a: &Arguments, x: &[u8]) -> Answered {
     let start = a.size(0);
     let length = a.size(1);
     let third = a.size(2);
     let fourth = a.size(3);
     match call {
-        SpanCall::Aligned => tell::answer(alloc, AlignedBitmapSlice::new(x, start, length, third)),
+        SpanCall::Aligned => tokens::answer(
+            alloc,
+            AlignedBitmapSlice::new(x, start, length, third),
+        ),
         SpanCall::SplitAtUnchecked => {
-            tell::answer(alloc, bitmask::split_at_unchecked(x, start, length, third))
+            tokens::answer(alloc, bitmask::split_at_unchecked(x, start, length, third))
         }
-        SpanCall::GetU32 => tell::answer(alloc, bitmask::get_u32(x, start, length, third)),
+        SpanCall::GetU32 => tokens::answer(alloc, bitmask::get_u32(x, start, length, third)),
         SpanCall::NthSetBitIdx => {
-            tell::answer(
+            tokens::answer(
                 alloc,
                 bitmask::nth_set_bit_idx(x, start, length, third, fourth),
             )
         }
         SpanCall::NthSetBitIdxRev => {
-            tell::answer(
+            tokens::answer(
                 alloc,
                 bitmask::nth_set_bit_idx_rev(x, start, length, third, fourth),
             )
@@ -34,11 +37,11 @@ pub(crate) fn answer(alloc: Global, call: SpanCall, a: &Arguments, x: &[u8]) -> 
     }
 }
 
-pub(crate) fn counting(alloc: Global, call: CountCall, a: &Arguments, x: &[u8]) -> Told {
+pub(crate) fn counting(alloc: Global, call: CountCall, a: &Arguments, x: &[u8]) -> Answered {
     let start = a.size(0);
     let length = a.size(1);
     let address = a.size(2);
-    tell::answer(
+    tokens::answer(
         alloc,
         match call {
             CountCall::CountZeros => utils::count_zeros(x, start, length, address),
@@ -50,7 +53,7 @@ pub(crate) fn counting(alloc: Global, call: CountCall, a: &Arguments, x: &[u8]) 
     )
 }
 
-pub(crate) fn chunks(alloc: Global, call: ChunksCall, a: &Arguments, x: &[u8]) -> Told {
+pub(crate) fn chunks(alloc: Global, call: ChunksCall, a: &Arguments, x: &[u8]) -> Answered {
     let first = a.size(0);
     let second = a.size(1);
     let c = BitChunks {
@@ -59,9 +62,9 @@ pub(crate) fn chunks(alloc: Global, call: ChunksCall, a: &Arguments, x: &[u8]) -
         place: a.size(2),
     };
     match call {
-        ChunksCall::New => tell::answer(alloc, BitChunks::new(x, first, second)),
-        ChunksCall::NewExact => tell::answer(alloc, BitChunksExact::new(x, first)),
-        ChunksCall::Next => tell::answer_back(alloc, c.next(x)),
-        ChunksCall::Remainder => tell::answer_back(alloc, c.remainder(x)),
+        ChunksCall::New => tokens::answer(alloc, BitChunks::new(x, first, second)),
+        ChunksCall::NewExact => tokens::answer(alloc, BitChunksExact::new(x, first)),
+        ChunksCall::Next => tokens::answer_back(alloc, c.next(x)),
+        ChunksCall::Remainder => tokens::answer_back(alloc, c.remainder(x)),
     }
 }

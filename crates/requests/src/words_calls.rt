@@ -1,52 +1,52 @@
 // The calls of the crate words.
-use crate::tell;
-use crate::tell::Told;
+use crate::tokens;
+use crate::tokens::Answered;
 use notation::answer::{Answer, Token};
 use notation::arguments::Arguments;
 use notation::call::{FlagsCall, LoadCall, OperationCall, StoreCall, WordCall, ZipCall};
 use std::alloc::Global;
-use words::flags::Flags;
+use words::flags::Operand;
 use words::ops::Op;
 use words::{counts, ends, loops, merge, nth, ops, word};
 
-pub(crate) fn plain(alloc: Global, call: WordCall, a: &Arguments) -> Told {
+pub(crate) fn plain(alloc: Global, call: WordCall, a: &Arguments) -> Answered {
     let w = a.word(0);
     let k = a.size(1);
     match call {
-        WordCall::MergeReversed => tell::given(
+        WordCall::MergeReversed => tokens::given(
             alloc,
             merge::merge_reversed(w, a.word(1), a.size(2)),
         ),
         WordCall::NthSetBitU32 => set_bit(alloc, nth::nth_set_bit_u32(a.low(0), a.low(1))),
         WordCall::NthSetBitU64 => set_bit(alloc, nth::nth_set_bit_u64(w, a.word(1))),
-        WordCall::LowFlags => tell::given(alloc, word::low_flags(w, k)),
-        WordCall::Down => tell::given(alloc, word::down(w, k)),
-        WordCall::Up => tell::given(alloc, word::up(w, k)),
-        WordCall::Behind => tell::given(alloc, word::behind(w, k, a.word(2))),
-        WordCall::ConstantWord => tell::given(alloc, word::constant_word(a.flag(0))),
+        WordCall::LowFlags => tokens::given(alloc, word::low_flags(w, k)),
+        WordCall::ShrOrZero => tokens::given(alloc, word::shr_or_zero(w, k)),
+        WordCall::ShlOrZero => tokens::given(alloc, word::shl_or_zero(w, k)),
+        WordCall::ConcatLow => tokens::given(alloc, word::concat_low(w, k, a.word(2))),
+        WordCall::ConstantWord => tokens::given(alloc, word::constant_word(a.flag(0))),
     }
 }
 
-pub(crate) fn counting(alloc: Global, call: FlagsCall, a: &Arguments) -> Told {
+pub(crate) fn counting(alloc: Global, call: FlagsCall, a: &Arguments) -> Answered {
     let w = a.word(0);
     let k = a.size(1);
     let flag = a.flag(0);
     let second = a.word(1);
     match call {
-        FlagsCall::ConstantFlags => tell::given(alloc, word::constant_flags(flag, k)),
-        FlagsCall::OnesInWord => tell::given(alloc, word::ones_in_word(w)),
-        FlagsCall::OnesBelow => tell::given(alloc, word::ones_below(w, k)),
-        FlagsCall::NoneFrom => tell::given(alloc, counts::none_from(w, k)),
-        FlagsCall::LeadingInWord => tell::given(
+        FlagsCall::ConstantFlags => tokens::given(alloc, word::constant_flags(flag, k)),
+        FlagsCall::OnesInWord => tokens::given(alloc, word::ones_in_word(w)),
+        FlagsCall::OnesBelow => tokens::given(alloc, word::ones_below(w, k)),
+        FlagsCall::NoneFrom => tokens::given(alloc, counts::none_from(w, k)),
+        FlagsCall::LeadingInWord => tokens::given(
             alloc,
             ends::leading_in_word(flag, second, a.size(2)),
         ),
-        FlagsCall::TrailingInWord => tell::given(
+        FlagsCall::TrailingInWord => tokens::given(
             alloc,
             ends::trailing_in_word(flag, second, a.size(2)),
         ),
         FlagsCall::CombineWord => {
-            tell::given(
+            tokens::given(
                 alloc,
                 ops::combine_word(op(w), second, a.word(2), a.word(3)),
             )
@@ -54,10 +54,10 @@ pub(crate) fn counting(alloc: Global, call: FlagsCall, a: &Arguments) -> Told {
     }
 }
 
-fn set_bit(alloc: Global, r: Result<u32, u32>) -> Told {
+fn set_bit(alloc: Global, r: Result<u32, u32>) -> Answered {
     match r {
-        Ok(place) => tell::given(alloc, place),
-        Err(ones) => tell::given(alloc, (Token::Missing, ones)),
+        Ok(place) => tokens::given(alloc, place),
+        Err(ones) => tokens::given(alloc, (Token::Missing, ones)),
     }
 }
 
@@ -76,14 +76,14 @@ fn op(n: u64) -> Op {
 }
 
 // Returns the flags of an input, starting at flag `start`.
-fn flags(bytes: &[u8], start: usize) -> Flags<'_> {
-    Flags { bytes, start }
+fn flags(bytes: &[u8], start: usize) -> Operand<'_> {
+    Operand { bytes, start }
 }
 
-pub(crate) fn operation(alloc: Global, call: OperationCall, a: &Arguments) -> Told {
+pub(crate) fn operation(alloc: Global, call: OperationCall, a: &Arguments) -> Answered {
     let p = a.word(0);
     let q = a.word(1);
-    tell::given(
+    tokens::given(
         alloc,
         match call {
             OperationCall::And => ops::and_word(p, q),
@@ -97,14 +97,14 @@ pub(crate) fn operation(alloc: Global, call: OperationCall, a: &Arguments) -> To
     )
 }
 
-pub(crate) fn reading(alloc: Global, call: LoadCall, a: &Arguments, x: &[u8]) -> Told {
+pub(crate) fn reading(alloc: Global, call: LoadCall, a: &Arguments, x: &[u8]) -> Answered {
     let at = a.size(0);
     match call {
-        LoadCall::LoadPaddedLeU64 => tell::given(alloc, word::load_padded_le_u64(x)),
-        LoadCall::ByteWord => tell::given(alloc, word::byte_word(x, at)),
-        LoadCall::WordFrom => tell::given(alloc, word::word_from(x, at)),
-        LoadCall::FlagAt => tell::given(alloc, word::flag_at(x, at)),
-        LoadCall::CountOnes => tell::given(alloc, counts::count_ones(x, at, a.size(1))),
+        LoadCall::LoadPaddedLeU64 => tokens::given(alloc, word::load_padded_le_u64(x)),
+        LoadCall::ByteWord => tokens::given(alloc, word::byte_word(x, at)),
+        LoadCall::WordFrom => tokens::given(alloc, word::word_from(x, at)),
+        LoadCall::FlagAt => tokens::given(alloc, word::flag_at(x, at)),
+        LoadCall::CountOnes => tokens::given(alloc, counts::count_ones(x, at, a.size(1))),
     }
 }
 
@@ -115,7 +115,7 @@ pub(crate) fn comparing(
     x: &[u8],
     y: &[u8],
     z: &[u8],
-) -> Told {
+) -> Answered {
     let o = op(a.word(0));
     let first = flags(x, a.size(1));
     let second = flags(y, a.size(2));
@@ -125,15 +125,15 @@ pub(crate) fn comparing(
         ZipCall::Equal => {
             let left = flags(x, a.size(0));
             let right = flags(y, a.size(1));
-            tell::given(alloc, counts::equal(&left, &right, a.size(2)))
+            tokens::given(alloc, counts::equal(&left, &right, a.size(2)))
         }
         ZipCall::CountOnesOf => {
-            tell::given(
+            tokens::given(
                 alloc,
                 counts::count_ones_of(o, &first, &second, &third, len),
             )
         }
-        ZipCall::AnySet => tell::given(alloc, counts::any_set(o, &first, &second, &third, len)),
+        ZipCall::AnySet => tokens::given(alloc, counts::any_set(o, &first, &second, &third, len)),
     }
 }
 
@@ -143,7 +143,7 @@ pub(crate) fn writing(
     a: &Arguments,
     x: &[u8],
     out: &mut [u8],
-) -> Told {
+) -> Answered {
     let first = a.size(0);
     let second = a.size(1);
     match call {
@@ -151,7 +151,7 @@ pub(crate) fn writing(
         StoreCall::StoreAt => word::store_at(out, first, a.word(1)),
         StoreCall::StoreWhole => word::store_whole(out, first, a.word(1)),
         StoreCall::CopySpan => loops::copy(x, first, second, out),
-        StoreCall::CopyCount => return tell::given(
+        StoreCall::CopyCount => return tokens::given(
             alloc,
             counts::copy_count(x, first, second, out),
         ),
@@ -168,7 +168,7 @@ pub(crate) fn combining(
     y: &[u8],
     z: &[u8],
     out: &mut [u8],
-) -> Told {
+) -> Answered {
     let o = op(a.word(0));
     let first = flags(x, a.size(1));
     let second = flags(y, a.size(2));

@@ -1,3 +1,3 @@
--- What the proofs of several functions of src/columns.rt use.
+-- What the proofs of src/columns.rt and src/planes.rt use, and those of activity.
 pub mod ColumnLaws
 pub mod PlaneReads

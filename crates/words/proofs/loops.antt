@@ -1,3 +1,3 @@
--- What the proofs of several functions of src/loops.rt use.
+-- What the proofs of src/loops.rt, src/kernels.rt and src/counts.rt use.
 pub mod RestLaws
 pub mod Writing

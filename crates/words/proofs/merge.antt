@@ -1,2 +1,2 @@
--- What the proofs of several functions of src/merge.rt use.
+-- What the proofs of src/merge.rt and src/word.rt use.
 pub mod Merging

@@ -1,2 +1,2 @@
--- The theorems, which no function needs.
+-- The plain reading of the definitions. Proofs of functions of words and masks use some of it.
 pub mod Plain

@@ -1,4 +1,4 @@
--- Whether a flag of a list is set, and whether two lists are the same.
+-- Whether a flag of a list is set, and whether two lists are equal.
 use Rattle.std.specs.Prelude.{Bool, true, false, not, ◌&&◌, ◌||◌, List, [], ◌∷◌}
 use Rattle.std.specs.Bool.{xor}
 
@@ -7,7 +7,7 @@ unfoldable pub any_set : List Bool → Bool
 any_set [] = false
 any_set (x ∷ l) = x || any_set l
 
--- whether two lists are the same, flag by flag and in length
+-- whether two lists are equal, flag by flag and in length
 unfoldable pub same_flags : List Bool → List Bool → Bool
 same_flags [] [] = true
 same_flags [] (y ∷ b) = false

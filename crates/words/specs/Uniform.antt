@@ -7,6 +7,6 @@ use Rattle.words.specs.Loops.{stretch}
 unfoldable pub all_are : Bool → List Bool → Bool
 all_are x l = eqb (count l) (length l * digit x)
 
--- whether a flag other than x is in `bytes` among the n flags at `start` that are in their first eight bytes; false if it has fewer
+-- whether one of the n flags at `start`, in the eight bytes from the first one's byte on, is not x; false if `bytes` ends before these do
 unfoldable pub differs_early : Bool → List ℕ → ℕ → ℕ → Bool
 differs_early x bytes start n = leb (start / 8 + 8) (length bytes) && not (all_are x (stretch bytes start (min n (64 - start % 8))))

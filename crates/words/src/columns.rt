@@ -22,13 +22,13 @@ pub fn column_counts(words: &[u64]) -> [u32; 64]
 
 // Returns for each column of half a word the number with only its flag set. Columns are selected by numbers from memory: by shifts, four
 // columns take three times as many instructions.
-pub fn masks() -> [u32; 32]
+pub fn single_flags() -> [u32; 32]
     ensures { (c : ℕ) → c < 32 → get_or result c 0 ≡ 2 ^ c }
 {
     array::from_fn(|c| 1 << c)
 }
 
-// Returns 1 where half a word has the flag of the mask set, else 0.
+// Returns 1 if `half` has the flag of `mask` set, else 0.
 pub fn digit_by(half: u32, mask: u32) -> u32
     ensures { result ≡ cond (eqb (bit_and half mask) 0) 0 1 }
 {

@@ -7,13 +7,13 @@ ghost use Rattle.words.specs.Kernels.{WholeWords};
 ghost use Rattle.words.specs.Loops.{stretch, combined, whole_words};
 ghost use Rattle.words.specs.Counts.{any_set, same_flags};
 
-use crate::flags::Flags;
+use crate::flags::Operand;
 use crate::kernels::{Count, Join, copy_words, each};
-use crate::lanes::{Aligned, Lane, Lanes, Shifted};
-use crate::loops::{copy, room, triple_word, words_for};
+use crate::lanes::{BitLane, ByteLane, Lane, Lanes};
+use crate::loops::{copy, triple_word, words_for, words_in_range};
 use crate::ops::{Op, combine_word};
 use crate::rows::Countable;
-use crate::word::{byte_word, down, low_flags, near_word, ones_below, ones_in_word};
+use crate::word::{byte_word, low_flags, near_word, ones_below, ones_in_word, shr_or_zero};
 
 // Counts the ones of a stretch. Whole words that start at a byte, all in range, are counted with no check for partial ones. Rare cases are
 // in functions outside this body and get a slice or record of their own, so that this slice stays in registers. `ones` of `rows` makes the
@@ -26,12 +26,12 @@ pub fn count_ones(bytes: &[u8], start: usize, len: usize) -> usize
         let n = len / 64;
         if n < 128 {
             let few = Countable {
-                words: Aligned { bytes, at, n },
+                words: ByteLane { bytes, at, n },
             };
             return few.ones_single();
         }
         let many = Countable {
-            words: Aligned { bytes, at, n },
+            words: ByteLane { bytes, at, n },
         };
         return many.ones_many();
     }
@@ -42,7 +42,7 @@ pub fn count_ones(bytes: &[u8], start: usize, len: usize) -> usize
 fn whole_words(size: usize, start: usize, len: usize) -> bool
     ensures { result ≡ true → WholeWords size start len }
 {
-    start % 8 == 0 && len % 64 == 0 && len / 64 <= room(size, start / 8)
+    start % 8 == 0 && len % 64 == 0 && len / 64 <= words_in_range(size, start / 8)
 }
 
 // Counts the ones of a stretch: of the first eight bytes, of whole words, and of the rest. What fits the first eight bytes is one load.
@@ -55,10 +55,10 @@ fn count_mixed(bytes: &[u8], start: usize, len: usize) -> usize
         return ones_below(w, len);
     }
     let q = start / 8 + 8;
-    let n = ((len - k) / 64).min(room(bytes.len(), q));
+    let n = ((len - k) / 64).min(words_in_range(bytes.len(), q));
     let first = ones_in_word(w);
     let words = Countable {
-        words: Aligned { bytes, at: q, n },
+        words: ByteLane { bytes, at: q, n },
     };
     let mid = words.ones();
     let rest = len - k - 64 * n;
@@ -66,19 +66,19 @@ fn count_mixed(bytes: &[u8], start: usize, len: usize) -> usize
     first + mid + last
 }
 
-// Copies a stretch to `out` as `copy` does, and counts its ones.
+// Copies a stretch to `out` as `copy` does, and counts its ones, also those that do not fit.
 pub fn copy_count(bytes: &[u8], start: usize, len: usize, out: &mut [u8]) -> usize
     ensures ones { result ≡ count (stretch bytes.now start len) }
     ensures flags { flags_of out.new ≡ over (flags_of out.old) (whole_words (stretch bytes.now start len)) }
 {
-    if len % 64 != 0 || room(bytes.len(), start / 8 + 1).min(out.len() / 8) < len / 64 {
+    if len % 64 != 0 || words_in_range(bytes.len(), start / 8 + 1).min(out.len() / 8) < len / 64 {
         return copy_then_count(bytes, start, len, out);
     }
     if start % 8 == 0 {
-        let lane = Aligned::new(bytes, start / 8);
+        let lane = ByteLane::new(bytes, start / 8);
         return copy_words(&lane, len / 64, out);
     }
-    let lane = Shifted::new(Flags { bytes, start });
+    let lane = BitLane::new(Operand { bytes, start });
     copy_words(&lane, len / 64, out)
 }
 
@@ -92,7 +92,7 @@ fn copy_then_count(bytes: &[u8], start: usize, len: usize, out: &mut [u8]) -> us
 }
 
 // Returns a number of words that covers three slices of x, y and z bytes.
-fn reach(x: usize, y: usize, z: usize) -> usize
+fn words_covering(x: usize, y: usize, z: usize) -> usize
     ensures { (x ≤ 8 * result) × ((y ≤ 8 * result) × (z ≤ 8 * result)) }
 {
     // one word too many if the last is whole: by `div_ceil` `num_edges` of 1000 flags takes 1.011 of the instructions
@@ -109,7 +109,7 @@ fn past_end(op: Op) -> bool
 // Counts the ones among those of `len` flags that come after the first n words, all of which equal `flag`. 64 * n may be past the largest
 // number, so n is compared first: with `saturating_mul` and `usize::from(flag)` in place of the comparison 1000 flags take 1.02 of the
 // instructions.
-fn ones_behind(flag: bool, len: usize, n: usize) -> usize
+fn ones_after(flag: bool, len: usize, n: usize) -> usize
     ensures { result ≡ (len - 64 * n) * digit flag }
 {
     if flag && n <= len / 64 {
@@ -119,8 +119,8 @@ fn ones_behind(flag: bool, len: usize, n: usize) -> usize
     }
 }
 
-// Returns whether any of `len` flags that come after the first n words is set. All of these equal `flag`.
-fn any_behind(flag: bool, len: usize, n: usize) -> bool
+// Returns whether any of those of `len` flags that come after the first n words is set. All of these equal `flag`.
+fn any_after(flag: bool, len: usize, n: usize) -> bool
     ensures { result ≡ (ltb (64 * n) len && flag) }
 {
     flag && n.saturating_mul(64) < len
@@ -133,34 +133,40 @@ pub(crate) fn is_set(w: u64) -> bool
     w != 0
 }
 
-// Returns whether all flags of w at and above flag k are zero.
+// Returns whether all flags of w at and above flag k are zero; true if k is 64 or more.
 pub fn none_from(w: u64, k: usize) -> bool
     ensures { result ≡ not (any_set (drop k (word_flags w))) }
 {
-    !is_set(down(w, k))
+    !is_set(shr_or_zero(w, k))
 }
 
 // Counts the ones of a combination of three stretches. The operation, the operands and the length are parameters here and in `loops`: a
 // struct of the five would be built in each call and taken apart again in each clause. It begins as `any_set` does: for at most a word both
 // call `triple_word`, and a function that makes the lanes would promise in four clauses what four lines do.
-pub fn count_ones_of<'a>(op: Op, a: &Flags<'a>, b: &Flags<'a>, c: &Flags<'a>, len: usize) -> usize
+pub fn count_ones_of<'a>(
+    op: Op,
+    a: &Operand<'a>,
+    b: &Operand<'a>,
+    c: &Operand<'a>,
+    len: usize,
+) -> usize
     ensures { result ≡ count
         (combined op a.now.bytes.now a.now.start b.now.bytes.now b.now.start c.now.bytes.now c.now.start len) }
 {
     if len <= 64 {
         return ones_in_word(triple_word(op, a, b, c, len, 0));
     }
-    let n = words_for(len).min(reach(a.bytes.len(), b.bytes.len(), c.bytes.len()));
-    let x = Shifted::new(*a);
-    let y = Shifted::new(*b);
-    let z = Shifted::new(*c);
+    let n = words_for(len).min(words_covering(a.bytes.len(), b.bytes.len(), c.bytes.len()));
+    let x = BitLane::new(*a);
+    let y = BitLane::new(*b);
+    let z = BitLane::new(*c);
     let lanes = Lanes::new(len / 64, x, y, z);
-    let mut ones = each::<Count, Shifted, Shifted, Shifted>(op, &lanes, &mut []);
+    let mut ones = each::<Count, BitLane, BitLane, BitLane>(op, &lanes, &mut []);
     // a range: i is the place of a word in three stretches, which have no slice of words
     for i in lanes.n..n {
         ones += ones_in_word(triple_word(op, a, b, c, len, i));
     }
-    ones + ones_behind(past_end(op), len, n)
+    ones + ones_after(past_end(op), len, n)
 }
 
 // Returns whether any flag of three lanes combined is set. Checks 64 words at a time and stops at the first block with a set flag.
@@ -186,27 +192,27 @@ fn any_whole<A: Lane, B: Lane, C: Lane>(op: Op, lanes: &Lanes<A, B, C>) -> bool
 }
 
 // Returns whether any flag of a combination of three stretches is set.
-pub fn any_set<'a>(op: Op, a: &Flags<'a>, b: &Flags<'a>, c: &Flags<'a>, len: usize) -> bool
+pub fn any_set<'a>(op: Op, a: &Operand<'a>, b: &Operand<'a>, c: &Operand<'a>, len: usize) -> bool
     ensures { result ≡ any_set
         (combined op a.now.bytes.now a.now.start b.now.bytes.now b.now.start c.now.bytes.now c.now.start len) }
 {
     if len <= 64 {
         return is_set(triple_word(op, a, b, c, len, 0));
     }
-    let n = words_for(len).min(reach(a.bytes.len(), b.bytes.len(), c.bytes.len()));
-    let x = Shifted::new(*a);
-    let y = Shifted::new(*b);
-    let z = Shifted::new(*c);
+    let n = words_for(len).min(words_covering(a.bytes.len(), b.bytes.len(), c.bytes.len()));
+    let x = BitLane::new(*a);
+    let y = BitLane::new(*b);
+    let z = BitLane::new(*c);
     let lanes = Lanes::new(len / 64, x, y, z);
     any_whole(op, &lanes)
         || (lanes.n..n).any(|i| is_set(triple_word(op, a, b, c, len, i)))
-        || any_behind(past_end(op), len, n)
+        || any_after(past_end(op), len, n)
 }
 
 // Returns whether two stretches have the same flags. At most 64 are two words, compared here: by `any_set`, which reads three, `eq` of 40
 // flags takes 247 instructions in place of 176, and 188 if this function is not inlined.
 #[inline(always)]
-pub fn equal<'a>(a: &Flags<'a>, b: &Flags<'a>, len: usize) -> bool
+pub fn equal<'a>(a: &Operand<'a>, b: &Operand<'a>, len: usize) -> bool
     ensures { result ≡ same_flags (stretch a.now.bytes.now a.now.start len) (stretch b.now.bytes.now b.now.start len) }
 {
     if len <= 64 {

@@ -20,6 +20,7 @@ pub(crate) trait Kernel {
     // The statement about the combined flags, the output before and after, and the result.
     ghost gives: { List Bool → List ℕ → List ℕ → Self.Out → Type 0 };
 
+    // Runs the loop over the words of three lanes, combined by the operation O.
     fn run<O: Operation, A: Lane, B: Lane, C: Lane>(
         lanes: &Lanes<A, B, C>,
         out: &mut [u8],

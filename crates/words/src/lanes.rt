@@ -4,8 +4,8 @@ ghost use Rattle.std.specs.Prelude.{◌≡◌, ◌*◌, ◌+◌, ◌-◌, ◌/�
 ghost use Rattle.words.specs.Flags.{word_flags, flags_of, window};
 ghost use Rattle.words.specs.Loops.{combined};
 
-use crate::flags::Flags;
-use crate::loops::room;
+use crate::flags::Operand;
+use crate::loops::words_in_range;
 use crate::operations::Operation;
 use crate::word::{full_word, shifted_word};
 
@@ -17,12 +17,13 @@ pub(crate) trait Lane: Drop {
 
     ghost words: { Self → ℕ };
 
+    // Returns word i of the lane.
     fn word(&self, i: usize) -> u64
         requires { i < words self.now }
         ensures { word_flags result ≡ window (flags_of (source self.now)) (start self.now + 64 * i) 64 };
 
     // Returns how many words are in range.
-    fn room(&self) -> usize
+    fn words_in_range(&self) -> usize
         ensures { result ≡ words self.now };
 
     // Returns the lane that begins at word i.
@@ -36,23 +37,23 @@ pub(crate) trait Lane: Drop {
 // n words that begin at a byte. Not a slice of arrays of eight bytes (`as_chunks`): if n is 0 the byte may lie past the end, so that `at`
 // would have to be cut to the length of the bytes first, and counting 40 flags takes 1.02 of the instructions.
 #[derive(Clone, Copy)]
-pub(crate) struct Aligned<'a> {
+pub(crate) struct ByteLane<'a> {
     pub(crate) bytes: &'a [u8],
     pub(crate) at: usize,
     pub(crate) n: usize,
     ghost in_range: { 8 * n ≤ length bytes.now - at },
 }
 
-impl<'a> Aligned<'a> {
+impl<'a> ByteLane<'a> {
     // Returns as many words as there are, starting at byte `at`.
     pub(crate) fn new(bytes: &'a [u8], at: usize) -> Self
         ensures source { (result.bytes.now ≡ bytes.now) × (result.at ≡ at) }
         ensures n { result.n ≡ (length bytes.now - at) / 8 }
     {
-        Aligned {
+        ByteLane {
             bytes,
             at,
-            n: room(bytes.len(), at),
+            n: words_in_range(bytes.len(), at),
         }
     }
 
@@ -61,7 +62,7 @@ impl<'a> Aligned<'a> {
         requires { i + k ≤ self.now.n }
         ensures { (result.bytes.now ≡ self.now.bytes.now) × (result.at ≡ self.now.at + 8 * i) × (result.n ≡ k) }
     {
-        Aligned {
+        ByteLane {
             bytes: self.bytes,
             at: self.at + 8 * i,
             n: k,
@@ -69,7 +70,7 @@ impl<'a> Aligned<'a> {
     }
 }
 
-impl Lane for Aligned<'_> {
+impl Lane for ByteLane<'_> {
     ghost source = { λ s. s.bytes.now };
 
     ghost start = { λ s. 8 * s.at };
@@ -80,7 +81,7 @@ impl Lane for Aligned<'_> {
         full_word(self.bytes, self.at + 8 * i)
     }
 
-    fn room(&self) -> usize {
+    fn words_in_range(&self) -> usize {
         self.n
     }
 
@@ -91,20 +92,20 @@ impl Lane for Aligned<'_> {
 
 // A lane that begins at any flag of a byte, which needs one more byte in range.
 #[derive(Clone, Copy)]
-pub(crate) struct Shifted<'a> {
+pub(crate) struct BitLane<'a> {
     pub(crate) bytes: &'a [u8],
     pub(crate) at: usize,
     pub(crate) shift: usize,
     ghost low: { shift ≤ 8 },
 }
 
-impl<'a> Shifted<'a> {
+impl<'a> BitLane<'a> {
     // Returns the lane that begins at the first of `flags`.
-    pub(crate) fn new(flags: Flags<'a>) -> Self
+    pub(crate) fn new(flags: Operand<'a>) -> Self
         ensures source { result.bytes.now ≡ flags.entry.bytes.now }
         ensures start { 8 * result.at + result.shift ≡ flags.entry.start }
     {
-        Shifted {
+        BitLane {
             bytes: flags.bytes,
             at: flags.start / 8,
             shift: flags.start % 8,
@@ -112,7 +113,7 @@ impl<'a> Shifted<'a> {
     }
 }
 
-impl Lane for Shifted<'_> {
+impl Lane for BitLane<'_> {
     ghost source = { λ s. s.bytes.now };
 
     ghost start = { λ s. 8 * s.at + s.shift };
@@ -123,12 +124,12 @@ impl Lane for Shifted<'_> {
         shifted_word(self.bytes, self.at + 8 * i, self.shift)
     }
 
-    fn room(&self) -> usize {
-        room(self.bytes.len().saturating_sub(1), self.at)
+    fn words_in_range(&self) -> usize {
+        words_in_range(self.bytes.len().saturating_sub(1), self.at)
     }
 
     fn later(&self, i: usize) -> Self {
-        Shifted {
+        BitLane {
             bytes: self.bytes,
             at: self.at + 8 * i,
             shift: self.shift,
@@ -156,7 +157,9 @@ impl<A: Lane, B: Lane, C: Lane> Lanes<A, B, C> {
         ensures b { (result.n ≤ B.words b) × (B.source result.b ≡ B.source b) × (B.start result.b ≡ B.start b) }
         ensures c { (result.n ≤ C.words c) × (C.source result.c ≡ C.source c) × (C.start result.c ≡ C.start c) }
     {
-        let n = most.min(a.room()).min(b.room().min(c.room()));
+        let n = most
+            .min(a.words_in_range())
+            .min(b.words_in_range().min(c.words_in_range()));
         Lanes { a, b, c, n }
     }
 

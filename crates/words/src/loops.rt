@@ -4,14 +4,14 @@ ghost use Rattle.std.specs.Prelude.{◌≡◌, ◌*◌, ◌+◌, ◌-◌, ◌/�
 ghost use Rattle.words.specs.Flags.{word_flags, copies, flags_of, over, window};
 ghost use Rattle.words.specs.Loops.{stretch, combined, whole_words};
 
-use crate::flags::Flags;
+use crate::flags::Operand;
 use crate::kernels::{Combine, each, fill_bytes};
-use crate::lanes::{Aligned, Lanes, Shifted};
+use crate::lanes::{BitLane, ByteLane, Lanes};
 use crate::ops::{Op, combine_word};
 use crate::word::{constant_word, low_flags, store_at, store_le_u64};
 
 // Returns how many whole words fit between byte `at` and byte `size`.
-pub(crate) fn room(size: usize, at: usize) -> usize
+pub(crate) fn words_in_range(size: usize, at: usize) -> usize
     ensures { result ≡ (size - at) / 8 }
 {
     size.saturating_sub(at) / 8
@@ -27,9 +27,9 @@ pub(crate) fn words_for(len: usize) -> usize
 // Returns word i of a combination of three stretches, with zeros past their end.
 pub(crate) fn triple_word<'a>(
     op: Op,
-    a: &Flags<'a>,
-    b: &Flags<'a>,
-    c: &Flags<'a>,
+    a: &Operand<'a>,
+    b: &Operand<'a>,
+    c: &Operand<'a>,
     len: usize,
     i: usize,
 ) -> u64
@@ -43,10 +43,17 @@ pub(crate) fn triple_word<'a>(
     low_flags(combine_word(op, x, y, z), len - 64 * i)
 }
 
-// Combines three stretches and writes the result to the start of `out`, padded with zeros to whole words: at most a word by one store, else
-// the whole words in range by a kernel, then the rest word by word. The test for no flags is made only for a short stretch: made first,
-// `not` of 100 flags took 1.02 of the instructions.
-pub fn combine<'a>(op: Op, a: &Flags<'a>, b: &Flags<'a>, c: &Flags<'a>, len: usize, out: &mut [u8])
+// Combines three stretches and writes the result to the start of `out`, padded with zeros to whole words, as far as it fits. At most a word
+// is one store; of more, the whole words in range are written by a kernel, then the rest word by word. The test for no flags is made only
+// for a short stretch: made first, `not` of 100 flags took 1.02 of the instructions.
+pub fn combine<'a>(
+    op: Op,
+    a: &Operand<'a>,
+    b: &Operand<'a>,
+    c: &Operand<'a>,
+    len: usize,
+    out: &mut [u8],
+)
     ensures { flags_of out.new ≡ over (flags_of out.old) (whole_words
         (combined op a.now.bytes.now a.now.start b.now.bytes.now b.now.start c.now.bytes.now c.now.start len)) }
 {
@@ -69,9 +76,9 @@ pub fn combine<'a>(op: Op, a: &Flags<'a>, b: &Flags<'a>, c: &Flags<'a>, len: usi
 // byte, a word is one load, else two.
 fn combine_whole<'a>(
     op: Op,
-    a: &Flags<'a>,
-    b: &Flags<'a>,
-    c: &Flags<'a>,
+    a: &Operand<'a>,
+    b: &Operand<'a>,
+    c: &Operand<'a>,
     len: usize,
     out: &mut [u8],
 ) -> usize
@@ -81,30 +88,31 @@ fn combine_whole<'a>(
 {
     let most = (len / 64).min(out.len() / 8);
     if a.start % 8 == 0 && b.start % 8 == 0 && c.start % 8 == 0 {
-        let x = Aligned::new(a.bytes, a.start / 8);
-        let y = Aligned::new(b.bytes, b.start / 8);
-        let z = Aligned::new(c.bytes, c.start / 8);
+        let x = ByteLane::new(a.bytes, a.start / 8);
+        let y = ByteLane::new(b.bytes, b.start / 8);
+        let z = ByteLane::new(c.bytes, c.start / 8);
         let lanes = Lanes::new(most, x, y, z);
-        each::<Combine, Aligned, Aligned, Aligned>(op, &lanes, out);
+        each::<Combine, ByteLane, ByteLane, ByteLane>(op, &lanes, out);
         return lanes.n;
     }
-    let x = Shifted::new(*a);
-    let y = Shifted::new(*b);
-    let z = Shifted::new(*c);
+    let x = BitLane::new(*a);
+    let y = BitLane::new(*b);
+    let z = BitLane::new(*c);
     let lanes = Lanes::new(most, x, y, z);
-    each::<Combine, Shifted, Shifted, Shifted>(op, &lanes, out);
+    each::<Combine, BitLane, BitLane, BitLane>(op, &lanes, out);
     lanes.n
 }
 
-// Copies a stretch to the start of `out`, padded with zeros to whole words. Uses the combination `or` of the stretch with itself.
+// Copies a stretch to the start of `out`, padded with zeros to whole words, as far as it fits. Uses the combination `or` of the stretch
+// with itself.
 pub fn copy(bytes: &[u8], start: usize, len: usize, out: &mut [u8])
     ensures { flags_of out.new ≡ over (flags_of out.old) (whole_words (stretch bytes.now start len)) }
 {
-    let all = Flags { bytes, start };
+    let all = Operand { bytes, start };
     combine(Op::Or, &all, &all, &all, len, out);
 }
 
-// Writes `len` copies of a flag to the start of `out`, padded with zeros to whole words.
+// Writes `len` copies of a flag to the start of `out`, padded with zeros to whole words, as far as they fit.
 pub fn fill(flag: bool, len: usize, out: &mut [u8])
     ensures { flags_of out.new ≡ over (flags_of out.old) (whole_words (copies len flag)) }
 {

@@ -4,7 +4,7 @@ ghost use Rattle.words.specs.Flags.{bits, count};
 ghost use Rattle.words.specs.Nth.{nth_place, nth_one};
 
 // Returns x if set flag n is not among the first `ones`, else 0. A separate function, so that it compiles without a branch.
-fn if_behind(n: u32, ones: u32, x: u32) -> u32
+fn skip_if_after(n: u32, ones: u32, x: u32) -> u32
     ensures { result ≡ cond (ltb n ones) 0 x }
 {
     if n < ones { 0 } else { x }
@@ -20,8 +20,8 @@ fn descend(w: u64, n: u32, width: u32) -> u32
     }
     let half = width / 2;
     let ones = (w << (64 - half)).count_ones();
-    let skip = if_behind(n, ones, half);
-    let passed = if_behind(n, ones, ones);
+    let skip = skip_if_after(n, ones, half);
+    let passed = skip_if_after(n, ones, ones);
     skip + descend(w >> skip, n - passed, width - half)
 }
 

@@ -13,6 +13,7 @@ pub(crate) trait Operation {
     // The operation of the type.
     ghost op: { Op };
 
+    // Applies the operation to the flags of x, y and z.
     fn word(x: u64, y: u64, z: u64) -> u64
         ensures { word_flags result ≡ zip3 (op_of op) (word_flags x) (word_flags y) (word_flags z) };
 }

@@ -3,9 +3,9 @@
 ghost use Rattle.std.specs.Prelude.{◌≡◌, [], ℕ, ◌+◌, ◌^◌, ◌<◌, ◌≤◌, get_or, length};
 ghost use Rattle.words.specs.Planes.{planes_at, added, Added, FourMore, Grown, Totals, Wrote};
 
-use crate::columns::{digit_by, masks};
+use crate::columns::{digit_by, single_flags};
 
-// Adds w to the numbers in the planes: each plane hands its carry to the next, and that of the last is lost.
+// Adds w to the numbers in the planes: each plane passes its carry to the next, and that of the last is lost.
 fn add(planes: &mut [u64], w: u64)
     ensures { planes.new ≡ added planes.old w }
 {
@@ -37,21 +37,21 @@ pub(crate) fn full_add(x: u64, y: u64, z: u64) -> Sum
 
 // Three digits of a number, in each column.
 #[derive(Clone, Copy)]
-struct Four {
+struct Digits {
     ones: u64,
     twos: u64,
     fours: u64,
 }
 
 // Adds four words, column by column, to the digits p and q, and returns three digits.
-fn add_four(p: u64, q: u64, words: &[u64]) -> Four
+fn add_four(p: u64, q: u64, words: &[u64]) -> Digits
     requires { length words.now ≡ 4 }
     ensures { FourMore words.now p q result.ones result.twos result.fours }
 {
     let a = full_add(p, words[0], words[1]);
     let b = full_add(a.low, words[2], words[3]);
     let c = full_add(q, a.high, b.high);
-    Four {
+    Digits {
         ones: b.low,
         twos: c.low,
         fours: c.high,
@@ -121,7 +121,7 @@ pub(crate) fn spread<const N: usize>(planes: &[u64; N]) -> [u32; 64]
     ensures { Wrote planes.now 0 result 64 }
 {
     let mut out: [u32; 64] = [0; 64];
-    let tests = masks();
+    let tests = single_flags();
     spread_half(planes, &tests, 0, &mut out[..32]);
     spread_half(planes, &tests, 32, &mut out[32..]);
     out

@@ -2,7 +2,7 @@
 ghost use Rattle.std.specs.Prelude.{◌≡◌, ◌*◌, ◌+◌, ◌^◌, ◌≤◌, ◌<◌};
 ghost use Rattle.words.specs.Flags.{word_flags, flags_of, count, window};
 
-use crate::lanes::{Aligned, Lane};
+use crate::lanes::{ByteLane, Lane};
 use crate::planes::full_add;
 use crate::word::ones_in_word;
 
@@ -24,7 +24,7 @@ fn seven_ones(a: u64, b: u64, c: u64, d: u64, e: u64, f: u64, g: u64) -> usize
 // Words in range, few enough that a `usize` holds the number of their flags.
 #[derive(Clone, Copy)]
 pub(crate) struct Countable<'a> {
-    pub(crate) words: Aligned<'a>,
+    pub(crate) words: ByteLane<'a>,
     ghost few: { 64 * words.n < 2 ^ 64 },
 }
 
@@ -55,7 +55,7 @@ impl Countable<'_> {
         ensures { result ≡ count (window (flags_of self.now.words.bytes.now) (8 * self.now.words.at) (64 * self.now.words.n)) }
     {
         let mut ones: usize = 0;
-        // a range: see `Aligned` for why its words are no slice
+        // a range: see `ByteLane` for why its words are no slice
         for i in 0..self.words.n {
             ones += ones_in_word(self.words.word(i));
         }
@@ -69,10 +69,10 @@ impl Countable<'_> {
         let n = self.words.n;
         let m = n / 7;
         let rows = self.ones_rows(m);
-        let behind = Countable {
+        let after = Countable {
             words: self.words.part(7 * m, n - 7 * m),
         };
-        let rest = behind.ones_single();
+        let rest = after.ones_single();
         rows + rest
     }
 

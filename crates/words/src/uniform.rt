@@ -7,10 +7,10 @@ ghost use Rattle.words.specs.Loops.{stretch};
 ghost use Rattle.words.specs.Uniform.{all_are, differs_early};
 
 use crate::counts::{count_ones, is_set};
-use crate::lanes::{Aligned, Lane};
-use crate::loops::room;
+use crate::lanes::{ByteLane, Lane};
+use crate::loops::words_in_range;
 use crate::ops::{not_word, or_word};
-use crate::word::{byte_word, down, full_word, low_flags, near_word};
+use crate::word::{byte_word, full_word, low_flags, near_word, shr_or_zero};
 
 // Returns a word whose set flags are the flags of w that differ from `flag`.
 fn unlike(flag: bool, w: u64) -> u64
@@ -28,11 +28,11 @@ fn low_are(flag: bool, w: u64, k: usize) -> bool
 
 // Returns whether all flags of `words` equal `flag`. Those that differ are joined by `or`, with no end before the last word, so that the
 // loop is vectorised.
-fn block_is(flag: bool, words: &Aligned) -> bool
+fn block_is(flag: bool, words: &ByteLane) -> bool
     ensures { result ≡ all_are flag (window (flags_of words.now.bytes.now) (8 * words.now.at) (64 * words.now.n)) }
 {
     let mut others: u64 = 0;
-    // a range: see `Aligned` for why its words are no slice
+    // a range: see `ByteLane` for why its words are no slice
     for i in 0..words.n {
         others = or_word(others, unlike(flag, words.word(i)));
     }
@@ -41,7 +41,7 @@ fn block_is(flag: bool, words: &Aligned) -> bool
 
 // Returns whether all flags of `words` equal `flag`. Checks 64 words at a time and stops at the first block with another flag. `any_whole`
 // of `counts` has the same loop; the reason why it is not shared is there.
-fn words_are(flag: bool, words: &Aligned) -> bool
+fn words_are(flag: bool, words: &ByteLane) -> bool
     ensures { result ≡ all_are flag (window (flags_of words.now.bytes.now) (8 * words.now.at) (64 * words.now.n)) }
 {
     let n = words.n;
@@ -66,8 +66,8 @@ fn counted_are(flag: bool, bytes: &[u8], start: usize, len: usize) -> bool
     if flag { ones == len } else { ones == 0 }
 }
 
-// Returns whether all flags of a stretch equal `flag`: those of the first eight bytes, of whole words, and the rest. If the whole words
-// reach past the bytes, the ones are counted.
+// Returns whether all flags of a stretch equal `flag`; true if it has none. Compares those of the first eight bytes, whole words, and the
+// rest; if the whole words reach past the bytes, counts the ones instead.
 pub fn all_are(flag: bool, bytes: &[u8], start: usize, len: usize) -> bool
     ensures { result ≡ all_are flag (stretch bytes.now start len) }
 {
@@ -78,10 +78,10 @@ pub fn all_are(flag: bool, bytes: &[u8], start: usize, len: usize) -> bool
     }
     let n = (len - k) / 64;
     let q = start / 8 + 8;
-    if room(bytes.len(), q) < n {
+    if words_in_range(bytes.len(), q) < n {
         return counted_are(flag, bytes, start, len);
     }
-    let words = Aligned { bytes, at: q, n };
+    let words = ByteLane { bytes, at: q, n };
     low_are(flag, w, k)
         && words_are(flag, &words)
         && low_are(flag, byte_word(bytes, q + 8 * n), (len - k) % 64)
@@ -96,6 +96,6 @@ pub fn differs_early(flag: bool, bytes: &[u8], start: usize, len: usize) -> bool
     if bytes.len() < end {
         return false;
     }
-    let others = down(unlike(flag, full_word(bytes, start / 8)), start % 8);
+    let others = shr_or_zero(unlike(flag, full_word(bytes, start / 8)), start % 8);
     is_set(low_flags(others, len))
 }

@@ -15,7 +15,7 @@ fn join(part: &[u8]) -> u64
     w
 }
 
-// Writes the low bytes of w to `out`, at most eight. Compiles to one store if the length is known to be eight.
+// Writes as many low bytes of w as `out` has, at most eight. Compiles to one store if the length is known to be eight.
 fn split(out: &mut [u8], w: u64)
     requires { length out.old ≤ 8 }
     ensures { flags_of out.new ≡ over (flags_of out.old) (word_flags w) }
@@ -46,7 +46,7 @@ pub fn store_le_u64(out: &mut [u8], w: u64)
     }
 }
 
-// Writes the eight bytes of w at byte `at`, as far as they fit.
+// Writes the eight bytes of w at byte `at`, as far as they fit; nothing if `at` is past the end.
 pub fn store_at(out: &mut [u8], at: usize, w: u64)
     ensures { flags_of out.new ≡ over_at (flags_of out.old) (8 * at) (word_flags w) }
 {
@@ -66,9 +66,9 @@ pub fn store_whole(out: &mut [u8], at: usize, w: u64)
     }
 }
 
-// Loads the eight bytes at `at`, which are in range, as one load, from an array. Joined by a loop they stay apart if a caller uses the word
-// twice, as `select` does, and its loop is not vectorised. The three functions that take a place in range have a `requires` for it: a type
-// for it would be a struct of the bytes and the place, built before each load.
+// Loads the eight bytes at `at`, which are in range, by one load, as an array. Joined by a loop, as in `join`, they do not become one load
+// in a caller that uses the word twice, as `select` does, and its loop is not vectorised. This, `put_word` and `shifted_word` require a
+// place in range; a type for it would be a struct of the bytes and the place, built before each load.
 pub(crate) fn full_word(bytes: &[u8], at: usize) -> u64
     requires { at + 8 ≤ length bytes.now }
     ensures { word_flags result ≡ window (flags_of bytes.now) (8 * at) 64 }
@@ -97,14 +97,14 @@ pub(crate) fn shifted_word(bytes: &[u8], at: usize, s: usize) -> u64
 }
 
 // Shifts w right by k bits, or returns 0 if k is 64 or more.
-pub fn down(w: u64, k: usize) -> u64
+pub fn shr_or_zero(w: u64, k: usize) -> u64
     ensures { word_flags result ≡ window (word_flags w) k 64 }
 {
     if k < 64 { w >> k } else { 0 }
 }
 
 // Shifts w left by k bits, or returns 0 if k is 64 or more.
-pub fn up(w: u64, k: usize) -> u64
+pub fn shl_or_zero(w: u64, k: usize) -> u64
     ensures { word_flags result ≡ window (copies k false ++ word_flags w) 0 64 }
 {
     if k < 64 { w << k } else { 0 }
@@ -133,9 +133,9 @@ fn last_word(bytes: &[u8], at: usize, s: usize) -> u64
 {
     let n = bytes.len();
     if n < 8 {
-        return down(join(bytes), 8 * at + s);
+        return shr_or_zero(join(bytes), 8 * at + s);
     }
-    down(full_word(bytes, n - 8), 8 * (at + 8 - n) + s)
+    shr_or_zero(full_word(bytes, n - 8), 8 * (at + 8 - n) + s)
 }
 
 // Reads the eight bytes at `at`, with zeros past the end.
@@ -156,7 +156,7 @@ pub fn byte_word(bytes: &[u8], at: usize) -> u64
 pub fn near_word(bytes: &[u8], bit: usize) -> u64
     ensures { word_flags result ≡ window (window (flags_of bytes.now) bit (64 - bit % 8)) 0 64 }
 {
-    down(byte_word(bytes, bit / 8), bit % 8)
+    shr_or_zero(byte_word(bytes, bit / 8), bit % 8)
 }
 
 // Reads the 64 flags starting at flag `bit`, with zeros past the end.
@@ -174,15 +174,15 @@ pub fn flag_at(bytes: &[u8], bit: usize) -> bool
     at < bytes.len() && (u64::from(bytes[at]) >> (bit % 8)) % 2 == 1
 }
 
-// Returns w with its k low flags kept and the others cleared.
+// Returns w with its k low flags kept and the others cleared; w itself if k is 64 or more.
 pub fn low_flags(w: u64, k: usize) -> u64
     ensures { word_flags result ≡ window (take k (word_flags w)) 0 64 }
 {
     if k >= 64 { w } else { w % (1 << k) }
 }
 
-// Puts the flags of b after the k low flags of a, and returns the first 64 of them.
-pub fn behind(a: u64, k: usize, b: u64) -> u64
+// Puts the flags of b after the k low flags of a, and returns the first 64 of them; a itself if k is 64 or more.
+pub fn concat_low(a: u64, k: usize, b: u64) -> u64
     ensures { word_flags result ≡ window (take k (word_flags a) ++ word_flags b) 0 64 }
 {
     if k >= 64 { a } else { a % (1 << k) | b << k }
@@ -214,7 +214,7 @@ pub fn ones_in_word(w: u64) -> usize
     w.count_ones() as usize
 }
 
-// Counts the set flags among the k low flags of w.
+// Counts the set flags among the k low flags of w, or all of them if k is 64 or more.
 pub fn ones_below(w: u64, k: usize) -> usize
     ensures { result ≡ count (take k (word_flags w)) }
 {

@@ -57,9 +57,9 @@ impl Bitmap {
         Ok(answer.value)
     }
 
-    /// Returns the first position at or after `from` that is set in this mask and not in `rhs`, else the first one at or after 0, or none;
-    /// and the number of windows of 32 flags read for it. No `rhs` means all zeros. Refused with 5 if the masks differ in length, with 6
-    /// if `from` is above the length.
+    /// Returns the first position at or after `from` that is set in this mask and not in `rhs`, else the first such position from 0, or
+    /// none; and the number of windows of 32 flags read for it. No `rhs` means all zeros. Refused with 5 if the masks differ in length,
+    /// with 6 if `from` is above the length.
     ///
     /// ```
     /// use poruwhina::{Bitmap, Refusal};
@@ -118,7 +118,7 @@ impl Bitmap {
         self.combined(calls::xor, rhs)
     }
 
-    /// Returns each flag inverted. No check of it can fail, so there is no refusal.
+    /// Returns the mask with each flag inverted. No check can fail, so there is no refusal.
     ///
     /// ```
     /// use poruwhina::Bitmap;
@@ -129,7 +129,8 @@ impl Bitmap {
         Bitmap::written(self.length, |out| calls::not(self.record(), self.bytes(), out)).expect("a mask has its own length")
     }
 
-    /// Returns the flag of `truthy` where the flag of this mask is set, else that of `falsy`. Refused with 5 if the lengths differ.
+    /// Returns a mask: each flag is that of `truthy` if this mask's flag is set, else that of `falsy`. Refused with 5 if the lengths
+    /// differ.
     ///
     /// ```
     /// use poruwhina::Bitmap;
@@ -146,7 +147,8 @@ impl Bitmap {
         })
     }
 
-    /// Returns the flag of `truthy` where the flag of this mask is set, else the constant `falsy`. Refused with 5 if the lengths differ.
+    /// Returns a mask: each flag is that of `truthy` if this mask's flag is set, else the constant `falsy`. Refused with 5 if the lengths
+    /// differ.
     ///
     /// ```
     /// use poruwhina::Bitmap;

@@ -42,7 +42,7 @@ impl Bitmap {
         self.zeros.get().copied()
     }
 
-    /// Counts the zeros before the first one; all flags, if none is set.
+    /// Counts the zeros before the first set flag; all flags, if none is set.
     ///
     /// ```
     /// assert_eq!(poruwhina::Bitmap::from([false, false, true]).leading_zeros(), 2);
@@ -60,7 +60,7 @@ impl Bitmap {
         self.count(calls::leading_ones)
     }
 
-    /// Counts the zeros after the last one; all flags, if none is set.
+    /// Counts the zeros after the last set flag; all flags, if none is set.
     ///
     /// ```
     /// assert_eq!(poruwhina::Bitmap::from([true, false, false]).trailing_zeros(), 2);

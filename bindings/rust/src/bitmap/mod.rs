@@ -20,8 +20,8 @@ use crate::refusal::{Refusal, check, check_passed};
 ///
 /// Two masks are equal if their lengths and flags are equal, whatever their bytes, start bits and serials.
 ///
-/// In addition to the shared bytes, a mask keeps the byte at which its flags begin, and a start bit of 0 to 7 in that byte: so a mask
-/// whose flags are far into a large file answers as its copy at bit 0 does.
+/// In addition to the shared bytes, a mask keeps the number of the byte at which its flags begin, and their start bit in it, 0 to 7: so a
+/// mask whose flags are far into a large file answers as its copy at bit 0 does.
 ///
 /// ```
 /// use poruwhina::Bitmap;
@@ -272,8 +272,8 @@ impl Bitmap {
         Bitmap { bytes, offset: offset + mask.start / 8, start: mask.start % 8, length: mask.length, zeros, serial: mask.serial }
     }
 
-    /// Returns the record for the library, to be used only with `bytes`, without its count: a known one is exact, and only the answer of
-    /// `slice` depends on it (the repository's theorem on counts), so nothing is counted again.
+    /// Returns the record for the library, to be used only with `bytes`, without its count: a known one is exact, and only the counts that
+    /// `slice` and `superseding` return depend on it (the repository's theorem on counts), so nothing is counted again.
     pub(crate) fn record(&self) -> calls::Mask {
         calls::Mask { start: self.start, length: self.length, zeros: 0, known: 0, serial: self.serial }
     }

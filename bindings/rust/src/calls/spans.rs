@@ -5,9 +5,9 @@
 use super::exports;
 use super::records::*;
 
-/// Splits a span into a prefix, whole words at addresses divisible by 8, and a suffix. `address` is the remainder by 8 of the
-/// address of the first byte. A span that lies in eight bytes is all prefix. With length 0 every field is 0, without any check.
-/// Refuses with 1, 2, 8; every other field is then 0.
+/// Splits a span into a prefix, whole words at addresses divisible by 8, and a suffix. `address` is the address of the first byte
+/// modulo 8. A span that lies in eight bytes is all prefix. With length 0 every field is 0, without any check. Refuses with 1, 2,
+/// 8; every other field is then 0.
 ///
 /// ```
 /// use poruwhina::calls::aligned_new;
@@ -21,8 +21,8 @@ pub fn aligned_new(bytes: &[u8], start: usize, length: usize, address: usize) ->
     unsafe { exports::pw_aligned_new(bytes.as_ptr(), bytes.len(), start, length, address) }
 }
 
-/// Counts the zeros of a span. `address` is the remainder by 8 of the address of the first byte; the count does not depend on it.
-/// With length 0 returns 0 without any check. Refuses with 1, 2, 8; every other field is then 0.
+/// Counts the zeros of a span. `address` is the address of the first byte modulo 8; the count does not depend on it. With length
+/// 0 returns 0 without any check. Refuses with 1, 2, 8; every other field is then 0.
 ///
 /// ```
 /// assert_eq!(poruwhina::calls::count_zeros(&[0x2D], 0, 6, 0).value, 2);
@@ -33,9 +33,9 @@ pub fn count_zeros(bytes: &[u8], start: usize, length: usize, address: usize) ->
     unsafe { exports::pw_count_zeros(bytes.as_ptr(), bytes.len(), start, length, address) }
 }
 
-/// Counts the zeros before the first one of a span, or the whole length if no flag is set. `address` is the remainder by 8 of the
-/// address of the first byte; the count does not depend on it. With length 0 returns 0 without any check. Refuses with 1, 2, 8;
-/// every other field is then 0.
+/// Counts the zeros before the first set flag of a span, or the whole length if no flag is set. `address` is the address of the
+/// first byte modulo 8; the count does not depend on it. With length 0 returns 0 without any check. Refuses with 1, 2, 8; every
+/// other field is then 0.
 ///
 /// ```
 /// assert_eq!(poruwhina::calls::leading_zeros(&[0x2C], 0, 6, 0).value, 2);
@@ -46,9 +46,9 @@ pub fn leading_zeros(bytes: &[u8], start: usize, length: usize, address: usize) 
     unsafe { exports::pw_leading_zeros(bytes.as_ptr(), bytes.len(), start, length, address) }
 }
 
-/// Counts the ones before the first zero of a span, or the whole length if every flag is set. `address` is the remainder by 8 of
-/// the address of the first byte; the count does not depend on it. With length 0 returns 0 without any check. Refuses with 1, 2,
-/// 8; every other field is then 0.
+/// Counts the ones before the first zero of a span, or the whole length if every flag is set. `address` is the address of the
+/// first byte modulo 8; the count does not depend on it. With length 0 returns 0 without any check. Refuses with 1, 2, 8; every
+/// other field is then 0.
 ///
 /// ```
 /// assert_eq!(poruwhina::calls::leading_ones(&[0x2D], 2, 4, 0).value, 2);
@@ -58,9 +58,9 @@ pub fn leading_ones(bytes: &[u8], start: usize, length: usize, address: usize) -
     unsafe { exports::pw_leading_ones(bytes.as_ptr(), bytes.len(), start, length, address) }
 }
 
-/// Counts the zeros after the last one of a span, or the whole length if no flag is set. `address` is the remainder by 8 of the
-/// address of the first byte; the count does not depend on it. With length 0 returns 0 without any check. Refuses with 1, 2, 8;
-/// every other field is then 0.
+/// Counts the zeros after the last set flag of a span, or the whole length if no flag is set. `address` is the address of the
+/// first byte modulo 8; the count does not depend on it. With length 0 returns 0 without any check. Refuses with 1, 2, 8; every
+/// other field is then 0.
 ///
 /// ```
 /// assert_eq!(poruwhina::calls::trailing_zeros(&[0x2D], 0, 8, 0).value, 2);
@@ -70,9 +70,9 @@ pub fn trailing_zeros(bytes: &[u8], start: usize, length: usize, address: usize)
     unsafe { exports::pw_trailing_zeros(bytes.as_ptr(), bytes.len(), start, length, address) }
 }
 
-/// Counts the ones after the last zero of a span, or the whole length if every flag is set. `address` is the remainder by 8 of
-/// the address of the first byte; the count does not depend on it. With length 0 returns 0 without any check. Refuses with 1, 2,
-/// 8; every other field is then 0.
+/// Counts the ones after the last zero of a span, or the whole length if every flag is set. `address` is the address of the first
+/// byte modulo 8; the count does not depend on it. With length 0 returns 0 without any check. Refuses with 1, 2, 8; every other
+/// field is then 0.
 ///
 /// ```
 /// assert_eq!(poruwhina::calls::trailing_ones(&[0x2D], 0, 4, 0).value, 2);

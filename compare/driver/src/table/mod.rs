@@ -22,7 +22,7 @@ pub struct Call {
     pub theirs: Theirs,
 }
 
-/// Returns the calls that are compared: those of document 01, `may_reassign` and `true_idx_next_chunk`.
+/// Returns the calls that are compared: those of the reference, `may_reassign` and `true_idx_next_chunk`.
 pub fn calls() -> Vec<Call> {
     [spans::calls(), builder::calls(), masks::calls(), cursors::calls()].into_iter().flatten().collect()
 }

@@ -1,10 +1,10 @@
 //! Replaces `polars-utils`: the load of a word, the cell of the cached count, the index type and a push.
 
-/// An index has 32 bits, as in the crate without its feature `bigidx` and in document 01.
+/// An index has 32 bits, as in the crate without its feature `bigidx` and in the reference.
 pub type IdxSize = u32;
 
 pub mod slice {
-    /// Returns the first eight bytes as a little-endian word, absent ones zero. That is assumed, from document 01 and from its use: the
+    /// Returns the first eight bytes as a little-endian word, absent ones zero. That is assumed, from the reference and from its use: the
     /// crate's own text is missing, so this one call is compared with the model only.
     #[inline]
     pub fn load_padded_le_u64(bytes: &[u8]) -> u64 {

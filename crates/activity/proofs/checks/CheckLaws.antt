@@ -129,7 +129,7 @@ good_of a h =
       most = grind (arith, nat_tests);
       inside = grind (arith, nat_tests);
       within = grind (arith, nat_tests);
-      behind = λ l. grind (arith, nat_tests);
+      after = λ l. grind (arith, nat_tests);
       unused = w.0;
       counted = same-equal a.counts (column_counts (take a.fill a.words)) w.1;
     }
@@ -137,7 +137,7 @@ good_of a h =
 pub good-passes : (a : ActivityWindow) → Good a → left_by_minutes a ≡ true
 unfolding left_by_minutes numbers_fit inside_fits place_fits width_fits words_fit
 good-passes a g =
-    let n : numbers_fit a.place a.fill a.width ≡ true = grind (arith, nat_tests, g.some, g.most, g.inside, g.within, g.behind) in
+    let n : numbers_fit a.place a.fill a.width ≡ true = grind (arith, nat_tests, g.some, g.most, g.inside, g.within, g.after) in
     and_from (numbers_fit a.place a.fill a.width) (words_fit a.words a.counts a.fill) n
     (and_from (all_zero (drop a.fill a.words)) (same_numbers a.counts (column_counts (take a.fill a.words))) g.unused
     (ap (λ (l : List ℕ). same_numbers l (column_counts (take a.fill a.words))) g.counted

@@ -201,7 +201,7 @@ good_none w s b =
       most = b;
       inside = omega arith;
       within = omega arith;
-      behind = λ h. refl;
+      after = λ h. refl;
       unused = zeros-zero 256;
       counted = no_counts;
     }
@@ -214,9 +214,9 @@ good_more a m g long =
       most = g.most;
       inside = mod-lt (a.place + 1) g.some;
       within = omega arith;
-      behind = λ (h : min (a.fill + 1) a.width < a.width).
+      after = λ (h : min (a.fill + 1) a.width < a.width).
           let l : a.fill < a.width = omega arith in
-          let e : a.place ≡ a.fill = g.behind l in
+          let e : a.place ≡ a.fill = g.after l in
           let k : a.place + 1 < a.width = omega arith in
           let s : a.place + 1 ≡ min (a.fill + 1) a.width = omega arith in
           next-inside a.place a.width k ∙ s;
@@ -243,7 +243,7 @@ module _ (w : ℕ) (s : 1 ≤ w) (b : w ≤ 256) where
         order =
             ap (λ (a : ActivityWindow). in_order a.words a.place a.fill) (left-more w done m)
             ∙ order-step (left_by w done).words (left_by w done).place (left_by w done).fill w m g.inside (omega arith) g.within
-            g.behind
+            g.after
             ∙ ap (λ (l : List ℕ). last_of w (l ++ (m ∷ []))) at.order ∙ last-last w done m;
       }
 

@@ -35,7 +35,7 @@ run-passes w minutes h =
 
 place-le : (a : ActivityWindow) → Good a → a.place ≤ a.fill
 place-le a g = ⊎_elim
-    (λ (l : a.fill < a.width). let e : a.place ≡ a.fill = g.behind l in omega arith)
+    (λ (l : a.fill < a.width). let e : a.place ≡ a.fill = g.after l in omega arith)
     (λ (l : a.width ≤ a.fill). omega (arith, g.inside))
     (cases_lt a.fill a.width)
 
@@ -121,7 +121,7 @@ module _ (a : ActivityWindow) (long : length a.words ≡ 256) (fit : Words a.wor
 
   few : a.fill < a.width → Run a
   few h =
-      let e : a.place ≡ a.fill = g.behind h in
+      let e : a.place ≡ a.fill = g.after h in
       record {
         minutes = take a.fill a.words;
         fit = words_take a.fill a.words fit;

@@ -54,7 +54,7 @@ module _ (a : ActivityWindow) (g : Good a) (long : length a.words ≡ 256) where
   -- the place is among the words kept after the minute
   pub place_kept : a.place < min (a.fill + 1) a.width
   place_kept = ⊎_elim
-      (λ (h : a.fill < a.width). let e : a.place ≡ a.fill = g.behind h in omega (arith, g.inside))
+      (λ (h : a.fill < a.width). let e : a.place ≡ a.fill = g.after h in omega (arith, g.inside))
       (λ (h : a.width ≤ a.fill). omega (arith, g.inside))
       (cases_lt a.fill a.width)
 
@@ -116,16 +116,16 @@ holds-low counts w h c p =
     (omega (arith, both.0), omega (arith, both.1))
 
 module _ (counts low : List ℕ) (long : length low ≡ 32) where
-  behind-low : drop 32 (low ++ drop 32 counts) ≡ drop 32 counts
-  behind-low = ap (λ (n : ℕ). drop n (low ++ drop 32 counts)) (sym long) ∙ drop-append_seam low (drop 32 counts)
+  after-low : drop 32 (low ++ drop 32 counts) ≡ drop 32 counts
+  after-low = ap (λ (n : ℕ). drop n (low ++ drop 32 counts)) (sym long) ∙ drop-append_seam low (drop 32 counts)
 
   at-second : (c : ℕ) → c < 32 → get_or (take 32 (drop 32 (low ++ drop 32 counts))) c 0 ≡ get_or counts (32 + c) 0
   at-second c p =
-      get_or-take 32 (drop 32 (low ++ drop 32 counts)) c 0 p ∙ ap (λ (l : List ℕ). get_or l c 0) behind-low ∙ get_or-drop 32 counts c 0
+      get_or-take 32 (drop 32 (low ++ drop 32 counts)) c 0 p ∙ ap (λ (l : List ℕ). get_or l c 0) after-low ∙ get_or-drop 32 counts c 0
 
   pub second-long : length counts ≡ 64 → length (take 32 (drop 32 (low ++ drop 32 counts))) ≡ 32
   second-long many =
-      let e : length (drop 32 (low ++ drop 32 counts)) ≡ length (drop 32 counts) = ap length behind-low in
+      let e : length (drop 32 (low ++ drop 32 counts)) ≡ length (drop 32 counts) = ap length after-low in
       omega (arith, length-take 32 (drop 32 (low ++ drop 32 counts)), length-drop 32 counts)
 
   -- and so does the second
@@ -143,7 +143,7 @@ module _ (counts low : List ℕ) (long : length low ≡ 32) where
         let a : take 32 (low ++ drop 32 counts) ≡ low =
         ap (λ (n : ℕ). take n (low ++ drop 32 counts)) (sym long) ∙ take-append_seam low (drop 32 counts) in
         let b : drop 32 (drop 32 (low ++ drop 32 counts)) ≡ [] =
-        ap (drop 32) behind-low ∙ drop_of_length-le (drop 32 counts) {i = 32} (omega (arith, length-drop 32 counts)) in
+        ap (drop 32) after-low ∙ drop_of_length-le (drop 32 counts) {i = 32} (omega (arith, length-drop 32 counts)) in
         ap₂ (λ (s t : List ℕ). s ++ (high ++ t)) a b ∙ ap (λ (t : List ℕ). low ++ t) (append-nil high)
 
     exchanged-both : Exchanged (take 32 counts) 0 old new low 32

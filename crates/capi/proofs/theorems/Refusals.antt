@@ -36,7 +36,7 @@ use Rattle.capi.proofs.statements.Refusals.{Appends, Gives, GivesBack, GivesBoth
 use Rattle.capi.specs.Window.{as_window, unless_refused, window_in}
 use Rattle.capi.specs.declared.records.Cursor.{Cursor}
 use Rattle.capi.specs.declared.records.Mask.{Mask}
-use Rattle.capi.proofs.window.WindowLaws.{stays}
+use Rattle.capi.proofs.theorems.WindowLaws.{stays}
 
 -- each of ns is a number of a refusal
 abbrev Listed : List ℕ → Type 0

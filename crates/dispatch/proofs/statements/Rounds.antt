@@ -17,7 +17,7 @@ pub record First (may : ℕ → Bool) (n cursor t : ℕ) : Type 0 where
   pub below : t < n
   pub allowed : may t ≡ true
   pub ahead : (j : ℕ) → cursor ≤ j → j < t → may j ≡ false
-  pub behind : t < cursor → (j : ℕ) → cursor ≤ j → j < n → may j ≡ false
+  pub after : t < cursor → (j : ℕ) → cursor ≤ j → j < n → may j ≡ false
   pub least : t < cursor → (j : ℕ) → j < t → may j ≡ false
 
 pub record Right (may : ℕ → Bool) (n cursor : ℕ) (o : Offering) : Type 0 where

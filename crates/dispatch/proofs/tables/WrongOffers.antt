@@ -33,7 +33,7 @@ pub record WrongOffers : Type 0 where
   -- `offer` from cursor 4 with no revocation mask
   pub unrevoked : Tried (offer_of (Some some40) some40_bytes None [] 4)
       (given (truck_at 35 36 1))
-      -- from truck 0 whatever the cursor
+      -- the search begun at truck 0, whatever the cursor
       (given (truck_at 3 4 1))
       -- an absent revocation taken for all ones
       (given (none_at 4 3))

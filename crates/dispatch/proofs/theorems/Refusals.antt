@@ -1,18 +1,15 @@
--- `may_reassign` and `offer` refuse only by the numbers listed for them, and each of these has an input.
+-- `may_reassign` and `offer` refuse only by the numbers listed for them.
 use Rattle.std.specs.Prelude.{Some, None}
 use mathlib.Core.Path.{refl}
-use Rattle.masks.specs.Answer.{decided}
 use Rattle.masks.specs.AtIndex.{and_not_at_checks, index_checks, length_checks}
-use Rattle.masks.specs.Checks.{earlier, first_failed, rank, place_in, span_checks}
+use Rattle.masks.specs.Checks.{span_checks}
 use Rattle.masks.specs.Mask.{mask_checks}
 use Rattle.masks.specs.NextAndNot.{next_checks, other_checks}
 use Rattle.masks.proofs.statements.Refusals.{numbers, among, all_among}
-use Rattle.masks.specs.Utils.{zeros}
 use Rattle.masks.proofs.theorems.Refusals.{refuses-by}
-use Rattle.masks.proofs.computed.WrongAnswers.{bits, count, flags_of, window}
 use Rattle.dispatch.specs.Dispatch.{may_reassign}
 use Rattle.dispatch.specs.Offer.{offer_checks, offer_of}
-use Rattle.dispatch.proofs.statements.Refusals.{OfferRefusals, OfferWitnessed, Refusals, Witnessed}
+use Rattle.dispatch.proofs.statements.Refusals.{OfferRefusals, Refusals}
 
 pub refusals : Refusals
 unfolding may_reassign and_not_at_checks index_checks length_checks mask_checks span_checks numbers among all_among
@@ -21,21 +18,9 @@ refusals (Some p) p_bytes None r_bytes t = refuses-by (and_not_at_checks (Some p
 refusals None p_bytes (Some r) r_bytes t = refuses-by (and_not_at_checks None p_bytes (Some r) r_bytes t) _ _ _ refl
 refusals None p_bytes None r_bytes t = refuses-by (and_not_at_checks None p_bytes None r_bytes t) _ _ _ refl
 
-pub witnessed : Witnessed
-unfolding
-    may_reassign and_not_at_checks index_checks length_checks mask_checks span_checks first_failed earlier rank place_in decided
-    zeros count window flags_of bits
-witnessed = record { first = refl; second = refl; permission = refl; revocation = refl }
-
 pub offer_refusals : OfferRefusals
 unfolding offer_of offer_checks next_checks other_checks mask_checks span_checks numbers among all_among
 offer_refusals (Some p) p_bytes (Some r) r_bytes c = refuses-by (offer_checks (Some p) p_bytes (Some r) r_bytes c) _ _ _ refl
 offer_refusals (Some p) p_bytes None r_bytes c = refuses-by (offer_checks (Some p) p_bytes None r_bytes c) _ _ _ refl
 offer_refusals None p_bytes (Some r) r_bytes c = refuses-by (offer_checks None p_bytes (Some r) r_bytes c) _ _ _ refl
 offer_refusals None p_bytes None r_bytes c = refuses-by (offer_checks None p_bytes None r_bytes c) _ _ _ refl
-
-pub offer_witnessed : OfferWitnessed
-unfolding
-    offer_of offer_checks next_checks other_checks mask_checks span_checks first_failed earlier rank place_in decided
-    zeros count window flags_of bits
-offer_witnessed = record { first = refl; second = refl; permission = refl; revocation = refl }

@@ -21,8 +21,9 @@ use Rattle.masks.proofs.theorems.NextPlain.{first-listed, free-flag, head_of, on
 use Rattle.dispatch.specs.Dispatch.{reassignable}
 use Rattle.dispatch.specs.declared.offer.Offering.{Offering}
 use Rattle.dispatch.specs.Offer.{moved_to, next_truck, offer_checks, offered_of, offering, offer_of, or_else}
-use Rattle.dispatch.proofs.statements.Rounds.{Accepted, ARound, cursor_of, First, many_below, may, offers, OneCall, Right, times, truck_in, trucks_of}
-use Rattle.dispatch.proofs.offer.RoundLaws.{around, around_first, around_many, around_times, none_around, turn}
+use Rattle.dispatch.proofs.statements.Rounds.{Accepted, ARound, cursor_of, First, many_below, may, offers, OneCall, Right, times, truck_in}
+use Rattle.dispatch.proofs.statements.Rounds.{trucks_of}
+use Rattle.dispatch.proofs.theorems.RoundLaws.{around, around_first, around_many, around_times, none_around, turn}
 
 -- ---- one call
 
@@ -38,7 +39,7 @@ module _ (f : ℕ → Bool) (n c : ℕ) (inside : c ≤ n) (o : Offering) (moved
   }
   right_by (t ∷ rest) a e =
       let T = turn f n c t rest inside a in
-      let there : First f n c t = record { below = T.below; allowed = T.is_set; ahead = T.ahead; behind = T.behind; least = T.least } in
+      let there : First f n c t = record { below = T.below; allowed = T.is_set; ahead = T.ahead; after = T.after; least = T.least } in
       record {
         none_then = λ h. absurd (none-some t (sym h ∙ e));
         then-none = λ h. absurd (true≢false (sym T.is_set ∙ h t T.below));

@@ -1,5 +1,5 @@
--- The table of lists of runs (`proofs/tables/RunListRows.antt`) by computation. That no list of flags has the runs of a row is shown by going
--- through all lists of its length.
+-- The table of lists of runs (`proofs/tables/RunListRows.antt`) by computation. That no list of flags has the runs of a row is shown by
+-- going through all lists of its length.
 use Rattle.std.proofs.lemmas.Bool.{or_parts, true≢false}
 use mathlib.Core.Path.{◌≡◌, refl, ap, ◌∙◌, sym}
 use mathlib.Core.Bool.{Bool, true, false, ◌&&◌, ◌||◌}

@@ -17,7 +17,8 @@ use Rattle.masks.specs.declared.builder.BitmapBuilder.{BitmapBuilder}
 use Rattle.masks.proofs.checks.CheckLaws.{both_left}
 use Rattle.masks.proofs.bitmap.MaskLaws.{mask-truthful}
 use Rattle.histories.proofs.statements.Agreement.{TruthfulAppend, TruthfulAt, TruthfulCall, TruthfulRow}
-use Rattle.histories.proofs.statements.History.{Call, try_new, append, freeze, into_opt_validity, make, State, waiting, building, masked, no_mask}
+use Rattle.histories.proofs.statements.History.{Call, try_new, append, freeze, into_opt_validity, make, State, waiting, building, masked}
+use Rattle.histories.proofs.statements.History.{no_mask}
 use Rattle.histories.proofs.statements.History.{after_append, after_written, lent_at, step, step_row, written_answer, written_bytes}
 use Rattle.histories.proofs.statements.Owed.{Honest, Lawful, LawfulWrites}
 use Rattle.histories.specs.Rows.{Argument, own, other, Every, RowCall, Tuple, Writes, each, keep, write}

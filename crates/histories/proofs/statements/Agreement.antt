@@ -1,4 +1,4 @@
--- The statement of demand 3 (docs/THEOREMS.md): what a mask must have in common with a list of flags, which is all that document 01
+-- The statement of demand 3 (docs/THEOREMS.md): what a mask must have in common with a list of flags, which is all that the reference
 -- compares with its plain list.
 use Rattle.std.specs.Prelude.{ℕ, ◌≤◌, ◌<◌, ◌≡◌, Bool, true, false, cond, List, [], ltb, length, get_or, take, Option, Some, None}
 use Rattle.words.specs.Flags.{over}

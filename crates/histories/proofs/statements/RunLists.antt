@@ -13,7 +13,8 @@ use Rattle.masks.specs.SliceIterator.{runs_from}
 use Rattle.masks.specs.declared.bitmap.Bitmap.{Bitmap}
 use Rattle.masks.specs.declared.slice_iterator.Run.{Run}
 use Rattle.histories.proofs.statements.Agreement.{Agrees, Alike, runs_shown}
-use Rattle.histories.proofs.statements.History.{Call, append, freeze, Fed, building, masked, from_builder, outcome, run, start_of, step, trace}
+use Rattle.histories.proofs.statements.History.{Call, append, freeze, Fed, building, masked, from_builder, outcome, run, start_of, step}
+use Rattle.histories.proofs.statements.History.{trace}
 use Rattle.histories.proofs.statements.Library.{LibraryCall, library_call}
 
 -- ---- the lists of runs that are meant

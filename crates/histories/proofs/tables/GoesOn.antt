@@ -9,7 +9,8 @@ use Rattle.masks.proofs.tables.Examples.{first, lent}
 use Rattle.masks.specs.Mask.{mask_of}
 use Rattle.masks.specs.declared.bitmap.Bitmap.{Bitmap}
 use Rattle.histories.proofs.statements.Agreement.{ComesTo}
-use Rattle.histories.proofs.statements.History.{Call, try_new, append, freeze, into_opt_validity, make, Fed, History, from_builder, from_span}
+use Rattle.histories.proofs.statements.History.{Call, try_new, append, freeze, into_opt_validity, make, Fed, History, from_builder}
+use Rattle.histories.proofs.statements.History.{from_span}
 use Rattle.histories.proofs.statements.History.{from_mask, building, no_mask, end_of, list_of, start_of, step, trace}
 use Rattle.histories.proofs.statements.Library.{LibraryCall, library_call, masks}
 use Rattle.histories.specs.MaskRows.{pair, invert, select, select_constant, MaskCall, slice, unset_bits, combine}

@@ -14,7 +14,8 @@ use Rattle.masks.specs.Mask.{mask_checks}
 use Rattle.masks.proofs.statements.TrueCounts.{TrueCount}
 use Rattle.masks.specs.declared.bitmap.Bitmap.{Bitmap}
 use Rattle.histories.proofs.statements.Agreement.{Agrees, Alike, ComesTo, Fits, OneMeaning, refrozen}
-use Rattle.histories.proofs.statements.History.{History, State, masked, waiting, after_try, first_list, from_mask, list_of, row_flags, start_of}
+use Rattle.histories.proofs.statements.History.{History, State, masked, waiting, after_try, first_list, from_mask, list_of, row_flags}
+use Rattle.histories.proofs.statements.History.{start_of}
 use Rattle.histories.proofs.statements.Library.{Demand3, LibraryCall, library_call, masks}
 use Rattle.histories.specs.MaskRows.{combination_row}
 use Rattle.histories.proofs.statements.Owed.{Lawful, Stands}

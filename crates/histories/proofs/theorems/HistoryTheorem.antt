@@ -15,7 +15,7 @@ use Rattle.masks.specs.Answer.{decided}
 use Rattle.masks.specs.Appends.{append_checks}
 use Rattle.masks.specs.Builder.{filling, builder_flags, in_progress, new_builder}
 use Rattle.masks.specs.Checks.{first_failed, span_checks}
-use Rattle.masks.specs.Freeze.{all_ones, freeze_checks}
+use Rattle.masks.specs.Freeze.{total_ones, freeze_checks}
 use Rattle.masks.specs.Mask.{mask_checks, mask_of, try_new_of, uncounted}
 use Rattle.masks.specs.declared.bitmap.Bitmap.{Bitmap}
 use Rattle.masks.proofs.checks.CheckLaws.{span-allowed}
@@ -23,7 +23,8 @@ use Rattle.masks.proofs.bitmap.MaskLaws.{mask-sound}
 use Rattle.masks.proofs.theorems.SliceTruth.{none_true}
 use Rattle.histories.proofs.statements.History.{Call, try_new, append, freeze, into_opt_validity, make}
 use Rattle.histories.proofs.statements.History.{Start, first_list, from_builder, from_span, from_mask, start_of}
-use Rattle.histories.proofs.statements.History.{State, waiting, building, masked, no_mask, after_try, fed, list_step, reference, run, step, trace}
+use Rattle.histories.proofs.statements.History.{State, waiting, building, masked, no_mask, after_try, fed, list_step, reference, run, step}
+use Rattle.histories.proofs.statements.History.{trace}
 use Rattle.histories.proofs.statements.Owed.{Lawful}
 use Rattle.histories.specs.ReferenceList.{flags_in, span_flags}
 use Rattle.histories.specs.Rows.{RowCall}
@@ -64,7 +65,7 @@ module _ {Code : Type 0} (call_of : Code → RowCall) (lawful : (c : Code) → L
   step-holds (building f) (append a) l i = append-holds a f l (first_failed (append_checks a f.builder f.bytes)) refl i
   step-holds (building f) freeze l i = freeze-holds f l (first_failed (freeze_checks f.builder (length f.bytes))) i
   step-holds (building f) into_opt_validity l i =
-      validity-holds f l (first_failed (freeze_checks f.builder (length f.bytes))) (eqb (all_ones f.builder) f.builder.length) i
+      validity-holds f l (first_failed (freeze_checks f.builder (length f.bytes))) (eqb (total_ones f.builder) f.builder.length) i
   step-holds (building f) (make c) l i = i
   step-holds (masked m bytes) (try_new its start n) l i = i
   step-holds (masked m bytes) (append a) l i = i

@@ -15,8 +15,15 @@ use Rattle.masks.specs.Aligned.{bytes_to_aligned, bulk_offset, prefix_length, bu
 use Rattle.masks.specs.Aligned.{aligned_split, aligned_checks}
 use Rattle.masks.specs.declared.aligned.AlignedBitmapSlice.{AlignedBitmapSlice}
 use Rattle.masks.specs.Checks.{first_failed, limit, span_checks, address_checks}
-use Rattle.masks.specs.Workers.{split_flags, Bounded}
+use Rattle.masks.specs.Workers.{split_flags}
 use Rattle.masks.proofs.checks.CheckLaws.{by-test, both_left, both_right, span-allowed, address_allowed}
+
+-- a split of a span within the flag limit: what the counts over its parts require
+pub record Bounded (s : AlignedBitmapSlice) : Type 0 where
+  pub prefix_fits : s.prefix_len ≤ 64
+  pub suffix_fits : s.suffix_len ≤ 64
+  pub bulk_starts : s.bulk_start ≤ limit
+  pub bulk_fits : s.bulk_len ≤ limit / 64
 
 -- the first whole word begins at or after the span's first flag, and at most a word after its first byte
 pub record Offset (start offset : ℕ) : Type 0 where

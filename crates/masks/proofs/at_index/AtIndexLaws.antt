@@ -26,7 +26,7 @@ passed-mask (Some m) bytes i e =
     (span.starts, (span.short, ltb-true i m.length (check-allowed 5 (ltb i m.length) inside)))
 passed-mask None bytes i e = tt
 
--- and in each of two such masks
+-- the index lies in each of two masks whose checks have passed
 pub passed-masks : (A : Option Bitmap) (a_bytes : List ℕ) (B : Option Bitmap) (b_bytes : List ℕ) (i : ℕ)
     → first_failed (and_not_at_checks A a_bytes B b_bytes i) ≡ 0 → Indexed A i × Indexed B i
 unfolding and_not_at_checks

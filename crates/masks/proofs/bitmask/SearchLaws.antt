@@ -59,9 +59,9 @@ module _ (l : List Bool) (at d : ℕ) where
   place_in : (n : ℕ) → n < count (window l at d) → nth_place (drop at l) n ≡ nth_place (window l at d) n
   place_in n h = place-whole n (omega (arith, count-on)) ∙ nth-low (window l at d) (window (drop (at + d) l) 0 (length l)) n h
 
-  place_behind : (n : ℕ) → count (window l at d) ≤ n → n - count (window l at d) < count (drop (at + d) l)
+  place_after : (n : ℕ) → count (window l at d) ≤ n → n - count (window l at d) < count (drop (at + d) l)
       → nth_place (drop at l) n ≡ d + nth_place (drop (at + d) l) (n - count (window l at d))
-  place_behind n h k =
+  place_after n h k =
       place-whole n (omega (arith, count-on)) ∙ nth-high (window l at d) (window (drop (at + d) l) 0 (length l)) n h
       ∙ ap₂ (λ (x y : ℕ). x + y) (length-window l at d)
       (place-padded (drop (at + d) l) (length l) (n - count (window l at d)) (omega (arith, length-drop (at + d) l)) k)
@@ -78,7 +78,7 @@ module _ (l : List Bool) (at d : ℕ) where
       ≡ at + d + nth_place (drop (at + d) l) (n - count (window l at d)) =
       omega arith in
       rw (lt-ltb n (count (drop at l)) (omega (arith, count-on)), lt-ltb (n - count (window l at d)) (count (drop (at + d) l)) k)
-      (ap Some (ap (λ (x : ℕ). at + x) (place_behind n h k) ∙ e)))
+      (ap Some (ap (λ (x : ℕ). at + x) (place_after n h k) ∙ e)))
       (λ (k : count (drop (at + d) l) ≤ n - count (window l at d)).
       rw (le-ltb n (count (drop at l)) (omega (arith, count-on)), le-ltb (n - count (window l at d)) (count (drop (at + d) l)) k))
       (cases_lt (n - count (window l at d)) (count (drop (at + d) l)))

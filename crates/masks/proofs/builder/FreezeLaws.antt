@@ -17,7 +17,7 @@ use Rattle.words.proofs.theorems.Plain.{window-part, at-over}
 use Rattle.words.proofs.flags.Windows.{length-window, window-add, as-window, at_in, over-append, over_none}
 use Rattle.masks.specs.Builder.{filling, in_progress, builder_flags, builder_checks, none_from}
 use Rattle.masks.specs.Checks.{first_failed}
-use Rattle.masks.specs.Freeze.{all_ones, frozen_mask, validity_of, freeze_checks, frozen_over}
+use Rattle.masks.specs.Freeze.{total_ones, frozen_mask, validity_of, freeze_checks, frozen_over}
 use Rattle.masks.specs.Frozen.{packed, frozen, frozen_size, over_from}
 use Rattle.masks.specs.Mask.{mask_flags}
 use Rattle.masks.specs.Utils.{zeros}
@@ -26,11 +26,11 @@ use Rattle.masks.specs.declared.bitmap.Bitmap.{Bitmap}
 use Rattle.masks.specs.declared.builder.BitmapBuilder.{BitmapBuilder}
 use Rattle.masks.proofs.builder.AppendLaws.{low_count, low-window, window-front}
 use Rattle.masks.proofs.bitmap_ops.FrozenLaws.{Small, flags-packed, written-bytes}
-use Rattle.masks.proofs.builder.PushLaws.{window-behind}
+use Rattle.masks.proofs.builder.PushLaws.{window-after}
 use Rattle.masks.proofs.builder.RoomLaws.{finished, length-flags-of}
 
 -- the ones of a possible builder are at most its flags
-pub ones-fit : (b : BitmapBuilder) (n size : ℕ) → Room b n size → all_ones b ≤ b.length
+pub ones-fit : (b : BitmapBuilder) (n size : ℕ) → Room b n size → total_ones b ≤ b.length
 ones-fit b n size r =
     let few : b.ones ≤ 64 * (b.length / 64) = r.few in
     let low : length (take (b.length % 64) (bits 64 b.word)) ≡ b.length % 64 =
@@ -52,9 +52,9 @@ front-over : (l m : List Bool) → over_at l (8 * 0) m ≡ over l m
 unfolding over_at
 front-over l m = refl
 
-word-behind : (b : BitmapBuilder) → none_from b.word (b.length % 64) ≡ true → window (in_progress b) 0 64 ≡ bits 64 b.word
+word-after : (b : BitmapBuilder) → none_from b.word (b.length % 64) ≡ true → window (in_progress b) 0 64 ≡ bits 64 b.word
 unfolding in_progress
-word-behind b e = sym (low-window (b.length % 64) b.word e)
+word-after b e = sym (low-window (b.length % 64) b.word e)
 
 no-window : (l : List Bool) (k : ℕ) → window l k 0 ≡ []
 unfolding window
@@ -72,7 +72,7 @@ module _ (b : BitmapBuilder) (bytes : List ℕ) (r : Room b 0 (length bytes)) wh
       ∙ window-add (finished (filling b bytes) ++ in_progress b) 0 (64 * (b.length / 64)) k
       ∙ ap₂ (λ (x y : List Bool). x ++ y) (window-front (64 * (b.length / 64)) (finished (filling b bytes)) (in_progress b) long)
       (ap (λ (x : ℕ). window (finished (filling b bytes) ++ in_progress b) x k) z
-      ∙ window-behind (finished (filling b bytes)) (in_progress b) 0 k)
+      ∙ window-after (finished (filling b bytes)) (in_progress b) 0 k)
 
   freeze-flags : (out : List ℕ) (k : ℕ) → frozen_size b.length * 8 ≡ 64 * (b.length / 64) + k → Small bytes → Small out
       → flags_of out ≡ over_at (flags_of bytes) (64 * (b.length / 64)) (window (in_progress b) 0 k) → out ≡ frozen_over b bytes
@@ -93,7 +93,7 @@ module _ (b : BitmapBuilder) (bytes : List ℕ) (r : Room b 0 (length bytes)) wh
   freeze-word out h small small' put =
       let at : 8 * (8 * (b.length / 64)) ≡ 64 * (b.length / 64) = omega arith in
       let e : frozen_size b.length * 8 ≡ 64 * (b.length / 64) + 64 = omega arith in
-      freeze-flags out 64 e small small' (put ∙ ap₂ (over_at (flags_of bytes)) at (sym (word-behind b r.low)))
+      freeze-flags out 64 e small small' (put ∙ ap₂ (over_at (flags_of bytes)) at (sym (word-after b r.low)))
 
   -- if there is none, the buffer holds the frozen bytes already
   pub freeze-whole : b.length % 64 ≡ 0 → Small bytes → bytes ≡ frozen_over b bytes
@@ -109,13 +109,13 @@ pub same-checks : (b : BitmapBuilder) (size r : ℕ) → r ≡ first_failed (bui
     → r ≡ first_failed (freeze_checks b size)
 same-checks b size r e = e ∙ ap (λ (n : ℕ). first_failed (builder_checks b n size)) (add-zero b.length)
 
-pub all_set : (b : BitmapBuilder) (n : ℕ) → n ≡ all_ones b → n ≡ b.length → None ≡ validity_of b
-all_set b n e h = ap (λ (t : Bool). cond t None (Some (frozen_mask b))) (sym (eq-eqb (all_ones b) b.length (sym e ∙ h)))
+pub all_set : (b : BitmapBuilder) (n : ℕ) → n ≡ total_ones b → n ≡ b.length → None ≡ validity_of b
+all_set b n e h = ap (λ (t : Bool). cond t None (Some (frozen_mask b))) (sym (eq-eqb (total_ones b) b.length (sym e ∙ h)))
 
-pub not-all-set : (b : BitmapBuilder) (n : ℕ) (m : Bitmap) → n ≡ all_ones b → (n ≡ b.length → ⊥) → m ≡ frozen_mask b
+pub not-all-set : (b : BitmapBuilder) (n : ℕ) (m : Bitmap) → n ≡ total_ones b → (n ≡ b.length → ⊥) → m ≡ frozen_mask b
     → Some m ≡ validity_of b
 not-all-set b n m e h p =
-    ap Some p ∙ ap (λ (t : Bool). cond t None (Some (frozen_mask b))) (sym (ne_eqb (all_ones b) b.length (λ q. h (e ∙ q))))
+    ap Some p ∙ ap (λ (t : Bool). cond t None (Some (frozen_mask b))) (sym (ne_eqb (total_ones b) b.length (λ q. h (e ∙ q))))
 
 -- ---- the flags of the frozen bytes, and the count
 
@@ -147,16 +147,16 @@ progress-count : (b : BitmapBuilder) → none_from b.word (b.length % 64) ≡ tr
 unfolding in_progress
 progress-count b e = low_count (b.length % 64) b.word e
 
--- if `ones` counts the ones of the finished words, `all_ones` counts those of all the builder's flags,
+-- if `ones` counts the ones of the finished words, `total_ones` counts those of all the builder's flags,
 pub true-ones : (b : BitmapBuilder) (bytes : List ℕ) → Room b 0 (length bytes) → b.ones ≡ count (finished (filling b bytes))
-    → all_ones b ≡ count (builder_flags (filling b bytes))
+    → total_ones b ≡ count (builder_flags (filling b bytes))
 unfolding builder_flags
 true-ones b bytes r e =
     ap₂ (λ (x y : ℕ). x + y) e (sym (progress-count b r.low)) ∙ sym (count-append (finished (filling b bytes)) (in_progress b))
 
 -- and the known count is the number of its zeros
 pub true-zeros : (b : BitmapBuilder) (bytes : List ℕ) → Room b 0 (length bytes) → b.ones ≡ count (finished (filling b bytes))
-    → b.length - all_ones b ≡ zeros (builder_flags (filling b bytes))
+    → b.length - total_ones b ≡ zeros (builder_flags (filling b bytes))
 unfolding zeros
 true-zeros b bytes r e =
     omega (arith, true-ones b bytes r e, count-not (builder_flags (filling b bytes)), length-flags-of (filling b bytes))

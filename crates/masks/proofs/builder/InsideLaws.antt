@@ -23,12 +23,12 @@ use Rattle.masks.proofs.builder.AppendLaws.{word_back}
 use Rattle.masks.proofs.checks.CheckLaws.{none-earlier, one-check, two-pieces}
 use Rattle.masks.proofs.extend.ExtendLaws.{stretch-front}
 use Rattle.masks.proofs.utils.PartLaws.{length-low}
-use Rattle.masks.proofs.builder.RoomLaws.{none-behind}
+use Rattle.masks.proofs.builder.RoomLaws.{none-after}
 
 -- ---- a word of k flags with zeros after them
 
 pub none-padded : (l : List Bool) (k v : ℕ) → length l ≡ k → k ≤ 64 → bits 64 v ≡ window l 0 64 → none_from v k ≡ true
-none-padded l k v e h p = ap (λ (t : List Bool). not (any_set (drop k t))) (p ∙ sym (bits-window 64 l)) ∙ none-behind l k e h
+none-padded l k v e h p = ap (λ (t : List Bool). not (any_set (drop k t))) (p ∙ sym (bits-window 64 l)) ∙ none-after l k e h
 
 pub front-padded : (l : List Bool) (k v : ℕ) → length l ≡ k → k ≤ 64 → bits 64 v ≡ window l 0 64 → take k (bits 64 v) ≡ l
 front-padded l k v e h p = ap (take k) (p ∙ sym (bits-window 64 l)) ∙ word_back l k e h

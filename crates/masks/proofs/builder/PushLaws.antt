@@ -1,4 +1,4 @@
--- Flags of a word appended to the word in progress, which has room for them. For `push_inside`, `push_flags` and `close_word`.
+-- Flags of a word appended to the word in progress, which has room for them. For the pushes of a word's flags.
 use Rattle.std.proofs.lemmas.Bool.{cases_lt}
 use mathlib.Core.Path.{◌≡◌, refl, sym, ap, ap₂, ◌∙◌}
 use mathlib.Core.Bool.{Bool, true, false, ◌||◌}
@@ -10,7 +10,7 @@ use lib.ListN.{length, take, get_or, length-append, get_or-append}
 use lib.Seq.{get_or-append-add}
 use Rattle.words.specs.Flags.{bits, copies, count, window, word_of}
 use Rattle.words.proofs.flags.Bits.{length-bits}
-use Rattle.words.proofs.merge.Merging.{or-behind}
+use Rattle.words.proofs.merge.Merging.{or-concat}
 use Rattle.words.proofs.flags.Windows.{window-all, window-ext, at_in, word_value}
 use Rattle.masks.specs.Builder.{Filling, filling, rebuilt, in_progress, appended, none_from}
 use Rattle.masks.specs.Frozen.{packed, over_from}
@@ -28,8 +28,8 @@ grown-way r b bytes f e h = ap (λ (x : BitmapBuilder). filling x bytes) e ∙ h
 -- ---- windows of two lists joined
 
 -- a window past the first list is one of the second
-pub window-behind : (p t : List Bool) (k n : ℕ) → window (p ++ t) (length p + k) n ≡ window t k n
-window-behind p t k n = window-ext (p ++ t) t (length p + k) k n (λ j h.
+pub window-after : (p t : List Bool) (k n : ℕ) → window (p ++ t) (length p + k) n ≡ window t k n
+window-after p t k n = window-ext (p ++ t) t (length p + k) k n (λ j h.
     let e : length p + k + j ≡ length p + (k + j) = omega arith in
     ap (λ (x : ℕ). get_or (p ++ t) x false) e ∙ get_or-append-add p t (k + j) false)
 
@@ -78,7 +78,7 @@ pub or-merged : (b : BitmapBuilder) (flags u low : ℕ) → none_from b.word (b.
     → bits 64 u ≡ window (copies (b.length % 64) false ++ bits 64 flags) 0 64 → bits 64 low ≡ zip_with ◌||◌ (bits 64 b.word) (bits 64 u)
     → bits 64 low ≡ window (take (b.length % 64) (bits 64 b.word) ++ bits 64 flags) 0 64
 or-merged b flags u low e moved joined =
-    or-behind 64 (b.length % 64) b.word flags u low (omega arith) (low-window (b.length % 64) b.word e) moved joined
+    or-concat 64 (b.length % 64) b.word flags u low (omega arith) (low-window (b.length % 64) b.word e) moved joined
 
 pub push-within : (b : BitmapBuilder) (bytes : List ℕ) (flags u low k : ℕ) → Inside b flags k
     → bits 64 u ≡ window (copies (b.length % 64) false ++ bits 64 flags) 0 64 → bits 64 low ≡ zip_with ◌||◌ (bits 64 b.word) (bits 64 u)

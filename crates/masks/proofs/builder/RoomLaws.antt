@@ -25,7 +25,8 @@ use Rattle.masks.specs.Workers.{Room}
 use Rattle.masks.specs.declared.bitmap.Bitmap.{Bitmap}
 use Rattle.masks.specs.declared.builder.BitmapBuilder.{BitmapBuilder}
 use Rattle.masks.proofs.builder.AppendLaws.{Parts, grown, appended-grown, parts-of, parts-long, progress-of, word_back, length-progress}
-use Rattle.masks.proofs.checks.CheckLaws.{one-check, earlier-none, none-earlier, first-least, first-allowed, rest-allowed, both_left, both_right}
+use Rattle.masks.proofs.checks.CheckLaws.{one-check, earlier-none, none-earlier, first-least, first-allowed, rest-allowed, both_left}
+use Rattle.masks.proofs.checks.CheckLaws.{both_right}
 use Rattle.masks.proofs.checks.CheckLaws.{SpanAllowed, span-allowed}
 use Rattle.masks.proofs.checks.OrderLaws.{leads, led}
 use Rattle.masks.proofs.bitmap_ops.FrozenLaws.{flags-packed, length-over_from, flags-over_from}
@@ -41,9 +42,9 @@ pub over-limit : (b : BitmapBuilder) (n size : ℕ) → leb (b.length + n) limit
     → 1 ≡ first_failed (builder_checks b (b.length + n) size)
 unfolding first_failed builder_checks
 over-limit b n size e =
-    let behind = check 4 (possible b size) ∷ output_checks (b.length + n) size in
-    either (leb b.length limit) (first_failed behind) (sym (led 0 behind (limit-leads (possible b size) (b.length + n) size)))
-    ∙ ap (λ (t : Bool). earlier (cond (leb b.length limit) 0 1) (earlier (cond t 0 1) (first_failed behind))) (sym e)
+    let after = check 4 (possible b size) ∷ output_checks (b.length + n) size in
+    either (leb b.length limit) (first_failed after) (sym (led 0 after (limit-leads (possible b size) (b.length + n) size)))
+    ∙ ap (λ (t : Bool). earlier (cond (leb b.length limit) 0 1) (earlier (cond t 0 1) (first_failed after))) (sym e)
   where
     either : (t : Bool) (x : ℕ) → 1 ≡ earlier 1 x → 1 ≡ earlier (cond t 0 1) (earlier 1 x)
     either true x h = h ∙ sym (none-earlier (earlier 1 x))
@@ -149,8 +150,8 @@ room-less b m n size h r =
 -- ---- after an append
 
 -- the word of k flags has no set flag at k or above
-pub none-behind : (r : List Bool) (k : ℕ) → length r ≡ k → k ≤ 64 → none_from (word_of r) k ≡ true
-none-behind r k e h =
+pub none-after : (r : List Bool) (k : ℕ) → length r ≡ k → k ≤ 64 → none_from (word_of r) k ≡ true
+none-after r k e h =
     let whole : count (bits 64 (word_of r)) ≡ count r = ap count (bits-window 64 r) ∙ count-padded r 64 (omega arith) in
     let front : count (take k (bits 64 (word_of r))) ≡ count r = ap count (word_back r k e h) in
     let sum : count (take k (bits 64 (word_of r))) + count (drop k (bits 64 (word_of r))) ≡ count (bits 64 (word_of r)) =
@@ -170,7 +171,7 @@ grown-room f l q front rest m n p h r =
     let long : f.builder.length % 64 + length l ≡ 64 * q + length rest = parts-long f l q front rest p in
     record {
       short = omega arith;
-      low = none-behind rest ((f.builder.length + length l) % 64) (omega arith) (omega arith);
+      low = none-after rest ((f.builder.length + length l) % 64) (omega arith) (omega arith);
       few = omega (arith, count-le front);
       holds = omega (arith, length-over_from f.bytes (8 * (f.builder.length / 64)) (packed (8 * q) front));
     }

@@ -1,4 +1,4 @@
--- The twelve proved examples of document 01 (`proofs/tables/Examples.antt`), all at once and by computation.
+-- The twelve proved examples of the reference (`proofs/tables/Examples.antt`), all at once and by computation.
 use mathlib.Core.Path.{refl}
 use mathlib.Core.Bool.{xor}
 use Rattle.words.specs.Counts.{any_set}

@@ -10,7 +10,7 @@ use Rattle.masks.specs.Chunks.{chunk_step, chunk_word, chunks_remainder, next_ch
 use Rattle.masks.specs.Cursor.{cursor_checks}
 use Rattle.masks.specs.Iterator.{flag_step, leading_from, nth_flag, take_leading}
 use Rattle.masks.specs.Mask.{cut_zeros, kept_count, mask_checks, piece_checks, recounts, slice_checks, slice_of}
-use Rattle.masks.specs.Positions.{next_positions, place_behind, positions_over}
+use Rattle.masks.specs.Positions.{next_positions, place_after, positions_over}
 use Rattle.masks.specs.Search.{nth_back, nth_from, search_back, search_from}
 use Rattle.masks.specs.SliceIterator.{new_slices, next_slice, run_start, slice_step}
 use Rattle.masks.proofs.tables.StartRows.{start_rows, StartsHold}
@@ -23,6 +23,6 @@ unfolding
     first_failed earlier rank place_in span_checks cursor_checks mask_checks slice_of slice_checks piece_checks cut_zeros recounts
     kept_count split_checks split_at window_at window_word next_chunk chunk_step chunk_word chunks_remainder remainder_word search_from
     search_back nth_from nth_back nth_flag flag_step take_leading leading_from new_slices next_slice run_start slice_step
-    new_true new_true_checks first_true next_true true_checks true_flags true_step ones_from ones_left next_positions place_behind
+    new_true new_true_checks first_true next_true true_checks true_flags true_step ones_from ones_left next_positions place_after
     positions_over
 all_hold = refl

@@ -19,8 +19,10 @@ use Rattle.masks.specs.Iterator.{new_iter, nth_flag, take_leading}
 use Rattle.masks.specs.Mask.{cut_zeros, recounts, mask_checks, zeroed_checks, piece_checks, slice_checks, try_new_of, new_zeroed_of}
 use Rattle.masks.specs.Mask.{unset_bits_of, slice_of}
 use Rattle.masks.specs.Positions.{next_positions}
-use Rattle.masks.proofs.statements.Refusals.{addressed, spans, cursors, unmasked_cursors, splits, builders, pushed-words, span-appends, gathers}
-use Rattle.masks.proofs.statements.Refusals.{piece-appends, zeroed-masks, masks, slices, combinations, inversions, intersections, indexed-pairs}
+use Rattle.masks.proofs.statements.Refusals.{addressed, spans, cursors, unmasked_cursors, splits, builders, pushed-words, span-appends}
+use Rattle.masks.proofs.statements.Refusals.{gathers}
+use Rattle.masks.proofs.statements.Refusals.{piece-appends, zeroed-masks, masks, slices, combinations, inversions, intersections}
+use Rattle.masks.proofs.statements.Refusals.{indexed-pairs}
 use Rattle.masks.proofs.statements.Refusals.{indexed-masks, stated-masks, stated_lengths, supersessions}
 use Rattle.masks.specs.Search.{search_from, search_back}
 use Rattle.masks.specs.SliceIterator.{new_slices, next_slice}

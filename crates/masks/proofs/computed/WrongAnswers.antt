@@ -1,4 +1,4 @@
--- The wrong answers of the `specs/Wrong..` tables, except `WrongNext`, are ruled out, by computation.
+-- The wrong answers of the tables `proofs/tables/Wrong*.antt`, except `WrongNext`, are ruled out, by computation.
 --
 -- The definitions that a crate above needs for a table of its own are passed on, because that crate may not use words.
 use Rattle.std.specs.Prelude.{Option, Some, None}
@@ -35,7 +35,7 @@ use Rattle.masks.specs.Mask.{cut_zeros, kept_count, mask_checks, new_zeroed_byte
 use Rattle.masks.specs.Mask.{slice_of, try_new_of, unset_bits_of, zero_count, zeroed_checks}
 use Rattle.masks.specs.Search.{nth_back, nth_from, search_back, search_from}
 use Rattle.masks.specs.SliceIterator.{new_slices, next_slice, run_start, slice_step}
-use Rattle.masks.specs.Positions.{next_positions, positions_over, place_behind}
+use Rattle.masks.specs.Positions.{next_positions, positions_over, place_after}
 use Rattle.masks.specs.Superseding.{superseding_checks, superseding_of}
 use Rattle.masks.specs.TrueIdx.{first_true, new_true, new_true_checks, next_true, ones_from, ones_left, true_checks, true_flags, true_step}
 use Rattle.masks.specs.Utils.{span_count, zeros}
@@ -239,7 +239,7 @@ unfolding
     same_code bits flags_of count copies window leading nth_place
     first_failed earlier rank place_in span_checks cursor_checks mask_checks new_true_checks true_checks decided unless_empty
     new_slices next_slice slice_step run_start leading_from new_iter nth_flag flag_step take_leading
-    new_true first_true next_true true_step true_flags nth_from next_positions positions_over place_behind ones_left ones_from over kept
+    new_true first_true next_true true_step true_flags nth_from next_positions positions_over place_after ones_left ones_from over kept
 cursors-ruled-out =
     record {
       slices-new = tried (plain slices_code) refl refl refl;

@@ -26,13 +26,13 @@ module _ {C A : Type 0} (next : C → Answer C (Step C A)) where
   unfolding listing
   the_end k c d e = ap (item_then (listing next k)) e
 
-  pub behind-item : (k : ℕ) (c d : C) (a : A) → next c ≡ given (item a d) → after_calls next (suc k) c ≡ after_calls next k d
+  pub after-item : (k : ℕ) (c d : C) (a : A) → next c ≡ given (item a d) → after_calls next (suc k) c ≡ after_calls next k d
   unfolding after_calls
-  behind-item k c d a e = ap (λ (x : Answer C (Step C A)). after_calls next k (cursor_of x)) e
+  after-item k c d a e = ap (λ (x : Answer C (Step C A)). after_calls next k (cursor_of x)) e
 
-  pub behind-end : (k : ℕ) (c d : C) → next c ≡ given (ended d) → after_calls next (suc k) c ≡ after_calls next k d
+  pub after-end : (k : ℕ) (c d : C) → next c ≡ given (ended d) → after_calls next (suc k) c ≡ after_calls next k d
   unfolding after_calls
-  behind-end k c d e = ap (λ (x : Answer C (Step C A)). after_calls next k (cursor_of x)) e
+  after-end k c d e = ap (λ (x : Answer C (Step C A)). after_calls next k (cursor_of x)) e
 
   pub lists : (left : C → List A) (Ok : C → Type 0) (far : C → ℕ) → ((c : C) → Ok c → Moves next left Ok far c)
       → (k : ℕ) (c : C) → Ok c → far c < k → listing next k c ≡ left c

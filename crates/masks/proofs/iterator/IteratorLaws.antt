@@ -1,4 +1,4 @@
--- The cursor over single flags of a span, and the length of the run of equal flags at its place, word by word. For `BitmapIter`.
+-- The cursor over single flags of a span, and the length of the run of equal flags at its place, word by word. For all cursors over flags.
 use mathlib.Core.Path.{◌≡◌, refl, sym, ap, ap₂, ◌∙◌}
 use mathlib.Core.Bool.{Bool, false}
 use mathlib.Core.List.{List, ◌++◌}

@@ -13,7 +13,7 @@ use Rattle.words.specs.Flags.{copies, over}
 use Rattle.words.specs.Loops.{stretch}
 use Rattle.words.proofs.flags.Windows.{length_over, over-append, over_enough, over_none, set-over}
 use Rattle.masks.specs.Frozen.{over_from}
-use Rattle.masks.specs.Positions.{place_behind, left_of}
+use Rattle.masks.specs.Positions.{place_after, left_of}
 use Rattle.masks.specs.TrueIdx.{ones_from, ones_left, true_moved}
 use Rattle.masks.specs.declared.true_idx.TrueIdxIter.{TrueIdxIter}
 use Rattle.masks.proofs.bitmap_ops.FrozenLaws.{length-over_from, over_from-more, over_from-none}
@@ -188,41 +188,41 @@ at-over (x ∷ l) (y ∷ m) zero h g = refl
 at-over (x ∷ l) (y ∷ m) (suc k) h g = at-over l m k (omega arith) (omega arith)
 
 -- the place after k + 1 positions: one past the last of them, or the length if fewer are left
-pub behind-many : (c : TrueIdxIter) (left : List ℕ) (k : ℕ) → k < length left → place_behind c left (suc k) ≡ get_or left k 0 + 1
-unfolding place_behind
-behind-many c left k h = rw (lt-ltb k (length left) h)
+pub after-many : (c : TrueIdxIter) (left : List ℕ) (k : ℕ) → k < length left → place_after c left (suc k) ≡ get_or left k 0 + 1
+unfolding place_after
+after-many c left k h = rw (lt-ltb k (length left) h)
 
-pub behind-few : (c : TrueIdxIter) (left : List ℕ) (k : ℕ) → length left ≤ k → place_behind c left (suc k) ≡ c.length
-unfolding place_behind
-behind-few c left k h = rw (le-ltb k (length left) h)
+pub after-few : (c : TrueIdxIter) (left : List ℕ) (k : ℕ) → length left ≤ k → place_after c left (suc k) ≡ c.length
+unfolding place_after
+after-few c left k h = rw (le-ltb k (length left) h)
 
-pub behind-none : (c : TrueIdxIter) (left : List ℕ) → place_behind c left 0 ≡ c.place
-unfolding place_behind
-behind-none c left = refl
+pub after-none : (c : TrueIdxIter) (left : List ℕ) → place_after c left 0 ≡ c.place
+unfolding place_after
+after-none c left = refl
 
 module _ (c : TrueIdxIter) (out : List ℕ) (count : ℕ) (old left : List ℕ) (p : out ≡ over old left)
     (q : count ≡ min (length old) (length left)) where
   same-room : length out ≡ length old
   same-room = ap length p ∙ length_over old left
 
-  pub place-few : count < length out → c.length ≡ place_behind c left (length old)
+  pub place-few : count < length out → c.length ≡ place_after c left (length old)
   place-few h = go (length old) (omega (arith, same-room))
     where
-      go : (k : ℕ) → length left < k → c.length ≡ place_behind c left k
+      go : (k : ℕ) → length left < k → c.length ≡ place_after c left k
       go zero g = absurd (omega arith)
-      go (suc k) g = sym (behind-few c left k (omega arith))
+      go (suc k) g = sym (after-few c left k (omega arith))
 
-  pub place_none : length out ≤ count → count ≡ 0 → c.place ≡ place_behind c left (length old)
+  pub place_none : length out ≤ count → count ≡ 0 → c.place ≡ place_after c left (length old)
   place_none h e =
       let k : length old ≡ 0 = omega (arith, same-room) in
-      sym (ap (place_behind c left) k ∙ behind-none c left)
+      sym (ap (place_after c left) k ∙ after-none c left)
 
-  pub place-last : (r : ℕ) → length out ≤ count → (count ≡ 0 → ⊥) → r ≡ get_or out (count - 1) 0 → r + 1 ≡ place_behind c left (length old)
+  pub place-last : (r : ℕ) → length out ≤ count → (count ≡ 0 → ⊥) → r ≡ get_or out (count - 1) 0 → r + 1 ≡ place_after c left (length old)
   place-last r h n e =
       let k : length old ≡ suc (count - 1) = omega (arith, same-room, n) in
       ap (λ (x : ℕ). x + 1) (e ∙ ap (λ (l : List ℕ). get_or l (count - 1) 0) p
       ∙ at-over old left (count - 1) (omega (arith, n)) (omega (arith, n)))
-      ∙ sym (behind-many c left (count - 1) (omega (arith, n))) ∙ ap (place_behind c left) (sym k)
+      ∙ sym (after-many c left (count - 1) (omega (arith, n))) ∙ ap (place_after c left) (sym k)
 
 -- ---- with a mask and without
 
@@ -260,9 +260,9 @@ module _ (c : TrueIdxIter) (bytes : List ℕ) where
       )
 
   -- the number and the cursor that the call returns
-  pub told : (k r place : ℕ) → r ≡ min k (length (left_of c bytes)) → place ≡ place_behind c (left_of c bytes) k
+  pub told : (k r place : ℕ) → r ≡ min k (length (left_of c bytes)) → place ≡ place_after c (left_of c bytes) k
       → ◌≡◌ {A = ℕ × TrueIdxIter} (r, true_moved c place)
-      (length (take k (left_of c bytes)), true_moved c (place_behind c (left_of c bytes) k))
+      (length (take k (left_of c bytes)), true_moved c (place_after c (left_of c bytes) k))
   told k r place e f = ap₂ {A = ℕ} (λ (x y : ℕ). (x, true_moved c y)) (e ∙ sym (length-take k (left_of c bytes))) f
 
 pub within-out : (out out' left : List ℕ) (r : ℕ) → r ≡ min (length out) (length left) → out' ≡ over out left → r ≤ length out'

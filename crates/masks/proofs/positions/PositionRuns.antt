@@ -40,23 +40,23 @@ padded (true ∷ m) k (suc n) h =
     ap (λ (t : List ℕ). k ∷ t) (ap (ones_from (suc k)) (sym (window-drop (true ∷ m) 1 0 n)) ∙ padded m (suc k) n (omega arith))
 padded (false ∷ m) k (suc n) h = ap (ones_from (suc k)) (sym (window-drop (false ∷ m) 1 0 n)) ∙ padded m (suc k) n (omega arith)
 
-behind-zeros : (l : List Bool) (k : ℕ) → ones_from k l ≡ ones_from (k + leading false l) (drop (leading false l) l)
+after-zeros : (l : List Bool) (k : ℕ) → ones_from k l ≡ ones_from (k + leading false l) (drop (leading false l) l)
 unfolding ones_from leading
-behind-zeros [] k = refl
-behind-zeros (true ∷ l) k = let e : k ≡ k + 0 = omega arith in ap (λ (x : ℕ). ones_from x (true ∷ l)) e
-behind-zeros (false ∷ l) k =
+after-zeros [] k = refl
+after-zeros (true ∷ l) k = let e : k ≡ k + 0 = omega arith in ap (λ (x : ℕ). ones_from x (true ∷ l)) e
+after-zeros (false ∷ l) k =
     let e : suc k + leading false l ≡ k + suc (leading false l) = omega arith in
-    behind-zeros l (suc k) ∙ ap (λ (x : ℕ). ones_from x (drop (leading false l) l)) e
+    after-zeros l (suc k) ∙ ap (λ (x : ℕ). ones_from x (drop (leading false l) l)) e
 
-behind-ones : (l : List Bool) (k : ℕ)
+skip-ones : (l : List Bool) (k : ℕ)
     → ones_from k l ≡ ones_from k (copies (leading true l) true) ++ ones_from (k + leading true l) (drop (leading true l) l)
 unfolding ones_from leading copies
-behind-ones [] k = refl
-behind-ones (false ∷ l) k = let e : k ≡ k + 0 = omega arith in ap (λ (x : ℕ). ones_from x (false ∷ l)) e
-behind-ones (true ∷ l) k =
+skip-ones [] k = refl
+skip-ones (false ∷ l) k = let e : k ≡ k + 0 = omega arith in ap (λ (x : ℕ). ones_from x (false ∷ l)) e
+skip-ones (true ∷ l) k =
     let e : suc k + leading true l ≡ k + suc (leading true l) = omega arith in
     ap (λ (t : List ℕ). k ∷ t)
-    (behind-ones l (suc k) ∙ ap (λ (x : ℕ). ones_from (suc k) (copies (leading true l) true) ++ ones_from x (drop (leading true l) l)) e)
+    (skip-ones l (suc k) ∙ ap (λ (x : ℕ). ones_from (suc k) (copies (leading true l) true) ++ ones_from x (drop (leading true l) l)) e)
 
 still_one : (m : List Bool) (n : ℕ) → 0 < leading true m → 0 < leading true (window m 0 (suc n))
 unfolding leading window
@@ -79,21 +79,21 @@ module _ (w : ℕ) where
       → ones_from at (bits 64 w) ≡ ones_from (at + z) rest
   past-zeros at z rest e p =
       let f : leading false (bits 64 w) ≡ z = ap (leading false) (sym all_flags) ∙ sym e in
-      behind-zeros (bits 64 w) at ∙ ap (λ (x : ℕ). ones_from (at + x) (drop x (bits 64 w))) f ∙ sym (moved (at + z) z)
+      after-zeros (bits 64 w) at ∙ ap (λ (x : ℕ). ones_from (at + x) (drop x (bits 64 w))) f ∙ sym (moved (at + z) z)
       ∙ ap (ones_from (at + z)) (sym p)
 
   pub past_ones : (at k : ℕ) (rest : List Bool) → k ≡ leading true (take 64 (bits 64 w)) → rest ≡ window (bits 64 w) k 64
       → ones_from at (bits 64 w) ≡ ones_from at (copies k true) ++ ones_from (at + k) rest
   past_ones at k rest e p =
       let f : leading true (bits 64 w) ≡ k = ap (leading true) (sym all_flags) ∙ sym e in
-      behind-ones (bits 64 w) at
+      skip-ones (bits 64 w) at
       ∙ ap (λ (x : ℕ). ones_from at (copies x true) ++ ones_from (at + x) (drop x (bits 64 w))) f
       ∙ ap (λ (t : List ℕ). ones_from at (copies k true) ++ t) (sym (moved (at + k) k) ∙ ap (ones_from (at + k)) (sym p))
 
   pub no_ones : (at z : ℕ) → z ≡ leading false (take 64 (bits 64 w)) → 64 ≤ z → ones_from at (bits 64 w) ≡ []
   no_ones at z e h =
       let f : leading false (bits 64 w) ≡ z = ap (leading false) (sym all_flags) ∙ sym e in
-      behind-zeros (bits 64 w) at ∙ ap (λ (x : ℕ). ones_from (at + x) (drop x (bits 64 w))) f ∙ sym (moved (at + z) z)
+      after-zeros (bits 64 w) at ∙ ap (λ (x : ℕ). ones_from (at + x) (drop x (bits 64 w))) f ∙ sym (moved (at + z) z)
       ∙ ap (ones_from (at + z)) (window-past (bits 64 w) z 64 (omega (arith, length-bits 64 w))) ∙ none-set (at + z) 64
 
   pub some-ones : (z r rest : ℕ) → z ≡ leading false (take 64 (bits 64 w)) → z < 64 → bits 64 rest ≡ window (bits 64 w) z 64
@@ -174,8 +174,8 @@ word_split bytes start n at k w h small e =
     ∙ ap (λ (t : List Bool). ones_from at t ++ ones_left l (at + k)) (window-cut (flags_of bytes) start n at k h)
     ∙ ap (λ (t : List ℕ). t ++ ones_left l (at + k)) (sym word)
 
-pub none-behind : (bytes : List ℕ) (start n at : ℕ) → n ≤ at → ones_left (stretch bytes start n) at ≡ []
-none-behind bytes start n at h = past_end (stretch bytes start n) at (omega (arith, length-window (flags_of bytes) start n))
+pub none-after : (bytes : List ℕ) (start n at : ℕ) → n ≤ at → ones_left (stretch bytes start n) at ≡ []
+none-after bytes start n at h = past_end (stretch bytes start n) at (omega (arith, length-window (flags_of bytes) start n))
 
 -- writing the positions of one more word
 pub word-on : (out₀ : List ℕ) (done : ℕ) (all out : List ℕ) (count : ℕ) (bytes : List ℕ) (start n at : ℕ)

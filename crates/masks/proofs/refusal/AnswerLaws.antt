@@ -1,4 +1,4 @@
--- What a caller can infer from an answer: the number of the checks, and the value. For theorems on calls.
+-- What a caller can infer from an answer: the number of the checks, and the value. For callers in other crates, and theorems.
 use mathlib.Core.Path.{◌≡◌, refl}
 use Prim.Native.Nat.{ℕ, zero, suc}
 use native.Mathlib.Omega.{arith}

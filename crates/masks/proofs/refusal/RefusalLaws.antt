@@ -147,7 +147,7 @@ pub exit-refused : {A : Type 0} (result : Result A Refusal) (e : Refusal) → Is
     → (m : ℕ) → number e ≡ m → (a : A) → answer result ≡ decided m tt a
 exit-refused result e h m p a = exit-is result e h ∙ is-refused (number e) m tt a p (number-ne0 e)
 
--- of a call over a bare span, behind the test for no flags
+-- the answer of a call over a bare span, after a failed check that follows the test for no flags
 pub exit-not-empty : {A : Type 0} (result : Result A Refusal) (e : Refusal) → IsErrAnd result (λ (y : Refusal). y ≡ e)
     → (n : ℕ) → (n ≡ 0 → ⊥) → (m : ℕ) → number e ≡ m → (x : Answer (Unit {0}) A) (a : A)
     → answer result ≡ unless_empty n x (decided m tt a)
@@ -163,7 +163,7 @@ pub step-refused : {S A : Type 0} (r : Result (Unit {0}) Refusal) (s : S) (x : R
     → (m : ℕ) → failure_of r ≡ m → (a : Step S A) → answer_step result ≡ decided m s a
 step-refused r s x e result h m p a = step-is r s x e result h ∙ is-refused (failure_of r) m s a p (failed-back r s x e)
 
--- so are the two promises of a call that may write: its answer and its bytes
+-- after a failed check, the two promises of a call that may write: its answer and its bytes
 pub refused-way : {S A B : Type 0} (r : Result (Unit {0}) Refusal) (s : S) (x : Refused S) → Err x ≡ with_state r s
     → (result : Result A (Refused S)) → IsErrAnd result (λ (y : Refused S). y ≡ x)
     → (m : ℕ) → failure_of r ≡ m → (a : A) (new old : B) → (answer_back result ≡ decided m s a) × (old ≡ kept m new old)

@@ -58,23 +58,23 @@ run-some l at some =
 -- the first run after the z leading zeros is the first run
 module _ (c : SlicesIterator) (l : List Bool) (z : ℕ) (r : Run) (long : length l ≡ c.length) (zeros : z ≡ leading_from false l c.place)
     (e : r ≡ first_run l (c.place + z)) where
-  behind : r ≡ first_run l c.place
+  after : r ≡ first_run l c.place
   unfolding first_run run_start
-  behind =
+  after =
       let first = c.place + leading_from false l c.place in
       let s : first + leading_from false l first ≡ first = omega (arith, no-more-zeros l c.place) in
       e ∙ ap (λ (x : ℕ). first_run l (c.place + x)) zeros ∙ ap (λ (x : ℕ). run_of x (leading_from true l x)) s
 
   run_length : r.length ≡ leading_from true l (c.place + leading_from false l c.place)
   unfolding first_run run_start
-  run_length = ap (λ (y : Run). y.length) behind
+  run_length = ap (λ (y : Run). y.length) after
 
   pub a-run : (r.length ≡ 0 → ⊥) → item r (slices_moved c (r.start + r.length)) ≡ slice_step c l
   unfolding slice_step run_start first_run
   a-run some =
       let first = c.place + leading_from false l c.place in
       let h : first < c.length = omega (arith, long, run-some l first (λ none. some (run_length ∙ none))) in
-      ap (λ (y : Run). item y (slices_moved c (y.start + y.length))) behind ∙ rw (lt-ltb first c.length h)
+      ap (λ (y : Run). item y (slices_moved c (y.start + y.length))) after ∙ rw (lt-ltb first c.length h)
 
   pub no_run : r.length ≡ 0 → ended (slices_moved c c.length) ≡ slice_step c l
   unfolding slice_step run_start

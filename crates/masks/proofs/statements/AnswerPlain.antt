@@ -13,7 +13,7 @@ use Rattle.masks.specs.declared.refusal.Refusal.{Refusal}
 use Rattle.masks.specs.declared.refusal.Refusal.TheVariants.{OverLimit, PastBytes, FalseCount, UnequalLists, ImpossibleBuilder}
 use Rattle.masks.specs.declared.refusal.Refusal.TheVariants.{UnequalLengths, Outside, WrongRecount, WrongAddress, ShortOutput}
 
--- the numbers of the refusals: those of document 01, and 14 of paper 02
+-- the numbers of the refusals: those of the reference, and 14 of paper 02
 pub record NumbersPlain : Type 0 where
   pub over_limit : number OverLimit ≡ 1
   pub past_bytes : number PastBytes ≡ 2

@@ -1,4 +1,4 @@
--- Which masks have a known zero count, in document 01's words, for every call that returns a mask.
+-- Which masks have a known zero count, in the reference's words, for every call that returns a mask.
 --
 -- Each line is about a call that was accepted. The statement names none of the definitions that compute a count.
 use Rattle.std.specs.Prelude.{ℕ, suc, ◌+◌, ◌-◌, ◌/◌, ◌≤◌, ◌<◌, max, ◌≡◌, Bool, List, ◌⊎◌, Some, None}

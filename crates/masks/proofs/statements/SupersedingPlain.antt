@@ -24,13 +24,13 @@ pub record Supersedes (a : Bitmap) (a_bytes : List ℕ) (b : Bitmap) (b_bytes : 
       → superseding_of a a_bytes b b_bytes ≡ given (part_of false a)
   pub second_larger : Accepted a a_bytes → Accepted b b_bytes → a.serial < b.serial
       → superseding_of a a_bytes b b_bytes ≡ given (part_of true b)
-  -- equal serials with equal lists give the first
+  -- if serials and lists are equal, the first wins
   pub equal : Accepted a a_bytes → Accepted b b_bytes → a.serial ≡ b.serial → mask_flags a a_bytes ≡ mask_flags b b_bytes
       → superseding_of a a_bytes b b_bytes ≡ given (part_of false a)
-  -- equal serials with different lists give 14
+  -- if serials are equal and lists differ, the call refuses with 14
   pub different : Accepted a a_bytes → Accepted b b_bytes → a.serial ≡ b.serial → (mask_flags a a_bytes ≡ mask_flags b b_bytes → ⊥)
       → superseding_of a a_bytes b b_bytes ≡ refused 14 tt
-  -- and nothing else does
+  -- and it refuses with 14 only then
   pub fourteen : superseding_of a a_bytes b b_bytes ≡ refused 14 tt
       → (Accepted a a_bytes × Accepted b b_bytes) × ((a.serial ≡ b.serial) × (mask_flags a a_bytes ≡ mask_flags b b_bytes → ⊥))
   -- `eq`, by which lists are compared, does not read serials

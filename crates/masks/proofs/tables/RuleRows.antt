@@ -1,4 +1,4 @@
--- Rules of document 01 that the twelve examples leave open, and paper 02's on counts, as a table of rows, the paper's words above
+-- Rules of the reference that the twelve examples leave open, and paper 02's on counts, as a table of rows, the paper's words above
 -- each.
 --
 -- A row has the value of the definitions at one input, and that of the paper's words there, worked out by hand. Each call goes through the

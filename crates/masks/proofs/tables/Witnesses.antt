@@ -1,8 +1,8 @@
--- For each call an input for each number with which it may refuse, so that no number of the table `may_give` is idle, except the 7 of
+-- For each call an input for each number with which it may refuse, so that each number of the table `may_give` is returned, except the 7 of
 -- `slice`, which `never_seven` of `Refusals` rules out.
 --
--- `proofs/computed/Witnesses.antt` computes the definitions that the calls' contracts cite at these inputs. The calls are named above their lists,
--- in the same order.
+-- `proofs/computed/Witnesses.antt` computes the definitions that the calls' contracts cite at these inputs. The calls are named above their
+-- lists, in the same order.
 use Rattle.std.specs.Prelude.{ℕ, ◌≡◌, true, false, cond, List, [], ◌∷◌, ◌++◌, eqb, length, drop, replicate, Option, Some, None}
 use Rattle.words.specs.Ends.{leading, trailing}
 use Rattle.words.specs.Loops.{stretch}
@@ -22,7 +22,8 @@ use Rattle.masks.specs.Freeze.{freeze_of, into_opt_validity_of}
 use Rattle.masks.specs.Iterator.{iter_at, new_iter, nth_flag, take_leading}
 use Rattle.masks.specs.Mask.{mask_of, try_new_of, new_zeroed_of, unset_bits_of, slice_of}
 use Rattle.masks.proofs.statements.Refusals.{may_give, Family, addressed, spans, cursors, unmasked_cursors, splits, builders, pushed-words}
-use Rattle.masks.proofs.statements.Refusals.{span-appends, gathers, piece-appends, zeroed-masks, masks, slices, combinations, inversions, intersections}
+use Rattle.masks.proofs.statements.Refusals.{span-appends, gathers, piece-appends, zeroed-masks, masks, slices, combinations, inversions}
+use Rattle.masks.proofs.statements.Refusals.{intersections}
 use Rattle.masks.proofs.statements.Refusals.{indexed-pairs, indexed-masks, stated-masks, stated_lengths, supersessions}
 use Rattle.masks.specs.Search.{search_from, search_back}
 use Rattle.masks.specs.SliceIterator.{slices_at, new_slices, next_slice}

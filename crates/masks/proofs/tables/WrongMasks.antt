@@ -90,7 +90,7 @@ pub record WrongMasks : Type 0 where
   -- `Bitmap::slice` to the last 4 of 8 flags, four of them zeros, with a false count of 7
   pub slice-refused : Tried (slice_of (mask_of 0 8 (Some 7)) two 4 4)
       (refused 3 (mask_of 0 8 (Some 7)))
-      -- found false only when the mask is cut
+      -- refused with 7 at the recount, not with 3
       (refused 7 (mask_of 0 8 (Some 7)))
       -- refused, and the mask cut
       (refused 3 (mask_of 4 4 (Some 7)))
@@ -104,7 +104,7 @@ pub record WrongMasks : Type 0 where
   -- `Bitmap::unset_bits` of four ones, said to be zeros, and of four zeros, said to be ones
   pub unset-bits-all : Tried (unset_bits_of (mask_of 0 4 (Some 4)) ones_bytes)
       (refused 3 (mask_of 0 4 (Some 4)))
-      -- a count of all believed
+      -- a count equal to the length believed
       (given (record { mask = mask_of 0 4 (Some 4); zeros = 4 }))
       -- the mask returned with its count corrected
       (refused 3 (mask_of 0 4 (Some 0)))
@@ -159,9 +159,9 @@ pub record WrongMasks : Type 0 where
   -- `or` with a mask that is all ones by its count
   pub or : Tried (paired Or ones ones_bytes right right_bytes)
       (four None (first 0x0F))
-      -- zeros by the count
+      -- all zeros, by the count
       (four (Some 4) (first 0x00))
-      -- that mask's count returned
+      -- the count of the mask of all ones returned
       (four (Some 0) (first 0x0F))
   -- `or_not`
   pub or-not : Tried (paired OrNot left left_bytes right right_bytes)
@@ -175,7 +175,7 @@ pub record WrongMasks : Type 0 where
       (four (Some 4) (first 0x00))
       -- the count unknown
       (four None (first 0x00))
-      -- the count of the masks combined
+      -- the count of one of the masks returned
       (four (Some 0) (first 0x00))
   -- `not` of a mask that begins at flag 2
   pub not : Tried {A = Written} (not_of right right_bytes (lent 8), not_bytes right right_bytes (lent 8))
@@ -230,7 +230,7 @@ pub record WrongMasks : Type 0 where
       (refused 6 tt)
       -- the flags past the end read
       (given false)
-      -- lengths compared with the index
+      -- refused with 5, as if the lengths differed
       (refused 5 tt)
   -- `eq` of the first 4 flags and the first 3
   pub eq : Tried (eq_of left left_bytes (mask_of 0 3 None) left_bytes)
@@ -265,19 +265,19 @@ pub record WrongMasks : Type 0 where
       2
       -- the start not added
       0
-      -- the number of a length over the limit
+      -- refused with 1, as a length above the limit is
       1
   -- `check_mask` of 8 flags, four of them zeros, with a count of 3
   pub check_mask : Tried (first_failed (mask_checks (mask_of 0 8 (Some 3)) (0x2D ∷ [])))
       3
       -- the count not checked, or only compared with the length
       0
-      -- the count taken for a length
+      -- refused with 2, the count taken for a length
       2
   -- `check_output` of 65 flags in 15 bytes
   pub check_output : Tried (first_failed (output_checks 65 15))
       9
       -- room required for whole bytes, not for whole words
       0
-      -- the number of the check on bytes that are read
+      -- refused with 2, the number of the check of bytes that are read
       2

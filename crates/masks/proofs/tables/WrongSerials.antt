@@ -57,21 +57,21 @@ pub record WrongSerials : Type 0 where
       (given (part true 1 2 (mask_under 7 3 4 (Some 1))))
       -- the smaller serial wins
       (given (part false 0 1 old))
-      -- the start not fitted
+      -- the start not reduced to the bit in the part's first byte
       (given (part true 1 2 later))
   -- `superseding_part` of equal serials and equal lists
   pub superseding-part-equal : Tried (superseding_of low byte high byte)
       (given (part false 0 1 low))
-      -- the second of two equals
+      -- the second of two equal masks wins
       (given (part true 0 1 high))
       -- equal serials refused whatever the lists
       (refused 14 tt)
   -- `superseding_part` of equal serials and lists of unequal length
   pub superseding-part-refused : Tried (superseding_of low byte (mask_under 5 4 3 None) byte)
       (refused 14 tt)
-      -- the first wins unseen
+      -- the first wins although the lists differ
       (given (part false 0 1 low))
-      -- lengths taken for those of a combination
+      -- refused with 5, as by a combination
       (refused 5 tt)
   -- `superseding` of serials 5 and 7
   pub superseding : Tried (record_of (superseding_of old two later two))
@@ -99,7 +99,7 @@ pub record WrongSerials : Type 0 where
       (0x70 ∷ [])
       -- starting at the first byte
       other
-      -- that byte of the first slice
+      -- the byte of that number in the first slice
       (0xF0 ∷ [])
   -- `superseding_bytes` after a refusal: the first's span lies outside its bytes
   pub superseding-bytes-refused : Tried (bytes_given (mask_under 7 3 14 None) old)

@@ -74,21 +74,21 @@ pub record WrongSpans : Type 0 where
       (refused 2 tt)
       -- the address checked first
       (refused 8 tt)
-      -- counted in the flags that are there
+      -- only the flags inside the bytes counted
       (given 1)
   -- `BitChunks::new` of 9 flags starting at flag 3
   pub chunks-new : Tried (new_chunks two 3 9)
       (given (chunks_at 3 9 0))
       -- the start lost
       (given (chunks_at 0 9 0))
-      -- the place at the start
+      -- the place set to the start bit
       (given (chunks_at 3 9 3))
   -- `BitChunksExact::new` of 17 flags in two bytes
   pub chunks-new-exact : Tried (new_chunks two 0 17)
       (refused 2 tt)
       -- the bytes not checked
       (given (chunks_at 0 17 0))
-      -- cut to the bytes
+      -- the length cut to the flags of the bytes
       (given (chunks_at 0 16 0))
   -- `BitChunks::next` of 64 flags starting at flag 1
   pub chunks-next : Tried (next_chunk (chunks_at 1 64 0) nine)
@@ -102,7 +102,7 @@ pub record WrongSpans : Type 0 where
       (given (0xD, 4))
       -- flags past the end kept
       (given (0xFD, 4))
-      -- a whole byte
+      -- a whole byte returned
       (given (0xFD, 8))
   -- `split_at_unchecked` of 9 flags starting at flag 3, at 4
   pub split_at_unchecked : Tried (split_at two 3 9 4)

@@ -22,7 +22,7 @@ use Rattle.masks.specs.Cursor.{item, ended, cursor_checks}
 use Rattle.masks.proofs.statements.CursorPlain.{NewPlaces, ChunkPlaces, FlagPlaces, RunPlaces, OnePlaces, CursorsPlainly}
 use Rattle.masks.specs.Iterator.{iter_at, iter_flags, moved_to, new_iter, iter_checks, flag_step, nth_flag, leading_from, take_leading}
 use Rattle.masks.specs.Mask.{mask_checks}
-use Rattle.masks.specs.Positions.{left_of, place_behind, next_positions}
+use Rattle.masks.specs.Positions.{left_of, place_after, next_positions}
 use Rattle.masks.specs.Search.{nth_from}
 use Rattle.masks.specs.SliceIterator.{slices_at, slices_moved, run_of, new_slices, run_checks, run_start, slice_step, next_slice}
 use Rattle.masks.specs.TrueIdx.{true_at, true_moved, new_true_checks, first_true, new_true, true_flags, true_checks, true_step, next_true}
@@ -33,7 +33,7 @@ use Rattle.masks.specs.declared.slice_iterator.SlicesIterator.{SlicesIterator}
 use Rattle.masks.specs.declared.true_idx.TrueIdxIter.{TrueIdxIter}
 use Rattle.masks.proofs.refusal.AnswerLaws.{given-number, given-value}
 use Rattle.masks.proofs.checks.CheckLaws.{both_right, check-allowed}
-use Rattle.masks.proofs.positions.PositionLaws.{behind-few, behind-many, behind-none}
+use Rattle.masks.proofs.positions.PositionLaws.{after-few, after-many, after-none}
 use Rattle.masks.proofs.theorems.RunsPlain.{leading-in}
 
 -- ---- a step that is chosen by a test
@@ -190,11 +190,11 @@ one_ended c d (Some q) e = absurd (let z : ◌≡◌ {A = ℕ} 0 1 = cc in omega
 
 -- the number of positions that `next_chunk` writes, and the cursor after it
 positions-given : (c : TrueIdxIter) (bytes : List ℕ) (room n : ℕ) (d : TrueIdxIter) → given (n, d) ≡ next_positions c bytes room
-    → (n ≡ length (take room (left_of c bytes))) × (d ≡ true_moved c (place_behind c (left_of c bytes) room))
+    → (n ≡ length (take room (left_of c bytes))) × (d ≡ true_moved c (place_after c (left_of c bytes) room))
 unfolding next_positions
 positions-given c bytes room n d e =
     let many : ℕ = length (take room (left_of c bytes)) in
-    let next : TrueIdxIter = true_moved c (place_behind c (left_of c bytes) room) in
+    let next : TrueIdxIter = true_moved c (place_after c (left_of c bytes) room) in
     let r : ◌≡◌ {A = ℕ × TrueIdxIter} (n, d) (many, next) =
     given-value (first_failed (true_checks c (length bytes))) c (n, d) (many, next) e in
     (ap (λ (p : ℕ × TrueIdxIter). p.0) r, ap (λ (p : ℕ × TrueIdxIter). p.1) r)
@@ -210,15 +210,15 @@ one-places c bytes d =
       at-end = λ e. one_ended c d found (given-value number c (ended d) (true_step c found) e);
       none-asked = λ n e.
           let r = positions-given c bytes 0 n d e in
-          (r.0, r.1 ∙ ap (true_moved c) (behind-none c left));
+          (r.0, r.1 ∙ ap (true_moved c) (after-none c left));
       all-given = λ n k e h.
           let r = positions-given c bytes (suc k) n d e in
           let many : length (take (suc k) left) ≡ suc k = length-take (suc k) left ∙ omega arith in
-          (r.0 ∙ many, r.1 ∙ ap (true_moved c) (behind-many c left k h));
+          (r.0 ∙ many, r.1 ∙ ap (true_moved c) (after-many c left k h));
       fewer = λ n k e h.
           let r = positions-given c bytes (suc k) n d e in
           let many : length (take (suc k) left) ≡ length left = length-take (suc k) left ∙ omega arith in
-          (r.0 ∙ many, r.1 ∙ ap (true_moved c) (behind-few c left k h));
+          (r.0 ∙ many, r.1 ∙ ap (true_moved c) (after-few c left k h));
     }
 
 pub cursors_plainly : CursorsPlainly

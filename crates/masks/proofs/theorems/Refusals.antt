@@ -32,7 +32,8 @@ use Rattle.masks.specs.Iterator.{iter_checks, new_iter, nth_flag, take_leading}
 use Rattle.masks.specs.Mask.{mask_checks, zeroed_checks, piece_checks, slice_checks, try_new_of, new_zeroed_of, new_zeroed_bytes}
 use Rattle.masks.specs.Mask.{unset_bits_of, slice_of}
 use Rattle.masks.proofs.statements.Refusals.{numbers, among, all_among, Refuses, RefusesUnwritten, Refusals, may_give, append_family}
-use Rattle.masks.proofs.statements.Refusals.{Family, addressed, spans, cursors, unmasked_cursors, splits, builders, pushed-words, span-appends, gathers}
+use Rattle.masks.proofs.statements.Refusals.{Family, addressed, spans, cursors, unmasked_cursors, splits, builders, pushed-words}
+use Rattle.masks.proofs.statements.Refusals.{span-appends, gathers}
 use Rattle.masks.proofs.statements.Refusals.{piece-appends, zeroed-masks, masks, slices, combinations, inversions, intersections}
 use Rattle.masks.proofs.statements.Refusals.{indexed-pairs, indexed-masks, stated-masks, stated_lengths, supersessions}
 use Rattle.masks.specs.Positions.{next_positions, positions_over}

@@ -91,9 +91,9 @@ no-runs k (x ∷ l) h = absurd (omega arith)
 
 -- ---- one by one
 
-pub behind : (l : List Bool) (place : ℕ) → runs_left l place ≡ runs_left l (run_start l place)
+pub after : (l : List Bool) (place : ℕ) → runs_left l place ≡ runs_left l (run_start l place)
 unfolding runs_left run_start leading_from
-behind l place =
+after l place =
     zeros-passed place (drop place l)
     ∙ ap (runs_from (place + leading false (drop place l))) (drop-drop (leading false (drop place l)) place l)
 
@@ -121,7 +121,7 @@ pub next-lists : (c : SlicesIterator) (l : List Bool) → length l ≡ c.length 
 unfolding slice_step
 next-lists c l e =
     let s = run_start l c.place in
-    behind l c.place
+    after l c.place
     ∙ ⊎_elim
     (λ (h : s < c.length). rw (lt-ltb s c.length h) (a-run-first l c.place (omega arith)))
     (λ (h : c.length ≤ s). rw (le-ltb s c.length h) (none_left l s (omega arith)))

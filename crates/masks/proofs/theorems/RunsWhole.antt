@@ -26,7 +26,7 @@ use Rattle.masks.specs.declared.slice_iterator.SlicesIterator.{SlicesIterator}
 use Rattle.masks.proofs.checks.CheckLaws.{is-given}
 use Rattle.masks.proofs.cursor.CursorLaws.{over-mask}
 use Rattle.masks.proofs.cursor.ListingLaws.{Moves, gives, ends, lists, place-again}
-use Rattle.masks.proofs.theorems.RunsPlain.{FirstRun, first_run_lem, no_ones, next-lists, none_left, behind, a-run-first}
+use Rattle.masks.proofs.theorems.RunsPlain.{FirstRun, first_run_lem, no_ones, next-lists, none_left, after, a-run-first}
 
 -- ---- all of them, and maximal
 
@@ -69,9 +69,9 @@ all_left (suc k) l p h cut =
     let below : AllRuns l (suc (s + n)) (runs_left l (suc (s + n))) =
     all_left k l (suc (s + n)) (omega (arith, f.after, f.some)) (λ (j : ℕ) (e : suc j ≡ suc (s + n)).
     let i : j ≡ s + n = omega arith in ap (λ (x : ℕ). get_or l x false) i ∙ f.stops) in
-    subst (AllRuns l p) (sym (behind l p ∙ a-run-first l p b ∙ ap (λ (t : List Run). r ∷ t) (over_zero l (s + n) f.stops)))
+    subst (AllRuns l p) (sym (after l p ∙ a-run-first l p b ∙ ap (λ (t : List Run). r ∷ t) (over_zero l (s + n) f.stops)))
     (run_at f.after f.zeros (maximal l p r cut f) below))
-    (λ (b : length l ≤ s). subst (AllRuns l p) (sym (behind l p ∙ none_left l s b)) (no_run (no_ones l p b)))
+    (λ (b : length l ≤ s). subst (AllRuns l p) (sym (after l p ∙ none_left l s b)) (no_run (no_ones l p b)))
     (cases_lt s (length l))
 
 from_first : (l : List Bool) → runs_left l 0 ≡ runs_from 0 l
@@ -82,8 +82,8 @@ pub all_runs : (l : List Bool) → AllRuns l 0 (runs_from 0 l)
 all_runs l =
     subst (AllRuns l 0) (from_first l) (all_left (suc (length l)) l 0 (omega arith) (λ (j : ℕ) (e : suc j ≡ 0). absurd (omega arith)))
 
-behind-stop : (l : List Bool) (s j : ℕ) → s ≤ j → get_or l s false ≡ false → get_or l j false ≡ true → suc s ≤ j
-behind-stop l s j h z e = ⊎_elim
+after-stop : (l : List Bool) (s j : ℕ) → s ≤ j → get_or l s false ≡ false → get_or l j false ≡ true → suc s ≤ j
+after-stop l s j h z e = ⊎_elim
     (λ (b : s < j). b)
     (λ (b : j ≤ s). let i : j ≡ s = omega arith in absurd (true≢false (sym e ∙ ap (λ (x : ℕ). get_or l x false) i ∙ z)))
     (cases_lt s j)
@@ -97,7 +97,7 @@ in-a-run {l} {p} (run_at {r = r} {more = more} low z m rest) j h e = ⊎_elim
     (λ (b : r.start ≤ j). ⊎_elim
     (λ (d : j < r.start + r.length). (r, (Memᴰ.head refl, (b, d))))
     (λ (d : r.start + r.length ≤ j).
-    let beyond : suc (r.start + r.length) ≤ j = behind-stop l (r.start + r.length) j d m.stops e in
+    let beyond : suc (r.start + r.length) ≤ j = after-stop l (r.start + r.length) j d m.stops e in
     let found = in-a-run rest j beyond e in
     (found.0, (Memᴰ.tail found.1.0, found.1.1)))
     (cases_lt j (r.start + r.length)))

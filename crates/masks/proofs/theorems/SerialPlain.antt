@@ -15,7 +15,7 @@ use Rattle.masks.specs.Appends.{Append, append_answer, append_checks, append_fla
 use Rattle.masks.specs.Builder.{appended, filling}
 use Rattle.masks.specs.Checks.{Check, first_failed, span_checks}
 use Rattle.masks.specs.Combine.{each_of, largest_serial, not_checks, pair_checks, pair_mask, pair_of, result_mask, select_checks}
-use Rattle.masks.specs.Freeze.{all_ones, freeze_checks, frozen_mask, validity_of}
+use Rattle.masks.specs.Freeze.{total_ones, freeze_checks, frozen_mask, validity_of}
 use Rattle.masks.specs.Mask.{mask_checks, mask_of, new_zeroed_of, slice_checks, slice_of, sliced_mask, try_new_of, uncounted, unset_bits_of}
 use Rattle.masks.specs.Mask.{with_count, zero_count, zeroed_checks}
 use Rattle.masks.proofs.statements.SerialPlain.{Largest, SerialsPlainly}
@@ -79,7 +79,7 @@ serials_plainly = record {
   append = append-serial;
   freeze = λ b buf m e. its_serial (freeze_checks b (length buf)) b m (frozen_mask b) e;
   into-opt-validity = λ b buf m e.
-      validity-serial b (eqb (all_ones b) b.length) m
+      validity-serial b (eqb (total_ones b) b.length) m
       (given-value (first_failed (freeze_checks b (length buf))) b (Some m) (validity_of b) e);
   slice = λ m bytes offset n s e. its_serial (slice_checks m bytes offset n) m s (sliced_mask m bytes offset n) e;
   unset_bits = counted-serial;

@@ -25,7 +25,8 @@ use Rattle.masks.specs.declared.bitmap.Bitmap.{Bitmap}
 use Rattle.masks.specs.declared.superseding.Part.{Part}
 use Rattle.masks.proofs.theorems.Accepted.{span-accepted}
 use Rattle.masks.proofs.refusal.AnswerLaws.{given-number, given-value, refused-number}
-use Rattle.masks.proofs.checks.CheckLaws.{SpanAllowed, before, both_left, both_right, check-allowed, earlier-none, failed-ranked, first-number}
+use Rattle.masks.proofs.checks.CheckLaws.{SpanAllowed, before, both_left, both_right, check-allowed, earlier-none, failed-ranked}
+use Rattle.masks.proofs.checks.CheckLaws.{first-number}
 use Rattle.masks.proofs.checks.CheckLaws.{last-refused, one-check, passed-before}
 use Rattle.masks.proofs.bitmap.MaskLaws.{mask-allowed}
 use Rattle.masks.proofs.superseding.SupersedingLaws.{apart, first_wins, masks-before, second_wins}

@@ -1,4 +1,4 @@
--- Counts over the three parts of a split, and over whole words from both ends. For the five counts of `utils`.
+-- Counts over the three parts of a split, and over whole words from both ends. For the five counts of `utils`. `length-low` is for all.
 use mathlib.Core.Path.{◌≡◌, refl, sym, ap, ap₂, ◌∙◌}
 use mathlib.Core.Bool.{Bool, true, false, not}
 use mathlib.Core.List.{List, ◌++◌, map, append_assoc}

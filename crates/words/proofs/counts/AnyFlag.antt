@@ -13,7 +13,7 @@ use Rattle.words.specs.Flags.{bits, copies, count, digit, word_of, window}
 use Rattle.words.specs.Ops.{zip3}
 use Rattle.words.specs.Counts.{any_set, same_flags}
 use Rattle.words.proofs.flags.Bits.{length-bits, bits-zero, word_of_bits}
-use Rattle.words.proofs.counts.Counting.{count_add, count-inside, count-padded, count-behind}
+use Rattle.words.proofs.counts.Counting.{count_add, count-inside, count-padded, count-after}
 use Rattle.words.proofs.flags.Windows.{window-add, window-drop, window-all}
 
 pub any_append : (a b : List Bool) → any_set (a ++ b) ≡ (any_set a || any_set b)
@@ -147,14 +147,14 @@ any-passed Z a (suc n) none inv =
     refl (omega arith)
 
 -- the answer t is that of word i
-abbrev pub Said : List Bool → Bool → ℕ → Type 0
-Said Z t i = t ≡ any_set (window Z (64 * i) 64)
+abbrev pub AnyIn : List Bool → Bool → ℕ → Type 0
+AnyIn Z t i = t ≡ any_set (window Z (64 * i) 64)
 
 -- what the answer of a search of words a to b states about them
 abbrev pub Among : List Bool → ℕ → ℕ → Bool → Type 0
 Among Z a b r = MatchBool r
-    ((k : ℕ) × (k < length (range_with_len a (b - a))) × HoldsAt (Said Z true) (range_with_len a (b - a)) k)
-    (AllWithin (Said Z false) (range_with_len a (b - a)) 0 (length (range_with_len a (b - a))))
+    ((k : ℕ) × (k < length (range_with_len a (b - a))) × HoldsAt (AnyIn Z true) (range_with_len a (b - a)) k)
+    (AllWithin (AnyIn Z false) (range_with_len a (b - a)) 0 (length (range_with_len a (b - a))))
 
 pub any-among : (Z : List Bool) (a b : ℕ) (r : Bool) → Among Z a b r → r ≡ true → true ≡ any_set Z
 any-among Z a b true (k, h, p) e = any-exit Z _ 64 true (p 0) refl
@@ -171,12 +171,12 @@ none-among Z a b false none e h inv =
     ∙ ap (λ (x : ℕ). count (window Z 0 (64 * x))) m
 
 -- a list of m flags with none set among the first n, whose flags after the first n are all equal
-pub any_behind : (Z : List Bool) (m n : ℕ) (x t : Bool) → 0 ≡ count (window Z 0 n) → length Z ≡ m
+pub any_after : (Z : List Bool) (m n : ℕ) (x t : Bool) → 0 ≡ count (window Z 0 n) → length Z ≡ m
     → t ≡ (ltb n m && x) → (n < m → window Z n (m - n) ≡ copies (m - n) x) → t ≡ any_set Z
-any_behind Z m n x t p e q h = q ∙ go x refl (cases_lt n m) ∙ sym (any-count Z)
+any_after Z m n x t p e q h = q ∙ go x refl (cases_lt n m) ∙ sym (any-count Z)
   where
     all : 0 + (m - n) * digit x ≡ count Z
-    all = count-behind Z m n 0 ((m - n) * digit x) x p e refl h
+    all = count-after Z m n 0 ((m - n) * digit x) x p e refl h
 
     go : (y : Bool) → x ≡ y → (n < m) ⊎ (m ≤ n) → (ltb n m && y) ≡ ltb 0 (count Z)
     go true f (inl k) =

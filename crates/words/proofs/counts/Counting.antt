@@ -140,9 +140,9 @@ pub count-short : (l : List Bool) (len w c : ℕ) → length l ≡ len → len �
 count-short l len w c e h p q = q ∙ ap count p ∙ count-padded l 64 (omega arith)
 
 -- a list of m flags whose flags after the first n are all equal
-pub count-behind : (l : List Bool) (m n c d : ℕ) (x : Bool) → c ≡ count (window l 0 n) → length l ≡ m → d ≡ (m - n) * digit x
+pub count-after : (l : List Bool) (m n c d : ℕ) (x : Bool) → c ≡ count (window l 0 n) → length l ≡ m → d ≡ (m - n) * digit x
     → (n < m → window l n (m - n) ≡ copies (m - n) x) → c + d ≡ count l
-count-behind l m n c d x p e q h = ⊎_elim
+count-after l m n c d x p e q h = ⊎_elim
     (λ (k : n < m).
     let a : m ≡ n + (m - n) = omega arith in
     let z : 0 + n ≡ n = omega arith in

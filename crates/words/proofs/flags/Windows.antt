@@ -52,7 +52,7 @@ unfolding window
 window-all [] = refl
 window-all (x ∷ l) = ap (λ (t : List Bool). x ∷ t) (sym (window-drop (x ∷ l) 1 0 (length l)) ∙ window-all l)
 
--- past the end of a list there is nothing
+-- past the end of a list a window is zeros
 pub window-past : (l : List Bool) (k n : ℕ) → length l ≤ k → window l k n ≡ copies n false
 unfolding window copies
 window-past l k zero h = refl

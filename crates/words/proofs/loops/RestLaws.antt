@@ -3,11 +3,11 @@ use Rattle.std.proofs.Common.{◌≡◌, ap, sym, ◌∙◌, Bool, false, ◌&&�
 use Rattle.words.specs.Flags.{bits, copies, count, digit, flags_of, window}
 use Rattle.words.specs.Ops.{zip3}
 use Rattle.words.specs.Counts.{any_set}
-use Rattle.words.proofs.counts.AnyFlag.{any-copies, any_behind}
+use Rattle.words.proofs.counts.AnyFlag.{any-copies, any_after}
 use Rattle.words.proofs.flags.Bits.{bits-zero}
 use Rattle.words.proofs.flags.Bytes.{length-flags}
-use Rattle.words.proofs.ops.Combining.{length-zip, zip-behind, zip-past}
-use Rattle.words.proofs.counts.Counting.{count-behind}
+use Rattle.words.proofs.ops.Combining.{length-zip, zip-after, zip-past}
+use Rattle.words.proofs.counts.Counting.{count-after}
 use Rattle.words.proofs.flags.Windows.{window-past}
 
 -- three words of zeros combined: each flag is the one of three zeros
@@ -27,11 +27,11 @@ module _ (f : Bool → Bool → Bool → Bool) (a b c : List ℕ) (p q r len n :
   flags-end : (l : List ℕ) (k : ℕ) → length l ≤ 8 * n → length (flags_of l) ≤ k + 64 * n
   flags-end l k h = omega (arith, length-flags l)
 
-  behind : 64 * n < len
+  after : 64 * n < len
       → window (zip3 f (window (flags_of a) p len) (window (flags_of b) q len) (window (flags_of c) r len)) (64 * n) (len - 64 * n)
       ≡ copies (len - 64 * n) (f false false false)
-  behind h =
-      zip-behind f (flags_of a) (flags_of b) (flags_of c) p q r len (64 * n) (omega arith)
+  after h =
+      zip-after f (flags_of a) (flags_of b) (flags_of c) p q r len (64 * n) (omega arith)
       (flags-end a p (ended h).in_a) (flags-end b q (ended h).in_b) (flags-end c r (ended h).in_c)
 
   pub count-finish : (i x d : ℕ)
@@ -40,11 +40,11 @@ module _ (f : Bool → Bool → Bool → Bool) (a b c : List ℕ) (p q r len n :
       → x + d ≡ count (zip3 f (window (flags_of a) p len) (window (flags_of b) q len) (window (flags_of c) r len))
   count-finish i x d e h k u =
       let m : i ≡ n = omega arith in
-      count-behind (zip3 f (window (flags_of a) p len) (window (flags_of b) q len) (window (flags_of c) r len)) len (64 * n) x d
+      count-after (zip3 f (window (flags_of a) p len) (window (flags_of b) q len) (window (flags_of c) r len)) len (64 * n) x d
       (f false false false)
       (e ∙ ap (λ (j : ℕ). count
       (window (zip3 f (window (flags_of a) p len) (window (flags_of b) q len) (window (flags_of c) r len)) 0 (64 * j))) m)
-      (length-zip f (flags_of a) (flags_of b) (flags_of c) p q r len) u behind
+      (length-zip f (flags_of a) (flags_of b) (flags_of c) p q r len) u after
 
   pub any-finish : (i : ℕ) (t : Bool)
       → 0 ≡ count (window (zip3 f (window (flags_of a) p len) (window (flags_of b) q len) (window (flags_of c) r len)) 0 (64 * i))
@@ -52,8 +52,8 @@ module _ (f : Bool → Bool → Bool → Bool) (a b c : List ℕ) (p q r len n :
       → t ≡ any_set (zip3 f (window (flags_of a) p len) (window (flags_of b) q len) (window (flags_of c) r len))
   any-finish i t e h k u =
       let m : i ≡ n = omega arith in
-      any_behind (zip3 f (window (flags_of a) p len) (window (flags_of b) q len) (window (flags_of c) r len)) len (64 * n)
+      any_after (zip3 f (window (flags_of a) p len) (window (flags_of b) q len) (window (flags_of c) r len)) len (64 * n)
       (f false false false) t
       (e ∙ ap (λ (j : ℕ). count
       (window (zip3 f (window (flags_of a) p len) (window (flags_of b) q len) (window (flags_of c) r len)) 0 (64 * j))) m)
-      (length-zip f (flags_of a) (flags_of b) (flags_of c) p q r len) u behind
+      (length-zip f (flags_of a) (flags_of b) (flags_of c) p q r len) u after

@@ -8,7 +8,8 @@ use Rattle.words.specs.Flags.{bits, copies, flags_of, window, over, over_at}
 use Rattle.words.specs.Loops.{whole_words}
 use Rattle.words.proofs.flags.Bytes.{length-flags, over-part}
 use Rattle.words.proofs.word.Loads.{over-take}
-use Rattle.words.proofs.flags.Windows.{length-copies, at_copies, length-window, window-add, window-all, window-ext, at_take, over_none, over-more}
+use Rattle.words.proofs.flags.Windows.{length-copies, at_copies, length-window, window-add, window-all, window-ext, at_take, over_none}
+use Rattle.words.proofs.flags.Windows.{over-more}
 use Rattle.words.proofs.flags.Windows.{over_enough}
 
 pub write-none : (F G : List Bool) → F ≡ over F (window G 0 0)

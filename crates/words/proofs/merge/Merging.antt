@@ -11,7 +11,8 @@ use Rattle.std.proofs.Math.Bool.{or-false}
 use Rattle.words.specs.Flags.{bits, copies, window}
 use Rattle.words.specs.Merge.{merged}
 use Rattle.words.proofs.flags.Bits.{length-bits, bits-add, bits-take, bits-zero, bits-ones, bits-mod, bits-shl, bits-or, bits-join}
-use Rattle.words.proofs.flags.Windows.{length-copies, at_copies, copies-window, length-window, window-add, window-cut, window-drop, window-past}
+use Rattle.words.proofs.flags.Windows.{length-copies, at_copies, copies-window, length-window, window-add, window-cut, window-drop}
+use Rattle.words.proofs.flags.Windows.{window-past}
 use Rattle.words.proofs.flags.Windows.{as-window, at-window, in_window}
 use Rattle.words.proofs.word.Loads.{bits-more, bits-shr}
 
@@ -127,9 +128,9 @@ front-flags d k a b ea h eb =
     let z : j ≡ 0 + j = omega arith in
     ap (λ (l : List Bool). get_or l j false) (sym f) ∙ get_or-take d (a ++ b) j false q ∙ ap (λ (x : ℕ). get_or (a ++ b) x false) z)
 
-pub behind-some : (d k a b : ℕ) → k < d
+pub concat-some : (d k a b : ℕ) → k < d
     → bits d (bit_or (a % (1 * 2 ^ k % 2 ^ d)) (b * 2 ^ k % 2 ^ d)) ≡ window (take k (bits d a) ++ bits d b) 0 d
-behind-some d k a b h =
+concat-some d k a b h =
     let e : k + (d - k) ≡ d = omega arith in
     let low : 1 * 2 ^ k % 2 ^ d ≡ 2 ^ k = shl_exact 1 k d (lit< tt) (omega arith) ∙ one-mul (2 ^ k) in
     ap (λ (x : ℕ). bits d (bit_or (a % x) (b * 2 ^ k % 2 ^ d))) low
@@ -139,8 +140,8 @@ behind-some d k a b h =
     ∙ front-flags d k (take k (bits d a)) (bits d b) (length-take-le k (bits d a) (omega (arith, length-bits d a))) (le_of_lt h)
     (length-bits d b)
 
-pub behind-all : (d k a : ℕ) (b : List Bool) → d ≤ k → bits d a ≡ window (take k (bits d a) ++ b) 0 d
-behind-all d k a b h = as-window (bits d a) (take k (bits d a) ++ b) 0 d (length-bits d a) (λ j q.
+pub concat-all : (d k a : ℕ) (b : List Bool) → d ≤ k → bits d a ≡ window (take k (bits d a) ++ b) 0 d
+concat-all d k a b h = as-window (bits d a) (take k (bits d a) ++ b) 0 d (length-bits d a) (λ j q.
     let z : j ≡ 0 + j = omega arith in
     let n : length (bits d a) ≡ d = length-bits d a in
     ap (λ (l : List Bool). get_or l j false) (sym (take_all k (bits d a) (omega arith)))
@@ -149,15 +150,15 @@ behind-all d k a b h = as-window (bits d a) (take k (bits d a) ++ b) 0 d (length
 
 -- ---- a word shifted left, and copies of a flag as a word
 
-pub up-some : (d k w : ℕ) → k < d → bits d (w * 2 ^ k % 2 ^ d) ≡ window (copies k false ++ bits d w) 0 d
-up-some d k w h =
+pub shl-some : (d k w : ℕ) → k < d → bits d (w * 2 ^ k % 2 ^ d) ≡ window (copies k false ++ bits d w) 0 d
+shl-some d k w h =
     let e : d ≡ k + (d - k) = omega arith in
     bits-mod d (w * 2 ^ k) ∙ ap (λ (n : ℕ). bits n (w * 2 ^ k)) e ∙ bits-shl k (d - k) w
     ∙ ap (λ (t : List Bool). copies k false ++ t) (sym (bits-take d (d - k) w (omega arith)))
     ∙ front-flags d k (copies k false) (bits d w) (length-copies k false) (le_of_lt h) (length-bits d w)
 
-pub up-past : (d k : ℕ) (b : List Bool) → d ≤ k → bits d 0 ≡ window (copies k false ++ b) 0 d
-up-past d k b h = bits-zero d ∙ as-window (copies d false) (copies k false ++ b) 0 d (length-copies d false) (λ j q.
+pub shl-past : (d k : ℕ) (b : List Bool) → d ≤ k → bits d 0 ≡ window (copies k false ++ b) 0 d
+shl-past d k b h = bits-zero d ∙ as-window (copies d false) (copies k false ++ b) 0 d (length-copies d false) (λ j q.
     at_copies d false j q
     ∙ sym (get_or-append (copies k false) b false (0 + j) (omega (arith, length-copies k false)) ∙ at_copies k false (0 + j) (omega arith)))
 
@@ -193,9 +194,9 @@ or_row (x ∷ p) t (suc n) =
     (ap₂ (zip_with ◌||◌) (sym (window-drop (x ∷ p) 1 0 n)) (sym (window-drop (false ∷ (copies (length p) false ++ t)) 1 0 n))
     ∙ or_row p t n ∙ window-drop (x ∷ (p ++ t)) 1 0 n)
 
-pub or-behind : (d k a b u r : ℕ) → k ≤ d → bits d a ≡ window (take k (bits d a)) 0 d → bits d u ≡ window (copies k false ++ bits d b) 0 d
+pub or-concat : (d k a b u r : ℕ) → k ≤ d → bits d a ≡ window (take k (bits d a)) 0 d → bits d u ≡ window (copies k false ++ bits d b) 0 d
     → bits d r ≡ zip_with ◌||◌ (bits d a) (bits d u) → bits d r ≡ window (take k (bits d a) ++ bits d b) 0 d
-or-behind d k a b u r h low moved joined =
+or-concat d k a b u r h low moved joined =
     let n : k ≡ length (take k (bits d a)) = sym (length-take-le k (bits d a) (omega (arith, length-bits d a))) in
     joined ∙ ap₂ (zip_with ◌||◌) low (moved ∙ ap (λ (x : ℕ). window (copies x false ++ bits d b) 0 d) n)
     ∙ or_row (take k (bits d a)) (bits d b) d

@@ -69,15 +69,15 @@ place-high d h w n k r l e q p =
     ∙ sym (ap (λ (x : List Bool). nth_place x n) (cut d h w l) ∙ nth-high (bits h w) (bits (d - h) (w / 2 ^ h)) n (omega arith))
 
 -- the half in which set flag n is, as numbers: s places and o ones are passed over
-pub behind-le : (n k x r : ℕ) → r ≡ cond (ltb n k) 0 x → r ≤ x
-behind-le n k x r e = go (ltb n k) e
+pub skip-le : (n k x r : ℕ) → r ≡ cond (ltb n k) 0 x → r ≤ x
+skip-le n k x r e = go (ltb n k) e
   where
     go : (t : Bool) → r ≡ cond t 0 x → r ≤ x
     go true e = omega arith
     go false e = omega arith
 
-pub behind-ones : (n k r : ℕ) → r ≡ cond (ltb n k) 0 k → r ≤ n
-behind-ones n k r e = ⊎_elim
+pub skip-ones : (n k r : ℕ) → r ≡ cond (ltb n k) 0 k → r ≤ n
+skip-ones n k r e = ⊎_elim
     (λ (h : n < k). let z : r ≡ 0 = rw (lt-ltb n k h) at e in omega arith)
     (λ (h : k ≤ n). let z : r ≡ k = rw (le-ltb n k h) at e in omega arith)
     (cases_lt n k)

@@ -160,9 +160,9 @@ module _ (f : Bool → Bool → Bool → Bool) (A B C : List Bool) where
   zip-starts p q r x y z n ex ey ez = rw (ex, ey, ez)
 
   -- the flags after the first n, if all three have ended by then
-  pub zip-behind : (p q r m n : ℕ) → n ≤ m → length A ≤ p + n → length B ≤ q + n → length C ≤ r + n
+  pub zip-after : (p q r m n : ℕ) → n ≤ m → length A ≤ p + n → length B ≤ q + n → length C ≤ r + n
       → window (zip3 f (window A p m) (window B q m) (window C r m)) n (m - n) ≡ copies (m - n) (f false false false)
-  zip-behind p q r m n h ha hb hc = sym (zip-part p q r m n (m - n) (omega arith)) ∙ zip-past (p + n) (q + n) (r + n) (m - n) ha hb hc
+  zip-after p q r m n h ha hb hc = sym (zip-part p q r m n (m - n) (omega arith)) ∙ zip-past (p + n) (q + n) (r + n) (m - n) ha hb hc
 
 -- equal stretches with other names
 pub zip-at : (f : Bool → Bool → Bool → Bool) (A A' B B' C C' : List ℕ) (p p' q q' r r' n : ℕ) → A ≡ A' → p ≡ p' → B ≡ B' → q ≡ q' → C ≡ C'

@@ -1,4 +1,4 @@
--- Wrong answers that the contracts rule out, two for each call of document 01.
+-- Wrong answers that the contracts rule out, two for each call of the reference.
 --
 -- A contract says that an answer equals a definition at the call's arguments. So it rules out every other answer. A row has a call's
 -- definition at one input, its value there, and two answers that a faulty function would return, the fault named above each.
@@ -33,9 +33,9 @@ pub record WrongAnswers : Type 0 where
   -- `merge_reversed` of the words 8 and 5 at offset 0
   pub merge-reversed-at_0 : Tried (merged (word_flags 8) (word_flags 5) 0)
       (word_flags 8)
-      -- a shift by 64 that does nothing
+      -- the next word not shifted, instead of shifted by 64
       (word_flags 13)
-      -- the next word
+      -- the next word returned
       (word_flags 5)
   -- `nth_set_bit_u32` of 0x2D, whose bits 0, 2, 3 and 5 are set, with n 2
   pub nth_set_bit_u32 : Tried (nth_one (bits 32 0x2D) 2)

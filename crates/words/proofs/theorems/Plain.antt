@@ -1,5 +1,5 @@
--- The plain reading of each definition of specs/: how long each list is, what its flag j is, what is counted and what is found.
--- A reading that is a law of another file is named, not repeated.
+-- The plain reading of `Flags`, `Ops`, `Loops`, `Merge`, `Nth`, `Counts` and `all_are` of specs/: how long each list is, what its flag j
+-- is, what is counted and what is found. A reading that is a law of another file is named, not repeated.
 --
 -- `digit`, `bit_at`, `flag_at` and `op_of` are plain as they are. Flag j of a list l is `get_or l j false`: false past its end.
 use Rattle.std.specs.Prelude.{Ok, Err}
@@ -130,12 +130,12 @@ at-over (x ∷ l) (y ∷ m) zero d h k = refl
 at-over (x ∷ l) (y ∷ m) (suc j) d h k = at-over l m j d (omega arith) (omega arith)
 
 -- and past the end of m it is that of l.
-pub at-behind : {A : Type 0} (l m : List A) (j : ℕ) (d : A) → length m ≤ j → get_or (over l m) j d ≡ get_or l j d
+pub at-after : {A : Type 0} (l m : List A) (j : ℕ) (d : A) → length m ≤ j → get_or (over l m) j d ≡ get_or l j d
 unfolding over
-at-behind [] m j d h = refl
-at-behind (x ∷ l) [] j d h = refl
-at-behind (x ∷ l) (y ∷ m) zero d h = absurd (omega arith)
-at-behind (x ∷ l) (y ∷ m) (suc j) d h = at-behind l m j d (omega arith)
+at-after [] m j d h = refl
+at-after (x ∷ l) [] j d h = refl
+at-after (x ∷ l) (y ∷ m) zero d h = absurd (omega arith)
+at-after (x ∷ l) (y ∷ m) (suc j) d h = at-after l m j d (omega arith)
 
 -- `over_at l n m` is as long as l.
 pub length-over_at : (l : List Bool) (n : ℕ) (m : List Bool) → length (over_at l n m) ≡ length l
@@ -167,10 +167,10 @@ pub over_at-in : (l : List Bool) (n : ℕ) (m : List Bool) (j : ℕ) → j < len
 over_at-in l n m j h k = over_at-rest l n m j (omega arith) ∙ at-over (drop n l) m j false h (omega (arith, length-drop n l))
 
 -- and past the end of m those of l again.
-pub over_at-behind : (l : List Bool) (n : ℕ) (m : List Bool) (j : ℕ) → length m ≤ j
+pub over_at-after : (l : List Bool) (n : ℕ) (m : List Bool) (j : ℕ) → length m ≤ j
     → get_or (over_at l n m) (n + j) false ≡ get_or l (n + j) false
-over_at-behind l n m j h = ⊎_elim
-    (λ (k : n < length l). over_at-rest l n m j (omega arith) ∙ at-behind (drop n l) m j false h ∙ get_or-drop n l j false)
+over_at-after l n m j h = ⊎_elim
+    (λ (k : n < length l). over_at-rest l n m j (omega arith) ∙ at-after (drop n l) m j false h ∙ get_or-drop n l j false)
     (λ (k : length l ≤ n). ap (λ (t : List Bool). get_or t (n + j) false) (sym (over_at-past l n m k)))
     (cases_lt n (length l))
 

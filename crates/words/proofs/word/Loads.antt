@@ -13,7 +13,8 @@ use Rattle.std.specs.Int.{w64, to_le_bytes, from_le_bytes}
 use Rattle.words.specs.Flags.{bits, word_of, flags_of, window, over, over_at}
 use Rattle.words.proofs.flags.Bits.{length-bits, bits-add, bits-take, bits-zero, bits-mod, word_of_bits, or-append}
 use Rattle.words.proofs.flags.Bytes.{flags-more, flags-append, flags-take, flags-drop, flags-one, length-flags, over-part}
-use Rattle.words.proofs.flags.Windows.{window-all, window-cut, window-drop, window-past, window-ext, at-window, in_window, bits-window, ltb-sub}
+use Rattle.words.proofs.flags.Windows.{window-all, window-cut, window-drop, window-past, window-ext, at-window, in_window, bits-window}
+use Rattle.words.proofs.flags.Windows.{ltb-sub}
 
 -- ---- at most eight bytes: joined byte by byte, written as the bytes of a word
 
@@ -158,8 +159,8 @@ bits-shr d s x h =
     ∙ ap (λ (l : List Bool). take d (drop s l)) (sym (bits-add s d x) ∙ bits-more d (s + d) x h)
     ∙ window-cut (bits d x) 0 (s + d) s d (omega arith) ∙ ap (λ (n : ℕ). window (bits d x) n d) z
 
-pub down-all : (d k w : ℕ) → d ≤ k → bits d 0 ≡ window (bits d w) k d
-down-all d k w h = bits-zero d ∙ sym (window-past (bits d w) k d (omega (arith, length-bits d w)))
+pub shr-all : (d k w : ℕ) → d ≤ k → bits d 0 ≡ window (bits d w) k d
+shr-all d k w h = bits-zero d ∙ sym (window-past (bits d w) k d (omega (arith, length-bits d w)))
 
 -- a word of the list's last flags, shifted right
 pub from_end : (l : List Bool) (p k bit x r : ℕ) → length l ≤ p + 64 → bit ≡ p + k → bits 64 x ≡ window l p 64

@@ -5,12 +5,12 @@ use Rattle.activity.proofs.exchange.exchange.Goals as goal
 
 pub exchange_half-requires : goal.exchange_half-requires
 exchange_half-requires c =
-    (omega (arith, c.told-counts, length-take 32 c.args.counts.now), c.masks-tests.ensures, omega arith, holds-low _ _ c.requires)
+    (omega (arith, c.told-counts, length-take 32 c.args.counts.now), c.single_flags-tests.ensures, omega arith, holds-low _ _ c.requires)
 
 pub exchange_half-requires-2 : goal.exchange_half-requires-2
 exchange_half-requires-2 c = (
   second-long c.args.counts.now _ c.exchange_half.ensures.0 c.told-counts,
-  c.masks-tests.ensures,
+  c.single_flags-tests.ensures,
   omega arith,
   holds-high c.args.counts.now _ c.exchange_half.ensures.0 _ c.requires,
 )

@@ -12,17 +12,17 @@ returns-in_err-check_pair c =
     let both = pair-refused _ _ _ _ _ _ _ c.in_err-check_pair.ensures (number-ne0 _) in
     record { answer = exit-is _ _ c.from_residual.ensures.1 ∙ both.0; bytes = both.1 }
 
-pub pair_shortcut-by-requires : goal.pair_shortcut-by-requires
-pair_shortcut-by-requires c = pair_lengths _ _ _ _ _ (sym c.in_ok-check_pair.ensures)
+pub pair_shortcut-shortcut-requires : goal.pair_shortcut-shortcut-requires
+pair_shortcut-shortcut-requires c = pair_lengths _ _ _ _ _ (sym c.in_ok-check_pair.ensures)
 
 pub returns : goal.returns
 returns c =
-    let same : c.match-by.by ≡ c.pair_shortcut-by.result =
-    elim c.match-by.branch [ in-Some w ↦ w.by-is ∙ sym w.in-Some.is | in-None w ↦ w.by-is ] in record {
-      answer = pair-given _ _ _ _ _ _ _ c.in_ok-check_pair.ensures _ _ _ _ refl (same ∙ c.pair_shortcut-by.ensures)
+    let same : c.match-shortcut.shortcut ≡ c.pair_shortcut-shortcut.result =
+    elim c.match-shortcut.branch [ in-Some w ↦ w.shortcut-is ∙ sym w.in-Some.is | in-None w ↦ w.shortcut-is ] in record {
+      answer = pair-given _ _ _ _ _ _ _ c.in_ok-check_pair.ensures _ _ _ _ refl (same ∙ c.pair_shortcut-shortcut.ensures)
           c.result_count-unset.ensures c.pair_serial-serial.ensures c.result_mask.ensures;
-      bytes = pair-written _ _ _ _ _ _ _ c.in_ok-check_pair.ensures _ _ refl c.pair_shortcut-by.ensures (search rules) (search rules)
-          (elim c.match-by.branch [
+      bytes = pair-written _ _ _ _ _ _ _ c.in_ok-check_pair.ensures _ _ refl c.pair_shortcut-shortcut.ensures (search rules) (search rules)
+          (elim c.match-shortcut.branch [
             | in-Some w ↦ rw (w.in-Some.is, w.out-is) w.fill.ensures
             | in-None w ↦ rw (w.in-None.is, w.out-is)
                 (rw (c.flags-a.ensures.0, c.flags-a.ensures.1, c.flags-b.ensures.0, c.flags-b.ensures.1) at w.combine.ensures)

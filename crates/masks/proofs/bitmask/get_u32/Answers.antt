@@ -1,8 +1,8 @@
 -- By cases on the span's checks: `refused-alike` or `given-alike`.
 use mathlib.Core.Path.{◌∙◌}
 use Rattle.masks.specs.Bitmask.{window_at, window_word}
-use Rattle.masks.specs.Lent.{Part}
-use Rattle.masks.proofs.span.LentLaws.{refused-alike, given-alike}
+use Rattle.masks.specs.CheckedSpan.{Part}
+use Rattle.masks.proofs.span.CheckedSpanLaws.{refused-alike, given-alike}
 use Rattle.masks.proofs.refusal.RefusalLaws.{exit-is}
 use Rattle.masks.proofs.bitmask.get_u32.Goals as goal
 

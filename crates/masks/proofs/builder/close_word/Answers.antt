@@ -17,7 +17,7 @@ overflow_add-ones c =
 pub returns : goal.returns
 returns c =
     grown-way _ _ _ _ c.grown.ensures
-    (push-closed _ c.args.buf.now _ _ _ _ (or-merged c.args.b _ _ _ c.requires.low c.up.ensures c.or_word-low.ensures)
+    (push-closed _ c.args.buf.now _ _ _ _ (or-merged c.args.b _ _ _ c.requires.low c.shl_or_zero.ensures c.or_word-low.ensures)
     c.ones_in_word.ensures
     (λ i. (c.slice_known-1.given i).fits) (λ i. (c.slice_known-2-1.given i).fits)
     (word-stored _ _ _ _ _ _ c.requires (omega arith) c.store_whole.ensures))

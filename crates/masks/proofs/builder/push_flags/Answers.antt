@@ -30,9 +30,9 @@ returns c =
     let head : 64 - b.length % 64 ≤ 64 = omega arith in
     let long = length-then _ _ _ _ c.close_word-closed.ensures (length-low _ _ head) in
     let none = none-padded _ (c.args.k - (64 - b.length % 64)) _
-    (length-rest _ _ _ _ _ c.requires.0 less c.low_flags-flags.ensures c.down-rest.ensures) (omega (arith, c.requires.0))
-    (rest-padded _ _ _ _ _ c.requires.0 less c.low_flags-flags.ensures c.down-rest.ensures) in
+    (length-rest _ _ _ _ _ c.requires.0 less c.low_flags-flags.ensures c.shr_or_zero-rest.ensures) (omega (arith, c.requires.0))
+    (rest-padded _ _ _ _ _ c.requires.0 less c.low_flags-flags.ensures c.shr_or_zero-rest.ensures) in
     grown-way _ _ _ _ c.grown.ensures
     (append-then _ _ _ _ _ c.close_word-closed.ensures
     (push-begun _ _ _ _ _ (omega (arith, long)) (omega (arith, c.requires.0)) none (search rules) (omega (arith, long, less)))
-    ∙ ap (appended _) (cut-whole _ _ _ _ _ c.requires.0 less c.low_flags-flags.ensures c.down-rest.ensures))
+    ∙ ap (appended _) (cut-whole _ _ _ _ _ c.requires.0 less c.low_flags-flags.ensures c.shr_or_zero-rest.ensures))

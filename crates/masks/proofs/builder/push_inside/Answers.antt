@@ -6,4 +6,4 @@ use Rattle.masks.proofs.builder.push_inside.Goals as goal
 pub returns : goal.returns
 returns c =
     λ bytes. grown-way _ _ bytes _ c.grown.ensures
-    (push-within _ bytes _ _ _ _ c.requires c.up.ensures c.or_word-low.ensures (search rules))
+    (push-within _ bytes _ _ _ _ c.requires c.shl_or_zero.ensures c.or_word-low.ensures (search rules))

@@ -9,4 +9,4 @@ loop-i-init c = gathered_none _ c.args.idxs.now
 pub loop-i-preserved : goal.loop-i-preserved
 loop-i-preserved c =
     word-step _ _ _ _ _ _ _ _ c.loop-i.invariant c.loop-i-test.true c.requires refl
-    c.span_flag-flag.ensures c.constant_word.ensures c.behind-w.ensures
+    c.span_flag-flag.ensures c.constant_word.ensures c.concat_low-w.ensures

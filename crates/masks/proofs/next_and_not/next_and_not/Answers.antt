@@ -5,7 +5,8 @@ use native.Mathlib.Omega.{arith}
 use Rattle.masks.specs.Answer.{given}
 use Rattle.masks.specs.NextAndNot.{next_and_not_of}
 use Rattle.masks.proofs.checks.CheckLaws.{is-given}
-use Rattle.masks.proofs.next_and_not.NextAndNotLaws.{before-allowed, found-ahead, found_before, found_none, found-word, free-length, next-allowed}
+use Rattle.masks.proofs.next_and_not.NextAndNotLaws.{before-allowed, found-ahead, found_before, found_none, found-word, free-length}
+use Rattle.masks.proofs.next_and_not.NextAndNotLaws.{next-allowed}
 use Rattle.masks.proofs.refusal.RefusalLaws.{exit-refused}
 use Rattle.masks.proofs.next_and_not.next_and_not.Goals as goal
 

@@ -36,7 +36,7 @@ pub returns-then-n-ones : goal.returns-then-n-ones
 returns-then-n-ones c =
     let u = c.loop-done.invariant.0 in
     let v =
-    turned _ _ _ _ _ _ _ _ _ _ _ u c.leading_in_word-zeros.ensures c.down-rest.ensures c.leading_in_word-ones.ensures
+    turned _ _ _ _ _ _ _ _ _ _ _ u c.leading_in_word-zeros.ensures c.shr_or_zero-rest.ensures c.leading_in_word-ones.ensures
     _ _ refl c.min-n.ensures c.write_run.ensures in
     let both = full _ _ _ _ _ _ v (omega (arith, v.same_length, u.same_length, u.within, c.min-n.ensures, c.if-n-ones.true)) in
     record { count = both.0; positions = both.1 }
@@ -45,23 +45,23 @@ pub loop-done-smaller : goal.loop-done-smaller
 loop-done-smaller c =
     omega (
       arith,
-      shorter _ _ _ _ _ _ _ _ _ _ 0 c.loop-done.invariant.0 c.leading_in_word-zeros.ensures c.down-rest.ensures
+      shorter _ _ _ _ _ _ _ _ _ _ 0 c.loop-done.invariant.0 c.leading_in_word-zeros.ensures c.shr_or_zero-rest.ensures
           c.leading_in_word-ones.ensures
-          _ c.down-w.ensures,
-      some-ones _ _ _ _ c.leading_in_word-zeros.ensures c.if-zeros-ge64.false c.down-rest.ensures c.leading_in_word-ones.ensures,
+          _ c.shr_or_zero-w.ensures,
+      some-ones _ _ _ _ c.leading_in_word-zeros.ensures c.if-zeros-ge64.false c.shr_or_zero-rest.ensures c.leading_in_word-ones.ensures,
     )
 
 pub loop-done-preserved : goal.loop-done-preserved
 loop-done-preserved c =
     let u = c.loop-done.invariant.0 in (
-      turned _ _ _ _ _ _ _ _ _ _ _ u c.leading_in_word-zeros.ensures c.down-rest.ensures c.leading_in_word-ones.ensures
-          _ _ c.down-w.ensures c.min-n.ensures c.write_run.ensures,
+      turned _ _ _ _ _ _ _ _ _ _ _ u c.leading_in_word-zeros.ensures c.shr_or_zero-rest.ensures c.leading_in_word-ones.ensures
+          _ _ c.shr_or_zero-w.ensures c.min-n.ensures c.write_run.ensures,
       omega (
         arith,
         c.loop-done.invariant.1,
-        shorter _ _ _ _ _ _ _ _ _ _ 0 u c.leading_in_word-zeros.ensures c.down-rest.ensures c.leading_in_word-ones.ensures _
-            c.down-w.ensures,
-        some-ones _ _ _ _ c.leading_in_word-zeros.ensures c.if-zeros-ge64.false c.down-rest.ensures c.leading_in_word-ones.ensures,
+        shorter _ _ _ _ _ _ _ _ _ _ 0 u c.leading_in_word-zeros.ensures c.shr_or_zero-rest.ensures c.leading_in_word-ones.ensures _
+            c.shr_or_zero-w.ensures,
+        some-ones _ _ _ _ c.leading_in_word-zeros.ensures c.if-zeros-ge64.false c.shr_or_zero-rest.ensures c.leading_in_word-ones.ensures,
         lead-within false _ _ c.leading_in_word-zeros.ensures,
         lead-within true _ _ c.leading_in_word-ones.ensures,
       ),

@@ -2,7 +2,7 @@
 use mathlib.Core.Path.{refl}
 use native.Mathlib.Omega.{arith}
 use Rattle.masks.proofs.positions.PositionLaws.{begins, finished, full}
-use Rattle.masks.proofs.positions.PositionRuns.{word-on, none-behind}
+use Rattle.masks.proofs.positions.PositionRuns.{word-on, none-after}
 use Rattle.masks.proofs.positions.write_words.Goals as goal
 
 pub loop-at-init : goal.loop-at-init
@@ -30,5 +30,5 @@ loop-at-preserved c =
 
 pub returns : goal.returns
 returns c =
-    let all = finished _ _ _ _ _ _ c.loop-at.invariant.1 (none-behind _ _ _ _ c.loop-at-test.false) in
+    let all = finished _ _ _ _ _ _ c.loop-at.invariant.1 (none-after _ _ _ _ c.loop-at-test.false) in
     record { count = omega (arith, all.0); positions = all.1 }

@@ -7,8 +7,8 @@ use Rattle.masks.proofs.slice_iterator.RunLaws.{walk-byte, walk-stop, walk-zero,
 use borrow.Author.Rules.{rules}
 use Rattle.masks.proofs.slice_iterator.run_from.Goals as goal
 
-pub bytes-preserved-then-all_ones : goal.bytes-preserved-then-all_ones
-bytes-preserved-then-all_ones c = walk-byte _ _ _ _ _ _ c.bytes.invariant _ _ c.all_ones.ensures c.if-all_ones.true refl
+pub bytes-preserved-then-is_full_byte : goal.bytes-preserved-then-is_full_byte
+bytes-preserved-then-is_full_byte c = walk-byte _ _ _ _ _ _ c.bytes.invariant _ _ c.is_full_byte.ensures c.if-is_full_byte.true refl
 
 pub bytes-preserved-then-byte-bit-eq0 : goal.bytes-preserved-then-byte-bit-eq0
 bytes-preserved-then-byte-bit-eq0 c =

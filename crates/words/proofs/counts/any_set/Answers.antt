@@ -1,9 +1,9 @@
--- A word with a set flag ends the search (`any-exit`); if none has one (`any-passed`), all flags after n words are equal (`any-finish`).
+-- A word with a set flag ends the search (`any-exit`); if none has one (`none-among`), all flags after n words are equal (`any-finish`).
 use Rattle.std.proofs.Common.{ap, sym, ◌∙◌, length, arith, refl, true, false, rules}
 use Rattle.std.proofs.lemmas.Iterator.{YieldsList-from_range, cases_from_any}
 use Rattle.words.specs.Counts.{any_set}
 use Rattle.words.specs.Loops.{combined}
-use Rattle.words.proofs.counts.AnyFlag.{any-short, any-exit, any-zero, any-among, none-among, Said}
+use Rattle.words.proofs.counts.AnyFlag.{any-short, any-exit, any-zero, any-among, none-among, AnyIn}
 use Rattle.std.proofs.lemmas.Bool.{true≢false}
 use Rattle.words.proofs.loops.RestLaws.{any-finish}
 use Rattle.words.proofs.ops.Combining.{zip-later, length-zip}
@@ -31,7 +31,7 @@ returns-then-any c =
           w.if-any_whole.true
       | else-any_whole w ↦
           any-among _ _ _ w.any.result
-          (cases_from_any _ _ _ (Said l true) (Said l false) w.any.ensures.ran
+          (cases_from_any _ _ _ (AnyIn l true) (AnyIn l false) w.any.ensures.ran
           (YieldsList-from_range c.new-lanes.result.n c.min-n.result _ refl refl)
           (λ x q k. search rules) (λ x q k. (search rules, search rules)))
           (sym w.value-is ∙ c.if-any.true)
@@ -54,12 +54,12 @@ returns-else-any c =
           (λ h. record { in_a = omega arith; in_b = omega arith; in_c = omega arith })
           c.min-n.result _
           (none-among l _ _ w.any.result
-          (cases_from_any _ _ _ (Said l true) (Said l false) w.any.ensures.ran
+          (cases_from_any _ _ _ (AnyIn l true) (AnyIn l false) w.any.ensures.ran
           (YieldsList-from_range c.new-lanes.result.n c.min-n.result _ refl refl)
           (λ x q k. search rules) (λ x q k. (search rules, search rules)))
           (sym w.value-is ∙ c.if-any.false) (omega (arith, at.a.0, ap length x.source))
           (sym (any-zero _ (sym w.if-any_whole.false ∙ c.any_whole.ensures ∙ ap any_set
           (zip-later _ _ _ _ _ _ _ _ _ _ _ _ _ _ 0 _ (at.a.1 ∙ x.source) (omega (arith, at.a.2, x.start))
           (at.b.1 ∙ y.source) (omega (arith, at.b.2, y.start)) (at.c.1 ∙ z.source) (omega (arith, at.c.2, z.start)) (omega arith))))))
-          (omega arith) (omega arith) (c.any_behind.ensures ∙ rw c.past_end.ensures)
+          (omega arith) (omega arith) (c.any_after.ensures ∙ rw c.past_end.ensures)
     ]

@@ -35,7 +35,7 @@ overflow_add-result-2 c =
     let a = c.args in
     let x = count-near-all (flags_of a.bytes.now) a.start _ _ _ refl c.near_word-w.ensures c.ones_in_word-first.ensures in
     let z =
-    count-first-flags _ _ _ _ _ (rest-ends a.bytes.now a.start a.len _ _ c.min-n.ensures c.room.ensures)
+    count-first-flags _ _ _ _ _ (rest-ends a.bytes.now a.start a.len _ _ c.min-n.ensures c.words_in_range.ensures)
     c.byte_word.ensures c.ones_below-last.ensures in
     omega (
       arith,
@@ -49,7 +49,7 @@ returns c =
     let a = c.args in
     let x = count-near-all (flags_of a.bytes.now) a.start _ _ _ refl c.near_word-w.ensures c.ones_in_word-first.ensures in
     let z =
-    count-first-flags _ _ _ _ _ (rest-ends a.bytes.now a.start a.len _ _ c.min-n.ensures c.room.ensures)
+    count-first-flags _ _ _ _ _ (rest-ends a.bytes.now a.start a.len _ _ c.min-n.ensures c.words_in_range.ensures)
     c.byte_word.ensures c.ones_below-last.ensures in
     count-parts (flags_of a.bytes.now) _ _ _ _ _ _ _ _ _ _ _ x c.ones-mid.ensures z (omega arith) (omega arith) (omega arith)
     (parts-sum a.start a.len _ _ c.if-len-k.false c.min-n.ensures)

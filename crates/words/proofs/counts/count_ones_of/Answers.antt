@@ -38,7 +38,7 @@ total : goal.returns
 total c =
     count-finish _ _ _ _ _ _ _ _ c.min-n.result
     (λ h. record { in_a = omega arith; in_b = omega arith; in_c = omega arith })
-    c.loop-i.i _ _ c.loop-i.invariant.1 c.loop-i.invariant.0 c.loop-i-test.false (c.ones_behind.ensures ∙ rw c.past_end.ensures)
+    c.loop-i.i _ _ c.loop-i.invariant.1 c.loop-i.invariant.0 c.loop-i-test.false (c.ones_after.ensures ∙ rw c.past_end.ensures)
 
 pub overflow_add-result : goal.overflow_add-result
 overflow_add-result c = omega (arith, count_most _ _ _ (total c) (length-zip _ _ _ _ _ _ _ _))

@@ -6,4 +6,4 @@ use Rattle.words.proofs.flags.Bits.{length-bits}
 use Rattle.words.proofs.counts.none_from.Goals as goal
 
 pub returns : goal.returns
-returns c = ap not (c.is_set.ensures ∙ ap any_set c.down.ensures ∙ any-drop _ _ _ (omega (arith, length-bits 64 c.args.w)))
+returns c = ap not (c.is_set.ensures ∙ ap any_set c.shr_or_zero.ensures ∙ any-drop _ _ _ (omega (arith, length-bits 64 c.args.w)))

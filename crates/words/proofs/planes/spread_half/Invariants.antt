@@ -1,4 +1,4 @@
--- The invariant: the first c numbers are written (`wrote-step`).
+-- The invariant: the first c numbers are written (`wrote_step`).
 use Rattle.words.specs.Planes.{Wrote}
 use Rattle.words.proofs.planes.spread_half.Given as goal
 

@@ -1,4 +1,4 @@
--- The words that are left are the end of all: eight more are added (`totals_grown`), then one more (`one_grown`).
+-- The words that are left are the end of all: eight more are added (`totals_grown`), then one more (`one_left`).
 use Rattle.std.proofs.Common.{◌≡◌, ◌∙◌, ◌<◌, ap, length, rules}
 use Rattle.std.specs.Slice.Iter.{chunks_exact_rest}
 use Rattle.words.proofs.planes.PlaneLaws.{end_none, end_more, end_all, one_left, totals_none, totals_grown}

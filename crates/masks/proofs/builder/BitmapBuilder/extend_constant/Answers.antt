@@ -15,12 +15,12 @@ use Rattle.masks.proofs.builder.BitmapBuilder.extend_constant.Goals as goal
 
 pub push_inside-requires : goal.push_inside-requires
 push_inside-requires c =
-    let ok = c.fits_inside.ensures c.if-fits_inside.true in
+    let ok = c.fast_append_ok.ensures c.if-fast_append_ok.true in
     inside-padded _ _ _ _ _ _ ok.1 ok.0 (length-copies _ _) c.constant_flags.ensures
 
-pub returns-then-fits_inside : goal.returns-then-fits_inside
-returns-then-fits_inside c =
-    let ok = c.fits_inside.ensures c.if-fits_inside.true in
+pub returns-then-fast_append_ok : goal.returns-then-fast_append_ok
+returns-then-fast_append_ok c =
+    let ok = c.fast_append_ok.ensures c.if-fast_append_ok.true in
     let both = append-way _ _ _ _ _ _ _ _ (constant-passed _ _ _ ok.1) refl
     (c.push_inside.ensures _ ∙ ap (appended _) (front-padded _ _ _ (length-copies _ _) (omega (arith, ok.0)) c.constant_flags.ensures)) in
     record { answer = both.0; bytes = both.1 }

@@ -25,14 +25,14 @@ pub push_inside-requires : goal.push_inside-requires
 push_inside-requires c =
     let room = (grow-allowed _ _ _ _ _ _ c.check_span_grow.ensures (passed-back _ _ _ c.map_err.ensures.variant c.in_ok-map_err.was)).1 in
     let a = c.args in
-    let few = few-inside a.self a.n _ c.stays_inside.ensures c.if-stays_inside.true in
+    let few = few-inside a.self a.n _ c.one_load_fits.ensures c.if-one_load_fits.true in
     inside-padded _ _ _ _ _ _ room few.1 (length-low _ _ (omega (arith, few.0))) c.low_flags.ensures
 
-pub returns-then-stays_inside : goal.returns-then-stays_inside
+pub returns-then-one_load_fits : goal.returns-then-one_load_fits
 unfolding span_grow_checks
-returns-then-stays_inside c =
+returns-then-one_load_fits c =
     let a = c.args in
-    let few = (few-inside a.self a.n _ c.stays_inside.ensures c.if-stays_inside.true).0 in
+    let few = (few-inside a.self a.n _ c.one_load_fits.ensures c.if-one_load_fits.true).0 in
     let most : a.n ≤ 64 = omega arith in
     let both = append-way _ _ _ _ _ _ _ _ c.check_span_grow.ensures (passed-back _ _ _ c.map_err.ensures.variant c.in_ok-map_err.was)
     (c.push_inside.ensures _

@@ -16,16 +16,16 @@ returns-in_err-map_err c =
 pub finish-requires : goal.finish-requires
 finish-requires c = room_of _ _ _ (sym c.check_builder.ensures ∙ (passed-back _ _ _ c.map_err.ensures.variant c.in_ok-map_err.was))
 
-pub all_ones-requires : goal.all_ones-requires
-all_ones-requires c =
+pub total_ones-requires : goal.total_ones-requires
+total_ones-requires c =
     ones-fit _ _ _ (room_of _ _ _ (sym c.check_builder.ensures ∙ (passed-back _ _ _ c.map_err.ensures.variant c.in_ok-map_err.was)))
 
-pub returns-then-all_ones-self : goal.returns-then-all_ones-self
-returns-then-all_ones-self c =
+pub returns-then-total_ones-self : goal.returns-then-total_ones-self
+returns-then-total_ones-self c =
     let both =
     given-way _ _ _ _ (same-checks _ _ _ c.check_builder.ensures) _ _ _ _
     (passed-back _ _ _ c.map_err.ensures.variant c.in_ok-map_err.was)
-    (all_set c.args.self _ c.all_ones.ensures c.if-all_ones-self.true)
+    (all_set c.args.self _ c.total_ones.ensures c.if-total_ones-self.true)
     c.finish.ensures in
     record { answer = both.0; bytes = both.1 }
 
@@ -38,5 +38,5 @@ returns c =
     let both =
     given-way _ _ _ _ (same-checks _ _ _ c.check_builder.ensures) _ _ _ _
     (passed-back _ _ _ c.map_err.ensures.variant c.in_ok-map_err.was)
-    (not-all-set c.args.self _ _ c.all_ones.ensures c.if-all_ones-self.false c.frozen_mask.ensures) c.finish.ensures in
+    (not-all-set c.args.self _ _ c.total_ones.ensures c.if-total_ones-self.false c.frozen_mask.ensures) c.finish.ensures in
     record { answer = both.0; bytes = both.1 }

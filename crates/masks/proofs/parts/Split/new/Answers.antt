@@ -1,7 +1,6 @@
 -- The parts of a split fit (`split-bounded`).
 use Rattle.std.proofs.Common.{arith}
-use Rattle.masks.specs.Workers.{Bounded}
-use Rattle.masks.proofs.aligned.SplitLaws.{split-bounded}
+use Rattle.masks.proofs.aligned.SplitLaws.{Bounded, split-bounded}
 use Rattle.masks.proofs.parts.Split.new.Goals as goal
 
 pub invariant_of-result : goal.invariant_of-result

@@ -18,8 +18,8 @@ returns-in_err-map_err c =
 pub write_positions-count-requires : goal.write_positions-count-requires
 write_positions-count-requires c = sym c.check_next.ensures ∙ passed-back _ _ _ c.map_err.ensures.variant c.in_ok-map_err.was
 
-pub place_behind-place-requires : goal.place_behind-place-requires
-place_behind-place-requires c =
+pub place_after-place-requires : goal.place_after-place-requires
+place_after-place-requires c =
     let wrote = c.write_positions-count.ensures in
     within-out _ _ _ _ wrote.count wrote.positions
 
@@ -28,5 +28,5 @@ unfolding next_positions positions_over
 returns c =
     let wrote = c.write_positions-count.ensures in
     let both = given-way _ _ _ _ c.check_next.ensures _ _ _ _ (passed-back _ _ _ c.map_err.ensures.variant c.in_ok-map_err.was)
-    (told _ _ _ _ _ wrote.count (c.place_behind-place.ensures _ _ wrote.positions wrote.count)) wrote.positions in
+    (told _ _ _ _ _ wrote.count (c.place_after-place.ensures _ _ wrote.positions wrote.count)) wrote.positions in
     record { answer = ap (λ (d : TrueIdxIter). given (c.write_positions-count.result, d)) c.moved.ensures ∙ both.0; positions = both.1 }

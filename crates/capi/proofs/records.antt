@@ -1,2 +1,0 @@
--- What the proofs of several functions of src/records.rt use.
-pub mod RecordLaws

@@ -1,2 +1,0 @@
--- What the proofs of several functions of src/window.rt use.
-pub mod WindowLaws

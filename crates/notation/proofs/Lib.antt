@@ -1,2 +1,0 @@
--- The laws of the crate, below the name of the module that they serve.
-
