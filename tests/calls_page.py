@@ -83,10 +83,12 @@ def promised(head):
 
 
 def cited(head):
-    """Returns for each `ensures` what the result or a lent buffer equals; lent bytes are only their names."""
+    """Returns for each `ensures` what the result or a lent buffer equals, or a clause with a premise whole; lent bytes are only their
+    names."""
     out = []
     for clause in promised(head):
-        side = clause.split("≡", 1)[-1].strip()
+        before, _, side = clause.partition("≡")
+        side = clause if "→" in before else (side or before).strip()
         out.append(re.sub(r"[«»]|(?<=\w)\.(?:now|old)\b", "", side))
     return out
 
