@@ -74,9 +74,10 @@ fn run_from(span: CheckedSpan, place: usize) -> Run
                         length: ones,
                     };
                 }
+                bit += 1;
                 at += 1;
                 first = at;
-                continue 'bytes;
+                continue 'bits;
             }
             bit += 1;
             at += 1;

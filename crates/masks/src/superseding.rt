@@ -4,7 +4,7 @@ ghost use Rattle.std.specs.Prelude.{◌≡◌, ◌≤◌};
 ghost use Rattle.masks.specs.Answer.{answer};
 ghost use Rattle.masks.specs.Refusal.{failure_of};
 ghost use Rattle.masks.specs.Checks.{first_failed, limit};
-ghost use Rattle.masks.specs.Superseding.{bytes_of, part_of, record_of, superseding_checks, superseding_of};
+ghost use Rattle.masks.specs.Superseding.{bytes_of, part_of, place_of, record_of, superseding_checks, superseding_of};
 
 use crate::bitmap::{Bitmap, cut_mask};
 use crate::checks::check_mask;
@@ -96,8 +96,10 @@ pub fn superseding_bytes<'a>(
     second: Bitmap,
     second_bytes: &'a [u8],
 ) -> &'a [u8]
-    ensures { result.now ≡ bytes_of (superseding_of first first_bytes.now second second_bytes.now)
+    ensures bytes { result.now ≡ bytes_of (superseding_of first first_bytes.now second second_bytes.now)
         first_bytes.now second_bytes.now }
+    ensures place { result.ref_ptr ≡ place_of (superseding_of first first_bytes.now second second_bytes.now)
+        first_bytes.entry.ref_ptr second_bytes.entry.ref_ptr }
 {
     match superseding_part(first, first_bytes, second, second_bytes) {
         Ok(part) => {

@@ -1,10 +1,11 @@
--- The theorem on counts for `may_reassign`: if a mask's checks pass, the answer is that with its count unknown.
+-- The theorem on counts for `may_reassign` and `offer`: if a mask's checks pass, the answer is that with its count unknown.
 use Rattle.std.specs.Prelude.{ℕ, ◌≡◌, List, Option, Some}
 use Rattle.masks.specs.Checks.{first_failed}
 use Rattle.masks.proofs.statements.CountsUnseen.{Unseen}
 use Rattle.masks.specs.Mask.{mask_checks}
 use Rattle.masks.specs.declared.bitmap.Bitmap.{Bitmap}
 use Rattle.dispatch.specs.Dispatch.{may_reassign}
+use Rattle.dispatch.specs.Offer.{offer_of}
 
 pub record CountsUnseen : Type 0 where
   pub permission : (p : Bitmap) (p_bytes : List ℕ) → first_failed (mask_checks p p_bytes) ≡ 0
@@ -13,3 +14,9 @@ pub record CountsUnseen : Type 0 where
   pub revocation : (r : Bitmap) (r_bytes : List ℕ) → first_failed (mask_checks r r_bytes) ≡ 0
       → (p : Option Bitmap) (p_bytes : List ℕ) (t : ℕ)
       → Unseen r (λ (x : Bitmap). may_reassign p p_bytes (Some x) r_bytes t)
+  pub offer-permission : (p : Bitmap) (p_bytes : List ℕ) → first_failed (mask_checks p p_bytes) ≡ 0
+      → (r : Option Bitmap) (r_bytes : List ℕ) (cursor : ℕ)
+      → Unseen p (λ (x : Bitmap). offer_of (Some x) p_bytes r r_bytes cursor)
+  pub offer-revocation : (r : Bitmap) (r_bytes : List ℕ) → first_failed (mask_checks r r_bytes) ≡ 0
+      → (p : Option Bitmap) (p_bytes : List ℕ) (cursor : ℕ)
+      → Unseen r (λ (x : Bitmap). offer_of p p_bytes (Some x) r_bytes cursor)

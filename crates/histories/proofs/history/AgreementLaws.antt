@@ -175,12 +175,12 @@ module _ (m : Bitmap) (bytes : List ℕ) (l : List Bool) (s : Stands m bytes l) 
       let n : length F ≡ m.length = length-window (mask_flags m bytes) 0 m.length in
       let room : Room new_builder m.length (length buf) = record {
         short = omega (arith, s.sound.short);
-        low = (new-holds buf).room.low;
+        low = (new-holds 0 buf).room.low;
         few = omega arith;
         holds = omega arith;
       } in
       let f = appended (filling new_builder buf) F in
-      let built = builds-after (filling new_builder buf) [] F (new-holds buf)
+      let built = builds-after (filling new_builder buf) [] F (new-holds 0 buf)
       (subst (λ (k : ℕ). Room new_builder k (length buf)) (sym n) room) in
       let builds : Builds f l = record { room = built.room; flags = built.flags ∙ whole-flags ∙ s.flags; ones = built.ones } in
       let k = first_failed (subslice_checks new_builder buf m bytes 0 m.length) in

@@ -7,7 +7,7 @@
 use Rattle.std.specs.Prelude.{ℕ, Bool, true, false, cond, List, [], ◌∷◌, ◌++◌, Option, Some, None}
 use Rattle.masks.specs.Answer.{Answer, given, refused, checked}
 use Rattle.masks.specs.Appends.{Append, append_answer, append_bytes}
-use Rattle.masks.specs.Builder.{Filling, filling, new_builder}
+use Rattle.masks.specs.Builder.{Filling, builder_under, filling}
 use Rattle.masks.specs.Freeze.{freeze_bytes, freeze_of, into_opt_validity_of}
 use Rattle.masks.specs.Mask.{mask_checks, try_new_of}
 use Rattle.masks.specs.declared.bitmap.Bitmap.{Bitmap}
@@ -37,7 +37,7 @@ pub data State : Type 0 where
 
 -- a history begins with a new builder and any buffer, with `try_new` calls up to the first accepted one, or with an imported mask
 pub data Start : Type 0 where
-  from_builder : List ℕ → Start
+  from_builder : ℕ → List ℕ → Start
   from_span : Start
   from_mask : Bitmap → List ℕ → Start
 
@@ -99,7 +99,7 @@ step_row m bytes (write r a) = after_written m bytes (written_bytes m bytes r a)
 
 -- each call's checks of a mask apply to an imported mask; if one fails, the mask is no start and the state is `waiting`
 abbrev pub start_of : Start → State
-start_of (from_builder buf) = building (filling new_builder buf)
+start_of (from_builder serial buf) = building (filling (builder_under serial 0 0 0) buf)
 start_of from_span = waiting
 start_of (from_mask m bytes) = (after_try bytes (checked (mask_checks m bytes) tt m)).state
 
@@ -190,7 +190,7 @@ end_of call_of h = run call_of (start_of h.start) h.calls
 
 -- the list begins empty, or with the flags in the imported mask's bytes; the flags of an accepted span replace it
 abbrev pub first_list : Start → List Bool
-first_list (from_builder buf) = []
+first_list (from_builder serial buf) = []
 first_list from_span = []
 first_list (from_mask m bytes) = flags_in m bytes
 

@@ -67,10 +67,10 @@ saving_from leaves n k (r ∷ rs) =
 -- all these calls on a new builder over the buffer `buf` are accepted, the builder's flags are l, and `freeze` is accepted and
 -- returns a mask that agrees with l
 pub record Saves (l : List Bool) (buf : List ℕ) (calls : List (Call LibraryCall)) : Type 0 where
-  pub accepted : map (λ (f : Fed LibraryCall). f.accepted) (trace library_call (start_of (from_builder buf)) calls)
+  pub accepted : map (λ (f : Fed LibraryCall). f.accepted) (trace library_call (start_of (from_builder 0 buf)) calls)
       ≡ map (λ (c : Call LibraryCall). true) calls
   pub builder : Filling
-  pub builds : run library_call (start_of (from_builder buf)) calls ≡ building builder
+  pub builds : run library_call (start_of (from_builder 0 buf)) calls ≡ building builder
   pub flags : builder_flags builder ≡ l
   pub mask : Bitmap
   pub bytes : List ℕ

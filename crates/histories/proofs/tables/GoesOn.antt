@@ -28,7 +28,7 @@ pub record Comes (h : History LibraryCall) (accepted : List ℕ) (m : Bitmap) (b
 
 -- a new builder over eight lent bytes 0xAA, these appends, and the call that makes a mask of it
 abbrev pub built : List Append → Call LibraryCall → History LibraryCall
-built appends last = record { start = from_builder (lent 8); calls = map append appends ++ (last ∷ []) }
+built appends last = record { start = from_builder 0 (lent 8); calls = map append appends ++ (last ∷ []) }
 
 -- A = 1,0,1,1,0,1 over its byte, and calls on it
 abbrev pub A : List ℕ

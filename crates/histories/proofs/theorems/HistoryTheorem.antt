@@ -13,7 +13,7 @@ use Rattle.words.specs.Loops.{stretch}
 use Rattle.words.proofs.flags.Windows.{length-window}
 use Rattle.masks.specs.Answer.{decided}
 use Rattle.masks.specs.Appends.{append_checks}
-use Rattle.masks.specs.Builder.{filling, builder_flags, in_progress, new_builder}
+use Rattle.masks.specs.Builder.{filling, builder_flags, in_progress, builder_under}
 use Rattle.masks.specs.Checks.{first_failed, span_checks}
 use Rattle.masks.specs.Freeze.{total_ones, freeze_checks}
 use Rattle.masks.specs.Mask.{mask_checks, mask_of, try_new_of, uncounted}
@@ -85,9 +85,9 @@ module _ {Code : Type 0} (call_of : Code → RowCall) (lawful : (c : Code) → L
 -- ---- the starts
 
 -- the invariant holds of a new builder with any buffer,
-pub new-holds : (buf : List ℕ) → Holds (building (filling new_builder buf)) []
+pub new-holds : (serial : ℕ) (buf : List ℕ) → Holds (building (filling (builder_under serial 0 0 0) buf)) []
 unfolding builder_flags in_progress window count any_set bits
-new-holds buf =
+new-holds serial buf =
     record { room = record { short = omega arith; low = refl; few = omega arith; holds = omega arith }; flags = refl; ones = refl }
 
 -- of the state after an import, whether the checks of the mask pass or not,
@@ -99,6 +99,6 @@ import_holds m bytes (suc k) e = tt
 
 -- and so of every start
 pub start-holds : (s : Start) → Holds (start_of s) (first_list s)
-start-holds (from_builder buf) = new-holds buf
+start-holds (from_builder serial buf) = new-holds serial buf
 start-holds from_span = tt
 start-holds (from_mask m bytes) = import_holds m bytes (first_failed (mask_checks m bytes)) refl

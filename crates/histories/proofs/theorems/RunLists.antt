@@ -178,8 +178,8 @@ saved l buf calls e =
 new-ready : (n : ℕ) (buf : List ℕ) → n ≤ limit → frozen_size n ≤ length buf → Ready (filling new_builder buf) [] n
 new-ready n buf h g =
     record {
-      holds = new-holds buf;
-      room = record { short = omega arith; low = (new-holds buf).room.low; few = omega arith; holds = omega arith };
+      holds = new-holds 0 buf;
+      room = record { short = omega arith; low = (new-holds 0 buf).room.low; few = omega arith; holds = omega arith };
     }
 
 in-runs : (n : ℕ) (rs : List Run) (l : List Bool) → HasRuns n rs l → RunsIn n 0 rs

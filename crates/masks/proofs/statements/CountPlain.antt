@@ -8,7 +8,7 @@ use Rattle.words.specs.declared.ops.Op.{Op}
 use Rattle.masks.specs.declared.bitmap.Recounted.{Recounted}
 use Rattle.masks.specs.Answer.{Answer, given}
 use Rattle.masks.specs.Combine.{And, AndNot, Or, OrNot, Xor, pair_of, not_of, select_of, select_constant_of}
-use Rattle.masks.specs.Freeze.{freeze_of}
+use Rattle.masks.specs.Freeze.{freeze_of, into_opt_validity_of}
 use Rattle.masks.specs.Mask.{mask_flags, empty_mask, try_new_of, new_zeroed_of, unset_bits_of, slice_of}
 use Rattle.masks.specs.Utils.{zeros}
 use Rattle.masks.specs.declared.bitmap.Bitmap.{Bitmap}
@@ -29,6 +29,9 @@ pub record MadeCounts : Type 0 where
   pub new_zeroed : (n : ℕ) (out : List ℕ) (m : Bitmap) → given m ≡ new_zeroed_of n out → m.unset ≡ Some n
   -- `freeze`: length minus ones, those held and those in the word
   pub freeze : (b : BitmapBuilder) (buf : List ℕ) (m : Bitmap) → given m ≡ freeze_of b buf
+      → m.unset ≡ Some (b.length - (b.ones + count (word_flags b.word)))
+  -- `into_opt_validity`, if it returns a mask: as `freeze`
+  pub into-opt-validity : (b : BitmapBuilder) (buf : List ℕ) (m : Bitmap) → given (Some m) ≡ into_opt_validity_of b buf
       → m.unset ≡ Some (b.length - (b.ones + count (word_flags b.word)))
   -- `unset_bits` returns the mask with its count known
   pub unset_bits : (m : Bitmap) (bytes : List ℕ) (r : Recounted) (z : ℕ) → given r ≡ unset_bits_of m bytes → Brings m bytes z

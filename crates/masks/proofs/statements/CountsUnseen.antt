@@ -9,6 +9,7 @@ use Rattle.masks.specs.Checks.{first_failed}
 use Rattle.masks.specs.Combine.{not_bytes, not_of, pair_bytes, pair_of, select_bytes, select_constant_bytes, select_constant_of, select_of}
 use Rattle.masks.specs.Compare.{common_of, edges_of, eq_of}
 use Rattle.masks.specs.Mask.{mask_checks, slice_of, unset_bits_of, with_count}
+use Rattle.masks.specs.NextAndNot.{next_and_not_of}
 use Rattle.masks.specs.SliceIterator.{new_slices}
 use Rattle.masks.specs.Superseding.{superseding_of}
 use Rattle.masks.specs.TrueIdx.{new_true}
@@ -82,6 +83,11 @@ pub record CountUnseen (m : Bitmap) (bytes : List ℕ) : Type 0 where
   pub common-second : (a : Bitmap) (a_bytes : List ℕ) → Unseen m (λ (x : Bitmap). common_of a a_bytes x bytes)
   pub superseding-first : (b : Bitmap) (b_bytes : List ℕ) → Unseen m (λ (x : Bitmap). part_but_count (superseding_of x bytes b b_bytes))
   pub superseding-second : (a : Bitmap) (a_bytes : List ℕ) → Unseen m (λ (x : Bitmap). part_but_count (superseding_of a a_bytes x bytes))
+  -- `next_and_not`, whose second mask may be absent
+  pub next-first : (second : Option Bitmap) (b_bytes : List ℕ) (from : ℕ)
+      → Unseen m (λ (x : Bitmap). next_and_not_of x bytes second b_bytes from)
+  pub next-second : (a : Bitmap) (a_bytes : List ℕ) (from : ℕ)
+      → Unseen m (λ (x : Bitmap). next_and_not_of a a_bytes (Some x) bytes from)
   pub slices-new : Unseen m (λ (x : Bitmap). new_slices x bytes)
   pub true-new : (n : ℕ) → Unseen m (λ (x : Bitmap). new_true n (Some x) bytes)
 

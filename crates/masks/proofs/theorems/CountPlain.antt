@@ -16,7 +16,8 @@ use Rattle.masks.specs.Checks.{Check, check, first_failed, span_checks}
 use Rattle.masks.specs.Combine.{And, AndNot, Or, OrNot, Xor, pair_of, pair_mask, pair_checks, shortcut, result_count, result_mask, each_of}
 use Rattle.masks.specs.Combine.{not_checks, select_checks}
 use Rattle.masks.proofs.statements.CountPlain.{Brings, told, counted, MadeCounts, SliceCounts, PairCounts, EachCounts, CountsPlainly}
-use Rattle.masks.specs.Freeze.{freeze_checks, frozen_mask}
+use Rattle.masks.specs.Freeze.{freeze_checks, frozen_mask, total_ones, validity_of}
+use Rattle.masks.specs.declared.builder.BitmapBuilder.{BitmapBuilder}
 use Rattle.masks.specs.Mask.{mask_of, mask_flags, uncounted, count_or, zero_count, with_count, try_new_of, new_zeroed_of, zeroed_checks}
 use Rattle.masks.specs.Mask.{unset_bits_of, mask_checks, slice_of, slice_checks, sliced_mask, sliced_count, cut_zeros, recounts}
 use Rattle.masks.specs.Mask.{recount_valid, kept_count, piece_checks}
@@ -29,6 +30,11 @@ use Rattle.masks.proofs.bitmap.MaskLaws.{piece-allowed}
 -- an accepted call returns the mask that it made, with its count
 its_count : {S : Type 0} (cs : List Check) (s : S) (m made : Bitmap) → given m ≡ checked cs s made → m.unset ≡ made.unset
 its_count cs s m made e = ap (λ (x : Bitmap). x.unset) (given-value (first_failed cs) s m made e)
+
+-- the mask of `into_opt_validity`, if there is one, has the count of `freeze`
+validity-count : (b : BitmapBuilder) (t : Bool) (m : Bitmap) → Some m ≡ cond t None (Some (frozen_mask b)) → m.unset ≡ (frozen_mask b).unset
+validity-count b true m e = absurd (let z : ◌≡◌ {A = ℕ} 0 1 = cc in omega arith)
+validity-count b false m e = ap (λ (x : Bitmap). x.unset) (let s : m ≡ frozen_mask b = cc in s)
 
 none-known : (n : ℕ) → n ≡ 0 → uncounted n ≡ Some 0
 none-known n e = ap (λ (t : Bool). cond t (Some 0) None) (eq-eqb n 0 e)
@@ -61,6 +67,9 @@ made-counts = record {
       ∙ some-unknown (suc n) (λ q. omega arith);
   new_zeroed = λ n out m e. its_count (zeroed_checks n (length out)) tt m (mask_of 0 n (Some n)) e;
   freeze = λ b buf m e. its_count (freeze_checks b (length buf)) b m (frozen_mask b) e;
+  into-opt-validity = λ b buf m e.
+      validity-count b (eqb (total_ones b) b.length) m
+      (given-value (first_failed (freeze_checks b (length buf))) b (Some m) (validity_of b) e);
   unset_bits = recounted-as;
 }
 

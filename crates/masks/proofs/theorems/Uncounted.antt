@@ -24,6 +24,7 @@ use Rattle.masks.specs.Compare.{common_checks, common_of, edges, edges_of, eq_of
 use Rattle.masks.proofs.statements.CountsUnseen.{CountsUnseen, UnseenBoth, but_count, forgot, forgot_part, part_but_count}
 use Rattle.masks.specs.Frozen.{frozen}
 use Rattle.masks.specs.Mask.{mask_checks, mask_flags, piece_checks, sliced_mask, slice_of, unset_bits_of, with_count, zero_count}
+use Rattle.masks.specs.NextAndNot.{free_flags, next_and_not_of, next_checks, next_set, other_checks}
 use Rattle.masks.specs.SliceIterator.{new_slices, slices_at}
 use Rattle.masks.specs.Superseding.{agree, part_of, superseding_checks, superseding_of, winning}
 use Rattle.masks.specs.TrueIdx.{first_true, new_true, new_true_checks, true_at}
@@ -258,6 +259,44 @@ module _ (m : Bitmap) (bytes : List ℕ) (e : first_failed (mask_checks m bytes)
   unfolding and_not_at_of and_not_flag flag_or
   at_right first a_b i = ap (λ (cs : List Check). checked cs tt (and_not_flag first a_b (Some m) bytes i)) (at-checks-right first a_b i)
 
+  -- ---- the next flag
+
+  pub next-checks-left : (second : Option Bitmap) (b_b : List ℕ) (from : ℕ)
+      → next_checks m bytes second b_b from ≡ next_checks (forgot m) bytes second b_b from
+  unfolding next_checks
+  next-checks-left second b_b from =
+      ap (λ (cs : List Check). cs ++ (other_checks m.length second b_b ++ (check 6 (leb from m.length) ∷ []))) same-checks
+
+  pub next-checks-right : (a : Bitmap) (a_b : List ℕ) (from : ℕ)
+      → next_checks a a_b (Some m) bytes from ≡ next_checks a a_b (Some (forgot m)) bytes from
+  unfolding next_checks other_checks
+  next-checks-right a a_b from =
+      ap (λ (cs : List Check). mask_checks a a_b ++ ((cs ++ (check 5 (eqb a.length m.length) ∷ [])) ++ (check 6 (leb from a.length) ∷ [])))
+      same-checks
+
+  pub free-left : (second : Option Bitmap) (b_b : List ℕ) → free_flags m bytes second b_b ≡ free_flags (forgot m) bytes second b_b
+  unfolding free_flags pair_flags shortcut
+  free-left (Some b) b_b = refl
+  free-left None b_b = refl
+
+  pub free-right : (a : Bitmap) (a_b : List ℕ) → free_flags a a_b (Some m) bytes ≡ free_flags a a_b (Some (forgot m)) bytes
+  unfolding free_flags pair_flags shortcut
+  free-right a a_b = refl
+
+  next_left : (second : Option Bitmap) (b_b : List ℕ) (from : ℕ)
+      → next_and_not_of m bytes second b_b from ≡ next_and_not_of (forgot m) bytes second b_b from
+  unfolding next_and_not_of
+  next_left second b_b from =
+      ap₂ (λ (cs : List Check) (l : List Bool). checked cs tt (next_set m.length l from))
+      (next-checks-left second b_b from) (free-left second b_b)
+
+  next-right : (a : Bitmap) (a_b : List ℕ) (from : ℕ)
+      → next_and_not_of a a_b (Some m) bytes from ≡ next_and_not_of a a_b (Some (forgot m)) bytes from
+  unfolding next_and_not_of
+  next-right a a_b from =
+      ap₂ (λ (cs : List Check) (l : List Bool). checked cs tt (next_set a.length l from))
+      (next-checks-right a a_b from) (free-right a a_b)
+
 -- ---- the theorem
 
 module _ (m : Bitmap) (bytes : List ℕ) (e : first_failed (mask_checks m bytes) ≡ 0) where
@@ -339,6 +378,8 @@ counts_unseen m bytes e =
       common-second = common-right m bytes e;
       superseding-first = superseding-left m bytes e;
       superseding-second = superseding-right m bytes e;
+      next-first = next_left m bytes e;
+      next-second = next-right m bytes e;
       slices-new = runs-new m bytes e;
       true-new = ones-new m bytes e;
     }

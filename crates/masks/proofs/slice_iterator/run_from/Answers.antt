@@ -10,10 +10,12 @@ use Rattle.masks.proofs.slice_iterator.run_from.Goals as goal
 pub bytes-preserved-then-is_full_byte : goal.bytes-preserved-then-is_full_byte
 bytes-preserved-then-is_full_byte c = walk-byte _ _ _ _ _ _ c.bytes.invariant _ _ c.is_full_byte.ensures c.if-is_full_byte.true refl
 
-pub bytes-preserved-then-byte-bit-eq0 : goal.bytes-preserved-then-byte-bit-eq0
-bytes-preserved-then-byte-bit-eq0 c =
-    let inv = c.bits.invariant in
-    walk-zero _ _ _ _ _ _ inv.0 _ _ _ (search rules) inv.1.0 (search rules) refl c.if-byte-bit-eq0.true c.if-ones-gt0.false
+pub bits-preserved-then-byte-bit-eq0 : goal.bits-preserved-then-byte-bit-eq0
+bits-preserved-then-byte-bit-eq0 c =
+    let inv = c.bits.invariant in (
+      walk-zero _ _ _ _ _ _ inv.0 _ _ _ (search rules) inv.1.0 (search rules) refl c.if-byte-bit-eq0.true c.if-ones-gt0.false,
+      (omega arith, (omega arith, omega arith)),
+    )
 
 pub bits-preserved : goal.bits-preserved
 bits-preserved c =
