@@ -5,10 +5,12 @@
 
 Taken from the sources: a call's arguments and the definitions that its `ensures` cite (src/*.rt), the numbers by which it may
 refuse (statements/Refusals.antt), the wrong answers tried (tables/Wrong*.antt), and how many lines a file has: those with definitions
-and comments, without imports and empty lines. Written by hand are the column `answer`, the order of the rows, and the table of
-edits. Also checked: that the first table has exactly the files that public contracts reach, that these define nothing that no
-contract reaches, that each file of specs/, statements/ and tables/ is named, that tables/Witnesses.antt names each call that may
-refuse, and that the wrong answer of each edit is one of its call's row. The pages of SAID_IN contain the sum of the first table."""
+and comments, without imports and empty lines. Of the sources an `ensures` is one line, and the records and enums that these definitions
+or clauses cite are counted from the keyword to the closing brace. Written by hand are the column `answer`, the order of the rows, and
+the table of edits. Also checked: that the first table has exactly the files that public contracts reach and the row of records and enums,
+that the files define nothing that no contract reaches, that each file of specs/, statements/ and tables/ is named, that
+tables/Witnesses.antt names each call that may refuse, and that the wrong answer of each edit is one of its call's row. The pages of
+SAID_IN contain the sum of the first table."""
 import glob
 import os
 import re
@@ -21,6 +23,7 @@ TOTAL = re.compile(r"[\d,]+(?= lines of definitions\s+and\s+contracts)")
 NAME = r"[^\W\d][\w'-]*"
 SAID_IN = ("README.md", os.path.join("docs", "CALLS.md"), os.path.join("docs", "TRUST.md"))
 PLAIN = {"bit_at", "flag_at"}  # the sentence on Arrow's numbering, which the definitions of words/specs/Flags.antt are proved to say
+RECORDS = "*/src"  # the row of the records and enums
 CALL = re.compile(r"^`([\w:]+)(?:\(.*\))?`$")
 
 
@@ -174,6 +177,44 @@ def unreached(files):
     return [f"{file}: no contract reaches {name}" for name in sorted(set(known) - found - PLAIN) for file, _ in known[name]]
 
 
+# ---- the records and enums over which these are stated
+
+
+def types(crate):
+    """Returns the public records and enums of a crate's sources by module and name, each with its text up to the closing brace."""
+    found = {}
+    for path in sorted(glob.glob(os.path.join(ROOT, "crates", crate, "src", "*.rt"))):
+        text = read(path)
+        for match in re.finditer(r"(?m)^pub (?:struct|enum) (\w+)[^;{]*[;{]", text):
+            at, depth = match.end(), text[match.end() - 1] == "{"
+            while depth:
+                depth += {"{": 1, "}": -1}.get(text[at], 0)
+                at += 1
+            found[os.path.basename(path)[: -len(".rt")], match[1]] = text[match.start() : at]
+    return found
+
+
+def records(files):
+    """Returns the records and enums that these files of definitions cite, or the head of a public function that has an `ensures`; and
+    complaints about cited ones that are not public."""
+    texts = {crate: types(crate) for crate in CRATES}
+    cited = {found for file in files for found in re.findall(r"use Rattle\.(\w+)\.specs\.declared\.(\w+)\.(\w+)", read("crates", file))}
+    words = set()
+    for crate in CRATES:
+        for path in glob.glob(os.path.join(ROOT, "crates", crate, "src", "*.rt")):
+            text = source(path)
+            heads = [head_of(text, match.start(1)) for match in re.finditer(r"\bpub fn (\w+)", text)]
+            words |= {word for head in heads if "ensures" in head for word in re.findall(r"\w+", head)}
+    found, complaints = {}, []
+    for crate, known in texts.items():
+        for (module, name), text in known.items():
+            if name in words or (crate, module, name) in cited:
+                found[crate, module, name] = text
+    complaints += [f"{crate}/src/{module}.rt has no public record or enum {name}, which a definition cites"
+                   for crate, module, name in sorted(cited) if crate in CRATES and (crate, module, name) not in found]
+    return found, complaints
+
+
 # ---- statements and tables
 
 
@@ -239,7 +280,10 @@ def facts():
 
 
 def size_of(path):
-    """Counts the lines of a file, without imports and empty lines; for a crate's src, the clauses of its public functions."""
+    """Counts the lines of a file, without imports and empty lines; for a crate's src, the clauses of its public functions; for RECORDS,
+    the lines of the records and enums that are cited."""
+    if path == RECORDS:
+        return str(sum(text.count("\n") + 1 for text in records(reached())[0].values()))
     if path.endswith("/src"):
         return str(sum(len(definitions) for _, definitions in functions(path.split("/")[0]).values()))
     if not os.path.isfile(os.path.join(ROOT, "crates", path)):
@@ -292,7 +336,8 @@ def main():
     complaints += [f"{path}: in the contracts or in the first table, not in both" for path in sorted(believed ^ reached())]
     complaints += [f"{path} is not named" for path in definitions() if f"`{path}`" not in "\n".join(old)]
     complaints += [f"{seen.count(name)} rows for {name}" for name in sorted(set(seen)) if seen.count(name) > 1]
-    complaints += unreached(believed)
+    complaints += unreached(believed) + records(believed)[1]
+    complaints += [] if f"`{RECORDS}`" in first else [f"the first table has no row {RECORDS}"]
     for page in SAID_IN:
         said = TOTAL.findall(read(page))
         if "--write" not in sys.argv and said != [total]:
