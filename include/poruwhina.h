@@ -17,7 +17,8 @@
  * Each call that takes a mask whose count is known counts its zeros again, and refuses a count that is not exact. A record that this
  * library returned may be passed without its count (`known` 0), with the bytes that it belongs to: this changes no answer except the
  * counts in returned records, and nothing is counted again. Pass a record from elsewhere with its count: without it a false count is not
- * found.
+ * found. Do not keep the count of a mask made from a builder that may be damaged: check 4 does not count the buffer's ones, so that
+ * `pw_freeze` may return a false count for it, and `pw_into_opt_validity` a false count or none.
  *
  * An array in a prototype must have as many elements as the prototype states. */
 #ifndef PORUWHINA_H

@@ -202,7 +202,7 @@ fn check_select(
 }
 
 // Writes the flag of `truthy` where that of `selector` is set, and that of `falsy` elsewhere, as frozen bytes to the start of `out`, and
-// returns the mask of them. `by`, `yes` and `no` are the bytes of the three masks.
+// returns the mask of them.
 pub fn select(
     selector: Bitmap,
     selector_bytes: &[u8],
@@ -235,7 +235,7 @@ pub fn select(
 }
 
 // Writes the flag of `truthy` where that of `selector` is set, and `flag` elsewhere, as frozen bytes to the start of `out`, and returns the
-// mask of them. `by` and `yes` are the bytes of the two masks.
+// mask of them.
 pub fn select_constant(
     selector: Bitmap,
     selector_bytes: &[u8],

@@ -18,7 +18,8 @@ pub enum Refusal {
     FalseCount,
     // 14: two masks with equal serials have different flags.
     UnequalLists,
-    // 4: the builder is one that no calls leave, or its buffer does not hold its finished words.
+    // 4: the builder's word has a bit set at or above length mod 64, its ones are above 64 * (length div 64), or its buffer has fewer than
+    // 8 * (length div 64) bytes.
     ImpossibleBuilder,
     // 5: the masks combined, or a mask and its stated length, differ in length.
     UnequalLengths,

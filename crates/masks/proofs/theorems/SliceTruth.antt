@@ -1,5 +1,6 @@
--- A slice of a mask with a true count has a true count, and check 7 never fails, whatever the input. A slice of the whole mask changes
--- nothing. The count of a combination is true of the flags that it writes.
+-- A slice of a mask with a true count has a true count. No slice is refused with 7: check 7 may fail for a false count, but then check 3,
+-- which comes before it, fails too. A slice of the whole mask changes nothing. The count of a combination is true of the flags that it
+-- writes.
 use Rattle.masks.specs.declared.refusal.Refusal.TheVariants.{WrongRecount}
 use Rattle.std.specs.Prelude.{Option, Some, None, Ok, Err}
 use mathlib.Core.Path.{◌≡◌, refl, sym, ap, ap₂, ◌∙◌}
