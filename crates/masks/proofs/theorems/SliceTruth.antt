@@ -140,7 +140,7 @@ piece-truthful m bytes offset n e =
     let rest : List Check = within_limit offset ∷ within_limit n ∷ within_limit (m.start + offset) ∷ six in
     mask-truthful m bytes (both_left (mask_checks m bytes) rest e)
 
--- check 7 never fails: if the others pass, the count is true or unknown, so the number is that of the others
+-- check 7 never fails first: if the others pass, the count is true or unknown, so the number is that of the others
 pub slice-number : (m : Bitmap) (bytes : List ℕ) (offset n : ℕ)
     → first_failed (piece_checks m bytes offset n) ≡ first_failed (slice_checks m bytes offset n)
 unfolding slice_checks
