@@ -6,8 +6,8 @@
 Taken from the sources: a call's arguments and the definitions that its `ensures` cite (src/*.rt), the numbers by which it may
 refuse (statements/Refusals.antt), the wrong answers tried (tables/Wrong*.antt), and how many lines a file has: those with definitions
 and comments, without imports and empty lines. Of the sources an `ensures` is one line, and the records and enums that these definitions
-or clauses cite are counted from the keyword to the closing brace. Written by hand are the column `answer`, the order of the rows, and
-the table of edits. Also checked: that the first table has exactly the files that public contracts reach and the row of records and enums,
+cite, or that a public function takes or returns, are counted from the keyword to the closing brace. Written by hand are the column
+`answer`, the order of the rows, and the table of edits. Also checked: that the first table has exactly the files that public contracts reach and the row of records and enums,
 that the files define nothing that no contract reaches, that each file of specs/, statements/ and tables/ is named, that
 tables/Witnesses.antt names each call that may refuse, and that the wrong answer of each edit is one of its call's row. The pages of
 SAID_IN contain the sum of the first table."""
@@ -195,23 +195,19 @@ def types(crate):
 
 
 def records(files):
-    """Returns the records and enums that these files of definitions cite, or the head of a public function that has an `ensures`; and
-    complaints about cited ones that are not public."""
-    texts = {crate: types(crate) for crate in CRATES}
+    """Returns the records and enums that these files of definitions cite, or that a public function with an `ensures` takes or returns;
+    and complaints about cited ones that are not public."""
     cited = {found for file in files for found in re.findall(r"use Rattle\.(\w+)\.specs\.declared\.(\w+)\.(\w+)", read("crates", file))}
-    words = set()
-    for crate in CRATES:
-        for path in glob.glob(os.path.join(ROOT, "crates", crate, "src", "*.rt")):
-            text = source(path)
-            heads = [head_of(text, match.start(1)) for match in re.finditer(r"\bpub fn (\w+)", text)]
-            words |= {word for head in heads if "ensures" in head for word in re.findall(r"\w+", head)}
     found, complaints = {}, []
-    for crate, known in texts.items():
-        for (module, name), text in known.items():
+    for crate in CRATES:
+        texts = [source(path) for path in glob.glob(os.path.join(ROOT, "crates", crate, "src", "*.rt"))]
+        heads = [head_of(text, match.start(1)) for text in texts for match in re.finditer(r"\bpub fn (\w+)", text)]
+        words = set(re.findall(r"\w+", " ".join(head for head in heads if "ensures" in head)))
+        for (module, name), text in types(crate).items():
             if name in words or (crate, module, name) in cited:
                 found[crate, module, name] = text
-    complaints += [f"{crate}/src/{module}.rt has no public record or enum {name}, which a definition cites"
-                   for crate, module, name in sorted(cited) if crate in CRATES and (crate, module, name) not in found]
+        for _, module, name in sorted(one for one in cited if one[0] == crate and one not in found):
+            complaints.append(f"{crate}/src/{module}.rt has no public record or enum {name}, which a definition cites")
     return found, complaints
 
 
