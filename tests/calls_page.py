@@ -3,13 +3,13 @@
     python3 tests/calls_page.py            prints what differs, and fails if anything does
     python3 tests/calls_page.py --write    writes these cells anew
 
-Taken from the sources: a call's arguments and the definitions that its `ensures` cite (src/*.rt), the numbers by which it may
-refuse (statements/Refusals.antt), the wrong answers tried (tables/Wrong*.antt), and how many lines a file has: those with definitions
-and comments, without imports and empty lines. Of the sources an `ensures` is one line, and the records and enums that these definitions
-cite, or that a public function takes or returns, are counted from the keyword to the closing brace. Written by hand are the column
-`answer`, the order of the rows, and the table of edits. Also checked: that the first table has exactly the files that public contracts reach and the row of records and enums,
-that the files define nothing that no contract reaches, that each file of specs/, statements/ and tables/ is named, that
-tables/Witnesses.antt names each call that may refuse, and that the wrong answer of each edit is one of its call's row. The pages of
+Taken from the sources: a call's arguments and the definitions that its `ensures` cite (src/*.rt), the numbers by which it may refuse
+(statements/Refusals.antt), the wrong answers tried (tables/Wrong*.antt), and how many lines a file has: those with definitions and
+comments, without imports and empty lines. Of the sources an `ensures` is one line, and the records and enums that these definitions cite,
+or that a public function takes or returns, are counted from the keyword to the closing brace. Written by hand are the column `answer`, the
+order of the rows, and the table of edits. Also checked: that the first table has exactly the files that public contracts reach and the row
+of records and enums, that the files define nothing that no contract reaches, that each file of specs/, statements/ and tables/ is named,
+that tables/Witnesses.antt names each call that may refuse, and that the wrong answer of each edit is one of its call's row. The pages of
 SAID_IN contain the sum of the first table."""
 import glob
 import os
