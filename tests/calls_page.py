@@ -9,8 +9,9 @@ comments, without imports and empty lines. Of the sources an `ensures` is one li
 or that a public function takes or returns, are counted from the keyword to the closing brace. Written by hand are the column `answer`, the
 order of the rows, and the table of edits. Also checked: that the first table has exactly the files that public contracts reach and the row
 of records and enums, that the files define nothing that no contract reaches, that each file of specs/, statements/ and tables/ is named,
-that tables/Witnesses.antt names each call that may refuse, and that the wrong answer of each edit is one of its call's row. The pages of
-SAID_IN contain the sum of the first table."""
+that tables/Witnesses.antt names each call that may refuse, that each call that may refuse with 3, which takes a mask with its count, is
+named above a field of the theorem on counts (statements/CountsUnseen.antt), and that the wrong answer of each edit is one of its call's
+row. The pages of SAID_IN contain the sum of the first table."""
 import glob
 import os
 import re
@@ -250,6 +251,13 @@ def witnessed(crate):
     return {name for text in beside(crate, "tables/Witnesses.antt") for name in re.findall(r"`([\w:]+)`", text)}
 
 
+def counts_unseen(crate):
+    """Returns the calls that the theorem on counts is about: those named in a comment right above one of its fields."""
+    texts = beside(crate, "statements/CountsUnseen.antt")
+    comments = [comment for text in texts for comment in re.findall(r"(?m)((?:^  --.*\n)+)^  pub ", text)]
+    return {name for comment in comments for name in re.findall(r"`([\w:]+)`", comment)}
+
+
 # ---- the page
 
 
@@ -258,13 +266,15 @@ def facts():
     rows, complaints = {}, []
     order = re.findall(r"\d+", re.search(r"(?m)^order =(.*?)^$", read("crates", "masks", "specs", "Checks.antt"), re.S)[1])
     for crate in CRATES:
-        numbers, wrong, named = refusals(crate), wrong_answers(crate), witnessed(crate)
+        numbers, wrong, named, unseen = refusals(crate), wrong_answers(crate), witnessed(crate), counts_unseen(crate)
         for name, (args, definitions) in functions(crate).items():
             checks = sorted(numbers.get(name, numbers.get("*", ())), key=lambda n: (order.index(n) if n in order else 0, int(n)))
             if name in rows:
                 complaints.append(f"two public functions are named {name}")
             if name in numbers and name not in named:
                 complaints.append(f"{crate}/proofs/tables/Witnesses.antt does not name {name}")
+            if "3" in checks and name not in unseen:
+                complaints.append(f"{crate}/proofs/statements/CountsUnseen.antt does not name {name}, which may refuse with 3")
             rows[name] = {
                 "call": f"`{name}({', '.join(args)})`",
                 "checks": " ".join(checks) or "none",

@@ -5,7 +5,6 @@ use Rattle.std.specs.Prelude.{Ok, Err}
 use Rattle.masks.specs.declared.bitmap.Bitmap.{Bitmap}
 use Rattle.masks.specs.Answer.{Answer, given, refused, checked}
 use Rattle.masks.specs.Checks.{Check}
-use Rattle.masks.specs.Mask.{mask_checks}
 use Rattle.masks.specs.NextAndNot.{free_flags, next_checks}
 use Rattle.masks.specs.Search.{nth_from}
 use Rattle.masks.specs.Refusal.{number}
@@ -69,10 +68,11 @@ offering n l cursor = record {
 }
 
 -- With a permission mask the checks are those of `next_and_not`: 1 to 3 of each mask that is present, 5 if both are, and 6: the cursor is
--- at most the length. Without one, checks 1 to 3 apply to a revocation mask that is present, and there are no others.
+-- at most the length. Without one they are those of a search over a revocation mask that is present, starting at 0: 1 to 3 of that mask,
+-- and 6, which no mask fails there.
 unfoldable pub offer_checks : Option Bitmap → List ℕ → Option Bitmap → List ℕ → ℕ → List Check
 offer_checks (Some p) p_bytes revocation r_bytes cursor = next_checks p p_bytes revocation r_bytes cursor
-offer_checks None p_bytes (Some r) r_bytes cursor = mask_checks r r_bytes
+offer_checks None p_bytes (Some r) r_bytes cursor = next_checks r r_bytes None p_bytes 0
 offer_checks None p_bytes None r_bytes cursor = []
 
 -- with no permission mask no truck is offered, and no window read

@@ -4,6 +4,7 @@ pub mod AppendPlain
 pub mod CountPlain
 pub mod CountsUnseen
 pub mod CursorPlain
+pub mod FrozenPlain
 pub mod Listing
 pub mod Refusals
 pub mod SerialPlain

@@ -1,10 +1,14 @@
--- The theorems. Proofs of functions use some laws of `Accepted`, `NextPlain`, `PairPlain`, `RunsPlain` and `TrueIdxPlain`.
+-- The theorems, and `CountsUnseenLaws`, which `CountsUnseen` uses. Proofs of functions use some laws of `Accepted`, `NextPlain`,
+-- `PairPlain`, `RunsPlain` and `TrueIdxPlain`.
 pub mod Accepted
 pub mod AndNotFlag
 pub mod AnswerPlain
 pub mod AppendPlain
 pub mod CountPlain
+pub mod CountsUnseen
+pub mod CountsUnseenLaws
 pub mod CursorPlain
+pub mod FrozenPlain
 pub mod NextPlain
 pub mod PairPlain
 pub mod PositionsPlain
@@ -18,4 +22,3 @@ pub mod ShortcutsUnseen
 pub mod SliceTruth
 pub mod SupersedingPlain
 pub mod TrueIdxPlain
-pub mod Uncounted

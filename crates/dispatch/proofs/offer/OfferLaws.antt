@@ -197,8 +197,8 @@ module _ (p : Bitmap) (p_bytes : List ℕ) (R : Option Bitmap) (r_bytes : List �
       is-refused k number cursor (offered_of (Some p) p_bytes R r_bytes cursor) same
       (λ z. refused-failed k number tt tt found e (sym same ∙ z))
 
--- without one: the search over a revocation mask makes the checks of that mask
-lone-number : (r : Bitmap) (r_bytes p_bytes : List ℕ)
+-- without one: the checks of a search over a revocation mask that starts at 0 are those of that mask, since 6 always passes
+pub lone-number : (r : Bitmap) (r_bytes p_bytes : List ℕ)
     → first_failed (next_checks r r_bytes None p_bytes 0) ≡ first_failed (mask_checks r r_bytes)
 unfolding next_checks other_checks
 lone-number r r_bytes p_bytes =
@@ -216,7 +216,7 @@ module _ (p_bytes : List ℕ) (R : Option Bitmap) (r : Bitmap) (r_bytes : List �
   unfolding next_and_not_of offer_of offer_checks offered_of lone
   none-way F e =
       let z : 0 ≡ lone = given-number lone tt F (next_set r.length (free_flags r r_bytes None p_bytes) 0) e in
-      is-given 0 (first_failed (mask_checks r r_bytes)) cursor (offered cursor None 0) (z ∙ lone-number r r_bytes p_bytes) refl
+      is-given 0 lone cursor (offered cursor None 0) z refl
       ∙ ap (λ (o : Option Bitmap). offer_of None p_bytes o r_bytes cursor) (sym here)
 
   pub none-refused : (k : ℕ) → refused k tt ≡ next_and_not_of r r_bytes None p_bytes 0
@@ -225,7 +225,7 @@ module _ (p_bytes : List ℕ) (R : Option Bitmap) (r : Bitmap) (r_bytes : List �
   none-refused k e =
       let v = next_set r.length (free_flags r r_bytes None p_bytes) 0 in
       let same = refused-number k lone tt tt v e in
-      is-refused k (first_failed (mask_checks r r_bytes)) cursor (offered cursor None 0) (same ∙ lone-number r r_bytes p_bytes)
+      is-refused k lone cursor (offered cursor None 0) same
       (λ z. refused-failed k lone tt tt v e (sym same ∙ z))
       ∙ ap (λ (o : Option Bitmap). offer_of None p_bytes o r_bytes cursor) (sym here)
 

@@ -8,12 +8,14 @@ use Rattle.dispatch.specs.Dispatch.{may_reassign}
 use Rattle.dispatch.specs.Offer.{offer_of}
 
 pub record CountsUnseen : Type 0 where
+  -- `may_reassign`
   pub permission : (p : Bitmap) (p_bytes : List ℕ) → first_failed (mask_checks p p_bytes) ≡ 0
       → (r : Option Bitmap) (r_bytes : List ℕ) (t : ℕ)
       → Unseen p (λ (x : Bitmap). may_reassign (Some x) p_bytes r r_bytes t)
   pub revocation : (r : Bitmap) (r_bytes : List ℕ) → first_failed (mask_checks r r_bytes) ≡ 0
       → (p : Option Bitmap) (p_bytes : List ℕ) (t : ℕ)
       → Unseen r (λ (x : Bitmap). may_reassign p p_bytes (Some x) r_bytes t)
+  -- `offer`
   pub offer-permission : (p : Bitmap) (p_bytes : List ℕ) → first_failed (mask_checks p p_bytes) ≡ 0
       → (r : Option Bitmap) (r_bytes : List ℕ) (cursor : ℕ)
       → Unseen p (λ (x : Bitmap). offer_of (Some x) p_bytes r r_bytes cursor)

@@ -75,6 +75,7 @@ accepted-kinds =
       selects = comes refl refl refl;
       selects-constant = comes refl refl refl;
       own-twice = comes refl refl refl;
+      under_serial = comes refl refl refl;
       imports = comes refl refl refl;
       imports-uncounted = comes refl refl refl;
     }

@@ -64,28 +64,28 @@ saving_from leaves n k [] = gap_calls leaves k n
 saving_from leaves n k (r ∷ rs) =
     gap_calls leaves k r.start ++ (constant r.length true ∷ saving_from leaves n (r.start + r.length) rs)
 
--- all these calls on a new builder over the buffer `buf` are accepted, the builder's flags are l, and `freeze` is accepted and
+-- all these calls on a new builder under a serial, over the buffer `buf`, are accepted, its flags are then l, and `freeze` is accepted and
 -- returns a mask that agrees with l
-pub record Saves (l : List Bool) (buf : List ℕ) (calls : List (Call LibraryCall)) : Type 0 where
-  pub accepted : map (λ (f : Fed LibraryCall). f.accepted) (trace library_call (start_of (from_builder 0 buf)) calls)
+pub record Saves (serial : ℕ) (l : List Bool) (buf : List ℕ) (calls : List (Call LibraryCall)) : Type 0 where
+  pub accepted : map (λ (f : Fed LibraryCall). f.accepted) (trace library_call (start_of (from_builder serial buf)) calls)
       ≡ map (λ (c : Call LibraryCall). true) calls
   pub builder : Filling
-  pub builds : run library_call (start_of (from_builder 0 buf)) calls ≡ building builder
+  pub builds : run library_call (start_of (from_builder serial buf)) calls ≡ building builder
   pub flags : builder_flags builder ≡ l
   pub mask : Bitmap
   pub bytes : List ℕ
   pub freezes : step library_call (building builder) freeze ≡ outcome (masked mask bytes) true
   pub agrees : Agrees mask bytes l
 
--- a mask taken apart into the runs that its cursor lists, and saved in any buffer of at least 8 × ceil(length / 64) bytes
+-- a mask taken apart into the runs that its cursor lists, and saved under any serial, in any buffer of at least 8 × ceil(length / 64) bytes
 pub record Rebuilt (m : Bitmap) (bytes : List ℕ) : Type 0 where
   pub runs : List Run
   pub listed : (k : ℕ) → m.length < k → runs_shown k m bytes ≡ Some runs
-  pub saved : (leaves : ℕ → Bool) (buf : List ℕ) → frozen_size m.length ≤ length buf
-      → Saves (mask_flags m bytes) buf (saving_from leaves m.length 0 runs)
+  pub saved : (serial : ℕ) (leaves : ℕ → Bool) (buf : List ℕ) → frozen_size m.length ≤ length buf
+      → Saves serial (mask_flags m bytes) buf (saving_from leaves m.length 0 runs)
   -- calls on the saved mask answer as on the mask that was taken apart
-  pub alike : (leaves : ℕ → Bool) (buf : List ℕ) (large : frozen_size m.length ≤ length buf)
-      → Alike m bytes (saved leaves buf large).mask (saved leaves buf large).bytes
+  pub alike : (serial : ℕ) (leaves : ℕ → Bool) (buf : List ℕ) (large : frozen_size m.length ≤ length buf)
+      → Alike m bytes (saved serial leaves buf large).mask (saved serial leaves buf large).bytes
 
 -- ---- the statement
 
@@ -97,7 +97,7 @@ pub record RunLists : Type 0 where
   -- and of no other
   pub only : (n : ℕ) (rs : List Run) (l l' : List Bool) → HasRuns n rs l → HasRuns n rs l' → l ≡ l'
   -- saving a run list makes this list of flags
-  pub saves : (n : ℕ) (rs : List Run) (l : List Bool) → HasRuns n rs l → n ≤ limit → (leaves : ℕ → Bool) (buf : List ℕ)
-      → frozen_size n ≤ length buf → Saves l buf (saving_from leaves n 0 rs)
+  pub saves : (n : ℕ) (rs : List Run) (l : List Bool) → HasRuns n rs l → n ≤ limit → (serial : ℕ) (leaves : ℕ → Bool) (buf : List ℕ)
+      → frozen_size n ≤ length buf → Saves serial l buf (saving_from leaves n 0 rs)
   -- every mask whose checks pass is rebuilt from its length and its runs, its count known or not
   pub rebuilt : (m : Bitmap) (bytes : List ℕ) → first_failed (mask_checks m bytes) ≡ 0 → Rebuilt m bytes

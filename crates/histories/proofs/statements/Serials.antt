@@ -1,16 +1,20 @@
--- Serials and histories: only lists of flags are compared, serials may differ, and the record of `superseding` may begin a history.
+-- Serials and histories: only lists of flags are compared, serials may differ, and the record of `superseding` may begin a history. So may
+-- a new builder under any serial (`from_builder`): the theorem on histories is about all of these, and the list of flags has no serial.
 use Rattle.std.specs.Prelude.{ℕ, ◌≡◌, cond, List}
 use Rattle.masks.specs.Answer.{given}
+use Rattle.masks.specs.Builder.{filling, new_builder}
 use Rattle.masks.specs.Mask.{mask_flags}
 use Rattle.masks.specs.Superseding.{part_bytes, superseding_of}
 use Rattle.masks.proofs.statements.SupersedingPlain.{Accepted, under}
 use Rattle.masks.specs.declared.bitmap.Bitmap.{Bitmap}
 use Rattle.masks.specs.declared.superseding.Part.{Part}
 use Rattle.histories.proofs.statements.Agreement.{Alike, ComesTo, imported_history}
-use Rattle.histories.proofs.statements.History.{list_of}
+use Rattle.histories.proofs.statements.History.{building, from_builder, list_of, start_of}
 use Rattle.histories.specs.Rows.{RowCall}
 
 pub record SerialsApart {Code : Type 0} (call_of : Code → RowCall) : Type 0 where
+  -- a new builder under serial 0 is the one that `BitmapBuilder::new` returns
+  pub new : (buf : List ℕ) → start_of (from_builder 0 buf) ≡ building (filling new_builder buf)
   -- calls answer alike on two masks with equal lists, whatever their serials are
   pub serials : (m : Bitmap) (bytes : List ℕ) (m' : Bitmap) (bytes' : List ℕ) (s s' : ℕ) → Accepted m bytes → Accepted m' bytes'
       → mask_flags m bytes ≡ mask_flags m' bytes' → Alike (under s m) bytes (under s' m') bytes'

@@ -6,7 +6,7 @@ use Rattle.masks.specs.Appends.{Append, push_flag, extend_constant, push_word, e
 use Rattle.masks.specs.Appends.{extend_repeated, extend_bitmap, extend_gather, extend_opt_gather}
 use Rattle.masks.specs.Builder.{Filling}
 use Rattle.masks.proofs.tables.Examples.{first, lent}
-use Rattle.masks.specs.Mask.{mask_of}
+use Rattle.masks.specs.Mask.{mask_of, mask_under}
 use Rattle.masks.specs.declared.bitmap.Bitmap.{Bitmap}
 use Rattle.histories.proofs.statements.Agreement.{ComesTo}
 use Rattle.histories.proofs.statements.History.{Call, try_new, append, freeze, into_opt_validity, make, Fed, History, from_builder}
@@ -26,7 +26,7 @@ pub record Comes (h : History LibraryCall) (accepted : List ℕ) (m : Bitmap) (b
 
 -- ---- histories
 
--- a new builder over eight lent bytes 0xAA, these appends, and the call that makes a mask of it
+-- a new builder under serial 0 over eight lent bytes 0xAA, these appends, and the call that makes a mask of it
 abbrev pub built : List Append → Call LibraryCall → History LibraryCall
 built appends last = record { start = from_builder 0 (lent 8); calls = map append appends ++ (last ∷ []) }
 
@@ -90,6 +90,9 @@ pub record AcceptedKinds : Type 0 where
   -- the history's own mask in both places, and a call on the result
   pub own-twice : Comes (on_a (combine (pair xor) (lent 8) (two own own) ∷ combine invert (lent 8) (one own) ∷ [])) (1 ∷ 1 ∷ 1 ∷ [])
       (mask_of 0 6 None) (first 0x3F) (1 ∷ 1 ∷ 1 ∷ 1 ∷ 1 ∷ 1 ∷ [])
+  -- a new builder under serial 6: so is its mask
+  pub under_serial : Comes (record { start = from_builder 6 (lent 8); calls = append (push_word 0x2D 6) ∷ freeze ∷ [] }) (1 ∷ 1 ∷ [])
+      (mask_under 6 0 6 (Some 2)) (first 0x2D) (1 ∷ 0 ∷ 1 ∷ 1 ∷ 0 ∷ 1 ∷ [])
   -- an imported mask, its count true or unknown
   pub imports : Comes (record { start = from_mask (mask_of 2 4 (Some 1)) A; calls = make (masks unset_bits) ∷ [] }) (1 ∷ [])
       (mask_of 2 4 (Some 1)) A (1 ∷ 1 ∷ 0 ∷ 1 ∷ [])

@@ -13,7 +13,7 @@ use Rattle.words.specs.Flags.{copies, flags_of}
 use Rattle.words.proofs.flags.Windows.{length-copies, length-window}
 use Rattle.masks.specs.Answer.{decided, kept}
 use Rattle.masks.specs.Appends.{constant_checks}
-use Rattle.masks.specs.Builder.{Filling, appended, filling, new_builder}
+use Rattle.masks.specs.Builder.{Filling, appended, builder_under, filling}
 use Rattle.masks.specs.Checks.{check, first_failed, limit, span_checks}
 use Rattle.masks.specs.Freeze.{freeze_checks, frozen_mask, frozen_over}
 use Rattle.masks.specs.Frozen.{frozen_size}
@@ -156,8 +156,9 @@ unfolding kept decided
 freezes f zero e = refl
 freezes f (suc k) e = absurd (omega arith)
 
-saved : (l : List Bool) (buf : List ℕ) (calls : List (Call LibraryCall)) → Ends (filling new_builder buf) calls l → Saves l buf calls
-saved l buf calls e =
+saved : (serial : ℕ) (l : List Bool) (buf : List ℕ) (calls : List (Call LibraryCall))
+    → Ends (filling (builder_under serial 0 0 0) buf) calls l → Saves serial l buf calls
+saved serial l buf calls e =
     let f = e.builder in
     let mask = frozen_mask f.builder in
     let bytes = frozen_over f.builder f.bytes in
@@ -175,23 +176,25 @@ saved l buf calls e =
 
 -- ---- run lists
 
-new-ready : (n : ℕ) (buf : List ℕ) → n ≤ limit → frozen_size n ≤ length buf → Ready (filling new_builder buf) [] n
-new-ready n buf h g =
+new-ready : (serial n : ℕ) (buf : List ℕ) → n ≤ limit → frozen_size n ≤ length buf
+    → Ready (filling (builder_under serial 0 0 0) buf) [] n
+new-ready serial n buf h g =
     record {
-      holds = new-holds 0 buf;
-      room = record { short = omega arith; low = (new-holds 0 buf).room.low; few = omega arith; holds = omega arith };
+      holds = new-holds serial buf;
+      room = record { short = omega arith; low = (new-holds serial buf).room.low; few = omega arith; holds = omega arith };
     }
 
 in-runs : (n : ℕ) (rs : List Run) (l : List Bool) → HasRuns n rs l → RunsIn n 0 rs
 in-runs n rs l h = subst (RunsIn n 0) h.runs (runs-in 0 n l (omega (arith, h.long)))
 
-saves : (n : ℕ) (rs : List Run) (l : List Bool) → HasRuns n rs l → n ≤ limit → (leaves : ℕ → Bool) (buf : List ℕ)
-    → frozen_size n ≤ length buf → Saves l buf (saving_from leaves n 0 rs)
-saves n rs l h short leaves buf large =
+saves : (n : ℕ) (rs : List Run) (l : List Bool) → HasRuns n rs l → n ≤ limit → (serial : ℕ) (leaves : ℕ → Bool) (buf : List ℕ)
+    → frozen_size n ≤ length buf → Saves serial l buf (saving_from leaves n 0 rs)
+saves n rs l h short serial leaves buf large =
     let same : n ≡ n - 0 = omega arith in
-    saved l buf (saving_from leaves n 0 rs)
-    (saves-from (in-runs n rs l h) leaves 0 (omega arith) (omega arith) (filling new_builder buf) [] l
-    (subst (Ready (filling new_builder buf) []) same (new-ready n buf short large)) (laid_same n rs l h))
+    let begun : Filling = filling (builder_under serial 0 0 0) buf in
+    saved serial l buf (saving_from leaves n 0 rs)
+    (saves-from (in-runs n rs l h) leaves 0 (omega arith) (omega arith) begun [] l
+    (subst (Ready begun []) same (new-ready serial n buf short large)) (laid_same n rs l h))
 
 -- ---- masks
 
@@ -210,11 +213,11 @@ module _ (m : Bitmap) (bytes : List ℕ) (ok : first_failed (mask_checks m bytes
   has : HasRuns m.length (runs_from 0 (mask_flags m bytes)) (mask_flags m bytes)
   has = record { long = length-window (flags_of bytes) m.start m.length; runs = refl }
 
-  rebuilt-saves : (leaves : ℕ → Bool) (buf : List ℕ) → frozen_size m.length ≤ length buf
-      → Saves (mask_flags m bytes) buf (saving_from leaves m.length 0 (runs_from 0 (mask_flags m bytes)))
-  rebuilt-saves leaves buf large =
+  rebuilt-saves : (serial : ℕ) (leaves : ℕ → Bool) (buf : List ℕ) → frozen_size m.length ≤ length buf
+      → Saves serial (mask_flags m bytes) buf (saving_from leaves m.length 0 (runs_from 0 (mask_flags m bytes)))
+  rebuilt-saves serial leaves buf large =
       saves m.length (runs_from 0 (mask_flags m bytes)) (mask_flags m bytes) has
-      (span-allowed m.start m.length (length bytes) in_bytes).short leaves buf large
+      (span-allowed m.start m.length (length bytes) in_bytes).short serial leaves buf large
 
   stands : Stands m bytes (mask_flags m bytes)
   stands = record { sound = mask-sound m bytes ok; flags = refl }
@@ -225,8 +228,8 @@ module _ (m : Bitmap) (bytes : List ℕ) (ok : first_failed (mask_checks m bytes
         runs = runs_from 0 (mask_flags m bytes);
         listed = listed;
         saved = rebuilt-saves;
-        alike = λ leaves buf large.
-            let s = rebuilt-saves leaves buf large in
+        alike = λ serial leaves buf large.
+            let s = rebuilt-saves serial leaves buf large in
             both-agree m s.mask bytes s.bytes (mask_flags m bytes) (agrees m bytes (mask_flags m bytes) stands) s.agrees;
       }
 
@@ -238,6 +241,6 @@ run-lists =
       such = λ l. in-tests (length l) (runs_from 0 l) (runs-in 0 (length l) l (omega arith));
       one = λ n rs h. (laid_out 0 n rs, laid-has n rs (run-by-run n rs h));
       only = λ n rs l l' h h'. sym (laid_same n rs l h) ∙ laid_same n rs l' h';
-      saves = λ n rs l h short leaves buf large. saves n rs l h short leaves buf (omega arith);
+      saves = λ n rs l h short serial leaves buf large. saves n rs l h short serial leaves buf (omega arith);
       rebuilt = rebuilt;
     }

@@ -1,6 +1,6 @@
 -- Serials and histories: the statement of `proofs/statements/Serials.antt`, which follows from the theorem on any imported mask.
 use Prim.Native.Nat.{ℕ}
-use mathlib.Core.Path.{sym, ◌∙◌}
+use mathlib.Core.Path.{refl, sym, ◌∙◌}
 use mathlib.Core.List.{List}
 use Rattle.masks.specs.Mask.{mask_checks}
 use Rattle.masks.proofs.statements.SupersedingPlain.{Accepted, under}
@@ -21,6 +21,7 @@ module _ {Code : Type 0} (call_of : Code → RowCall) (means : OneMeaning call_o
   pub serials-apart : SerialsApart call_of
   serials-apart =
       record {
+        new = λ buf. refl;
         serials = λ m bytes m' bytes' s s' e e' l.
             let own = means.imported (under s m) bytes (any-serial s m bytes e) in
             let other = means.imported (under s' m') bytes' (any-serial s' m' bytes' e') in

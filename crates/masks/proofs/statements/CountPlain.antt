@@ -1,7 +1,8 @@
--- Which masks have a known zero count, in the reference's words, for every call that returns a mask.
+-- Which masks have a known zero count, in the reference's words, for every call that returns a mask; of `superseding` and
+-- `superseding_part`, which return the winner's count, `SupersedingPlain` states it.
 --
 -- Each line is about a call that was accepted. The statement names none of the definitions that compute a count.
-use Rattle.std.specs.Prelude.{ℕ, suc, ◌+◌, ◌-◌, ◌/◌, ◌≤◌, ◌<◌, max, ◌≡◌, Bool, List, ◌⊎◌, Some, None}
+use Rattle.std.specs.Prelude.{ℕ, suc, ◌+◌, ◌-◌, ◌/◌, ◌≤◌, ◌<◌, max, ◌≡◌, Bool, List, length, ◌⊎◌, Some, None}
 use Rattle.words.specs.Flags.{count, word_flags}
 use Rattle.words.specs.Loops.{stretch}
 use Rattle.words.specs.declared.ops.Op.{Op}
@@ -70,6 +71,8 @@ pub record EachCounts (n : ℕ) (answer : Answer (Unit {0}) Bitmap) : Type 0 whe
 
 -- the statement
 pub record CountsPlainly : Type 0 where
+  -- zeros and ones together are all flags
+  pub zeros-and-ones : (l : List Bool) → zeros l + count l ≡ length l
   pub made : MadeCounts
   pub slice : (m : Bitmap) (bytes : List ℕ) (offset n : ℕ) (s : Bitmap) → given s ≡ slice_of m bytes offset n
       → SliceCounts m bytes offset n s

@@ -9,6 +9,7 @@ use native.Mathlib.Omega.{arith}
 use lib.Dec.{eqb, leb}
 use lib.ListN.{length}
 use borrow.Author.Tests.{eq-eqb, ne_eqb, le-leb, lt-leb, eqb-true}
+use Rattle.words.specs.Flags.{count}
 use Rattle.words.specs.declared.ops.Op.{Op}
 use Rattle.masks.specs.declared.bitmap.Recounted.{Recounted}
 use Rattle.masks.specs.Answer.{given, checked}
@@ -26,6 +27,7 @@ use Rattle.masks.specs.declared.bitmap.Bitmap.{Bitmap}
 use Rattle.masks.proofs.refusal.AnswerLaws.{given-number, given-value}
 use Rattle.masks.proofs.checks.CheckLaws.{both_left}
 use Rattle.masks.proofs.bitmap.MaskLaws.{piece-allowed}
+use Rattle.masks.proofs.utils.PartLaws.{ones-most, zeros-rest}
 
 -- an accepted call returns the mask that it made, with its count
 its_count : {S : Type 0} (cs : List Check) (s : S) (m made : Bitmap) → given m ≡ checked cs s made → m.unset ≡ made.unset
@@ -206,6 +208,8 @@ each_counts cs masks n = record {
 
 pub counts_plainly : CountsPlainly
 counts_plainly = record {
+  zeros-and-ones =
+      λ l. omega (arith, zeros-rest l (length l) (count l) refl refl, ones-most l (length l) (count l) refl refl);
   made = made-counts;
   slice = slice-counts;
   pair = pair-counts;

@@ -1,6 +1,6 @@
--- The theorem on counts, proved: if the checks of a mask pass, they are those of the same mask with its count unknown, and so is the
--- number of zeros that a call uses; a call uses nothing else of a count.
-use Rattle.std.specs.Prelude.{Option, Some, None}
+-- The theorem on counts, proved by the laws of `CountsUnseenLaws`: of a mask's count a call uses its checks and the number of zeros, and
+-- nothing else.
+use Rattle.std.specs.Prelude.{Option, Some}
 use Prim.Native.Nat.{ℕ, zero, suc, ◌+◌}
 use mathlib.Core.Path.{◌≡◌, refl, sym, ap, ap₂, ◌∙◌}
 use mathlib.Core.Bool.{Bool, true, false, cond, ◌&&◌}
@@ -11,30 +11,31 @@ use Rattle.words.specs.Counts.{same_flags}
 use Rattle.words.specs.Flags.{count, over, window}
 use Rattle.words.specs.declared.ops.Op.{Op}
 use Rattle.masks.specs.declared.bitmap.Recounted.{Recounted}
-use Rattle.masks.specs.Answer.{given, checked, decided, kept}
+use Rattle.masks.specs.Answer.{Answer, given, refused, checked, decided, kept}
 use Rattle.masks.specs.Appends.{grow_checks, inner_checks, subslice_checks}
-use Rattle.masks.specs.AtIndex.{and_not_at_checks, and_not_at_of, and_not_flag, flag_or, index_checks, index_inside, length_checks}
+use Rattle.masks.specs.AtIndex.{and_not_at_of, and_not_flag, flag_or}
 use Rattle.masks.specs.Builder.{appended, filling}
-use Rattle.masks.specs.Checks.{Check, check, first_failed, output_checks, span_checks, within_limit}
-use Rattle.masks.specs.Combine.{each_bytes, each_of, not_bytes, not_checks, not_flags, not_of, pair_bytes, pair_checks}
+use Rattle.masks.specs.Checks.{Check, check, first_failed, within_limit}
+use Rattle.masks.specs.Combine.{each_bytes, each_of, not_bytes, not_flags, not_of, pair_bytes}
 use Rattle.masks.specs.Combine.{pair_each, pair_flags, pair_mask, pair_of}
-use Rattle.masks.specs.Combine.{largest_serial, result_count, result_flags, result_mask, select_bytes, select_checks, select_constant_bytes}
+use Rattle.masks.specs.Combine.{largest_serial, result_count, result_flags, result_mask, select_bytes, select_constant_bytes}
 use Rattle.masks.specs.Combine.{select_constant_flags, select_constant_of, select_flags, select_of, shortcut}
 use Rattle.masks.specs.Compare.{common_checks, common_of, edges, edges_of, eq_of}
-use Rattle.masks.proofs.statements.CountsUnseen.{CountsUnseen, UnseenBoth, but_count, forgot, forgot_part, part_but_count}
+use Rattle.masks.proofs.statements.CountsUnseen.{CountsUnseen, UnseenBoth, but_count, forgot, forgot_part, made_but_count, part_but_count}
 use Rattle.masks.specs.Frozen.{frozen}
 use Rattle.masks.specs.Mask.{mask_checks, mask_flags, piece_checks, sliced_mask, slice_of, unset_bits_of, with_count, zero_count}
-use Rattle.masks.specs.NextAndNot.{free_flags, next_and_not_of, next_checks, next_set, other_checks}
+use Rattle.masks.specs.NextAndNot.{next_and_not_of, next_set}
 use Rattle.masks.specs.SliceIterator.{new_slices, slices_at}
-use Rattle.masks.specs.Superseding.{agree, part_of, superseding_checks, superseding_of, winning}
+use Rattle.masks.specs.Superseding.{agree, bytes_of, part_of, record_of, superseding_checks, superseding_of, winning}
 use Rattle.masks.specs.TrueIdx.{first_true, new_true, new_true_checks, true_at}
 use Rattle.masks.specs.declared.bitmap.Bitmap.{Bitmap}
 use Rattle.masks.specs.declared.builder.BitmapBuilder.{BitmapBuilder}
 use Rattle.masks.specs.declared.superseding.Part.{Part}
 use Rattle.masks.proofs.checks.CheckLaws.{is-given}
-use Rattle.masks.proofs.bitmap.MaskLaws.{mask-truthful, true-valid}
+use Rattle.masks.proofs.theorems.CountsUnseenLaws.{at-checks-left, at-checks-right, free-left, free-right, next-checks-left}
+use Rattle.masks.proofs.theorems.CountsUnseenLaws.{next-checks-right, not_alike, pair_left, pair-right, same-checks, same_count}
+use Rattle.masks.proofs.theorems.CountsUnseenLaws.{select-left, select-middle, select-right}
 use Rattle.masks.proofs.theorems.SliceTruth.{slice-accepted}
-use Rattle.masks.proofs.theorems.ShortcutsUnseen.{true-count}
 
 -- two answers by the same number are equal except for their counts if their masks are
 but_count_lem : (k : ℕ) (m s t : Bitmap) → forgot s ≡ forgot t → but_count (decided k m s) ≡ but_count (decided k (forgot m) t)
@@ -49,6 +50,24 @@ unfolding decided
 part_but_count_lem zero p q e = ap given e
 part_but_count_lem (suc k) p q e = refl
 
+-- the record and the bytes of a part are those of the part without its count, the record except for its count
+same-record : (r : Answer (Unit {0}) Part) → made_but_count (record_of r) ≡ record_of (part_but_count r)
+same-record (given p) = refl
+same-record (refused k s) = refl
+
+same-bytes : (r : Answer (Unit {0}) Part) (a_b b_b : List ℕ) → bytes_of r a_b b_b ≡ bytes_of (part_but_count r) a_b b_b
+same-bytes (given p) a_b b_b = refl
+same-bytes (refused k s) a_b b_b = refl
+
+record-alike : (r s : Answer (Unit {0}) Part) → part_but_count r ≡ part_but_count s
+    → made_but_count (record_of r) ≡ made_but_count (record_of s)
+record-alike r s e = same-record r ∙ ap record_of e ∙ sym (same-record s)
+
+bytes-alike : (r s : Answer (Unit {0}) Part) (a_b b_b : List ℕ) → part_but_count r ≡ part_but_count s
+    → bytes_of r a_b b_b ≡ bytes_of s a_b b_b
+bytes-alike r s a_b b_b e =
+    same-bytes r a_b b_b ∙ ap (λ (t : Answer (Unit {0}) Part). bytes_of t a_b b_b) e ∙ sym (same-bytes s a_b b_b)
+
 won-left : (m b : Bitmap) (t : Bool) → forgot_part (cond t (part_of true b) (part_of false m))
     ≡ forgot_part (cond t (part_of true b) (part_of false (forgot m)))
 won-left m b true = refl
@@ -60,14 +79,11 @@ won-right b m true = refl
 won-right b m false = refl
 
 module _ (m : Bitmap) (bytes : List ℕ) (e : first_failed (mask_checks m bytes) ≡ 0) where
-  pub same-checks : mask_checks m bytes ≡ mask_checks (forgot m) bytes
-  unfolding mask_checks
-  same-checks =
-      ap (λ (t : Bool). span_checks m.start m.length (length bytes) ++ (check 3 t ∷ []))
-      (true-valid m.unset (mask_flags m bytes) (mask-truthful m bytes e))
+  same : mask_checks m bytes ≡ mask_checks (forgot m) bytes
+  same = same-checks m bytes e
 
-  pub same_count : zero_count m bytes ≡ zero_count (forgot m) bytes
-  same_count = true-count m bytes (mask-truthful m bytes e) ∙ sym (true-count (forgot m) bytes tt)
+  zeros-alike : zero_count m bytes ≡ zero_count (forgot m) bytes
+  zeros-alike = same_count m bytes e
 
   -- ---- one mask
 
@@ -76,9 +92,9 @@ module _ (m : Bitmap) (bytes : List ℕ) (e : first_failed (mask_checks m bytes)
   counted =
       let known : ℕ → Recounted = λ (z : ℕ). record { mask = with_count m (Some z); zeros = z } in
       sym (is-given 0 (first_failed (mask_checks m bytes)) m (known (zero_count m bytes)) (sym e) refl)
-      ∙ ap (λ (z : ℕ). given (known z)) same_count
+      ∙ ap (λ (z : ℕ). given (known z)) zeros-alike
       ∙ is-given 0 (first_failed (mask_checks (forgot m) bytes)) (forgot m) (known (zero_count (forgot m) bytes))
-      (sym e ∙ ap first_failed same-checks) refl
+      (sym e ∙ ap first_failed same) refl
 
   sliced : (offset n : ℕ) → but_count (slice_of m bytes offset n) ≡ but_count (slice_of (forgot m) bytes offset n)
   unfolding piece_checks
@@ -86,7 +102,7 @@ module _ (m : Bitmap) (bytes : List ℕ) (e : first_failed (mask_checks m bytes)
       let six : List Check = check 6 (leb (offset + n) m.length) ∷ [] in
       let rest : List Check = within_limit offset ∷ within_limit n ∷ within_limit (m.start + offset) ∷ six in
       ap but_count (slice-accepted m bytes offset n)
-      ∙ ap (λ (cs : List Check). but_count (checked (cs ++ rest) m (sliced_mask m bytes offset n))) same-checks
+      ∙ ap (λ (cs : List Check). but_count (checked (cs ++ rest) m (sliced_mask m bytes offset n))) same
       ∙ but_count_lem (first_failed (mask_checks (forgot m) bytes ++ rest)) m (sliced_mask m bytes offset n)
       (sliced_mask (forgot m) bytes offset n) refl
       ∙ sym (ap but_count (slice-accepted (forgot m) bytes offset n))
@@ -94,21 +110,21 @@ module _ (m : Bitmap) (bytes : List ℕ) (e : first_failed (mask_checks m bytes)
   grown : (b : BitmapBuilder) (buf : List ℕ) (start n : ℕ)
       → subslice_checks b buf m bytes start n ≡ subslice_checks b buf (forgot m) bytes start n
   unfolding subslice_checks
-  grown b buf start n = ap (λ (cs : List Check). cs ++ (inner_checks start n m.length ++ grow_checks b n (length buf))) same-checks
+  grown b buf start n = ap (λ (cs : List Check). cs ++ (inner_checks start n m.length ++ grow_checks b n (length buf))) same
 
   edged : edges_of m bytes ≡ edges_of (forgot m) bytes
   unfolding edges_of
-  edged = ap (λ (cs : List Check). checked cs tt (edges (mask_flags m bytes))) same-checks
+  edged = ap (λ (cs : List Check). checked cs tt (edges (mask_flags m bytes))) same
 
   runs-new : new_slices m bytes ≡ new_slices (forgot m) bytes
   unfolding new_slices
-  runs-new = ap (λ (cs : List Check). checked cs tt (slices_at m.start m.length 0)) same-checks
+  runs-new = ap (λ (cs : List Check). checked cs tt (slices_at m.start m.length 0)) same
 
   ones-new : (n : ℕ) → new_true n (Some m) bytes ≡ new_true n (Some (forgot m)) bytes
   unfolding new_true new_true_checks first_true
   ones-new n =
       ap (λ (cs : List Check). checked ((within_limit n ∷ []) ++ (cs ++ (check 5 (eqb n m.length) ∷ []))) tt
-      (true_at m.start n 0 true)) same-checks
+      (true_at m.start n 0 true)) same
 
   -- ---- the first of two, and the second
 
@@ -116,18 +132,18 @@ module _ (m : Bitmap) (bytes : List ℕ) (e : first_failed (mask_checks m bytes)
     eq-left : eq_of m bytes b b_b ≡ eq_of (forgot m) bytes b b_b
     unfolding eq_of
     eq-left =
-        ap (λ (cs : List Check). checked (cs ++ mask_checks b b_b) tt (same_flags (mask_flags m bytes) (mask_flags b b_b))) same-checks
+        ap (λ (cs : List Check). checked (cs ++ mask_checks b b_b) tt (same_flags (mask_flags m bytes) (mask_flags b b_b))) same
 
     eq-right : eq_of b b_b m bytes ≡ eq_of b b_b (forgot m) bytes
     unfolding eq_of
     eq-right =
-        ap (λ (cs : List Check). checked (mask_checks b b_b ++ cs) tt (same_flags (mask_flags b b_b) (mask_flags m bytes))) same-checks
+        ap (λ (cs : List Check). checked (mask_checks b b_b ++ cs) tt (same_flags (mask_flags b b_b) (mask_flags m bytes))) same
 
     superseding-left : part_but_count (superseding_of m bytes b b_b) ≡ part_but_count (superseding_of (forgot m) bytes b b_b)
     unfolding superseding_of superseding_checks
     superseding-left =
         let last : List Check = check 14 (agree m bytes b b_b) ∷ [] in
-        ap (λ (cs : List Check). part_but_count (checked ((cs ++ mask_checks b b_b) ++ last) tt (winning m b))) same-checks
+        ap (λ (cs : List Check). part_but_count (checked ((cs ++ mask_checks b b_b) ++ last) tt (winning m b))) same
         ∙ part_but_count_lem (first_failed ((mask_checks (forgot m) bytes ++ mask_checks b b_b) ++ last)) (winning m b)
         (winning (forgot m) b)
         (won-left m b (ltb m.serial b.serial))
@@ -136,7 +152,7 @@ module _ (m : Bitmap) (bytes : List ℕ) (e : first_failed (mask_checks m bytes)
     unfolding superseding_of superseding_checks
     superseding-right =
         let last : List Check = check 14 (agree b b_b m bytes) ∷ [] in
-        ap (λ (cs : List Check). part_but_count (checked ((mask_checks b b_b ++ cs) ++ last) tt (winning b m))) same-checks
+        ap (λ (cs : List Check). part_but_count (checked ((mask_checks b b_b ++ cs) ++ last) tt (winning b m))) same
         ∙ part_but_count_lem (first_failed ((mask_checks b b_b ++ mask_checks (forgot m) bytes) ++ last)) (winning b m)
         (winning b (forgot m))
         (won-right b m (ltb b.serial m.serial))
@@ -145,25 +161,13 @@ module _ (m : Bitmap) (bytes : List ℕ) (e : first_failed (mask_checks m bytes)
     unfolding common_of common_checks
     common-left =
         ap (λ (cs : List Check). checked (cs ++ (mask_checks b b_b ++ (check 5 (eqb m.length b.length) ∷ []))) tt
-        (count (zip_with ◌&&◌ (mask_flags m bytes) (mask_flags b b_b)))) same-checks
+        (count (zip_with ◌&&◌ (mask_flags m bytes) (mask_flags b b_b)))) same
 
     common-right : common_of b b_b m bytes ≡ common_of b b_b (forgot m) bytes
     unfolding common_of common_checks
     common-right =
         ap (λ (cs : List Check). checked (mask_checks b b_b ++ (cs ++ (check 5 (eqb b.length m.length) ∷ []))) tt
-        (count (zip_with ◌&&◌ (mask_flags b b_b) (mask_flags m bytes)))) same-checks
-
-    pair_left : (size : ℕ) → pair_checks m bytes b b_b size ≡ pair_checks (forgot m) bytes b b_b size
-    unfolding pair_checks
-    pair_left size =
-        let five : List Check = check 5 (eqb m.length b.length) ∷ output_checks m.length size in
-        ap (λ (cs : List Check). cs ++ (mask_checks b b_b ++ five)) same-checks
-
-    pair-right : (size : ℕ) → pair_checks b b_b m bytes size ≡ pair_checks b b_b (forgot m) bytes size
-    unfolding pair_checks
-    pair-right size =
-        let five : List Check = check 5 (eqb b.length m.length) ∷ output_checks b.length size in
-        ap (λ (cs : List Check). mask_checks b b_b ++ (cs ++ five)) same-checks
+        (count (zip_with ◌&&◌ (mask_flags b b_b) (mask_flags m bytes)))) same
 
     module _ (op : Op) (out : List ℕ) where
       mask-left : pair_of op m bytes b b_b out ≡ pair_of op (forgot m) bytes b b_b out
@@ -171,131 +175,66 @@ module _ (m : Bitmap) (bytes : List ℕ) (e : first_failed (mask_checks m bytes)
       mask-left =
           ap₂ (λ (cs : List Check) (z : ℕ). checked cs tt
           (result_mask (m ∷ b ∷ []) m.length (result_count (shortcut op m.length z (zero_count b b_b)) m.length)))
-          (pair_left (length out)) same_count
+          (pair_left m bytes e b b_b (length out)) zeros-alike
 
       mask-right : pair_of op b b_b m bytes out ≡ pair_of op b b_b (forgot m) bytes out
       unfolding pair_of pair_mask largest_serial
       mask-right =
           ap₂ (λ (cs : List Check) (z : ℕ). checked cs tt
           (result_mask (b ∷ m ∷ []) b.length (result_count (shortcut op b.length (zero_count b b_b) z) b.length)))
-          (pair-right (length out)) same_count
+          (pair-right m bytes e b b_b (length out)) zeros-alike
 
       bytes_left : pair_bytes op m bytes b b_b out ≡ pair_bytes op (forgot m) bytes b b_b out
       unfolding pair_bytes pair_flags
       bytes_left =
           ap₂ (λ (cs : List Check) (z : ℕ). kept (first_failed cs)
           (over out (frozen (result_flags (shortcut op m.length z (zero_count b b_b)) m.length (pair_each op m bytes b b_b)))) out)
-          (pair_left (length out)) same_count
+          (pair_left m bytes e b b_b (length out)) zeros-alike
 
       bytes-right : pair_bytes op b b_b m bytes out ≡ pair_bytes op b b_b (forgot m) bytes out
       unfolding pair_bytes pair_flags
       bytes-right =
           ap₂ (λ (cs : List Check) (z : ℕ). kept (first_failed cs)
           (over out (frozen (result_flags (shortcut op b.length (zero_count b b_b) z) b.length (pair_each op b b_b m bytes)))) out)
-          (pair-right (length out)) same_count
+          (pair-right m bytes e b b_b (length out)) zeros-alike
 
   -- ---- combinations with no shortcut: only their checks use the counts
-
-  not_alike : (size : ℕ) → not_checks m bytes size ≡ not_checks (forgot m) bytes size
-  unfolding not_checks
-  not_alike size = ap (λ (cs : List Check). cs ++ output_checks m.length size) same-checks
 
   inverted : (out : List ℕ) → UnseenBoth m (λ (x : Bitmap). not_of x bytes out) (λ (x : Bitmap). not_bytes x bytes out)
   unfolding each_of largest_serial
   inverted out =
       record {
-        answers = ap (λ (cs : List Check). each_of cs (m ∷ []) m.length) (not_alike (length out));
-        writes = ap (λ (cs : List Check). each_bytes cs (not_flags m bytes) out) (not_alike (length out));
+        answers = ap (λ (cs : List Check). each_of cs (m ∷ []) m.length) (not_alike m bytes e (length out));
+        writes = ap (λ (cs : List Check). each_bytes cs (not_flags m bytes) out) (not_alike m bytes e (length out));
       }
 
-  module _ (b : Bitmap) (b_b : List ℕ) (c : Bitmap) (c_b : List ℕ) (size : ℕ) where
-    select-left : select_checks m bytes b b_b c c_b size ≡ select_checks (forgot m) bytes b b_b c c_b size
-    unfolding select_checks
-    select-left =
-        let second : List Check = check 5 (eqb m.length c.length) ∷ output_checks m.length size in
-        let five : List Check = check 5 (eqb m.length b.length) ∷ second in
-        ap (λ (cs : List Check). cs ++ (mask_checks b b_b ++ (mask_checks c c_b ++ five))) same-checks
-
-    select-middle : select_checks b b_b m bytes c c_b size ≡ select_checks b b_b (forgot m) bytes c c_b size
-    unfolding select_checks
-    select-middle =
-        let second : List Check = check 5 (eqb b.length c.length) ∷ output_checks b.length size in
-        let five : List Check = check 5 (eqb b.length m.length) ∷ second in
-        ap (λ (cs : List Check). mask_checks b b_b ++ (cs ++ (mask_checks c c_b ++ five))) same-checks
-
-    select-right : select_checks b b_b c c_b m bytes size ≡ select_checks b b_b c c_b (forgot m) bytes size
-    unfolding select_checks
-    select-right =
-        let second : List Check = check 5 (eqb b.length m.length) ∷ output_checks b.length size in
-        let five : List Check = check 5 (eqb b.length c.length) ∷ second in
-        ap (λ (cs : List Check). mask_checks b b_b ++ (mask_checks c c_b ++ (cs ++ five))) same-checks
-
-  -- ---- one index
-
-  index-alike : (i : ℕ) → index_checks (Some m) bytes i ≡ index_checks (Some (forgot m)) bytes i
-  unfolding index_checks
-  index-alike i = ap (λ (cs : List Check). cs ++ (index_inside i m ∷ [])) same-checks
-
-  pub at-checks-left : (second : Option Bitmap) (b_b : List ℕ) (i : ℕ)
-      → and_not_at_checks (Some m) bytes second b_b i ≡ and_not_at_checks (Some (forgot m)) bytes second b_b i
-  unfolding and_not_at_checks length_checks
-  at-checks-left second b_b i =
-      ap (λ (cs : List Check). cs ++ (index_checks second b_b i ++ length_checks (Some m) second)) (index-alike i)
-
-  pub at-checks-right : (first : Option Bitmap) (a_b : List ℕ) (i : ℕ)
-      → and_not_at_checks first a_b (Some m) bytes i ≡ and_not_at_checks first a_b (Some (forgot m)) bytes i
-  unfolding and_not_at_checks length_checks
-  at-checks-right (Some a) a_b i =
-      ap (λ (cs : List Check). index_checks (Some a) a_b i ++ (cs ++ length_checks (Some a) (Some m))) (index-alike i)
-  at-checks-right None a_b i = ap (λ (cs : List Check). index_checks None a_b i ++ (cs ++ length_checks None (Some m))) (index-alike i)
+  -- ---- one index, and the next flag
 
   at_left : (second : Option Bitmap) (b_b : List ℕ) (i : ℕ)
       → and_not_at_of (Some m) bytes second b_b i ≡ and_not_at_of (Some (forgot m)) bytes second b_b i
   unfolding and_not_at_of and_not_flag flag_or
-  at_left second b_b i = ap (λ (cs : List Check). checked cs tt (and_not_flag (Some m) bytes second b_b i)) (at-checks-left second b_b i)
+  at_left second b_b i =
+      ap (λ (cs : List Check). checked cs tt (and_not_flag (Some m) bytes second b_b i)) (at-checks-left m bytes e second b_b i)
 
   at_right : (first : Option Bitmap) (a_b : List ℕ) (i : ℕ)
       → and_not_at_of first a_b (Some m) bytes i ≡ and_not_at_of first a_b (Some (forgot m)) bytes i
   unfolding and_not_at_of and_not_flag flag_or
-  at_right first a_b i = ap (λ (cs : List Check). checked cs tt (and_not_flag first a_b (Some m) bytes i)) (at-checks-right first a_b i)
-
-  -- ---- the next flag
-
-  pub next-checks-left : (second : Option Bitmap) (b_b : List ℕ) (from : ℕ)
-      → next_checks m bytes second b_b from ≡ next_checks (forgot m) bytes second b_b from
-  unfolding next_checks
-  next-checks-left second b_b from =
-      ap (λ (cs : List Check). cs ++ (other_checks m.length second b_b ++ (check 6 (leb from m.length) ∷ []))) same-checks
-
-  pub next-checks-right : (a : Bitmap) (a_b : List ℕ) (from : ℕ)
-      → next_checks a a_b (Some m) bytes from ≡ next_checks a a_b (Some (forgot m)) bytes from
-  unfolding next_checks other_checks
-  next-checks-right a a_b from =
-      ap (λ (cs : List Check). mask_checks a a_b ++ ((cs ++ (check 5 (eqb a.length m.length) ∷ [])) ++ (check 6 (leb from a.length) ∷ [])))
-      same-checks
-
-  pub free-left : (second : Option Bitmap) (b_b : List ℕ) → free_flags m bytes second b_b ≡ free_flags (forgot m) bytes second b_b
-  unfolding free_flags pair_flags shortcut
-  free-left (Some b) b_b = refl
-  free-left None b_b = refl
-
-  pub free-right : (a : Bitmap) (a_b : List ℕ) → free_flags a a_b (Some m) bytes ≡ free_flags a a_b (Some (forgot m)) bytes
-  unfolding free_flags pair_flags shortcut
-  free-right a a_b = refl
+  at_right first a_b i =
+      ap (λ (cs : List Check). checked cs tt (and_not_flag first a_b (Some m) bytes i)) (at-checks-right m bytes e first a_b i)
 
   next_left : (second : Option Bitmap) (b_b : List ℕ) (from : ℕ)
       → next_and_not_of m bytes second b_b from ≡ next_and_not_of (forgot m) bytes second b_b from
   unfolding next_and_not_of
   next_left second b_b from =
       ap₂ (λ (cs : List Check) (l : List Bool). checked cs tt (next_set m.length l from))
-      (next-checks-left second b_b from) (free-left second b_b)
+      (next-checks-left m bytes e second b_b from) (free-left m bytes e second b_b)
 
   next-right : (a : Bitmap) (a_b : List ℕ) (from : ℕ)
       → next_and_not_of a a_b (Some m) bytes from ≡ next_and_not_of a a_b (Some (forgot m)) bytes from
   unfolding next_and_not_of
   next-right a a_b from =
       ap₂ (λ (cs : List Check) (l : List Bool). checked cs tt (next_set a.length l from))
-      (next-checks-right a a_b from) (free-right a a_b)
+      (next-checks-right m bytes e a a_b from) (free-right m bytes e a a_b)
 
 -- ---- the theorem
 
@@ -378,6 +317,14 @@ counts_unseen m bytes e =
       common-second = common-right m bytes e;
       superseding-first = superseding-left m bytes e;
       superseding-second = superseding-right m bytes e;
+      record-first = λ b b_b.
+          record-alike (superseding_of m bytes b b_b) (superseding_of (forgot m) bytes b b_b) (superseding-left m bytes e b b_b);
+      record-second = λ a a_b.
+          record-alike (superseding_of a a_b m bytes) (superseding_of a a_b (forgot m) bytes) (superseding-right m bytes e a a_b);
+      bytes-first = λ b b_b.
+          bytes-alike (superseding_of m bytes b b_b) (superseding_of (forgot m) bytes b b_b) bytes b_b (superseding-left m bytes e b b_b);
+      bytes-second = λ a a_b.
+          bytes-alike (superseding_of a a_b m bytes) (superseding_of a a_b (forgot m) bytes) a_b bytes (superseding-right m bytes e a a_b);
       next-first = next_left m bytes e;
       next-second = next-right m bytes e;
       slices-new = runs-new m bytes e;

@@ -1,4 +1,5 @@
--- The theorem on counts for `may_reassign`, proved: its checks are those with the mask's count unknown, and its flag reads no count.
+-- The theorem on counts for `may_reassign` and `offer`, proved: their checks are those with the mask's count unknown, and the flags that
+-- they use read no count.
 use Rattle.std.specs.Prelude.{Option, Some, None}
 use Prim.Native.Nat.{ℕ}
 use mathlib.Core.Path.{◌≡◌, refl, ap, ap₂, ◌∙◌}
@@ -11,8 +12,8 @@ use Rattle.masks.proofs.statements.CountsUnseen.{forgot}
 use Rattle.masks.specs.declared.bitmap.Bitmap.{Bitmap}
 use Rattle.masks.specs.Mask.{mask_checks}
 use Rattle.masks.specs.Checks.{first_failed}
-use Rattle.masks.proofs.theorems.Uncounted.{at-checks-left, at-checks-right, free-left, free-right, next-checks-left, next-checks-right}
-use Rattle.masks.proofs.theorems.Uncounted.{same-checks}
+use Rattle.masks.proofs.theorems.CountsUnseenLaws.{at-checks-left, at-checks-right, free-left, free-right, next-checks-left}
+use Rattle.masks.proofs.theorems.CountsUnseenLaws.{next-checks-right}
 use Rattle.dispatch.specs.Offer.{offer_checks, offer_of, offered_of, offering}
 use Rattle.dispatch.proofs.statements.CountsUnseen.{CountsUnseen}
 use Rattle.dispatch.specs.Dispatch.{may_reassign, reassignable}
@@ -41,7 +42,8 @@ offer_right r r_bytes e (Some p) p_bytes cursor =
     ap₂ (λ (cs : List Check) (l : List Bool). checked cs cursor (offering p.length l cursor))
     (next-checks-right r r_bytes e p p_bytes cursor) (free-right r r_bytes e p p_bytes)
 offer_right r r_bytes e None p_bytes cursor =
-    ap (λ (cs : List Check). checked cs cursor (record { truck = None; cursor = cursor; windows = 0 })) (same-checks r r_bytes e)
+    ap (λ (cs : List Check). checked cs cursor (record { truck = None; cursor = cursor; windows = 0 }))
+    (next-checks-left r r_bytes e None p_bytes 0)
 
 pub counts_unseen : CountsUnseen
 unfolding may_reassign reassignable and_not_flag flag_or
