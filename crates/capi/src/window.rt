@@ -52,7 +52,7 @@ pub extern "C" fn pw_activity_new(
     match ActivityWindow::new(width) {
         Ok(made) => window_out(made, words, counts),
         Err(e) => WindowAnswer {
-            refusal: e.into(),
+            refusal: e.refusal.into(),
             ..WindowAnswer::default()
         },
     }
