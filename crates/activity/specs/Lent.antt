@@ -1,10 +1,8 @@
 -- A window whose arrays are lent: its record, and the answer of a call without the arrays.
-use Rattle.std.specs.Prelude.{ℕ, cond, List, eqb, Result, Ok, Err}
+use Rattle.std.specs.Prelude.{ℕ, List}
 use Rattle.activity.specs.Window.{Answer}
 use Rattle.activity.specs.declared.lent.Numbers.{Numbers}
 use Rattle.activity.specs.declared.window.ActivityWindow.{ActivityWindow}
-use Rattle.activity.specs.declared.window.WindowRefusal.{WindowRefusal}
-use Rattle.activity.specs.declared.window.WindowRefusal.TheVariants.{ImpossibleWindow}
 
 -- the record of the arrays `words` and `counts` and the numbers `at`
 abbrev pub window_at : List ℕ → List ℕ → Numbers → ActivityWindow
@@ -17,7 +15,3 @@ numbers_of a =
       value = record { place = a.value.place; fill = a.value.fill; width = a.value.width };
       refusal = a.refusal;
     }
-
--- the result of a call over lent arrays: refused it has no value, since the arrays are the caller's
-abbrev pub stateless : {A : Type 0} → Answer A → Result A WindowRefusal
-stateless a = cond (eqb a.refusal 0) (Ok a.value) (Err ImpossibleWindow)

@@ -53,6 +53,11 @@ reason ImpossibleWindow = codes "the width is not 1 to 256, or no run of minutes
 abbrev pub said : WindowRefusal → List ℕ
 said r = codes "refused with " ++ (decimal (number r) ++ (codes ": " ++ reason r))
 
+-- the number of a result whose error holds no state, 0 for none
+abbrev pub failure_of : {A : Type 0} → Result A WindowRefusal → ℕ
+failure_of (Ok a) = 0
+failure_of (Err e) = number e
+
 -- a call's result as an answer: an error holds the value of a refused one
 abbrev pub answer : {A : Type 0} → Result A (Refused A) → Answer A
 answer (Ok a) = accepted a

@@ -38,7 +38,7 @@ impl WindowRefusal {
     }
 
     // Returns the refusal with the state that the call got, or with the zeros of `new` and `counts`.
-    fn with<S>(self, state: S) -> Refused<S>
+    pub(crate) fn with<S>(self, state: S) -> Refused<S>
         ensures { (result.refusal ≡ self) × (result.state ≡ state) }
     {
         Refused {
@@ -109,8 +109,8 @@ impl ActivityWindow {
             width,
         } = self;
         let at = Numbers { place, fill, width };
-        let after =
-            lent::push_minute(&mut words, &mut counts, at, word).map_err(|r| r.with(self))?;
+        let pushed = lent::push_minute(&mut words, &mut counts, at, word);
+        let after = pushed.map_err(|r| r.refusal.with(self))?;
         Ok(ActivityWindow {
             words,
             counts,

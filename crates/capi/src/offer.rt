@@ -6,7 +6,7 @@ ghost use Rattle.capi.specs.Records.{optional_in};
 
 use crate::answers::OfferAnswer;
 use crate::records::{Mask, optional_in};
-use dispatch::offer::{RefusedOffer, Offering, offer};
+use dispatch::offer::{Offering, RefusedOffer, offer};
 
 #[tactic(auto, unfolding(crate::specs::Answers::as_offer))]
 impl From<Result<Offering, RefusedOffer>> for OfferAnswer {

@@ -53,7 +53,9 @@ pub extern "C" fn pw_activity_new(
         Ok(made) => window_out(made, words, counts),
         Err(e) => WindowAnswer {
             refusal: e.refusal.into(),
-            ..WindowAnswer::default()
+            place: e.state.place,
+            fill: e.state.fill,
+            width: e.state.width,
         },
     }
 }
@@ -85,10 +87,10 @@ pub extern "C" fn pw_activity_push_minute(
             width: after.width,
         },
         Err(e) => WindowAnswer {
-            refusal: e.into(),
-            place,
-            fill,
-            width,
+            refusal: e.refusal.into(),
+            place: e.state.place,
+            fill: e.state.fill,
+            width: e.state.width,
         },
     }
 }

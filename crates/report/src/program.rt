@@ -1,7 +1,7 @@
 // The program maskreport: reads its input, of which a report takes at most 65,536 bytes, and prints the report.
-ghost use Rattle.std.specs.Prelude.{◌≡◌, ℕ, ◌<◌, Some, length, take, IfOk, IfSome, OnOk};
+ghost use Rattle.std.specs.Prelude.{◌<◌, Some, length, take, IfOk, OnOk};
 ghost use Rattle.std.specs.Io.{ReadsAtMost};
-ghost use Rattle.std.specs.Io.KnownBytes.{Appends, Consumes, IsAtEnd, Keeps};
+ghost use Rattle.std.specs.Io.KnownBytes.{Appends, Consumes, IsAtEnd};
 ghost use Rattle.report.specs.Program.{Outcome, failure_text, lines_of, text_of};
 
 use crate::numbers::{Numbers, report};

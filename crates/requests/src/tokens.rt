@@ -1,5 +1,5 @@
 // The tokens of a value in an answer, in their order.
-use dispatch::offer::{RefusedOffer, Offering};
+use dispatch::offer::{Offering, RefusedOffer};
 use masks::aligned::AlignedBitmapSlice;
 use masks::bitmap::{Bitmap, Recounted};
 use masks::bitmask::Span;

@@ -3,8 +3,8 @@
 -- `ActivityWindow::new` is witnessed by widths, `ActivityWindow::push_minute` and `ActivityWindow::counts` by records.
 -- `proofs/computed/Witnesses.antt` computes the rows.
 use Rattle.std.specs.Prelude.{ℕ, ◌-◌, ◌≡◌, List, [], ◌∷◌, ◌++◌, length, Ok, Err, codes}
-use Rattle.activity.specs.Lent.{window_at, numbers_of, stateless}
-use Rattle.activity.specs.Window.{zeros, no_minute, accepted, refused, uncounted, said, answer, new_of, push_of, counts_of}
+use Rattle.activity.specs.Lent.{window_at, numbers_of}
+use Rattle.activity.specs.Window.{zeros, no_minute, accepted, refused, uncounted, failure_of, said, answer, new_of, push_of, counts_of}
 use Rattle.activity.specs.declared.window.ActivityWindow.{ActivityWindow}
 use Rattle.activity.specs.declared.window.WindowRefusal.TheVariants.{ImpossibleWindow}
 
@@ -48,11 +48,11 @@ pub record Witnessed : Type 0 where
       ≡ record { words = 3 ∷ []; counts = 1 ∷ []; place = 1; fill = 2; width = 4 }
   pub lent-numbers : numbers_of (refused (record { words = 3 ∷ []; counts = 1 ∷ []; place = 1; fill = 2; width = 4 }))
       ≡ record { value = record { place = 1; fill = 2; width = 4 }; refusal = 16 }
-  -- how a result is read: the value of a refused answer is the one in the error, and over lent arrays there is none
+  -- how a result is read: the value of a refused answer is the one in the error
   pub read-ok : (a : ActivityWindow) → answer (Ok a) ≡ accepted a
   pub read-refused : (a : ActivityWindow) → answer (Err (record { refusal = ImpossibleWindow; state = a })) ≡ refused a
-  pub lent-ok : (n : ℕ) → stateless (accepted n) ≡ Ok n
-  pub lent-refused : (n : ℕ) → stateless (refused n) ≡ Err ImpossibleWindow
+  pub passed : (n : ℕ) → failure_of (Ok n) ≡ 0
+  pub failed : failure_of {A = ℕ} (Err ImpossibleWindow) ≡ 16
   -- the text of the refusal
   pub text : said ImpossibleWindow ≡ codes "refused with 16: the width is not 1 to 256, or no run of minutes leaves the window"
   pub width_0 : Refused (no_minute 0)

@@ -1,5 +1,6 @@
 -- What a run prints: the text of the report on all bytes of its input, also if it read only one more than a report takes.
-use Rattle.std.proofs.Common.{◌≡◌, refl, sym, ap, ◌∙◌, arith, subst, ℕ, ◌<◌, ◌≤◌, List, [], ◌++◌, length, take, length-append, append-nil, ⊎_elim}
+use Rattle.std.proofs.Common.{◌≡◌, sym, ap, ◌∙◌, arith, subst, ℕ, ◌<◌, ◌≤◌, List, [], ◌++◌, ⊎_elim}
+use Rattle.std.proofs.Common.{length, take, length-append, append-nil}
 use Rattle.std.proofs.lemmas.Bool.{cases_lt}
 use Rattle.std.specs.Prelude.{Option, Some, None, Result, Ok, Err, IfOk, IfSome, OnOk}
 use Rattle.std.specs.Result.{result_or}
@@ -37,14 +38,15 @@ passed-on (Ok y) f x e = ap Ok (let z : y ≡ x = cc in z)
 passed-on (Err y) f x e = absurd (let z : ◌≡◌ {A = ℕ} 0 1 = cc in omega arith)
 
 module _ (input rest old new : Option (List ℕ)) (buf : List ℕ) (long : length buf ≡ 65537) where
-  text-printed : (n : ℕ) (report : Option Numbers) → Consumes input rest (take n buf) → (n < length buf → IsAtEnd rest) → n ≡ length (take n buf)
-      → report ≡ report_of (take n buf) → Appends old new (text_of report) → Outcome input old new (Ok tt)
+  text-printed : (n : ℕ) (report : Option Numbers) → Consumes input rest (take n buf) → (n < length buf → IsAtEnd rest)
+      → n ≡ length (take n buf) → report ≡ report_of (take n buf) → Appends old new (text_of report) → Outcome input old new (Ok tt)
   text-printed n report p end h r w =
       let whole = report-whole input rest (take n buf) p (λ few. end (omega (arith, h, long))) in
       text-whole input old new report
       (subst (λ (s : Option Numbers). IfSome input (λ (all : List ℕ). s ≡ report_of all)) (sym r) whole) w
 
-  pub printed : {E : Type 0} (read : Result ℕ E) (written : Result (Unit {0}) E) (out : Result (Unit {0}) Failure) (n : ℕ) (report : Option Numbers)
+  pub printed : {E : Type 0} (read : Result ℕ E) (written : Result (Unit {0}) E) (out : Result (Unit {0}) Failure) (n : ℕ)
+      (report : Option Numbers)
       → result_or read (Err Input) ≡ Ok n → ReadsAtMost read buf
       → IfOk read (λ (k : ℕ). Consumes input rest (take k buf)) → IfOk read (λ (k : ℕ). k < length buf → IsAtEnd rest)
       → report ≡ report_of (take n buf) → OnOk written (Appends old new (text_of report)) → out ≡ result_or written (Err Output)

@@ -1,5 +1,6 @@
 -- The bytes that one more read gives follow those read before.
-use Rattle.std.proofs.Common.{◌≡◌, ℕ, ◌+◌, ◌-◌, ◌≤◌, List, ◌++◌, rules, arith, length, take, slice_range, sym, ap, ◌∙◌, subst, le_refl, drop_at, length-take-le}
+use Rattle.std.proofs.Common.{◌≡◌, ℕ, ◌+◌, ◌-◌, ◌≤◌, List, ◌++◌, rules, arith, length, take, slice_range, sym, ap, ◌∙◌, subst, le_refl}
+use Rattle.std.proofs.Common.{drop_at, length-take-le}
 use Rattle.std.proofs.lemmas.Slice.{take-put_mid_below}
 use Rattle.std.specs.Io.KnownBytes.{Consumes}
 use Rattle.std.proofs.KnownBytes.{Consumes-trans}
@@ -28,6 +29,9 @@ loop-size-preserved g c =
     let part = slice_range-put_mid from room c.in_ok-more.more c.loop-size.buf c.read.new.buf within c.in_ok-more.ensures.bound.0 in
     let joined =
     take_split from (from + c.in_ok-more.more) c.loop-size.buf (put_mid from room c.loop-size.buf c.read.new.buf) (omega arith)
-    (take-put_mid_below _ _ _ _ _ (le_refl _) within) in
-    (search rules, search rules, subst (Consumes _ _) (ap (λ l. take from c.loop-size.buf ++ l) (sym part) ∙ joined)
-    (Consumes-trans _ _ _ _ _ c.loop-size.invariant.2 c.in_ok-more.ensures.bytes.0))
+    (take-put_mid_below _ _ _ _ _ (le_refl _) within) in (
+      search rules,
+      search rules,
+      subst (Consumes _ _) (ap (λ l. take from c.loop-size.buf ++ l) (sym part) ∙ joined)
+          (Consumes-trans _ _ _ _ _ c.loop-size.invariant.2 c.in_ok-more.ensures.bytes.0),
+    )
