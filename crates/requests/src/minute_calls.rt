@@ -24,14 +24,25 @@ pub(crate) fn answer(alloc: Global, call: MinutesCall, a: &Arguments, out: &mut 
 
 // Writes the counts of the window whose arrays are x, as numbers, also those of a refusal.
 pub(crate) fn counts(alloc: Global, a: &Arguments, x: &[u8], numbers: &mut [u32]) -> Answered {
-    let (answered, counts) = match window_of(a, x).counts() {
-        Ok(counts) => (Ok(()), counts),
-        Err(refused) => (Err(refused.refusal), refused.state),
-    };
+    match window_of(a, x).counts() {
+        Ok(counts) => counted(alloc, Ok(()), counts, numbers),
+        Err(refused) => {
+            let state = refused.state;
+            counted(alloc, Err(refused.refusal), state, numbers)
+        }
+    }
+}
+
+fn counted(
+    alloc: Global,
+    r: Result<(), WindowRefusal>,
+    counts: [u32; 64],
+    numbers: &mut [u32],
+) -> Answered {
     for (number, count) in numbers.iter_mut().zip(counts) {
         *number = count;
     }
-    tokens::answer(alloc, answered)
+    tokens::answer(alloc, r)
 }
 
 // Makes a new window and writes it, also the one of a refusal.
