@@ -3,15 +3,15 @@
     python3 tests/calls_page.py            prints what differs, and fails if anything does
     python3 tests/calls_page.py --write    writes these cells anew
 
-Taken from the sources: a call's arguments and the definitions that its `ensures` cite (src/*.rt), the numbers by which it may refuse
-(statements/Refusals.antt), the wrong answers tried (tables/Wrong*.antt), and how many lines a file has: those with definitions and
-comments, without imports and empty lines. Of the sources an `ensures` is one line, and the records and enums that these definitions cite,
-or that a public function takes or returns, are counted from the keyword to the closing brace. Written by hand are the column `answer`, the
-order of the rows, and the table of edits. Also checked: that the first table has exactly the files that public contracts reach and the row
-of records and enums, that the files define nothing that no contract reaches, that each file of specs/, statements/ and tables/ is named,
-that tables/Witnesses.antt names each call that may refuse, that each call that may refuse with 3, which takes a mask with its count, is
-named above a field of the theorem on counts (statements/CountsUnseen.antt), and that the wrong answer of each edit is one of its call's
-row. The pages of SAID_IN contain the sum of the first table."""
+Taken from the sources: a call's arguments and the definitions that its `ensures` cite, and what each `impl` of a trait promises
+(src/*.rt), the numbers by which it may refuse (statements/Refusals.antt), the wrong answers tried (tables/Wrong*.antt), and how many lines
+a file has: those with definitions and comments, without imports and empty lines. Of the sources an `ensures` is one line, and the records
+and enums that these definitions cite, or that a public function takes or returns, are counted from the keyword to the closing brace.
+Written by hand are the column `answer`, the order of the rows, and the table of edits. Also checked: that the first table has exactly the
+files that public contracts reach and the row of records and enums, that the files define nothing that no contract reaches, that each file
+of specs/, statements/ and tables/ is named, that tables/Witnesses.antt names each call that may refuse, that each call that may refuse
+with 3, which takes a mask with its count, is named above a field of the theorem on counts (statements/CountsUnseen.antt), and that the
+wrong answer of each edit is one of its call's row. The pages of SAID_IN contain the sum of the first table."""
 import glob
 import os
 import re
@@ -87,12 +87,12 @@ def promised(head):
 
 
 def cited(head):
-    """Returns for each `ensures` what the result or a lent buffer equals, or a clause with a premise whole; lent bytes are only their
-    names."""
+    """Returns for each `ensures` what the result or a lent buffer equals, or a clause with a premise or a function whole; lent bytes are
+    only their names."""
     out = []
     for clause in promised(head):
         before, _, side = clause.partition("≡")
-        side = clause if "→" in before else (side or before).strip()
+        side = clause if "→" in before or "λ" in before else (side or before).strip()
         out.append(re.sub(r"[«»]|(?<=\w)\.(?:now|old)\b", "", side))
     return out
 
@@ -112,7 +112,7 @@ def functions(crate):
     for path in sorted(glob.glob(os.path.join(ROOT, "crates", crate, "src", "*.rt"))):
         text = source(path)
         owner = ""
-        for match in re.finditer(r"(?m)^impl (\w+)|^(\})|\bpub fn (\w+)", text):
+        for match in re.finditer(r"(?m)^impl (\w+) \{$|^(\})|\bpub fn (\w+)", text):
             if match[1]:
                 owner = match[1] + "::"
             elif match[2]:
@@ -121,6 +121,19 @@ def functions(crate):
                 head = head_of(text, match.start(3))
                 found[owner + match[3]] = arguments(head), cited(head)
     return found
+
+
+def impls(crate):
+    """Returns the promise of each `impl` of a trait that the crate does not declare, by the two names; none for one with no function."""
+    found = {}
+    paths = sorted(glob.glob(os.path.join(ROOT, "crates", crate, "src", "*.rt")))
+    own = {name for path in paths for name in re.findall(r"\btrait (\w+)", source(path))}
+    for path in paths:
+        for match in re.finditer(r"(?m)^impl(?:<[^\n]*?>)? ((?:\w+::)*(\w+)[^\n]*?) for ([^\n]*?) \{\n(.*?)^\}", source(path), re.S):
+            if match[2] not in own:
+                name = f"`{match[1]} for {match[3]}` of `{crate}`"
+                found[name] = " ".join(re.sub(r"^ghost use [^;]*;", "", match[4].strip()).split("fn ")[0].split())
+    return {name: re.sub(r"^ghost (\w+) = \{ (.*) \};.*", r"`\1`: `\2`", promise) for name, promise in found.items()}
 
 
 # ---- the definitions that contracts reach
@@ -134,12 +147,14 @@ def uses(text):
 
 
 def clauses():
-    """Yields for each source file its text, and the names that the clauses of its public functions have."""
+    """Yields for each source file its text, and the names that the clauses of its public functions and of its impls have."""
     for crate in CRATES:
         for path in glob.glob(os.path.join(ROOT, "crates", crate, "src", "*.rt")):
             text = source(path)
             heads = [head_of(text, match.start(1)) for match in re.finditer(r"\bpub fn (\w+)", text)]
-            yield text, set(re.findall(NAME, " ".join(clause for head in heads for clause in promised(head))))
+            said = [clause for head in heads for clause in promised(head)]
+            said += re.findall(r"\bghost (?:output|from_gives) = \{(.*?)\};", text, re.S)
+            yield text, set(re.findall(NAME, " ".join(said)))
 
 
 def reached():
@@ -261,6 +276,10 @@ def counts_unseen(crate):
 # ---- the page
 
 
+def promises():
+    return {name: promise for crate in (*CRATES, "capi") for name, promise in impls(crate).items()}
+
+
 def facts():
     """Returns the cells of each call's row, by column; and complaints."""
     rows, complaints = {}, []
@@ -286,12 +305,13 @@ def facts():
 
 
 def size_of(path):
-    """Counts the lines of a file, without imports and empty lines; for a crate's src, the clauses of its public functions; for RECORDS,
-    the lines of the records and enums that are cited."""
+    """Counts the lines of a file, without imports and empty lines; for a crate's src, the clauses of its public functions and impls; for
+    RECORDS, the lines of the records and enums that are cited."""
     if path == RECORDS:
         return str(sum(text.count("\n") + 1 for text in records(reached())[0].values()))
     if path.endswith("/src"):
-        return str(sum(len(definitions) for _, definitions in functions(path.split("/")[0]).values()))
+        crate = path.split("/")[0]
+        return str(sum(len(definitions) for _, definitions in functions(crate).values()) + len(impls(crate)))
     if not os.path.isfile(os.path.join(ROOT, "crates", path)):
         return "no such file"
     return str(sum(1 for line in read("crates", path).split("\n") if line and not re.match(r"(unfoldable )?(pub )?use ", line)))
@@ -314,6 +334,9 @@ def renewed(line, columns, rows, seen, complaints):
         cells = [known.get(column, cell) for column, cell in zip(columns, cells)]
         if "wrong answers ruled out" in columns and "; " not in cells[columns.index("wrong answers ruled out")]:
             complaints.append(f"{call[1]} has no two wrong answers")
+    elif columns[0] == "impl":
+        seen.append(cells[0])
+        cells[1] = promises().get(cells[0], "no such impl")
     elif columns[0] == "edited call":
         faults = rows.get(call and call[1], {}).get("wrong answers ruled out", "")
         if cells[1] not in faults.split("; "):
@@ -335,7 +358,8 @@ def main():
         elif not line.startswith("|---"):
             line = renewed(line, columns, rows, seen, complaints)
         out.append(line)
-    complaints += [f"no row for {name}" for name in rows if name not in seen]
+    complaints += [f"no row for {name}" for name in (*rows, *promises()) if name not in seen]
+    complaints += [f"no promise of {name}" for name, promise in promises().items() if not promise.startswith("`")]
     first = "\n".join(old).split("| file | lines | what |")[1].split("\n\n")[0]
     believed = set(re.findall(r"`(\S+\.antt)`", first))
     total = f"{sum(int(size_of(path)) for path in re.findall(r'(?m)^. `(.*?)`', first)):,}"

@@ -4,8 +4,8 @@
     python3 tests/declarations.py --write    writes them anew, after a call was added
 
 It writes the records and functions of include/poruwhina.h (in_c.py), the declarations of the Rust crate with a safe function for each
-(in_rust.py), and include/interface.txt. It compares the records of the Rust crate and the named numbers. Nothing else compares these: a
-program that declares an export otherwise links, and then reads the wrong bytes.
+(in_rust.py), and include/interface.txt. It compares the records of the Rust crate, the named numbers, and what a refusal prints.
+Nothing else compares these: a program that declares an export otherwise links, and then reads the wrong bytes.
 
 include/interface.txt holds the version of the interface and a digest of every record, function and number. Under one version no digest
 may change or disappear: if one would, the version must be raised, in the name of the symbol that crates/capi/src/interface.rt exports.
@@ -54,6 +54,27 @@ def rust_numbers():
     body = re.search(r"enum Refusal\s*\{(.*?)\}", text, re.S)[1]
     numbers.update({"PW_REFUSED" + in_c.c_name(name)[2:].upper(): int(n) for name, n in re.findall(r"(\w+)\s*=\s*(\d+)", body)})
     return numbers
+
+
+def texts(text, arm, numbers):
+    """Returns the words of each refusal by its number."""
+    return {numbers[name]: words for name, words in re.findall(arm, text, re.S) if name in numbers}
+
+
+def source_texts():
+    """Returns what the definitions `reason` of masks and of activity have."""
+    found = {}
+    for path in ("crates/masks/specs/Refusal.antt", "crates/activity/specs/Window.antt"):
+        text = (ROOT / path).read_text()
+        numbers = dict(re.findall(r"(?m)^number (\w+) = (\d+)$", text))
+        found.update(texts(text, r'\nreason (\w+) = codes "([^"]*)"', numbers))
+    return found
+
+
+def rust_texts():
+    text = (ROOT / "bindings/rust/src/refusal.rs").read_text()
+    numbers = dict(re.findall(r"(?m)^    (\w+) = (\d+),$", text))
+    return texts(text, r'Refusal::(\w+) => (?:\{\s*)?"([^"]*)"', numbers)
 
 
 def differences(where, declared, wanted):
@@ -110,6 +131,7 @@ def compared():
     numbers = source_numbers()
     yield from differences("the header", {name: number for name, (number, _) in in_c.numbers().items()}, numbers)
     yield from differences("the Rust crate", rust_numbers(), numbers)
+    yield from differences("the Rust crate", rust_texts(), source_texts())
     text = "\n".join(path.read_text() for path in sorted(in_rust.CALLS.glob("*.rs")))
     wanted = {name: fields for name, (_, fields) in records().items()}
     yield from differences("the Rust crate", {name: fields for name, (_, fields) in records_of(text).items()}, wanted)

@@ -18,7 +18,7 @@ use std::fmt;
 /// let refused = Bitmap::try_new([0x2D], 9).unwrap_err();
 /// assert_eq!(refused, Refusal::OutsideBytes);
 /// assert_eq!(refused.number(), 2);
-/// assert_eq!(refused.to_string(), "refused with 2: start + length is above 8 × the bytes lent");
+/// assert_eq!(refused.to_string(), "refused with 2: start + length is above 8 * the bytes lent");
 /// ```
 #[non_exhaustive]
 #[repr(u8)]
@@ -27,12 +27,12 @@ pub enum Refusal {
     /// 1: a start or a length is above 4,194,304: of a span, mask, cursor, builder or inner piece, a stated length, or a resulting
     /// start or length.
     AboveLimit = 1,
-    /// 2: start + length is above 8 × the bytes lent.
+    /// 2: start + length is above 8 * the bytes lent.
     OutsideBytes = 2,
     /// 3: a known zero count is not the number of zeros among the flags. Each call that takes a mask counts a known one again.
     FalseCount = 3,
-    /// 4: the builder is not possible: its word has a bit set at or above length mod 64, its ones are above 64 × (length div 64), or
-    /// its buffer has fewer than 8 × (length div 64) bytes.
+    /// 4: the builder is not possible: its word has a bit set at or above length mod 64, its ones are above 64 * (length div 64), or
+    /// its buffer has fewer than 8 * (length div 64) bytes.
     ImpossibleBuilder = 4,
     /// 5: the masks combined, or a mask and the length stated for it, differ in length.
     UnequalLengths = 5,
@@ -44,7 +44,7 @@ pub enum Refusal {
     CountNotOfSlice = 7,
     /// 8: the address remainder is above 7.
     AddressRemainder = 8,
-    /// 9: the output, or the builder's buffer, has fewer than 8 × ceil(new length / 64) bytes.
+    /// 9: the output, or the builder's buffer, has fewer than 8 * ceil(new length / 64) bytes.
     OutputTooSmall = 9,
     /// 14: two masks with equal serials have different flags or lengths. This check comes after 3.
     SerialConflict = 14,
@@ -92,14 +92,14 @@ impl Refusal {
     fn words(self) -> &'static str {
         match self {
             Refusal::AboveLimit => "a start or a length is above 4,194,304",
-            Refusal::OutsideBytes => "start + length is above 8 × the bytes lent",
+            Refusal::OutsideBytes => "start + length is above 8 * the bytes lent",
             Refusal::FalseCount => "a known zero count is not the number of zeros",
             Refusal::ImpossibleBuilder => "the builder is not possible: its word, ones or buffer do not fit its length",
             Refusal::UnequalLengths => "the masks combined, or a mask and the length stated for it, are not equal in length",
             Refusal::OutsideMask => "the inner piece does not lie in its mask",
             Refusal::CountNotOfSlice => "the known count is below the zeros cut off, or the rest above the new length",
             Refusal::AddressRemainder => "the address remainder is above 7",
-            Refusal::OutputTooSmall => "the output does not hold 8 × ceil(new length / 64) bytes",
+            Refusal::OutputTooSmall => "the output does not hold 8 * ceil(new length / 64) bytes",
             Refusal::SerialConflict => "the masks have equal serials and different flags",
             Refusal::ImpossibleWindow => "the width is not 1 to 256, or no run of minutes leaves the window",
         }

@@ -2,12 +2,13 @@
 --
 -- The record has 256 words, of which the first `fill` are kept, 64 counts, the place where the next word goes, and the width:
 -- how many words it keeps at most.
-use Rattle.std.specs.Prelude.{ℕ, ◌+◌, ◌%◌, min, cond, List, take, set, replicate, Result, Ok, Err}
+use Rattle.std.specs.Prelude.{ℕ, ◌+◌, ◌%◌, min, cond, List, take, set, replicate, ◌++◌, Result, Ok, Err, codes, decimal}
 use Rattle.words.specs.Columns.{column_counts}
 use Rattle.activity.specs.Checks.{width_fits, left_by_minutes}
 use Rattle.activity.specs.declared.window.ActivityWindow.{ActivityWindow}
 use Rattle.activity.specs.declared.window.Refused.{Refused}
-use Rattle.activity.specs.declared.window.Refused.TheVariants.{ImpossibleWindow}
+use Rattle.activity.specs.declared.window.WindowRefusal.{WindowRefusal}
+use Rattle.activity.specs.declared.window.WindowRefusal.TheVariants.{ImpossibleWindow}
 
 unfoldable pub zeros : ℕ → List ℕ
 zeros n = replicate n 0
@@ -41,14 +42,26 @@ abbrev pub uncounted : Answer (List ℕ)
 uncounted = refused (zeros 64)
 
 -- the number by which a call refused
-abbrev pub number : Refused → ℕ
+abbrev pub number : WindowRefusal → ℕ
 number ImpossibleWindow = 16
 
--- A call's result as an answer. A refusal has as its value the first argument: a window of zeros for `new`, the caller's window for
--- `push_minute`, and 64 zeros for `counts`.
-abbrev pub answer : {A : Type 0} → A → Result A Refused → Answer A
-answer back (Ok a) = accepted a
-answer back (Err e) = record { value = back; refusal = number e }
+-- the words for a failed check
+abbrev pub reason : WindowRefusal → List ℕ
+reason ImpossibleWindow = codes "the width is not 1 to 256, or no run of minutes leaves the window"
+
+-- the text of a refusal
+abbrev pub said : WindowRefusal → List ℕ
+said r = codes "refused with " ++ (decimal (number r) ++ (codes ": " ++ reason r))
+
+-- the number of a result whose error holds no state, 0 for none
+abbrev pub failure_of : {A : Type 0} → Result A WindowRefusal → ℕ
+failure_of (Ok a) = 0
+failure_of (Err e) = number e
+
+-- a call's result as an answer: an error holds the value of a refused one
+abbrev pub answer : {A : Type 0} → Result A (Refused A) → Answer A
+answer (Ok a) = accepted a
+answer (Err e) = record { value = e.state; refusal = number e.refusal }
 
 -- the answer of `new`: refused, a record of zeros, whose width every call refuses
 unfoldable pub new_of : ℕ → Answer ActivityWindow

@@ -1,7 +1,7 @@
 // The window of the last minutes: a record by value, 256 words of which the first `fill` are kept, and a count for each flag.
-ghost use Rattle.std.specs.Prelude.{◌≡◌, cond, Ok, Err};
-ghost use Rattle.activity.specs.Window.{zeros, no_minute, number, answer, new_of, push_of, counts_of};
-ghost use Rattle.activity.specs.declared.window.Refused.TheVariants.{ImpossibleWindow};
+ghost use Rattle.std.specs.Prelude.{◌≡◌, cond, Ok, Err, Some};
+ghost use Rattle.activity.specs.Window.{no_minute, number, reason, said, answer, new_of, push_of, counts_of};
+ghost use Rattle.activity.specs.declared.window.WindowRefusal.TheVariants.{ImpossibleWindow};
 
 use crate::checks::width_fits;
 use crate::lent::{self, Numbers};
@@ -21,48 +21,85 @@ pub struct ActivityWindow {
 
 // The reason for a refusal.
 #[derive(Clone, Copy, Debug, PartialEq, Eq)]
-pub enum Refused {
-    // No run of minutes leaves the window, or no window has the width.
+pub enum WindowRefusal {
+    // 16: the width is not 1 to 256, or no run of minutes leaves the window.
     ImpossibleWindow,
 }
 
-impl fmt::Display for Refused {
-    fn fmt<W: fmt::Write>(&self, f: &mut fmt::Formatter<W>) -> fmt::Result {
+impl WindowRefusal {
+    fn reason(self) -> &'static str
+        ensures { result.now ≡ reason self }
+    {
         match self {
-            Refused::ImpossibleWindow => write!(f, "no run of minutes leaves the window"),
+            WindowRefusal::ImpossibleWindow => {
+                "the width is not 1 to 256, or no run of minutes leaves the window"
+            }
+        }
+    }
+
+    // Returns the refusal with the state that the call got, or with the zeros of `new` and `counts`.
+    pub(crate) fn with<S>(self, state: S) -> Refused<S>
+        ensures { (result.refusal ≡ self) × (result.state ≡ state) }
+    {
+        Refused {
+            refusal: self,
+            state,
         }
     }
 }
 
-impl Error for Refused {}
+impl fmt::Display for WindowRefusal {
+    ghost output = { λ r. Some (said r) };
+
+    fn fmt<W: fmt::Write>(&self, f: &mut fmt::Formatter<W>) -> fmt::Result {
+        write!(f, "refused with {}: {}", u8::from(*self), self.reason())
+    }
+}
+
+impl Error for WindowRefusal {}
 
 // The number of the check that failed.
-impl From<Refused> for u8 {
+impl From<WindowRefusal> for u8 {
     ghost from_gives = { λ e n. n ≡ number e };
 
-    fn from(e: Refused) -> u8 {
+    fn from(e: WindowRefusal) -> u8 {
         match e {
-            Refused::ImpossibleWindow => 16,
+            WindowRefusal::ImpossibleWindow => 16,
         }
+    }
+}
+
+// A refusal, and the state that the call got: the window of `push_minute`. `new` and `counts` got none and have zeros.
+#[derive(Clone, Copy, Debug, PartialEq, Eq)]
+pub struct Refused<S> {
+    pub refusal: WindowRefusal,
+    pub state: S,
+}
+
+impl<S> fmt::Display for Refused<S> {
+    ghost output = { λ r. Some (said r.refusal) };
+
+    fn fmt<W: fmt::Write>(&self, f: &mut fmt::Formatter<W>) -> fmt::Result {
+        write!(f, "{}", self.refusal)
     }
 }
 
 impl ActivityWindow {
-    // Returns a window that keeps up to `width` words, 1 to 256, and has none yet. Refuses any other width by 16: the answer is then read
-    // as a window of zeros, which every call refuses.
+    // Returns a window that keeps up to `width` words, 1 to 256, and has none yet. Refuses any other width by 16, with a window of zeros:
+    // its width is 0 too, so that every call refuses it.
     #[tactic(auto, unfolding(crate::specs::Window::new_of))]
-    pub fn new(width: usize) -> Result<ActivityWindow, Refused>
-        ensures { answer (no_minute 0) result ≡ new_of width }
+    pub fn new(width: usize) -> Result<ActivityWindow, Refused<ActivityWindow>>
+        ensures { answer result ≡ new_of width }
     {
-        check(width_fits(width))?;
+        check(width_fits(width)).map_err(|r| r.with(no_minute(0)))?;
         Ok(no_minute(width))
     }
 
     // Returns the window after one more minute, with `word` as the word of that minute. Refuses by 16 if no run of minutes leaves this
-    // window: the caller's is unchanged.
+    // window, and returns it as it came.
     #[tactic(auto, unfolding(crate::specs::Window::push_of))]
-    pub fn push_minute(self, word: u64) -> Result<ActivityWindow, Refused>
-        ensures { answer self result ≡ push_of self word }
+    pub fn push_minute(self, word: u64) -> Result<ActivityWindow, Refused<ActivityWindow>>
+        ensures { answer result ≡ push_of self word }
     {
         let ActivityWindow {
             mut words,
@@ -72,7 +109,8 @@ impl ActivityWindow {
             width,
         } = self;
         let at = Numbers { place, fill, width };
-        let after = lent::push_minute(&mut words, &mut counts, at, word)?;
+        let pushed = lent::push_minute(&mut words, &mut counts, at, word);
+        let after = pushed.map_err(|r| r.refusal.with(self))?;
         Ok(ActivityWindow {
             words,
             counts,
@@ -82,29 +120,28 @@ impl ActivityWindow {
         })
     }
 
-    // Returns for each flag how many of the kept words have it set. Refuses by 16 if no run of minutes leaves this window: the answer is
-    // then read as 64 zeros.
-    #[tactic(auto, unfolding(crate::specs::Window::counts_of))]
-    pub fn counts(self) -> Result<[u32; 64], Refused>
-        ensures { answer (zeros 64) result ≡ counts_of self }
+    // Returns for each flag how many of the kept words have it set. Refuses by 16 if no run of minutes leaves this window, with 64 zeros.
+    #[tactic(auto, unfolding(crate::specs::Window::counts_of, crate::specs::Window::zeros))]
+    pub fn counts(self) -> Result<[u32; 64], Refused<[u32; 64]>>
+        ensures { answer result ≡ counts_of self }
     {
         let at = Numbers {
             place: self.place,
             fill: self.fill,
             width: self.width,
         };
-        lent::counts(&self.words, &self.counts, at)
+        lent::counts(&self.words, &self.counts, at).map_err(|r| r.with([0; 64]))
     }
 }
 
 // Refuses by 16 unless the check has passed.
-pub(crate) fn check(passed: bool) -> Result<(), Refused>
+pub(crate) fn check(passed: bool) -> Result<(), WindowRefusal>
     ensures { result ≡ cond passed (Ok tt) (Err ImpossibleWindow) }
 {
     if passed {
         Ok(())
     } else {
-        Err(Refused::ImpossibleWindow)
+        Err(WindowRefusal::ImpossibleWindow)
     }
 }
 

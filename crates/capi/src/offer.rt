@@ -6,13 +6,13 @@ ghost use Rattle.capi.specs.Records.{optional_in};
 
 use crate::answers::OfferAnswer;
 use crate::records::{Mask, optional_in};
-use dispatch::offer::{NoOffer, Offering, offer};
+use dispatch::offer::{Offering, RefusedOffer, offer};
 
 #[tactic(auto, unfolding(crate::specs::Answers::as_offer))]
-impl From<Result<Offering, NoOffer>> for OfferAnswer {
+impl From<Result<Offering, RefusedOffer>> for OfferAnswer {
     ghost from_gives = { λ r a. a ≡ as_offer (offer_answer r) };
 
-    fn from(r: Result<Offering, NoOffer>) -> OfferAnswer {
+    fn from(r: Result<Offering, RefusedOffer>) -> OfferAnswer {
         match r {
             Ok(o) => OfferAnswer {
                 refusal: 0,

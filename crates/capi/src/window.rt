@@ -52,8 +52,10 @@ pub extern "C" fn pw_activity_new(
     match ActivityWindow::new(width) {
         Ok(made) => window_out(made, words, counts),
         Err(e) => WindowAnswer {
-            refusal: e.into(),
-            ..WindowAnswer::default()
+            refusal: e.refusal.into(),
+            place: e.state.place,
+            fill: e.state.fill,
+            width: e.state.width,
         },
     }
 }
@@ -85,10 +87,10 @@ pub extern "C" fn pw_activity_push_minute(
             width: after.width,
         },
         Err(e) => WindowAnswer {
-            refusal: e.into(),
-            place,
-            fill,
-            width,
+            refusal: e.refusal.into(),
+            place: e.state.place,
+            fill: e.state.fill,
+            width: e.state.width,
         },
     }
 }

@@ -8,11 +8,11 @@ use Rattle.masks.specs.Checks.{Check}
 use Rattle.masks.specs.NextAndNot.{free_flags, next_checks}
 use Rattle.masks.specs.Search.{nth_from}
 use Rattle.masks.specs.Refusal.{number}
-use Rattle.dispatch.specs.declared.offer.NoOffer.{NoOffer}
+use Rattle.dispatch.specs.declared.offer.RefusedOffer.{RefusedOffer}
 use Rattle.dispatch.specs.declared.offer.Offering.{Offering}
 
 -- a result as an answer; a refusal has the caller's cursor
-abbrev pub offer_answer : Result Offering NoOffer → Answer ℕ Offering
+abbrev pub offer_answer : Result Offering RefusedOffer → Answer ℕ Offering
 offer_answer (Ok o) = given o
 offer_answer (Err e) = refused (number e.refusal) e.cursor
 
@@ -87,7 +87,7 @@ offer_of permission p_bytes revocation r_bytes cursor =
 -- ---- the bound on the windows
 
 -- the number of windows read, of a result; 0 of a refusal
-abbrev pub windows_in : Result Offering NoOffer → ℕ
+abbrev pub windows_in : Result Offering RefusedOffer → ℕ
 windows_in (Ok o) = o.windows
 windows_in (Err e) = 0
 

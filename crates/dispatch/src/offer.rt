@@ -1,11 +1,14 @@
 // The next truck that may be reassigned: the first at or after a cursor that is permitted and not revoked, going round to truck 0 once. A
 // mask and its bytes are two parameters, as in `dispatch.rt`.
-ghost use Rattle.std.specs.Prelude.{◌≡◌, ◌≤◌};
+ghost use Rattle.std.specs.Prelude.{◌≡◌, ◌≤◌, Some};
+ghost use Rattle.masks.specs.Refusal.{said};
 ghost use Rattle.dispatch.specs.Offer.{most_windows, offer_answer, offer_of, windows_in};
 
 use masks::bitmap::Bitmap;
 use masks::next_and_not::next_and_not;
 use masks::refusal::Refusal;
+use std::error::Error;
+use std::fmt;
 
 // A truck and the cursor one past it, or none and the cursor unchanged; and the number of windows of 32 flags that the search covers.
 #[derive(Clone, Copy, PartialEq, Eq, Debug)]
@@ -18,10 +21,20 @@ pub struct Offering {
 // The refusal of a check, and the cursor unchanged. Not masks' `Refused`: of the types of masks this crate names only those that
 // combinations and searches take or return.
 #[derive(Clone, Copy, PartialEq, Eq, Debug)]
-pub struct NoOffer {
+pub struct RefusedOffer {
     pub refusal: Refusal,
     pub cursor: usize,
 }
+
+impl fmt::Display for RefusedOffer {
+    ghost output = { λ r. Some (said r.refusal) };
+
+    fn fmt<W: fmt::Write>(&self, f: &mut fmt::Formatter<W>) -> fmt::Result {
+        write!(f, "{}", self.refusal)
+    }
+}
+
+impl Error for RefusedOffer {}
 
 // Returns the first truck at or after the cursor that is permitted and not revoked, else the first one of all. Refuses with 6 if the cursor
 // is above the length of the permission mask. Without a permission mask no truck is offered and no window counted, but checks 1, 2 and 3
@@ -32,7 +45,7 @@ pub fn offer(
     revocation: Option<Bitmap>,
     revocation_bytes: &[u8],
     cursor: usize,
-) -> Result<Offering, NoOffer>
+) -> Result<Offering, RefusedOffer>
     ensures answer { offer_answer result ≡ offer_of permission permission_bytes.now revocation revocation_bytes.now cursor }
     ensures bound { windows_in result ≤ most_windows permission }
 {
@@ -49,7 +62,7 @@ fn offer_next(
     revocation: Option<Bitmap>,
     revocation_bytes: &[u8],
     cursor: usize,
-) -> Result<Offering, NoOffer>
+) -> Result<Offering, RefusedOffer>
     ensures answer { offer_answer result ≡
         offer_of (Some permission) permission_bytes.now revocation revocation_bytes.now cursor }
     ensures bound { windows_in result ≤ most_windows (Some permission) }
@@ -61,7 +74,7 @@ fn offer_next(
         revocation_bytes,
         cursor,
     )
-    .map_err(|refusal| NoOffer { refusal, cursor })?;
+    .map_err(|refusal| RefusedOffer { refusal, cursor })?;
     let next = match found.position {
         Some(truck) => truck + 1,
         None => cursor,
@@ -79,13 +92,13 @@ fn offer_none(
     revocation: Option<Bitmap>,
     revocation_bytes: &[u8],
     cursor: usize,
-) -> Result<Offering, NoOffer>
+) -> Result<Offering, RefusedOffer>
     ensures answer { offer_answer result ≡ offer_of None permission_bytes.now revocation revocation_bytes.now cursor }
     ensures bound { windows_in result ≤ most_windows None }
 {
     if let Some(m) = revocation {
         let search = next_and_not(m, revocation_bytes, None, permission_bytes, 0);
-        search.map_err(|refusal| NoOffer { refusal, cursor })?;
+        search.map_err(|refusal| RefusedOffer { refusal, cursor })?;
     }
     Ok(Offering {
         truck: None,

@@ -5,6 +5,8 @@
 // The status is 0 whatever `run` returns: if it fails it has printed that to standard error.
 #![tactic(auto)]
 
+use std::io::Input;
+
 fn main(rt: HostRuntime) {
-    let _ = report::program::run(&rt);
+    let _ = report::program::run(&mut rt.reader(), &mut rt.stdout(), &mut rt.stderr());
 }

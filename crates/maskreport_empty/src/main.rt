@@ -1,6 +1,8 @@
 // The program maskreport on no bytes. tests/maskreport.py wrote stdin and stdout.
 #![tactic(auto)]
 
+use std::io::Input;
+
 fn main(rt: HostRuntime) {
-    let _ = report::program::run(&rt);
+    let _ = report::program::run(&mut rt.reader(), &mut rt.stdout(), &mut rt.stderr());
 }

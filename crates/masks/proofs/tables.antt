@@ -4,6 +4,7 @@ pub mod Examples
 pub mod OrderRows
 pub mod RuleRows
 pub mod StartRows
+pub mod Texts
 pub mod Witnesses
 pub mod WrongBuilders
 pub mod WrongCursors

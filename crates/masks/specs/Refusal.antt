@@ -1,5 +1,5 @@
--- The number of each refusal, as in the reference and paper 02.
-use Rattle.std.specs.Prelude.{ℕ, Result, Ok, Err}
+-- The number and the text of each refusal, as in the reference.
+use Rattle.std.specs.Prelude.{ℕ, List, ◌++◌, Result, Ok, Err, codes, decimal}
 use Rattle.masks.specs.declared.refusal.Refusal.{Refusal}
 use Rattle.masks.specs.declared.refusal.Refusal.TheVariants.{OverLimit, PastBytes, FalseCount, UnequalLists, ImpossibleBuilder}
 use Rattle.masks.specs.declared.refusal.Refusal.TheVariants.{UnequalLengths, Outside, WrongRecount, WrongAddress, ShortOutput}
@@ -20,3 +20,20 @@ number ShortOutput = 9
 abbrev pub failure_of : Result (Unit {0}) Refusal → ℕ
 failure_of (Ok u) = 0
 failure_of (Err r) = number r
+
+-- the words for a failed check
+abbrev pub reason : Refusal → List ℕ
+reason OverLimit = codes "a start or a length is above 4,194,304"
+reason PastBytes = codes "start + length is above 8 * the bytes lent"
+reason FalseCount = codes "a known zero count is not the number of zeros"
+reason UnequalLists = codes "the masks have equal serials and different flags"
+reason ImpossibleBuilder = codes "the builder is not possible: its word, ones or buffer do not fit its length"
+reason UnequalLengths = codes "the masks combined, or a mask and the length stated for it, are not equal in length"
+reason Outside = codes "the inner piece does not lie in its mask"
+reason WrongRecount = codes "the known count is below the zeros cut off, or the rest above the new length"
+reason WrongAddress = codes "the address remainder is above 7"
+reason ShortOutput = codes "the output does not hold 8 * ceil(new length / 64) bytes"
+
+-- the text of a refusal
+abbrev pub said : Refusal → List ℕ
+said r = codes "refused with " ++ (decimal (number r) ++ (codes ": " ++ reason r))

@@ -1,7 +1,7 @@
 // The reasons for which a call refuses, and how the checks of a call are joined.
-ghost use Rattle.std.specs.Prelude.{◌≡◌, cond};
+ghost use Rattle.std.specs.Prelude.{◌≡◌, cond, Some};
 ghost use Rattle.masks.specs.Checks.{earlier as earlier_of};
-ghost use Rattle.masks.specs.Refusal.{failure_of, number};
+ghost use Rattle.masks.specs.Refusal.{failure_of, number, reason, said};
 
 use std::error::Error;
 use std::fmt;
@@ -34,6 +34,30 @@ pub enum Refusal {
 }
 
 impl Refusal {
+    // Returns the words for the check that failed: those of the Rust crate.
+    fn reason(self) -> &'static str
+        ensures { result.now ≡ reason self }
+    {
+        match self {
+            Refusal::OverLimit => "a start or a length is above 4,194,304",
+            Refusal::PastBytes => "start + length is above 8 * the bytes lent",
+            Refusal::FalseCount => "a known zero count is not the number of zeros",
+            Refusal::UnequalLists => "the masks have equal serials and different flags",
+            Refusal::ImpossibleBuilder => {
+                "the builder is not possible: its word, ones or buffer do not fit its length"
+            }
+            Refusal::UnequalLengths => {
+                "the masks combined, or a mask and the length stated for it, are not equal in length"
+            }
+            Refusal::Outside => "the inner piece does not lie in its mask",
+            Refusal::WrongRecount => {
+                "the known count is below the zeros cut off, or the rest above the new length"
+            }
+            Refusal::WrongAddress => "the address remainder is above 7",
+            Refusal::ShortOutput => "the output does not hold 8 * ceil(new length / 64) bytes",
+        }
+    }
+
     // Returns the refusal with the record that was passed to the call.
     pub(crate) fn with<S>(self, state: S) -> Refused<S>
         ensures { (result.refusal ≡ self) × (result.state ≡ state) }
@@ -66,25 +90,10 @@ impl From<Refusal> for u8 {
 }
 
 impl fmt::Display for Refusal {
+    ghost output = { λ r. Some (said r) };
+
     fn fmt<W: fmt::Write>(&self, f: &mut fmt::Formatter<W>) -> fmt::Result {
-        match self {
-            Refusal::OverLimit => write!(f, "1: a start or a length is over the flag limit"),
-            Refusal::PastBytes => write!(f, "2: the flags end past the bytes lent"),
-            Refusal::FalseCount => write!(f, "3: the known zero count is not that of the flags"),
-            Refusal::UnequalLists => write!(f, "14: masks of one serial have unequal flags"),
-            Refusal::ImpossibleBuilder => write!(
-                f,
-                "4: no calls leave such a builder over its buffer"
-            ),
-            Refusal::UnequalLengths => write!(f, "5: the masks are of unequal lengths"),
-            Refusal::Outside => write!(f, "6: a piece, a place or an index lies outside"),
-            Refusal::WrongRecount => write!(
-                f,
-                "7: the known zero count does not fit the zeros cut off"
-            ),
-            Refusal::WrongAddress => write!(f, "8: the address remainder is over 7"),
-            Refusal::ShortOutput => write!(f, "9: the output is too short for the result"),
-        }
+        write!(f, "refused with {}: {}", u8::from(*self), self.reason())
     }
 }
 
@@ -98,6 +107,8 @@ pub struct Refused<S> {
 }
 
 impl<S> fmt::Display for Refused<S> {
+    ghost output = { λ r. Some (said r.refusal) };
+
     fn fmt<W: fmt::Write>(&self, f: &mut fmt::Formatter<W>) -> fmt::Result {
         write!(f, "{}", self.refusal)
     }

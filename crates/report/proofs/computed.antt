@@ -1,2 +1,3 @@
 -- The rows of `tables/`, by computation.
+pub mod ProgramRows
 pub mod WrongAnswers

@@ -1,2 +1,3 @@
 -- Tables of inputs with their answers, and of wrong answers: they pin the definitions, and no contract cites them.
+pub mod ProgramRows
 pub mod WrongAnswers

@@ -1,9 +1,12 @@
-// The program maskreport: reads standard input, at most 65,537 bytes, and prints a report on it. What it prints of the bytes read is what
-// `numbers` computes.
+// The program maskreport: reads its input, of which a report takes at most 65,536 bytes, and prints the report.
+ghost use Rattle.std.specs.Prelude.{◌<◌, Some, length, take, IfOk, OnOk};
 ghost use Rattle.std.specs.Io.{ReadsAtMost};
+ghost use Rattle.std.specs.Io.KnownBytes.{Appends, Consumes, IsAtEnd};
+ghost use Rattle.report.specs.Program.{Outcome, failure_text, lines_of, text_of};
 
 use crate::numbers::{Numbers, report};
-use std::io::Read;
+use std::error::Error;
+use std::io::{Read, Write};
 use std::{fmt, io};
 
 // The reason why no report was printed: the input cannot be read, or the output cannot be written.
@@ -14,41 +17,68 @@ pub enum Failure {
 }
 
 impl fmt::Display for Failure {
+    ghost output = { λ e. Some (failure_text e) };
+
     fn fmt<W: fmt::Write>(&self, f: &mut fmt::Formatter<W>) -> fmt::Result {
-        match self {
-            Failure::Input => write!(f, "standard input cannot be read"),
-            Failure::Output => write!(f, "standard output cannot be written"),
-        }
+        f.write_str(match self {
+            Failure::Input => "standard input cannot be read",
+            Failure::Output => "standard output cannot be written",
+        })
     }
 }
 
-// Prints the report on standard input. If it cannot, prints the failure to standard error and returns it.
-pub fn run(rt: &(impl io::Input + Print + Eprint)) -> Result<(), Failure> {
-    let printed = read_and_print(rt);
+impl Error for Failure {}
+
+// Each number is a line.
+impl fmt::Display for Numbers {
+    ghost output = { λ n. Some (lines_of n) };
+
+    fn fmt<W: fmt::Write>(&self, f: &mut fmt::Formatter<W>) -> fmt::Result {
+        writeln!(f, "flags={}", self.flags)?;
+        writeln!(f, "zeros={}", self.zeros)?;
+        writeln!(f, "edges={}", self.edges)?;
+        writeln!(f, "runs={}", self.runs)
+    }
+}
+
+// Reads `source` to its end, at most one byte more than a report takes, and prints the report on it to `output`. If it cannot, prints the
+// failure to `errors` and returns it.
+pub fn run<R: Read, W: Write, E: Write>(
+    source: &mut R,
+    output: &mut W,
+    errors: &mut E,
+) -> Result<(), Failure>
+    ensures { Outcome (R.remaining source.old) (W.contents output.old) (W.contents output.new) result }
+{
+    let printed = read_and_print(source, output);
     if let Err(failure) = printed {
-        let _ = eprintln!(rt; "maskreport: {failure}");
+        let _ = writeln!(errors, "maskreport: {failure}");
     }
     printed
 }
 
-// Prints the report on standard input. Reads one more byte than a report takes, so that longer input is seen. An array, not a `Vec`: with a
-// `Vec` `run` would require an allocator of its callers, which it does not, and a change may not require more of callers.
-fn read_and_print(rt: &(impl io::Input + Print)) -> Result<(), Failure> {
+// Prints the report. Reads one more byte than a report takes, so that longer input is seen. An array, not a `Vec`: with a `Vec` `run` would
+// require an allocator of its callers, which it does not, and a change may not require more of callers.
+fn read_and_print<R: Read, W: Write>(source: &mut R, output: &mut W) -> Result<(), Failure>
+    ensures { Outcome (R.remaining source.old) (W.contents output.old) (W.contents output.new) result }
+{
     let mut buf = [0u8; 65537];
-    let size = read_to_end(&mut rt.reader(), &mut buf).map_err(|_| Failure::Input)?;
-    print(rt, report(&buf[..size])).map_err(|_| Failure::Output)
+    let size = read_to_end(source, &mut buf).or(Err(Failure::Input))?;
+    print(output, report(&buf[..size])).or(Err(Failure::Output))
 }
 
 // Reads until the buffer is full, the input ends or a read fails, and returns the number of bytes. A read may return fewer than it could. A
 // loop, since of the library's methods `read_exact` returns no count if the input ends early, and `read_to_end` needs a `Vec`.
-fn read_to_end(source: &mut impl Read, buf: &mut [u8]) -> io::Result<usize>
-    ensures { ReadsAtMost result buf.new }
+fn read_to_end<R: Read>(source: &mut R, buf: &mut [u8]) -> io::Result<usize>
+    ensures bound { ReadsAtMost result buf.new }
+    ensures bytes { IfOk result (λ n. Consumes (R.remaining source.old) (R.remaining source.new) (take n buf.new)) }
+    ensures end { IfOk result (λ n. n < length buf.new → IsAtEnd (R.remaining source.new)) }
 {
     let mut size = 0;
     while size < buf.len() {
         let more = source.read(&mut buf[size..])?;
         if more == 0 {
-            break;
+            return Ok(size);
         }
         size += more;
     }
@@ -56,23 +86,11 @@ fn read_to_end(source: &mut impl Read, buf: &mut [u8]) -> io::Result<usize>
 }
 
 // Prints the numbers, or only `refused=1` for longer input, which has no report. Stops at the first write that fails.
-fn print(rt: &impl Print, report: Option<Numbers>) -> io::Result<()> {
+fn print<W: Write>(output: &mut W, report: Option<Numbers>) -> io::Result<()>
+    ensures { OnOk result (Appends (W.contents output.old) (W.contents output.new) (text_of report)) }
+{
     match report {
-        Some(numbers) => print_numbers(rt, numbers),
-        None => println!(rt; "refused=1"),
+        Some(numbers) => write!(output, "{numbers}"),
+        None => writeln!(output, "refused=1"),
     }
-}
-
-// Prints each number on a line, by a write of its own: if one fails, those before it are out. A `Display` of all four would be one write.
-fn print_numbers(rt: &impl Print, numbers: Numbers) -> io::Result<()> {
-    let Numbers {
-        flags,
-        zeros,
-        edges,
-        runs,
-    } = numbers;
-    println!(rt; "flags={flags}")?;
-    println!(rt; "zeros={zeros}")?;
-    println!(rt; "edges={edges}")?;
-    println!(rt; "runs={runs}")
 }

@@ -4,7 +4,7 @@
 // the first three arguments, and come last in an answer.
 use crate::tokens;
 use crate::tokens::Answered;
-use activity::window::{ActivityWindow, Refused};
+use activity::window::{ActivityWindow, WindowRefusal};
 use notation::arguments::Arguments;
 use notation::call::MinutesCall;
 use std::alloc::Global;
@@ -22,20 +22,34 @@ pub(crate) fn answer(alloc: Global, call: MinutesCall, a: &Arguments, out: &mut 
     }
 }
 
-// Writes the counts of the window whose arrays are x, as numbers: 64 zeros if the call refuses.
+// Writes the counts of the window whose arrays are x, as numbers, also those of a refusal.
 pub(crate) fn counts(alloc: Global, a: &Arguments, x: &[u8], numbers: &mut [u32]) -> Answered {
-    let counts = window_of(a, x).counts();
-    for (number, count) in numbers.iter_mut().zip(counts.unwrap_or([0; 64])) {
-        *number = count;
+    match window_of(a, x).counts() {
+        Ok(counts) => counted(alloc, Ok(()), counts, numbers),
+        Err(refused) => {
+            let state = refused.state;
+            counted(alloc, Err(refused.refusal), state, numbers)
+        }
     }
-    tokens::answer(alloc, counts.map(|_| ()))
 }
 
-// Makes a new window and writes it, or one of zeros if it is refused.
+fn counted(
+    alloc: Global,
+    r: Result<(), WindowRefusal>,
+    counts: [u32; 64],
+    numbers: &mut [u32],
+) -> Answered {
+    for (number, count) in numbers.iter_mut().zip(counts) {
+        *number = count;
+    }
+    tokens::answer(alloc, r)
+}
+
+// Makes a new window and writes it, also the one of a refusal.
 fn made(alloc: Global, width: usize, out: &mut [u8]) -> Answered {
     match ActivityWindow::new(width) {
         Ok(window) => left(alloc, Ok(()), window, out),
-        Err(refused) => left(alloc, Err(refused), window(&[], 0, 0, 0), out),
+        Err(refused) => left(alloc, Err(refused.refusal), refused.state, out),
     }
 }
 
@@ -48,7 +62,7 @@ fn minutes(alloc: Global, a: &Arguments, many: u64, out: &mut [u8]) -> Answered 
     for _ in 0..many {
         match now.push_minute(word) {
             Ok(next) => now = next,
-            Err(refused) => return left(alloc, Err(refused), now, out),
+            Err(refused) => return left(alloc, Err(refused.refusal), refused.state, out),
         }
         word = word.wrapping_add(a.word(4));
     }
@@ -81,7 +95,12 @@ fn window(bytes: &[u8], place: usize, fill: usize, width: usize) -> ActivityWind
 }
 
 // Writes the arrays of the window that a call left, and returns the answer.
-fn left(alloc: Global, r: Result<(), Refused>, window: ActivityWindow, out: &mut [u8]) -> Answered {
+fn left(
+    alloc: Global,
+    r: Result<(), WindowRefusal>,
+    window: ActivityWindow,
+    out: &mut [u8],
+) -> Answered {
     for (part, word) in out.chunks_mut(8).zip(window.words) {
         word::store_le_u64(part, word);
     }

@@ -1,5 +1,5 @@
 // The tokens of a value in an answer, in their order.
-use dispatch::offer::{NoOffer, Offering};
+use dispatch::offer::{Offering, RefusedOffer};
 use masks::aligned::AlignedBitmapSlice;
 use masks::bitmap::{Bitmap, Recounted};
 use masks::bitmask::Span;
@@ -210,9 +210,9 @@ impl ToTokens for Offering {
     }
 }
 
-// Returns the answer of `offer`. A refused one has the round's cursor, and no other record. `NoOffer` is no `Refused` by a rule of the
+// Returns the answer of `offer`. A refused one has the round's cursor, and no other record. `RefusedOffer` is no `Refused` by a rule of the
 // project: dispatch names only the types of masks that combinations and searches take or return (tests/dispatch_calls.py).
-pub(crate) fn offered(alloc: Global, r: Result<Offering, NoOffer>) -> Answered {
+pub(crate) fn offered(alloc: Global, r: Result<Offering, RefusedOffer>) -> Answered {
     match r {
         Ok(offering) => given(alloc, offering),
         Err(none) => refused(alloc, none.refusal, none.cursor),

@@ -1,5 +1,6 @@
 -- The rows of `proofs/tables/Witnesses.antt`, by computation.
 use Rattle.std.proofs.Common.{◌≡◌, refl, ap, Bool, true, false, cond}
+use Rattle.std.specs.Fmt.{digits}
 use Rattle.words.specs.Flags.{bits, count}
 use Rattle.words.specs.Columns.{column, columns_from, column_counts}
 use Rattle.activity.specs.Checks.{width_fits, place_fits, inside_fits, numbers_fit, all_zero, same_numbers, words_fit, left_by_minutes}
@@ -27,7 +28,7 @@ good a h =
 pub witnessed : Witnessed
 unfolding
     no_minute new_of push_of counts_of width_fits place_fits inside_fits numbers_fit all_zero same_numbers words_fit left_by_minutes
-    zeros bits count column columns_from column_counts
+    zeros bits count column columns_from column_counts digits
 witnessed =
     record {
       new_0 = refl;
@@ -43,8 +44,11 @@ witnessed =
       counted-number = refl;
       lent-window = refl;
       lent-numbers = refl;
-      read-ok = λ back a. refl;
-      read-refused = λ back. refl;
+      read-ok = λ a. refl;
+      read-refused = λ a. refl;
+      passed = λ n. refl;
+      failed = refl;
+      text = refl;
       width_0 = bad _ refl;
       width_257 = bad _ refl;
       width_largest = bad _ refl;

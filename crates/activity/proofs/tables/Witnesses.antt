@@ -2,11 +2,11 @@
 --
 -- `ActivityWindow::new` is witnessed by widths, `ActivityWindow::push_minute` and `ActivityWindow::counts` by records.
 -- `proofs/computed/Witnesses.antt` computes the rows.
-use Rattle.std.specs.Prelude.{ℕ, ◌-◌, ◌≡◌, List, [], ◌∷◌, ◌++◌, length, Ok, Err}
+use Rattle.std.specs.Prelude.{ℕ, ◌-◌, ◌≡◌, List, [], ◌∷◌, ◌++◌, length, Ok, Err, codes}
 use Rattle.activity.specs.Lent.{window_at, numbers_of}
-use Rattle.activity.specs.Window.{zeros, no_minute, accepted, refused, uncounted, answer, new_of, push_of, counts_of}
+use Rattle.activity.specs.Window.{zeros, no_minute, accepted, refused, uncounted, failure_of, said, answer, new_of, push_of, counts_of}
 use Rattle.activity.specs.declared.window.ActivityWindow.{ActivityWindow}
-use Rattle.activity.specs.declared.window.Refused.TheVariants.{ImpossibleWindow}
+use Rattle.activity.specs.declared.window.WindowRefusal.TheVariants.{ImpossibleWindow}
 
 -- n numbers: those of the list, then zeros
 abbrev pub padded : ℕ → List ℕ → List ℕ
@@ -48,9 +48,13 @@ pub record Witnessed : Type 0 where
       ≡ record { words = 3 ∷ []; counts = 1 ∷ []; place = 1; fill = 2; width = 4 }
   pub lent-numbers : numbers_of (refused (record { words = 3 ∷ []; counts = 1 ∷ []; place = 1; fill = 2; width = 4 }))
       ≡ record { value = record { place = 1; fill = 2; width = 4 }; refusal = 16 }
-  -- how a result is read
-  pub read-ok : (back a : ActivityWindow) → answer back (Ok a) ≡ accepted a
-  pub read-refused : (back : ActivityWindow) → answer back (Err ImpossibleWindow) ≡ refused back
+  -- how a result is read: the value of a refused answer is the one in the error
+  pub read-ok : (a : ActivityWindow) → answer (Ok a) ≡ accepted a
+  pub read-refused : (a : ActivityWindow) → answer (Err (record { refusal = ImpossibleWindow; state = a })) ≡ refused a
+  pub passed : (n : ℕ) → failure_of (Ok n) ≡ 0
+  pub failed : failure_of {A = ℕ} (Err ImpossibleWindow) ≡ 16
+  -- the text of the refusal
+  pub text : said ImpossibleWindow ≡ codes "refused with 16: the width is not 1 to 256, or no run of minutes leaves the window"
   pub width_0 : Refused (no_minute 0)
   pub width_257 : Refused (no_minute 257)
   pub width_largest : Refused (no_minute 0xFFFFFFFFFFFFFFFF)

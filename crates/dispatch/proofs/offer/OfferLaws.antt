@@ -15,7 +15,7 @@ use Rattle.std.specs.Result.{IsErrAnd}
 use Rattle.std.proofs.lemmas.Result.{err_from_is_err_and}
 use Rattle.std.proofs.Common.{Result, Err}
 use Rattle.masks.specs.Refusal.{number as number_of}
-use Rattle.dispatch.specs.declared.offer.NoOffer.{NoOffer}
+use Rattle.dispatch.specs.declared.offer.RefusedOffer.{RefusedOffer}
 use Rattle.dispatch.specs.Offer.{offer_answer}
 use Rattle.masks.specs.declared.next_and_not.Found.{Found}
 use Rattle.masks.specs.Answer.{given, refused, decided}
@@ -236,9 +236,9 @@ unfolding offer_of offer_checks offered_of first_failed decided
 no-mask-way p_bytes R r_bytes cursor gone = ap (λ (o : Option Bitmap). offer_of None p_bytes o r_bytes cursor) (sym gone)
 
 -- the exit of a `?` returns the refusal and the cursor
-pub offer-exit : (result : Result Offering NoOffer) (x : NoOffer) → IsErrAnd result (λ (y : NoOffer). y ≡ x) → (cursor : ℕ)
+pub offer-exit : (result : Result Offering RefusedOffer) (x : RefusedOffer) → IsErrAnd result (λ (y : RefusedOffer). y ≡ x) → (cursor : ℕ)
     → x.cursor ≡ cursor
     → offer_answer result ≡ refused (number_of x.refusal) cursor
 offer-exit result x h cursor e =
     let p = err_from_is_err_and result h in
-    ap offer_answer (p.1 ∙ ap (λ (y : NoOffer). Err y) p.2) ∙ ap (refused (number_of x.refusal)) e
+    ap offer_answer (p.1 ∙ ap (λ (y : RefusedOffer). Err y) p.2) ∙ ap (refused (number_of x.refusal)) e

@@ -3,7 +3,7 @@ use Rattle.std.specs.Prelude.{◌≡◌, Bool, Result, Ok, Err}
 use Rattle.masks.specs.Answer.{Answer, given, refused, answer}
 use Rattle.masks.specs.Refusal.{number}
 use Rattle.masks.specs.declared.refusal.Refusal.{Refusal}
-use Rattle.dispatch.specs.declared.offer.NoOffer.{NoOffer}
+use Rattle.dispatch.specs.declared.offer.RefusedOffer.{RefusedOffer}
 use Rattle.dispatch.specs.declared.offer.Offering.{Offering}
 use Rattle.dispatch.specs.Offer.{offer_answer}
 
@@ -18,4 +18,4 @@ pub record AnswerPlain : Type 0 where
 -- a refused offer has its number and the cursor
 pub record OfferPlain : Type 0 where
   pub gives : (o : Offering) → offer_answer (Ok o) ≡ given o
-  pub refuses : (e : NoOffer) → offer_answer (Err e) ≡ refused (number e.refusal) e.cursor
+  pub refuses : (e : RefusedOffer) → offer_answer (Err e) ≡ refused (number e.refusal) e.cursor

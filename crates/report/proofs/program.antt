@@ -1,0 +1,2 @@
+-- What the proofs of several functions of src/program.rt use.
+pub mod ProgramLaws
