@@ -58,7 +58,7 @@ pub fn run<R: Read, W: Write, E: Write>(
 }
 
 // Prints the report. Reads one more byte than a report takes, so that longer input is seen. An array, not a `Vec`: with a `Vec` `run` would
-// require an allocator of its callers, which it does not, and a change may not require more of callers.
+// require an allocator of its callers.
 fn read_and_print<R: Read, W: Write>(source: &mut R, output: &mut W) -> Result<(), Failure>
     ensures { Outcome (R.remaining source.old) (W.contents output.old) (W.contents output.new) result }
 {
