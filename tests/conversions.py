@@ -56,20 +56,18 @@ def definitions(specs):
     return found
 
 
-def conversion(name, sources, known):
-    """Returns the conversion by which an export returns its answer, or what is wrong."""
+def unconverted(name, sources, known):
+    """Yields what is wrong with the clause on an export's result."""
     result, numbers, clauses = sources.exports[name]
     mine = [clause.partition("≡")[2].strip() for clause in clauses if re.match(r"result\s*≡", clause)]
+    head = re.match(rf"({NAME})\b", mine[0]) if len(mine) == 1 else None
     if result not in sources.fields:
         if numbers and not (len(mine) == 1 and mine[0].endswith(").refusal")):
-            return None, f"{name} may refuse, and its contract does not say `result ≡ (..).refusal`"
-        return None, None
-    head = re.match(rf"({NAME})\b", mine[0]) if len(mine) == 1 else None
-    if not head or known.get(head[1], [""])[-1] != result:
-        return None, f"{name} has no clause `result ≡ C ..` where C is a definition of capi/specs that returns {result}"
-    if numbers is not None and not head[1].startswith("as_"):
-        return None, f"{name} may refuse, and {head[1]} takes no answer"
-    return head[1], None
+            yield f"{name} may refuse, and its contract does not say `result ≡ (..).refusal`"
+    elif not head or known.get(head[1], [""])[-1] != result:
+        yield f"{name} has no clause `result ≡ C ..` where C is a definition of capi/specs that returns {result}"
+    elif numbers is not None and not head[1].startswith("as_"):
+        yield f"{name} may refuse, and {head[1]} takes no answer"
 
 
 def unstated(name, kinds, sources):
@@ -91,12 +89,8 @@ def complaints(sources):
     known = definitions(sources.specs)
     cited = {}
     for name, (_, _, clauses) in sources.exports.items():
-        _, wrong = conversion(name, sources, known)
-        if wrong:
-            yield wrong
-        for word in re.findall(NAME, " ".join(clauses)):
-            if word in known:
-                cited[word] = known[word]
+        yield from unconverted(name, sources, known)
+        cited.update((word, known[word]) for word in re.findall(NAME, " ".join(clauses)) if word in known)
     for name, kinds in cited.items():
         yield from unstated(name, kinds, sources)
         if not re.search(rf"[( ]{name} ", sources.rows.replace("use ", "")):

@@ -3,14 +3,13 @@
 -- All numbers of a row differ, so that a field that is lost, or exchanged with another, shows.
 use Rattle.std.specs.Prelude.{ℕ, ◌≡◌, true, false, [], ◌∷◌, Some, None, Ok, Err}
 use Rattle.masks.specs.Answer.{Answer, given, refused}
-use Rattle.masks.specs.Builder.{builder_under}
-use Rattle.masks.specs.Chunks.{chunks_at}
 use Rattle.masks.specs.Cursor.{item, ended}
-use Rattle.masks.specs.Iterator.{iter_at}
-use Rattle.masks.specs.Mask.{mask_under}
-use Rattle.masks.specs.SliceIterator.{slices_at}
-use Rattle.masks.specs.TrueIdx.{true_at}
 use Rattle.masks.specs.declared.bitmap.Bitmap.{Bitmap}
+use Rattle.masks.specs.declared.builder.BitmapBuilder.{BitmapBuilder}
+use Rattle.masks.specs.declared.chunks.BitChunks.{BitChunks}
+use Rattle.masks.specs.declared.iterator.BitmapIter.{BitmapIter}
+use Rattle.masks.specs.declared.slice_iterator.SlicesIterator.{SlicesIterator}
+use Rattle.masks.specs.declared.true_idx.TrueIdxIter.{TrueIdxIter}
 use Rattle.activity.specs.declared.window.ActivityWindow.{ActivityWindow}
 use Rattle.capi.specs.Answers.{as_bit, as_builder, as_cursor, as_flag, as_mask, as_next, as_nth, as_number, as_offer, as_part, as_position}
 use Rattle.capi.specs.Answers.{as_remainder, as_run, as_same_mask, as_spans, as_split, as_taken, as_validity, as_word, as_zeros}
@@ -29,10 +28,10 @@ refuses k = refused k tt
 
 -- a mask with its count, one without, and the record of each
 abbrev pub counted : Bitmap
-counted = mask_under 14 11 12 (Some 13)
+counted = record { start = 11; length = 12; unset = Some 13; serial = 14 }
 
 abbrev pub uncounted : Bitmap
-uncounted = mask_under 24 21 22 None
+uncounted = record { start = 21; length = 22; unset = None; serial = 24 }
 
 abbrev pub counted_record : Mask
 counted_record = record { start = 11; length = 12; zeros = 13; known = 1; serial = 14 }
@@ -46,6 +45,26 @@ blank = record { start = 0; length = 0; zeros = 0; known = 0; serial = 0 }
 
 abbrev pub passed : Mask
 passed = record { start = 31; length = 32; zeros = 33; known = 0; serial = 34 }
+
+-- a builder
+abbrev pub built : BitmapBuilder
+built = record { length = 51; word = 52; ones = 53; serial = 54 }
+
+-- the cursors, that over positions with a mask and with none
+abbrev pub at_word : BitChunks
+at_word = record { start = 11; length = 12; place = 13 }
+
+abbrev pub at_run : SlicesIterator
+at_run = record { start = 11; length = 12; place = 13 }
+
+abbrev pub at_flag : BitmapIter
+at_flag = record { start = 11; length = 12; place = 13 }
+
+abbrev pub at_one : TrueIdxIter
+at_one = record { start = 11; length = 12; place = 13; masked = true }
+
+abbrev pub at_any : TrueIdxIter
+at_any = record { start = 11; length = 12; place = 13; masked = false }
 
 -- a window of minutes
 abbrev pub window : ActivityWindow
@@ -92,10 +111,8 @@ pub record MaskRows : Type 0 where
   pub part-first : as_part (gave (record { second = false; from = 7; to = 8; mask = uncounted }))
       ≡ record { refusal = 0; second = false; from = 7; to = 8; mask = uncounted_record }
   pub part_refused : as_part (refuses 14) ≡ record { refusal = 14; second = false; from = 0; to = 0; mask = blank }
-  pub builder : as_builder (given (builder_under 54 51 52 53))
-      ≡ record { refusal = 0; builder = record { length = 51; word = 52; ones = 53 } }
-  pub builder_refused : as_builder (refused 4 (builder_under 64 61 62 63))
-      ≡ record { refusal = 4; builder = record { length = 61; word = 62; ones = 63 } }
+  pub builder : as_builder (given built) ≡ record { refusal = 0; builder = record { length = 51; word = 52; ones = 53 } }
+  pub builder_refused : as_builder (refused 4 built) ≡ record { refusal = 4; builder = record { length = 51; word = 52; ones = 53 } }
 
 -- ---- cursors and their steps
 
@@ -104,37 +121,31 @@ abbrev pub cursor : ℕ → ℕ → ℕ → ℕ → Cursor
 cursor start n place masked = record { start = start; length = n; place = place; masked = masked }
 
 pub record CursorRows : Type 0 where
-  pub chunks : as_cursor chunks_out (gave (chunks_at 11 12 13)) ≡ record { refusal = 0; cursor = cursor 11 12 13 1 }
-  pub slices : as_cursor slices_out (gave (slices_at 11 12 13)) ≡ record { refusal = 0; cursor = cursor 11 12 13 1 }
-  pub iter : as_cursor iter_out (gave (iter_at 11 12 13)) ≡ record { refusal = 0; cursor = cursor 11 12 13 1 }
-  pub true_idx : as_cursor true_out (gave (true_at 11 12 13 true)) ≡ record { refusal = 0; cursor = cursor 11 12 13 1 }
-  pub true_idx-absent : as_cursor true_out (gave (true_at 11 12 13 false)) ≡ record { refusal = 0; cursor = cursor 11 12 13 0 }
+  pub chunks : as_cursor chunks_out (gave at_word) ≡ record { refusal = 0; cursor = cursor 11 12 13 1 }
+  pub slices : as_cursor slices_out (gave at_run) ≡ record { refusal = 0; cursor = cursor 11 12 13 1 }
+  pub iter : as_cursor iter_out (gave at_flag) ≡ record { refusal = 0; cursor = cursor 11 12 13 1 }
+  pub true_idx : as_cursor true_out (gave at_one) ≡ record { refusal = 0; cursor = cursor 11 12 13 1 }
+  pub true_idx-absent : as_cursor true_out (gave at_any) ≡ record { refusal = 0; cursor = cursor 11 12 13 0 }
   pub cursor_refused : as_cursor chunks_out (refuses 2) ≡ record { refusal = 2; cursor = cursor 0 0 0 0 }
-  pub word : as_word chunks_place (given (item 7 (chunks_at 11 12 13)))
-      ≡ record { refusal = 0; found = true; value = 7; count = 0; place = 13 }
-  pub word_ended : as_word chunks_place (given (ended (chunks_at 11 12 13)))
+  pub word : as_word chunks_place (given (item 7 at_word)) ≡ record { refusal = 0; found = true; value = 7; count = 0; place = 13 }
+  pub word_ended : as_word chunks_place (given (ended at_word))
       ≡ record { refusal = 0; found = false; value = 0; count = 0; place = 13 }
-  pub word_refused : as_word chunks_place (refused 6 (chunks_at 11 12 13))
+  pub word_refused : as_word chunks_place (refused 6 at_word)
       ≡ record { refusal = 6; found = false; value = 0; count = 0; place = 13 }
-  pub one : as_word true_place (given (item 7 (true_at 11 12 13 true)))
-      ≡ record { refusal = 0; found = true; value = 7; count = 0; place = 13 }
-  pub flag : as_bit iter_place (given (item true (iter_at 11 12 13)))
-      ≡ record { refusal = 0; found = true; value = 1; count = 0; place = 13 }
-  pub flag-false : as_bit iter_place (given (item false (iter_at 11 12 13)))
+  pub one : as_word true_place (given (item 7 at_one)) ≡ record { refusal = 0; found = true; value = 7; count = 0; place = 13 }
+  pub flag : as_bit iter_place (given (item true at_flag)) ≡ record { refusal = 0; found = true; value = 1; count = 0; place = 13 }
+  pub flag-false : as_bit iter_place (given (item false at_flag))
       ≡ record { refusal = 0; found = true; value = 0; count = 0; place = 13 }
-  pub flag_ended : as_bit iter_place (given (ended (iter_at 11 12 13)))
+  pub flag_ended : as_bit iter_place (given (ended at_flag))
       ≡ record { refusal = 0; found = false; value = 0; count = 0; place = 13 }
-  pub flag_refused : as_bit iter_place (refused 6 (iter_at 11 12 13))
-      ≡ record { refusal = 6; found = false; value = 0; count = 0; place = 13 }
-  pub run : as_run slices_place (given (item (record { start = 7; length = 8 }) (slices_at 11 12 13)))
+  pub flag_refused : as_bit iter_place (refused 6 at_flag) ≡ record { refusal = 6; found = false; value = 0; count = 0; place = 13 }
+  pub run : as_run slices_place (given (item (record { start = 7; length = 8 }) at_run))
       ≡ record { refusal = 0; found = true; value = 7; count = 8; place = 13 }
-  pub run_ended : as_run slices_place (given (ended (slices_at 11 12 13)))
+  pub run_ended : as_run slices_place (given (ended at_run))
       ≡ record { refusal = 0; found = false; value = 0; count = 0; place = 13 }
-  pub run_refused : as_run slices_place (refused 6 (slices_at 11 12 13))
-      ≡ record { refusal = 6; found = false; value = 0; count = 0; place = 13 }
-  pub taken : as_taken iter_place (given (7, iter_at 11 12 13))
-      ≡ record { refusal = 0; found = true; value = 0; count = 7; place = 13 }
-  pub taken_refused : as_taken iter_place (refused 6 (iter_at 11 12 13))
+  pub run_refused : as_run slices_place (refused 6 at_run) ≡ record { refusal = 6; found = false; value = 0; count = 0; place = 13 }
+  pub taken : as_taken iter_place (given (7, at_flag)) ≡ record { refusal = 0; found = true; value = 0; count = 7; place = 13 }
+  pub taken_refused : as_taken iter_place (refused 6 at_flag)
       ≡ record { refusal = 6; found = false; value = 0; count = 0; place = 13 }
   pub remainder : as_remainder 9 (gave (7, 8)) ≡ record { refusal = 0; found = true; value = 7; count = 8; place = 9 }
   pub remainder_refused : as_remainder 9 (refuses 6) ≡ record { refusal = 6; found = false; value = 0; count = 0; place = 9 }
@@ -159,17 +170,17 @@ pub record RecordRows : Type 0 where
   -- a count is read if `known` is not 0
   pub mask : mask_in counted_record ≡ counted
   pub mask_odd : mask_in (record { start = 11; length = 12; zeros = 13; known = 255; serial = 14 }) ≡ counted
-  pub mask-uncounted : mask_in passed ≡ mask_under 34 31 32 None
+  pub mask-uncounted : mask_in passed ≡ record { start = 31; length = 32; unset = None; serial = 34 }
   pub present : optional_in true counted_record ≡ Some counted
   pub absent : optional_in false counted_record ≡ None
   pub returned : mask_out counted ≡ counted_record
   pub returned-uncounted : mask_out uncounted ≡ uncounted_record
-  pub builder : builder_in 51 52 53 ≡ builder_under 0 51 52 53
-  pub builder-serial : serial_builder_in 51 52 53 54 ≡ builder_under 54 51 52 53
-  pub builder-returned : builder_out (builder_under 54 51 52 53) ≡ record { length = 51; word = 52; ones = 53 }
-  pub true_idx : true_in 11 12 13 1 ≡ true_at 11 12 13 true
-  pub true_idx_odd : true_in 11 12 13 255 ≡ true_at 11 12 13 true
-  pub true_idx-absent : true_in 11 12 13 0 ≡ true_at 11 12 13 false
+  pub builder : builder_in 51 52 53 ≡ record { length = 51; word = 52; ones = 53; serial = 0 }
+  pub builder-serial : serial_builder_in 51 52 53 54 ≡ built
+  pub builder-returned : builder_out built ≡ record { length = 51; word = 52; ones = 53 }
+  pub true_idx : true_in 11 12 13 1 ≡ at_one
+  pub true_idx_odd : true_in 11 12 13 255 ≡ at_one
+  pub true_idx-absent : true_in 11 12 13 0 ≡ at_any
   pub minutes : window_in (45 ∷ []) (46 ∷ []) 47 48 49 ≡ window
   -- an array is written only if nothing is refused
   pub written : unless_refused 0 (1 ∷ []) (2 ∷ []) ≡ 2 ∷ []
