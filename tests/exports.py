@@ -24,10 +24,10 @@ KEPT = {
 
 
 class Export:
-    """An exported function: its module, its name, its arguments as pairs of name and type, its result and its comment."""
+    """An exported function: its module, its name, its arguments as pairs of name and type, its result, its contract and its comment."""
 
     def __init__(self, module, comment, name, arguments, result, contract):
-        self.module, self.name, self.result = module, name, result
+        self.module, self.name, self.result, self.contract = module, name, result, contract
         self.arguments = pairs(arguments)
         self.comment = said(comment)
         encoding = re.search(r"≡\s*(as\w+)", contract)

@@ -225,7 +225,7 @@ def main():
     everywhere = [place_of(f"{path.parts[-4]}/{path.parts[-2]}/{path.stem}")
                   for pattern in (TABLES if options.tables else TABLES + THEOREMS)
                   for path in sorted(options.root.glob(f"crates/*/proofs/{pattern}.antt"))
-                  if path.parts[-4] != "capi" and not (options.tables and f"{path.parts[-2]}/{path.stem}" in SLOW)]
+                  if not (options.tables and f"{path.parts[-2]}/{path.stem}" in SLOW)]
     of = {e.number: everywhere if options.find else [e.at] for e in chosen if e.place or options.find}
     failed = 0
     if not options.find:

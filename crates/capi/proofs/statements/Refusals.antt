@@ -46,7 +46,8 @@ use Rattle.capi.specs.declared.records.Mask.{Mask}
 abbrev pub numbers : List ℕ
 numbers = 1 ∷ 2 ∷ 3 ∷ 4 ∷ 5 ∷ 6 ∷ 7 ∷ 8 ∷ 9 ∷ 14 ∷ 16 ∷ []
 
--- the number k that is returned is 0 or one of ns
+-- the number k that is returned is 0 or one of ns. That it is the number of the call's own answer, 0 only if that is accepted, is stated
+-- in `AnswerPlain` and `StepPlain` for each record in which an answer is returned.
 pub record Gives (ns : List ℕ) (k : ℕ) : Type 0 where
   pub listed : all_among ns numbers ≡ true
   pub number : (k ≡ 0 → ⊥) → among k ns ≡ true

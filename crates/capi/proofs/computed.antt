@@ -1,0 +1,2 @@
+-- The rows of `tables/`, by computation.
+pub mod AnswerRows
