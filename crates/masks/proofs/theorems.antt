@@ -19,3 +19,4 @@ pub mod SliceTruth
 pub mod SupersedingPlain
 pub mod TrueIdxPlain
 pub mod Uncounted
+pub mod WindowPlain
