@@ -3,7 +3,7 @@
 --
 -- A row has the numbers of a call, through the definition that its contract cites, and those of the reference's words there.
 -- `proofs/computed/LargeRows.antt` proves that the columns are equal.
-use Rattle.std.specs.Prelude.{ℕ, Bool, true, false, List, [], ◌∷◌, ◌++◌, replicate, Option, Some, None, Ok, Err}
+use Rattle.std.specs.Prelude.{ℕ, Bool, true, false, List, [], ◌∷◌, replicate, Option, Some, None, Err}
 use Rattle.masks.specs.declared.bitmap.Bitmap.{Bitmap}
 use Rattle.masks.specs.declared.refusal.Refusal.TheVariants.{Outside}
 use Rattle.masks.specs.Answer.{Answer, given, refused}

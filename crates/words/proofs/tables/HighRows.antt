@@ -3,7 +3,7 @@
 --
 -- A row has the numbers of a definition at one input, and those of its plain reading there, worked out by hand.
 -- `proofs/computed/HighRows.antt` proves that the columns are equal.
-use Rattle.std.specs.Prelude.{ℕ, ◌≡◌, Bool, true, false, List, [], ◌∷◌, ◌++◌, map, replicate, get_or, length, Result, Ok, Err}
+use Rattle.std.specs.Prelude.{ℕ, ◌≡◌, true, false, List, [], ◌∷◌, ◌++◌, map, replicate, get_or, length, Result, Ok, Err}
 use Rattle.words.specs.Columns.{column_counts}
 use Rattle.words.specs.Counts.{any_set, same_flags}
 use Rattle.words.specs.Ends.{leading, trailing}
