@@ -1,3 +1,4 @@
 -- What the theorems state. No contract of a function cites these definitions.
+pub mod CountPlain
 pub mod Minutes
 pub mod Refusals

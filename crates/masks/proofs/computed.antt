@@ -1,7 +1,10 @@
 -- The rows of `tables/`, by computation.
 pub mod EdgeRows
 pub mod Examples
+pub mod FaultRows
+pub mod LargeRows
 pub mod OrderRows
+pub mod PastRows
 pub mod RuleRows
 pub mod StartRows
 pub mod Texts

@@ -10,3 +10,4 @@ pub mod Refusals
 pub mod SerialPlain
 pub mod SupersedingPlain
 pub mod TrueCounts
+pub mod WindowPlain

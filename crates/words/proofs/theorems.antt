@@ -1,2 +1,3 @@
--- The plain reading of the definitions. Proofs of functions of words and masks use some of it.
+-- The plain reading of the definitions. Proofs of functions of words and masks use some of `Plain`.
+pub mod ColumnPlain
 pub mod Plain

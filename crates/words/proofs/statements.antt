@@ -1,0 +1,2 @@
+-- What theorems state that no proof of a function uses.
+pub mod ColumnPlain
