@@ -1,10 +1,9 @@
 // The combination `and_not` at one index: two flags are read, however long the masks are. Either mask may be absent.
-ghost use Rattle.std.specs.Prelude.{◌≡◌, [], ◌∷◌, ◌++◌};
-ghost use Rattle.masks.specs.Answer.{answer};
+ghost use Rattle.std.specs.Prelude.{◌≡◌, [], ◌∷◌, ◌++◌, IfOk};
 ghost use Rattle.masks.specs.Refusal.{failure_of};
 ghost use Rattle.masks.specs.Checks.{first_failed};
 ghost use Rattle.masks.specs.Mask.{mask_checks};
-ghost use Rattle.masks.specs.AtIndex.{and_not_at_checks, and_not_at_of, flag_or};
+ghost use Rattle.masks.specs.AtIndex.{and_not_at_checks, and_not_flag, flag_or};
 ghost use Rattle.masks.specs.AtIndex.{index_checks, index_inside, length_checks};
 ghost use Rattle.masks.specs.Workers.{Indexed};
 
@@ -25,7 +24,8 @@ pub fn and_not_at(
     second_bytes: &[u8],
     index: usize,
 ) -> Result<bool, Refusal>
-    ensures { answer result ≡ and_not_at_of first first_bytes.now second second_bytes.now index }
+    ensures refused { failure_of result ≡ first_failed (and_not_at_checks first first_bytes.now second second_bytes.now index) }
+    ensures flag { IfOk result (λ x. x ≡ and_not_flag first first_bytes.now second second_bytes.now index) }
 {
     check_and_not_at(first, first_bytes, second, second_bytes, index)?;
     let own = flag_or(true, first, first_bytes, index);

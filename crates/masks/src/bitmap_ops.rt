@@ -1,12 +1,13 @@
 // The combinations: each writes its flags as frozen bytes to the start of a lent output. Masks start at any bit. Each refuses with 5 if the
 // lengths of its masks differ, with 9 if the output is too short; nothing is then written. The crate `words` writes whole words of flags,
 // which are the frozen bytes of the contracts by the law `frozen-written` of `CombineLaws`.
-ghost use Rattle.std.specs.Prelude.{◌≡◌, [], ◌∷◌};
+ghost use Rattle.std.specs.Prelude.{◌≡◌, [], ◌∷◌, length, IfOk, OnOk, OnErr};
 ghost use Rattle.words.specs.declared.ops.Op.TheVariants.{And, AndNot, Or, OrNot, Xor};
 ghost use Rattle.masks.specs.Answer.{answer};
 ghost use Rattle.masks.specs.Refusal.{failure_of};
 ghost use Rattle.masks.specs.Checks.{first_failed};
-ghost use Rattle.masks.specs.Combine.{pair_bytes, pair_checks, pair_of, not_bytes, not_checks, not_of, select_bytes, select_checks};
+ghost use Rattle.masks.specs.Frozen.{with_frozen};
+ghost use Rattle.masks.specs.Combine.{pair_checks, pair_flags, pair_mask, not_bytes, not_checks, not_of, select_bytes, select_checks};
 ghost use Rattle.masks.specs.Combine.{largest_serial, select_constant_bytes, select_constant_of, select_of};
 ghost use Rattle.masks.specs.Mask.{mask_under};
 
@@ -66,8 +67,10 @@ fn combine_two(
     rhs_bytes: &[u8],
     out: &mut [u8],
 ) -> Result<Bitmap, Refusal>
-    ensures answer { answer result ≡ pair_of op lhs lhs_bytes.now rhs rhs_bytes.now out.old }
-    ensures bytes { out.new ≡ pair_bytes op lhs lhs_bytes.now rhs rhs_bytes.now out.old }
+    ensures refused { failure_of result ≡ first_failed (pair_checks lhs lhs_bytes.now rhs rhs_bytes.now (length out.old)) }
+    ensures mask { IfOk result (λ m. m ≡ pair_mask op lhs lhs_bytes.now rhs rhs_bytes.now) }
+    ensures bytes { OnOk result (out.new ≡ with_frozen out.old (pair_flags op lhs lhs_bytes.now rhs rhs_bytes.now)) }
+    ensures unchanged { OnErr result (out.new ≡ out.old) }
 {
     check_pair(lhs, lhs_bytes, rhs, rhs_bytes, out.len())?;
     let a = lhs.flags(lhs_bytes);
@@ -92,8 +95,10 @@ pub fn and(
     rhs_bytes: &[u8],
     out: &mut [u8],
 ) -> Result<Bitmap, Refusal>
-    ensures answer { answer result ≡ pair_of And lhs lhs_bytes.now rhs rhs_bytes.now out.old }
-    ensures bytes { out.new ≡ pair_bytes And lhs lhs_bytes.now rhs rhs_bytes.now out.old }
+    ensures refused { failure_of result ≡ first_failed (pair_checks lhs lhs_bytes.now rhs rhs_bytes.now (length out.old)) }
+    ensures mask { IfOk result (λ m. m ≡ pair_mask And lhs lhs_bytes.now rhs rhs_bytes.now) }
+    ensures bytes { OnOk result (out.new ≡ with_frozen out.old (pair_flags And lhs lhs_bytes.now rhs rhs_bytes.now)) }
+    ensures unchanged { OnErr result (out.new ≡ out.old) }
 {
     combine_two(Op::And, lhs, lhs_bytes, rhs, rhs_bytes, out)
 }
@@ -107,8 +112,10 @@ pub fn and_not(
     rhs_bytes: &[u8],
     out: &mut [u8],
 ) -> Result<Bitmap, Refusal>
-    ensures answer { answer result ≡ pair_of AndNot lhs lhs_bytes.now rhs rhs_bytes.now out.old }
-    ensures bytes { out.new ≡ pair_bytes AndNot lhs lhs_bytes.now rhs rhs_bytes.now out.old }
+    ensures refused { failure_of result ≡ first_failed (pair_checks lhs lhs_bytes.now rhs rhs_bytes.now (length out.old)) }
+    ensures mask { IfOk result (λ m. m ≡ pair_mask AndNot lhs lhs_bytes.now rhs rhs_bytes.now) }
+    ensures bytes { OnOk result (out.new ≡ with_frozen out.old (pair_flags AndNot lhs lhs_bytes.now rhs rhs_bytes.now)) }
+    ensures unchanged { OnErr result (out.new ≡ out.old) }
 {
     combine_two(Op::AndNot, lhs, lhs_bytes, rhs, rhs_bytes, out)
 }
@@ -121,8 +128,10 @@ pub fn or(
     rhs_bytes: &[u8],
     out: &mut [u8],
 ) -> Result<Bitmap, Refusal>
-    ensures answer { answer result ≡ pair_of Or lhs lhs_bytes.now rhs rhs_bytes.now out.old }
-    ensures bytes { out.new ≡ pair_bytes Or lhs lhs_bytes.now rhs rhs_bytes.now out.old }
+    ensures refused { failure_of result ≡ first_failed (pair_checks lhs lhs_bytes.now rhs rhs_bytes.now (length out.old)) }
+    ensures mask { IfOk result (λ m. m ≡ pair_mask Or lhs lhs_bytes.now rhs rhs_bytes.now) }
+    ensures bytes { OnOk result (out.new ≡ with_frozen out.old (pair_flags Or lhs lhs_bytes.now rhs rhs_bytes.now)) }
+    ensures unchanged { OnErr result (out.new ≡ out.old) }
 {
     combine_two(Op::Or, lhs, lhs_bytes, rhs, rhs_bytes, out)
 }
@@ -136,8 +145,10 @@ pub fn or_not(
     rhs_bytes: &[u8],
     out: &mut [u8],
 ) -> Result<Bitmap, Refusal>
-    ensures answer { answer result ≡ pair_of OrNot lhs lhs_bytes.now rhs rhs_bytes.now out.old }
-    ensures bytes { out.new ≡ pair_bytes OrNot lhs lhs_bytes.now rhs rhs_bytes.now out.old }
+    ensures refused { failure_of result ≡ first_failed (pair_checks lhs lhs_bytes.now rhs rhs_bytes.now (length out.old)) }
+    ensures mask { IfOk result (λ m. m ≡ pair_mask OrNot lhs lhs_bytes.now rhs rhs_bytes.now) }
+    ensures bytes { OnOk result (out.new ≡ with_frozen out.old (pair_flags OrNot lhs lhs_bytes.now rhs rhs_bytes.now)) }
+    ensures unchanged { OnErr result (out.new ≡ out.old) }
 {
     combine_two(Op::OrNot, lhs, lhs_bytes, rhs, rhs_bytes, out)
 }
@@ -150,8 +161,10 @@ pub fn xor(
     rhs_bytes: &[u8],
     out: &mut [u8],
 ) -> Result<Bitmap, Refusal>
-    ensures answer { answer result ≡ pair_of Xor lhs lhs_bytes.now rhs rhs_bytes.now out.old }
-    ensures bytes { out.new ≡ pair_bytes Xor lhs lhs_bytes.now rhs rhs_bytes.now out.old }
+    ensures refused { failure_of result ≡ first_failed (pair_checks lhs lhs_bytes.now rhs rhs_bytes.now (length out.old)) }
+    ensures mask { IfOk result (λ m. m ≡ pair_mask Xor lhs lhs_bytes.now rhs rhs_bytes.now) }
+    ensures bytes { OnOk result (out.new ≡ with_frozen out.old (pair_flags Xor lhs lhs_bytes.now rhs rhs_bytes.now)) }
+    ensures unchanged { OnErr result (out.new ≡ out.old) }
 {
     combine_two(Op::Xor, lhs, lhs_bytes, rhs, rhs_bytes, out)
 }
