@@ -4,10 +4,9 @@ ghost use Rattle.std.specs.Prelude.{◌≡◌, List, ℕ, ◌≤◌, ◌-◌, �
 ghost use Rattle.words.specs.Flags.{word_flags};
 ghost use Rattle.masks.specs.Checks.{first_failed};
 ghost use Rattle.masks.specs.Refusal.{failure_of, failure_back};
-ghost use Rattle.masks.specs.Answer.{answer_back};
-ghost use Rattle.masks.specs.Appends.{append_answer, append_bytes, grow_checks, push_word};
+ghost use Rattle.masks.specs.Appends.{grow_checks, word_checks};
 ghost use Rattle.masks.specs.Builder.{builder_under, new_builder, rebuilt, filling, appended};
-ghost use Rattle.masks.specs.Freeze.{total_ones, frozen_mask, freeze_bytes, freeze_checks, frozen_over, into_opt_validity_of};
+ghost use Rattle.masks.specs.Freeze.{total_ones, frozen_mask, freeze_checks, frozen_over, validity_of};
 ghost use Rattle.masks.specs.Workers.{Inside, Room};
 
 use crate::bitmap::{Bitmap, mask_under};
@@ -72,8 +71,12 @@ impl BitmapBuilder {
         word: u64,
         k: usize,
     ) -> Result<BitmapBuilder, Refused<BitmapBuilder>>
-        ensures answer { answer_back result ≡ append_answer (push_word word k) self buf.old }
-        ensures bytes { buf.new ≡ append_bytes (push_word word k) self buf.old }
+        ensures refused { failure_back result ≡ first_failed
+            (word_checks self (length buf.old) word k) }
+        ensures appended { IfOk result (λ b. filling b buf.new ≡
+            appended (filling self buf.old) (take k (word_flags word))) }
+        ensures unchanged { OnErr result (buf.new ≡ buf.old) }
+        ensures state { IfErr result (λ e. e.state ≡ self) }
     {
         earlier(check_builder(self, k, buf.len()), check_word(word, k)).map_err(|r| r.with(self))?;
         Ok(push_flags(self, buf, word, k))
@@ -95,8 +98,11 @@ impl BitmapBuilder {
     // Writes the word in progress, and returns the mask of all flags, or none if all are set: Arrow's none, which means all ones. In
     // dispatch no permission mask means no truck, so there a builder is ended by `freeze`.
     pub fn into_opt_validity(self, buf: &mut [u8]) -> Result<Option<Bitmap>, Refused<BitmapBuilder>>
-        ensures answer { answer_back result ≡ into_opt_validity_of self buf.old }
-        ensures bytes { buf.new ≡ freeze_bytes self buf.old }
+        ensures refused { failure_back result ≡ first_failed (freeze_checks self (length buf.old)) }
+        ensures mask { IfOk result (λ m. m ≡ validity_of self) }
+        ensures bytes { OnOk result (buf.new ≡ frozen_over self buf.old) }
+        ensures unchanged { OnErr result (buf.new ≡ buf.old) }
+        ensures state { IfErr result (λ e. e.state ≡ self) }
     {
         check_builder(self, 0, buf.len()).map_err(|r| r.with(self))?;
         finish(self, buf);

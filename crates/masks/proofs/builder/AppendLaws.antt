@@ -14,11 +14,9 @@ use Rattle.words.proofs.flags.Bits.{length-bits, word_of_bits}
 use Rattle.words.proofs.counts.Counting.{count-append}
 use Rattle.words.proofs.theorems.Plain.{window-part}
 use Rattle.words.proofs.flags.Windows.{window-all, window-cut, bits-window}
-use Rattle.masks.specs.Answer.{given, decided, kept}
 use Rattle.masks.specs.Builder.{Filling, filling, rebuilt, in_progress, appended, none_from}
 use Rattle.masks.specs.Frozen.{packed, over_from}
 use Rattle.masks.specs.declared.builder.BitmapBuilder.{BitmapBuilder}
-use Rattle.masks.proofs.checks.CheckLaws.{given-way}
 use Rattle.masks.proofs.bitmap_ops.FrozenLaws.{length-packed, packed-window, packed-append, over_from-none, over_from-more}
 
 -- ---- lists at the seams of words
@@ -229,15 +227,6 @@ append-none f h e =
     ∙ ap₂ (λ (x : ℕ) (y : List ℕ). filling (rebuilt f.builder f.builder.length x f.builder.ones) y)
     (progress-word f.builder h e)
     (ap (over_from f.bytes (8 * (f.builder.length / 64))) (no_bytes []) ∙ over_from-none f.bytes (8 * (f.builder.length / 64)))
-
--- ---- the two clauses of a call that appends: its answer and its bytes
-
-pub append-way : (r m : ℕ) (s b : BitmapBuilder) (old out : List ℕ) (f : Filling) (l : List Bool) → r ≡ m → r ≡ 0
-    → filling b out ≡ appended f l
-    → (given b ≡ decided m s (appended f l).builder) × (out ≡ kept m (appended f l).bytes old)
-append-way r m s b old out f l e h p =
-    given-way r m s old e b (appended f l).builder out (appended f l).bytes h (ap (λ (x : Filling). x.builder) p)
-    (ap (λ (x : Filling). x.bytes) p)
 
 -- an append reads and changes only length, word and ones: the record's other fields stay
 pub stored : (b own c : BitmapBuilder) (bytes out : List ℕ) (l : List Bool) → own ≡ b → filling c out ≡ appended (filling own bytes) l
