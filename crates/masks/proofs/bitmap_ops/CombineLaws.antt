@@ -19,10 +19,9 @@ use Rattle.words.proofs.flags.Windows.{length-window}
 use Rattle.words.specs.declared.ops.Op.{Op}
 use Rattle.words.specs.declared.ops.Op.TheVariants.{And, AndNot, Or, OrNot, Xor, Not, Select}
 use Rattle.words.proofs.flags.Bytes.{flags-inj, flags-over}
-use Rattle.masks.specs.Answer.{given, refused}
 use Rattle.masks.specs.Checks.{Check, check, first_failed, output_checks}
 use Rattle.masks.specs.Combine.{shortcut, result_flags, largest_serial, result_mask, result_count, pair_checks, pair_shortcut}
-use Rattle.masks.specs.Combine.{pair_flags, pair_mask, each_of, each_bytes, select_checks}
+use Rattle.masks.specs.Combine.{pair_flags, pair_mask, select_checks}
 use Rattle.masks.specs.Frozen.{packed, frozen, frozen_size, over_from, with_frozen}
 use Rattle.masks.specs.Mask.{mask_under, mask_checks, uncounted}
 use Rattle.masks.specs.Workers.{either_all, xor_all, zeros_of_all}
@@ -30,7 +29,7 @@ use Rattle.masks.specs.declared.bitmap.Bitmap.{Bitmap}
 use Rattle.masks.proofs.statements.TrueCounts.{Truthful}
 use Rattle.masks.proofs.bitmap.MaskLaws.{mask-truthful}
 use Rattle.masks.proofs.theorems.ShortcutsUnseen.{flags-by_operation}
-use Rattle.masks.proofs.checks.CheckLaws.{both_left, both_right, first-allowed, rest-allowed, is-given, is-refused, is-kept, is-new}
+use Rattle.masks.proofs.checks.CheckLaws.{both_left, both_right, first-allowed, rest-allowed}
 use Rattle.masks.proofs.bitmap_ops.FrozenLaws.{Small, flags-packed, packed-small, over_from-small}
 
 -- ---- from flags to bytes
@@ -195,27 +194,16 @@ pub three-serials : (a b c : Bitmap) (s t : ℕ) → t ≡ max b.serial c.serial
 unfolding largest_serial
 three-serials a b c s t e f = f ∙ ap (max a.serial) (two-serials b c t e)
 
--- ---- the answer of a combination with no shortcut
+-- ---- a combination with no shortcut: its mask and its bytes
 
-module _ (cs : List Check) (masks : List Bitmap) (n : ℕ) (flags : List Bool) (out : List ℕ) (k : ℕ) (e : k ≡ first_failed cs) where
-  pub each-refused : (k ≡ 0 → ⊥) → (refused k tt ≡ each_of cs masks n) × (out ≡ each_bytes cs flags out)
-  unfolding each_of each_bytes
-  each-refused h = (
-    is-refused k (first_failed cs) tt (result_mask masks n (uncounted n)) e h,
-    is-kept k (first_failed cs) (over out (frozen flags)) out e h,
-  )
+pub each-made : (masks : List Bitmap) (n s : ℕ) (u : Option ℕ) (m : Bitmap) → u ≡ uncounted n → s ≡ largest_serial masks
+    → m ≡ mask_under s 0 n u
+    → m ≡ result_mask masks n (uncounted n)
+each-made masks n s u m p largest made = made ∙ ap₂ (λ (t : ℕ) (v : Option ℕ). mask_under t 0 n v) largest p
 
-  pub each-given : (u : Option ℕ) (s : ℕ) (m : Bitmap) (out' : List ℕ) (written : List Bool) → k ≡ 0 → u ≡ uncounted n
-      → s ≡ largest_serial masks → m ≡ mask_under s 0 n u → Small out → Small out'
-      → flags_of out' ≡ over (flags_of out) (whole_words written) → written ≡ flags
-      → (given m ≡ each_of cs masks n) × (out' ≡ each_bytes cs flags out)
-  unfolding each_of each_bytes
-  each-given u s m out' written z p largest made before after q r = (
-    ap given made ∙ ap₂ (λ (t : ℕ) (v : Option ℕ). given (mask_under t 0 n v)) largest p
-        ∙ is-given k (first_failed cs) tt (result_mask masks n (uncounted n)) e z,
-    frozen-written out out' written before after q ∙ ap (λ (l : List Bool). over out (frozen l)) r
-        ∙ is-new k (first_failed cs) (over out (frozen flags)) out e z,
-  )
+pub each-written : (out out' : List ℕ) (written flags : List Bool) → Small out → Small out'
+    → flags_of out' ≡ over (flags_of out) (whole_words written) → written ≡ flags → out' ≡ with_frozen out flags
+each-written out out' written flags before after q r = frozen-written out out' written before after q ∙ ap (with_frozen out) r
 
 pub not-each : (l : List Bool) (s n : ℕ) → zip3 (op_of Not) (window l s n) (window l s n) (window l s n) ≡ map not (window l s n)
 not-each l s n = zip_first not (window l s n) (window l s n) (window l s n) refl refl
