@@ -3,14 +3,13 @@
 //
 // Its answer has the number of windows of 32 flags that it covers. The code reads words of 64 flags and passes over whole blocks; the
 // number follows from where it stops.
-ghost use Rattle.std.specs.Prelude.{◌≡◌, false, ℕ, ◌+◌, ◌≤◌, take};
+ghost use Rattle.std.specs.Prelude.{◌≡◌, false, ℕ, ◌+◌, ◌≤◌, take, IfOk};
 ghost use Rattle.words.specs.Counts.{any_set};
 ghost use Rattle.words.specs.Flags.{window, word_flags};
-ghost use Rattle.masks.specs.Answer.{answer};
 ghost use Rattle.masks.specs.Refusal.{failure_of};
 ghost use Rattle.masks.specs.Checks.{first_failed, limit};
 ghost use Rattle.masks.specs.Iterator.{leading_from};
-ghost use Rattle.masks.specs.NextAndNot.{free_flags, next_and_not_of, next_checks, next_set, other_checks, windows_of};
+ghost use Rattle.masks.specs.NextAndNot.{free_flags, next_checks, next_set, other_checks, windows_of};
 ghost use Rattle.masks.specs.Workers.{PassedTo, Searchable};
 
 use crate::bitmap::Bitmap;
@@ -44,7 +43,10 @@ pub fn next_and_not(
     second_bytes: &[u8],
     from: usize,
 ) -> Result<Found, Refusal>
-    ensures { answer result ≡ next_and_not_of first first_bytes.now second second_bytes.now from }
+    ensures refused { failure_of result ≡ first_failed
+        (next_checks first first_bytes.now second second_bytes.now from) }
+    ensures found { IfOk result (λ f. f ≡ next_set
+        first.length (free_flags first first_bytes.now second second_bytes.now) from) }
 {
     check_next(first, first_bytes, second, second_bytes, from)?;
     let length = first.length;
