@@ -46,7 +46,8 @@ fn check_pair(
     rhs_bytes: &[u8],
     size: usize,
 ) -> Result<(), Refusal>
-    ensures { failure_of result ≡ first_failed (pair_checks lhs lhs_bytes.now rhs rhs_bytes.now size) }
+    ensures { failure_of result ≡ first_failed
+        (pair_checks lhs lhs_bytes.now rhs rhs_bytes.now size) }
 {
     let room = check_output(lhs.length, size);
     let equal = check(Refusal::UnequalLengths, lhs.length == rhs.length);
@@ -190,8 +191,10 @@ fn check_not(mask: Bitmap, bytes: &[u8], size: usize) -> Result<(), Refusal>
 
 // Writes the inverted flags of a mask as frozen bytes to the start of `out`, and returns the mask of them.
 pub fn not(mask: Bitmap, bytes: &[u8], out: &mut [u8]) -> Result<Bitmap, Refusal>
-    ensures refused { failure_of result ≡ first_failed (not_checks mask bytes.now (length out.old)) }
-    ensures mask { IfOk result (λ m. m ≡ result_mask (mask ∷ []) mask.length (uncounted mask.length)) }
+    ensures refused { failure_of result ≡ first_failed
+        (not_checks mask bytes.now (length out.old)) }
+    ensures mask { IfOk result (λ m. m ≡
+        result_mask (mask ∷ []) mask.length (uncounted mask.length)) }
     ensures bytes { OnOk result (out.new ≡ with_frozen out.old (not_flags mask bytes.now)) }
     ensures unchanged { OnErr result (out.new ≡ out.old) }
 {
@@ -213,8 +216,8 @@ fn check_select(
     falsy_bytes: &[u8],
     size: usize,
 ) -> Result<(), Refusal>
-    ensures { failure_of result ≡ first_failed
-        (select_checks selector selector_bytes.now truthy truthy_bytes.now falsy falsy_bytes.now size) }
+    ensures { failure_of result ≡ first_failed (select_checks
+        selector selector_bytes.now truthy truthy_bytes.now falsy falsy_bytes.now size) }
 {
     let room = check_output(selector.length, size);
     let third = check(Refusal::UnequalLengths, selector.length == falsy.length);
@@ -239,7 +242,8 @@ pub fn select(
     out: &mut [u8],
 ) -> Result<Bitmap, Refusal>
     ensures refused { failure_of result ≡ first_failed (select_checks
-        selector selector_bytes.now truthy truthy_bytes.now falsy falsy_bytes.now (length out.old)) }
+        selector selector_bytes.now truthy truthy_bytes.now
+        falsy falsy_bytes.now (length out.old)) }
     ensures mask { IfOk result (λ m. m ≡
         result_mask (selector ∷ truthy ∷ falsy ∷ []) selector.length (uncounted selector.length)) }
     ensures bytes { OnOk result (out.new ≡ with_frozen out.old (select_flags

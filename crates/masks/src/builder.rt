@@ -36,7 +36,8 @@ impl BitmapBuilder {
     // Appends one flag.
     pub fn push(self, buf: &mut [u8], flag: bool) -> Result<BitmapBuilder, Refused<BitmapBuilder>>
         ensures refused { failure_back result ≡ first_failed (grow_checks self 1 (length buf.old)) }
-        ensures appended { IfOk result (λ b. filling b buf.new ≡ appended (filling self buf.old) (flag ∷ [])) }
+        ensures appended { IfOk result (λ b. filling b buf.new ≡
+            appended (filling self buf.old) (flag ∷ [])) }
         ensures unchanged { OnErr result (buf.new ≡ buf.old) }
         ensures state { IfErr result (λ e. e.state ≡ self) }
     {
@@ -47,8 +48,10 @@ impl BitmapBuilder {
     // Appends one flag and changes the caller's own record; if it refuses, the record is unchanged. A named form of the reference: length,
     // word and ones are taken apart, pushed by value and stored back; the serial stays.
     pub fn push_mut(&mut self, buf: &mut [u8], flag: bool) -> Result<(), Refusal>
-        ensures refused { failure_of result ≡ first_failed (grow_checks self.old 1 (length buf.old)) }
-        ensures appended { OnOk result (filling self.new buf.new ≡ appended (filling self.old buf.old) (flag ∷ [])) }
+        ensures refused { failure_of result ≡ first_failed
+            (grow_checks self.old 1 (length buf.old)) }
+        ensures appended { OnOk result (filling self.new buf.new ≡
+            appended (filling self.old buf.old) (flag ∷ [])) }
         ensures unchanged { OnErr result (buf.new ≡ buf.old) }
         ensures state { OnErr result (self.new ≡ self.old) }
     {
@@ -140,7 +143,8 @@ pub(crate) fn grown(b: BitmapBuilder, length: usize, word: u64, ones: usize) -> 
 // Appends the k flags of a word, for which the word in progress has room: writes no byte, and no flag has to be cut off.
 pub(crate) fn push_inside(b: BitmapBuilder, flags: u64, k: usize) -> BitmapBuilder
     requires { Inside b flags k }
-    ensures { (bytes : List ℕ) → filling result bytes ≡ appended (filling b bytes) (take k (word_flags flags)) }
+    ensures { (bytes : List ℕ) → filling result bytes ≡
+        appended (filling b bytes) (take k (word_flags flags)) }
 {
     let low = or_word(b.word, shl_or_zero(flags, b.length % 64));
     let longer = b.length + k;
@@ -166,7 +170,8 @@ pub(crate) fn push_flags(b: BitmapBuilder, buf: &mut [u8], word: u64, k: usize) 
 // Completes the word in progress with the first flags of a word, and writes it.
 pub(crate) fn close_word(b: BitmapBuilder, buf: &mut [u8], word: u64) -> BitmapBuilder
     requires { Room b (64 - b.length % 64) (length buf.old) }
-    ensures { filling result buf.new ≡ appended (filling b buf.old) (take (64 - b.length % 64) (word_flags word)) }
+    ensures { filling result buf.new ≡
+        appended (filling b buf.old) (take (64 - b.length % 64) (word_flags word)) }
 {
     let fill = b.length % 64;
     let low = or_word(b.word, shl_or_zero(word, fill));

@@ -198,7 +198,8 @@ fn copy_words(
     whole: usize,
 ) -> BitmapBuilder
     requires { (b.length % 64 ≡ 0) × Room b (64 * whole) (length buf.old) }
-    ensures { filling result buf.new ≡ appended (filling b buf.old) (stretch bytes.now start (64 * whole)) }
+    ensures { filling result buf.new ≡
+        appended (filling b buf.old) (stretch bytes.now start (64 * whole)) }
 {
     let n = 64 * whole;
     let longer = b.length + n;

@@ -123,7 +123,8 @@ fn check_next(
     second_bytes: &[u8],
     from: usize,
 ) -> Result<(), Refusal>
-    ensures { failure_of result ≡ first_failed (next_checks first first_bytes.now second second_bytes.now from) }
+    ensures { failure_of result ≡ first_failed
+        (next_checks first first_bytes.now second second_bytes.now from) }
 {
     let place = check(Refusal::Outside, from <= first.length);
     let other = check_other(first.length, second, second_bytes);
@@ -155,7 +156,8 @@ fn any_free(
     n: usize,
 ) -> bool
     requires { Searchable first second (at + n) first.length }
-    ensures { result ≡ any_set (window (free_flags first first_bytes.now second second_bytes.now) at n) }
+    ensures { result ≡ any_set
+        (window (free_flags first first_bytes.now second second_bytes.now) at n) }
 {
     let a = Operand {
         bytes: first_bytes,
@@ -185,7 +187,8 @@ fn free_word(
 ) -> u64
     requires { Searchable first second at first.length }
     ensures { (k : ℕ) → k ≤ 64 → at + k ≤ first.length
-        → take k (word_flags result) ≡ window (free_flags first first_bytes.now second second_bytes.now) at k }
+        → take k (word_flags result) ≡
+        window (free_flags first first_bytes.now second second_bytes.now) at k }
 {
     let own = word_from(first_bytes, first.start + at);
     match second {
@@ -207,7 +210,8 @@ fn pass_blocks(
     end: usize,
 ) -> usize
     requires { Searchable first second from end }
-    ensures { PassedTo (take end (free_flags first first_bytes.now second second_bytes.now)) end from result }
+    ensures { PassedTo
+        (take end (free_flags first first_bytes.now second second_bytes.now)) end from result }
 {
     let mut at = from;
     while end - at >= 1024 {
@@ -229,7 +233,8 @@ fn zeros_ahead(
     end: usize,
 ) -> usize
     requires { Searchable first second from end }
-    ensures { result ≡ leading_from false (take end (free_flags first first_bytes.now second second_bytes.now)) from }
+    ensures { result ≡ leading_from
+        false (take end (free_flags first first_bytes.now second second_bytes.now)) from }
 {
     let mut at = pass_blocks(first, first_bytes, second, second_bytes, from, end);
     while at < end {

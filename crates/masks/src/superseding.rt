@@ -28,7 +28,8 @@ fn check_superseding(
     second: Bitmap,
     rhs_bytes: &[u8],
 ) -> Result<(), Refusal>
-    ensures { failure_of result ≡ first_failed (superseding_checks first lhs_bytes.now second rhs_bytes.now) }
+    ensures { failure_of result ≡ first_failed
+        (superseding_checks first lhs_bytes.now second rhs_bytes.now) }
 {
     if first.serial != second.serial {
         return earlier(check_mask(first, lhs_bytes), check_mask(second, rhs_bytes));
@@ -99,13 +100,18 @@ pub fn superseding_bytes<'a>(
     second: Bitmap,
     second_bytes: &'a [u8],
 ) -> &'a [u8]
-    ensures part { first_failed (superseding_checks first first_bytes.now second second_bytes.now) ≡ 0
+    ensures part { first_failed
+        (superseding_checks first first_bytes.now second second_bytes.now) ≡ 0
         → result.now ≡ part_bytes (winning first second) first_bytes.now second_bytes.now }
-    ensures place { first_failed (superseding_checks first first_bytes.now second second_bytes.now) ≡ 0
-        → result.ref_ptr ≡ part_place (winning first second) first_bytes.entry.ref_ptr second_bytes.entry.ref_ptr }
-    ensures refused_part { first_failed (superseding_checks first first_bytes.now second second_bytes.now) ≢ 0
+    ensures place { first_failed
+        (superseding_checks first first_bytes.now second second_bytes.now) ≡ 0
+        → result.ref_ptr ≡ part_place
+        (winning first second) first_bytes.entry.ref_ptr second_bytes.entry.ref_ptr }
+    ensures refused_part { first_failed
+        (superseding_checks first first_bytes.now second second_bytes.now) ≢ 0
         → result.now ≡ [] }
-    ensures refused_place { first_failed (superseding_checks first first_bytes.now second second_bytes.now) ≢ 0
+    ensures refused_place { first_failed
+        (superseding_checks first first_bytes.now second second_bytes.now) ≢ 0
         → result.ref_ptr ≡ first_bytes.entry.ref_ptr }
 {
     match superseding_part(first, first_bytes, second, second_bytes) {
