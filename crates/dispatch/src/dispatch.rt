@@ -27,8 +27,8 @@ pub fn may_reassign(
 ) -> Result<bool, Refusal>
     ensures refused { failure_of result ≡ first_failed
         (and_not_at_checks permission permission_bytes.now revocation revocation_bytes.now truck) }
-    ensures may { IfOk result
-        (λ x. x ≡ reassignable permission permission_bytes.now revocation revocation_bytes.now truck) }
+    ensures may { IfOk result (λ x. x ≡ reassignable
+        permission permission_bytes.now revocation revocation_bytes.now truck) }
 {
     let flag = and_not_at(
         permission,
