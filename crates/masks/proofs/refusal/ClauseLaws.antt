@@ -73,14 +73,14 @@ clauses-written (Err k) m x new old e p = (tt, p ∙ sym (is-kept (number k) m n
 
 -- ---- a builder and its buffer, by the one clause on both
 
-module _ (r : Result BitmapBuilder (Refused BitmapBuilder)) (m : ℕ) (s : BitmapBuilder) (out old : List ℕ) (f : Filling)
-    (e : failure_back r ≡ m) (ok : IfOk r (λ b. filling b out ≡ f)) where
-  pub answered_append : IfErr r (λ x. x.state ≡ s) → answer_back r ≡ decided m s f.builder
-  answered_append t =
+module _ (r : Result BitmapBuilder (Refused BitmapBuilder)) (m : ℕ) (out : List ℕ) (f : Filling) (e : failure_back r ≡ m)
+    (ok : IfOk r (λ b. filling b out ≡ f)) where
+  pub answered_append : (s : BitmapBuilder) → IfErr r (λ x. x.state ≡ s) → answer_back r ≡ decided m s f.builder
+  answered_append s t =
       answered_back r m s f.builder e (IfOk-weaker r _ _ (λ b h. ap (λ (g : Filling). g.builder) h) ok) t
 
-  pub written_append : OnErr r (out ≡ old) → out ≡ kept m f.bytes old
-  written_append q =
+  pub written_append : (old : List ℕ) → OnErr r (out ≡ old) → out ≡ kept m f.bytes old
+  written_append old q =
       written_back r m out f.bytes old e (IfOk-weaker r _ _ (λ b h. ap (λ (g : Filling). g.bytes) h) ok) q
 
 -- ---- a call over a bare span: no check for no flags
