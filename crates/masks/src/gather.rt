@@ -16,8 +16,8 @@ use words::word::{concat_low, constant_word, flag_at};
 
 impl BitmapBuilder {
     // Appends the flag at each index; refuses with 6 if an index is not below the length of the span. This and
-    // `opt_gather_extend_from_slice` are the Rust's names over `append_gathered`. They differ in the check of the indices and in the
-    // definition that the contract names, so one function for both would take a flag and promise by cases.
+    // `opt_gather_extend_from_slice` are the Rust's names over `append_gathered`. They differ in the check of the indices, so one function
+    // for both would take a flag and promise by cases.
     pub fn gather_extend_from_slice(
         self,
         buf: &mut [u8],

@@ -1,8 +1,8 @@
 -- From the clauses of a call to its answer: the number of its checks, its value, its state and its bytes make the answer that tables, the
 -- theorems and the exports to C speak of. One law for each kind of result.
 use Rattle.std.specs.Prelude.{Result, Ok, Err, IfOk, IfErr, OnOk, OnErr, is_ok, true}
-use mathlib.Core.Path.{◌≡◌, refl, sym, ap, ◌∙◌}
-use mathlib.Core.List.{List}
+use mathlib.Core.Path.{◌≡◌, refl, sym, ap, ap₂, ◌∙◌}
+use mathlib.Core.List.{List, []}
 use Prim.Native.Nat.{ℕ, zero, suc}
 use native.Mathlib.Omega.{arith}
 use Rattle.std.proofs.lemmas.Result.{IfOk-weaker}
@@ -10,7 +10,9 @@ use Rattle.masks.specs.Answer.{answer, answer_back, given, refused, decided, kep
 use Rattle.masks.specs.Builder.{Filling, filling}
 use Rattle.masks.specs.Cursor.{Step, answer_step, step_of}
 use Rattle.masks.specs.Refusal.{failure_back, failure_of, number}
+use Rattle.masks.specs.Superseding.{bytes_of, part_bytes, part_place, place_of}
 use Rattle.masks.specs.declared.builder.BitmapBuilder.{BitmapBuilder}
+use Rattle.masks.specs.declared.superseding.Part.{Part}
 use Rattle.masks.specs.declared.cursor.Step.{Step as Stepped}
 use Rattle.masks.specs.declared.refusal.Refusal.{Refusal}
 use Rattle.masks.specs.declared.refusal.Refused.{Refused}
@@ -71,6 +73,11 @@ pub clauses-written : {A B : Type 0} (r : Result A Refusal) (m : ℕ) (x new old
 clauses-written (Ok a) m x new old e p = (p ∙ sym (is-new 0 m new old e refl), tt)
 clauses-written (Err k) m x new old e p = (tt, p ∙ sym (is-kept (number k) m new old e (number-ne0 k)))
 
+pub clauses-written_back : {S A B : Type 0} (r : Result A (Refused S)) (m : ℕ) (x new old : B) → failure_back r ≡ m → x ≡ kept m new old
+    → OnOk r (x ≡ new) × OnErr r (x ≡ old)
+clauses-written_back (Ok a) m x new old e p = (p ∙ sym (is-new 0 m new old e refl), tt)
+clauses-written_back (Err k) m x new old e p = (tt, p ∙ sym (is-kept (number k.refusal) m new old e (number-ne0 k.refusal)))
+
 -- ---- a builder and its buffer, by the one clause on both
 
 module _ (r : Result BitmapBuilder (Refused BitmapBuilder)) (m : ℕ) (out : List ℕ) (f : Filling) (e : failure_back r ≡ m)
@@ -82,6 +89,51 @@ module _ (r : Result BitmapBuilder (Refused BitmapBuilder)) (m : ℕ) (out : Lis
   pub written_append : (old : List ℕ) → OnErr r (out ≡ old) → out ≡ kept m f.bytes old
   written_append old q =
       written_back r m out f.bytes old e (IfOk-weaker r _ _ (λ b h. ap (λ (g : Filling). g.bytes) h) ok) q
+
+-- and the other way
+pub clauses-appended : (r : Result BitmapBuilder (Refused BitmapBuilder)) (m : ℕ) (s : BitmapBuilder) (out old : List ℕ) (f : Filling)
+    → answer_back r ≡ decided m s f.builder → out ≡ kept m f.bytes old
+    → (failure_back r ≡ m) × (IfOk r (λ b. filling b out ≡ f) × (OnErr r (out ≡ old) × IfErr r (λ x. x.state ≡ s)))
+clauses-appended (Ok b) m s out old f e p =
+    let n = given-number m s b f.builder e in
+    (n, (ap₂ filling (given-value m s b f.builder e) (p ∙ sym (is-new 0 m f.bytes old n refl)), (tt, tt)))
+clauses-appended (Err k) m s out old f e p =
+    let n = refused-number (number k.refusal) m k.state s f.builder e in (
+      n,
+      (
+        tt,
+        (
+          p ∙ sym (is-kept (number k.refusal) m f.bytes old n (number-ne0 k.refusal)),
+          refused-state (number k.refusal) m k.state s f.builder e,
+        ),
+      ),
+    )
+
+-- ---- the part of a slice that a call returns, by the number k of its checks
+
+pub part_given : (k : ℕ) (p : Part) (a b x : List ℕ) → (k ≡ 0 → x ≡ part_bytes p a b) → ((k ≡ 0 → ⊥) → x ≡ [])
+    → x ≡ bytes_of (decided k tt p) a b
+unfolding decided
+part_given zero p a b x given-case refused-case = given-case refl
+part_given (suc k) p a b x given-case refused-case = refused-case (λ e. omega arith)
+
+pub place_given : (k : ℕ) (p : Part) (a b x : ℕ × ℕ) → (k ≡ 0 → x ≡ part_place p a b) → ((k ≡ 0 → ⊥) → x ≡ a)
+    → x ≡ place_of (decided k tt p) a b
+unfolding decided
+place_given zero p a b x given-case refused-case = given-case refl
+place_given (suc k) p a b x given-case refused-case = refused-case (λ e. omega arith)
+
+pub clauses-part_given : (k : ℕ) (p : Part) (a b x : List ℕ) → x ≡ bytes_of (decided k tt p) a b
+    → (k ≡ 0 → x ≡ part_bytes p a b) × ((k ≡ 0 → ⊥) → x ≡ [])
+unfolding decided
+clauses-part_given zero p a b x e = (λ _. e, λ h. absurd (h refl))
+clauses-part_given (suc k) p a b x e = (λ z. absurd (omega arith), λ _. e)
+
+pub clauses-place_given : (k : ℕ) (p : Part) (a b x : ℕ × ℕ) → x ≡ place_of (decided k tt p) a b
+    → (k ≡ 0 → x ≡ part_place p a b) × ((k ≡ 0 → ⊥) → x ≡ a)
+unfolding decided
+clauses-place_given zero p a b x e = (λ _. e, λ h. absurd (h refl))
+clauses-place_given (suc k) p a b x e = (λ z. absurd (omega arith), λ _. e)
 
 -- ---- a call over a bare span: no check for no flags
 

@@ -222,6 +222,7 @@ module _ (a : Bitmap) (a_bytes : List ℕ) (b : Bitmap) (b_bytes : List ℕ)
         count = refl;
         serial = refl;
         accepted = part.accepted;
+        place = λ x y. refl;
       }
   won-part false h =
       let part = fits-part a a_bytes (both_left (mask_checks a a_bytes) (mask_checks b b_bytes) accepted-masks) in
@@ -232,6 +233,7 @@ module _ (a : Bitmap) (a_bytes : List ℕ) (b : Bitmap) (b_bytes : List ℕ)
         count = refl;
         serial = refl;
         accepted = part.accepted;
+        place = λ x y. refl;
       }
 
 given-won : (a : Bitmap) (a_bytes : List ℕ) (b : Bitmap) (b_bytes : List ℕ) (p : Part) → superseding_of a a_bytes b b_bytes ≡ given p
