@@ -105,8 +105,8 @@ winning-inside a a_bytes b b_bytes e = go (ltb a.serial b.serial)
     go true = allowed-inside true b a_bytes b_bytes (second-allowed-mask a a_bytes b b_bytes e)
     go false = allowed-inside false a a_bytes b_bytes (first-allowed-mask a a_bytes b b_bytes e)
 
-module _ (a : Bitmap) (a_bytes : List ℕ) (b : Bitmap) (b_bytes : List ℕ) (p : Part) (e : 0 ≡ first_failed (superseding_checks a a_bytes b b_bytes))
-    (won : p ≡ winning a b) where
+module _ (a : Bitmap) (a_bytes : List ℕ) (b : Bitmap) (b_bytes : List ℕ) (p : Part)
+    (e : 0 ≡ first_failed (superseding_checks a a_bytes b b_bytes)) (won : p ≡ winning a b) where
   pub won-inside : Inside p a_bytes b_bytes
   won-inside = subst (λ (x : Part). Inside x a_bytes b_bytes) (sym won) (winning-inside a a_bytes b b_bytes (sym e))
 

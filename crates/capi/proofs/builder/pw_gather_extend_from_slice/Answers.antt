@@ -4,4 +4,5 @@ use Rattle.capi.proofs.builder.pw_gather_extend_from_slice.Goals as goal
 
 pub returns-clause-bytes : goal.returns-clause-bytes
 returns-clause-bytes c =
-    let e = c.gather_extend_from_slice.ensures in rw c.builder_in.ensures at (written_append _ _ _ _ e.refused e.appended _ e.unchanged)
+    let e = c.gather_extend_from_slice.ensures in
+    rw c.builder_in.ensures at (written_append _ _ _ _ e.refused e.appended _ e.unchanged)

@@ -4,4 +4,5 @@ use Rattle.capi.proofs.builder.pw_subslice_extend_from_bitmap.Goals as goal
 
 pub returns-clause-bytes : goal.returns-clause-bytes
 returns-clause-bytes c =
-    let e = c.subslice_extend_from_bitmap.ensures in rw (c.builder_in.ensures, c.into.ensures) at (written_append _ _ _ _ e.refused e.appended _ e.unchanged)
+    let e = c.subslice_extend_from_bitmap.ensures in
+    rw (c.builder_in.ensures, c.into.ensures) at (written_append _ _ _ _ e.refused e.appended _ e.unchanged)
