@@ -1,4 +1,6 @@
 // Exported to C and Rust: the combination `and_not` at one index.
+#![tactic(auto, using(masks::proofs::refusal::ClauseLaws::answered), unfolding(masks::specs::AtIndex::and_not_at_of))]
+
 ghost use Rattle.std.specs.Prelude.{◌≡◌};
 ghost use Rattle.masks.specs.AtIndex.{and_not_at_of};
 ghost use Rattle.capi.specs.Answers.{as_flag};

@@ -1,5 +1,7 @@
 // Exported to C and Rust: the builder. Each append writes finished words to `buf`, leaves its other bytes unchanged, and returns the
 // builder after it; pw_freeze and pw_into_opt_validity write the frozen bytes at the start of `buf`.
+#![tactic(auto, using(masks::proofs::refusal::ClauseLaws::answered_back, masks::proofs::refusal::ClauseLaws::written_back), unfolding(masks::specs::Freeze::freeze_bytes))]
+
 ghost use Rattle.std.specs.Prelude.{◌≡◌};
 ghost use Rattle.masks.specs.Answer.{answer_back};
 ghost use Rattle.masks.specs.Appends.{append_answer, append_bytes, extend_bitmap, extend_constant, extend_gather, extend_opt_gather};

@@ -1,5 +1,5 @@
 // Exported to C and Rust: the cursors over runs, flags and positions. A step that finds nothing moves the cursor to the length.
-#![tactic(auto, unfolding(crate::specs::Answers::as_bit, crate::specs::Answers::as_run, crate::specs::Answers::as_word, crate::specs::Records::true_in))]
+#![tactic(auto, using(masks::proofs::refusal::ClauseLaws::answered_step), unfolding(crate::specs::Answers::as_bit, crate::specs::Answers::as_run, crate::specs::Answers::as_word, crate::specs::Records::true_in, masks::specs::SliceIterator::next_slice))]
 
 ghost use Rattle.std.specs.Prelude.{◌≡◌, true, false, length as list_length};
 ghost use Rattle.masks.specs.Iterator.{iter_at, new_iter, nth_flag, take_leading};

@@ -1,4 +1,6 @@
 // Exported to C and Rust: the calls that make, slice, count and compare masks.
+#![tactic(auto, using(masks::proofs::refusal::ClauseLaws::answered, masks::proofs::refusal::ClauseLaws::answered_back), unfolding(masks::specs::Mask::try_new_of, masks::specs::Mask::slice_of, masks::specs::Compare::edges_of))]
+
 ghost use Rattle.std.specs.Prelude.{◌≡◌};
 ghost use Rattle.masks.specs.Answer.{answer_back};
 ghost use Rattle.masks.specs.Compare.{common_of, edges_of, eq_of};

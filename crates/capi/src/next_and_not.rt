@@ -1,4 +1,6 @@
 // Exported to C and Rust: the search for a flag that is set in one mask and not in another.
+#![tactic(auto, using(masks::proofs::refusal::ClauseLaws::answered), unfolding(masks::specs::NextAndNot::next_and_not_of))]
+
 ghost use Rattle.std.specs.Prelude.{◌≡◌};
 ghost use Rattle.masks.specs.Answer.{answer};
 ghost use Rattle.masks.specs.NextAndNot.{next_and_not_of};

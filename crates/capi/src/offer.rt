@@ -1,4 +1,6 @@
 // Exported to C and Rust: the next truck that dispatch offers.
+#![tactic(auto, using(dispatch::proofs::offer::OfferLaws::offer_answered), unfolding(dispatch::specs::Offer::offer_of))]
+
 ghost use Rattle.std.specs.Prelude.{◌≡◌};
 ghost use Rattle.dispatch.specs.Offer.{offer_answer, offer_of};
 ghost use Rattle.capi.specs.Answers.{as_offer};

@@ -1,4 +1,6 @@
 // Exported to C and Rust: dispatch.
+#![tactic(auto, using(masks::proofs::refusal::ClauseLaws::answered), unfolding(dispatch::specs::Dispatch::may_reassign))]
+
 ghost use Rattle.std.specs.Prelude.{◌≡◌};
 ghost use Rattle.dispatch.specs.Dispatch.{may_reassign};
 ghost use Rattle.capi.specs.Answers.{as_flag};

@@ -1,6 +1,6 @@
 // Exported to C and Rust: which of two masks supersedes the other. The C interface has no references: the part of the bytes is returned
 // as the slice that it is of, its first byte and the byte past its last.
-#![tactic(auto, unfolding(crate::specs::Answers::as_part))]
+#![tactic(auto, using(masks::proofs::refusal::ClauseLaws::answered), unfolding(crate::specs::Answers::as_part, masks::specs::Superseding::superseding_of))]
 
 ghost use Rattle.std.specs.Prelude.{◌≡◌, cond};
 ghost use Rattle.masks.specs.Answer.{answer};

@@ -11,6 +11,11 @@ use Rattle.masks.specs.Refusal.{number}
 use Rattle.dispatch.specs.declared.offer.RefusedOffer.{RefusedOffer}
 use Rattle.dispatch.specs.declared.offer.Offering.{Offering}
 
+-- the number with which a call refuses, 0 if it does not
+abbrev pub offer_failure : Result Offering RefusedOffer → ℕ
+offer_failure (Ok o) = 0
+offer_failure (Err e) = number e.refusal
+
 -- a result as an answer; a refusal has the caller's cursor
 abbrev pub offer_answer : Result Offering RefusedOffer → Answer ℕ Offering
 offer_answer (Ok o) = given o

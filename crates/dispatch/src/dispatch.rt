@@ -4,9 +4,11 @@
 // This crate uses only combinations and searches of masks, which `tests/dispatch_calls.py` checks in its sources. A mask and its bytes are
 // two parameters, as in the calls of masks: a `Bitmap` holds no bytes, and the caller lends them separately, also if the mask is absent. No
 // struct joins them: it would be made at each call and taken apart for `and_not_at` again.
-ghost use Rattle.std.specs.Prelude.{◌≡◌};
-ghost use Rattle.masks.specs.Answer.{answer};
-ghost use Rattle.dispatch.specs.Dispatch.{may_reassign};
+ghost use Rattle.std.specs.Prelude.{◌≡◌, IfOk};
+ghost use Rattle.masks.specs.AtIndex.{and_not_at_checks};
+ghost use Rattle.masks.specs.Checks.{first_failed};
+ghost use Rattle.masks.specs.Refusal.{failure_of};
+ghost use Rattle.dispatch.specs.Dispatch.{reassignable};
 
 use masks::at_index::and_not_at;
 use masks::bitmap::Bitmap;
@@ -23,7 +25,10 @@ pub fn may_reassign(
     revocation_bytes: &[u8],
     truck: usize,
 ) -> Result<bool, Refusal>
-    ensures { answer result ≡ may_reassign permission permission_bytes.now revocation revocation_bytes.now truck }
+    ensures refused { failure_of result ≡ first_failed
+        (and_not_at_checks permission permission_bytes.now revocation revocation_bytes.now truck) }
+    ensures may { IfOk result (λ x. x ≡ reassignable
+        permission permission_bytes.now revocation revocation_bytes.now truck) }
 {
     let flag = and_not_at(
         permission,

@@ -1,8 +1,9 @@
 // The next truck that may be reassigned: the first at or after a cursor that is permitted and not revoked, going round to truck 0 once. A
 // mask and its bytes are two parameters, as in `dispatch.rt`.
-ghost use Rattle.std.specs.Prelude.{◌≡◌, ◌≤◌, Some};
+ghost use Rattle.std.specs.Prelude.{◌≡◌, ◌≤◌, IfOk, IfErr, Some};
+ghost use Rattle.masks.specs.Checks.{first_failed};
 ghost use Rattle.masks.specs.Refusal.{said};
-ghost use Rattle.dispatch.specs.Offer.{most_windows, offer_answer, offer_of, windows_in};
+ghost use Rattle.dispatch.specs.Offer.{most_windows, offer_checks, offer_failure, offered_of, windows_in};
 
 use masks::bitmap::Bitmap;
 use masks::next_and_not::next_and_not;
@@ -46,7 +47,11 @@ pub fn offer(
     revocation_bytes: &[u8],
     cursor: usize,
 ) -> Result<Offering, RefusedOffer>
-    ensures answer { offer_answer result ≡ offer_of permission permission_bytes.now revocation revocation_bytes.now cursor }
+    ensures refused { offer_failure result ≡ first_failed
+        (offer_checks permission permission_bytes.now revocation revocation_bytes.now cursor) }
+    ensures offer { IfOk result (λ o. o ≡
+        offered_of permission permission_bytes.now revocation revocation_bytes.now cursor) }
+    ensures state { IfErr result (λ e. e.cursor ≡ cursor) }
     ensures bound { windows_in result ≤ most_windows permission }
 {
     match permission {
@@ -56,6 +61,7 @@ pub fn offer(
 }
 
 // Makes an offer with a permission mask: the truck that `next_and_not` finds.
+#[tactic(auto, unfolding(crate::specs::Offer::offer_checks))]
 fn offer_next(
     permission: Bitmap,
     permission_bytes: &[u8],
@@ -63,8 +69,11 @@ fn offer_next(
     revocation_bytes: &[u8],
     cursor: usize,
 ) -> Result<Offering, RefusedOffer>
-    ensures answer { offer_answer result ≡
-        offer_of (Some permission) permission_bytes.now revocation revocation_bytes.now cursor }
+    ensures refused { offer_failure result ≡ first_failed
+        (offer_checks (Some permission) permission_bytes.now revocation revocation_bytes.now cursor) }
+    ensures offer { IfOk result (λ o. o ≡
+        offered_of (Some permission) permission_bytes.now revocation revocation_bytes.now cursor) }
+    ensures state { IfErr result (λ e. e.cursor ≡ cursor) }
     ensures bound { windows_in result ≤ most_windows (Some permission) }
 {
     let found = next_and_not(
@@ -87,13 +96,18 @@ fn offer_next(
 }
 
 // Makes an offer without a permission mask: none. A search over the revocation mask makes its checks; what it finds is not used.
+#[tactic(auto, unfolding(crate::specs::Offer::offered_of))]
 fn offer_none(
     permission_bytes: &[u8],
     revocation: Option<Bitmap>,
     revocation_bytes: &[u8],
     cursor: usize,
 ) -> Result<Offering, RefusedOffer>
-    ensures answer { offer_answer result ≡ offer_of None permission_bytes.now revocation revocation_bytes.now cursor }
+    ensures refused { offer_failure result ≡ first_failed
+        (offer_checks None permission_bytes.now revocation revocation_bytes.now cursor) }
+    ensures offer { IfOk result (λ o. o ≡
+        offered_of None permission_bytes.now revocation revocation_bytes.now cursor) }
+    ensures state { IfErr result (λ e. e.cursor ≡ cursor) }
     ensures bound { windows_in result ≤ most_windows None }
 {
     if let Some(m) = revocation {

@@ -22,5 +22,4 @@ pub mod ShortcutsUnseen
 pub mod SliceTruth
 pub mod SupersedingPlain
 pub mod TrueIdxPlain
-pub mod Uncounted
 pub mod WindowPlain

@@ -1,7 +1,7 @@
 -- The calls that append to a builder: their checks, and the flags that they append.
 --
--- Each call appends a list of flags if all its checks pass. Else the builder and the buffer are unchanged. The contracts and the step of a
--- history read the same two tables, `append_checks` and `append_flags`.
+-- Each call appends a list of flags if all its checks pass. Else the builder and the buffer are unchanged. A contract names the checks and
+-- the flags of its call; the exports and the step of a history have them from two tables, `append_checks` and `append_flags`.
 use Rattle.std.specs.Prelude.{ℕ, ◌+◌, ◌*◌, Bool, true, false, ◌&&◌, List, [], ◌∷◌, ◌++◌, leb, ltb, length, get_or, take}
 use Rattle.words.specs.Flags.{copies, window, word_flags}
 use Rattle.words.specs.Loops.{stretch}

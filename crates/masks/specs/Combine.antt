@@ -67,7 +67,7 @@ abbrev pub pair_each : Op → Bitmap → List ℕ → Bitmap → List ℕ → Li
 pair_each op a a_bytes b b_bytes = zip3 (op_of op) (mask_flags a a_bytes) (mask_flags b b_bytes) (mask_flags b b_bytes)
 
 unfoldable pub pair_flags : Op → Bitmap → List ℕ → Bitmap → List ℕ → List Bool
-pair_flags op a a_bytes b b_bytes = result_flags (pair_shortcut op a a_bytes b b_bytes) a.length (pair_each op a a_bytes b b_bytes)
+pair_flags op a a_bytes b b_bytes = pair_each op a a_bytes b b_bytes
 
 -- the record of the result of two masks
 unfoldable pub pair_mask : Op → Bitmap → List ℕ → Bitmap → List ℕ → Bitmap

@@ -18,3 +18,7 @@ frozen l = packed (frozen_size (length l)) l
 -- m written over the bytes starting at byte `at`: what does not fit is left out, and other bytes are unchanged
 unfoldable pub over_from : List ℕ → ℕ → List ℕ → List ℕ
 over_from bytes at m = take at bytes ++ over (drop at bytes) m
+
+-- an output with the frozen bytes of some flags written from its first byte on
+abbrev pub with_frozen : List ℕ → List Bool → List ℕ
+with_frozen out flags = over out (frozen flags)

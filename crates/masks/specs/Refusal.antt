@@ -1,6 +1,7 @@
 -- The number and the text of each refusal, as in the reference.
 use Rattle.std.specs.Prelude.{ℕ, List, ◌++◌, Result, Ok, Err, codes, decimal}
 use Rattle.masks.specs.declared.refusal.Refusal.{Refusal}
+use Rattle.masks.specs.declared.refusal.Refused.{Refused}
 use Rattle.masks.specs.declared.refusal.Refusal.TheVariants.{OverLimit, PastBytes, FalseCount, UnequalLists, ImpossibleBuilder}
 use Rattle.masks.specs.declared.refusal.Refusal.TheVariants.{UnequalLengths, Outside, WrongRecount, WrongAddress, ShortOutput}
 
@@ -16,11 +17,15 @@ number WrongRecount = 7
 number WrongAddress = 8
 number ShortOutput = 9
 
--- the number of the refusal of some checks, 0 if they pass
-abbrev pub failure_of : Result (Unit {0}) Refusal → ℕ
-failure_of (Ok u) = 0
+-- the number with which a call refuses, 0 if it does not
+abbrev pub failure_of : {A : Type 0} → Result A Refusal → ℕ
+failure_of (Ok a) = 0
 failure_of (Err r) = number r
 
+-- the same of a call that returns the record passed to it when it refuses
+abbrev pub failure_back : {S A : Type 0} → Result A (Refused S) → ℕ
+failure_back (Ok a) = 0
+failure_back (Err e) = number e.refusal
 -- the words for a failed check
 abbrev pub reason : Refusal → List ℕ
 reason OverLimit = codes "a start or a length is above 4,194,304"

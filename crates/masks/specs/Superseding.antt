@@ -49,12 +49,16 @@ within from to bytes = take (to - from) (drop from bytes)
 abbrev pub part_bytes : Part → List ℕ → List ℕ → List ℕ
 part_bytes p a_bytes b_bytes = within p.from p.to (cond p.second b_bytes a_bytes)
 
+-- where a part lies, by where the two slices do: in the slice that it names, from its first byte
+abbrev pub part_place : Part → ℕ × ℕ → ℕ × ℕ → ℕ × ℕ
+part_place p a b = ((cond p.second b a).0, (cond p.second b a).1 + p.from)
+
 -- the bytes that `superseding_bytes` returns: after a refusal an empty part of the first slice
 abbrev pub bytes_of : Answer (Unit {0}) Part → List ℕ → List ℕ → List ℕ
 bytes_of (given p) a_bytes b_bytes = part_bytes p a_bytes b_bytes
 bytes_of (refused k s) a_bytes b_bytes = within 0 0 a_bytes
 
--- where these bytes lie, by where the two slices do: a part begins at its first byte, and after a refusal where the first slice does
+-- where these bytes lie, by where the two slices do: after a refusal where the first slice does
 abbrev pub place_of : Answer (Unit {0}) Part → ℕ × ℕ → ℕ × ℕ → ℕ × ℕ
-place_of (given p) a b = ((cond p.second b a).0, (cond p.second b a).1 + p.from)
+place_of (given p) a b = part_place p a b
 place_of (refused k s) a b = a

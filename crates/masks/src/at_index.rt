@@ -1,10 +1,9 @@
 // The combination `and_not` at one index: two flags are read, however long the masks are. Either mask may be absent.
-ghost use Rattle.std.specs.Prelude.{◌≡◌, [], ◌∷◌, ◌++◌};
-ghost use Rattle.masks.specs.Answer.{answer};
+ghost use Rattle.std.specs.Prelude.{◌≡◌, [], ◌∷◌, ◌++◌, IfOk};
 ghost use Rattle.masks.specs.Refusal.{failure_of};
 ghost use Rattle.masks.specs.Checks.{first_failed};
 ghost use Rattle.masks.specs.Mask.{mask_checks};
-ghost use Rattle.masks.specs.AtIndex.{and_not_at_checks, and_not_at_of, flag_or};
+ghost use Rattle.masks.specs.AtIndex.{and_not_at_checks, and_not_flag, flag_or};
 ghost use Rattle.masks.specs.AtIndex.{index_checks, index_inside, length_checks};
 ghost use Rattle.masks.specs.Workers.{Indexed};
 
@@ -25,7 +24,10 @@ pub fn and_not_at(
     second_bytes: &[u8],
     index: usize,
 ) -> Result<bool, Refusal>
-    ensures { answer result ≡ and_not_at_of first first_bytes.now second second_bytes.now index }
+    ensures refused { failure_of result ≡ first_failed
+        (and_not_at_checks first first_bytes.now second second_bytes.now index) }
+    ensures flag { IfOk result (λ x. x ≡
+        and_not_flag first first_bytes.now second second_bytes.now index) }
 {
     check_and_not_at(first, first_bytes, second, second_bytes, index)?;
     let own = flag_or(true, first, first_bytes, index);
@@ -53,7 +55,8 @@ fn check_and_not_at(
     second_bytes: &[u8],
     index: usize,
 ) -> Result<(), Refusal>
-    ensures { failure_of result ≡ first_failed (and_not_at_checks first first_bytes.now second second_bytes.now index) }
+    ensures { failure_of result ≡ first_failed
+        (and_not_at_checks first first_bytes.now second second_bytes.now index) }
 {
     let lengths = check_lengths(first, second);
     let other = check_index(second, second_bytes, index);
@@ -75,7 +78,8 @@ fn check_index(mask: Option<Bitmap>, bytes: &[u8], index: usize) -> Result<(), R
 
 // Makes the checks of a mask, and check 6: the index is below its length.
 fn check_inside(mask: Bitmap, bytes: &[u8], index: usize) -> Result<(), Refusal>
-    ensures { failure_of result ≡ first_failed (mask_checks mask bytes.now ++ (index_inside index mask ∷ [])) }
+    ensures { failure_of result ≡ first_failed
+        (mask_checks mask bytes.now ++ (index_inside index mask ∷ [])) }
 {
     check_mask(mask, bytes)?;
     check(Refusal::Outside, index < mask.length)

@@ -1,12 +1,12 @@
 // The mask: its record, and the calls that make one, cut it and count it. As in the reference, a mask and its bytes are two parameters;
 // they become a `CheckedSpan` once the mask's checks have passed.
-ghost use Rattle.std.specs.Prelude.{◌≡◌, ◌+◌, ◌≤◌, length as list_length};
+ghost use Rattle.std.specs.Prelude.{◌≡◌, ◌+◌, ◌≤◌, length as list_length, IfOk, IfErr};
 ghost use Rattle.masks.specs.Answer.{answer, answer_back};
-ghost use Rattle.masks.specs.Refusal.{failure_of};
-ghost use Rattle.masks.specs.Checks.{first_failed};
+ghost use Rattle.masks.specs.Refusal.{failure_of, failure_back};
+ghost use Rattle.masks.specs.Checks.{first_failed, span_checks};
 ghost use Rattle.masks.specs.Utils.{zeros};
 ghost use Rattle.masks.specs.Mask.{empty_mask, kept_count, piece_checks, recounts as recounts_of};
-ghost use Rattle.masks.specs.Mask.{new_zeroed_bytes, new_zeroed_of, slice_of, try_new_of, uncounted, unset_bits_of};
+ghost use Rattle.masks.specs.Mask.{new_zeroed_bytes, new_zeroed_of, slice_checks, sliced_mask, uncounted, unset_bits_of};
 ghost use Rattle.masks.specs.Mask.{cut_mask, mask_of, mask_under, with_count};
 ghost use Rattle.masks.specs.Workers.{cut_of, outside, recounted_of, PieceAllowed};
 
@@ -59,7 +59,8 @@ impl Bitmap {
     // Returns the mask of `length` flags of `bytes` starting at `start`. Its zeros are not counted; the count is known only for length 0.
     // Refuses with 1 if `start` or `length` is above the flag limit, with 2 if the flags end past the bytes.
     pub fn try_new(bytes: &[u8], start: usize, length: usize) -> Result<Bitmap, Refusal>
-        ensures { answer result ≡ try_new_of bytes.now start length }
+        ensures refused { failure_of result ≡ first_failed (span_checks start length (list_length bytes.now)) }
+        ensures mask { IfOk result (λ m. m ≡ mask_of start length (uncounted length)) }
     {
         check_span(start, length, bytes.len())?;
         let unset = not_counted(length);
@@ -106,7 +107,9 @@ impl Bitmap {
         offset: usize,
         length: usize,
     ) -> Result<Bitmap, Refused<Bitmap>>
-        ensures { answer_back result ≡ slice_of self bytes.now offset length }
+        ensures refused { failure_back result ≡ first_failed (slice_checks self bytes.now offset length) }
+        ensures mask { IfOk result (λ m. m ≡ sliced_mask self bytes.now offset length) }
+        ensures state { IfErr result (λ e. e.state ≡ self) }
     {
         check_piece(self, bytes, offset, length).map_err(|r| r.with(self))?;
         let start = self.start + offset;

@@ -1,14 +1,14 @@
 // The combinations: each writes its flags as frozen bytes to the start of a lent output. Masks start at any bit. Each refuses with 5 if the
 // lengths of its masks differ, with 9 if the output is too short; nothing is then written. The crate `words` writes whole words of flags,
 // which are the frozen bytes of the contracts by the law `frozen-written` of `CombineLaws`.
-ghost use Rattle.std.specs.Prelude.{◌≡◌, [], ◌∷◌};
+ghost use Rattle.std.specs.Prelude.{◌≡◌, [], ◌∷◌, length, IfOk, OnOk, OnErr};
 ghost use Rattle.words.specs.declared.ops.Op.TheVariants.{And, AndNot, Or, OrNot, Xor};
-ghost use Rattle.masks.specs.Answer.{answer};
 ghost use Rattle.masks.specs.Refusal.{failure_of};
 ghost use Rattle.masks.specs.Checks.{first_failed};
-ghost use Rattle.masks.specs.Combine.{pair_bytes, pair_checks, pair_of, not_bytes, not_checks, not_of, select_bytes, select_checks};
-ghost use Rattle.masks.specs.Combine.{largest_serial, select_constant_bytes, select_constant_of, select_of};
-ghost use Rattle.masks.specs.Mask.{mask_under};
+ghost use Rattle.masks.specs.Frozen.{with_frozen};
+ghost use Rattle.masks.specs.Combine.{pair_checks, pair_flags, pair_mask, not_checks, not_flags, select_checks, select_flags};
+ghost use Rattle.masks.specs.Combine.{largest_serial, result_mask, select_constant_flags};
+ghost use Rattle.masks.specs.Mask.{mask_under, uncounted};
 
 use crate::bitmap::{Bitmap, mask_under, not_counted};
 use crate::checks::{check_mask, check_output};
@@ -46,7 +46,8 @@ fn check_pair(
     rhs_bytes: &[u8],
     size: usize,
 ) -> Result<(), Refusal>
-    ensures { failure_of result ≡ first_failed (pair_checks lhs lhs_bytes.now rhs rhs_bytes.now size) }
+    ensures { failure_of result ≡ first_failed
+        (pair_checks lhs lhs_bytes.now rhs rhs_bytes.now size) }
 {
     let room = check_output(lhs.length, size);
     let equal = check(Refusal::UnequalLengths, lhs.length == rhs.length);
@@ -66,8 +67,12 @@ fn combine_two(
     rhs_bytes: &[u8],
     out: &mut [u8],
 ) -> Result<Bitmap, Refusal>
-    ensures answer { answer result ≡ pair_of op lhs lhs_bytes.now rhs rhs_bytes.now out.old }
-    ensures bytes { out.new ≡ pair_bytes op lhs lhs_bytes.now rhs rhs_bytes.now out.old }
+    ensures refused { failure_of result ≡ first_failed
+        (pair_checks lhs lhs_bytes.now rhs rhs_bytes.now (length out.old)) }
+    ensures mask { IfOk result (λ m. m ≡ pair_mask op lhs lhs_bytes.now rhs rhs_bytes.now) }
+    ensures bytes { OnOk result (out.new ≡ with_frozen out.old
+        (pair_flags op lhs lhs_bytes.now rhs rhs_bytes.now)) }
+    ensures unchanged { OnErr result (out.new ≡ out.old) }
 {
     check_pair(lhs, lhs_bytes, rhs, rhs_bytes, out.len())?;
     let a = lhs.flags(lhs_bytes);
@@ -92,8 +97,12 @@ pub fn and(
     rhs_bytes: &[u8],
     out: &mut [u8],
 ) -> Result<Bitmap, Refusal>
-    ensures answer { answer result ≡ pair_of And lhs lhs_bytes.now rhs rhs_bytes.now out.old }
-    ensures bytes { out.new ≡ pair_bytes And lhs lhs_bytes.now rhs rhs_bytes.now out.old }
+    ensures refused { failure_of result ≡ first_failed
+        (pair_checks lhs lhs_bytes.now rhs rhs_bytes.now (length out.old)) }
+    ensures mask { IfOk result (λ m. m ≡ pair_mask And lhs lhs_bytes.now rhs rhs_bytes.now) }
+    ensures bytes { OnOk result (out.new ≡ with_frozen out.old
+        (pair_flags And lhs lhs_bytes.now rhs rhs_bytes.now)) }
+    ensures unchanged { OnErr result (out.new ≡ out.old) }
 {
     combine_two(Op::And, lhs, lhs_bytes, rhs, rhs_bytes, out)
 }
@@ -107,8 +116,12 @@ pub fn and_not(
     rhs_bytes: &[u8],
     out: &mut [u8],
 ) -> Result<Bitmap, Refusal>
-    ensures answer { answer result ≡ pair_of AndNot lhs lhs_bytes.now rhs rhs_bytes.now out.old }
-    ensures bytes { out.new ≡ pair_bytes AndNot lhs lhs_bytes.now rhs rhs_bytes.now out.old }
+    ensures refused { failure_of result ≡ first_failed
+        (pair_checks lhs lhs_bytes.now rhs rhs_bytes.now (length out.old)) }
+    ensures mask { IfOk result (λ m. m ≡ pair_mask AndNot lhs lhs_bytes.now rhs rhs_bytes.now) }
+    ensures bytes { OnOk result (out.new ≡ with_frozen out.old
+        (pair_flags AndNot lhs lhs_bytes.now rhs rhs_bytes.now)) }
+    ensures unchanged { OnErr result (out.new ≡ out.old) }
 {
     combine_two(Op::AndNot, lhs, lhs_bytes, rhs, rhs_bytes, out)
 }
@@ -121,8 +134,12 @@ pub fn or(
     rhs_bytes: &[u8],
     out: &mut [u8],
 ) -> Result<Bitmap, Refusal>
-    ensures answer { answer result ≡ pair_of Or lhs lhs_bytes.now rhs rhs_bytes.now out.old }
-    ensures bytes { out.new ≡ pair_bytes Or lhs lhs_bytes.now rhs rhs_bytes.now out.old }
+    ensures refused { failure_of result ≡ first_failed
+        (pair_checks lhs lhs_bytes.now rhs rhs_bytes.now (length out.old)) }
+    ensures mask { IfOk result (λ m. m ≡ pair_mask Or lhs lhs_bytes.now rhs rhs_bytes.now) }
+    ensures bytes { OnOk result (out.new ≡ with_frozen out.old
+        (pair_flags Or lhs lhs_bytes.now rhs rhs_bytes.now)) }
+    ensures unchanged { OnErr result (out.new ≡ out.old) }
 {
     combine_two(Op::Or, lhs, lhs_bytes, rhs, rhs_bytes, out)
 }
@@ -136,8 +153,12 @@ pub fn or_not(
     rhs_bytes: &[u8],
     out: &mut [u8],
 ) -> Result<Bitmap, Refusal>
-    ensures answer { answer result ≡ pair_of OrNot lhs lhs_bytes.now rhs rhs_bytes.now out.old }
-    ensures bytes { out.new ≡ pair_bytes OrNot lhs lhs_bytes.now rhs rhs_bytes.now out.old }
+    ensures refused { failure_of result ≡ first_failed
+        (pair_checks lhs lhs_bytes.now rhs rhs_bytes.now (length out.old)) }
+    ensures mask { IfOk result (λ m. m ≡ pair_mask OrNot lhs lhs_bytes.now rhs rhs_bytes.now) }
+    ensures bytes { OnOk result (out.new ≡ with_frozen out.old
+        (pair_flags OrNot lhs lhs_bytes.now rhs rhs_bytes.now)) }
+    ensures unchanged { OnErr result (out.new ≡ out.old) }
 {
     combine_two(Op::OrNot, lhs, lhs_bytes, rhs, rhs_bytes, out)
 }
@@ -150,8 +171,12 @@ pub fn xor(
     rhs_bytes: &[u8],
     out: &mut [u8],
 ) -> Result<Bitmap, Refusal>
-    ensures answer { answer result ≡ pair_of Xor lhs lhs_bytes.now rhs rhs_bytes.now out.old }
-    ensures bytes { out.new ≡ pair_bytes Xor lhs lhs_bytes.now rhs rhs_bytes.now out.old }
+    ensures refused { failure_of result ≡ first_failed
+        (pair_checks lhs lhs_bytes.now rhs rhs_bytes.now (length out.old)) }
+    ensures mask { IfOk result (λ m. m ≡ pair_mask Xor lhs lhs_bytes.now rhs rhs_bytes.now) }
+    ensures bytes { OnOk result (out.new ≡ with_frozen out.old
+        (pair_flags Xor lhs lhs_bytes.now rhs rhs_bytes.now)) }
+    ensures unchanged { OnErr result (out.new ≡ out.old) }
 {
     combine_two(Op::Xor, lhs, lhs_bytes, rhs, rhs_bytes, out)
 }
@@ -166,8 +191,12 @@ fn check_not(mask: Bitmap, bytes: &[u8], size: usize) -> Result<(), Refusal>
 
 // Writes the inverted flags of a mask as frozen bytes to the start of `out`, and returns the mask of them.
 pub fn not(mask: Bitmap, bytes: &[u8], out: &mut [u8]) -> Result<Bitmap, Refusal>
-    ensures answer { answer result ≡ not_of mask bytes.now out.old }
-    ensures bytes { out.new ≡ not_bytes mask bytes.now out.old }
+    ensures refused { failure_of result ≡ first_failed
+        (not_checks mask bytes.now (length out.old)) }
+    ensures mask { IfOk result (λ m. m ≡
+        result_mask (mask ∷ []) mask.length (uncounted mask.length)) }
+    ensures bytes { OnOk result (out.new ≡ with_frozen out.old (not_flags mask bytes.now)) }
+    ensures unchanged { OnErr result (out.new ≡ out.old) }
 {
     check_not(mask, bytes, out.len())?;
     let n = mask.length;
@@ -187,8 +216,8 @@ fn check_select(
     falsy_bytes: &[u8],
     size: usize,
 ) -> Result<(), Refusal>
-    ensures { failure_of result ≡ first_failed
-        (select_checks selector selector_bytes.now truthy truthy_bytes.now falsy falsy_bytes.now size) }
+    ensures { failure_of result ≡ first_failed (select_checks
+        selector selector_bytes.now truthy truthy_bytes.now falsy falsy_bytes.now size) }
 {
     let room = check_output(selector.length, size);
     let third = check(Refusal::UnequalLengths, selector.length == falsy.length);
@@ -212,8 +241,14 @@ pub fn select(
     falsy_bytes: &[u8],
     out: &mut [u8],
 ) -> Result<Bitmap, Refusal>
-    ensures answer { answer result ≡ select_of selector selector_bytes.now truthy truthy_bytes.now falsy falsy_bytes.now out.old }
-    ensures bytes { out.new ≡ select_bytes selector selector_bytes.now truthy truthy_bytes.now falsy falsy_bytes.now out.old }
+    ensures refused { failure_of result ≡ first_failed (select_checks
+        selector selector_bytes.now truthy truthy_bytes.now
+        falsy falsy_bytes.now (length out.old)) }
+    ensures mask { IfOk result (λ m. m ≡
+        result_mask (selector ∷ truthy ∷ falsy ∷ []) selector.length (uncounted selector.length)) }
+    ensures bytes { OnOk result (out.new ≡ with_frozen out.old (select_flags
+        selector selector_bytes.now truthy truthy_bytes.now falsy falsy_bytes.now)) }
+    ensures unchanged { OnErr result (out.new ≡ out.old) }
 {
     check_select(
         selector,
@@ -244,8 +279,13 @@ pub fn select_constant(
     flag: bool,
     out: &mut [u8],
 ) -> Result<Bitmap, Refusal>
-    ensures answer { answer result ≡ select_constant_of selector selector_bytes.now truthy truthy_bytes.now flag out.old }
-    ensures bytes { out.new ≡ select_constant_bytes selector selector_bytes.now truthy truthy_bytes.now flag out.old }
+    ensures refused { failure_of result ≡ first_failed
+        (pair_checks selector selector_bytes.now truthy truthy_bytes.now (length out.old)) }
+    ensures mask { IfOk result (λ m. m ≡
+        result_mask (selector ∷ truthy ∷ []) selector.length (uncounted selector.length)) }
+    ensures bytes { OnOk result (out.new ≡ with_frozen out.old (select_constant_flags
+        selector selector_bytes.now truthy truthy_bytes.now flag)) }
+    ensures unchanged { OnErr result (out.new ≡ out.old) }
 {
     check_pair(selector, selector_bytes, truthy, truthy_bytes, out.len())?;
     let n = selector.length;

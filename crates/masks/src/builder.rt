@@ -1,12 +1,12 @@
 // The builder: flags are appended to a lent buffer. A word is written when it is full. Each append refuses with 1 if the new length is
 // above the flag limit, with 4 if no calls leave such a builder, with 9 if the buffer is too short for the new length.
-ghost use Rattle.std.specs.Prelude.{◌≡◌, List, ℕ, ◌≤◌, ◌-◌, ◌%◌, length, take};
+ghost use Rattle.std.specs.Prelude.{◌≡◌, List, ℕ, ◌≤◌, ◌-◌, ◌%◌, length, take, [], ◌∷◌, IfOk, IfErr, OnOk, OnErr};
 ghost use Rattle.words.specs.Flags.{word_flags};
-ghost use Rattle.masks.specs.Refusal.{failure_of};
-ghost use Rattle.masks.specs.Answer.{answer_back};
-ghost use Rattle.masks.specs.Appends.{append_answer, append_bytes, change_answer, push_flag, push_word};
+ghost use Rattle.masks.specs.Checks.{first_failed};
+ghost use Rattle.masks.specs.Refusal.{failure_of, failure_back};
+ghost use Rattle.masks.specs.Appends.{grow_checks, word_checks};
 ghost use Rattle.masks.specs.Builder.{builder_under, new_builder, rebuilt, filling, appended};
-ghost use Rattle.masks.specs.Freeze.{total_ones, frozen_mask, freeze_bytes, freeze_of, frozen_over, into_opt_validity_of};
+ghost use Rattle.masks.specs.Freeze.{total_ones, frozen_mask, freeze_checks, frozen_over, validity_of};
 ghost use Rattle.masks.specs.Workers.{Inside, Room};
 
 use crate::bitmap::{Bitmap, mask_under};
@@ -35,8 +35,11 @@ impl BitmapBuilder {
 
     // Appends one flag.
     pub fn push(self, buf: &mut [u8], flag: bool) -> Result<BitmapBuilder, Refused<BitmapBuilder>>
-        ensures answer { answer_back result ≡ append_answer (push_flag flag) self buf.old }
-        ensures bytes { buf.new ≡ append_bytes (push_flag flag) self buf.old }
+        ensures refused { failure_back result ≡ first_failed (grow_checks self 1 (length buf.old)) }
+        ensures appended { IfOk result (λ b. filling b buf.new ≡
+            appended (filling self buf.old) (flag ∷ [])) }
+        ensures unchanged { OnErr result (buf.new ≡ buf.old) }
+        ensures state { IfErr result (λ e. e.state ≡ self) }
     {
         check_builder(self, 1, buf.len()).map_err(|r| r.with(self))?;
         Ok(push_flags(self, buf, constant_word(flag), 1))
@@ -45,8 +48,12 @@ impl BitmapBuilder {
     // Appends one flag and changes the caller's own record; if it refuses, the record is unchanged. A named form of the reference: length,
     // word and ones are taken apart, pushed by value and stored back; the serial stays.
     pub fn push_mut(&mut self, buf: &mut [u8], flag: bool) -> Result<(), Refusal>
-        ensures answer { change_answer (failure_of result) self.new ≡ append_answer (push_flag flag) self.old buf.old }
-        ensures bytes { buf.new ≡ append_bytes (push_flag flag) self.old buf.old }
+        ensures refused { failure_of result ≡ first_failed
+            (grow_checks self.old 1 (length buf.old)) }
+        ensures appended { OnOk result (filling self.new buf.new ≡
+            appended (filling self.old buf.old) (flag ∷ [])) }
+        ensures unchanged { OnErr result (buf.new ≡ buf.old) }
+        ensures state { OnErr result (self.new ≡ self.old) }
     {
         let own = builder_under(self.serial, self.length, self.word, self.ones);
         match own.push(buf, flag) {
@@ -67,8 +74,12 @@ impl BitmapBuilder {
         word: u64,
         k: usize,
     ) -> Result<BitmapBuilder, Refused<BitmapBuilder>>
-        ensures answer { answer_back result ≡ append_answer (push_word word k) self buf.old }
-        ensures bytes { buf.new ≡ append_bytes (push_word word k) self buf.old }
+        ensures refused { failure_back result ≡ first_failed
+            (word_checks self (length buf.old) word k) }
+        ensures appended { IfOk result (λ b. filling b buf.new ≡
+            appended (filling self buf.old) (take k (word_flags word))) }
+        ensures unchanged { OnErr result (buf.new ≡ buf.old) }
+        ensures state { IfErr result (λ e. e.state ≡ self) }
     {
         earlier(check_builder(self, k, buf.len()), check_word(word, k)).map_err(|r| r.with(self))?;
         Ok(push_flags(self, buf, word, k))
@@ -76,8 +87,11 @@ impl BitmapBuilder {
 
     // Writes the word in progress, and returns the mask of all flags.
     pub fn freeze(self, buf: &mut [u8]) -> Result<Bitmap, Refused<BitmapBuilder>>
-        ensures answer { answer_back result ≡ freeze_of self buf.old }
-        ensures bytes { buf.new ≡ freeze_bytes self buf.old }
+        ensures refused { failure_back result ≡ first_failed (freeze_checks self (length buf.old)) }
+        ensures mask { IfOk result (λ m. m ≡ frozen_mask self) }
+        ensures bytes { OnOk result (buf.new ≡ frozen_over self buf.old) }
+        ensures unchanged { OnErr result (buf.new ≡ buf.old) }
+        ensures state { IfErr result (λ e. e.state ≡ self) }
     {
         check_builder(self, 0, buf.len()).map_err(|r| r.with(self))?;
         finish(self, buf);
@@ -87,8 +101,11 @@ impl BitmapBuilder {
     // Writes the word in progress, and returns the mask of all flags, or none if all are set: Arrow's none, which means all ones. In
     // dispatch no permission mask means no truck, so there a builder is ended by `freeze`.
     pub fn into_opt_validity(self, buf: &mut [u8]) -> Result<Option<Bitmap>, Refused<BitmapBuilder>>
-        ensures answer { answer_back result ≡ into_opt_validity_of self buf.old }
-        ensures bytes { buf.new ≡ freeze_bytes self buf.old }
+        ensures refused { failure_back result ≡ first_failed (freeze_checks self (length buf.old)) }
+        ensures mask { IfOk result (λ m. m ≡ validity_of self) }
+        ensures bytes { OnOk result (buf.new ≡ frozen_over self buf.old) }
+        ensures unchanged { OnErr result (buf.new ≡ buf.old) }
+        ensures state { IfErr result (λ e. e.state ≡ self) }
     {
         check_builder(self, 0, buf.len()).map_err(|r| r.with(self))?;
         finish(self, buf);
@@ -126,7 +143,8 @@ pub(crate) fn grown(b: BitmapBuilder, length: usize, word: u64, ones: usize) -> 
 // Appends the k flags of a word, for which the word in progress has room: writes no byte, and no flag has to be cut off.
 pub(crate) fn push_inside(b: BitmapBuilder, flags: u64, k: usize) -> BitmapBuilder
     requires { Inside b flags k }
-    ensures { (bytes : List ℕ) → filling result bytes ≡ appended (filling b bytes) (take k (word_flags flags)) }
+    ensures { (bytes : List ℕ) → filling result bytes ≡
+        appended (filling b bytes) (take k (word_flags flags)) }
 {
     let low = or_word(b.word, shl_or_zero(flags, b.length % 64));
     let longer = b.length + k;
@@ -152,7 +170,8 @@ pub(crate) fn push_flags(b: BitmapBuilder, buf: &mut [u8], word: u64, k: usize) 
 // Completes the word in progress with the first flags of a word, and writes it.
 pub(crate) fn close_word(b: BitmapBuilder, buf: &mut [u8], word: u64) -> BitmapBuilder
     requires { Room b (64 - b.length % 64) (length buf.old) }
-    ensures { filling result buf.new ≡ appended (filling b buf.old) (take (64 - b.length % 64) (word_flags word)) }
+    ensures { filling result buf.new ≡
+        appended (filling b buf.old) (take (64 - b.length % 64) (word_flags word)) }
 {
     let fill = b.length % 64;
     let low = or_word(b.word, shl_or_zero(word, fill));

@@ -1,8 +1,11 @@
 // The calls that compare or count the flags of one mask or of two: equality, edges and common ones.
-ghost use Rattle.std.specs.Prelude.{◌≡◌};
+ghost use Rattle.std.specs.Prelude.{◌≡◌, IfOk};
 ghost use Rattle.words.specs.Loops.{stretch};
 ghost use Rattle.masks.specs.Answer.{answer};
-ghost use Rattle.masks.specs.Compare.{common_of, edges, edges_of, eq_of};
+ghost use Rattle.masks.specs.Checks.{first_failed};
+ghost use Rattle.masks.specs.Compare.{common_of, edges, eq_of};
+ghost use Rattle.masks.specs.Mask.{mask_checks, mask_flags};
+ghost use Rattle.masks.specs.Refusal.{failure_of};
 
 use crate::bitmap::Bitmap;
 use crate::checks::check_mask;
@@ -47,7 +50,8 @@ impl CheckedSpan<'_> {
 
 // Counts the flags that differ from the flag after them.
 pub fn num_edges(mask: Bitmap, bytes: &[u8]) -> Result<usize, Refusal>
-    ensures { answer result ≡ edges_of mask bytes.now }
+    ensures refused { failure_of result ≡ first_failed (mask_checks mask bytes.now) }
+    ensures edges { IfOk result (λ n. n ≡ edges (mask_flags mask bytes.now)) }
 {
     check_mask(mask, bytes)?;
     let span = CheckedSpan {

@@ -1,12 +1,14 @@
 // Long extensions of a builder: up to a full word, then whole words written straight to the buffer, then the rest. The workers require
 // `Room`, a fact about the builder, the number of flags to append and the buffer. It is no field of a struct, since that number is another
 // one at each call; a builder and its buffer stay two parameters, as the reference lends them.
-ghost use Rattle.std.specs.Prelude.{true, ◌&&◌, ◌≡◌, ◌+◌, ◌*◌, ◌%◌, ◌≤◌, ◌<◌, leb, ltb, length};
-ghost use Rattle.words.specs.Flags.{copies};
+ghost use Rattle.std.specs.Prelude.{true, ◌&&◌, ◌≡◌, ◌+◌, ◌*◌, ◌%◌, ◌≤◌, ◌<◌, leb, ltb, length, IfOk, IfErr, OnErr};
+ghost use Rattle.words.specs.Flags.{copies, window};
 ghost use Rattle.words.specs.Loops.{stretch};
-ghost use Rattle.masks.specs.Answer.{answer_back};
-ghost use Rattle.masks.specs.Appends.{append_answer, append_bytes, extend_constant, extend_slice, extend_bitmap};
+ghost use Rattle.masks.specs.Appends.{constant_checks, span_grow_checks, subslice_checks};
 ghost use Rattle.masks.specs.Builder.{filling, appended};
+ghost use Rattle.masks.specs.Checks.{first_failed};
+ghost use Rattle.masks.specs.Mask.{mask_flags};
+ghost use Rattle.masks.specs.Refusal.{failure_back};
 ghost use Rattle.masks.specs.Workers.{Room};
 
 use crate::bitmap::Bitmap;
@@ -29,8 +31,12 @@ impl BitmapBuilder {
         n: usize,
         flag: bool,
     ) -> Result<BitmapBuilder, Refused<BitmapBuilder>>
-        ensures answer { answer_back result ≡ append_answer (extend_constant n flag) self buf.old }
-        ensures bytes { buf.new ≡ append_bytes (extend_constant n flag) self buf.old }
+        ensures refused { failure_back result ≡ first_failed
+            (constant_checks self (length buf.old) n) }
+        ensures appended { IfOk result (λ b. filling b buf.new ≡
+            appended (filling self buf.old) (copies n flag)) }
+        ensures unchanged { OnErr result (buf.new ≡ buf.old) }
+        ensures state { IfErr result (λ e. e.state ≡ self) }
     {
         if fast_append_ok(self, n, buf.len()) {
             return Ok(push_inside(self, constant_flags(flag, n), n));
@@ -40,6 +46,7 @@ impl BitmapBuilder {
     }
 
     // Appends the n flags of `bytes` starting at `start`. Refuses with 2 if they end past the bytes.
+    #[tactic(auto, unfolding(crate::specs::Appends::span_grow_checks))]
     pub fn extend_from_slice(
         self,
         buf: &mut [u8],
@@ -47,8 +54,12 @@ impl BitmapBuilder {
         start: usize,
         n: usize,
     ) -> Result<BitmapBuilder, Refused<BitmapBuilder>>
-        ensures answer { answer_back result ≡ append_answer (extend_slice bytes.now start n) self buf.old }
-        ensures bytes { buf.new ≡ append_bytes (extend_slice bytes.now start n) self buf.old }
+        ensures refused { failure_back result ≡ first_failed
+            (span_grow_checks self buf.old bytes.now start n n) }
+        ensures appended { IfOk result (λ b. filling b buf.new ≡
+            appended (filling self buf.old) (stretch bytes.now start n)) }
+        ensures unchanged { OnErr result (buf.new ≡ buf.old) }
+        ensures state { IfErr result (λ e. e.state ≡ self) }
     {
         check_span_grow(start, n, bytes.len(), self, buf.len()).map_err(|r| r.with(self))?;
         if one_load_fits(self, n) {
@@ -71,8 +82,12 @@ impl BitmapBuilder {
         start: usize,
         n: usize,
     ) -> Result<BitmapBuilder, Refused<BitmapBuilder>>
-        ensures answer { answer_back result ≡ append_answer (extend_bitmap mask bytes.now start n) self buf.old }
-        ensures bytes { buf.new ≡ append_bytes (extend_bitmap mask bytes.now start n) self buf.old }
+        ensures refused { failure_back result ≡ first_failed
+            (subslice_checks self buf.old mask bytes.now start n) }
+        ensures appended { IfOk result (λ b. filling b buf.new ≡
+            appended (filling self buf.old) (window (mask_flags mask bytes.now) start n)) }
+        ensures unchanged { OnErr result (buf.new ≡ buf.old) }
+        ensures state { IfErr result (λ e. e.state ≡ self) }
     {
         earlier(
             check_mask(mask, bytes),
@@ -183,7 +198,8 @@ fn copy_words(
     whole: usize,
 ) -> BitmapBuilder
     requires { (b.length % 64 ≡ 0) × Room b (64 * whole) (length buf.old) }
-    ensures { filling result buf.new ≡ appended (filling b buf.old) (stretch bytes.now start (64 * whole)) }
+    ensures { filling result buf.new ≡
+        appended (filling b buf.old) (stretch bytes.now start (64 * whole)) }
 {
     let n = 64 * whole;
     let longer = b.length + n;

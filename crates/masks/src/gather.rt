@@ -1,10 +1,11 @@
 // Flags of a span gathered by indices of 32 bits, a word at a time.
-ghost use Rattle.std.specs.Prelude.{◌≡◌, false, ◌≤◌, length, take, get_or};
+ghost use Rattle.std.specs.Prelude.{◌≡◌, false, ◌≤◌, length, take, get_or, IfOk, IfErr, OnErr};
 ghost use Rattle.words.specs.Flags.{word_flags};
 ghost use Rattle.words.specs.Loops.{stretch};
-ghost use Rattle.masks.specs.Answer.{answer_back};
-ghost use Rattle.masks.specs.Appends.{append_answer, append_bytes, extend_gather, extend_opt_gather, gathered, all_below};
+ghost use Rattle.masks.specs.Appends.{all_below, gather_checks, gathered, span_grow_checks};
 ghost use Rattle.masks.specs.Builder.{filling, appended};
+ghost use Rattle.masks.specs.Checks.{first_failed};
+ghost use Rattle.masks.specs.Refusal.{failure_back};
 ghost use Rattle.masks.specs.Workers.{Room};
 
 use crate::builder::{BitmapBuilder, push_flags};
@@ -15,8 +16,8 @@ use words::word::{concat_low, constant_word, flag_at};
 
 impl BitmapBuilder {
     // Appends the flag at each index; refuses with 6 if an index is not below the length of the span. This and
-    // `opt_gather_extend_from_slice` are the Rust's names over `append_gathered`. They differ in the check of the indices and in the
-    // definition that the contract names, so one function for both would take a flag and promise by cases.
+    // `opt_gather_extend_from_slice` are the Rust's names over `append_gathered`. They differ in the check of the indices, so one function
+    // for both would take a flag and promise by cases.
     pub fn gather_extend_from_slice(
         self,
         buf: &mut [u8],
@@ -25,8 +26,12 @@ impl BitmapBuilder {
         n: usize,
         idxs: &[u32],
     ) -> Result<BitmapBuilder, Refused<BitmapBuilder>>
-        ensures answer { answer_back result ≡ append_answer (extend_gather bytes.now start n idxs.now) self buf.old }
-        ensures bytes { buf.new ≡ append_bytes (extend_gather bytes.now start n idxs.now) self buf.old }
+        ensures refused { failure_back result ≡ first_failed
+            (gather_checks self buf.old bytes.now start n idxs.now) }
+        ensures appended { IfOk result (λ b. filling b buf.new ≡
+            appended (filling self buf.old) (gathered (stretch bytes.now start n) idxs.now)) }
+        ensures unchanged { OnErr result (buf.new ≡ buf.old) }
+        ensures state { IfErr result (λ e. e.state ≡ self) }
     {
         earlier(
             earlier(
@@ -53,8 +58,12 @@ impl BitmapBuilder {
         n: usize,
         idxs: &[u32],
     ) -> Result<BitmapBuilder, Refused<BitmapBuilder>>
-        ensures answer { answer_back result ≡ append_answer (extend_opt_gather bytes.now start n idxs.now) self buf.old }
-        ensures bytes { buf.new ≡ append_bytes (extend_opt_gather bytes.now start n idxs.now) self buf.old }
+        ensures refused { failure_back result ≡ first_failed
+            (span_grow_checks self buf.old bytes.now start n (length idxs.now)) }
+        ensures appended { IfOk result (λ b. filling b buf.new ≡
+            appended (filling self buf.old) (gathered (stretch bytes.now start n) idxs.now)) }
+        ensures unchanged { OnErr result (buf.new ≡ buf.old) }
+        ensures state { IfErr result (λ e. e.state ≡ self) }
     {
         earlier(
             check_span(start, n, bytes.len()),

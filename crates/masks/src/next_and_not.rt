@@ -3,14 +3,13 @@
 //
 // Its answer has the number of windows of 32 flags that it covers. The code reads words of 64 flags and passes over whole blocks; the
 // number follows from where it stops.
-ghost use Rattle.std.specs.Prelude.{◌≡◌, false, ℕ, ◌+◌, ◌≤◌, take};
+ghost use Rattle.std.specs.Prelude.{◌≡◌, false, ℕ, ◌+◌, ◌≤◌, take, IfOk};
 ghost use Rattle.words.specs.Counts.{any_set};
 ghost use Rattle.words.specs.Flags.{window, word_flags};
-ghost use Rattle.masks.specs.Answer.{answer};
 ghost use Rattle.masks.specs.Refusal.{failure_of};
 ghost use Rattle.masks.specs.Checks.{first_failed, limit};
 ghost use Rattle.masks.specs.Iterator.{leading_from};
-ghost use Rattle.masks.specs.NextAndNot.{free_flags, next_and_not_of, next_checks, next_set, other_checks, windows_of};
+ghost use Rattle.masks.specs.NextAndNot.{free_flags, next_checks, next_set, other_checks, windows_of};
 ghost use Rattle.masks.specs.Workers.{PassedTo, Searchable};
 
 use crate::bitmap::Bitmap;
@@ -44,7 +43,10 @@ pub fn next_and_not(
     second_bytes: &[u8],
     from: usize,
 ) -> Result<Found, Refusal>
-    ensures { answer result ≡ next_and_not_of first first_bytes.now second second_bytes.now from }
+    ensures refused { failure_of result ≡ first_failed
+        (next_checks first first_bytes.now second second_bytes.now from) }
+    ensures found { IfOk result (λ f. f ≡ next_set
+        first.length (free_flags first first_bytes.now second second_bytes.now) from) }
 {
     check_next(first, first_bytes, second, second_bytes, from)?;
     let length = first.length;
@@ -121,7 +123,8 @@ fn check_next(
     second_bytes: &[u8],
     from: usize,
 ) -> Result<(), Refusal>
-    ensures { failure_of result ≡ first_failed (next_checks first first_bytes.now second second_bytes.now from) }
+    ensures { failure_of result ≡ first_failed
+        (next_checks first first_bytes.now second second_bytes.now from) }
 {
     let place = check(Refusal::Outside, from <= first.length);
     let other = check_other(first.length, second, second_bytes);
@@ -153,7 +156,8 @@ fn any_free(
     n: usize,
 ) -> bool
     requires { Searchable first second (at + n) first.length }
-    ensures { result ≡ any_set (window (free_flags first first_bytes.now second second_bytes.now) at n) }
+    ensures { result ≡ any_set
+        (window (free_flags first first_bytes.now second second_bytes.now) at n) }
 {
     let a = Operand {
         bytes: first_bytes,
@@ -183,7 +187,8 @@ fn free_word(
 ) -> u64
     requires { Searchable first second at first.length }
     ensures { (k : ℕ) → k ≤ 64 → at + k ≤ first.length
-        → take k (word_flags result) ≡ window (free_flags first first_bytes.now second second_bytes.now) at k }
+        → take k (word_flags result) ≡
+        window (free_flags first first_bytes.now second second_bytes.now) at k }
 {
     let own = word_from(first_bytes, first.start + at);
     match second {
@@ -205,7 +210,8 @@ fn pass_blocks(
     end: usize,
 ) -> usize
     requires { Searchable first second from end }
-    ensures { PassedTo (take end (free_flags first first_bytes.now second second_bytes.now)) end from result }
+    ensures { PassedTo
+        (take end (free_flags first first_bytes.now second second_bytes.now)) end from result }
 {
     let mut at = from;
     while end - at >= 1024 {
@@ -227,7 +233,8 @@ fn zeros_ahead(
     end: usize,
 ) -> usize
     requires { Searchable first second from end }
-    ensures { result ≡ leading_from false (take end (free_flags first first_bytes.now second second_bytes.now)) from }
+    ensures { result ≡ leading_from
+        false (take end (free_flags first first_bytes.now second second_bytes.now)) from }
 {
     let mut at = pass_blocks(first, first_bytes, second, second_bytes, from, end);
     while at < end {

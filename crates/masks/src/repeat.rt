@@ -1,9 +1,8 @@
 // A span appended with each flag repeated.
-ghost use Rattle.std.specs.Prelude.{◌≡◌, ◌*◌, length};
+ghost use Rattle.std.specs.Prelude.{◌≡◌, ◌*◌, length, IfOk, IfErr, OnErr};
 ghost use Rattle.words.specs.Loops.{stretch};
-ghost use Rattle.masks.specs.Answer.{answer_back};
-ghost use Rattle.masks.specs.Refusal.{failure_of};
-ghost use Rattle.masks.specs.Appends.{append_answer, append_bytes, extend_repeated, grow_checks, repeated};
+ghost use Rattle.masks.specs.Refusal.{failure_of, failure_back};
+ghost use Rattle.masks.specs.Appends.{grow_checks, repeated, span_grow_checks};
 ghost use Rattle.masks.specs.Builder.{filling, appended};
 ghost use Rattle.masks.specs.Checks.{first_failed};
 ghost use Rattle.masks.specs.Workers.{Room};
@@ -25,8 +24,12 @@ impl BitmapBuilder {
         n: usize,
         repeats: usize,
     ) -> Result<BitmapBuilder, Refused<BitmapBuilder>>
-        ensures answer { answer_back result ≡ append_answer (extend_repeated bytes.now start n repeats) self buf.old }
-        ensures bytes { buf.new ≡ append_bytes (extend_repeated bytes.now start n repeats) self buf.old }
+        ensures refused { failure_back result ≡ first_failed
+            (span_grow_checks self buf.old bytes.now start n (n * repeats)) }
+        ensures appended { IfOk result (λ b. filling b buf.new ≡
+            appended (filling self buf.old) (repeated repeats (stretch bytes.now start n))) }
+        ensures unchanged { OnErr result (buf.new ≡ buf.old) }
+        ensures state { IfErr result (λ e. e.state ≡ self) }
     {
         earlier(
             check_span(start, n, bytes.len()),

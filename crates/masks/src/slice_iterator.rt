@@ -1,9 +1,11 @@
 // The runs of ones of a mask, one by one.
-ghost use Rattle.std.specs.Prelude.{◌≡◌, ◌&&◌, ◌≤◌, eqb, leb};
+ghost use Rattle.std.specs.Prelude.{◌≡◌, ◌&&◌, ◌≤◌, eqb, leb, IfOk, IfErr};
 ghost use Rattle.words.specs.Loops.{stretch};
-ghost use Rattle.masks.specs.Cursor.{answer_step};
+ghost use Rattle.masks.specs.Cursor.{step_of};
 ghost use Rattle.masks.specs.Answer.{answer};
-ghost use Rattle.masks.specs.SliceIterator.{slices_moved, new_slices, next_slice};
+ghost use Rattle.masks.specs.Checks.{first_failed};
+ghost use Rattle.masks.specs.Refusal.{failure_back};
+ghost use Rattle.masks.specs.SliceIterator.{run_checks, slice_step, slices_moved, new_slices};
 ghost use Rattle.masks.specs.Workers.{first_run};
 
 use crate::bitmap::Bitmap;
@@ -101,7 +103,9 @@ impl SlicesIterator {
     // Returns the next run of ones, and the cursor past it; with no ones left no run, and the cursor at the length. If the cursor is inside
     // a run, the run starts at the cursor. Passes over the zeros before a run by words.
     pub fn next(self, bytes: &[u8]) -> Result<Step<Run, SlicesIterator>, Refused<SlicesIterator>>
-        ensures { answer_step result ≡ next_slice self bytes.now }
+        ensures refused { failure_back result ≡ first_failed (run_checks self bytes.now) }
+        ensures step { IfOk result (λ s. step_of s.item s.cursor ≡ slice_step self (stretch bytes.now self.start self.length)) }
+        ensures state { IfErr result (λ e. e.state ≡ self) }
     {
         check_cursor(self.start, self.length, self.place, bytes.len()).map_err(|r| r.with(self))?;
         let near = self.place + zeros_from(bytes, self.start, self.length, self.place);

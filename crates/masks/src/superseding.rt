@@ -1,10 +1,9 @@
 // The later revocation wins: of two masks of one operator, each over its own bytes, the one with the larger serial, and the part of the
 // lent bytes that holds it. The caller makes sure that both masks are one operator's.
-ghost use Rattle.std.specs.Prelude.{◌≡◌, ◌≤◌};
-ghost use Rattle.masks.specs.Answer.{answer};
+ghost use Rattle.std.specs.Prelude.{◌≡◌, ◌≢◌, ◌≤◌, [], IfOk};
 ghost use Rattle.masks.specs.Refusal.{failure_of};
 ghost use Rattle.masks.specs.Checks.{first_failed, limit};
-ghost use Rattle.masks.specs.Superseding.{bytes_of, part_of, place_of, record_of, superseding_checks, superseding_of};
+ghost use Rattle.masks.specs.Superseding.{part_bytes, part_of, part_place, superseding_checks, winning};
 
 use crate::bitmap::{Bitmap, cut_mask};
 use crate::checks::check_mask;
@@ -29,7 +28,8 @@ fn check_superseding(
     second: Bitmap,
     rhs_bytes: &[u8],
 ) -> Result<(), Refusal>
-    ensures { failure_of result ≡ first_failed (superseding_checks first lhs_bytes.now second rhs_bytes.now) }
+    ensures { failure_of result ≡ first_failed
+        (superseding_checks first lhs_bytes.now second rhs_bytes.now) }
 {
     if first.serial != second.serial {
         return earlier(check_mask(first, lhs_bytes), check_mask(second, rhs_bytes));
@@ -66,7 +66,9 @@ pub fn superseding_part(
     second: Bitmap,
     second_bytes: &[u8],
 ) -> Result<Part, Refusal>
-    ensures { answer result ≡ superseding_of first first_bytes.now second second_bytes.now }
+    ensures refused { failure_of result ≡ first_failed
+        (superseding_checks first first_bytes.now second second_bytes.now) }
+    ensures part { IfOk result (λ p. p ≡ winning first second) }
 {
     check_superseding(first, first_bytes, second, second_bytes)?;
     if first.serial < second.serial {
@@ -82,7 +84,9 @@ pub fn superseding(
     second: Bitmap,
     second_bytes: &[u8],
 ) -> Result<Bitmap, Refusal>
-    ensures { answer result ≡ record_of (superseding_of first first_bytes.now second second_bytes.now) }
+    ensures refused { failure_of result ≡ first_failed
+        (superseding_checks first first_bytes.now second second_bytes.now) }
+    ensures mask { IfOk result (λ m. m ≡ (winning first second).mask) }
 {
     let part = superseding_part(first, first_bytes, second, second_bytes)?;
     Ok(part.mask)
@@ -96,10 +100,19 @@ pub fn superseding_bytes<'a>(
     second: Bitmap,
     second_bytes: &'a [u8],
 ) -> &'a [u8]
-    ensures bytes { result.now ≡ bytes_of (superseding_of first first_bytes.now second second_bytes.now)
-        first_bytes.now second_bytes.now }
-    ensures place { result.ref_ptr ≡ place_of (superseding_of first first_bytes.now second second_bytes.now)
-        first_bytes.entry.ref_ptr second_bytes.entry.ref_ptr }
+    ensures part { first_failed
+        (superseding_checks first first_bytes.now second second_bytes.now) ≡ 0
+        → result.now ≡ part_bytes (winning first second) first_bytes.now second_bytes.now }
+    ensures place { first_failed
+        (superseding_checks first first_bytes.now second second_bytes.now) ≡ 0
+        → result.ref_ptr ≡ part_place
+        (winning first second) first_bytes.entry.ref_ptr second_bytes.entry.ref_ptr }
+    ensures refused_part { first_failed
+        (superseding_checks first first_bytes.now second second_bytes.now) ≢ 0
+        → result.now ≡ [] }
+    ensures refused_place { first_failed
+        (superseding_checks first first_bytes.now second second_bytes.now) ≢ 0
+        → result.ref_ptr ≡ first_bytes.entry.ref_ptr }
 {
     match superseding_part(first, first_bytes, second, second_bytes) {
         Ok(part) => {

@@ -1,10 +1,12 @@
 // Counts over bare spans. A span that fits one word starting at its first byte is read as one. For others each count passes the address to
 // the aligned split and works from its three parts; the answer does not depend on the address.
-ghost use Rattle.std.specs.Prelude.{◌≡◌, true, false, ◌+◌, ◌*◌, ◌%◌, ◌≤◌, eqb};
+ghost use Rattle.std.specs.Prelude.{◌≡◌, ◌≢◌, true, false, ◌+◌, ◌*◌, ◌%◌, ◌≤◌, eqb, length as list_length, IfOk};
 ghost use Rattle.words.specs.Ends.{leading, trailing};
 ghost use Rattle.words.specs.Loops.{stretch};
+ghost use Rattle.masks.specs.Aligned.{aligned_checks};
 ghost use Rattle.masks.specs.Answer.{answer};
-ghost use Rattle.masks.specs.Checks.{limit};
+ghost use Rattle.masks.specs.Checks.{first_failed, limit};
+ghost use Rattle.masks.specs.Refusal.{failure_of};
 ghost use Rattle.masks.specs.Utils.{zeros, span_count};
 ghost use Rattle.masks.specs.Workers.{zeros_of_all};
 
@@ -83,7 +85,9 @@ pub fn count_zeros(
     length: usize,
     address: usize,
 ) -> Result<usize, Refusal>
-    ensures { answer result ≡ span_count bytes.now start length address (zeros (stretch bytes.now start length)) }
+    ensures empty { length ≡ 0 → failure_of result ≡ 0 }
+    ensures refused { length ≢ 0 → failure_of result ≡ first_failed (aligned_checks start length (list_length bytes.now) address) }
+    ensures zeros { IfOk result (λ n. n ≡ zeros (stretch bytes.now start length)) }
 {
     if length == 0 {
         return Ok(0);

@@ -1,6 +1,8 @@
 // The calls of the builder, whose buffer is the output.
-ghost use Rattle.std.specs.Prelude.{◌≡◌};
-ghost use Rattle.masks.specs.Appends.{change_answer, append_answer, append_bytes, push_flag};
+ghost use Rattle.std.specs.Prelude.{◌≡◌, [], ◌∷◌, length, OnOk, OnErr};
+ghost use Rattle.masks.specs.Appends.{grow_checks};
+ghost use Rattle.masks.specs.Builder.{appended, filling};
+ghost use Rattle.masks.specs.Checks.{first_failed};
 ghost use Rattle.masks.specs.Refusal.{failure_of};
 
 use crate::tokens::Answered;
@@ -90,8 +92,10 @@ struct Lent {
 
 // Calls `push_mut` on a copy of the record, and returns both.
 fn push_lent(b: BitmapBuilder, buf: &mut [u8], flag: bool) -> Lent
-    ensures answer { change_answer (failure_of result.answer) result.builder ≡ append_answer (push_flag flag) b buf.old }
-    ensures bytes { buf.new ≡ append_bytes (push_flag flag) b buf.old }
+    ensures refused { failure_of result.answer ≡ first_failed (grow_checks b 1 (length buf.old)) }
+    ensures appended { OnOk result.answer (filling result.builder buf.new ≡ appended (filling b buf.old) (flag ∷ [])) }
+    ensures unchanged { OnErr result.answer (buf.new ≡ buf.old) }
+    ensures state { OnErr result.answer (result.builder ≡ b) }
 {
     let mut own = b;
     let answer = own.push_mut(buf, flag);

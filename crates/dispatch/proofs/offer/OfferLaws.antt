@@ -1,5 +1,5 @@
 -- `offer` by the search `next_and_not`: its number of windows is the one in the paper's words, at most ceil(length / 32) + 1.
-use Rattle.std.specs.Prelude.{Option, Some, None}
+use Rattle.std.specs.Prelude.{IfErr, IfOk, Option, Some, None, Result, Ok, Err}
 use Rattle.std.proofs.lemmas.Bool.{cases_lt}
 use Rattle.std.proofs.lemmas.Option.{none-some, same_Some}
 use mathlib.Core.Path.{◌≡◌, refl, sym, ap, ap₂, ◌∙◌, subst}
@@ -13,24 +13,23 @@ use lib.ListN.{length, length-append}
 use borrow.Author.Tests.{lt-ltb, le-ltb, le-leb, lt-leb}
 use Rattle.std.specs.Result.{IsErrAnd}
 use Rattle.std.proofs.lemmas.Result.{err_from_is_err_and}
-use Rattle.std.proofs.Common.{Result, Err}
-use Rattle.masks.specs.Refusal.{number as number_of}
+use Rattle.masks.specs.Refusal.{number}
 use Rattle.dispatch.specs.declared.offer.RefusedOffer.{RefusedOffer}
-use Rattle.dispatch.specs.Offer.{offer_answer}
+use Rattle.dispatch.specs.Offer.{offer_answer, offer_failure}
 use Rattle.masks.specs.declared.next_and_not.Found.{Found}
 use Rattle.masks.specs.Answer.{given, refused, decided}
 use Rattle.masks.specs.Checks.{check, earlier, first_failed, limit}
 use Rattle.masks.specs.Mask.{mask_checks}
-use Rattle.masks.specs.NextAndNot.{free_flags, going_round, next_and_not_of, next_checks, next_set, other_checks, windows_of}
+use Rattle.masks.specs.NextAndNot.{free_flags, going_round, next_checks, next_set, other_checks, windows_of}
 use Rattle.masks.specs.Search.{nth_from}
 use Rattle.masks.specs.declared.bitmap.Bitmap.{Bitmap}
-use Rattle.masks.proofs.refusal.AnswerLaws.{given-number, given-value, refused-failed, refused-number}
+use Rattle.masks.proofs.refusal.RefusalLaws.{number-ne0}
 use Rattle.masks.proofs.checks.CheckLaws.{earlier-none, failed-append, is-given, is-refused, one-check}
 use Rattle.masks.specs.Workers.{Searchable}
 use Rattle.masks.proofs.next_and_not.NextAndNotLaws.{free-length, next-allowed}
 use Rattle.masks.proofs.theorems.NextPlain.{some-ahead, some-before}
 use Rattle.dispatch.specs.declared.offer.Offering.{Offering}
-use Rattle.dispatch.specs.Offer.{beginning, in_order, most_windows, moved_to, next_truck, offer_checks, offered_of, offering, offer_of}
+use Rattle.dispatch.specs.Offer.{beginning, in_order, most_windows, moved_to, next_truck, offer_checks, offered_of, offering}
 use Rattle.dispatch.specs.Offer.{or_else, up_to, windows_read}
 
 -- ---- windows in order
@@ -150,52 +149,26 @@ module _ (n cursor : ℕ) (inside : cursor ≤ n) where
 -- ---- the ways out
 
 -- with a permission mask
-module _ (p : Bitmap) (p_bytes : List ℕ) (R : Option Bitmap) (r_bytes : List ℕ) (cursor : ℕ) where
-  number : ℕ
-  number = first_failed (next_checks p p_bytes R r_bytes cursor)
+module _ (p : Bitmap) (p_bytes : List ℕ) (R : Option Bitmap) (r_bytes : List ℕ) (cursor : ℕ) (F : Found)
+    (passed : 0 ≡ first_failed (next_checks p p_bytes R r_bytes cursor))
+    (found : F ≡ next_set p.length (free_flags p p_bytes R r_bytes) cursor) where
+  ok : Searchable p R cursor p.length
+  ok = next-allowed p p_bytes R r_bytes cursor (sym passed)
 
-  found : Found
-  found = next_set p.length (free_flags p p_bytes R r_bytes) cursor
+  long : length (free_flags p p_bytes R r_bytes) ≡ p.length
+  long = free-length p p_bytes R r_bytes ok.beside
 
-  module _ (F : Found) (e : given F ≡ next_and_not_of p p_bytes R r_bytes cursor) where
-    passed : 0 ≡ number
-    unfolding next_and_not_of number found
-    passed = given-number number tt F found e
+  pub found-way : (next : ℕ) → next ≡ moved_to F.position cursor → offer-then next F ≡ offered_of (Some p) p_bytes R r_bytes cursor
+  unfolding offered_of
+  found-way next h =
+      ap (λ (n : ℕ). offer-then n F) h ∙ as_offered p.length cursor ok.ordered (free_flags p p_bytes R r_bytes) long F found
 
-    is_found : F ≡ found
-    unfolding next_and_not_of number found
-    is_found = given-value number tt F found e
+  pub found-bound : F.windows ≤ most_windows (Some p)
+  found-bound = search-bound p.length cursor ok.ordered (free_flags p p_bytes R r_bytes) long F found
 
-    ok : Searchable p R cursor p.length
-    unfolding number
-    ok = next-allowed p p_bytes R r_bytes cursor (sym passed)
-
-    long : length (free_flags p p_bytes R r_bytes) ≡ p.length
-    long = free-length p p_bytes R r_bytes ok.beside
-
-    pub found-way : (next : ℕ) → next ≡ moved_to F.position cursor → given (offer-then next F) ≡ offer_of (Some p) p_bytes R r_bytes cursor
-    unfolding offer_of offer_checks offered_of number found
-    found-way next h =
-        ap (λ (n : ℕ). given (offer-then n F)) h
-        ∙ ap given (as_offered p.length cursor ok.ordered (free_flags p p_bytes R r_bytes) long F is_found)
-        ∙ is-given 0 number cursor (offering p.length (free_flags p p_bytes R r_bytes) cursor) passed refl
-
-    pub found-bound : F.windows ≤ most_windows (Some p)
-    unfolding found
-    found-bound = search-bound p.length cursor ok.ordered (free_flags p p_bytes R r_bytes) long F is_found
-
-    pub found_inside : (t : ℕ) → F.position ≡ Some t → t < limit
-    unfolding found
-    found_inside t h =
-        omega (arith, search-inside p.length cursor ok.ordered (free_flags p p_bytes R r_bytes) long F t is_found h, ok.short)
-
-  pub refused-way : (k : ℕ) → refused k tt ≡ next_and_not_of p p_bytes R r_bytes cursor
-      → refused k cursor ≡ offer_of (Some p) p_bytes R r_bytes cursor
-  unfolding next_and_not_of offer_of offer_checks number found
-  refused-way k e =
-      let same = refused-number k number tt tt found e in
-      is-refused k number cursor (offered_of (Some p) p_bytes R r_bytes cursor) same
-      (λ z. refused-failed k number tt tt found e (sym same ∙ z))
+  pub found_inside : (t : ℕ) → F.position ≡ Some t → t < limit
+  found_inside t h =
+      omega (arith, search-inside p.length cursor ok.ordered (free_flags p p_bytes R r_bytes) long F t found h, ok.short)
 
 -- without one: the checks of a search over a revocation mask that starts at 0 are those of that mask, since 6 always passes
 pub lone-number : (r : Bitmap) (r_bytes p_bytes : List ℕ)
@@ -207,38 +180,30 @@ lone-number r r_bytes p_bytes =
     (sym (one-check 0 6 true (leb 0 r.length) refl (sym (le-leb 0 r.length (omega arith)))))
     ∙ earlier-none (first_failed (mask_checks r r_bytes))
 
-module _ (p_bytes : List ℕ) (R : Option Bitmap) (r : Bitmap) (r_bytes : List ℕ) (cursor : ℕ) (here : R ≡ Some r) where
-  lone : ℕ
-  lone = first_failed (next_checks r r_bytes None p_bytes 0)
+pub lone-checked : (p_bytes : List ℕ) (R : Option Bitmap) (r : Bitmap) (r_bytes : List ℕ) (cursor k : ℕ) → R ≡ Some r
+    → k ≡ first_failed (next_checks r r_bytes None p_bytes 0) → k ≡ first_failed (offer_checks None p_bytes R r_bytes cursor)
+unfolding offer_checks
+lone-checked p_bytes R r r_bytes cursor k here e =
+    e ∙ lone-number r r_bytes p_bytes ∙ ap (λ (o : Option Bitmap). first_failed (offer_checks None p_bytes o r_bytes cursor)) (sym here)
 
-  pub none-way : (F : Found) → given F ≡ next_and_not_of r r_bytes None p_bytes 0
-      → given (offered cursor None 0) ≡ offer_of None p_bytes R r_bytes cursor
-  unfolding next_and_not_of offer_of offer_checks offered_of lone
-  none-way F e =
-      let z : 0 ≡ lone = given-number lone tt F (next_set r.length (free_flags r r_bytes None p_bytes) 0) e in
-      is-given 0 lone cursor (offered cursor None 0) z refl
-      ∙ ap (λ (o : Option Bitmap). offer_of None p_bytes o r_bytes cursor) (sym here)
+-- with no mask at all no check is made
+pub no-mask-checked : (p_bytes : List ℕ) (R : Option Bitmap) (r_bytes : List ℕ) (cursor : ℕ) → R ≡ None
+    → 0 ≡ first_failed (offer_checks None p_bytes R r_bytes cursor)
+unfolding offer_checks first_failed
+no-mask-checked p_bytes R r_bytes cursor gone =
+    ap (λ (o : Option Bitmap). first_failed (offer_checks None p_bytes o r_bytes cursor)) (sym gone)
 
-  pub none-refused : (k : ℕ) → refused k tt ≡ next_and_not_of r r_bytes None p_bytes 0
-      → refused k cursor ≡ offer_of None p_bytes R r_bytes cursor
-  unfolding next_and_not_of offer_of offer_checks offered_of lone
-  none-refused k e =
-      let v = next_set r.length (free_flags r r_bytes None p_bytes) 0 in
-      let same = refused-number k lone tt tt v e in
-      is-refused k lone cursor (offered cursor None 0) same
-      (λ z. refused-failed k lone tt tt v e (sym same ∙ z))
-      ∙ ap (λ (o : Option Bitmap). offer_of None p_bytes o r_bytes cursor) (sym here)
-
--- with no mask at all no truck is offered
-pub no-mask-way : (p_bytes : List ℕ) (R : Option Bitmap) (r_bytes : List ℕ) (cursor : ℕ) → R ≡ None
-    → given (offered cursor None 0) ≡ offer_of None p_bytes R r_bytes cursor
-unfolding offer_of offer_checks offered_of first_failed decided
-no-mask-way p_bytes R r_bytes cursor gone = ap (λ (o : Option Bitmap). offer_of None p_bytes o r_bytes cursor) (sym gone)
-
--- the exit of a `?` returns the refusal and the cursor
-pub offer-exit : (result : Result Offering RefusedOffer) (x : RefusedOffer) → IsErrAnd result (λ (y : RefusedOffer). y ≡ x) → (cursor : ℕ)
-    → x.cursor ≡ cursor
-    → offer_answer result ≡ refused (number_of x.refusal) cursor
-offer-exit result x h cursor e =
+-- the exit of a `?` returns the refusal
+pub offer-exit : (result : Result Offering RefusedOffer) (x : RefusedOffer) → IsErrAnd result (λ (y : RefusedOffer). y ≡ x)
+    → offer_failure result ≡ number x.refusal
+offer-exit result x h =
     let p = err_from_is_err_and result h in
-    ap offer_answer (p.1 ∙ ap (λ (y : RefusedOffer). Err y) p.2) ∙ ap (refused (number_of x.refusal)) e
+    ap offer_failure (p.1 ∙ ap (λ (y : RefusedOffer). Err y) p.2)
+
+-- ---- the clauses of `offer` make its answer
+
+pub offer_answered : (r : Result Offering RefusedOffer) (m cursor : ℕ) (o : Offering) → offer_failure r ≡ m → IfOk r (λ x. x ≡ o)
+    → IfErr r (λ x. x.cursor ≡ cursor) → offer_answer r ≡ decided m cursor o
+offer_answered (Ok x) m cursor o e v t = ap given v ∙ is-given 0 m cursor o e refl
+offer_answered (Err k) m cursor o e v t =
+    ap (refused (number k.refusal)) t ∙ is-refused (number k.refusal) m cursor o e (number-ne0 k.refusal)

@@ -10,7 +10,8 @@ use lib.ListN.{length, get_or}
 use Rattle.masks.specs.Answer.{given, checked, decided}
 use Rattle.masks.specs.AtIndex.{and_not_at_checks, index_checks, length_checks}
 use Rattle.masks.specs.Checks.{first_failed}
-use Rattle.masks.specs.Combine.{AndNot, pair_bytes, pair_checks, pair_flags, pair_mask}
+use Rattle.masks.specs.Combine.{AndNot, pair_checks, pair_flags, pair_mask}
+use Rattle.masks.specs.Frozen.{with_frozen}
 use Rattle.masks.specs.Mask.{mask_flags}
 use Rattle.masks.specs.declared.bitmap.Bitmap.{Bitmap}
 use Rattle.masks.proofs.theorems.AndNotFlag.{flag-of-and-not as at-and-not, flag-of-written as at-written, no_second}
@@ -51,7 +52,7 @@ module _ (p : Bitmap) (p_bytes : List ℕ) (r : Bitmap) (r_bytes : List ℕ) (t 
   -- and so it is flag t of the mask that `and_not` returns, in the bytes that it writes to an output that holds them
   pub flag-of-written : (out : List ℕ) → first_failed (pair_checks p p_bytes r r_bytes (length out)) ≡ 0
       → may_reassign (Some p) p_bytes (Some r) r_bytes t
-      ≡ given (get_or (mask_flags (pair_mask AndNot p p_bytes r r_bytes) (pair_bytes AndNot p p_bytes r r_bytes out)) t false)
+      ≡ given (get_or (mask_flags (pair_mask AndNot p p_bytes r r_bytes) (with_frozen out (pair_flags AndNot p p_bytes r r_bytes))) t false)
   flag-of-written out e = sym (is-and-not-at p p_bytes (Some r) r_bytes t) ∙ at-written p p_bytes r r_bytes t accepted out e
 
 -- ---- no revocation mask

@@ -6,4 +6,4 @@ pub answer-plain : AnswerPlain
 answer-plain = record { gives = λ a. refl; refuses = λ r. refl }
 
 pub offer-plain : OfferPlain
-offer-plain = record { gives = λ o. refl; refuses = λ e. refl }
+offer-plain = record { passes = λ o. refl; fails = λ e. refl; gives = λ o. refl; refuses = λ e. refl }

@@ -19,7 +19,7 @@ use Rattle.masks.specs.Checks.{Check, check, first_failed, limit, output_checks,
 use Rattle.masks.specs.Combine.{each_bytes, each_of, not_checks, not_flags, pair_bytes, pair_checks, pair_each, pair_flags, pair_mask}
 use Rattle.masks.specs.Combine.{pair_of, pair_shortcut, result_count, select_checks, select_constant_flags, select_flags}
 use Rattle.masks.specs.Mask.{mask_checks, mask_flags, piece_checks, slice_of, sliced_mask, uncounted, unset_bits_of, with_count, zero_count}
-use Rattle.masks.proofs.statements.TrueCounts.{Sound, TrueCount}
+use Rattle.masks.proofs.statements.TrueCounts.{Sound, TrueCount, Truthful}
 use Rattle.masks.specs.declared.bitmap.Bitmap.{Bitmap}
 use Rattle.masks.proofs.refusal.AnswerLaws.{given-number, given-value, refused-state}
 use Rattle.masks.proofs.checks.CheckLaws.{both_left, both_right, first-allowed, rest-allowed}
@@ -169,9 +169,12 @@ module _ (op : Op) (a : Bitmap) (a_b : List ℕ) (b : Bitmap) (b_b : List ℕ) (
   pub pair-long : length (pair_flags op a a_b b b_b) ≡ a.length
   pair-long = flags-length a a_b b b_b e op
 
-  pub pair-true : TrueCount (result_count (pair_shortcut op a a_b b b_b) a.length) (pair_flags op a a_b b b_b)
+  pub pair-true : Truthful a a_b → Truthful b b_b
+      → TrueCount (result_count (pair_shortcut op a a_b b b_b) a.length) (pair_flags op a a_b b b_b)
   unfolding pair_flags
-  pair-true = result-true (pair_shortcut op a a_b b b_b) a.length (pair_each op a a_b b b_b) (each-length a a_b b b_b e op)
+  pair-true ta tb =
+      rw (flags-by_operation op a a_b b b_b e ta tb)
+      at (result-true (pair_shortcut op a a_b b b_b) a.length (pair_each op a a_b b b_b) (each-length a a_b b b_b e op))
 
 -- if the checks of two masks pass, the first's length is within the limit and its frozen bytes fit the output
 two-room : (a : Bitmap) (a_b : List ℕ) (b : Bitmap) (b_b out : List ℕ) → first_failed (pair_checks a a_b b b_b (length out)) ≡ 0
@@ -188,6 +191,7 @@ pub pair_writable : (op : Pair) (x y : Lent) (out : List ℕ)
     → first_failed (pair_checks x.mask x.bytes y.mask y.bytes (length out)) ≡ 0
     → Writable x.mask.length (result_count (pair_shortcut (pair_op op) x.mask x.bytes y.mask y.bytes) x.mask.length)
     (pair_flags (pair_op op) x.mask x.bytes y.mask y.bytes) (flag_by_flag op (lent_flags x) (lent_flags y)) out
+unfolding pair_flags
 pair_writable op x y out e =
     let a = x.mask in
     let b = y.mask in
@@ -200,8 +204,8 @@ pair_writable op x y out e =
       long = pair-long (pair_op op) a a_b b b_b same;
       short = (two-room a a_b b b_b out e).0;
       room = (two-room a a_b b b_b out e).1;
-      same = flags-by_operation (pair_op op) a a_b b b_b same honest.0 honest.1.0 ∙ by_flag op (mask_flags a a_b) (mask_flags b b_b) even;
-      counts = pair-true (pair_op op) a a_b b b_b same;
+      same = by_flag op (mask_flags a a_b) (mask_flags b b_b) even;
+      counts = pair-true (pair_op op) a a_b b b_b same honest.0 honest.1.0;
     }
 
 pub pair_lawful : (op : Pair) (out : List ℕ) → LawfulWrites (pair_row op out)

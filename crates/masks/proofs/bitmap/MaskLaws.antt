@@ -12,15 +12,14 @@ use mathlib.Core.Logic.{◌⊎◌, inl, inr, ⊎_elim}
 use lib.Dec.{leb}
 use lib.ListN.{length}
 use borrow.Author.Tests.{le-leb, lt-leb, leb-true, eq-eqb, eqb-true, ne_eqb}
-use Rattle.masks.specs.Answer.{given, refused}
 use Rattle.masks.specs.Checks.{Check, check, rank, place_in, first_failed, within_limit, span_checks}
-use Rattle.masks.specs.Mask.{cut_mask, cut_zeros, sliced_mask, slice_of, slice_checks, count_is, count_valid, mask_checks, mask_flags}
+use Rattle.masks.specs.Mask.{cut_mask, cut_zeros, sliced_mask, slice_checks, count_is, count_valid, mask_checks, mask_flags}
 use Rattle.masks.specs.Mask.{piece_checks, recounts, kept_count, sliced_count, recount_valid}
 use Rattle.masks.proofs.statements.TrueCounts.{Sound, TrueCount, Truthful}
 use Rattle.masks.specs.Utils.{zeros}
 use Rattle.masks.specs.Workers.{PieceAllowed, recounted_of, cut_of}
 use Rattle.masks.specs.declared.bitmap.Bitmap.{Bitmap}
-use Rattle.masks.proofs.checks.CheckLaws.{before, first-refused, last-refused, last-given, both_left, both_right}
+use Rattle.masks.proofs.checks.CheckLaws.{before, first-number, last_made, both_left, both_right}
 use Rattle.masks.proofs.checks.CheckLaws.{span-allowed, SpanAllowed, rest-allowed, check-allowed}
 
 -- what follows for the span of a mask if its checks pass
@@ -135,27 +134,28 @@ pub piece-before : (m : Bitmap) (bytes : List ℕ) (offset n : ℕ) → before 7
 unfolding piece_checks mask_checks span_checks rank place_in
 piece-before m bytes offset n = refl
 
--- ---- the answer of a slice
+-- ---- the number and the mask of a slice
 
 module _ (m : Bitmap) (bytes : List ℕ) (offset n k : ℕ) (piece : k ≡ first_failed (piece_checks m bytes offset n)) where
-  pub slice-refused : (k ≡ 0 → ⊥) → refused k m ≡ slice_of m bytes offset n
-  unfolding slice_of slice_checks
+  pub slice-refused : (k ≡ 0 → ⊥) → k ≡ first_failed (slice_checks m bytes offset n)
+  unfolding slice_checks
   slice-refused h =
-      first-refused (piece_checks m bytes offset n) k 6 (recount_valid m.length n (cut_zeros m bytes offset n) m.unset) m
-      (sliced_mask m bytes offset n) (piece-before m bytes offset n) piece h
+      first-number (piece_checks m bytes offset n) k 6 (recount_valid m.length n (cut_zeros m bytes offset n) m.unset)
+      (piece-before m bytes offset n) piece h
 
   pub slice_wrong : k ≡ 0 → (Err WrongRecount) ≡ cut_of m.length n (cut_zeros m bytes offset n) m.unset
-      → refused 7 m ≡ slice_of m bytes offset n
-  unfolding slice_of slice_checks
+      → 7 ≡ first_failed (slice_checks m bytes offset n)
+  unfolding slice_checks
   slice_wrong z e =
-      last-refused (piece_checks m bytes offset n) k 6 (recount_valid m.length n (cut_zeros m bytes offset n) m.unset) m
-      (sliced_mask m bytes offset n) piece z (cut_wrong m.length n (cut_zeros m bytes offset n) m.unset e)
+      ap (λ (t : Bool). cond t 0 7) (sym (cut_wrong m.length n (cut_zeros m bytes offset n) m.unset e))
+      ∙ last_made (piece_checks m bytes offset n) k 6 (recount_valid m.length n (cut_zeros m bytes offset n) m.unset) piece z
 
   pub slice-right : (v : Option ℕ) → k ≡ 0 → Ok v ≡ cut_of m.length n (cut_zeros m bytes offset n) m.unset
-      → given (cut_mask m (m.start + offset) n v) ≡ slice_of m bytes offset n
-  unfolding slice_of slice_checks
+      → (0 ≡ first_failed (slice_checks m bytes offset n)) × (cut_mask m (m.start + offset) n v ≡ sliced_mask m bytes offset n)
+  unfolding slice_checks
   slice-right v z e =
-      let known = cut_right m.length n (cut_zeros m bytes offset n) m.unset v e in
-      ap (λ (u : Option ℕ). given (cut_mask m (m.start + offset) n u)) known.1
-      ∙ last-given (piece_checks m bytes offset n) k 6 (recount_valid m.length n (cut_zeros m bytes offset n) m.unset) m
-      (sliced_mask m bytes offset n) piece z known.0
+      let known = cut_right m.length n (cut_zeros m bytes offset n) m.unset v e in (
+        ap (λ (t : Bool). cond t 0 7) (sym known.0)
+            ∙ last_made (piece_checks m bytes offset n) k 6 (recount_valid m.length n (cut_zeros m bytes offset n) m.unset) piece z,
+        ap (λ (u : Option ℕ). cut_mask m (m.start + offset) n u) known.1,
+      )

@@ -19,15 +19,17 @@ use Rattle.words.proofs.flags.Windows.{length-window}
 use Rattle.words.specs.declared.ops.Op.{Op}
 use Rattle.words.specs.declared.ops.Op.TheVariants.{And, AndNot, Or, OrNot, Xor, Not, Select}
 use Rattle.words.proofs.flags.Bytes.{flags-inj, flags-over}
-use Rattle.masks.specs.Answer.{given, refused}
 use Rattle.masks.specs.Checks.{Check, check, first_failed, output_checks}
-use Rattle.masks.specs.Combine.{shortcut, result_flags, largest_serial, result_mask, result_count, pair_checks, pair_shortcut, pair_each}
-use Rattle.masks.specs.Combine.{pair_flags, pair_mask, pair_of, pair_bytes, each_of, each_bytes, select_checks}
-use Rattle.masks.specs.Frozen.{packed, frozen, frozen_size, over_from}
+use Rattle.masks.specs.Combine.{shortcut, result_flags, largest_serial, result_mask, result_count, pair_checks, pair_shortcut}
+use Rattle.masks.specs.Combine.{pair_flags, pair_mask, select_checks}
+use Rattle.masks.specs.Frozen.{packed, frozen, frozen_size, over_from, with_frozen}
 use Rattle.masks.specs.Mask.{mask_under, mask_checks, uncounted}
 use Rattle.masks.specs.Workers.{either_all, xor_all, zeros_of_all}
 use Rattle.masks.specs.declared.bitmap.Bitmap.{Bitmap}
-use Rattle.masks.proofs.checks.CheckLaws.{both_right, first-allowed, rest-allowed, is-given, is-refused, is-kept, is-new}
+use Rattle.masks.proofs.statements.TrueCounts.{Truthful}
+use Rattle.masks.proofs.bitmap.MaskLaws.{mask-truthful}
+use Rattle.masks.proofs.theorems.ShortcutsUnseen.{flags-by_operation}
+use Rattle.masks.proofs.checks.CheckLaws.{both_left, both_right, first-allowed, rest-allowed}
 use Rattle.masks.proofs.bitmap_ops.FrozenLaws.{Small, flags-packed, packed-small, over_from-small}
 
 -- ---- from flags to bytes
@@ -141,42 +143,42 @@ pair_lengths a a_bytes b b_bytes size e =
     (first-allowed 4 (eqb a.length b.length) (output_checks a.length size)
     (both_right (mask_checks b b_bytes) rest (both_right (mask_checks a a_bytes) (mask_checks b b_bytes ++ rest) e)))
 
-module _ (op : Op) (a : Bitmap) (a_bytes : List ℕ) (b : Bitmap) (b_bytes out : List ℕ) (k : ℕ)
-    (e : k ≡ first_failed (pair_checks a a_bytes b b_bytes (length out))) where
-  pub pair-refused : (k ≡ 0 → ⊥) → (refused k tt ≡ pair_of op a a_bytes b b_bytes out) × (out ≡ pair_bytes op a a_bytes b b_bytes out)
-  unfolding pair_of pair_bytes
-  pair-refused h =
-      let number = first_failed (pair_checks a a_bytes b b_bytes (length out)) in (
-        is-refused k number tt (pair_mask op a a_bytes b b_bytes) e h,
-        is-kept k number (over out (frozen (pair_flags op a a_bytes b b_bytes))) out e h,
-      )
+-- the masks of an accepted combination have unknown or true counts
+pub pair-counts : (a : Bitmap) (a_bytes : List ℕ) (b : Bitmap) (b_bytes : List ℕ) (size : ℕ)
+    → first_failed (pair_checks a a_bytes b b_bytes size) ≡ 0 → Truthful a a_bytes × Truthful b b_bytes
+unfolding pair_checks
+pair-counts a a_bytes b b_bytes size e =
+    let rest : List Check = check 5 (eqb a.length b.length) ∷ output_checks a.length size in (
+      mask-truthful a a_bytes (both_left (mask_checks a a_bytes) (mask_checks b b_bytes ++ rest) e),
+      mask-truthful b b_bytes
+          (both_left (mask_checks b b_bytes) rest (both_right (mask_checks a a_bytes) (mask_checks b b_bytes ++ rest) e)),
+    )
 
-  pub pair-given : (by : Option Bool) (u : Option ℕ) (s : ℕ) (m : Bitmap) → k ≡ 0 → by ≡ pair_shortcut op a a_bytes b b_bytes
-      → u ≡ result_count by a.length
-      → s ≡ largest_serial (a ∷ b ∷ []) → m ≡ mask_under s 0 a.length u → given m ≡ pair_of op a a_bytes b b_bytes out
-  unfolding pair_of pair_mask
-  pair-given by u s m z p q largest made =
-      ap given made
-      ∙ ap (λ (t : ℕ). given (mask_under t 0 a.length u)) largest
-      ∙ ap (λ (v : Option ℕ). given (result_mask (a ∷ b ∷ []) a.length v)) (q ∙ ap (λ (s : Option Bool). result_count s a.length) p)
-      ∙ is-given k (first_failed (pair_checks a a_bytes b b_bytes (length out))) tt (pair_mask op a a_bytes b b_bytes) e z
+module _ (op : Op) (a : Bitmap) (a_bytes : List ℕ) (b : Bitmap) (b_bytes : List ℕ) where
+  pub pair-made : (by : Option Bool) (u : Option ℕ) (s : ℕ) (m : Bitmap) → by ≡ pair_shortcut op a a_bytes b b_bytes
+      → u ≡ result_count by a.length → s ≡ largest_serial (a ∷ b ∷ []) → m ≡ mask_under s 0 a.length u
+      → m ≡ pair_mask op a a_bytes b b_bytes
+  unfolding pair_mask
+  pair-made by u s m p q largest made =
+      made ∙ ap (λ (t : ℕ). mask_under t 0 a.length u) largest
+      ∙ ap (λ (v : Option ℕ). result_mask (a ∷ b ∷ []) a.length v) (q ∙ ap (λ (t : Option Bool). result_count t a.length) p)
 
-  pub pair-written : (by : Option Bool) (out' : List ℕ) → k ≡ 0 → by ≡ pair_shortcut op a a_bytes b b_bytes → Small out → Small out'
+  pub pair-written : (out : List ℕ) → first_failed (pair_checks a a_bytes b b_bytes (length out)) ≡ 0 → (by : Option Bool) (out' : List ℕ)
+      → by ≡ pair_shortcut op a a_bytes b b_bytes → Small out → Small out'
       → flags_of out' ≡ over (flags_of out)
       (whole_words (result_flags by a.length (combined op a_bytes a.start b_bytes b.start b_bytes b.start a.length)))
-      → out' ≡ pair_bytes op a a_bytes b b_bytes out
-  unfolding pair_bytes pair_flags
-  pair-written by out' z p before after q =
-      let same : a.length ≡ b.length = pair_lengths a a_bytes b b_bytes (length out) (sym e ∙ z) in
-      let number = first_failed (pair_checks a a_bytes b b_bytes (length out)) in
+      → out' ≡ with_frozen out (pair_flags op a a_bytes b b_bytes)
+  unfolding pair_flags
+  pair-written out e by out' p before after q =
+      let same : a.length ≡ b.length = pair_lengths a a_bytes b b_bytes (length out) e in
+      let counts = pair-counts a a_bytes b b_bytes (length out) e in
       frozen-written out out'
       (result_flags by a.length (combined op a_bytes a.start b_bytes b.start b_bytes b.start a.length)) before after q
       ∙ ap₂ (λ (s : Option Bool) (n : ℕ).
       over out
       (frozen (result_flags s a.length
       (zip3 (op_of op) (stretch a_bytes a.start a.length) (stretch b_bytes b.start n) (stretch b_bytes b.start n))))) p same
-      ∙ is-new k number
-      (over out (frozen (result_flags (pair_shortcut op a a_bytes b b_bytes) a.length (pair_each op a a_bytes b b_bytes)))) out e z
+      ∙ ap (λ (l : List Bool). over out (frozen l)) (flags-by_operation op a a_bytes b b_bytes same counts.0 counts.1)
 
 -- ---- the largest serial
 
@@ -192,27 +194,16 @@ pub three-serials : (a b c : Bitmap) (s t : ℕ) → t ≡ max b.serial c.serial
 unfolding largest_serial
 three-serials a b c s t e f = f ∙ ap (max a.serial) (two-serials b c t e)
 
--- ---- the answer of a combination with no shortcut
+-- ---- a combination with no shortcut: its mask and its bytes
 
-module _ (cs : List Check) (masks : List Bitmap) (n : ℕ) (flags : List Bool) (out : List ℕ) (k : ℕ) (e : k ≡ first_failed cs) where
-  pub each-refused : (k ≡ 0 → ⊥) → (refused k tt ≡ each_of cs masks n) × (out ≡ each_bytes cs flags out)
-  unfolding each_of each_bytes
-  each-refused h = (
-    is-refused k (first_failed cs) tt (result_mask masks n (uncounted n)) e h,
-    is-kept k (first_failed cs) (over out (frozen flags)) out e h,
-  )
+pub each-made : (masks : List Bitmap) (n s : ℕ) (u : Option ℕ) (m : Bitmap) → u ≡ uncounted n → s ≡ largest_serial masks
+    → m ≡ mask_under s 0 n u
+    → m ≡ result_mask masks n (uncounted n)
+each-made masks n s u m p largest made = made ∙ ap₂ (λ (t : ℕ) (v : Option ℕ). mask_under t 0 n v) largest p
 
-  pub each-given : (u : Option ℕ) (s : ℕ) (m : Bitmap) (out' : List ℕ) (written : List Bool) → k ≡ 0 → u ≡ uncounted n
-      → s ≡ largest_serial masks → m ≡ mask_under s 0 n u → Small out → Small out'
-      → flags_of out' ≡ over (flags_of out) (whole_words written) → written ≡ flags
-      → (given m ≡ each_of cs masks n) × (out' ≡ each_bytes cs flags out)
-  unfolding each_of each_bytes
-  each-given u s m out' written z p largest made before after q r = (
-    ap given made ∙ ap₂ (λ (t : ℕ) (v : Option ℕ). given (mask_under t 0 n v)) largest p
-        ∙ is-given k (first_failed cs) tt (result_mask masks n (uncounted n)) e z,
-    frozen-written out out' written before after q ∙ ap (λ (l : List Bool). over out (frozen l)) r
-        ∙ is-new k (first_failed cs) (over out (frozen flags)) out e z,
-  )
+pub each-written : (out out' : List ℕ) (written flags : List Bool) → Small out → Small out'
+    → flags_of out' ≡ over (flags_of out) (whole_words written) → written ≡ flags → out' ≡ with_frozen out flags
+each-written out out' written flags before after q r = frozen-written out out' written before after q ∙ ap (with_frozen out) r
 
 pub not-each : (l : List Bool) (s n : ℕ) → zip3 (op_of Not) (window l s n) (window l s n) (window l s n) ≡ map not (window l s n)
 not-each l s n = zip_first not (window l s n) (window l s n) (window l s n) refl refl

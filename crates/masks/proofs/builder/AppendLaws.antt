@@ -14,12 +14,9 @@ use Rattle.words.proofs.flags.Bits.{length-bits, word_of_bits}
 use Rattle.words.proofs.counts.Counting.{count-append}
 use Rattle.words.proofs.theorems.Plain.{window-part}
 use Rattle.words.proofs.flags.Windows.{window-all, window-cut, bits-window}
-use Rattle.masks.specs.Answer.{Answer, given, refused, decided, kept}
-use Rattle.masks.specs.Appends.{append_answer, change_answer, push_flag}
-use Rattle.masks.specs.Builder.{Filling, filling, builder_under, rebuilt, in_progress, appended, none_from, possible, builder_checks}
+use Rattle.masks.specs.Builder.{Filling, filling, rebuilt, in_progress, appended, none_from}
 use Rattle.masks.specs.Frozen.{packed, over_from}
 use Rattle.masks.specs.declared.builder.BitmapBuilder.{BitmapBuilder}
-use Rattle.masks.proofs.checks.CheckLaws.{given-way}
 use Rattle.masks.proofs.bitmap_ops.FrozenLaws.{length-packed, packed-window, packed-append, over_from-none, over_from-more}
 
 -- ---- lists at the seams of words
@@ -231,51 +228,13 @@ append-none f h e =
     (progress-word f.builder h e)
     (ap (over_from f.bytes (8 * (f.builder.length / 64))) (no_bytes []) ∙ over_from-none f.bytes (8 * (f.builder.length / 64)))
 
--- ---- the two clauses of a call that appends: its answer and its bytes
-
-pub append-way : (r m : ℕ) (s b : BitmapBuilder) (old out : List ℕ) (f : Filling) (l : List Bool) → r ≡ m → r ≡ 0
-    → filling b out ≡ appended f l
-    → (given b ≡ decided m s (appended f l).builder) × (out ≡ kept m (appended f l).bytes old)
-append-way r m s b old out f l e h p =
-    given-way r m s old e b (appended f l).builder out (appended f l).bytes h (ap (λ (x : Filling). x.builder) p)
-    (ap (λ (x : Filling). x.bytes) p)
-
--- an answer that returns a record equals the answer made of number 0 and that record
-pub change-done : {S : Type 0} (b : S) (r : Answer S S) → given b ≡ r → decided 0 b b ≡ r
-unfolding decided
-change-done b r e = e
-
--- a refusal leaves the record unchanged
-pub refused-kept : {S : Type 0} (n m : ℕ) (b s a : S) → refused n b ≡ decided m s a → decided n s s ≡ decided m s a
-unfolding decided
-refused-kept n zero b s a e = absurd (let z : ◌≡◌ {A = ℕ} 0 1 = cc e in omega arith)
-refused-kept n (suc m) b s a e = let same : n ≡ suc m = cc e in ap (λ (k : ℕ). decided k s s) same
-
--- ---- a push reads and changes only length, word and ones; the record's other fields play no part
-
--- the record b with the length, word and ones of c
-abbrev renewed : BitmapBuilder → BitmapBuilder → BitmapBuilder
-renewed b c = rebuilt b c.length c.word c.ones
-
-abbrev renewal : BitmapBuilder → Answer BitmapBuilder BitmapBuilder → Answer BitmapBuilder BitmapBuilder
-renewal b (given c) = given (renewed b c)
-renewal b (refused n c) = refused n (renewed b c)
-
-renewal_decided : (b : BitmapBuilder) (m : ℕ) (s a : BitmapBuilder) → renewal b (decided m s a) ≡ decided m (renewed b s) (renewed b a)
-unfolding decided
-renewal_decided b zero s a = refl
-renewal_decided b (suc m) s a = refl
-
-module _ (b own : BitmapBuilder) (x : Bool) (bytes : List ℕ) (serial n word ones : ℕ) (made : own ≡ builder_under serial n word ones) where
-  renewed_push : renewal b (append_answer (push_flag x) own bytes) ≡ append_answer (push_flag x) (rebuilt b n word ones) bytes
-  unfolding appended in_progress builder_checks possible
-  renewed_push =
-      renewal_decided b _ own (appended (filling own bytes) (x ∷ [])).builder
-      ∙ ap (λ (c : BitmapBuilder). append_answer (push_flag x) (renewed b c) bytes) made
-
-  pub renewed_done : (c : BitmapBuilder) → given c ≡ append_answer (push_flag x) own bytes
-      → change_answer 0 (renewed b c) ≡ append_answer (push_flag x) (rebuilt b n word ones) bytes
-  renewed_done c e = change-done (renewed b c) _ (ap (renewal b) e ∙ renewed_push)
+-- an append reads and changes only length, word and ones: the record's other fields stay
+pub stored : (b own c : BitmapBuilder) (bytes out : List ℕ) (l : List Bool) → own ≡ b → filling c out ≡ appended (filling own bytes) l
+    → filling (rebuilt b c.length c.word c.ones) out ≡ appended (filling b bytes) l
+unfolding appended
+stored b own c bytes out l same e =
+    ap (λ (f : Filling). filling (rebuilt b f.builder.length f.builder.word f.builder.ones) f.bytes)
+    (e ∙ ap (λ (o : BitmapBuilder). appended (filling o bytes) l) same)
 
 pub take-copies : (k n : ℕ) (x : Bool) → k ≤ n → take k (copies n x) ≡ copies k x
 unfolding copies

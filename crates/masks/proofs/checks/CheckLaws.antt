@@ -214,11 +214,6 @@ pub last-refused : {S A : Type 0} (cs : List Check) (n k : ℕ) (t : Bool) (s : 
 unfolding decided
 last-refused cs n k t s a p z e = last-decided cs n k t false s a p z e
 
-pub last-given : {S A : Type 0} (cs : List Check) (n k : ℕ) (t : Bool) (s : S) (a : A) → n ≡ first_failed cs → n ≡ 0 → t ≡ true
-    → given a ≡ decided (first_failed (cs ++ (check (suc k) t ∷ []))) s a
-unfolding decided
-last-given cs n k t s a p z e = last-decided cs n k t true s a p z e
-
 -- ---- a check that is made only if the others pass: all of them come before it in the order
 
 -- whether all numbers of a list come before k in the order
@@ -316,11 +311,6 @@ first-number cs n k t b p z = p ∙ sym (failed-append cs (check (suc k) t ∷ [
     keeps : (t : Bool) → earlier (first_failed cs) (cond t 0 (suc k)) ≡ first_failed cs
     keeps true = earlier-none (first_failed cs)
     keeps false = first-least (first_failed cs) (suc k) (λ e. z (p ∙ e)) (λ e. omega arith) (failed-ranked cs (suc k) b (λ e. z (p ∙ e)))
-
--- if one of the checks that come first fails, the call is refused by its number
-pub first-refused : {S A : Type 0} (cs : List Check) (n k : ℕ) (t : Bool) (s : S) (a : A) → before (suc k) cs ≡ true
-    → n ≡ first_failed cs → (n ≡ 0 → ⊥) → refused n s ≡ decided (first_failed (cs ++ (check (suc k) t ∷ []))) s a
-first-refused cs n k t s a b p z = is-refused n (first_failed (cs ++ (check (suc k) t ∷ []))) s a (first-number cs n k t b p z) z
 
 -- comparing the words of n flags with the words of an output equals comparing the bytes
 pub words-test : (n size : ℕ) → leb ((n + 63) / 64) (size / 8) ≡ leb (8 * ((n + 63) / 64)) size

@@ -12,7 +12,7 @@ use Rattle.masks.specs.Answer.{Answer, answer, answer_back, decided, kept, refus
 use Rattle.masks.proofs.checks.CheckLaws.{is-kept, is-refused, not-empty}
 use Rattle.masks.specs.Checks.{earlier, rank, place_in}
 use Rattle.masks.specs.Cursor.{answer_step, Step}
-use Rattle.masks.specs.Refusal.{number, failure_of}
+use Rattle.masks.specs.Refusal.{failure_back, failure_of, number}
 use Rattle.masks.specs.declared.cursor.Step.{Step as Stepped}
 use Rattle.masks.specs.declared.refusal.Refusal.{Refusal}
 use Rattle.masks.specs.declared.refusal.Refusal.TheVariants.{OverLimit, PastBytes, FalseCount, UnequalLists, ImpossibleBuilder}
@@ -134,12 +134,12 @@ step-is r s x e result h =
     let p = err_from_is_err_and result h in
     ap answer_step (p.1 ∙ ap (λ (y : Refused _). Err y) p.2) ∙ same-refused r s x e
 
--- the answer of a call whose checks also return a value
-pub back-exit : {S T A : Type 0} (r : Result T Refusal) (s : S) (x : Refused S) → Err x ≡ with_state r s
-    → (result : Result A (Refused S)) → IsErrAnd result (λ (y : Refused S). y ≡ x) → answer_back result ≡ refused (number x.refusal) s
-back-exit r s x e result h =
+-- the number of a call whose refusal carries the record is that of the check
+pub back-number : {S T A : Type 0} (r : Result T Refusal) (s : S) (x : Refused S) → Err x ≡ with_state r s
+    → (result : Result A (Refused S)) → IsErrAnd result (λ (y : Refused S). y ≡ x) → failure_back result ≡ failure_of r
+back-number r s x e result h =
     let p = err_from_is_err_and result h in
-    ap answer_back (p.1 ∙ ap (λ (y : Refused _). Err y) p.2) ∙ ap (refused (number x.refusal)) (back-err r s x e).1
+    ap failure_back (p.1 ∙ ap (λ (y : Refused _). Err y) p.2) ∙ sym (ap failure_of (back-err r s x e).0)
 
 -- ---- the early exit of a `?` answers by the number of the checks
 

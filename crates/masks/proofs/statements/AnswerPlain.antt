@@ -7,7 +7,7 @@ use Rattle.std.specs.Prelude.{◌≡◌, Some, None, Ok, Err}
 use Rattle.masks.specs.Answer.{given, refused, answer, answer_back}
 use Rattle.masks.specs.Appends.{change_answer}
 use Rattle.masks.specs.Cursor.{item, ended, answer_step}
-use Rattle.masks.specs.Refusal.{failure_of, number}
+use Rattle.masks.specs.Refusal.{failure_back, failure_of, number}
 use Rattle.masks.specs.declared.builder.BitmapBuilder.{BitmapBuilder}
 use Rattle.masks.specs.declared.refusal.Refusal.{Refusal}
 use Rattle.masks.specs.declared.refusal.Refusal.TheVariants.{OverLimit, PastBytes, FalseCount, UnequalLists, ImpossibleBuilder}
@@ -41,6 +41,10 @@ pub record AnswersPlain : Type 1 where
       → answer_step {A = A} (Err (record { refusal = r; state = c })) ≡ refused (number r) c
   -- `push_mut`, which changes the caller's own record
   pub changed : (b : BitmapBuilder) → change_answer 0 b ≡ given b
-  pub passes : failure_of (Ok tt) ≡ 0
-  pub fails : (r : Refusal) → failure_of (Err r) ≡ number r
+  -- the number that a contract names
+  pub passes : {A : Type 0} (a : A) → failure_of (Ok a) ≡ 0
+  pub fails : (A : Type 0) (r : Refusal) → failure_of {A = A} (Err r) ≡ number r
+  pub passes_back : {A : Type 0} (S : Type 0) (a : A) → failure_back {S = S} (Ok a) ≡ 0
+  pub fails_back : {S : Type 0} (A : Type 0) (r : Refusal) (s : S)
+      → failure_back {A = A} (Err (record { refusal = r; state = s })) ≡ number r
   pub numbers : NumbersPlain

@@ -4,7 +4,7 @@ use Rattle.masks.specs.Answer.{given, refused}
 use Rattle.masks.specs.Checks.{first_failed}
 use Rattle.masks.specs.Compare.{eq_of}
 use Rattle.masks.specs.Mask.{mask_checks, mask_flags, mask_under}
-use Rattle.masks.specs.Superseding.{fitted, part_bytes, part_of, superseding_of, within}
+use Rattle.masks.specs.Superseding.{fitted, part_bytes, part_of, part_place, superseding_of, within}
 use Rattle.masks.specs.declared.bitmap.Bitmap.{Bitmap}
 use Rattle.masks.specs.declared.superseding.Part.{Part}
 
@@ -60,6 +60,9 @@ pub record Winning (a : Bitmap) (a_bytes : List ℕ) (b : Bitmap) (b_bytes : Lis
   pub count : p.mask.unset ≡ cond p.second b.unset a.unset
   pub serial : p.mask.serial ≡ cond p.second b.serial a.serial
   pub accepted : Accepted p.mask (part_bytes p a_bytes b_bytes)
+  -- its bytes lie in the slice of that mask, and begin with the byte of the mask's first flag
+  pub place : (first_at second_at : ℕ × ℕ) → part_place p first_at second_at
+      ≡ cond p.second (second_at.0, second_at.1 + b.start / 8) (first_at.0, first_at.1 + a.start / 8)
 
 pub record SupersedingPlainly : Type 0 where
   pub supersedes : (a : Bitmap) (a_bytes : List ℕ) (b : Bitmap) (b_bytes : List ℕ) → Supersedes a a_bytes b b_bytes

@@ -12,11 +12,11 @@ use Rattle.masks.specs.Answer.{given, refused}
 use Rattle.masks.specs.Checks.{Check, check, earlier, first_failed, rank, place_in, span_checks}
 use Rattle.masks.specs.Compare.{eq_of}
 use Rattle.masks.specs.Mask.{mask_checks, mask_flags}
-use Rattle.masks.specs.Superseding.{agree, part_of, superseding_checks, superseding_of, winning}
+use Rattle.masks.specs.Superseding.{agree, part_of, superseding_checks, winning}
 use Rattle.masks.specs.declared.bitmap.Bitmap.{Bitmap}
 use Rattle.masks.specs.declared.superseding.Part.{Part}
 use Rattle.masks.proofs.refusal.AnswerLaws.{given-number, given-value, refused-failed, refused-number}
-use Rattle.masks.proofs.checks.CheckLaws.{SpanAllowed, before, both_left, both_right, earlier-none, failed-append, first-number, is-given}
+use Rattle.masks.proofs.checks.CheckLaws.{SpanAllowed, before, both_left, both_right, earlier-none, failed-append, first-number}
 use Rattle.masks.proofs.checks.CheckLaws.{one-check, passed-before, two-pieces}
 use Rattle.masks.proofs.bitmap.MaskLaws.{mask-allowed}
 
@@ -75,23 +75,13 @@ module _ (a : Bitmap) (a_bytes : List ℕ) (b : Bitmap) (b_bytes : List ℕ) whe
   pub second-allowed-mask : first_failed (superseding_checks a a_bytes b b_bytes) ≡ 0 → SpanAllowed b.start b.length (length b_bytes)
   second-allowed-mask e = mask-allowed b b_bytes (both_right (mask_checks a a_bytes) (mask_checks b b_bytes) (passed-masks e))
 
-  -- ---- the winner
+-- ---- the winner
 
-  pub second_wins : (k : ℕ) (p : Part) → k ≡ first_failed (superseding_checks a a_bytes b b_bytes) → k ≡ 0 → a.serial < b.serial
-      → p ≡ part_of true b
-      → given p ≡ superseding_of a a_bytes b b_bytes
-  unfolding superseding_of
-  second_wins k p e z h made =
-      ap given (made ∙ sym (ap (λ (t : Bool). cond t (part_of true b) (part_of false a)) (lt-ltb a.serial b.serial h)))
-      ∙ is-given k (first_failed (superseding_checks a a_bytes b b_bytes)) tt (winning a b) e z
+pub second_wins : (a b : Bitmap) (p : Part) → a.serial < b.serial → p ≡ part_of true b → p ≡ winning a b
+second_wins a b p h made = made ∙ sym (ap (λ (t : Bool). cond t (part_of true b) (part_of false a)) (lt-ltb a.serial b.serial h))
 
-  pub first_wins : (k : ℕ) (p : Part) → k ≡ first_failed (superseding_checks a a_bytes b b_bytes) → k ≡ 0 → b.serial ≤ a.serial
-      → p ≡ part_of false a
-      → given p ≡ superseding_of a a_bytes b b_bytes
-  unfolding superseding_of
-  first_wins k p e z h made =
-      ap given (made ∙ sym (ap (λ (t : Bool). cond t (part_of true b) (part_of false a)) (le-ltb a.serial b.serial h)))
-      ∙ is-given k (first_failed (superseding_checks a a_bytes b b_bytes)) tt (winning a b) e z
+pub first_wins : (a b : Bitmap) (p : Part) → b.serial ≤ a.serial → p ≡ part_of false a → p ≡ winning a b
+first_wins a b p h made = made ∙ sym (ap (λ (t : Bool). cond t (part_of true b) (part_of false a)) (le-ltb a.serial b.serial h))
 
 -- ---- the part of the bytes
 
@@ -115,22 +105,13 @@ winning-inside a a_bytes b b_bytes e = go (ltb a.serial b.serial)
     go true = allowed-inside true b a_bytes b_bytes (second-allowed-mask a a_bytes b b_bytes e)
     go false = allowed-inside false a a_bytes b_bytes (first-allowed-mask a a_bytes b b_bytes e)
 
-pub given_inside : (a : Bitmap) (a_bytes : List ℕ) (b : Bitmap) (b_bytes : List ℕ) (p : Part) → given p ≡ superseding_of a a_bytes b b_bytes
-    → Inside p a_bytes b_bytes
-unfolding superseding_of
-given_inside a a_bytes b b_bytes p e =
-    let k = first_failed (superseding_checks a a_bytes b b_bytes) in
-    subst (λ (x : Part). Inside x a_bytes b_bytes) (sym (given-value k tt p (winning a b) e))
-    (winning-inside a a_bytes b b_bytes (sym (given-number k tt p (winning a b) e)))
+module _ (a : Bitmap) (a_bytes : List ℕ) (b : Bitmap) (b_bytes : List ℕ) (p : Part)
+    (e : 0 ≡ first_failed (superseding_checks a a_bytes b b_bytes)) (won : p ≡ winning a b) where
+  pub won-inside : Inside p a_bytes b_bytes
+  won-inside = subst (λ (x : Part). Inside x a_bytes b_bytes) (sym won) (winning-inside a a_bytes b b_bytes (sym e))
 
-pub second-inside : (a : Bitmap) (a_bytes : List ℕ) (b : Bitmap) (b_bytes : List ℕ) (p : Part)
-    → given p ≡ superseding_of a a_bytes b b_bytes → p.second ≡ true
-    → p.to ≤ length b_bytes
-second-inside a a_bytes b b_bytes p e s =
-    subst (λ (t : Bool). p.to ≤ length (cond t b_bytes a_bytes)) s (given_inside a a_bytes b b_bytes p e).ends
+  pub second-inside : p.second ≡ true → p.to ≤ length b_bytes
+  second-inside s = subst (λ (t : Bool). p.to ≤ length (cond t b_bytes a_bytes)) s won-inside.ends
 
-pub first-inside : (a : Bitmap) (a_bytes : List ℕ) (b : Bitmap) (b_bytes : List ℕ) (p : Part) → given p ≡ superseding_of a a_bytes b b_bytes
-    → p.second ≡ false
-    → p.to ≤ length a_bytes
-first-inside a a_bytes b b_bytes p e s =
-    subst (λ (t : Bool). p.to ≤ length (cond t b_bytes a_bytes)) s (given_inside a a_bytes b b_bytes p e).ends
+  pub first-inside : p.second ≡ false → p.to ≤ length a_bytes
+  first-inside s = subst (λ (t : Bool). p.to ≤ length (cond t b_bytes a_bytes)) s won-inside.ends

@@ -12,7 +12,8 @@ use borrow.Author.Tests.{eq-eqb, eqb-true, lt-ltb}
 use Rattle.masks.specs.Answer.{given, decided, checked}
 use Rattle.masks.specs.AtIndex.{and_not_at_checks, and_not_at_of, and_not_flag, flag_or, index_checks, index_inside, length_checks}
 use Rattle.masks.specs.Checks.{first_failed}
-use Rattle.masks.specs.Combine.{AndNot, pair_bytes, pair_checks, pair_flags, pair_mask}
+use Rattle.masks.specs.Combine.{AndNot, pair_checks, pair_flags, pair_mask}
+use Rattle.masks.specs.Frozen.{with_frozen}
 use Rattle.masks.specs.Mask.{mask_checks, mask_flags}
 use Rattle.masks.specs.declared.bitmap.Bitmap.{Bitmap}
 use Rattle.masks.proofs.at_index.AtIndexLaws.{passed-masks}
@@ -66,7 +67,7 @@ module _ (a : Bitmap) (a_bytes : List ℕ) (b : Bitmap) (b_bytes : List ℕ) (i 
   -- and the flag at the index of the mask that `and_not` returns, in the bytes that it writes to an output that holds them
   pub flag-of-written : (out : List ℕ) → first_failed (pair_checks a a_bytes b b_bytes (length out)) ≡ 0
       → and_not_at_of (Some a) a_bytes (Some b) b_bytes i
-      ≡ given (get_or (mask_flags (pair_mask AndNot a a_bytes b b_bytes) (pair_bytes AndNot a a_bytes b b_bytes out)) i false)
+      ≡ given (get_or (mask_flags (pair_mask AndNot a a_bytes b b_bytes) (with_frozen out (pair_flags AndNot a a_bytes b b_bytes))) i false)
   flag-of-written out e =
       flag-of-and-not ∙ ap (λ (l : List Bool). given (get_or l i false)) (sym (written-flags AndNot a a_bytes b b_bytes out e))
 

@@ -15,8 +15,10 @@ answers-plain =
       ends = λ c. refl;
       refuses_step = λ r c. refl;
       changed = λ b. refl;
-      passes = refl;
-      fails = λ r. refl;
+      passes = λ a. refl;
+      fails = λ A r. refl;
+      passes_back = λ S a. refl;
+      fails_back = λ A r s. refl;
       numbers =
           record {
             over_limit = refl;

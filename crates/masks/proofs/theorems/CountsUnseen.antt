@@ -18,7 +18,7 @@ use Rattle.masks.specs.Builder.{appended, filling}
 use Rattle.masks.specs.Checks.{Check, check, first_failed, within_limit}
 use Rattle.masks.specs.Combine.{each_bytes, each_of, not_bytes, not_flags, not_of, pair_bytes}
 use Rattle.masks.specs.Combine.{pair_each, pair_flags, pair_mask, pair_of}
-use Rattle.masks.specs.Combine.{largest_serial, result_count, result_flags, result_mask, select_bytes, select_constant_bytes}
+use Rattle.masks.specs.Combine.{largest_serial, result_count, result_mask, select_bytes, select_checks, select_constant_bytes}
 use Rattle.masks.specs.Combine.{select_constant_flags, select_constant_of, select_flags, select_of, shortcut}
 use Rattle.masks.specs.Compare.{common_checks, common_of, edges, edges_of, eq_of}
 use Rattle.masks.proofs.statements.CountsUnseen.{CountsUnseen, UnseenBoth, but_count, forgot, forgot_part, made_but_count, part_but_count}
@@ -187,16 +187,12 @@ module _ (m : Bitmap) (bytes : List ℕ) (e : first_failed (mask_checks m bytes)
       bytes_left : pair_bytes op m bytes b b_b out ≡ pair_bytes op (forgot m) bytes b b_b out
       unfolding pair_bytes pair_flags
       bytes_left =
-          ap₂ (λ (cs : List Check) (z : ℕ). kept (first_failed cs)
-          (over out (frozen (result_flags (shortcut op m.length z (zero_count b b_b)) m.length (pair_each op m bytes b b_b)))) out)
-          (pair_left m bytes e b b_b (length out)) zeros-alike
+          ap (λ (cs : List Check). kept (first_failed cs) (over out (frozen (pair_each op m bytes b b_b))) out) (pair_left (length out))
 
       bytes-right : pair_bytes op b b_b m bytes out ≡ pair_bytes op b b_b (forgot m) bytes out
       unfolding pair_bytes pair_flags
       bytes-right =
-          ap₂ (λ (cs : List Check) (z : ℕ). kept (first_failed cs)
-          (over out (frozen (result_flags (shortcut op b.length (zero_count b b_b) z) b.length (pair_each op b b_b m bytes)))) out)
-          (pair-right m bytes e b b_b (length out)) zeros-alike
+          ap (λ (cs : List Check). kept (first_failed cs) (over out (frozen (pair_each op b b_b m bytes))) out) (pair-right (length out))
 
   -- ---- combinations with no shortcut: only their checks use the counts
 

@@ -1,7 +1,6 @@
 -- A combination of two masks, flag by flag: the flag at a position of its result. An accepted combination returns a mask with these
 -- flags in the bytes that it writes, whatever the counts of its masks are.
-use Rattle.std.specs.Prelude.{Option, Some, None}
-use mathlib.Core.Path.{◌≡◌, refl, sym, ap, ap₂, ◌∙◌}
+use mathlib.Core.Path.{◌≡◌, sym, ap, ap₂, ◌∙◌}
 use mathlib.Core.Bool.{Bool, false, not, ◌&&◌}
 use mathlib.Core.List.{List, ◌∷◌, ◌++◌}
 use Prim.Native.Nat.{ℕ, ◌+◌, ◌<◌}
@@ -13,20 +12,17 @@ use Rattle.words.specs.Ops.{op_of}
 use Rattle.words.specs.declared.ops.Op.{Op}
 use Rattle.words.specs.declared.ops.Op.TheVariants.{AndNot}
 use Rattle.words.proofs.ops.Combining.{at-zip-in}
-use Rattle.words.proofs.flags.Windows.{at_in, length-copies, length-window}
-use Rattle.masks.specs.Answer.{kept}
+use Rattle.words.proofs.flags.Windows.{at_in, length-window}
 use Rattle.masks.specs.Checks.{Check, check, first_failed, output_checks}
-use Rattle.masks.specs.Combine.{pair_bytes, pair_checks, pair_each, pair_flags, pair_mask, pair_shortcut, result_flags, shortcut}
-use Rattle.masks.specs.Frozen.{frozen}
+use Rattle.masks.specs.Combine.{pair_checks, pair_each, pair_flags, pair_mask, shortcut}
+use Rattle.masks.specs.Frozen.{frozen, with_frozen}
 use Rattle.masks.specs.Mask.{cut_mask, mask_checks, mask_flags}
 use Rattle.masks.proofs.statements.TrueCounts.{Truthful}
 use Rattle.masks.specs.declared.bitmap.Bitmap.{Bitmap}
-use Rattle.masks.proofs.checks.CheckLaws.{both_left, both_right, is-new, rest-allowed}
-use Rattle.masks.proofs.bitmap_ops.CombineLaws.{pair_lengths}
+use Rattle.masks.proofs.checks.CheckLaws.{both_right, rest-allowed}
+use Rattle.masks.proofs.bitmap_ops.CombineLaws.{pair-counts, pair_lengths}
 use Rattle.masks.proofs.builder.FreezeLaws.{frozen-front}
 use Rattle.masks.proofs.checks.LengthLaws.{length-zip3, output-allowed}
-use Rattle.masks.proofs.bitmap.MaskLaws.{mask-truthful}
-use Rattle.masks.proofs.theorems.ShortcutsUnseen.{flags-by_operation}
 
 module _ (a : Bitmap) (a_bytes : List ℕ) (b : Bitmap) (b_bytes : List ℕ) (same : a.length ≡ b.length) where
   -- flag j of the operation, taken flag by flag
@@ -59,49 +55,31 @@ module _ (a : Bitmap) (a_bytes : List ℕ) (b : Bitmap) (b_bytes : List ℕ) (sa
   -- a combination has as many flags as its masks
   pub flags-length : (op : Op) → length (pair_flags op a a_bytes b b_bytes) ≡ a.length
   unfolding pair_flags
-  flags-length op = go (pair_shortcut op a a_bytes b b_bytes)
-    where
-      go : (s : Option Bool) → length (result_flags s a.length (pair_each op a a_bytes b b_bytes)) ≡ a.length
-      go None = each-length op
-      go (Some x) = length-copies a.length x
+  flags-length op = each-length op
 
 -- the mask that an accepted combination returns has the combination's flags in the bytes written
 pub written-flags : (op : Op) (a : Bitmap) (a_bytes : List ℕ) (b : Bitmap) (b_bytes out : List ℕ)
     → first_failed (pair_checks a a_bytes b b_bytes (length out)) ≡ 0
-    → mask_flags (pair_mask op a a_bytes b b_bytes) (pair_bytes op a a_bytes b b_bytes out) ≡ pair_flags op a a_bytes b b_bytes
-unfolding pair_mask pair_bytes pair_checks
+    → mask_flags (pair_mask op a a_bytes b b_bytes) (with_frozen out (pair_flags op a a_bytes b b_bytes))
+    ≡ pair_flags op a a_bytes b b_bytes
+unfolding pair_mask pair_checks
 written-flags op a a_bytes b b_bytes out e =
     let rest : List Check = check 5 (eqb a.length b.length) ∷ output_checks a.length (length out) in
     let room = output-allowed a.length (length out) (rest-allowed (check 5 (eqb a.length b.length)) (output_checks a.length (length out))
     (both_right (mask_checks b b_bytes) rest (both_right (mask_checks a a_bytes) (mask_checks b b_bytes ++ rest) e))) in
     let F = pair_flags op a a_bytes b b_bytes in
     let n : length F ≡ a.length = flags-length a a_bytes b b_bytes (pair_lengths a a_bytes b b_bytes (length out) e) op in
-    let new : kept (first_failed (mask_checks a a_bytes ++ (mask_checks b b_bytes ++ rest))) (over out (frozen F)) out
-    ≡ over out (frozen F) =
-    when-passed (first_failed (mask_checks a a_bytes ++ (mask_checks b b_bytes ++ rest))) (over out (frozen F)) out e in
-    ap (λ (l : List ℕ). window (flags_of l) 0 a.length) new
-    ∙ ap (window (flags_of (over out (frozen F))) 0) (sym n)
-    ∙ frozen-front out F (omega arith)
-  where
-    when-passed : (k : ℕ) (new old : List ℕ) → k ≡ 0 → kept k new old ≡ new
-    when-passed k new old z = sym (is-new k k new old refl z)
+    ap (window (flags_of (over out (frozen F))) 0) (sym n) ∙ frozen-front out F (omega arith)
 
 -- the masks of an accepted combination have unknown or true counts
 pub pair-truthful : (a : Bitmap) (a_bytes : List ℕ) (b : Bitmap) (b_bytes : List ℕ) (size : ℕ)
     → first_failed (pair_checks a a_bytes b b_bytes size) ≡ 0 → Truthful a a_bytes × Truthful b b_bytes
-unfolding pair_checks
-pair-truthful a a_bytes b b_bytes size e =
-    let rest : List Check = check 5 (eqb a.length b.length) ∷ output_checks a.length size in (
-      mask-truthful a a_bytes (both_left (mask_checks a a_bytes) (mask_checks b b_bytes ++ rest) e),
-      mask-truthful b b_bytes
-          (both_left (mask_checks b b_bytes) rest (both_right (mask_checks a a_bytes) (mask_checks b b_bytes ++ rest) e)),
-    )
+pair-truthful = pair-counts
 
 -- so an accepted combination writes the operation flag by flag, with a shortcut or without
 pub written-each : (op : Op) (a : Bitmap) (a_bytes : List ℕ) (b : Bitmap) (b_bytes out : List ℕ)
     → first_failed (pair_checks a a_bytes b b_bytes (length out)) ≡ 0
-    → mask_flags (pair_mask op a a_bytes b b_bytes) (pair_bytes op a a_bytes b b_bytes out) ≡ pair_each op a a_bytes b b_bytes
-written-each op a a_bytes b b_bytes out e =
-    let t = pair-truthful a a_bytes b b_bytes (length out) e in
-    written-flags op a a_bytes b b_bytes out e
-    ∙ flags-by_operation op a a_bytes b b_bytes (pair_lengths a a_bytes b b_bytes (length out) e) t.0 t.1
+    → mask_flags (pair_mask op a a_bytes b b_bytes) (with_frozen out (pair_flags op a a_bytes b b_bytes))
+    ≡ pair_each op a a_bytes b b_bytes
+unfolding pair_flags
+written-each op a a_bytes b b_bytes out e = written-flags op a a_bytes b b_bytes out e

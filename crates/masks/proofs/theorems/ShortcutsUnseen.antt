@@ -14,7 +14,7 @@ use Rattle.words.specs.Ops.{op_of, zip3}
 use Rattle.words.specs.declared.ops.Op.{Op}
 use Rattle.words.specs.declared.ops.Op.TheVariants.{And, AndNot, Or, OrNot, Xor, Not, Select}
 use Rattle.words.proofs.flags.Windows.{length-window}
-use Rattle.masks.specs.Combine.{shortcut, result_flags, pair_each, pair_flags}
+use Rattle.masks.specs.Combine.{shortcut, result_flags, pair_each, pair_shortcut}
 use Rattle.masks.specs.Mask.{count_or, mask_flags, zero_count}
 use Rattle.masks.proofs.statements.TrueCounts.{TrueCount, Truthful}
 use Rattle.masks.specs.Utils.{zeros}
@@ -134,11 +134,10 @@ true-count m bytes t = go m.unset t
     go (Some z) e = e
     go None e = refl
 
--- with true counts the flags written are the operation on the arguments' flags
+-- with true counts the flags that a shortcut gives are the operation on the arguments' flags
 pub flags-by_operation : (op : Op) (a : Bitmap) (a_bytes : List ℕ) (b : Bitmap) (b_bytes : List ℕ) → a.length ≡ b.length
     → Truthful a a_bytes → Truthful b b_bytes
-    → pair_flags op a a_bytes b b_bytes ≡ pair_each op a a_bytes b b_bytes
-unfolding pair_flags
+    → result_flags (pair_shortcut op a a_bytes b b_bytes) a.length (pair_each op a a_bytes b b_bytes) ≡ pair_each op a a_bytes b b_bytes
 flags-by_operation op a a_bytes b b_bytes e ta tb =
     ap₂ (λ (x y : ℕ). result_flags (shortcut op a.length x y) a.length (pair_each op a a_bytes b b_bytes)) (true-count a a_bytes ta)
     (true-count b b_bytes tb)

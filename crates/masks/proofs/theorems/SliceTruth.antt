@@ -22,9 +22,9 @@ use Rattle.masks.specs.Mask.{cut_zeros, kept_count, mask_checks, mask_flags, mas
 use Rattle.masks.specs.Mask.{recounts, recount_valid, slice_checks, sliced_count, sliced_mask, slice_of, uncounted}
 use Rattle.masks.proofs.statements.TrueCounts.{TrueCount, Truthful}
 use Rattle.masks.specs.Utils.{zeros}
-use Rattle.masks.specs.Workers.{cut_of}
+use Rattle.masks.specs.Workers.{PieceAllowed, cut_of}
 use Rattle.masks.specs.declared.bitmap.Bitmap.{Bitmap}
-use Rattle.masks.proofs.checks.CheckLaws.{both_left, first-number, last_made, passed-before}
+use Rattle.masks.proofs.checks.CheckLaws.{both_left, first-number, is-given, last_made, passed-before}
 use Rattle.masks.proofs.bitmap.MaskLaws.{mask-allowed, mask-truthful, piece-allowed, piece-before, slice-right}
 use Rattle.masks.proofs.utils.PartLaws.{zeros-most, zeros-none}
 
@@ -157,6 +157,11 @@ slice-number m bytes offset n = go (first_failed (piece_checks m bytes offset n)
         ∙ last_made (piece_checks m bytes offset n) 0 6 valid e refl
     go (suc k) e = first-number (piece_checks m bytes offset n) (suc k) 6 valid (piece-before m bytes offset n) e (λ z. omega arith)
 
+-- what a caller learns of an accepted slice
+pub slice-allowed : (m : Bitmap) (bytes : List ℕ) (offset n : ℕ) → first_failed (slice_checks m bytes offset n) ≡ 0
+    → PieceAllowed m (length bytes) offset n
+slice-allowed m bytes offset n e = piece-allowed m bytes offset n (slice-number m bytes offset n ∙ e)
+
 pub slice-accepted : (m : Bitmap) (bytes : List ℕ) (offset n : ℕ)
     → slice_of m bytes offset n ≡ checked (piece_checks m bytes offset n) m (sliced_mask m bytes offset n)
 unfolding slice_of
@@ -202,14 +207,16 @@ whole-allowed m bytes e =
 
 -- a slice of the whole mask returns the mask unchanged
 pub slice-whole : (m : Bitmap) (bytes : List ℕ) → first_failed (mask_checks m bytes) ≡ 0 → slice_of m bytes 0 m.length ≡ given m
+unfolding slice_of
 slice-whole m bytes e =
     let none = none-cut m bytes in
     let long = length-window (flags_of bytes) m.start m.length in
     let known = whole-count m.length m.unset (mask_flags m bytes) long (mask-truthful m bytes e) in
     let s : m.start + 0 ≡ m.start = omega arith in
-    sym (slice-right m bytes 0 m.length 0 (whole-allowed m bytes e) m.unset refl
+    let right = slice-right m bytes 0 m.length 0 (whole-allowed m bytes e) m.unset refl
     (sym (ap (λ (x : ℕ). cut_of m.length m.length x m.unset) none
-    ∙ ap₂ (λ (b : Bool) (u : Option ℕ). cond b (Ok u) (Err WrongRecount)) known.1 known.0)))
+    ∙ ap₂ (λ (b : Bool) (u : Option ℕ). cond b (Ok u) (Err WrongRecount)) known.1 known.0)) in
+    sym (ap given right.1 ∙ is-given 0 (first_failed (slice_checks m bytes 0 m.length)) m (sliced_mask m bytes 0 m.length) right.0 refl)
     ∙ ap (λ (x : ℕ). given (mask_under m.serial x m.length m.unset)) s
 
 -- ---- a combination's count

@@ -26,7 +26,7 @@ use Rattle.masks.specs.declared.superseding.Part.{Part}
 use Rattle.masks.proofs.theorems.Accepted.{span-accepted}
 use Rattle.masks.proofs.refusal.AnswerLaws.{given-number, given-value, refused-number}
 use Rattle.masks.proofs.checks.CheckLaws.{SpanAllowed, before, both_left, both_right, check-allowed, earlier-none, failed-ranked}
-use Rattle.masks.proofs.checks.CheckLaws.{first-number}
+use Rattle.masks.proofs.checks.CheckLaws.{first-number, is-given}
 use Rattle.masks.proofs.checks.CheckLaws.{last-refused, one-check, passed-before}
 use Rattle.masks.proofs.bitmap.MaskLaws.{mask-allowed}
 use Rattle.masks.proofs.superseding.SupersedingLaws.{apart, first_wins, masks-before, second_wins}
@@ -184,14 +184,21 @@ module _ (a : Bitmap) (a_bytes : List ℕ) (b : Bitmap) (b_bytes : List ℕ) whe
         (eqb-true a.serial b.serial told.0, λ l. true≢false (sym (equal-same (mask_flags a a_bytes) (mask_flags b b_bytes) l) ∙ told.1)),
       )
 
+  given-part : (p : Part) → 0 ≡ first_failed (superseding_checks a a_bytes b b_bytes) → p ≡ winning a b
+      → superseding_of a a_bytes b b_bytes ≡ given p
+  unfolding superseding_of
+  given-part p e won =
+      sym (ap given won ∙ is-given 0 (first_failed (superseding_checks a a_bytes b b_bytes)) tt (winning a b) e refl)
+
   supersedes : Supersedes a a_bytes b b_bytes
   unfolding eq_of mask_checks
   supersedes = record {
     first_larger =
-        λ p q h. sym (first_wins a a_bytes b b_bytes 0 (part_of false a) (apart-passed p q (λ s. omega arith)) refl (omega arith) refl);
-    second_larger = λ p q h. sym (second_wins a a_bytes b b_bytes 0 (part_of true b) (apart-passed p q (λ s. omega arith)) refl h refl);
-    equal = λ p q s e. sym (first_wins a a_bytes b b_bytes 0 (part_of false a)
-        (equal-passed p q s (equal-same (mask_flags a a_bytes) (mask_flags b b_bytes) e)) refl (omega arith) refl);
+        λ p q h. given-part (part_of false a) (apart-passed p q (λ s. omega arith)) (first_wins a b (part_of false a) (omega arith) refl);
+    second_larger = λ p q h. given-part (part_of true b) (apart-passed p q (λ s. omega arith)) (second_wins a b (part_of true b) h refl);
+    equal = λ p q s e.
+        given-part (part_of false a) (equal-passed p q s (equal-same (mask_flags a a_bytes) (mask_flags b b_bytes) e))
+        (first_wins a b (part_of false a) (omega arith) refl);
     different = λ p q s n. sym (refused-different p q s n);
     fourteen = fourteen-only;
     eq_unserialled = λ s t. refl;
@@ -215,6 +222,7 @@ module _ (a : Bitmap) (a_bytes : List ℕ) (b : Bitmap) (b_bytes : List ℕ)
         count = refl;
         serial = refl;
         accepted = part.accepted;
+        place = λ x y. refl;
       }
   won-part false h =
       let part = fits-part a a_bytes (both_left (mask_checks a a_bytes) (mask_checks b b_bytes) accepted-masks) in
@@ -225,6 +233,7 @@ module _ (a : Bitmap) (a_bytes : List ℕ) (b : Bitmap) (b_bytes : List ℕ)
         count = refl;
         serial = refl;
         accepted = part.accepted;
+        place = λ x y. refl;
       }
 
 given-won : (a : Bitmap) (a_bytes : List ℕ) (b : Bitmap) (b_bytes : List ℕ) (p : Part) → superseding_of a a_bytes b b_bytes ≡ given p

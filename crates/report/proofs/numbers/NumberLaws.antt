@@ -1,5 +1,5 @@
 -- The flags of whole bytes as a mask, and its runs counted one by one.
-use Rattle.std.specs.Prelude.{Option, Some, None, Result, Ok, Err, is_some, is_ok}
+use Rattle.std.specs.Prelude.{Option, Some, None, Result, Ok, Err, IfOk, is_some, is_ok}
 use mathlib.Core.Path.{◌≡◌, refl, sym, ap, ◌∙◌}
 use mathlib.Core.Bool.{Bool, true, false, cond}
 use mathlib.Core.List.{List}
@@ -8,17 +8,20 @@ use native.Mathlib.Omega.{arith}
 use lib.Dec.{ltb}
 use lib.ListN.{length}
 use borrow.Author.Tests.{ltb-true}
+use Rattle.std.proofs.lemmas.Result.{IfOk-at_ok}
 use Rattle.words.specs.Flags.{flags_of, window}
+use Rattle.words.specs.Loops.{stretch}
 use Rattle.words.proofs.flags.Bytes.{length-flags}
 use Rattle.words.proofs.flags.Windows.{length-window, window-all}
-use Rattle.masks.specs.Answer.{Answer, answer, answer_back, decided, given, refused}
+use Rattle.masks.specs.Answer.{answer, answer_back, decided}
 use Rattle.masks.specs.Checks.{first_failed, limit}
 use Rattle.masks.specs.Compare.{edges}
-use Rattle.masks.specs.Cursor.{Step, answer_step, item, ended, step_of}
+use Rattle.masks.specs.Cursor.{Step, item, ended, step_of}
 use Rattle.masks.specs.Iterator.{leading_from}
 use Rattle.masks.proofs.statements.Listing.{listed, runs_left}
 use Rattle.masks.specs.Mask.{mask_checks, mask_flags, mask_of, zero_count}
-use Rattle.masks.specs.SliceIterator.{next_slice, run_of, runs_from, run_start, slices_at, slice_step}
+use Rattle.masks.specs.Refusal.{failure_back}
+use Rattle.masks.specs.SliceIterator.{run_checks, run_of, runs_from, run_start, slices_at, slice_step}
 use Rattle.masks.specs.Utils.{zeros}
 use Rattle.masks.specs.declared.bitmap.Bitmap.{Bitmap}
 use Rattle.masks.specs.declared.cursor.Step.{Step as Stepped}
@@ -28,7 +31,8 @@ use Rattle.masks.specs.declared.slice_iterator.Run.{Run}
 use Rattle.masks.specs.declared.slice_iterator.SlicesIterator.{SlicesIterator}
 use Rattle.masks.proofs.theorems.Accepted.{mask-accepted}
 use Rattle.masks.proofs.refusal.AnswerLaws.{given-value, refused-failed}
-use Rattle.masks.proofs.checks.CheckLaws.{is-given, when-gt, when-le}
+use Rattle.masks.proofs.checks.CheckLaws.{when-gt, when-le}
+use Rattle.masks.proofs.refusal.ClauseLaws.{accepted_back}
 use Rattle.masks.proofs.cursor.CursorLaws.{cursor-allowed, over-mask}
 use Rattle.masks.proofs.theorems.RunsPlain.{first_run_lem, next-lists}
 use Rattle.report.specs.Numbers.{most, numbers_of, report_of}
@@ -99,12 +103,6 @@ none-counted m bytes c e =
 pub ok-same : {E A : Type 0} (x y : A) → ◌≡◌ {A = Result A E} (Ok x) (Ok y) → x ≡ y
 ok-same x y e = cc
 
-given-same : {S A : Type 0} (x y : A) → ◌≡◌ {A = Answer S A} (given x) (given y) → x ≡ y
-given-same x y e = cc
-
-refused-not-given : {S A : Type 0} (n : ℕ) (s : S) (x : A) → refused n s ≡ given x → ⊥
-refused-not-given n s x e = cc
-
 some-of : (i : Option Run) → is_some i ≡ true → (r : Run) × (i ≡ Some r)
 some-of (Some r) h = (r, refl)
 some-of None h = absurd (let z : ◌≡◌ {A = ℕ} 0 1 = cc in omega arith)
@@ -126,11 +124,12 @@ module _ (m : Bitmap) (bytes : List ℕ) (c : SlicesIterator) (runs : ℕ)
   step : Step SlicesIterator Run
   step = slice_step (slices_at m.start m.length c.place) (mask_flags m bytes)
 
-  next-given : next_slice c bytes ≡ given step
-  unfolding next_slice step
-  next-given =
-      ap (λ (d : SlicesIterator). next_slice d bytes) a.over
-      ∙ sym (is-given 0 _ _ _ (sym (over-mask m bytes c.place readable a.reached)) refl)
+  next-passes : first_failed (run_checks c bytes) ≡ 0
+  next-passes = ap (λ (d : SlicesIterator). first_failed (run_checks d bytes)) a.over ∙ over-mask m bytes c.place readable a.reached
+
+  next-step : slice_step c (stretch bytes c.start c.length) ≡ step
+  unfolding step
+  next-step = ap (λ (d : SlicesIterator). slice_step d (stretch bytes d.start d.length)) a.over
 
   -- a run, and the cursor just past it
   moved : (r : Run) (d : SlicesIterator) → item r d ≡ step
@@ -155,18 +154,21 @@ module _ (m : Bitmap) (bytes : List ℕ) (c : SlicesIterator) (runs : ℕ)
       ap length (next-lists (slices_at m.start m.length c.place) (mask_flags m bytes) flags-length
       ∙ ap (listed (mask_flags m bytes)) (sym e))
 
-  pub ok-next : (x : Result (Stepped Run SlicesIterator) (Refused SlicesIterator)) → answer_step x ≡ next_slice c bytes → is_ok x ≡ true
-  ok-next (Ok s) e = refl
-  ok-next (Err x) e = absurd (refused-not-given _ _ _ (e ∙ next-given))
+  pub ok-next : (x : Result (Stepped Run SlicesIterator) (Refused SlicesIterator)) → failure_back x ≡ first_failed (run_checks c bytes)
+      → is_ok x ≡ true
+  ok-next x e = accepted_back x (e ∙ next-passes)
+
+  -- what `next` ensures of its step
+  abbrev pub Steps : Stepped Run SlicesIterator → Type 0
+  Steps s = step_of s.item s.cursor ≡ slice_step c (stretch bytes c.start c.length)
 
   given-step : (x : Result (Stepped Run SlicesIterator) (Refused SlicesIterator)) (s : Stepped Run SlicesIterator) (i : Option Run)
-      → answer_step x ≡ next_slice c bytes → x ≡ Ok s → s.item ≡ i → step_of i s.cursor ≡ step
-  given-step x s i e o h =
-      given-same _ _ (ap (λ (j : Option Run). given (step_of j s.cursor)) (sym h) ∙ ap answer_step (sym o) ∙ e ∙ next-given)
+      → IfOk x Steps → x ≡ Ok s → s.item ≡ i → step_of i s.cursor ≡ step
+  given-step x s i e o h = ap (λ (j : Option Run). step_of j s.cursor) (sym h) ∙ IfOk-at_ok Steps o e ∙ next-step
 
   -- one more run is passed, and all can still be counted
   pub run-passed : (x : Result (Stepped Run SlicesIterator) (Refused SlicesIterator)) (s : Stepped Run SlicesIterator)
-      → answer_step x ≡ next_slice c bytes → x ≡ Ok s → is_some s.item ≡ true
+      → IfOk x Steps → x ≡ Ok s → is_some s.item ≡ true
       → RunsCounted m bytes s.cursor (runs + 1) × (c.place < s.cursor.place) × (runs + 1 ≤ limit)
   run-passed x s e o h =
       let there = some-of s.item h in
@@ -179,5 +181,5 @@ module _ (m : Bitmap) (bytes : List ℕ) (c : SlicesIterator) (runs : ℕ)
       (counted, ahead.1, omega (arith, a.few, ahead.1, ahead.2, short))
 
   pub no_run : (x : Result (Stepped Run SlicesIterator) (Refused SlicesIterator)) (s : Stepped Run SlicesIterator)
-      → answer_step x ≡ next_slice c bytes → x ≡ Ok s → is_some s.item ≡ false → runs ≡ length (runs_from 0 (mask_flags m bytes))
+      → IfOk x Steps → x ≡ Ok s → is_some s.item ≡ false → runs ≡ length (runs_from 0 (mask_flags m bytes))
   no_run x s e o h = let left = left-listed (ended s.cursor) (given-step x s None e o (none-of s.item h)) in omega (arith, a.sum, left)

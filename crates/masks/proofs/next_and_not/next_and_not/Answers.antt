@@ -1,18 +1,10 @@
 -- If the checks pass (`next-allowed`), a flag is found at or after the place (`found-ahead`), or before it (`found_before`), or nowhere
 -- (`found_none`).
-use mathlib.Core.Path.{refl, sym, ap, ◌∙◌}
+use mathlib.Core.Path.{refl, sym}
 use native.Mathlib.Omega.{arith}
-use Rattle.masks.specs.Answer.{given}
-use Rattle.masks.specs.NextAndNot.{next_and_not_of}
-use Rattle.masks.proofs.checks.CheckLaws.{is-given}
 use Rattle.masks.proofs.next_and_not.NextAndNotLaws.{before-allowed, found-ahead, found_before, found_none, found-word, free-length}
 use Rattle.masks.proofs.next_and_not.NextAndNotLaws.{next-allowed}
-use Rattle.masks.proofs.refusal.RefusalLaws.{exit-refused}
 use Rattle.masks.proofs.next_and_not.next_and_not.Goals as goal
-
-pub returns-in_err-check_next : goal.returns-in_err-check_next
-unfolding next_and_not_of
-returns-in_err-check_next c = exit-refused _ _ c.from_residual.ensures.1 _ c.in_err-check_next.ensures _
 
 pub free_word-word-requires : goal.free_word-word-requires
 free_word-word-requires c =
@@ -24,13 +16,10 @@ next_in_word-requires c =
     let ok = next-allowed _ _ _ _ _ (sym c.in_ok-check_next.ensures) in
     (c.if-length-le64.true, ok.ordered)
 
-pub returns-then-length-le64 : goal.returns-then-length-le64
-unfolding next_and_not_of
-returns-then-length-le64 c =
+pub returns-then-length-le64-clause-found : goal.returns-then-length-le64-clause-found
+returns-then-length-le64-clause-found c =
     let ok = next-allowed _ _ _ _ _ (sym c.in_ok-check_next.ensures) in
-    ap given
-    (found-word _ _ _ _ _ _ _ _ ok.beside refl (c.free_word-word.ensures _ c.if-length-le64.true (omega arith)) c.next_in_word.ensures)
-    ∙ is-given _ _ _ _ c.in_ok-check_next.ensures refl
+    found-word _ _ _ _ _ _ _ _ ok.beside refl (c.free_word-word.ensures _ c.if-length-le64.true (omega arith)) c.next_in_word.ensures
 
 pub zeros_ahead-ahead-requires : goal.zeros_ahead-ahead-requires
 zeros_ahead-ahead-requires c = next-allowed _ _ _ _ _ (sym c.in_ok-check_next.ensures)
@@ -40,13 +29,10 @@ overflow_sub-length c =
     let ok = next-allowed _ _ _ _ _ (sym c.in_ok-check_next.ensures) in
     ok.ordered
 
-pub returns-then-ahead-length : goal.returns-then-ahead-length
-unfolding next_and_not_of
-returns-then-ahead-length c =
+pub returns-then-ahead-length-clause-found : goal.returns-then-ahead-length-clause-found
+returns-then-ahead-length-clause-found c =
     let ok = next-allowed _ _ _ _ _ (sym c.in_ok-check_next.ensures) in
-    ap given
-    (found-ahead _ _ _ _ (free-length _ _ _ _ ok.beside) ok.ordered c.zeros_ahead-ahead.ensures _ _ c.if-ahead-length.true refl refl)
-    ∙ is-given _ _ _ _ c.in_ok-check_next.ensures refl
+    found-ahead _ _ _ _ (free-length _ _ _ _ ok.beside) ok.ordered c.zeros_ahead-ahead.ensures _ _ c.if-ahead-length.true refl refl
 
 pub overflow_sub-length-2 : goal.overflow_sub-length-2
 overflow_sub-length-2 c =
@@ -63,27 +49,21 @@ zeros_ahead-before-requires c =
     let ok = next-allowed _ _ _ _ _ (sym c.in_ok-check_next.ensures) in
     before-allowed _ _ _ ok
 
-pub returns-then-before-from : goal.returns-then-before-from
-unfolding next_and_not_of
-returns-then-before-from c =
+pub returns-then-before-from-clause-found : goal.returns-then-before-from-clause-found
+returns-then-before-from-clause-found c =
     let ok = next-allowed _ _ _ _ _ (sym c.in_ok-check_next.ensures) in
-    ap given
-    (found_before _ _ _ _ (free-length _ _ _ _ ok.beside)
+    found_before _ _ _ _ (free-length _ _ _ _ ok.beside)
     ok.ordered c.zeros_ahead-ahead.ensures _ _ c.if-ahead-length.false c.windows_of-passed.ensures
-    c.zeros_ahead-before.ensures _ c.if-before-from.true refl)
-    ∙ is-given _ _ _ _ c.in_ok-check_next.ensures refl
+    c.zeros_ahead-before.ensures _ c.if-before-from.true refl
 
 pub windows_of-requires : goal.windows_of-requires
 windows_of-requires c =
     let ok = next-allowed _ _ _ _ _ (sym c.in_ok-check_next.ensures) in
     omega (arith, ok.ordered, ok.short)
 
-pub returns : goal.returns
-unfolding next_and_not_of
-returns c =
+pub returns-clause-found : goal.returns-clause-found
+returns-clause-found c =
     let ok = next-allowed _ _ _ _ _ (sym c.in_ok-check_next.ensures) in
-    ap given
-    (found_none _ _ _ _ (free-length _ _ _ _ ok.beside)
+    found_none _ _ _ _ (free-length _ _ _ _ ok.beside)
     ok.ordered c.zeros_ahead-ahead.ensures _ _ c.if-ahead-length.false c.windows_of-passed.ensures
-    c.zeros_ahead-before.ensures _ _ c.if-before-from.false c.windows_of.ensures refl)
-    ∙ is-given _ _ _ _ c.in_ok-check_next.ensures refl
+    c.zeros_ahead-before.ensures _ _ c.if-before-from.false c.windows_of.ensures refl

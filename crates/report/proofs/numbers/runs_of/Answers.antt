@@ -17,21 +17,21 @@ unfolding new_slices
 loop-next-init c = none-counted _ _ _ (ok-same _ _ (sym c.unwrap-cursor.ensures ∙ ok-given _ _ _ c.new.ensures c.requires))
 
 pub unwrap-requires : goal.unwrap-requires
-unwrap-requires c = ok-next _ _ _ _ c.requires c.loop-next.invariant _ c.next.ensures
+unwrap-requires c = ok-next _ _ _ _ c.requires c.loop-next.invariant _ c.next.ensures.refused
 
 pub returns : goal.returns
-returns c = no_run _ _ _ _ c.requires c.loop-next.invariant _ _ c.next.ensures c.unwrap.ensures (search rules)
+returns c = no_run _ _ _ _ c.requires c.loop-next.invariant _ _ c.next.ensures.step c.unwrap.ensures (search rules)
 
 pub overflow_add-runs : goal.overflow_add-runs
 overflow_add-runs c =
-    let past = run-passed _ _ _ _ c.requires c.loop-next.invariant _ _ c.next.ensures c.unwrap.ensures (search rules) in
+    let past = run-passed _ _ _ _ c.requires c.loop-next.invariant _ _ c.next.ensures.step c.unwrap.ensures (search rules) in
     omega (arith, past.2)
 
 pub loop-next-smaller : goal.loop-next-smaller
 loop-next-smaller c =
-    let past = run-passed _ _ _ _ c.requires c.loop-next.invariant _ _ c.next.ensures c.unwrap.ensures (search rules) in
+    let past = run-passed _ _ _ _ c.requires c.loop-next.invariant _ _ c.next.ensures.step c.unwrap.ensures (search rules) in
     omega (arith, past.1, past.0.reached)
 
 pub loop-next-preserved : goal.loop-next-preserved
 loop-next-preserved c =
-    (run-passed _ _ _ _ c.requires c.loop-next.invariant _ _ c.next.ensures c.unwrap.ensures (search rules)).0
+    (run-passed _ _ _ _ c.requires c.loop-next.invariant _ _ c.next.ensures.step c.unwrap.ensures (search rules)).0

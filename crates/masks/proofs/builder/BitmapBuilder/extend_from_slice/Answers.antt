@@ -1,25 +1,15 @@
--- By cases on the number of the checks: `refused-way` or `append-way`. Flags of one load for which the word in progress has room are
--- appended here, more by the worker.
-use Rattle.std.proofs.Common.{rules}
+-- Flags of one load for which the word in progress has room are appended here (`few-inside`), more by the worker.
 use Prim.Native.Nat.{◌≤◌}
 use mathlib.Core.Path.{ap, ◌∙◌}
 use native.Mathlib.Omega.{arith}
 use Rattle.words.proofs.word.Loads.{near-first}
-use Rattle.masks.specs.Appends.{span_grow_checks}
 use Rattle.masks.specs.Builder.{appended}
-use Rattle.masks.proofs.builder.AppendLaws.{append-way}
 use Rattle.masks.proofs.extend.ExtendLaws.{few-inside}
 use Rattle.masks.proofs.builder.InsideLaws.{front-padded, inside-padded}
 use Rattle.masks.proofs.utils.PartLaws.{length-low}
 use Rattle.masks.proofs.builder.RoomLaws.{grow-allowed}
-use Rattle.masks.proofs.refusal.RefusalLaws.{passed-back, refused-way}
+use Rattle.masks.proofs.refusal.RefusalLaws.{passed-back}
 use Rattle.masks.proofs.builder.BitmapBuilder.extend_from_slice.Goals as goal
-
-pub returns-in_err-map_err : goal.returns-in_err-map_err
-unfolding span_grow_checks
-returns-in_err-map_err c =
-    let both = refused-way _ c.args.self _ (search rules) _ c.from_residual.ensures.1 _ c.check_span_grow.ensures _ _ _ in
-    record { answer = both.0; bytes = both.1 }
 
 pub push_inside-requires : goal.push_inside-requires
 push_inside-requires c =
@@ -28,17 +18,14 @@ push_inside-requires c =
     let few = few-inside a.self a.n _ c.one_load_fits.ensures c.if-one_load_fits.true in
     inside-padded _ _ _ _ _ _ room few.1 (length-low _ _ (omega (arith, few.0))) c.low_flags.ensures
 
-pub returns-then-one_load_fits : goal.returns-then-one_load_fits
-unfolding span_grow_checks
-returns-then-one_load_fits c =
+pub returns-then-one_load_fits-clause-appended : goal.returns-then-one_load_fits-clause-appended
+returns-then-one_load_fits-clause-appended c =
     let a = c.args in
     let few = (few-inside a.self a.n _ c.one_load_fits.ensures c.if-one_load_fits.true).0 in
     let most : a.n ≤ 64 = omega arith in
-    let both = append-way _ _ _ _ _ _ _ _ c.check_span_grow.ensures (passed-back _ _ _ c.map_err.ensures.variant c.in_ok-map_err.was)
-    (c.push_inside.ensures _
+    c.push_inside.ensures _
     ∙ ap (appended _) (front-padded _ _ _ (length-low _ _ most) most c.low_flags.ensures
-    ∙ near-first _ _ _ _ (omega (arith, few)) c.near_word.ensures)) in
-    record { answer = both.0; bytes = both.1 }
+    ∙ near-first _ _ _ _ (omega (arith, few)) c.near_word.ensures)
 
 pub invariant_of-span : goal.invariant_of-span
 invariant_of-span c =
@@ -49,10 +36,3 @@ pub append_stretch-requires : goal.append_stretch-requires
 append_stretch-requires c =
     let allowed = grow-allowed _ _ _ _ _ _ c.check_span_grow.ensures (passed-back _ _ _ c.map_err.ensures.variant c.in_ok-map_err.was) in
     allowed.1
-
-pub returns : goal.returns
-unfolding span_grow_checks
-returns c =
-    let both = append-way _ _ _ _ _ _ _ _ c.check_span_grow.ensures (passed-back _ _ _ c.map_err.ensures.variant c.in_ok-map_err.was)
-    c.append_stretch.ensures in
-    record { answer = both.0; bytes = both.1 }

@@ -1,23 +1,14 @@
--- By cases on the number of the checks; after the zeros at the place the search found no run (`no_run`) or one (`a-run`).
-use Rattle.std.proofs.Common.{rules}
+-- After the zeros at the place the search found no run (`no_run`) or one (`a-run`).
 use mathlib.Core.Path.{sym, ap, ◌∙◌}
 use native.Mathlib.Omega.{arith}
 use Rattle.words.proofs.flags.Windows.{length-window}
-use Rattle.masks.specs.Answer.{given}
 use Rattle.masks.specs.Cursor.{item, ended}
 use Rattle.masks.specs.declared.slice_iterator.SlicesIterator.{SlicesIterator}
-use Rattle.masks.specs.SliceIterator.{next_slice}
-use Rattle.masks.proofs.checks.CheckLaws.{is-given}
 use Rattle.masks.proofs.cursor.CursorLaws.{cursor-allowed}
 use Rattle.masks.proofs.iterator.IteratorLaws.{alike-inside}
 use Rattle.masks.proofs.slice_iterator.RunLaws.{a-run, no_run, run_inside}
-use Rattle.masks.proofs.refusal.RefusalLaws.{passed-back, step-refused}
+use Rattle.masks.proofs.refusal.RefusalLaws.{passed-back}
 use Rattle.masks.proofs.slice_iterator.SlicesIterator.next.Goals as goal
-
-pub returns-in_err-map_err : goal.returns-in_err-map_err
-unfolding next_slice
-returns-in_err-map_err c =
-    step-refused _ _ _ (search rules) _ c.from_residual.ensures.1 _ c.check_cursor.ensures _
 
 pub invariant_of-span : goal.invariant_of-span
 invariant_of-span c =
@@ -39,13 +30,10 @@ run_from-run-requires c =
     let span = cursor-allowed _ _ _ _ (sym c.check_cursor.ensures ∙ (passed-back _ _ _ c.map_err.ensures.variant c.in_ok-map_err.was)) in
     alike-inside _ _ _ _ _ _ span.reached c.zeros_from.ensures
 
-pub returns-then-run-eq0 : goal.returns-then-run-eq0
-unfolding next_slice
-returns-then-run-eq0 c =
-    let cursor = c.args.self in
-    ap (λ (d : SlicesIterator). given (ended d)) c.moved.ensures
-    ∙ ap given (no_run cursor _ _ _ (length-window _ _ _) c.zeros_from.ensures c.run_from-run.ensures c.if-run-eq0.true)
-    ∙ is-given _ _ _ _ c.check_cursor.ensures (passed-back _ _ _ c.map_err.ensures.variant c.in_ok-map_err.was)
+pub returns-then-run-eq0-clause-step : goal.returns-then-run-eq0-clause-step
+returns-then-run-eq0-clause-step c =
+    ap (λ (d : SlicesIterator). ended d) c.moved.ensures
+    ∙ no_run c.args.self _ _ _ (length-window _ _ _) c.zeros_from.ensures c.run_from-run.ensures c.if-run-eq0.true
 
 pub overflow_add-past : goal.overflow_add-past
 overflow_add-past c =
@@ -53,10 +41,7 @@ overflow_add-past c =
     let near = alike-inside _ _ _ _ _ _ span.reached c.zeros_from.ensures in
     omega (arith, span.short, run_inside _ _ _ _ (length-window _ _ _) near c.run_from-run.ensures)
 
-pub returns : goal.returns
-unfolding next_slice
-returns c =
-    let cursor = c.args.self in
-    ap (λ (d : SlicesIterator). given (item c.run_from-run.result d)) c.moved-2.ensures
-    ∙ ap given (a-run cursor _ _ _ (length-window _ _ _) c.zeros_from.ensures c.run_from-run.ensures c.if-run-eq0.false)
-    ∙ is-given _ _ _ _ c.check_cursor.ensures (passed-back _ _ _ c.map_err.ensures.variant c.in_ok-map_err.was)
+pub returns-clause-step : goal.returns-clause-step
+returns-clause-step c =
+    ap (λ (d : SlicesIterator). item c.run_from-run.result d) c.moved-2.ensures
+    ∙ a-run c.args.self _ _ _ (length-window _ _ _) c.zeros_from.ensures c.run_from-run.ensures c.if-run-eq0.false

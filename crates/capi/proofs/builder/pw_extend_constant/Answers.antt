@@ -1,0 +1,8 @@
+-- The clauses of the call make its bytes (`written_append`).
+use Rattle.masks.proofs.refusal.ClauseLaws.{written_append}
+use Rattle.capi.proofs.builder.pw_extend_constant.Goals as goal
+
+pub returns-clause-bytes : goal.returns-clause-bytes
+returns-clause-bytes c =
+    let e = c.extend_constant.ensures in
+    rw c.builder_in.ensures at (written_append _ _ _ _ e.refused e.appended _ e.unchanged)
