@@ -1,13 +1,13 @@
 // Many positions of ones at once, written to a lent output: for callers that need all of them, since a call for each costs more than what
 // it does.
-ghost use Rattle.std.specs.Prelude.{◌≡◌, true, List, ℕ, ◌+◌, ◌*◌, ◌≤◌, min, length as list_length};
+ghost use Rattle.std.specs.Prelude.{◌≡◌, true, List, ℕ, ◌+◌, ◌*◌, ◌≤◌, min, take, length as list_length, IfOk, IfErr, OnOk, OnErr};
 ghost use Rattle.words.specs.Flags.{copies, over, word_flags};
 ghost use Rattle.words.specs.Loops.{stretch};
-ghost use Rattle.masks.specs.Answer.{answer_back};
 ghost use Rattle.masks.specs.Checks.{first_failed, limit};
 ghost use Rattle.masks.specs.Frozen.{over_from};
-ghost use Rattle.masks.specs.Positions.{place_after, left_of, next_positions, positions_over};
-ghost use Rattle.masks.specs.TrueIdx.{ones_from, ones_left, true_checks};
+ghost use Rattle.masks.specs.Positions.{place_after, left_of};
+ghost use Rattle.masks.specs.Refusal.{failure_back};
+ghost use Rattle.masks.specs.TrueIdx.{ones_from, ones_left, true_checks, true_moved};
 
 use crate::refusal::Refused;
 use crate::span::{CheckedSpan, flags_word};
@@ -130,8 +130,14 @@ impl TrueIdxIter {
         bytes: &[u8],
         out: &mut [u32],
     ) -> Result<(usize, TrueIdxIter), Refused<TrueIdxIter>>
-        ensures answer { answer_back result ≡ next_positions self bytes.now (list_length out.old) }
-        ensures positions { out.new ≡ positions_over self bytes.now out.old }
+        ensures refused { failure_back result ≡ first_failed (true_checks self (list_length bytes.now)) }
+        ensures number { IfOk result
+            (λ r. r.0 ≡ list_length (take (list_length out.old) (left_of self bytes.now))) }
+        ensures cursor { IfOk result
+            (λ r. r.1 ≡ true_moved self (place_after self (left_of self bytes.now) (list_length out.old))) }
+        ensures positions { OnOk result (out.new ≡ over out.old (left_of self bytes.now)) }
+        ensures unchanged { OnErr result (out.new ≡ out.old) }
+        ensures state { IfErr result (λ e. e.state ≡ self) }
     {
         check_next(self, bytes.len()).map_err(|r| r.with(self))?;
         let count = write_positions(self, bytes, out);

@@ -2,10 +2,10 @@
 ghost use Rattle.std.specs.Prelude.{◌≡◌, ◌&&◌, ◌≤◌, eqb, leb, IfOk, IfErr};
 ghost use Rattle.words.specs.Loops.{stretch};
 ghost use Rattle.masks.specs.Cursor.{step_of};
-ghost use Rattle.masks.specs.Answer.{answer};
 ghost use Rattle.masks.specs.Checks.{first_failed};
-ghost use Rattle.masks.specs.Refusal.{failure_back};
-ghost use Rattle.masks.specs.SliceIterator.{run_checks, slice_step, slices_moved, new_slices};
+ghost use Rattle.masks.specs.Mask.{mask_checks};
+ghost use Rattle.masks.specs.Refusal.{failure_back, failure_of};
+ghost use Rattle.masks.specs.SliceIterator.{run_checks, slice_step, slices_at, slices_moved};
 ghost use Rattle.masks.specs.Workers.{first_run};
 
 use crate::bitmap::Bitmap;
@@ -90,7 +90,8 @@ fn run_from(span: CheckedSpan, place: usize) -> Run
 impl SlicesIterator {
     // Returns a cursor at the first flag of a mask.
     pub fn new(mask: Bitmap, bytes: &[u8]) -> Result<SlicesIterator, Refusal>
-        ensures { answer result ≡ new_slices mask bytes.now }
+        ensures refused { failure_of result ≡ first_failed (mask_checks mask bytes.now) }
+        ensures cursor { IfOk result (λ c. c ≡ slices_at mask.start mask.length 0) }
     {
         check_mask(mask, bytes)?;
         Ok(SlicesIterator {
