@@ -1,12 +1,14 @@
 // The mask: its record, and the calls that make one, cut it and count it. As in the reference, a mask and its bytes are two parameters;
 // they become a `CheckedSpan` once the mask's checks have passed.
-ghost use Rattle.std.specs.Prelude.{◌≡◌, ◌+◌, ◌≤◌, length as list_length, IfOk, IfErr};
-ghost use Rattle.masks.specs.Answer.{answer, answer_back};
+ghost use Rattle.std.specs.Prelude.{◌≡◌, false, ◌+◌, ◌≤◌, length as list_length, Some, IfOk, IfErr, OnOk, OnErr};
+ghost use Rattle.words.specs.Flags.{copies};
+ghost use Rattle.masks.specs.Answer.{answer_back};
 ghost use Rattle.masks.specs.Refusal.{failure_of, failure_back};
 ghost use Rattle.masks.specs.Checks.{first_failed, span_checks};
+ghost use Rattle.masks.specs.Frozen.{with_frozen};
 ghost use Rattle.masks.specs.Utils.{zeros};
 ghost use Rattle.masks.specs.Mask.{empty_mask, kept_count, piece_checks, recounts as recounts_of};
-ghost use Rattle.masks.specs.Mask.{new_zeroed_bytes, new_zeroed_of, slice_checks, sliced_mask, uncounted, unset_bits_of};
+ghost use Rattle.masks.specs.Mask.{slice_checks, sliced_mask, uncounted, unset_bits_of, zeroed_checks};
 ghost use Rattle.masks.specs.Mask.{cut_mask, mask_of, mask_under, with_count};
 ghost use Rattle.masks.specs.Workers.{cut_of, outside, recounted_of, PieceAllowed};
 
@@ -47,8 +49,10 @@ impl Bitmap {
     // Returns a mask of `length` zeros and writes its frozen bytes to the start of `out`. Refuses with 1 if `length` is above the flag
     // limit, with 9 if `out` is too short.
     pub fn new_zeroed(length: usize, out: &mut [u8]) -> Result<Bitmap, Refusal>
-        ensures answer { answer result ≡ new_zeroed_of length out.old }
-        ensures bytes { out.new ≡ new_zeroed_bytes length out.old }
+        ensures refused { failure_of result ≡ first_failed (zeroed_checks length (list_length out.old)) }
+        ensures mask { IfOk result (λ m. m ≡ mask_of 0 length (Some length)) }
+        ensures bytes { OnOk result (out.new ≡ with_frozen out.old (copies length false)) }
+        ensures unchanged { OnErr result (out.new ≡ out.old) }
     {
         check_limit(length)?;
         check_output(length, out.len())?;

@@ -1,13 +1,12 @@
 // Spans cut in two, windows of 32 flags, and searches for the n-th set flag by such windows.
-ghost use Rattle.std.specs.Prelude.{◌≡◌, ◌+◌, ◌*◌, ◌≤◌, ◌<◌, length as list_length};
+ghost use Rattle.std.specs.Prelude.{◌≡◌, ◌+◌, ◌*◌, ◌≤◌, ◌<◌, length as list_length, IfOk};
 ghost use Rattle.words.specs.Flags.{bits, count, word_of};
 ghost use Rattle.words.specs.Loops.{stretch};
 ghost use Rattle.words.specs.Nth.{nth_one, nth_place};
-ghost use Rattle.masks.specs.Answer.{answer};
 ghost use Rattle.masks.specs.Refusal.{failure_of};
-ghost use Rattle.masks.specs.Bitmask.{split_at, split_checks, window_at, window_word};
-ghost use Rattle.masks.specs.Checks.{first_failed};
-ghost use Rattle.masks.specs.Search.{search_from, search_back, nth_from, nth_back};
+ghost use Rattle.masks.specs.Bitmask.{parts_at, split_checks, window_word};
+ghost use Rattle.masks.specs.Checks.{first_failed, span_checks};
+ghost use Rattle.masks.specs.Search.{nth_from, nth_back};
 ghost use Rattle.masks.specs.Workers.{PassedFrom, PassedBack};
 
 use crate::bitmap::Bitmap;
@@ -45,7 +44,8 @@ pub fn split_at_unchecked(
     length: usize,
     at: usize,
 ) -> Result<(Span, Span), Refusal>
-    ensures { answer result ≡ split_at bytes.now start length at }
+    ensures refused { failure_of result ≡ first_failed (split_checks start length at (list_length bytes.now)) }
+    ensures spans { IfOk result (λ s. s ≡ parts_at start length at) }
 {
     check_split(start, length, at, bytes.len())?;
     let second = start + at;
@@ -61,7 +61,8 @@ pub fn split_at_unchecked(
 
 // Returns the 32 flags starting at `index`, with zeros past the end of the span.
 pub fn get_u32(bytes: &[u8], start: usize, length: usize, index: usize) -> Result<u32, Refusal>
-    ensures { answer result ≡ window_at bytes.now start length index }
+    ensures refused { failure_of result ≡ first_failed (span_checks start length (list_length bytes.now)) }
+    ensures word { IfOk result (λ w. w ≡ window_word bytes.now start length index) }
 {
     let span = CheckedSpan::new(bytes, start, length)?;
     Ok(span.window(index))
@@ -75,7 +76,8 @@ pub fn nth_set_bit_idx(
     n: usize,
     from: usize,
 ) -> Result<Option<usize>, Refusal>
-    ensures { answer result ≡ search_from bytes.now start length n from }
+    ensures refused { failure_of result ≡ first_failed (span_checks start length (list_length bytes.now)) }
+    ensures position { IfOk result (λ p. p ≡ nth_from (stretch bytes.now start length) n from) }
 {
     let span = CheckedSpan::new(bytes, start, length)?;
     Ok(span.nth_from(n, from))
@@ -90,7 +92,8 @@ pub fn nth_set_bit_idx_rev(
     n: usize,
     end: usize,
 ) -> Result<Option<usize>, Refusal>
-    ensures { answer result ≡ search_back bytes.now start length n end }
+    ensures refused { failure_of result ≡ first_failed (span_checks start length (list_length bytes.now)) }
+    ensures position { IfOk result (λ p. p ≡ nth_back (stretch bytes.now start length) n end) }
 {
     let span = CheckedSpan::new(bytes, start, length)?;
     Ok(span.nth_back(n, end.min(span.length)))
