@@ -2,13 +2,12 @@
 // they become a `CheckedSpan` once the mask's checks have passed.
 ghost use Rattle.std.specs.Prelude.{◌≡◌, false, ◌+◌, ◌≤◌, length as list_length, Some, IfOk, IfErr, OnOk, OnErr};
 ghost use Rattle.words.specs.Flags.{copies};
-ghost use Rattle.masks.specs.Answer.{answer_back};
 ghost use Rattle.masks.specs.Refusal.{failure_of, failure_back};
 ghost use Rattle.masks.specs.Checks.{first_failed, span_checks};
 ghost use Rattle.masks.specs.Frozen.{with_frozen};
 ghost use Rattle.masks.specs.Utils.{zeros};
 ghost use Rattle.masks.specs.Mask.{empty_mask, kept_count, piece_checks, recounts as recounts_of};
-ghost use Rattle.masks.specs.Mask.{slice_checks, sliced_mask, uncounted, unset_bits_of, zeroed_checks};
+ghost use Rattle.masks.specs.Mask.{mask_checks, slice_checks, sliced_mask, uncounted, zero_count, zeroed_checks};
 ghost use Rattle.masks.specs.Mask.{cut_mask, mask_of, mask_under, with_count};
 ghost use Rattle.masks.specs.Workers.{cut_of, outside, recounted_of, PieceAllowed};
 
@@ -73,7 +72,10 @@ impl Bitmap {
 
     // Returns the number of zeros, and the mask with that count stored.
     pub fn unset_bits(self, bytes: &[u8]) -> Result<Recounted, Refused<Bitmap>>
-        ensures { answer_back result ≡ unset_bits_of self bytes.now }
+        ensures refused { failure_back result ≡ first_failed (mask_checks self bytes.now) }
+        ensures zeros { IfOk result (λ r. r.zeros ≡ zero_count self bytes.now) }
+        ensures mask { IfOk result (λ r. r.mask ≡ with_count self (Some (zero_count self bytes.now))) }
+        ensures state { IfErr result (λ e. e.state ≡ self) }
     {
         check_mask(self, bytes).map_err(|r| r.with(self))?;
         let zeros = match self.unset {

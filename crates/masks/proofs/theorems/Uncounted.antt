@@ -67,7 +67,8 @@ module _ (m : Bitmap) (bytes : List ℕ) (e : first_failed (mask_checks m bytes)
       (true-valid m.unset (mask_flags m bytes) (mask-truthful m bytes e))
 
   pub same_count : zero_count m bytes ≡ zero_count (forgot m) bytes
-  same_count = true-count m bytes (mask-truthful m bytes e) ∙ sym (true-count (forgot m) bytes tt)
+  unfolding zero_count
+  same_count = refl
 
   -- ---- one mask
 
