@@ -8,7 +8,7 @@ use native.Mathlib.Omega.{arith}
 use lib.Dec.{leb, ltb}
 use lib.ListN.{length, get_or, take, drop, length-take, length-drop}
 use lib.Seq.{get_or-drop}
-use borrow.Author.Tests.{leb-true, ltb-true, ltb-false, ne_eqb}
+use borrow.Author.Tests.{leb-true, ltb-true, ltb-false}
 use Rattle.words.specs.Ends.{leading}
 use Rattle.words.specs.Flags.{flag_at, flags_of}
 use Rattle.words.specs.Loops.{stretch}
@@ -33,6 +33,7 @@ use Rattle.masks.specs.declared.slice_iterator.Run.{Run}
 use Rattle.masks.specs.declared.slice_iterator.SlicesIterator.{SlicesIterator}
 use Rattle.masks.specs.declared.true_idx.TrueIdxIter.{TrueIdxIter}
 use Rattle.masks.proofs.refusal.AnswerLaws.{given-number, given-value}
+use Rattle.masks.proofs.iterator.IteratorLaws.{first-some}
 use Rattle.masks.proofs.checks.CheckLaws.{both_right, check-allowed}
 use Rattle.masks.proofs.positions.PositionLaws.{after-few, after-many, after-none}
 use Rattle.masks.proofs.theorems.RunsPlain.{leading-in}
@@ -48,9 +49,6 @@ end-chosen true x c d e h = absurd (let z : ◌≡◌ {A = ℕ} 0 1 = cc in omeg
 end-chosen false x c d e h = (refl, cc)
 
 -- ---- new cursors
-
-first-some : (start n : ℕ) → first_iter start (suc n) ≡ iter_at start (suc n) 0
-first-some start n = ap (λ (t : Bool). cond t (iter_at 0 0 0) (iter_at start (suc n) 0)) (ne_eqb (suc n) 0 (λ h. omega arith))
 
 new-places : NewPlaces
 unfolding new_chunks new_iter new_slices new_true first_true unless_empty

@@ -17,11 +17,11 @@ pub returns-in_err-check_output-clause-refused : goal.returns-in_err-check_outpu
 unfolding zeroed_checks
 returns-in_err-check_output-clause-refused c =
     exit-number _ _ c.from_residual-in_err-check_output.ensures.1
-    ∙ passed-before _ _ _ _ c.in_ok-check_limit.ensures refl c.in_err-check_output.ensures
+    ∙ passed-before _ _ _ _ c.in_ok-check_limit.ensures refl c.in_err-check_output.ensures.refused
 
 pub returns-clause-refused : goal.returns-clause-refused
 unfolding zeroed_checks
-returns-clause-refused c = passed-before _ _ _ _ c.in_ok-check_limit.ensures refl c.in_ok-check_output.ensures
+returns-clause-refused c = passed-before _ _ _ _ c.in_ok-check_limit.ensures refl c.in_ok-check_output.ensures.refused
 
 pub returns-clause-bytes : goal.returns-clause-bytes
 returns-clause-bytes c = frozen-written _ _ _ (search rules) (search rules) c.fill.ensures

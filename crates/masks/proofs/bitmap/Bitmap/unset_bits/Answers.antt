@@ -10,13 +10,13 @@ use Rattle.masks.proofs.bitmap.Bitmap.unset_bits.Goals as goal
 
 pub invariant_of-span : goal.invariant_of-span
 invariant_of-span c =
-    let a = mask-allowed _ _ (sym c.check_mask.ensures ∙ passed-back _ _ _ c.map_err.ensures.variant c.in_ok-map_err.was) in
+    let a = mask-allowed _ _ (sym c.check_mask.ensures.refused ∙ passed-back _ _ _ c.map_err.ensures.variant c.in_ok-map_err.was) in
     record { ends = omega (arith, a.starts, a.short); short = a.short; inside = a.inside }
 
 pub returns-clause-zeros : goal.returns-clause-zeros
 unfolding zero_count
 returns-clause-zeros c =
-    let counts = mask-truthful _ _ (sym c.check_mask.ensures ∙ passed-back _ _ _ c.map_err.ensures.variant c.in_ok-map_err.was) in
+    let counts = mask-truthful _ _ (sym c.check_mask.ensures.refused ∙ passed-back _ _ _ c.map_err.ensures.variant c.in_ok-map_err.was) in
     elim c.match-self.branch [
       | in-Some w ↦ w.zeros-is ∙ known-zeros _ _ _ counts w.in-Some.is
       | in-None w ↦ w.zeros-is ∙ w.zeros-zeros.ensures

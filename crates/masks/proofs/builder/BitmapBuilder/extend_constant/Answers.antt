@@ -29,20 +29,20 @@ pub returns-in_err-map_err : goal.returns-in_err-map_err
 unfolding constant_checks
 returns-in_err-map_err c =
     let both = refused-way _ c.args.self _ (search rules) _ c.from_residual.ensures.1 _
-    (two-pieces _ _ _ _ _ c.earlier.ensures c.check_builder.ensures c.check_limit.ensures) _ _ _ in
+    (two-pieces _ _ _ _ _ c.earlier.ensures.refused c.check_builder.ensures c.check_limit.ensures) _ _ _ in
     record { answer = both.0; bytes = both.1 }
 
 pub append_copies-requires : goal.append_copies-requires
 append_copies-requires c =
     room_of _ _ _
     (sym c.check_builder.ensures
-    ∙ passed-left _ _ (sym c.earlier.ensures ∙ (passed-back _ _ _ c.map_err.ensures.variant c.in_ok-map_err.was)))
+    ∙ passed-left _ _ (sym c.earlier.ensures.refused ∙ (passed-back _ _ _ c.map_err.ensures.variant c.in_ok-map_err.was)))
 
 pub returns : goal.returns
 unfolding constant_checks
 returns c =
     let both =
-    append-way _ _ _ _ _ _ _ _ (two-pieces _ _ _ _ _ c.earlier.ensures c.check_builder.ensures c.check_limit.ensures)
+    append-way _ _ _ _ _ _ _ _ (two-pieces _ _ _ _ _ c.earlier.ensures.refused c.check_builder.ensures c.check_limit.ensures)
     (passed-back _ _ _ c.map_err.ensures.variant c.in_ok-map_err.was)
     c.append_copies.ensures in
     record { answer = both.0; bytes = both.1 }

@@ -6,5 +6,5 @@ use Rattle.masks.proofs.span.CheckedSpan.new.Goals as goal
 
 pub invariant_of-result : goal.invariant_of-result
 invariant_of-result c =
-    let a = span-allowed _ _ _ (sym c.in_ok-check_span.ensures) in
+    let a = span-allowed _ _ _ (sym c.in_ok-check_span.ensures.refused) in
     record { ends = omega (arith, a.starts, a.short); short = a.short; inside = a.inside }
