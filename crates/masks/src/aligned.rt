@@ -30,8 +30,8 @@ impl AlignedBitmapSlice {
         address: usize,
     ) -> Result<AlignedBitmapSlice, Refusal>
         ensures empty { length ≡ 0 → failure_of result ≡ 0 }
-        ensures refused { length ≢ 0 → failure_of result ≡
-            first_failed (aligned_checks start length (list_length bytes.now) address) }
+        ensures refused { length ≢ 0 → failure_of result ≡ first_failed
+            (aligned_checks start length (list_length bytes.now) address) }
         ensures split { IfOk result (λ s. s ≡ aligned_split bytes.now start length address) }
     {
         if length == 0 {
@@ -110,7 +110,8 @@ impl Addressed<'_> {
 
     // Returns the three parts of the span.
     pub(crate) fn split(&self) -> AlignedBitmapSlice
-        ensures { result ≡ aligned_split self.now.bytes.now self.now.start self.now.length self.now.address }
+        ensures { result ≡
+            aligned_split self.now.bytes.now self.now.start self.now.length self.now.address }
     {
         let prefix_len = self.prefix_length();
         let bulk_start = self.bulk_start();

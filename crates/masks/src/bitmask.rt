@@ -44,7 +44,8 @@ pub fn split_at_unchecked(
     length: usize,
     at: usize,
 ) -> Result<(Span, Span), Refusal>
-    ensures refused { failure_of result ≡ first_failed (split_checks start length at (list_length bytes.now)) }
+    ensures refused { failure_of result ≡ first_failed
+        (split_checks start length at (list_length bytes.now)) }
     ensures spans { IfOk result (λ s. s ≡ parts_at start length at) }
 {
     check_split(start, length, at, bytes.len())?;
@@ -61,7 +62,8 @@ pub fn split_at_unchecked(
 
 // Returns the 32 flags starting at `index`, with zeros past the end of the span.
 pub fn get_u32(bytes: &[u8], start: usize, length: usize, index: usize) -> Result<u32, Refusal>
-    ensures refused { failure_of result ≡ first_failed (span_checks start length (list_length bytes.now)) }
+    ensures refused { failure_of result ≡ first_failed
+        (span_checks start length (list_length bytes.now)) }
     ensures word { IfOk result (λ w. w ≡ window_word bytes.now start length index) }
 {
     let span = CheckedSpan::new(bytes, start, length)?;
@@ -76,7 +78,8 @@ pub fn nth_set_bit_idx(
     n: usize,
     from: usize,
 ) -> Result<Option<usize>, Refusal>
-    ensures refused { failure_of result ≡ first_failed (span_checks start length (list_length bytes.now)) }
+    ensures refused { failure_of result ≡ first_failed
+        (span_checks start length (list_length bytes.now)) }
     ensures position { IfOk result (λ p. p ≡ nth_from (stretch bytes.now start length) n from) }
 {
     let span = CheckedSpan::new(bytes, start, length)?;
@@ -92,7 +95,8 @@ pub fn nth_set_bit_idx_rev(
     n: usize,
     end: usize,
 ) -> Result<Option<usize>, Refusal>
-    ensures refused { failure_of result ≡ first_failed (span_checks start length (list_length bytes.now)) }
+    ensures refused { failure_of result ≡ first_failed
+        (span_checks start length (list_length bytes.now)) }
     ensures position { IfOk result (λ p. p ≡ nth_back (stretch bytes.now start length) n end) }
 {
     let span = CheckedSpan::new(bytes, start, length)?;
@@ -119,7 +123,8 @@ struct Passed {
 impl CheckedSpan<'_> {
     // Returns the 32 flags starting at `index`, with zeros past the end of the span. One load.
     fn window(self, index: usize) -> u32
-        ensures { result ≡ window_word self.entry.bytes.now self.entry.start self.entry.length index }
+        ensures { result ≡
+            window_word self.entry.bytes.now self.entry.start self.entry.length index }
     {
         if index >= self.length {
             return 0;
@@ -131,7 +136,8 @@ impl CheckedSpan<'_> {
     // Returns the span of the flags below `end`.
     pub(crate) fn front(self, end: usize) -> Self
         requires { end ≤ self.length }
-        ensures { (result.bytes.now ≡ self.entry.bytes.now) × ((result.start ≡ self.entry.start) × (result.length ≡ end)) }
+        ensures { (result.bytes.now ≡ self.entry.bytes.now)
+            × ((result.start ≡ self.entry.start) × (result.length ≡ end)) }
     {
         CheckedSpan {
             bytes: self.bytes,
@@ -145,7 +151,8 @@ impl CheckedSpan<'_> {
     // loop, which the variable of a `for` does not reach.
     fn pass_windows(self, n: usize, from: usize) -> Passed
         requires { from < self.length }
-        ensures { PassedFrom self.entry.bytes.now self.entry.start self.entry.length n from result.left result.at }
+        ensures { PassedFrom self.entry.bytes.now self.entry.start self.entry.length n from
+            result.left result.at }
     {
         let inner = self.length.saturating_sub(63);
         let mut left = n;
@@ -165,7 +172,8 @@ impl CheckedSpan<'_> {
     // Returns the position of the n-th set flag at or after `from`, or none. Where `pass_windows` stops, the flag is in that window or in
     // the one after it, so two windows are read and no loop is needed.
     fn nth_from(self, n: usize, from: usize) -> Option<usize>
-        ensures { result ≡ nth_from (stretch self.entry.bytes.now self.entry.start self.entry.length) n from }
+        ensures { result ≡
+            nth_from (stretch self.entry.bytes.now self.entry.start self.entry.length) n from }
     {
         if from >= self.length {
             return None;
@@ -191,7 +199,8 @@ impl CheckedSpan<'_> {
     // (`search_first`) the number counts from the other end.
     fn search_last(self, n: usize, from: usize) -> Option<usize>
         requires { (from ≤ self.length + 32) × (self.length ≤ from + 32) }
-        ensures { result ≡ nth_from (stretch self.entry.bytes.now self.entry.start self.entry.length) n from }
+        ensures { result ≡
+            nth_from (stretch self.entry.bytes.now self.entry.start self.entry.length) n from }
     {
         nth_in_window(self.window(from), n).ok().map(|i| from + i)
     }
@@ -202,7 +211,8 @@ impl CheckedSpan<'_> {
     // of a number from below, `nth_in_window`) differ in each line.
     fn pass_back(self, n: usize, end: usize) -> Passed
         requires { end ≤ self.length }
-        ensures { PassedBack self.entry.bytes.now self.entry.start self.entry.length n end result.left result.at }
+        ensures { PassedBack self.entry.bytes.now self.entry.start self.entry.length n end
+            result.left result.at }
     {
         let mut left = n;
         let mut below = end;
@@ -221,7 +231,8 @@ impl CheckedSpan<'_> {
     // Returns the position of the n-th set flag below `end`, counting down, or none. The window below `below` has zeros above its end.
     fn nth_back(self, n: usize, end: usize) -> Option<usize>
         requires { end ≤ self.length }
-        ensures { result ≡ nth_back (stretch self.entry.bytes.now self.entry.start self.entry.length) n end }
+        ensures { result ≡
+            nth_back (stretch self.entry.bytes.now self.entry.start self.entry.length) n end }
     {
         let passed = self.pass_back(n, end);
         let below = passed.at;
@@ -241,7 +252,8 @@ impl CheckedSpan<'_> {
     // Returns the position of the n-th set flag below `end`, counting down, in the first window of the span, or none.
     fn search_first(self, n: usize, end: usize) -> Option<usize>
         requires { (end ≤ self.length) × (end ≤ 32) }
-        ensures { result ≡ nth_back (stretch self.entry.bytes.now self.entry.start self.entry.length) n end }
+        ensures { result ≡
+            nth_back (stretch self.entry.bytes.now self.entry.start self.entry.length) n end }
     {
         let w = self.front(end).window(0);
         let ones = ones_in_window(w);

@@ -142,14 +142,16 @@ pub(crate) fn check_span_grow(
     b: BitmapBuilder,
     size: usize,
 ) -> Result<(), Refusal>
-    ensures { failure_of result ≡ first_failed (span_checks start n bytes ++ builder_checks b (b.length + n) size) }
+    ensures { failure_of result ≡ first_failed
+        (span_checks start n bytes ++ builder_checks b (b.length + n) size) }
 {
     earlier(check_span(start, n, bytes), check_builder(b, n, size))
 }
 
 // Makes checks 1 and 6 on a pushed word of k flags: k is within the limit and at most 64, and no bit from k up is set.
 pub(crate) fn check_word(word: u64, k: usize) -> Result<(), Refusal>
-    ensures { failure_of result ≡ first_failed (within_limit k ∷ check 6 (leb k 64 && none_from word k) ∷ []) }
+    ensures { failure_of result ≡ first_failed
+        (within_limit k ∷ check 6 (leb k 64 && none_from word k) ∷ []) }
 {
     check_limit(k)?;
     check(Refusal::Outside, k <= 64 && none_from(word, k))

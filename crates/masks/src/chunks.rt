@@ -29,7 +29,8 @@ pub struct BitChunksExact {}
 impl BitChunks {
     // Returns a cursor at the first word of a span.
     pub fn new(bytes: &[u8], start: usize, length: usize) -> Result<BitChunks, Refusal>
-        ensures refused { failure_of result ≡ first_failed (span_checks start length (list_length bytes.now)) }
+        ensures refused { failure_of result ≡ first_failed
+            (span_checks start length (list_length bytes.now)) }
         ensures cursor { IfOk result (λ c. c ≡ chunks_at start length 0) }
     {
         check_span(start, length, bytes.len())?;
@@ -86,7 +87,8 @@ impl BitChunks {
 impl BitChunksExact {
     // Returns a cursor at the first word of the first `length` flags of `bytes`: a `BitChunks` of start 0.
     pub fn new(bytes: &[u8], length: usize) -> Result<BitChunks, Refusal>
-        ensures refused { failure_of result ≡ first_failed (span_checks 0 length (list_length bytes.now)) }
+        ensures refused { failure_of result ≡ first_failed
+            (span_checks 0 length (list_length bytes.now)) }
         ensures cursor { IfOk result (λ c. c ≡ chunks_at 0 length 0) }
     {
         BitChunks::new(bytes, 0, length)

@@ -19,10 +19,10 @@ use words::ops::Op;
 // instructions more.
 #[inline(always)]
 pub fn eq(lhs: Bitmap, lhs_bytes: &[u8], rhs: Bitmap, rhs_bytes: &[u8]) -> Result<bool, Refusal>
-    ensures refused { failure_of result ≡
-        first_failed (mask_checks lhs lhs_bytes.now ++ mask_checks rhs rhs_bytes.now) }
-    ensures flag { IfOk result
-        (λ x. x ≡ same_flags (mask_flags lhs lhs_bytes.now) (mask_flags rhs rhs_bytes.now)) }
+    ensures refused { failure_of result ≡ first_failed
+        (mask_checks lhs lhs_bytes.now ++ mask_checks rhs rhs_bytes.now) }
+    ensures flag { IfOk result (λ x. x ≡
+        same_flags (mask_flags lhs lhs_bytes.now) (mask_flags rhs rhs_bytes.now)) }
 {
     earlier(check_mask(lhs, lhs_bytes), check_mask(rhs, rhs_bytes))?;
     let n = lhs.length;
@@ -72,9 +72,10 @@ pub fn num_intersections_with(
     rhs: Bitmap,
     rhs_bytes: &[u8],
 ) -> Result<usize, Refusal>
-    ensures refused { failure_of result ≡ first_failed (common_checks lhs lhs_bytes.now rhs rhs_bytes.now) }
-    ensures number { IfOk result
-        (λ n. n ≡ common (mask_flags lhs lhs_bytes.now) (mask_flags rhs rhs_bytes.now)) }
+    ensures refused { failure_of result ≡ first_failed
+        (common_checks lhs lhs_bytes.now rhs rhs_bytes.now) }
+    ensures number { IfOk result (λ n. n ≡
+        common (mask_flags lhs lhs_bytes.now) (mask_flags rhs rhs_bytes.now)) }
 {
     let same = check(Refusal::UnequalLengths, lhs.length == rhs.length);
     let second = check_mask(rhs, rhs_bytes);

@@ -23,7 +23,8 @@ impl BitmapIter {
     // Returns a cursor at the first flag of a span. For length 0 the cursor is all zeros and nothing is checked.
     pub fn new(bytes: &[u8], start: usize, length: usize) -> Result<BitmapIter, Refusal>
         ensures empty { length ≡ 0 → failure_of result ≡ 0 }
-        ensures refused { length ≢ 0 → failure_of result ≡ first_failed (span_checks start length (list_length bytes.now)) }
+        ensures refused { length ≢ 0 → failure_of result ≡ first_failed
+            (span_checks start length (list_length bytes.now)) }
         ensures cursor { IfOk result (λ c. c ≡ first_iter start length) }
     {
         if length == 0 {
@@ -72,7 +73,8 @@ impl BitmapIter {
     pub fn take_leading_ones(self, bytes: &[u8]) -> Result<(usize, BitmapIter), Refused<BitmapIter>>
         ensures refused { failure_back result ≡ first_failed (iter_checks self bytes.now) }
         ensures number { IfOk result (λ r. r.0 ≡ leading_at true self bytes.now) }
-        ensures cursor { IfOk result (λ r. r.1 ≡ moved_to self (self.place + leading_at true self bytes.now)) }
+        ensures cursor { IfOk result (λ r. r.1 ≡
+            moved_to self (self.place + leading_at true self bytes.now)) }
         ensures state { IfErr result (λ e. e.state ≡ self) }
     {
         self.take_leading(bytes, true)
@@ -85,7 +87,8 @@ impl BitmapIter {
     ) -> Result<(usize, BitmapIter), Refused<BitmapIter>>
         ensures refused { failure_back result ≡ first_failed (iter_checks self bytes.now) }
         ensures number { IfOk result (λ r. r.0 ≡ leading_at false self bytes.now) }
-        ensures cursor { IfOk result (λ r. r.1 ≡ moved_to self (self.place + leading_at false self bytes.now)) }
+        ensures cursor { IfOk result (λ r. r.1 ≡
+            moved_to self (self.place + leading_at false self bytes.now)) }
         ensures state { IfErr result (λ e. e.state ≡ self) }
     {
         self.take_leading(bytes, false)
@@ -99,7 +102,8 @@ impl BitmapIter {
     ) -> Result<(usize, BitmapIter), Refused<BitmapIter>>
         ensures refused { failure_back result ≡ first_failed (iter_checks self bytes.now) }
         ensures number { IfOk result (λ r. r.0 ≡ leading_at flag self bytes.now) }
-        ensures cursor { IfOk result (λ r. r.1 ≡ moved_to self (self.place + leading_at flag self bytes.now)) }
+        ensures cursor { IfOk result (λ r. r.1 ≡
+            moved_to self (self.place + leading_at flag self bytes.now)) }
         ensures state { IfErr result (λ e. e.state ≡ self) }
     {
         check_cursor(self.start, self.length, self.place, bytes.len()).map_err(|r| r.with(self))?;

@@ -40,7 +40,8 @@ fn write_run(out: &mut [u32], at: usize, first: usize, n: usize)
 // finds (`zeros + ones`), and carries three values.
 fn write_word(out: &mut [u32], done: usize, word: u64, first: usize) -> usize
     requires { (done ≤ list_length out.old) × (first ≤ limit) }
-    ensures count { result ≡ min (list_length out.old) (done + list_length (ones_from first (word_flags word))) }
+    ensures count { result ≡
+        min (list_length out.old) (done + list_length (ones_from first (word_flags word))) }
     ensures positions { out.new ≡ over_from out.old done (ones_from first (word_flags word)) }
 {
     let mut w = word;
@@ -70,9 +71,11 @@ fn write_words(out: &mut [u32], span: CheckedSpan, place: usize) -> usize
     requires { place ≤ span.length }
     ensures count { result ≡
         min (list_length out.old)
-        (list_length (ones_left (stretch span.entry.bytes.now span.entry.start span.entry.length) place)) }
+        (list_length
+        (ones_left (stretch span.entry.bytes.now span.entry.start span.entry.length) place)) }
     ensures positions { out.new ≡
-        over_from out.old 0 (ones_left (stretch span.entry.bytes.now span.entry.start span.entry.length) place) }
+        over_from out.old 0
+        (ones_left (stretch span.entry.bytes.now span.entry.start span.entry.length) place) }
 {
     let mut at = place;
     let mut count = 0;
@@ -110,7 +113,8 @@ fn write_positions(cursor: TrueIdxIter, bytes: &[u8], out: &mut [u32]) -> usize
 // and `map_or` `next_chunk` took 1.04 times the instructions.
 fn place_after(cursor: TrueIdxIter, out: &[u32], count: usize) -> usize
     requires { count ≤ list_length out.now }
-    ensures { (old left : List ℕ) → out.now ≡ over old left → count ≡ min (list_length old) (list_length left)
+    ensures { (old left : List ℕ) →
+        out.now ≡ over old left → count ≡ min (list_length old) (list_length left)
         → result ≡ place_after cursor left (list_length old) }
 {
     if count < out.len() {
@@ -130,11 +134,12 @@ impl TrueIdxIter {
         bytes: &[u8],
         out: &mut [u32],
     ) -> Result<(usize, TrueIdxIter), Refused<TrueIdxIter>>
-        ensures refused { failure_back result ≡ first_failed (true_checks self (list_length bytes.now)) }
-        ensures number { IfOk result
-            (λ r. r.0 ≡ list_length (take (list_length out.old) (left_of self bytes.now))) }
-        ensures cursor { IfOk result
-            (λ r. r.1 ≡ true_moved self (place_after self (left_of self bytes.now) (list_length out.old))) }
+        ensures refused { failure_back result ≡ first_failed
+            (true_checks self (list_length bytes.now)) }
+        ensures number { IfOk result (λ r. r.0 ≡
+            list_length (take (list_length out.old) (left_of self bytes.now))) }
+        ensures cursor { IfOk result (λ r. r.1 ≡
+            true_moved self (place_after self (left_of self bytes.now) (list_length out.old))) }
         ensures positions { OnOk result (out.new ≡ over out.old (left_of self bytes.now)) }
         ensures unchanged { OnErr result (out.new ≡ out.old) }
         ensures state { IfErr result (λ e. e.state ≡ self) }

@@ -50,7 +50,8 @@ fn either_all(
     rhs: Bitmap,
     rhs_bytes: &[u8],
 ) -> Option<bool>
-    ensures { result ≡ either_all flag (is_all flag lhs lhs_bytes.now) (is_all flag rhs rhs_bytes.now) }
+    ensures { result ≡
+        either_all flag (is_all flag lhs lhs_bytes.now) (is_all flag rhs rhs_bytes.now) }
 {
     (is_all_early(flag, lhs, lhs_bytes) || is_all_early(flag, rhs, rhs_bytes)).then_some(flag)
 }
@@ -73,7 +74,8 @@ fn xor_all(flag: bool, mask: Bitmap, bytes: &[u8]) -> Option<bool>
 fn xor_shortcut(lhs: Bitmap, lhs_bytes: &[u8], rhs: Bitmap, rhs_bytes: &[u8]) -> Option<bool>
     requires { lhs.length ≡ rhs.length }
     ensures { result ≡
-        shortcut Xor lhs.length (known_or_counted lhs lhs_bytes.now) (known_or_counted rhs rhs_bytes.now) }
+        shortcut Xor lhs.length (known_or_counted lhs lhs_bytes.now)
+        (known_or_counted rhs rhs_bytes.now) }
 {
     if is_all_early(false, lhs, lhs_bytes) {
         return xor_all(false, rhs, rhs_bytes);
@@ -95,7 +97,8 @@ pub(crate) fn pair_shortcut(
 ) -> Option<bool>
     requires { lhs.length ≡ rhs.length }
     ensures { result ≡
-        shortcut op lhs.length (known_or_counted lhs lhs_bytes.now) (known_or_counted rhs rhs_bytes.now) }
+        shortcut op lhs.length (known_or_counted lhs lhs_bytes.now)
+        (known_or_counted rhs rhs_bytes.now) }
 {
     // a `match`: the arms name a flag to look for, another shortcut, or none
     let flag = match op {

@@ -46,7 +46,8 @@ fn is_full_byte(byte: u8, bit: usize, left: usize) -> bool
 // are the walk of document 01 (docs/REFERENCE.md), a named form.
 fn run_from(span: CheckedSpan, place: usize) -> Run
     requires { place ≤ span.length }
-    ensures { result ≡ first_run (stretch span.entry.bytes.now span.entry.start span.entry.length) place }
+    ensures { result ≡
+        first_run (stretch span.entry.bytes.now span.entry.start span.entry.length) place }
 {
     let mut first = place;
     let mut at = place;
@@ -105,7 +106,8 @@ impl SlicesIterator {
     // a run, the run starts at the cursor. Passes over the zeros before a run by words.
     pub fn next(self, bytes: &[u8]) -> Result<Step<Run, SlicesIterator>, Refused<SlicesIterator>>
         ensures refused { failure_back result ≡ first_failed (run_checks self bytes.now) }
-        ensures step { IfOk result (λ s. step_of s.item s.cursor ≡ slice_step self (stretch bytes.now self.start self.length)) }
+        ensures step { IfOk result (λ s. step_of s.item s.cursor ≡
+            slice_step self (stretch bytes.now self.start self.length)) }
         ensures state { IfErr result (λ e. e.state ≡ self) }
     {
         check_cursor(self.start, self.length, self.place, bytes.len()).map_err(|r| r.with(self))?;

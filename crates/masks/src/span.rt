@@ -25,9 +25,10 @@ pub(crate) struct CheckedSpan<'a> {
 impl CheckedSpan<'_> {
     // Makes checks 1 and 2 and returns the span.
     pub(crate) fn new(bytes: &[u8], start: usize, length: usize) -> Result<CheckedSpan<'_>, Refusal>
-        ensures refused { failure_of result ≡ first_failed (span_checks start length (list_length bytes.now)) }
-        ensures span { IfOk result
-            (λ s. (s.bytes.now ≡ bytes.now) × ((s.start ≡ start) × (s.length ≡ length))) }
+        ensures refused { failure_of result ≡ first_failed
+            (span_checks start length (list_length bytes.now)) }
+        ensures span { IfOk result (λ s.
+            (s.bytes.now ≡ bytes.now) × ((s.start ≡ start) × (s.length ≡ length))) }
     {
         check_span(start, length, bytes.len())?;
         Ok(CheckedSpan {

@@ -99,9 +99,10 @@ impl TrueIdxIter {
 
     // Returns the position of the next one, and the cursor past it; with no ones left no position, and the cursor at the length.
     pub fn next(self, bytes: &[u8]) -> Result<Step<usize, TrueIdxIter>, Refused<TrueIdxIter>>
-        ensures refused { failure_back result ≡ first_failed (true_checks self (list_length bytes.now)) }
-        ensures step { IfOk result
-            (λ s. step_of s.item s.cursor ≡ true_step self (nth_from (true_flags self bytes.now) 0 self.place)) }
+        ensures refused { failure_back result ≡ first_failed
+            (true_checks self (list_length bytes.now)) }
+        ensures step { IfOk result (λ s. step_of s.item s.cursor ≡
+            true_step self (nth_from (true_flags self bytes.now) 0 self.place)) }
         ensures state { IfErr result (λ e. e.state ≡ self) }
     {
         check_next(self, bytes.len()).map_err(|r| r.with(self))?;

@@ -71,7 +71,8 @@ pub(crate) fn all_flags(flag: bool, bytes: &[u8], start: usize, length: usize) -
 // Returns true if the first word of a span shows a flag other than `flag`; false leaves it open. Small enough to be inlined into a call, as
 // `all_flags` is not.
 pub(crate) fn other_early(flag: bool, bytes: &[u8], start: usize, length: usize) -> bool
-    ensures { result ≡ true → eqb (zeros (stretch bytes.now start length)) (zeros_of_all flag length) ≡ false }
+    ensures { result ≡
+        true → eqb (zeros (stretch bytes.now start length)) (zeros_of_all flag length) ≡ false }
 {
     differs_early(flag, bytes, start, length)
 }
@@ -85,8 +86,8 @@ pub fn count_zeros(
     address: usize,
 ) -> Result<usize, Refusal>
     ensures empty { length ≡ 0 → failure_of result ≡ 0 }
-    ensures refused { length ≢ 0 → failure_of result ≡
-        first_failed (aligned_checks start length (list_length bytes.now) address) }
+    ensures refused { length ≢ 0 → failure_of result ≡ first_failed
+        (aligned_checks start length (list_length bytes.now) address) }
     ensures zeros { IfOk result (λ n. n ≡ zeros (stretch bytes.now start length)) }
 {
     if length == 0 {
@@ -125,8 +126,8 @@ fn run_flags<E: End>(
     address: usize,
 ) -> Result<usize, Refusal>
     ensures empty { length ≡ 0 → failure_of result ≡ 0 }
-    ensures refused { length ≢ 0 → failure_of result ≡
-        first_failed (aligned_checks start length (list_length bytes.now) address) }
+    ensures refused { length ≢ 0 → failure_of result ≡ first_failed
+        (aligned_checks start length (list_length bytes.now) address) }
     ensures number { IfOk result (λ n. n ≡ E.run flag (stretch bytes.now start length)) }
 {
     if length == 0 {
@@ -153,8 +154,8 @@ pub fn leading_zeros(
     address: usize,
 ) -> Result<usize, Refusal>
     ensures empty { length ≡ 0 → failure_of result ≡ 0 }
-    ensures refused { length ≢ 0 → failure_of result ≡
-        first_failed (aligned_checks start length (list_length bytes.now) address) }
+    ensures refused { length ≢ 0 → failure_of result ≡ first_failed
+        (aligned_checks start length (list_length bytes.now) address) }
     ensures number { IfOk result (λ n. n ≡ leading false (stretch bytes.now start length)) }
 {
     run_flags::<Front>(false, bytes, start, length, address)
@@ -168,8 +169,8 @@ pub fn leading_ones(
     address: usize,
 ) -> Result<usize, Refusal>
     ensures empty { length ≡ 0 → failure_of result ≡ 0 }
-    ensures refused { length ≢ 0 → failure_of result ≡
-        first_failed (aligned_checks start length (list_length bytes.now) address) }
+    ensures refused { length ≢ 0 → failure_of result ≡ first_failed
+        (aligned_checks start length (list_length bytes.now) address) }
     ensures number { IfOk result (λ n. n ≡ leading true (stretch bytes.now start length)) }
 {
     run_flags::<Front>(true, bytes, start, length, address)
@@ -183,8 +184,8 @@ pub fn trailing_zeros(
     address: usize,
 ) -> Result<usize, Refusal>
     ensures empty { length ≡ 0 → failure_of result ≡ 0 }
-    ensures refused { length ≢ 0 → failure_of result ≡
-        first_failed (aligned_checks start length (list_length bytes.now) address) }
+    ensures refused { length ≢ 0 → failure_of result ≡ first_failed
+        (aligned_checks start length (list_length bytes.now) address) }
     ensures number { IfOk result (λ n. n ≡ trailing false (stretch bytes.now start length)) }
 {
     run_flags::<Back>(false, bytes, start, length, address)
@@ -198,8 +199,8 @@ pub fn trailing_ones(
     address: usize,
 ) -> Result<usize, Refusal>
     ensures empty { length ≡ 0 → failure_of result ≡ 0 }
-    ensures refused { length ≢ 0 → failure_of result ≡
-        first_failed (aligned_checks start length (list_length bytes.now) address) }
+    ensures refused { length ≢ 0 → failure_of result ≡ first_failed
+        (aligned_checks start length (list_length bytes.now) address) }
     ensures number { IfOk result (λ n. n ≡ trailing true (stretch bytes.now start length)) }
 {
     run_flags::<Back>(true, bytes, start, length, address)

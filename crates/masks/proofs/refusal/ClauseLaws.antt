@@ -89,6 +89,23 @@ clauses-answered_back (Ok x) m s a e = (given-number m s x a e, (given-value m s
 clauses-answered_back (Err k) m s a e =
     (refused-number (number k.refusal) m k.state s a e, (tt, refused-state (number k.refusal) m k.state s a e))
 
+pub clauses-answered_step : {C A : Type 0} (r : Result (Stepped A C) (Refused C)) (m : ℕ) (c : C) (a : Step C A)
+    → answer_step r ≡ decided m c a
+    → (failure_back r ≡ m) × (IfOk r (λ x. step_of x.item x.cursor ≡ a) × IfErr r (λ x. x.state ≡ c))
+clauses-answered_step (Ok x) m c a e =
+    (given-number m c (step_of x.item x.cursor) a e, (given-value m c (step_of x.item x.cursor) a e, tt))
+clauses-answered_step (Err k) m c a e =
+    (refused-number (number k.refusal) m k.state c a e, (tt, refused-state (number k.refusal) m k.state c a e))
+
+pub clauses-answered_parts : {S A B : Type 0} (r : Result (A × B) (Refused S)) (m : ℕ) (s : S) (a : A) (b : B)
+    → answer_back r ≡ decided m s (a, b)
+    → (failure_back r ≡ m) × (IfOk r (λ x. x.0 ≡ a) × (IfOk r (λ x. x.1 ≡ b) × IfErr r (λ x. x.state ≡ s)))
+clauses-answered_parts {S} {A} {B} (Ok x) m s a b e =
+    let v = given-value m s x (a, b) e in
+    (given-number m s x (a, b) e, (ap (λ (y : A × B). y.0) v, (ap (λ (y : A × B). y.1) v, tt)))
+clauses-answered_parts (Err k) m s a b e =
+    (refused-number (number k.refusal) m k.state s (a, b) e, (tt, (tt, refused-state (number k.refusal) m k.state s (a, b) e)))
+
 pub clauses-written : {A B : Type 0} (r : Result A Refusal) (m : ℕ) (x new old : B) → failure_of r ≡ m → x ≡ kept m new old
     → OnOk r (x ≡ new) × OnErr r (x ≡ old)
 clauses-written (Ok a) m x new old e p = (p ∙ sym (is-new 0 m new old e refl), tt)
@@ -113,3 +130,11 @@ pub answered_unless : {A : Type 0} (r : Result A Refusal) (n m : ℕ) (z a : A) 
 unfolding unless_empty decided
 answered_unless r zero m z a p q v e = answered r 0 a (p refl) v ∙ ap given (e refl)
 answered_unless r (suc n) m z a p q v e = answered r m a (q (λ h. omega arith)) v
+
+pub clauses-answered_unless : {A : Type 0} (r : Result A Refusal) (n m : ℕ) (z a : A) → (n ≡ 0 → z ≡ a)
+    → answer r ≡ unless_empty n (given z) (decided m tt a)
+    → (n ≡ 0 → failure_of r ≡ 0) × (((n ≡ 0 → ⊥) → failure_of r ≡ m) × IfOk r (λ x. x ≡ a))
+unfolding unless_empty decided
+clauses-answered_unless r zero m z a q e =
+    let p = clauses-answered r 0 z e in (λ h. p.0, (λ h. absurd (h refl), IfOk-weaker r _ _ (λ x h. h ∙ q refl) p.1))
+clauses-answered_unless r (suc n) m z a q e = let p = clauses-answered r m a e in (λ h. absurd (omega arith), (λ h. p.0, p.1))
