@@ -1,5 +1,5 @@
 // Exported to C and Rust: the words of a span, and the flags after the last whole one.
-#![tactic(auto, unfolding(crate::specs::Answers::as_word))]
+#![tactic(auto, using(masks::proofs::refusal::ClauseLaws::answered, masks::proofs::refusal::ClauseLaws::answered_step, masks::proofs::refusal::ClauseLaws::answered_parts), unfolding(crate::specs::Answers::as_word, masks::specs::Chunks::new_chunks, masks::specs::Chunks::next_chunk, masks::specs::Chunks::chunks_remainder))]
 
 ghost use Rattle.std.specs.Prelude.{◌≡◌};
 ghost use Rattle.masks.specs.Chunks.{chunks_at, chunks_remainder, new_chunks, next_chunk};

@@ -1,5 +1,5 @@
 // Exported to C and Rust: the cursors over runs, flags and positions. A step that finds nothing moves the cursor to the length.
-#![tactic(auto, using(masks::proofs::refusal::ClauseLaws::answered_step), unfolding(crate::specs::Answers::as_bit, crate::specs::Answers::as_run, crate::specs::Answers::as_word, crate::specs::Records::true_in, masks::specs::SliceIterator::next_slice))]
+#![tactic(auto, using(masks::proofs::refusal::ClauseLaws::answered, masks::proofs::refusal::ClauseLaws::answered_step, masks::proofs::refusal::ClauseLaws::answered_parts, masks::proofs::refusal::ClauseLaws::written_back, masks::proofs::refusal::SpanClauses::iter_made), unfolding(crate::specs::Answers::as_bit, crate::specs::Answers::as_run, crate::specs::Answers::as_word, crate::specs::Records::true_in, masks::specs::Iterator::nth_flag, masks::specs::Iterator::take_leading, masks::specs::Positions::next_positions, masks::specs::Positions::positions_over, masks::specs::SliceIterator::new_slices, masks::specs::SliceIterator::next_slice, masks::specs::TrueIdx::new_true, masks::specs::TrueIdx::next_true))]
 
 ghost use Rattle.std.specs.Prelude.{◌≡◌, true, false, length as list_length};
 ghost use Rattle.masks.specs.Iterator.{iter_at, new_iter, nth_flag, take_leading};

@@ -1,5 +1,5 @@
 // Exported to C and Rust: the calls that make, slice, count and compare masks.
-#![tactic(auto, using(masks::proofs::refusal::ClauseLaws::answered, masks::proofs::refusal::ClauseLaws::answered_back), unfolding(masks::specs::Mask::try_new_of, masks::specs::Mask::slice_of, masks::specs::Compare::edges_of))]
+#![tactic(auto, using(masks::proofs::refusal::ClauseLaws::answered, masks::proofs::refusal::ClauseLaws::answered_back, masks::proofs::refusal::ClauseLaws::answered_recounted, masks::proofs::refusal::ClauseLaws::written), unfolding(masks::specs::Mask::try_new_of, masks::specs::Mask::slice_of, masks::specs::Mask::new_zeroed_of, masks::specs::Mask::new_zeroed_bytes, masks::specs::Compare::common_of, masks::specs::Compare::edges_of, masks::specs::Compare::eq_of))]
 
 ghost use Rattle.std.specs.Prelude.{◌≡◌};
 ghost use Rattle.masks.specs.Answer.{answer_back};

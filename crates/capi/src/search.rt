@@ -1,4 +1,6 @@
 // Exported to C and Rust: the searches for the n-th set flag of a span.
+#![tactic(auto, using(masks::proofs::refusal::ClauseLaws::answered), unfolding(masks::specs::Search::search_back, masks::specs::Search::search_from))]
+
 ghost use Rattle.std.specs.Prelude.{◌≡◌};
 ghost use Rattle.masks.specs.Answer.{answer};
 ghost use Rattle.masks.specs.Search.{search_back, search_from};

@@ -1,6 +1,6 @@
 // Ties each row of `MaskRows` to its call: each function here makes one call of masks and nothing else, and its contract is the row's
 // answer and the row's bytes. Nobody calls these functions; a row for another call would leave its function unproved.
-#![tactic(auto, using(masks::proofs::refusal::ClauseLaws::answered, masks::proofs::refusal::ClauseLaws::answered_back, masks::proofs::refusal::ClauseLaws::written), unfolding(masks::specs::Combine::pair_of, masks::specs::Combine::pair_bytes, masks::specs::Combine::each_of, masks::specs::Combine::each_bytes, masks::specs::Mask::slice_of))]
+#![tactic(auto, using(masks::proofs::refusal::ClauseLaws::answered, masks::proofs::refusal::ClauseLaws::answered_back, masks::proofs::refusal::ClauseLaws::written, masks::proofs::refusal::ClauseLaws::answered_recounted), unfolding(masks::specs::Combine::pair_of, masks::specs::Combine::pair_bytes, masks::specs::Combine::each_of, masks::specs::Combine::each_bytes, masks::specs::Mask::slice_of))]
 
 ghost use Rattle.std.specs.Prelude.{◌≡◌};
 ghost use Rattle.masks.specs.Answer.{answer, answer_back};

@@ -2,3 +2,4 @@
 pub mod AnswerLaws
 pub mod RefusalLaws
 pub mod ClauseLaws
+pub mod SpanClauses

@@ -16,8 +16,11 @@ unfoldable pub split_checks : ℕ → ℕ → ℕ → ℕ → List Check
 split_checks start n at size = span_checks start n size ++ (within_limit (start + at) ∷ check 6 (leb at n) ∷ [])
 
 -- the spans of the first `at` flags, and of those after them
+abbrev pub parts_at : ℕ → ℕ → ℕ → Span × Span
+parts_at start n at = (span_of start at, span_of (start + at) (n - at))
+
 unfoldable pub split_at : List ℕ → ℕ → ℕ → ℕ → Answer (Unit {0}) (Span × Span)
-split_at bytes start n at = checked (split_checks start n at (length bytes)) tt (span_of start at, span_of (start + at) (n - at))
+split_at bytes start n at = checked (split_checks start n at (length bytes)) tt (parts_at start n at)
 
 -- ---- a window of 32 flags
 

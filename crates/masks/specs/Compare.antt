@@ -27,6 +27,10 @@ edges_of m bytes = checked (mask_checks m bytes) tt (edges (mask_flags m bytes))
 unfoldable pub common_checks : Bitmap → List ℕ → Bitmap → List ℕ → List Check
 common_checks a a_bytes b b_bytes = mask_checks a a_bytes ++ (mask_checks b b_bytes ++ (check 5 (eqb a.length b.length) ∷ []))
 
+-- how many places have a set flag in both lists
+abbrev pub common : List Bool → List Bool → ℕ
+common a b = count (zip_with ◌&&◌ a b)
+
 unfoldable pub common_of : Bitmap → List ℕ → Bitmap → List ℕ → Answer (Unit {0}) ℕ
 common_of a a_bytes b b_bytes =
-    checked (common_checks a a_bytes b b_bytes) tt (count (zip_with ◌&&◌ (mask_flags a a_bytes) (mask_flags b b_bytes)))
+    checked (common_checks a a_bytes b b_bytes) tt (common (mask_flags a a_bytes) (mask_flags b b_bytes))

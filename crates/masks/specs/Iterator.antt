@@ -1,5 +1,5 @@
 -- The flags of a span one by one, and how many flags in a row are equal.
-use Rattle.std.specs.Prelude.{ℕ, ◌+◌, Bool, false, cond, List, ltb, length, drop, get_or}
+use Rattle.std.specs.Prelude.{ℕ, ◌+◌, Bool, false, cond, List, eqb, ltb, length, drop, get_or}
 use Rattle.words.specs.Ends.{leading}
 use Rattle.words.specs.Loops.{stretch}
 use Rattle.masks.specs.Answer.{Answer, given, checked, unless_empty}
@@ -20,9 +20,14 @@ moved_to c place = iter_at c.start c.length place
 
 -- ---- a new cursor
 
--- the answer of `BitmapIter::new`: checks 1 and 2, and a cursor at place 0; for length 0, before them, a cursor that is all 0
+-- a cursor at place 0 over n flags; over no flags it is all 0
+abbrev pub first_iter : ℕ → ℕ → BitmapIter
+first_iter start n = cond (eqb n 0) (iter_at 0 0 0) (iter_at start n 0)
+
+-- the answer of `BitmapIter::new`: checks 1 and 2, and the cursor; for length 0 the cursor before them
 unfoldable pub new_iter : List ℕ → ℕ → ℕ → Answer (Unit {0}) BitmapIter
-new_iter bytes start n = unless_empty n (given (iter_at 0 0 0)) (checked (span_checks start n (length bytes)) tt (iter_at start n 0))
+new_iter bytes start n =
+    unless_empty n (given (first_iter start n)) (checked (span_checks start n (length bytes)) tt (first_iter start n))
 
 -- ---- a flag: checks 1, 2 and 6
 
@@ -45,8 +50,10 @@ nth_flag c bytes k = checked (iter_checks c bytes) c (flag_step bytes c k)
 unfoldable pub leading_from : Bool → List Bool → ℕ → ℕ
 leading_from x l place = leading x (drop place l)
 
--- how many flags x there are in a row at the cursor, and the cursor past them
+-- how many flags x there are in a row at the cursor
+abbrev pub leading_at : Bool → BitmapIter → List ℕ → ℕ
+leading_at x c bytes = leading_from x (iter_flags c bytes) c.place
+
+-- their number, and the cursor past them
 unfoldable pub take_leading : Bool → BitmapIter → List ℕ → Answer BitmapIter (ℕ × BitmapIter)
-take_leading x c bytes =
-    let k = leading_from x (iter_flags c bytes) c.place in
-    checked (iter_checks c bytes) c (k, moved_to c (c.place + k))
+take_leading x c bytes = checked (iter_checks c bytes) c (leading_at x c bytes, moved_to c (c.place + leading_at x c bytes))

@@ -14,7 +14,6 @@ pub mod Cursor
 pub mod Freeze
 pub mod Frozen
 pub mod Iterator
-pub mod CheckedSpan
 pub mod Mask
 pub mod NextAndNot
 pub mod Positions

@@ -41,13 +41,9 @@ count_is None n = true
 abbrev pub count_valid : Bitmap → List ℕ → Bool
 count_valid m bytes = count_is m.unset (zeros (mask_flags m bytes))
 
-abbrev pub count_or : Option ℕ → ℕ → ℕ
-count_or (Some z) n = z
-count_or None n = n
-
--- the count of a mask: the known one, or the number of its zeros if it is unknown
+-- how many of the mask's flags are zero
 unfoldable pub zero_count : Bitmap → List ℕ → ℕ
-zero_count m bytes = count_or m.unset (zeros (mask_flags m bytes))
+zero_count m bytes = zeros (mask_flags m bytes)
 
 -- the count of n flags that were not counted: known as 0 if there are none, else unknown
 abbrev pub uncounted : ℕ → Option ℕ

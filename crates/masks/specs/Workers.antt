@@ -10,7 +10,7 @@ use Rattle.masks.specs.Builder.{none_from}
 use Rattle.masks.specs.Checks.{limit}
 use Rattle.masks.specs.Utils.{zeros}
 use Rattle.masks.specs.Iterator.{leading_from}
-use Rattle.masks.specs.Mask.{recount_valid, sliced_count, zero_count}
+use Rattle.masks.specs.Mask.{mask_flags, recount_valid, sliced_count}
 use Rattle.masks.specs.Search.{nth_from, nth_back}
 use Rattle.masks.specs.SliceIterator.{run_of, run_start}
 use Rattle.masks.specs.declared.aligned.AlignedBitmapSlice.{AlignedBitmapSlice}
@@ -66,9 +66,17 @@ abbrev pub zeros_of_all : Bool → ℕ → ℕ
 zeros_of_all true n = 0
 zeros_of_all false n = n
 
+-- the count of a mask that is not counted anew if it is known: of a mask that passes its checks, the number of its zeros
+abbrev pub count_or : Option ℕ → ℕ → ℕ
+count_or (Some z) n = z
+count_or None n = n
+
+abbrev pub known_or_counted : Bitmap → List ℕ → ℕ
+known_or_counted m bytes = count_or m.unset (zeros (mask_flags m bytes))
+
 -- whether a mask is all x, by its count
 abbrev pub is_all : Bool → Bitmap → List ℕ → Bool
-is_all x m bytes = eqb (zero_count m bytes) (zeros_of_all x m.length)
+is_all x m bytes = eqb (known_or_counted m bytes) (zeros_of_all x m.length)
 
 -- the shortcut of `and` (x is 0) and of `or` (x is 1), by whether each mask is all x
 unfoldable pub either_all : Bool → Bool → Bool → Option Bool

@@ -1,8 +1,7 @@
 // The aligned split of a span: prefix, whole words, suffix.
-ghost use Rattle.std.specs.Prelude.{◌≡◌, ◌*◌, ◌≤◌};
-ghost use Rattle.masks.specs.Answer.{answer};
+ghost use Rattle.std.specs.Prelude.{◌≡◌, ◌≢◌, ◌*◌, ◌≤◌, length as list_length, IfOk};
 ghost use Rattle.masks.specs.Refusal.{failure_of};
-ghost use Rattle.masks.specs.Aligned.{aligned_of, aligned_checks, aligned_split, prefix_length, bulk_start_of, bulk_offset};
+ghost use Rattle.masks.specs.Aligned.{aligned_checks, aligned_split, prefix_length, bulk_start_of, bulk_offset};
 ghost use Rattle.masks.specs.Checks.{first_failed, limit};
 
 use crate::checks::{check_address, check_span};
@@ -30,7 +29,10 @@ impl AlignedBitmapSlice {
         length: usize,
         address: usize,
     ) -> Result<AlignedBitmapSlice, Refusal>
-        ensures { answer result ≡ aligned_of bytes.now start length address }
+        ensures empty { length ≡ 0 → failure_of result ≡ 0 }
+        ensures refused { length ≢ 0 → failure_of result ≡ first_failed
+            (aligned_checks start length (list_length bytes.now) address) }
+        ensures split { IfOk result (λ s. s ≡ aligned_split bytes.now start length address) }
     {
         if length == 0 {
             return Ok(AlignedBitmapSlice::default());
@@ -108,7 +110,8 @@ impl Addressed<'_> {
 
     // Returns the three parts of the span.
     pub(crate) fn split(&self) -> AlignedBitmapSlice
-        ensures { result ≡ aligned_split self.now.bytes.now self.now.start self.now.length self.now.address }
+        ensures { result ≡
+            aligned_split self.now.bytes.now self.now.start self.now.length self.now.address }
     {
         let prefix_len = self.prefix_length();
         let bulk_start = self.bulk_start();

@@ -1,12 +1,13 @@
 // The mask: its record, and the calls that make one, cut it and count it. As in the reference, a mask and its bytes are two parameters;
 // they become a `CheckedSpan` once the mask's checks have passed.
-ghost use Rattle.std.specs.Prelude.{◌≡◌, ◌+◌, ◌≤◌, length as list_length, IfOk, IfErr};
-ghost use Rattle.masks.specs.Answer.{answer, answer_back};
+ghost use Rattle.std.specs.Prelude.{◌≡◌, false, ◌+◌, ◌≤◌, length as list_length, Some, IfOk, IfErr, OnOk, OnErr};
+ghost use Rattle.words.specs.Flags.{copies};
 ghost use Rattle.masks.specs.Refusal.{failure_of, failure_back};
 ghost use Rattle.masks.specs.Checks.{first_failed, span_checks};
+ghost use Rattle.masks.specs.Frozen.{with_frozen};
 ghost use Rattle.masks.specs.Utils.{zeros};
 ghost use Rattle.masks.specs.Mask.{empty_mask, kept_count, piece_checks, recounts as recounts_of};
-ghost use Rattle.masks.specs.Mask.{new_zeroed_bytes, new_zeroed_of, slice_checks, sliced_mask, uncounted, unset_bits_of};
+ghost use Rattle.masks.specs.Mask.{mask_checks, slice_checks, sliced_mask, uncounted, zero_count, zeroed_checks};
 ghost use Rattle.masks.specs.Mask.{cut_mask, mask_of, mask_under, with_count};
 ghost use Rattle.masks.specs.Workers.{cut_of, outside, recounted_of, PieceAllowed};
 
@@ -47,8 +48,11 @@ impl Bitmap {
     // Returns a mask of `length` zeros and writes its frozen bytes to the start of `out`. Refuses with 1 if `length` is above the flag
     // limit, with 9 if `out` is too short.
     pub fn new_zeroed(length: usize, out: &mut [u8]) -> Result<Bitmap, Refusal>
-        ensures answer { answer result ≡ new_zeroed_of length out.old }
-        ensures bytes { out.new ≡ new_zeroed_bytes length out.old }
+        ensures refused { failure_of result ≡ first_failed
+            (zeroed_checks length (list_length out.old)) }
+        ensures mask { IfOk result (λ m. m ≡ mask_of 0 length (Some length)) }
+        ensures bytes { OnOk result (out.new ≡ with_frozen out.old (copies length false)) }
+        ensures unchanged { OnErr result (out.new ≡ out.old) }
     {
         check_limit(length)?;
         check_output(length, out.len())?;
@@ -59,7 +63,8 @@ impl Bitmap {
     // Returns the mask of `length` flags of `bytes` starting at `start`. Its zeros are not counted; the count is known only for length 0.
     // Refuses with 1 if `start` or `length` is above the flag limit, with 2 if the flags end past the bytes.
     pub fn try_new(bytes: &[u8], start: usize, length: usize) -> Result<Bitmap, Refusal>
-        ensures refused { failure_of result ≡ first_failed (span_checks start length (list_length bytes.now)) }
+        ensures refused { failure_of result ≡ first_failed
+            (span_checks start length (list_length bytes.now)) }
         ensures mask { IfOk result (λ m. m ≡ mask_of start length (uncounted length)) }
     {
         check_span(start, length, bytes.len())?;
@@ -69,7 +74,11 @@ impl Bitmap {
 
     // Returns the number of zeros, and the mask with that count stored.
     pub fn unset_bits(self, bytes: &[u8]) -> Result<Recounted, Refused<Bitmap>>
-        ensures { answer_back result ≡ unset_bits_of self bytes.now }
+        ensures refused { failure_back result ≡ first_failed (mask_checks self bytes.now) }
+        ensures zeros { IfOk result (λ r. r.zeros ≡ zero_count self bytes.now) }
+        ensures mask { IfOk result (λ r. r.mask ≡
+            with_count self (Some (zero_count self bytes.now))) }
+        ensures state { IfErr result (λ e. e.state ≡ self) }
     {
         check_mask(self, bytes).map_err(|r| r.with(self))?;
         let zeros = match self.unset {
@@ -107,7 +116,8 @@ impl Bitmap {
         offset: usize,
         length: usize,
     ) -> Result<Bitmap, Refused<Bitmap>>
-        ensures refused { failure_back result ≡ first_failed (slice_checks self bytes.now offset length) }
+        ensures refused { failure_back result ≡ first_failed
+            (slice_checks self bytes.now offset length) }
         ensures mask { IfOk result (λ m. m ≡ sliced_mask self bytes.now offset length) }
         ensures state { IfErr result (λ e. e.state ≡ self) }
     {
@@ -206,7 +216,8 @@ impl CheckedSpan<'_> {
 // Returns the zero count of the slice of n flags starting at `offset`. Makes a span of the mask only if it counts anew.
 fn cut_count(mask: Bitmap, bytes: &[u8], offset: usize, n: usize) -> Result<Option<usize>, Refusal>
     requires { PieceAllowed mask (list_length bytes.now) offset n }
-    ensures { result ≡ cut_of mask.length n (outside bytes.now mask.start mask.length offset n) mask.unset }
+    ensures { result ≡
+        cut_of mask.length n (outside bytes.now mask.start mask.length offset n) mask.unset }
 {
     match mask.unset {
         None => Ok(None),

@@ -1,13 +1,12 @@
 // Spans cut in two, windows of 32 flags, and searches for the n-th set flag by such windows.
-ghost use Rattle.std.specs.Prelude.{◌≡◌, ◌+◌, ◌*◌, ◌≤◌, ◌<◌, length as list_length};
+ghost use Rattle.std.specs.Prelude.{◌≡◌, ◌+◌, ◌*◌, ◌≤◌, ◌<◌, length as list_length, IfOk};
 ghost use Rattle.words.specs.Flags.{bits, count, word_of};
 ghost use Rattle.words.specs.Loops.{stretch};
 ghost use Rattle.words.specs.Nth.{nth_one, nth_place};
-ghost use Rattle.masks.specs.Answer.{answer};
 ghost use Rattle.masks.specs.Refusal.{failure_of};
-ghost use Rattle.masks.specs.Bitmask.{split_at, split_checks, window_at, window_word};
-ghost use Rattle.masks.specs.Checks.{first_failed};
-ghost use Rattle.masks.specs.Search.{search_from, search_back, nth_from, nth_back};
+ghost use Rattle.masks.specs.Bitmask.{parts_at, split_checks, window_word};
+ghost use Rattle.masks.specs.Checks.{first_failed, span_checks};
+ghost use Rattle.masks.specs.Search.{nth_from, nth_back};
 ghost use Rattle.masks.specs.Workers.{PassedFrom, PassedBack};
 
 use crate::bitmap::Bitmap;
@@ -45,7 +44,9 @@ pub fn split_at_unchecked(
     length: usize,
     at: usize,
 ) -> Result<(Span, Span), Refusal>
-    ensures { answer result ≡ split_at bytes.now start length at }
+    ensures refused { failure_of result ≡ first_failed
+        (split_checks start length at (list_length bytes.now)) }
+    ensures spans { IfOk result (λ s. s ≡ parts_at start length at) }
 {
     check_split(start, length, at, bytes.len())?;
     let second = start + at;
@@ -61,7 +62,9 @@ pub fn split_at_unchecked(
 
 // Returns the 32 flags starting at `index`, with zeros past the end of the span.
 pub fn get_u32(bytes: &[u8], start: usize, length: usize, index: usize) -> Result<u32, Refusal>
-    ensures { answer result ≡ window_at bytes.now start length index }
+    ensures refused { failure_of result ≡ first_failed
+        (span_checks start length (list_length bytes.now)) }
+    ensures word { IfOk result (λ w. w ≡ window_word bytes.now start length index) }
 {
     let span = CheckedSpan::new(bytes, start, length)?;
     Ok(span.window(index))
@@ -75,7 +78,9 @@ pub fn nth_set_bit_idx(
     n: usize,
     from: usize,
 ) -> Result<Option<usize>, Refusal>
-    ensures { answer result ≡ search_from bytes.now start length n from }
+    ensures refused { failure_of result ≡ first_failed
+        (span_checks start length (list_length bytes.now)) }
+    ensures position { IfOk result (λ p. p ≡ nth_from (stretch bytes.now start length) n from) }
 {
     let span = CheckedSpan::new(bytes, start, length)?;
     Ok(span.nth_from(n, from))
@@ -90,7 +95,9 @@ pub fn nth_set_bit_idx_rev(
     n: usize,
     end: usize,
 ) -> Result<Option<usize>, Refusal>
-    ensures { answer result ≡ search_back bytes.now start length n end }
+    ensures refused { failure_of result ≡ first_failed
+        (span_checks start length (list_length bytes.now)) }
+    ensures position { IfOk result (λ p. p ≡ nth_back (stretch bytes.now start length) n end) }
 {
     let span = CheckedSpan::new(bytes, start, length)?;
     Ok(span.nth_back(n, end.min(span.length)))
@@ -116,7 +123,8 @@ struct Passed {
 impl CheckedSpan<'_> {
     // Returns the 32 flags starting at `index`, with zeros past the end of the span. One load.
     fn window(self, index: usize) -> u32
-        ensures { result ≡ window_word self.entry.bytes.now self.entry.start self.entry.length index }
+        ensures { result ≡
+            window_word self.entry.bytes.now self.entry.start self.entry.length index }
     {
         if index >= self.length {
             return 0;
@@ -128,7 +136,8 @@ impl CheckedSpan<'_> {
     // Returns the span of the flags below `end`.
     pub(crate) fn front(self, end: usize) -> Self
         requires { end ≤ self.length }
-        ensures { (result.bytes.now ≡ self.entry.bytes.now) × ((result.start ≡ self.entry.start) × (result.length ≡ end)) }
+        ensures { (result.bytes.now ≡ self.entry.bytes.now)
+            × ((result.start ≡ self.entry.start) × (result.length ≡ end)) }
     {
         CheckedSpan {
             bytes: self.bytes,
@@ -142,7 +151,8 @@ impl CheckedSpan<'_> {
     // loop, which the variable of a `for` does not reach.
     fn pass_windows(self, n: usize, from: usize) -> Passed
         requires { from < self.length }
-        ensures { PassedFrom self.entry.bytes.now self.entry.start self.entry.length n from result.left result.at }
+        ensures { PassedFrom self.entry.bytes.now self.entry.start self.entry.length n from
+            result.left result.at }
     {
         let inner = self.length.saturating_sub(63);
         let mut left = n;
@@ -162,7 +172,8 @@ impl CheckedSpan<'_> {
     // Returns the position of the n-th set flag at or after `from`, or none. Where `pass_windows` stops, the flag is in that window or in
     // the one after it, so two windows are read and no loop is needed.
     fn nth_from(self, n: usize, from: usize) -> Option<usize>
-        ensures { result ≡ nth_from (stretch self.entry.bytes.now self.entry.start self.entry.length) n from }
+        ensures { result ≡
+            nth_from (stretch self.entry.bytes.now self.entry.start self.entry.length) n from }
     {
         if from >= self.length {
             return None;
@@ -188,7 +199,8 @@ impl CheckedSpan<'_> {
     // (`search_first`) the number counts from the other end.
     fn search_last(self, n: usize, from: usize) -> Option<usize>
         requires { (from ≤ self.length + 32) × (self.length ≤ from + 32) }
-        ensures { result ≡ nth_from (stretch self.entry.bytes.now self.entry.start self.entry.length) n from }
+        ensures { result ≡
+            nth_from (stretch self.entry.bytes.now self.entry.start self.entry.length) n from }
     {
         nth_in_window(self.window(from), n).ok().map(|i| from + i)
     }
@@ -199,7 +211,8 @@ impl CheckedSpan<'_> {
     // of a number from below, `nth_in_window`) differ in each line.
     fn pass_back(self, n: usize, end: usize) -> Passed
         requires { end ≤ self.length }
-        ensures { PassedBack self.entry.bytes.now self.entry.start self.entry.length n end result.left result.at }
+        ensures { PassedBack self.entry.bytes.now self.entry.start self.entry.length n end
+            result.left result.at }
     {
         let mut left = n;
         let mut below = end;
@@ -218,7 +231,8 @@ impl CheckedSpan<'_> {
     // Returns the position of the n-th set flag below `end`, counting down, or none. The window below `below` has zeros above its end.
     fn nth_back(self, n: usize, end: usize) -> Option<usize>
         requires { end ≤ self.length }
-        ensures { result ≡ nth_back (stretch self.entry.bytes.now self.entry.start self.entry.length) n end }
+        ensures { result ≡
+            nth_back (stretch self.entry.bytes.now self.entry.start self.entry.length) n end }
     {
         let passed = self.pass_back(n, end);
         let below = passed.at;
@@ -238,7 +252,8 @@ impl CheckedSpan<'_> {
     // Returns the position of the n-th set flag below `end`, counting down, in the first window of the span, or none.
     fn search_first(self, n: usize, end: usize) -> Option<usize>
         requires { (end ≤ self.length) × (end ≤ 32) }
-        ensures { result ≡ nth_back (stretch self.entry.bytes.now self.entry.start self.entry.length) n end }
+        ensures { result ≡
+            nth_back (stretch self.entry.bytes.now self.entry.start self.entry.length) n end }
     {
         let w = self.front(end).window(0);
         let ones = ones_in_window(w);

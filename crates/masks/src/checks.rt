@@ -23,7 +23,7 @@ pub(crate) fn within_limit(n: usize) -> bool
 
 // Makes checks 1 and 2 of a span over `size` bytes. The numbers may have any size: check 1 comes before they are added.
 pub fn check_span(start: usize, length: usize, size: usize) -> Result<(), Refusal>
-    ensures { failure_of result ≡ first_failed (span_checks start length size) }
+    ensures refused { failure_of result ≡ first_failed (span_checks start length size) }
 {
     // `&`: one branch for both, in every check of a mask.
     check(
@@ -70,7 +70,7 @@ fn count_valid(mask: Bitmap, bytes: &[u8]) -> bool
 
 // Makes checks 1 to 3 of a mask. Counts its zeros only if 1 and 2 pass: both come before 3.
 pub fn check_mask(mask: Bitmap, bytes: &[u8]) -> Result<(), Refusal>
-    ensures { failure_of result ≡ first_failed (mask_checks mask bytes.now) }
+    ensures refused { failure_of result ≡ first_failed (mask_checks mask bytes.now) }
 {
     check_span(mask.start, mask.length, bytes.len())?;
     check(Refusal::FalseCount, count_valid(mask, bytes))
@@ -85,7 +85,7 @@ pub(crate) fn sum_at_most(a: usize, b: usize, c: usize) -> bool
 
 // Makes check 9: an output of `size` bytes holds the frozen bytes of n flags.
 pub fn check_output(n: usize, size: usize) -> Result<(), Refusal>
-    ensures { failure_of result ≡ first_failed (output_checks n size) }
+    ensures refused { failure_of result ≡ first_failed (output_checks n size) }
 {
     check(Refusal::ShortOutput, n.div_ceil(64) <= size / 8)
 }
@@ -142,14 +142,16 @@ pub(crate) fn check_span_grow(
     b: BitmapBuilder,
     size: usize,
 ) -> Result<(), Refusal>
-    ensures { failure_of result ≡ first_failed (span_checks start n bytes ++ builder_checks b (b.length + n) size) }
+    ensures { failure_of result ≡ first_failed
+        (span_checks start n bytes ++ builder_checks b (b.length + n) size) }
 {
     earlier(check_span(start, n, bytes), check_builder(b, n, size))
 }
 
 // Makes checks 1 and 6 on a pushed word of k flags: k is within the limit and at most 64, and no bit from k up is set.
 pub(crate) fn check_word(word: u64, k: usize) -> Result<(), Refusal>
-    ensures { failure_of result ≡ first_failed (within_limit k ∷ check 6 (leb k 64 && none_from word k) ∷ []) }
+    ensures { failure_of result ≡ first_failed
+        (within_limit k ∷ check 6 (leb k 64 && none_from word k) ∷ []) }
 {
     check_limit(k)?;
     check(Refusal::Outside, k <= 64 && none_from(word, k))

@@ -1,10 +1,11 @@
 // The words of a span that starts at any bit: a cursor that returns them one by one, and the flags after the last whole word.
-ghost use Rattle.std.specs.Prelude.{◌≡◌, ◌+◌, ◌*◌, ◌≤◌};
+ghost use Rattle.std.specs.Prelude.{◌≡◌, ◌+◌, ◌*◌, ◌%◌, ◌≤◌, length as list_length, IfOk, IfErr};
 ghost use Rattle.words.specs.Flags.{word_flags};
 ghost use Rattle.words.specs.Loops.{stretch};
-ghost use Rattle.masks.specs.Cursor.{answer_step};
-ghost use Rattle.masks.specs.Answer.{answer, answer_back};
-ghost use Rattle.masks.specs.Chunks.{new_chunks, next_chunk, chunks_remainder};
+ghost use Rattle.masks.specs.Checks.{first_failed, span_checks};
+ghost use Rattle.masks.specs.Chunks.{chunk_checks, chunk_step, chunks_at, remainder_word};
+ghost use Rattle.masks.specs.Cursor.{step_of};
+ghost use Rattle.masks.specs.Refusal.{failure_back, failure_of};
 
 use crate::checks::check_span;
 use crate::cursor::{Step, check_cursor};
@@ -28,7 +29,9 @@ pub struct BitChunksExact {}
 impl BitChunks {
     // Returns a cursor at the first word of a span.
     pub fn new(bytes: &[u8], start: usize, length: usize) -> Result<BitChunks, Refusal>
-        ensures { answer result ≡ new_chunks bytes.now start length }
+        ensures refused { failure_of result ≡ first_failed
+            (span_checks start length (list_length bytes.now)) }
+        ensures cursor { IfOk result (λ c. c ≡ chunks_at start length 0) }
     {
         check_span(start, length, bytes.len())?;
         Ok(BitChunks {
@@ -40,7 +43,9 @@ impl BitChunks {
 
     // Returns the word at the cursor, and the cursor one word further; after the last whole word no word, and the cursor unmoved.
     pub fn next(self, bytes: &[u8]) -> Result<Step<u64, BitChunks>, Refused<BitChunks>>
-        ensures { answer_step result ≡ next_chunk self bytes.now }
+        ensures refused { failure_back result ≡ first_failed (chunk_checks self bytes.now) }
+        ensures step { IfOk result (λ s. step_of s.item s.cursor ≡ chunk_step bytes.now self) }
+        ensures state { IfErr result (λ e. e.state ≡ self) }
     {
         check_cursor(self.start, self.length, self.place, bytes.len()).map_err(|r| r.with(self))?;
         if self.place >= self.length / 64 {
@@ -67,7 +72,10 @@ impl BitChunks {
 
     // Returns the flags after the last whole word, as a word, and how many they are, wherever the cursor is.
     pub fn remainder(self, bytes: &[u8]) -> Result<(u64, usize), Refused<BitChunks>>
-        ensures { answer_back result ≡ chunks_remainder self bytes.now }
+        ensures refused { failure_back result ≡ first_failed (chunk_checks self bytes.now) }
+        ensures word { IfOk result (λ r. r.0 ≡ remainder_word bytes.now self.start self.length) }
+        ensures number { IfOk result (λ r. r.1 ≡ self.length % 64) }
+        ensures state { IfErr result (λ e. e.state ≡ self) }
     {
         check_cursor(self.start, self.length, self.place, bytes.len()).map_err(|r| r.with(self))?;
         let rest = self.length % 64;
@@ -79,7 +87,9 @@ impl BitChunks {
 impl BitChunksExact {
     // Returns a cursor at the first word of the first `length` flags of `bytes`: a `BitChunks` of start 0.
     pub fn new(bytes: &[u8], length: usize) -> Result<BitChunks, Refusal>
-        ensures { answer result ≡ new_chunks bytes.now 0 length }
+        ensures refused { failure_of result ≡ first_failed
+            (span_checks 0 length (list_length bytes.now)) }
+        ensures cursor { IfOk result (λ c. c ≡ chunks_at 0 length 0) }
     {
         BitChunks::new(bytes, 0, length)
     }

@@ -1,9 +1,9 @@
 // The calls that compare or count the flags of one mask or of two: equality, edges and common ones.
-ghost use Rattle.std.specs.Prelude.{◌≡◌, IfOk};
+ghost use Rattle.std.specs.Prelude.{◌≡◌, ◌++◌, IfOk};
+ghost use Rattle.words.specs.Counts.{same_flags};
 ghost use Rattle.words.specs.Loops.{stretch};
-ghost use Rattle.masks.specs.Answer.{answer};
 ghost use Rattle.masks.specs.Checks.{first_failed};
-ghost use Rattle.masks.specs.Compare.{common_of, edges, eq_of};
+ghost use Rattle.masks.specs.Compare.{common, common_checks, edges};
 ghost use Rattle.masks.specs.Mask.{mask_checks, mask_flags};
 ghost use Rattle.masks.specs.Refusal.{failure_of};
 
@@ -19,7 +19,10 @@ use words::ops::Op;
 // instructions more.
 #[inline(always)]
 pub fn eq(lhs: Bitmap, lhs_bytes: &[u8], rhs: Bitmap, rhs_bytes: &[u8]) -> Result<bool, Refusal>
-    ensures { answer result ≡ eq_of lhs lhs_bytes.now rhs rhs_bytes.now }
+    ensures refused { failure_of result ≡ first_failed
+        (mask_checks lhs lhs_bytes.now ++ mask_checks rhs rhs_bytes.now) }
+    ensures flag { IfOk result (λ x. x ≡
+        same_flags (mask_flags lhs lhs_bytes.now) (mask_flags rhs rhs_bytes.now)) }
 {
     earlier(check_mask(lhs, lhs_bytes), check_mask(rhs, rhs_bytes))?;
     let n = lhs.length;
@@ -69,7 +72,10 @@ pub fn num_intersections_with(
     rhs: Bitmap,
     rhs_bytes: &[u8],
 ) -> Result<usize, Refusal>
-    ensures { answer result ≡ common_of lhs lhs_bytes.now rhs rhs_bytes.now }
+    ensures refused { failure_of result ≡ first_failed
+        (common_checks lhs lhs_bytes.now rhs rhs_bytes.now) }
+    ensures number { IfOk result (λ n. n ≡
+        common (mask_flags lhs lhs_bytes.now) (mask_flags rhs rhs_bytes.now)) }
 {
     let same = check(Refusal::UnequalLengths, lhs.length == rhs.length);
     let second = check_mask(rhs, rhs_bytes);

@@ -1,8 +1,9 @@
 // The cursor over single flags of a span, and how many flags in a row at its place are equal.
-ghost use Rattle.std.specs.Prelude.{◌≡◌, true, false};
-ghost use Rattle.masks.specs.Cursor.{answer_step};
-ghost use Rattle.masks.specs.Answer.{answer, answer_back};
-ghost use Rattle.masks.specs.Iterator.{moved_to, new_iter, nth_flag, take_leading};
+ghost use Rattle.std.specs.Prelude.{◌≡◌, ◌≢◌, ◌+◌, true, false, length as list_length, IfOk, IfErr};
+ghost use Rattle.masks.specs.Checks.{first_failed, span_checks};
+ghost use Rattle.masks.specs.Cursor.{step_of};
+ghost use Rattle.masks.specs.Iterator.{first_iter, flag_step, iter_checks, leading_at, moved_to};
+ghost use Rattle.masks.specs.Refusal.{failure_back, failure_of};
 
 use crate::checks::check_span;
 use crate::cursor::{Step, check_cursor};
@@ -21,7 +22,10 @@ pub struct BitmapIter {
 impl BitmapIter {
     // Returns a cursor at the first flag of a span. For length 0 the cursor is all zeros and nothing is checked.
     pub fn new(bytes: &[u8], start: usize, length: usize) -> Result<BitmapIter, Refusal>
-        ensures { answer result ≡ new_iter bytes.now start length }
+        ensures empty { length ≡ 0 → failure_of result ≡ 0 }
+        ensures refused { length ≢ 0 → failure_of result ≡ first_failed
+            (span_checks start length (list_length bytes.now)) }
+        ensures cursor { IfOk result (λ c. c ≡ first_iter start length) }
     {
         if length == 0 {
             return Ok(BitmapIter::default());
@@ -36,14 +40,18 @@ impl BitmapIter {
 
     // Returns the flag at the cursor, and the cursor past it; at the end no flag.
     pub fn next(self, bytes: &[u8]) -> Result<Step<bool, BitmapIter>, Refused<BitmapIter>>
-        ensures { answer_step result ≡ nth_flag self bytes.now 0 }
+        ensures refused { failure_back result ≡ first_failed (iter_checks self bytes.now) }
+        ensures step { IfOk result (λ s. step_of s.item s.cursor ≡ flag_step bytes.now self 0) }
+        ensures state { IfErr result (λ e. e.state ≡ self) }
     {
         self.nth(bytes, 0)
     }
 
     // Skips n flags and returns the one after them, and the cursor past it; past the end no flag, and the cursor at the length.
     pub fn nth(self, bytes: &[u8], n: usize) -> Result<Step<bool, BitmapIter>, Refused<BitmapIter>>
-        ensures { answer_step result ≡ nth_flag self bytes.now n }
+        ensures refused { failure_back result ≡ first_failed (iter_checks self bytes.now) }
+        ensures step { IfOk result (λ s. step_of s.item s.cursor ≡ flag_step bytes.now self n) }
+        ensures state { IfErr result (λ e. e.state ≡ self) }
     {
         check_cursor(self.start, self.length, self.place, bytes.len()).map_err(|r| r.with(self))?;
         if n >= self.length - self.place {
@@ -63,7 +71,11 @@ impl BitmapIter {
 
     // Counts the ones in a row at the cursor, and moves past them.
     pub fn take_leading_ones(self, bytes: &[u8]) -> Result<(usize, BitmapIter), Refused<BitmapIter>>
-        ensures { answer_back result ≡ take_leading true self bytes.now }
+        ensures refused { failure_back result ≡ first_failed (iter_checks self bytes.now) }
+        ensures number { IfOk result (λ r. r.0 ≡ leading_at true self bytes.now) }
+        ensures cursor { IfOk result (λ r. r.1 ≡
+            moved_to self (self.place + leading_at true self bytes.now)) }
+        ensures state { IfErr result (λ e. e.state ≡ self) }
     {
         self.take_leading(bytes, true)
     }
@@ -73,7 +85,11 @@ impl BitmapIter {
         self,
         bytes: &[u8],
     ) -> Result<(usize, BitmapIter), Refused<BitmapIter>>
-        ensures { answer_back result ≡ take_leading false self bytes.now }
+        ensures refused { failure_back result ≡ first_failed (iter_checks self bytes.now) }
+        ensures number { IfOk result (λ r. r.0 ≡ leading_at false self bytes.now) }
+        ensures cursor { IfOk result (λ r. r.1 ≡
+            moved_to self (self.place + leading_at false self bytes.now)) }
+        ensures state { IfErr result (λ e. e.state ≡ self) }
     {
         self.take_leading(bytes, false)
     }
@@ -84,7 +100,11 @@ impl BitmapIter {
         bytes: &[u8],
         flag: bool,
     ) -> Result<(usize, BitmapIter), Refused<BitmapIter>>
-        ensures { answer_back result ≡ take_leading flag self bytes.now }
+        ensures refused { failure_back result ≡ first_failed (iter_checks self bytes.now) }
+        ensures number { IfOk result (λ r. r.0 ≡ leading_at flag self bytes.now) }
+        ensures cursor { IfOk result (λ r. r.1 ≡
+            moved_to self (self.place + leading_at flag self bytes.now)) }
+        ensures state { IfErr result (λ e. e.state ≡ self) }
     {
         check_cursor(self.start, self.length, self.place, bytes.len()).map_err(|r| r.with(self))?;
         let taken = leading_from(flag, bytes, self.start, self.length, self.place);

@@ -1,13 +1,13 @@
 // Many positions of ones at once, written to a lent output: for callers that need all of them, since a call for each costs more than what
 // it does.
-ghost use Rattle.std.specs.Prelude.{◌≡◌, true, List, ℕ, ◌+◌, ◌*◌, ◌≤◌, min, length as list_length};
+ghost use Rattle.std.specs.Prelude.{◌≡◌, true, List, ℕ, ◌+◌, ◌*◌, ◌≤◌, min, take, length as list_length, IfOk, IfErr, OnOk, OnErr};
 ghost use Rattle.words.specs.Flags.{copies, over, word_flags};
 ghost use Rattle.words.specs.Loops.{stretch};
-ghost use Rattle.masks.specs.Answer.{answer_back};
 ghost use Rattle.masks.specs.Checks.{first_failed, limit};
 ghost use Rattle.masks.specs.Frozen.{over_from};
-ghost use Rattle.masks.specs.Positions.{place_after, left_of, next_positions, positions_over};
-ghost use Rattle.masks.specs.TrueIdx.{ones_from, ones_left, true_checks};
+ghost use Rattle.masks.specs.Positions.{place_after, left_of};
+ghost use Rattle.masks.specs.Refusal.{failure_back};
+ghost use Rattle.masks.specs.TrueIdx.{ones_from, ones_left, true_checks, true_moved};
 
 use crate::refusal::Refused;
 use crate::span::{CheckedSpan, flags_word};
@@ -40,7 +40,8 @@ fn write_run(out: &mut [u32], at: usize, first: usize, n: usize)
 // finds (`zeros + ones`), and carries three values.
 fn write_word(out: &mut [u32], done: usize, word: u64, first: usize) -> usize
     requires { (done ≤ list_length out.old) × (first ≤ limit) }
-    ensures count { result ≡ min (list_length out.old) (done + list_length (ones_from first (word_flags word))) }
+    ensures count { result ≡
+        min (list_length out.old) (done + list_length (ones_from first (word_flags word))) }
     ensures positions { out.new ≡ over_from out.old done (ones_from first (word_flags word)) }
 {
     let mut w = word;
@@ -70,9 +71,11 @@ fn write_words(out: &mut [u32], span: CheckedSpan, place: usize) -> usize
     requires { place ≤ span.length }
     ensures count { result ≡
         min (list_length out.old)
-        (list_length (ones_left (stretch span.entry.bytes.now span.entry.start span.entry.length) place)) }
+        (list_length
+        (ones_left (stretch span.entry.bytes.now span.entry.start span.entry.length) place)) }
     ensures positions { out.new ≡
-        over_from out.old 0 (ones_left (stretch span.entry.bytes.now span.entry.start span.entry.length) place) }
+        over_from out.old 0
+        (ones_left (stretch span.entry.bytes.now span.entry.start span.entry.length) place) }
 {
     let mut at = place;
     let mut count = 0;
@@ -110,7 +113,8 @@ fn write_positions(cursor: TrueIdxIter, bytes: &[u8], out: &mut [u32]) -> usize
 // and `map_or` `next_chunk` took 1.04 times the instructions.
 fn place_after(cursor: TrueIdxIter, out: &[u32], count: usize) -> usize
     requires { count ≤ list_length out.now }
-    ensures { (old left : List ℕ) → out.now ≡ over old left → count ≡ min (list_length old) (list_length left)
+    ensures { (old left : List ℕ) →
+        out.now ≡ over old left → count ≡ min (list_length old) (list_length left)
         → result ≡ place_after cursor left (list_length old) }
 {
     if count < out.len() {
@@ -130,8 +134,15 @@ impl TrueIdxIter {
         bytes: &[u8],
         out: &mut [u32],
     ) -> Result<(usize, TrueIdxIter), Refused<TrueIdxIter>>
-        ensures answer { answer_back result ≡ next_positions self bytes.now (list_length out.old) }
-        ensures positions { out.new ≡ positions_over self bytes.now out.old }
+        ensures refused { failure_back result ≡ first_failed
+            (true_checks self (list_length bytes.now)) }
+        ensures number { IfOk result (λ r. r.0 ≡
+            list_length (take (list_length out.old) (left_of self bytes.now))) }
+        ensures cursor { IfOk result (λ r. r.1 ≡
+            true_moved self (place_after self (left_of self bytes.now) (list_length out.old))) }
+        ensures positions { OnOk result (out.new ≡ over out.old (left_of self bytes.now)) }
+        ensures unchanged { OnErr result (out.new ≡ out.old) }
+        ensures state { IfErr result (λ e. e.state ≡ self) }
     {
         check_next(self, bytes.len()).map_err(|r| r.with(self))?;
         let count = write_positions(self, bytes, out);

@@ -117,7 +117,7 @@ impl<S> fmt::Display for Refused<S> {
 // Returns the refusal of two checks that comes first in their order; none if both pass. It joins checks of which one made later may come
 // first, as check 1 of a second mask comes before check 3 of the first. If each comes after those made before it, a call uses `?`.
 pub fn earlier(a: Result<(), Refusal>, b: Result<(), Refusal>) -> Result<(), Refusal>
-    ensures { failure_of result ≡ earlier_of (failure_of a) (failure_of b) }
+    ensures refused { failure_of result ≡ earlier_of (failure_of a) (failure_of b) }
 {
     match (a, b) {
         (Err(x), Err(y)) => Err(x.min(y)),

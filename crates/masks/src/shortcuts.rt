@@ -2,8 +2,8 @@
 // computed for this: the first word usually shows that a mask is not constant.
 ghost use Rattle.std.specs.Prelude.{◌≡◌, not};
 ghost use Rattle.words.specs.declared.ops.Op.TheVariants.{Xor};
-ghost use Rattle.masks.specs.Combine.{pair_shortcut, result_count};
-ghost use Rattle.masks.specs.Workers.{either_all, is_all, xor_all, zeros_of_all};
+ghost use Rattle.masks.specs.Combine.{result_count, shortcut};
+ghost use Rattle.masks.specs.Workers.{either_all, is_all, known_or_counted, xor_all, zeros_of_all};
 
 use crate::bitmap::{Bitmap, not_counted};
 use crate::utils::{all_flags, other_early};
@@ -50,7 +50,8 @@ fn either_all(
     rhs: Bitmap,
     rhs_bytes: &[u8],
 ) -> Option<bool>
-    ensures { result ≡ either_all flag (is_all flag lhs lhs_bytes.now) (is_all flag rhs rhs_bytes.now) }
+    ensures { result ≡
+        either_all flag (is_all flag lhs lhs_bytes.now) (is_all flag rhs rhs_bytes.now) }
 {
     (is_all_early(flag, lhs, lhs_bytes) || is_all_early(flag, rhs, rhs_bytes)).then_some(flag)
 }
@@ -72,7 +73,9 @@ fn xor_all(flag: bool, mask: Bitmap, bytes: &[u8]) -> Option<bool>
 // Returns the shortcut of `xor`: a flag if both masks are constant, else none.
 fn xor_shortcut(lhs: Bitmap, lhs_bytes: &[u8], rhs: Bitmap, rhs_bytes: &[u8]) -> Option<bool>
     requires { lhs.length ≡ rhs.length }
-    ensures { result ≡ pair_shortcut Xor lhs lhs_bytes.now rhs rhs_bytes.now }
+    ensures { result ≡
+        shortcut Xor lhs.length (known_or_counted lhs lhs_bytes.now)
+        (known_or_counted rhs rhs_bytes.now) }
 {
     if is_all_early(false, lhs, lhs_bytes) {
         return xor_all(false, rhs, rhs_bytes);
@@ -93,7 +96,9 @@ pub(crate) fn pair_shortcut(
     rhs_bytes: &[u8],
 ) -> Option<bool>
     requires { lhs.length ≡ rhs.length }
-    ensures { result ≡ pair_shortcut op lhs lhs_bytes.now rhs rhs_bytes.now }
+    ensures { result ≡
+        shortcut op lhs.length (known_or_counted lhs lhs_bytes.now)
+        (known_or_counted rhs rhs_bytes.now) }
 {
     // a `match`: the arms name a flag to look for, another shortcut, or none
     let flag = match op {

@@ -2,10 +2,10 @@
 ghost use Rattle.std.specs.Prelude.{◌≡◌, ◌&&◌, ◌≤◌, eqb, leb, IfOk, IfErr};
 ghost use Rattle.words.specs.Loops.{stretch};
 ghost use Rattle.masks.specs.Cursor.{step_of};
-ghost use Rattle.masks.specs.Answer.{answer};
 ghost use Rattle.masks.specs.Checks.{first_failed};
-ghost use Rattle.masks.specs.Refusal.{failure_back};
-ghost use Rattle.masks.specs.SliceIterator.{run_checks, slice_step, slices_moved, new_slices};
+ghost use Rattle.masks.specs.Mask.{mask_checks};
+ghost use Rattle.masks.specs.Refusal.{failure_back, failure_of};
+ghost use Rattle.masks.specs.SliceIterator.{run_checks, slice_step, slices_at, slices_moved};
 ghost use Rattle.masks.specs.Workers.{first_run};
 
 use crate::bitmap::Bitmap;
@@ -46,7 +46,8 @@ fn is_full_byte(byte: u8, bit: usize, left: usize) -> bool
 // are the walk of document 01 (docs/REFERENCE.md), a named form.
 fn run_from(span: CheckedSpan, place: usize) -> Run
     requires { place ≤ span.length }
-    ensures { result ≡ first_run (stretch span.entry.bytes.now span.entry.start span.entry.length) place }
+    ensures { result ≡
+        first_run (stretch span.entry.bytes.now span.entry.start span.entry.length) place }
 {
     let mut first = place;
     let mut at = place;
@@ -90,7 +91,8 @@ fn run_from(span: CheckedSpan, place: usize) -> Run
 impl SlicesIterator {
     // Returns a cursor at the first flag of a mask.
     pub fn new(mask: Bitmap, bytes: &[u8]) -> Result<SlicesIterator, Refusal>
-        ensures { answer result ≡ new_slices mask bytes.now }
+        ensures refused { failure_of result ≡ first_failed (mask_checks mask bytes.now) }
+        ensures cursor { IfOk result (λ c. c ≡ slices_at mask.start mask.length 0) }
     {
         check_mask(mask, bytes)?;
         Ok(SlicesIterator {
@@ -104,7 +106,8 @@ impl SlicesIterator {
     // a run, the run starts at the cursor. Passes over the zeros before a run by words.
     pub fn next(self, bytes: &[u8]) -> Result<Step<Run, SlicesIterator>, Refused<SlicesIterator>>
         ensures refused { failure_back result ≡ first_failed (run_checks self bytes.now) }
-        ensures step { IfOk result (λ s. step_of s.item s.cursor ≡ slice_step self (stretch bytes.now self.start self.length)) }
+        ensures step { IfOk result (λ s. step_of s.item s.cursor ≡
+            slice_step self (stretch bytes.now self.start self.length)) }
         ensures state { IfErr result (λ e. e.state ≡ self) }
     {
         check_cursor(self.start, self.length, self.place, bytes.len()).map_err(|r| r.with(self))?;

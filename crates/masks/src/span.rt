@@ -1,9 +1,10 @@
 // Spans that have passed their checks, words of their flags, and how many flags in a row are equal.
-ghost use Rattle.std.specs.Prelude.{false, ◌≡◌, ◌+◌, ◌*◌, ◌≤◌, length as list_length};
+ghost use Rattle.std.specs.Prelude.{false, ◌≡◌, ◌+◌, ◌*◌, ◌≤◌, length as list_length, IfOk};
 ghost use Rattle.words.specs.Flags.{word_of};
 ghost use Rattle.words.specs.Loops.{stretch};
-ghost use Rattle.masks.specs.Checks.{limit};
+ghost use Rattle.masks.specs.Checks.{first_failed, limit, span_checks};
 ghost use Rattle.masks.specs.Iterator.{leading_from};
+ghost use Rattle.masks.specs.Refusal.{failure_of};
 
 use crate::checks::check_span;
 use crate::refusal::Refusal;
@@ -22,11 +23,12 @@ pub(crate) struct CheckedSpan<'a> {
 }
 
 impl CheckedSpan<'_> {
-    ghost use Rattle.masks.specs.CheckedSpan.{lent_answer, new_lent};
-
     // Makes checks 1 and 2 and returns the span.
     pub(crate) fn new(bytes: &[u8], start: usize, length: usize) -> Result<CheckedSpan<'_>, Refusal>
-        ensures { lent_answer result ≡ new_lent bytes.now start length }
+        ensures refused { failure_of result ≡ first_failed
+            (span_checks start length (list_length bytes.now)) }
+        ensures span { IfOk result (λ s.
+            (s.bytes.now ≡ bytes.now) × ((s.start ≡ start) × (s.length ≡ length))) }
     {
         check_span(start, length, bytes.len())?;
         Ok(CheckedSpan {

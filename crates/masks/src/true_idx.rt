@@ -1,11 +1,11 @@
 // The positions of the ones of a mask; with no mask every position.
-ghost use Rattle.std.specs.Prelude.{◌≡◌, false, ◌≤◌};
-ghost use Rattle.masks.specs.Cursor.{answer_step};
-ghost use Rattle.masks.specs.Answer.{answer};
-ghost use Rattle.masks.specs.Refusal.{failure_of};
+ghost use Rattle.std.specs.Prelude.{◌≡◌, false, ◌≤◌, length as list_length, IfOk, IfErr};
+ghost use Rattle.masks.specs.Cursor.{step_of};
+ghost use Rattle.masks.specs.Refusal.{failure_back, failure_of};
 ghost use Rattle.masks.specs.Checks.{first_failed, limit};
 ghost use Rattle.masks.specs.Iterator.{leading_from};
-ghost use Rattle.masks.specs.TrueIdx.{true_moved, new_true, new_true_checks, first_true, next_true, true_checks, true_flags};
+ghost use Rattle.masks.specs.TrueIdx.{true_moved, new_true_checks, first_true, true_checks, true_flags, true_step};
+ghost use Rattle.masks.specs.Search.{nth_from};
 
 use crate::bitmap::Bitmap;
 use crate::checks::{check_limit, check_mask};
@@ -90,7 +90,8 @@ impl TrueIdxIter {
     // Returns a cursor at the first position. Refuses with 5 if `length` is not the length of the mask. No mask is Arrow's none, which
     // means all ones: the cursor then returns every position below `length`.
     pub fn new(length: usize, mask: Option<Bitmap>, bytes: &[u8]) -> Result<TrueIdxIter, Refusal>
-        ensures { answer result ≡ new_true length mask bytes.now }
+        ensures refused { failure_of result ≡ first_failed (new_true_checks length mask bytes.now) }
+        ensures cursor { IfOk result (λ c. c ≡ first_true length mask) }
     {
         check_new(length, mask, bytes)?;
         Ok(first_true(length, mask))
@@ -98,7 +99,11 @@ impl TrueIdxIter {
 
     // Returns the position of the next one, and the cursor past it; with no ones left no position, and the cursor at the length.
     pub fn next(self, bytes: &[u8]) -> Result<Step<usize, TrueIdxIter>, Refused<TrueIdxIter>>
-        ensures { answer_step result ≡ next_true self bytes.now }
+        ensures refused { failure_back result ≡ first_failed
+            (true_checks self (list_length bytes.now)) }
+        ensures step { IfOk result (λ s. step_of s.item s.cursor ≡
+            true_step self (nth_from (true_flags self bytes.now) 0 self.place)) }
+        ensures state { IfErr result (λ e. e.state ≡ self) }
     {
         check_next(self, bytes.len()).map_err(|r| r.with(self))?;
         let position = self.place + zeros_next(self, bytes);

@@ -4,10 +4,9 @@ ghost use Rattle.std.specs.Prelude.{◌≡◌, ◌≢◌, true, false, ◌+◌, 
 ghost use Rattle.words.specs.Ends.{leading, trailing};
 ghost use Rattle.words.specs.Loops.{stretch};
 ghost use Rattle.masks.specs.Aligned.{aligned_checks};
-ghost use Rattle.masks.specs.Answer.{answer};
 ghost use Rattle.masks.specs.Checks.{first_failed, limit};
 ghost use Rattle.masks.specs.Refusal.{failure_of};
-ghost use Rattle.masks.specs.Utils.{zeros, span_count};
+ghost use Rattle.masks.specs.Utils.{zeros};
 ghost use Rattle.masks.specs.Workers.{zeros_of_all};
 
 use crate::aligned::{Addressed, check_aligned};
@@ -72,7 +71,8 @@ pub(crate) fn all_flags(flag: bool, bytes: &[u8], start: usize, length: usize) -
 // Returns true if the first word of a span shows a flag other than `flag`; false leaves it open. Small enough to be inlined into a call, as
 // `all_flags` is not.
 pub(crate) fn other_early(flag: bool, bytes: &[u8], start: usize, length: usize) -> bool
-    ensures { result ≡ true → eqb (zeros (stretch bytes.now start length)) (zeros_of_all flag length) ≡ false }
+    ensures { result ≡
+        true → eqb (zeros (stretch bytes.now start length)) (zeros_of_all flag length) ≡ false }
 {
     differs_early(flag, bytes, start, length)
 }
@@ -86,7 +86,8 @@ pub fn count_zeros(
     address: usize,
 ) -> Result<usize, Refusal>
     ensures empty { length ≡ 0 → failure_of result ≡ 0 }
-    ensures refused { length ≢ 0 → failure_of result ≡ first_failed (aligned_checks start length (list_length bytes.now) address) }
+    ensures refused { length ≢ 0 → failure_of result ≡ first_failed
+        (aligned_checks start length (list_length bytes.now) address) }
     ensures zeros { IfOk result (λ n. n ≡ zeros (stretch bytes.now start length)) }
 {
     if length == 0 {
@@ -124,7 +125,10 @@ fn run_flags<E: End>(
     length: usize,
     address: usize,
 ) -> Result<usize, Refusal>
-    ensures { answer result ≡ span_count bytes.now start length address (E.run flag (stretch bytes.now start length)) }
+    ensures empty { length ≡ 0 → failure_of result ≡ 0 }
+    ensures refused { length ≢ 0 → failure_of result ≡ first_failed
+        (aligned_checks start length (list_length bytes.now) address) }
+    ensures number { IfOk result (λ n. n ≡ E.run flag (stretch bytes.now start length)) }
 {
     if length == 0 {
         return Ok(0);
@@ -149,7 +153,10 @@ pub fn leading_zeros(
     length: usize,
     address: usize,
 ) -> Result<usize, Refusal>
-    ensures { answer result ≡ span_count bytes.now start length address (leading false (stretch bytes.now start length)) }
+    ensures empty { length ≡ 0 → failure_of result ≡ 0 }
+    ensures refused { length ≢ 0 → failure_of result ≡ first_failed
+        (aligned_checks start length (list_length bytes.now) address) }
+    ensures number { IfOk result (λ n. n ≡ leading false (stretch bytes.now start length)) }
 {
     run_flags::<Front>(false, bytes, start, length, address)
 }
@@ -161,7 +168,10 @@ pub fn leading_ones(
     length: usize,
     address: usize,
 ) -> Result<usize, Refusal>
-    ensures { answer result ≡ span_count bytes.now start length address (leading true (stretch bytes.now start length)) }
+    ensures empty { length ≡ 0 → failure_of result ≡ 0 }
+    ensures refused { length ≢ 0 → failure_of result ≡ first_failed
+        (aligned_checks start length (list_length bytes.now) address) }
+    ensures number { IfOk result (λ n. n ≡ leading true (stretch bytes.now start length)) }
 {
     run_flags::<Front>(true, bytes, start, length, address)
 }
@@ -173,7 +183,10 @@ pub fn trailing_zeros(
     length: usize,
     address: usize,
 ) -> Result<usize, Refusal>
-    ensures { answer result ≡ span_count bytes.now start length address (trailing false (stretch bytes.now start length)) }
+    ensures empty { length ≡ 0 → failure_of result ≡ 0 }
+    ensures refused { length ≢ 0 → failure_of result ≡ first_failed
+        (aligned_checks start length (list_length bytes.now) address) }
+    ensures number { IfOk result (λ n. n ≡ trailing false (stretch bytes.now start length)) }
 {
     run_flags::<Back>(false, bytes, start, length, address)
 }
@@ -185,7 +198,10 @@ pub fn trailing_ones(
     length: usize,
     address: usize,
 ) -> Result<usize, Refusal>
-    ensures { answer result ≡ span_count bytes.now start length address (trailing true (stretch bytes.now start length)) }
+    ensures empty { length ≡ 0 → failure_of result ≡ 0 }
+    ensures refused { length ≢ 0 → failure_of result ≡ first_failed
+        (aligned_checks start length (list_length bytes.now) address) }
+    ensures number { IfOk result (λ n. n ≡ trailing true (stretch bytes.now start length)) }
 {
     run_flags::<Back>(true, bytes, start, length, address)
 }

@@ -21,7 +21,7 @@ use Rattle.masks.specs.Cursor.{item, ended, cursor_checks}
 use Rattle.masks.specs.Freeze.{freeze_checks, frozen_mask, frozen_over}
 use Rattle.masks.specs.Frozen.{frozen, frozen_size}
 use Rattle.histories.proofs.statements.Owed.{Stands}
-use Rattle.masks.specs.Iterator.{flag_step, iter_at, iter_flags, moved_to, new_iter, nth_flag}
+use Rattle.masks.specs.Iterator.{first_iter, flag_step, iter_at, iter_flags, moved_to, new_iter, nth_flag}
 use Rattle.masks.proofs.statements.Listing.{runs_left}
 use Rattle.masks.specs.Mask.{mask_checks, mask_flags, unset_bits_of, with_count, zero_count}
 use Rattle.masks.specs.Search.{nth_back, nth_from, search_back, search_from}
@@ -39,9 +39,9 @@ use Rattle.masks.proofs.bitmap_ops.FrozenLaws.{flags-packed, length-packed}
 use Rattle.histories.proofs.history.HistoryLaws.{Builds, builds-after}
 use Rattle.histories.proofs.theorems.HistoryTheorem.{new-holds}
 use Rattle.masks.proofs.cursor.ListingLaws.{place-accepted}
+use Rattle.masks.proofs.iterator.IteratorLaws.{first-some}
 use Rattle.masks.proofs.builder.RoomLaws.{size_after}
 use Rattle.masks.proofs.theorems.RunsWhole.{lists-runs}
-use Rattle.masks.proofs.theorems.ShortcutsUnseen.{true-count}
 
 -- ---- frozen bytes
 
@@ -105,7 +105,8 @@ unfolding new_iter unless_empty window
 new-nth bytes start zero n e = nth-there bytes 0 0 n (span-accepted 0 0 (length bytes) (omega arith) (omega arith) (omega arith))
 new-nth bytes start (suc size) n e =
     ap (λ (a : Answer (Unit {0}) BitmapIter). nth_of a bytes n)
-    (sym (is-given 0 (first_failed (span_checks start (suc size) (length bytes))) tt (iter_at start (suc size) 0) e refl))
+    (ap given (sym (first-some start size))
+    ∙ sym (is-given 0 (first_failed (span_checks start (suc size) (length bytes))) tt (first_iter start (suc size)) e refl))
     ∙ nth-there bytes start (suc size) n e
 
 -- ---- agreement
@@ -121,7 +122,8 @@ module _ (m : Bitmap) (bytes : List ℕ) (l : List Bool) (s : Stands m bytes l) 
   whole = mask-accepted m bytes s.sound.starts s.sound.short s.sound.inside s.sound.counts
 
   truth : zero_count m bytes ≡ zeros l
-  truth = true-count m bytes s.sound.counts ∙ ap zeros s.flags
+  unfolding zero_count
+  truth = ap zeros s.flags
 
   counted : count_shown (unset_bits_of m bytes) ≡ Some (zeros l)
   unfolding unset_bits_of

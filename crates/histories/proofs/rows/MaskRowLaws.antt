@@ -19,7 +19,7 @@ use Rattle.masks.specs.Checks.{Check, check, first_failed, limit, output_checks,
 use Rattle.masks.specs.Combine.{each_bytes, each_of, not_checks, not_flags, pair_bytes, pair_checks, pair_each, pair_flags, pair_mask}
 use Rattle.masks.specs.Combine.{pair_of, pair_shortcut, result_count, select_checks, select_constant_flags, select_flags}
 use Rattle.masks.specs.Mask.{mask_checks, mask_flags, piece_checks, slice_of, sliced_mask, uncounted, unset_bits_of, with_count, zero_count}
-use Rattle.masks.proofs.statements.TrueCounts.{Sound, TrueCount, Truthful}
+use Rattle.masks.proofs.statements.TrueCounts.{Sound, TrueCount}
 use Rattle.masks.specs.declared.bitmap.Bitmap.{Bitmap}
 use Rattle.masks.proofs.refusal.AnswerLaws.{given-number, given-value, refused-state}
 use Rattle.masks.proofs.checks.CheckLaws.{both_left, both_right, first-allowed, rest-allowed}
@@ -28,7 +28,7 @@ use Rattle.masks.proofs.checks.LengthLaws.{length-zip2, length-zip3, output-allo
 use Rattle.masks.proofs.bitmap.MaskLaws.{mask-allowed, mask-truthful, piece-allowed}
 use Rattle.masks.proofs.theorems.PairPlain.{each-length, flags-length, pair-truthful}
 use Rattle.masks.proofs.theorems.SliceTruth.{none_true, result-true, slice-accepted, slice-flags, slice-true}
-use Rattle.masks.proofs.theorems.ShortcutsUnseen.{flags-by_operation, true-count}
+use Rattle.masks.proofs.theorems.ShortcutsUnseen.{flags-by_operation}
 use Rattle.histories.specs.MaskRows.{Combination, pair, invert, select, select_constant, MaskCall, slice, unset_bits, combine}
 use Rattle.histories.specs.MaskRows.{combination_row, constant_row, count_row, mask_call, not_row}
 use Rattle.histories.specs.MaskRows.{pair_op, pair_row, recounted, select_row, slice_row}
@@ -82,9 +82,10 @@ slice_lawful offset n = record { made = slice-made offset n; left = slice-left o
 
 count-stands : (m : Bitmap) (bytes : List ℕ) → Sound m bytes
     → Stands (with_count m (Some (zero_count m bytes))) bytes (mask_flags m bytes)
+unfolding zero_count
 count-stands m bytes s =
     record {
-      sound = record { starts = s.starts; short = s.short; inside = s.inside; counts = true-count m bytes s.counts };
+      sound = record { starts = s.starts; short = s.short; inside = s.inside; counts = refl };
       flags = refl;
     }
 
@@ -169,11 +170,10 @@ module _ (op : Op) (a : Bitmap) (a_b : List ℕ) (b : Bitmap) (b_b : List ℕ) (
   pub pair-long : length (pair_flags op a a_b b b_b) ≡ a.length
   pair-long = flags-length a a_b b b_b e op
 
-  pub pair-true : Truthful a a_b → Truthful b b_b
-      → TrueCount (result_count (pair_shortcut op a a_b b b_b) a.length) (pair_flags op a a_b b b_b)
+  pub pair-true : TrueCount (result_count (pair_shortcut op a a_b b b_b) a.length) (pair_flags op a a_b b b_b)
   unfolding pair_flags
-  pair-true ta tb =
-      rw (flags-by_operation op a a_b b b_b e ta tb)
+  pair-true =
+      rw (flags-by_operation op a a_b b b_b e)
       at (result-true (pair_shortcut op a a_b b b_b) a.length (pair_each op a a_b b b_b) (each-length a a_b b b_b e op))
 
 -- if the checks of two masks pass, the first's length is within the limit and its frozen bytes fit the output
@@ -205,7 +205,7 @@ pair_writable op x y out e =
       short = (two-room a a_b b b_b out e).0;
       room = (two-room a a_b b b_b out e).1;
       same = by_flag op (mask_flags a a_b) (mask_flags b b_b) even;
-      counts = pair-true (pair_op op) a a_b b b_b same honest.0 honest.1.0;
+      counts = pair-true (pair_op op) a a_b b b_b same;
     }
 
 pub pair_lawful : (op : Pair) (out : List ℕ) → LawfulWrites (pair_row op out)

@@ -2,17 +2,17 @@
 use mathlib.Core.Path.{◌≡◌, refl, sym, ap, ap₂, ◌∙◌}
 use mathlib.Core.Bool.{Bool, true, false, cond}
 use mathlib.Core.List.{List, [], ◌++◌}
-use Prim.Native.Nat.{ℕ, ◌+◌, ◌-◌, ◌*◌, ◌/◌, ◌%◌, ◌≤◌, ◌<◌}
+use Prim.Native.Nat.{ℕ, zero, suc, ◌+◌, ◌-◌, ◌*◌, ◌/◌, ◌%◌, ◌≤◌, ◌<◌}
 use native.Mathlib.Omega.{arith}
 use lib.Dec.{leb}
 use lib.ListN.{take}
 use Rattle.words.specs.Flags.{bits, count, flags_of, window, word_of}
 use Rattle.words.specs.Loops.{stretch}
 use mathlib.Core.Logic.{◌⊎◌, inl, inr}
-use borrow.Author.Tests.{leb-true, leb-false}
+use borrow.Author.Tests.{le-leb, leb-true, leb-false}
 use Rattle.words.proofs.flags.Windows.{length-window, window-add, window-cut, window-all, bits-window}
 use Rattle.masks.specs.Aligned.{bytes_to_aligned, bulk_offset, prefix_length, bulk_start_of, bulk_length, suffix_length}
-use Rattle.masks.specs.Aligned.{aligned_split, aligned_checks}
+use Rattle.masks.specs.Aligned.{aligned_split, aligned_checks, empty_split}
 use Rattle.masks.specs.declared.aligned.AlignedBitmapSlice.{AlignedBitmapSlice}
 use Rattle.masks.specs.Checks.{first_failed, limit, span_checks, address_checks}
 use Rattle.masks.specs.Workers.{split_flags}
@@ -136,3 +136,25 @@ unfolding aligned_checks
 aligned-allowed start n size address e =
     let span = span-allowed start n size (both_left (span_checks start n size) (address_checks address) e) in
     (omega (arith, span.starts), (span.short, address_allowed address (both_right (span_checks start n size) (address_checks address) e)))
+
+-- ---- the split of no flags
+
+-- a split of no flags with a prefix of p flags and whole words that start at byte b
+abbrev split-by : List ℕ → ℕ → ℕ → ℕ → AlignedBitmapSlice
+split-by bytes start p b =
+    record {
+      prefix = word_of (stretch bytes start p);
+      prefix_len = p;
+      bulk_start = b;
+      bulk_len = (0 - p) / 64;
+      suffix = word_of (stretch bytes (start + 0 - (0 - p) % 64) ((0 - p) % 64));
+      suffix_len = (0 - p) % 64;
+    }
+
+pub split-none : (bytes : List ℕ) (start n address : ℕ) → n ≡ 0 → aligned_split bytes start n address ≡ empty_split
+unfolding prefix_length bulk_start_of window word_of
+split-none bytes start zero address e =
+    let s : leb (start % 8 + 0) 64 ≡ true = le-leb (start % 8 + 0) 64 (omega arith) in
+    ap (λ (t : Bool).
+    split-by bytes start (cond t 0 (8 * bulk_offset start address - start % 8)) (cond t 0 (start / 8 + bulk_offset start address))) s
+split-none bytes start (suc n) address e = absurd (omega arith)

@@ -3,7 +3,7 @@ use Rattle.std.proofs.lemmas.Bool.{cases_lt}
 use Rattle.masks.specs.declared.refusal.Refusal.{Refusal}
 use Rattle.masks.specs.declared.refusal.Refusal.TheVariants.{WrongRecount}
 use Rattle.std.specs.Prelude.{Option, Some, None, Result, Ok, Err}
-use mathlib.Core.Path.{◌≡◌, refl, sym, ap, ◌∙◌}
+use mathlib.Core.Path.{◌≡◌, refl, sym, ap, ◌∙◌, subst}
 use mathlib.Core.Bool.{Bool, true, false, cond, ◌&&◌}
 use mathlib.Core.List.{List, [], ◌∷◌}
 use Prim.Native.Nat.{ℕ, ◌+◌, ◌-◌, ◌/◌, ◌≤◌, ◌<◌, max}
@@ -33,6 +33,10 @@ mask-allowed m bytes e =
 count-true : (u : Option ℕ) (l : List Bool) → count_is u (zeros l) ≡ true → TrueCount u l
 count-true (Some z) l e = eqb-true z (zeros l) e
 count-true None l e = tt
+
+-- a known count that is true is the number of zeros
+pub known-zeros : (u : Option ℕ) (l : List Bool) (z : ℕ) → TrueCount u l → u ≡ Some z → z ≡ zeros l
+known-zeros u l z t e = subst (λ (v : Option ℕ). TrueCount v l) e t
 
 pub true-valid : (u : Option ℕ) (l : List Bool) → TrueCount u l → count_is u (zeros l) ≡ true
 true-valid (Some z) l t = eq-eqb z (zeros l) t

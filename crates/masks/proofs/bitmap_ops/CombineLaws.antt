@@ -24,12 +24,12 @@ use Rattle.masks.specs.Combine.{shortcut, result_flags, largest_serial, result_m
 use Rattle.masks.specs.Combine.{pair_flags, pair_mask, select_checks}
 use Rattle.masks.specs.Frozen.{packed, frozen, frozen_size, over_from, with_frozen}
 use Rattle.masks.specs.Mask.{mask_under, mask_checks, uncounted}
-use Rattle.masks.specs.Workers.{either_all, xor_all, zeros_of_all}
+use Rattle.masks.specs.Workers.{either_all, known_or_counted, xor_all, zeros_of_all}
 use Rattle.masks.specs.declared.bitmap.Bitmap.{Bitmap}
 use Rattle.masks.proofs.statements.TrueCounts.{Truthful}
 use Rattle.masks.proofs.bitmap.MaskLaws.{mask-truthful}
-use Rattle.masks.proofs.theorems.ShortcutsUnseen.{flags-by_operation}
-use Rattle.masks.proofs.checks.CheckLaws.{both_left, both_right, first-allowed, rest-allowed}
+use Rattle.masks.proofs.theorems.ShortcutsUnseen.{flags-by_operation, true-count}
+use Rattle.masks.proofs.checks.CheckLaws.{both_left, both_right, first-allowed, rest-allowed, is-given, is-refused, is-kept, is-new}
 use Rattle.masks.proofs.bitmap_ops.FrozenLaws.{Small, flags-packed, packed-small, over_from-small}
 
 -- ---- from flags to bytes
@@ -154,6 +154,14 @@ pair-counts a a_bytes b b_bytes size e =
           (both_left (mask_checks b b_bytes) rest (both_right (mask_checks a a_bytes) (mask_checks b b_bytes ++ rest) e)),
     )
 
+-- the shortcut that is found by the known counts is that of the flags
+pub true-shortcut : (op : Op) (a : Bitmap) (a_bytes : List ℕ) (b : Bitmap) (b_bytes : List ℕ) (size : ℕ)
+    → first_failed (pair_checks a a_bytes b b_bytes size) ≡ 0
+    → shortcut op a.length (known_or_counted a a_bytes) (known_or_counted b b_bytes) ≡ pair_shortcut op a a_bytes b b_bytes
+true-shortcut op a a_bytes b b_bytes size e =
+    let counts = pair-counts a a_bytes b b_bytes size e in
+    ap₂ (shortcut op a.length) (true-count a a_bytes counts.0) (true-count b b_bytes counts.1)
+
 module _ (op : Op) (a : Bitmap) (a_bytes : List ℕ) (b : Bitmap) (b_bytes : List ℕ) where
   pub pair-made : (by : Option Bool) (u : Option ℕ) (s : ℕ) (m : Bitmap) → by ≡ pair_shortcut op a a_bytes b b_bytes
       → u ≡ result_count by a.length → s ≡ largest_serial (a ∷ b ∷ []) → m ≡ mask_under s 0 a.length u
@@ -171,14 +179,13 @@ module _ (op : Op) (a : Bitmap) (a_bytes : List ℕ) (b : Bitmap) (b_bytes : Lis
   unfolding pair_flags
   pair-written out e by out' p before after q =
       let same : a.length ≡ b.length = pair_lengths a a_bytes b b_bytes (length out) e in
-      let counts = pair-counts a a_bytes b b_bytes (length out) e in
       frozen-written out out'
       (result_flags by a.length (combined op a_bytes a.start b_bytes b.start b_bytes b.start a.length)) before after q
       ∙ ap₂ (λ (s : Option Bool) (n : ℕ).
       over out
       (frozen (result_flags s a.length
       (zip3 (op_of op) (stretch a_bytes a.start a.length) (stretch b_bytes b.start n) (stretch b_bytes b.start n))))) p same
-      ∙ ap (λ (l : List Bool). over out (frozen l)) (flags-by_operation op a a_bytes b b_bytes same counts.0 counts.1)
+      ∙ ap (λ (l : List Bool). over out (frozen l)) (flags-by_operation op a a_bytes b b_bytes same)
 
 -- ---- the largest serial
 

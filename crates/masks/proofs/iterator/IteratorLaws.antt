@@ -1,21 +1,26 @@
 -- The cursor over single flags of a span, and the length of the run of equal flags at its place, word by word. For all cursors over flags.
 use mathlib.Core.Path.{◌≡◌, refl, sym, ap, ap₂, ◌∙◌}
-use mathlib.Core.Bool.{Bool, false}
+use mathlib.Core.Bool.{Bool, false, cond}
 use mathlib.Core.List.{List, ◌++◌}
-use Prim.Native.Nat.{ℕ, ◌+◌, ◌-◌, ◌≤◌, ◌<◌, min}
+use Prim.Native.Nat.{ℕ, suc, ◌+◌, ◌-◌, ◌≤◌, ◌<◌, min}
 use native.Mathlib.Nat.{add-zero}
 use native.Mathlib.Omega.{arith}
 use lib.ListN.{length, take, drop, get_or, length-drop, take-append-drop}
 use lib.Seq.{drop-drop}
-use borrow.Author.Tests.{lt-ltb, le-ltb}
+use borrow.Author.Tests.{lt-ltb, le-ltb, ne_eqb}
 use Rattle.words.specs.Ends.{leading}
 use Rattle.words.specs.Flags.{bits, flags_of, window}
 use Rattle.words.proofs.ends.EndLaws.{leading_le, leading-some, leading-all}
 use Rattle.words.proofs.theorems.Plain.{window-part}
 use Rattle.words.proofs.flags.Windows.{length-window, window-cut, in_window, at_in}
 use Rattle.masks.specs.Cursor.{item, ended}
-use Rattle.masks.specs.Iterator.{moved_to, flag_step, leading_from}
+use Rattle.masks.specs.Iterator.{first_iter, flag_step, iter_at, leading_from, moved_to}
 use Rattle.masks.specs.declared.iterator.BitmapIter.{BitmapIter}
+
+-- ---- a new cursor
+
+pub first-some : (start n : ℕ) → first_iter start (suc n) ≡ iter_at start (suc n) 0
+first-some start n = ap (λ (t : Bool). cond t (iter_at 0 0 0) (iter_at start (suc n) 0)) (ne_eqb (suc n) 0 (λ h. omega arith))
 
 -- ---- the two answers of a cursor
 

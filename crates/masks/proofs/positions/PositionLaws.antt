@@ -260,10 +260,8 @@ module _ (c : TrueIdxIter) (bytes : List ℕ) where
       )
 
   -- the number and the cursor that the call returns
-  pub told : (k r place : ℕ) → r ≡ min k (length (left_of c bytes)) → place ≡ place_after c (left_of c bytes) k
-      → ◌≡◌ {A = ℕ × TrueIdxIter} (r, true_moved c place)
-      (length (take k (left_of c bytes)), true_moved c (place_after c (left_of c bytes) k))
-  told k r place e f = ap₂ {A = ℕ} (λ (x y : ℕ). (x, true_moved c y)) (e ∙ sym (length-take k (left_of c bytes))) f
+  pub told : (k r : ℕ) → r ≡ min k (length (left_of c bytes)) → r ≡ length (take k (left_of c bytes))
+  told k r e = e ∙ sym (length-take k (left_of c bytes))
 
 pub within-out : (out out' left : List ℕ) (r : ℕ) → r ≡ min (length out) (length left) → out' ≡ over out left → r ≤ length out'
 within-out out out' left r e p = let n : length out' ≡ length out = ap length p ∙ length_over out left in omega arith

@@ -1,6 +1,6 @@
 -- From the clauses of a call to its answer: the number of its checks, its value, its state and its bytes make the answer that tables, the
 -- theorems and the exports to C speak of. One law for each kind of result.
-use Rattle.std.specs.Prelude.{Result, Ok, Err, IfOk, IfErr, OnOk, OnErr, is_ok, true}
+use Rattle.std.specs.Prelude.{Result, Ok, Err, IfOk, IfErr, OnOk, OnErr, is_ok, true, Some}
 use mathlib.Core.Path.{◌≡◌, refl, sym, ap, ap₂, ◌∙◌}
 use mathlib.Core.List.{List, []}
 use Prim.Native.Nat.{ℕ, zero, suc}
@@ -8,9 +8,13 @@ use native.Mathlib.Omega.{arith}
 use Rattle.std.proofs.lemmas.Result.{IfOk-weaker}
 use Rattle.masks.specs.Answer.{answer, answer_back, given, refused, decided, kept, unless_empty}
 use Rattle.masks.specs.Builder.{Filling, filling}
+use Rattle.masks.specs.Checks.{first_failed}
 use Rattle.masks.specs.Cursor.{Step, answer_step, step_of}
+use Rattle.masks.specs.Mask.{mask_checks, unset_bits_of, with_count, zero_count}
 use Rattle.masks.specs.Refusal.{failure_back, failure_of, number}
 use Rattle.masks.specs.Superseding.{bytes_of, part_bytes, part_place, place_of}
+use Rattle.masks.specs.declared.bitmap.Bitmap.{Bitmap}
+use Rattle.masks.specs.declared.bitmap.Recounted.{Recounted}
 use Rattle.masks.specs.declared.builder.BitmapBuilder.{BitmapBuilder}
 use Rattle.masks.specs.declared.superseding.Part.{Part}
 use Rattle.masks.specs.declared.cursor.Step.{Step as Stepped}
@@ -33,6 +37,25 @@ pub answered_step : {C A : Type 0} (r : Result (Stepped A C) (Refused C)) (m : �
     → IfOk r (λ x. step_of x.item x.cursor ≡ a) → IfErr r (λ x. x.state ≡ c) → answer_step r ≡ decided m c a
 answered_step (Ok x) m c a e v t = ap given v ∙ is-given 0 m c a e refl
 answered_step (Err k) m c a e v t = ap (refused (number k.refusal)) t ∙ is-refused (number k.refusal) m c a e (number-ne0 k.refusal)
+
+-- ---- a value of two parts, of which each has a clause
+
+joined : {E A B : Type 0} (r : Result (A × B) E) (a : A) (b : B) → IfOk r (λ x. x.0 ≡ a) → IfOk r (λ x. x.1 ≡ b)
+    → IfOk r (λ x. x ≡ (a, b))
+joined (Ok x) a b p q = ap₂ (λ y z. (y, z)) p q
+joined (Err k) a b p q = tt
+
+pub answered_parts : {S A B : Type 0} (r : Result (A × B) (Refused S)) (m : ℕ) (s : S) (a : A) (b : B) → failure_back r ≡ m
+    → IfOk r (λ x. x.0 ≡ a) → IfOk r (λ x. x.1 ≡ b) → IfErr r (λ x. x.state ≡ s) → answer_back r ≡ decided m s (a, b)
+answered_parts r m s a b e p q t = answered_back r m s (a, b) e (joined r a b p q) t
+
+pub answered_recounted : (r : Result Recounted (Refused Bitmap)) (m : Bitmap) (bytes : List ℕ)
+    → failure_back r ≡ first_failed (mask_checks m bytes) → IfOk r (λ x. x.zeros ≡ zero_count m bytes)
+    → IfOk r (λ x. x.mask ≡ with_count m (Some (zero_count m bytes))) → IfErr r (λ x. x.state ≡ m) → answer_back r ≡ unset_bits_of m bytes
+unfolding unset_bits_of
+answered_recounted (Ok x) m bytes e p q t =
+    answered_back (Ok x) _ m _ e (ap₂ (λ (k : Bitmap) (z : ℕ). record { mask = k; zeros = z }) q p) t
+answered_recounted (Err k) m bytes e p q t = answered_back (Err k) _ m _ e tt t
 
 -- ---- a call whose checks pass is not refused
 
@@ -67,6 +90,23 @@ pub clauses-answered_back : {S A : Type 0} (r : Result A (Refused S)) (m : ℕ) 
 clauses-answered_back (Ok x) m s a e = (given-number m s x a e, (given-value m s x a e, tt))
 clauses-answered_back (Err k) m s a e =
     (refused-number (number k.refusal) m k.state s a e, (tt, refused-state (number k.refusal) m k.state s a e))
+
+pub clauses-answered_step : {C A : Type 0} (r : Result (Stepped A C) (Refused C)) (m : ℕ) (c : C) (a : Step C A)
+    → answer_step r ≡ decided m c a
+    → (failure_back r ≡ m) × (IfOk r (λ x. step_of x.item x.cursor ≡ a) × IfErr r (λ x. x.state ≡ c))
+clauses-answered_step (Ok x) m c a e =
+    (given-number m c (step_of x.item x.cursor) a e, (given-value m c (step_of x.item x.cursor) a e, tt))
+clauses-answered_step (Err k) m c a e =
+    (refused-number (number k.refusal) m k.state c a e, (tt, refused-state (number k.refusal) m k.state c a e))
+
+pub clauses-answered_parts : {S A B : Type 0} (r : Result (A × B) (Refused S)) (m : ℕ) (s : S) (a : A) (b : B)
+    → answer_back r ≡ decided m s (a, b)
+    → (failure_back r ≡ m) × (IfOk r (λ x. x.0 ≡ a) × (IfOk r (λ x. x.1 ≡ b) × IfErr r (λ x. x.state ≡ s)))
+clauses-answered_parts {S} {A} {B} (Ok x) m s a b e =
+    let v = given-value m s x (a, b) e in
+    (given-number m s x (a, b) e, (ap (λ (y : A × B). y.0) v, (ap (λ (y : A × B). y.1) v, tt)))
+clauses-answered_parts (Err k) m s a b e =
+    (refused-number (number k.refusal) m k.state s (a, b) e, (tt, (tt, refused-state (number k.refusal) m k.state s (a, b) e)))
 
 pub clauses-written : {A B : Type 0} (r : Result A Refusal) (m : ℕ) (x new old : B) → failure_of r ≡ m → x ≡ kept m new old
     → OnOk r (x ≡ new) × OnErr r (x ≡ old)
@@ -142,3 +182,11 @@ pub answered_unless : {A : Type 0} (r : Result A Refusal) (n m : ℕ) (z a : A) 
 unfolding unless_empty decided
 answered_unless r zero m z a p q v e = answered r 0 a (p refl) v ∙ ap given (e refl)
 answered_unless r (suc n) m z a p q v e = answered r m a (q (λ h. omega arith)) v
+
+pub clauses-answered_unless : {A : Type 0} (r : Result A Refusal) (n m : ℕ) (z a : A) → (n ≡ 0 → z ≡ a)
+    → answer r ≡ unless_empty n (given z) (decided m tt a)
+    → (n ≡ 0 → failure_of r ≡ 0) × (((n ≡ 0 → ⊥) → failure_of r ≡ m) × IfOk r (λ x. x ≡ a))
+unfolding unless_empty decided
+clauses-answered_unless r zero m z a q e =
+    let p = clauses-answered r 0 z e in (λ h. p.0, (λ h. absurd (h refl), IfOk-weaker r _ _ (λ x h. h ∙ q refl) p.1))
+clauses-answered_unless r (suc n) m z a q e = let p = clauses-answered r m a e in (λ h. absurd (omega arith), (λ h. p.0, p.1))

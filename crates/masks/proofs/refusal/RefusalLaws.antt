@@ -79,8 +79,8 @@ number-ne0 ShortOutput e = omega arith
 
 -- ---- the early exit of a `?` in calls whose refusal carries no record
 
--- the early exit of a function that makes checks
-pub exit-number : (result : Result (Unit {0}) Refusal) (e : Refusal) → IsErrAnd result (λ (y : Refusal). y ≡ e)
+-- the early exit of a call
+pub exit-number : {A : Type 0} (result : Result A Refusal) (e : Refusal) → IsErrAnd result (λ (y : Refusal). y ≡ e)
     → failure_of result ≡ number e
 exit-number result e h = let p = err_from_is_err_and result h in ap failure_of p.1 ∙ ap number p.2
 

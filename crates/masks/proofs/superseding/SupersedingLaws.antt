@@ -45,23 +45,18 @@ module _ (a : Bitmap) (a_bytes : List ℕ) (b : Bitmap) (b_bytes : List ℕ) whe
       ∙ sym (failed-append masks (check 14 (agree a a_bytes b b_bytes) ∷ []))
 
   -- masks of equal serials are compared as `eq` compares them
-  pub compared : (r : ℕ) (x : Bool) → a.serial ≡ b.serial → given x ≡ eq_of a a_bytes b b_bytes → r ≡ cond x 0 14
+  pub compared : (r : ℕ) (x : Bool) → a.serial ≡ b.serial → 0 ≡ first_failed masks
+      → x ≡ same_flags (mask_flags a a_bytes) (mask_flags b b_bytes) → r ≡ cond x 0 14
       → r ≡ first_failed (superseding_checks a a_bytes b b_bytes)
-  unfolding superseding_checks eq_of
-  compared r x s e p =
+  unfolding superseding_checks
+  compared r x s e v p =
       let same = same_flags (mask_flags a a_bytes) (mask_flags b b_bytes) in
-      let t : x ≡ agree a a_bytes b b_bytes =
-      given-value (first_failed masks) tt x same e ∙ sym (ap (λ (y : Bool). not y || same) (eq-eqb a.serial b.serial s)) in
-      passed-before masks (check 14 (agree a a_bytes b b_bytes) ∷ []) r 0 (given-number (first_failed masks) tt x same e) refl
-      (one-check r 14 x (agree a a_bytes b b_bytes) p t)
+      let t : x ≡ agree a a_bytes b b_bytes = v ∙ sym (ap (λ (y : Bool). not y || same) (eq-eqb a.serial b.serial s)) in
+      passed-before masks (check 14 (agree a a_bytes b b_bytes) ∷ []) r 0 e refl (one-check r 14 x (agree a a_bytes b b_bytes) p t)
 
-  pub not-compared : (k : ℕ) → refused k tt ≡ eq_of a a_bytes b b_bytes → k ≡ first_failed (superseding_checks a a_bytes b b_bytes)
-  unfolding superseding_checks eq_of
-  not-compared k e =
-      let same = same_flags (mask_flags a a_bytes) (mask_flags b b_bytes) in
-      let n = refused-number k (first_failed masks) tt tt same e in
-      first-number masks k 13 (agree a a_bytes b b_bytes) masks-before n
-      (λ z. refused-failed k (first_failed masks) tt tt same e (sym n ∙ z))
+  pub not-compared : (k : ℕ) → k ≡ first_failed masks → (k ≡ 0 → ⊥) → k ≡ first_failed (superseding_checks a a_bytes b b_bytes)
+  unfolding superseding_checks
+  not-compared k e some = first-number masks k 13 (agree a a_bytes b b_bytes) masks-before e some
 
   -- ---- all checks pass
 

@@ -19,15 +19,17 @@ use Rattle.masks.specs.Combine.{not_checks, select_checks}
 use Rattle.masks.proofs.statements.CountPlain.{Brings, told, counted, MadeCounts, SliceCounts, PairCounts, EachCounts, CountsPlainly}
 use Rattle.masks.specs.Freeze.{freeze_checks, frozen_mask, total_ones, validity_of}
 use Rattle.masks.specs.declared.builder.BitmapBuilder.{BitmapBuilder}
-use Rattle.masks.specs.Mask.{mask_of, mask_flags, uncounted, count_or, zero_count, with_count, try_new_of, new_zeroed_of, zeroed_checks}
+use Rattle.masks.specs.Mask.{mask_of, mask_flags, uncounted, zero_count, with_count, try_new_of, new_zeroed_of, zeroed_checks}
 use Rattle.masks.specs.Mask.{unset_bits_of, mask_checks, slice_of, slice_checks, sliced_mask, sliced_count, cut_zeros, recounts}
 use Rattle.masks.specs.Mask.{recount_valid, kept_count, piece_checks}
 use Rattle.masks.specs.Utils.{zeros}
 use Rattle.masks.specs.declared.bitmap.Bitmap.{Bitmap}
 use Rattle.masks.proofs.refusal.AnswerLaws.{given-number, given-value}
 use Rattle.masks.proofs.checks.CheckLaws.{both_left}
-use Rattle.masks.proofs.bitmap.MaskLaws.{piece-allowed}
+use Rattle.masks.proofs.bitmap.MaskLaws.{piece-allowed, known-zeros, mask-truthful}
 use Rattle.masks.proofs.utils.PartLaws.{ones-most, zeros-rest}
+use Rattle.masks.proofs.bitmap_ops.CombineLaws.{pair-counts as counts-true}
+use Rattle.masks.proofs.statements.TrueCounts.{Truthful}
 
 -- an accepted call returns the mask that it made, with its count
 its_count : {S : Type 0} (cs : List Check) (s : S) (m made : Bitmap) → given m ≡ checked cs s made → m.unset ≡ made.unset
@@ -44,10 +46,10 @@ none-known n e = ap (λ (t : Bool). cond t (Some 0) None) (eq-eqb n 0 e)
 some-unknown : (n : ℕ) → (n ≡ 0 → ⊥) → uncounted n ≡ None
 some-unknown n h = ap (λ (t : Bool). cond t (Some 0) None) (ne_eqb n 0 h)
 
-brought : (m : Bitmap) (bytes : List ℕ) (z : ℕ) → Brings m bytes z → zero_count m bytes ≡ z
+brought : (m : Bitmap) (bytes : List ℕ) (z : ℕ) → Truthful m bytes → Brings m bytes z → zero_count m bytes ≡ z
 unfolding zero_count
-brought m bytes z (told e) = ap (λ (u : Option ℕ). count_or u (zeros (mask_flags m bytes))) e
-brought m bytes z (counted e h) = ap (λ (u : Option ℕ). count_or u (zeros (mask_flags m bytes))) e ∙ sym h
+brought m bytes z t (told e) = sym (known-zeros m.unset (mask_flags m bytes) z t e)
+brought m bytes z t (counted e h) = sym h
 
 -- ---- masks made and counted
 
@@ -57,7 +59,10 @@ unfolding unset_bits_of
 recounted-as m bytes r z e h =
     let made : Recounted = record { mask = with_count m (Some (zero_count m bytes)); zeros = zero_count m bytes } in
     let same : r ≡ made = given-value (first_failed (mask_checks m bytes)) m r made e in
-    (ap (λ (x : Recounted). x.zeros) same ∙ brought m bytes z h, ap (λ (x : Recounted). x.mask.unset) same ∙ ap Some (brought m bytes z h))
+    let t = mask-truthful m bytes (sym (given-number (first_failed (mask_checks m bytes)) m r made e)) in (
+      ap (λ (x : Recounted). x.zeros) same ∙ brought m bytes z t h,
+      ap (λ (x : Recounted). x.mask.unset) same ∙ ap Some (brought m bytes z t h),
+    )
 
 made-counts : MadeCounts
 unfolding try_new_of new_zeroed_of
@@ -125,8 +130,11 @@ pair-count : (op : Op) (a : Bitmap) (a_bytes : List ℕ) (b : Bitmap) (b_bytes o
     → Brings a a_bytes l → Brings b b_bytes r → c.unset ≡ result_count (shortcut op a.length l r) a.length
 unfolding pair_of pair_mask
 pair-count op a a_bytes b b_bytes out c l r e p q =
-    its_count (pair_checks a a_bytes b b_bytes (length out)) tt c (pair_mask op a a_bytes b b_bytes) e
-    ∙ ap₂ (λ (x y : ℕ). result_count (shortcut op a.length x y) a.length) (brought a a_bytes l p) (brought b b_bytes r q)
+    let cs = pair_checks a a_bytes b b_bytes (length out) in
+    let made = pair_mask op a a_bytes b b_bytes in
+    let t = counts-true a a_bytes b b_bytes (length out) (sym (given-number (first_failed cs) tt c made e)) in
+    its_count cs tt c made e
+    ∙ ap₂ (λ (x y : ℕ). result_count (shortcut op a.length x y) a.length) (brought a a_bytes l t.0 p) (brought b b_bytes r t.1 q)
 
 -- the count of no flags is 0, with a shortcut or without
 nothing : (s : Option Bool) (n : ℕ) → n ≡ 0 → result_count s n ≡ Some 0

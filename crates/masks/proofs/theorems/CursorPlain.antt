@@ -20,7 +20,8 @@ use Rattle.masks.specs.Checks.{Check, check, first_failed, span_checks}
 use Rattle.masks.specs.Chunks.{chunks_at, new_chunks, next_chunk, chunk_step, chunk_checks, chunk_word}
 use Rattle.masks.specs.Cursor.{item, ended, cursor_checks}
 use Rattle.masks.proofs.statements.CursorPlain.{NewPlaces, ChunkPlaces, FlagPlaces, RunPlaces, OnePlaces, CursorsPlainly}
-use Rattle.masks.specs.Iterator.{iter_at, iter_flags, moved_to, new_iter, iter_checks, flag_step, nth_flag, leading_from, take_leading}
+use Rattle.masks.specs.Iterator.{first_iter, flag_step, iter_at, iter_checks, iter_flags, leading_from, moved_to, new_iter, nth_flag}
+use Rattle.masks.specs.Iterator.{take_leading}
 use Rattle.masks.specs.Mask.{mask_checks}
 use Rattle.masks.specs.Positions.{left_of, place_after, next_positions}
 use Rattle.masks.specs.Search.{nth_from}
@@ -32,6 +33,7 @@ use Rattle.masks.specs.declared.slice_iterator.Run.{Run}
 use Rattle.masks.specs.declared.slice_iterator.SlicesIterator.{SlicesIterator}
 use Rattle.masks.specs.declared.true_idx.TrueIdxIter.{TrueIdxIter}
 use Rattle.masks.proofs.refusal.AnswerLaws.{given-number, given-value}
+use Rattle.masks.proofs.iterator.IteratorLaws.{first-some}
 use Rattle.masks.proofs.checks.CheckLaws.{both_right, check-allowed}
 use Rattle.masks.proofs.positions.PositionLaws.{after-few, after-many, after-none}
 use Rattle.masks.proofs.theorems.RunsPlain.{leading-in}
@@ -53,7 +55,8 @@ unfolding new_chunks new_iter new_slices new_true first_true unless_empty
 new-places = record {
   chunks = λ bytes start n c e. given-value (first_failed (span_checks start n (length bytes))) tt c (chunks_at start n 0) e;
   flags-none = λ bytes start c e. cc;
-  flags = λ bytes start n c e. given-value (first_failed (span_checks start (suc n) (length bytes))) tt c (iter_at start (suc n) 0) e;
+  flags = λ bytes start n c e.
+      given-value (first_failed (span_checks start (suc n) (length bytes))) tt c (first_iter start (suc n)) e ∙ first-some start n;
   runs = λ m bytes c e. given-value (first_failed (mask_checks m bytes)) tt c (slices_at m.start m.length 0) e;
   ones = λ n m bytes c e. given-value (first_failed (new_true_checks n (Some m) bytes)) tt c (true_at m.start n 0 true) e;
   every = λ n bytes c e. given-value (first_failed (new_true_checks n None bytes)) tt c (true_at 0 n 0 false) e;

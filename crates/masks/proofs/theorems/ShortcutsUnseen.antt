@@ -15,9 +15,10 @@ use Rattle.words.specs.declared.ops.Op.{Op}
 use Rattle.words.specs.declared.ops.Op.TheVariants.{And, AndNot, Or, OrNot, Xor, Not, Select}
 use Rattle.words.proofs.flags.Windows.{length-window}
 use Rattle.masks.specs.Combine.{shortcut, result_flags, pair_each, pair_shortcut}
-use Rattle.masks.specs.Mask.{count_or, mask_flags, zero_count}
+use Rattle.masks.specs.Mask.{mask_flags, zero_count}
 use Rattle.masks.proofs.statements.TrueCounts.{TrueCount, Truthful}
 use Rattle.masks.specs.Utils.{zeros}
+use Rattle.masks.specs.Workers.{count_or, known_or_counted}
 use Rattle.masks.specs.declared.bitmap.Bitmap.{Bitmap}
 
 -- ---- lists that are constant by their count
@@ -125,8 +126,8 @@ module _ (l m : List Bool) (n : ℕ) (el : length l ≡ n) (em : length m ≡ n)
   shortcut_unseen Not = refl
   shortcut_unseen Select = refl
 
--- the count of a mask with an unknown or a true count is the number of its zeros
-pub true-count : (m : Bitmap) (bytes : List ℕ) → Truthful m bytes → zero_count m bytes ≡ zeros (mask_flags m bytes)
+-- a mask's known count, if it is true, is the number of its zeros
+pub true-count : (m : Bitmap) (bytes : List ℕ) → Truthful m bytes → known_or_counted m bytes ≡ zero_count m bytes
 unfolding zero_count
 true-count m bytes t = go m.unset t
   where
@@ -134,12 +135,10 @@ true-count m bytes t = go m.unset t
     go (Some z) e = e
     go None e = refl
 
--- with true counts the flags that a shortcut gives are the operation on the arguments' flags
+-- the flags that a shortcut gives are the operation on the arguments' flags
 pub flags-by_operation : (op : Op) (a : Bitmap) (a_bytes : List ℕ) (b : Bitmap) (b_bytes : List ℕ) → a.length ≡ b.length
-    → Truthful a a_bytes → Truthful b b_bytes
     → result_flags (pair_shortcut op a a_bytes b b_bytes) a.length (pair_each op a a_bytes b b_bytes) ≡ pair_each op a a_bytes b b_bytes
-flags-by_operation op a a_bytes b b_bytes e ta tb =
-    ap₂ (λ (x y : ℕ). result_flags (shortcut op a.length x y) a.length (pair_each op a a_bytes b b_bytes)) (true-count a a_bytes ta)
-    (true-count b b_bytes tb)
-    ∙ shortcut_unseen (mask_flags a a_bytes) (mask_flags b b_bytes) a.length (length-window _ a.start a.length)
+unfolding zero_count
+flags-by_operation op a a_bytes b b_bytes e =
+    shortcut_unseen (mask_flags a a_bytes) (mask_flags b b_bytes) a.length (length-window _ a.start a.length)
     (length-window _ b.start b.length ∙ sym e) op

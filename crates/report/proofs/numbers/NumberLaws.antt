@@ -47,16 +47,6 @@ pub whole-accepted : (bytes : List ℕ) (n : ℕ) → length bytes ≤ 65536 →
     → first_failed (mask_checks (mask_of 0 n None) bytes) ≡ 0
 whole-accepted bytes n h e = sym (mask-accepted (mask_of 0 n None) bytes (omega arith) (omega arith) (omega arith) tt)
 
--- ---- a call whose checks pass is not refused
-
-pub ok-given : {A : Type 0} (r : Result A Refusal) (n : ℕ) (a : A) → answer r ≡ decided n tt a → n ≡ 0 → r ≡ Ok a
-ok-given (Ok x) n a e z = ap Ok (given-value _ _ _ _ e)
-ok-given (Err x) n a e z = absurd (refused-failed _ _ _ _ _ e z)
-
-pub ok-given_back : {S A : Type 0} (r : Result A (Refused S)) (n : ℕ) (s : S) (a : A) → answer_back r ≡ decided n s a → n ≡ 0 → r ≡ Ok a
-ok-given_back (Ok x) n s a e z = ap Ok (given-value _ _ _ _ e)
-ok-given_back (Err x) n s a e z = absurd (refused-failed _ _ _ _ _ e z)
-
 -- ---- the two answers
 
 pub too_long : (bytes : List ℕ) → most < length bytes → None ≡ report_of bytes
@@ -99,9 +89,6 @@ none-counted m bytes c e =
       few = omega arith;
       sum = omega (arith, ap (λ (p : ℕ). length (runs_left (mask_flags m bytes) p)) at);
     }
-
-pub ok-same : {E A : Type 0} (x y : A) → ◌≡◌ {A = Result A E} (Ok x) (Ok y) → x ≡ y
-ok-same x y e = cc
 
 some-of : (i : Option Run) → is_some i ≡ true → (r : Run) × (i ≡ Some r)
 some-of (Some r) h = (r, refl)

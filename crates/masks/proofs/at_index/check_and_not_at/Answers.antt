@@ -6,5 +6,5 @@ use Rattle.masks.proofs.at_index.check_and_not_at.Goals as goal
 pub returns : goal.returns
 unfolding and_not_at_checks
 returns c =
-    two-pieces _ _ _ _ _ c.earlier-2.ensures c.check_index.ensures
-    (two-pieces _ _ _ _ _ c.earlier.ensures c.check_index-other.ensures c.check_lengths-lengths.ensures)
+    two-pieces _ _ _ _ _ c.earlier-2.ensures.refused c.check_index.ensures
+    (two-pieces _ _ _ _ _ c.earlier.ensures.refused c.check_index-other.ensures c.check_lengths-lengths.ensures)

@@ -9,7 +9,7 @@ use Rattle.masks.proofs.at_index.check_inside.Goals as goal
 pub returns-in_err-check_mask : goal.returns-in_err-check_mask
 unfolding mask_checks span_checks rank place_in
 returns-in_err-check_mask c =
-    exit-number _ _ c.from_residual.ensures.1 ∙ first-number _ _ 5 _ refl c.in_err-check_mask.ensures (number-ne0 _)
+    exit-number _ _ c.from_residual.ensures.1 ∙ first-number _ _ 5 _ refl c.in_err-check_mask.ensures.refused (number-ne0 _)
 
 pub returns : goal.returns
-returns c = passed-before _ _ _ _ c.in_ok-check_mask.ensures refl (one-check _ _ _ _ c.check.ensures refl)
+returns c = passed-before _ _ _ _ c.in_ok-check_mask.ensures.refused refl (one-check _ _ _ _ c.check.ensures refl)

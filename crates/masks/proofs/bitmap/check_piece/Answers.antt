@@ -6,8 +6,8 @@ use Rattle.masks.proofs.bitmap.check_piece.Goals as goal
 pub returns : goal.returns
 unfolding piece_checks
 returns c =
-    two-pieces _ _ _ _ _ c.earlier-3.ensures c.check_mask.ensures
-    (two-pieces _ _ _ _ _ c.earlier-piece.ensures c.check_limit-near.ensures
-    (two-pieces _ _ _ _ _ c.earlier-2.ensures c.check_limit-short.ensures
-    (check-before _ _ _ _ _ _ _ c.earlier.ensures c.check-starts.ensures c.sum_at_most-2.ensures
+    two-pieces _ _ _ _ _ c.earlier-3.ensures.refused c.check_mask.ensures.refused
+    (two-pieces _ _ _ _ _ c.earlier-piece.ensures.refused c.check_limit-near.ensures
+    (two-pieces _ _ _ _ _ c.earlier-2.ensures.refused c.check_limit-short.ensures
+    (check-before _ _ _ _ _ _ _ c.earlier.ensures.refused c.check-starts.ensures c.sum_at_most-2.ensures
     (one-check _ _ _ _ c.check-inside.ensures c.sum_at_most.ensures))))

@@ -7,7 +7,7 @@ use Rattle.masks.proofs.bitmap_ops.check_pair.Goals as goal
 pub returns : goal.returns
 unfolding pair_checks
 returns c =
-    two-pieces _ _ _ _ _ c.earlier-3.ensures c.check_mask-first.ensures
-    (two-pieces _ _ _ _ _ c.earlier-2.ensures c.check_mask-second.ensures
-    (check-before _ _ _ _ _ _ _ c.earlier.ensures c.check-equal.ensures refl
-    c.check_output-room.ensures))
+    two-pieces _ _ _ _ _ c.earlier-3.ensures.refused c.check_mask-first.ensures.refused
+    (two-pieces _ _ _ _ _ c.earlier-2.ensures.refused c.check_mask-second.ensures.refused
+    (check-before _ _ _ _ _ _ _ c.earlier.ensures.refused c.check-equal.ensures refl
+    c.check_output-room.ensures.refused))

@@ -7,9 +7,9 @@ use Rattle.masks.proofs.bitmap_ops.check_select.Goals as goal
 pub returns : goal.returns
 unfolding select_checks
 returns c =
-    two-pieces _ _ _ _ _ c.earlier-3.ensures c.check_mask-2.ensures
-    (two-pieces _ _ _ _ _ c.earlier-2.ensures c.check_mask-3.ensures
-    (two-pieces _ _ _ _ _ c.earlier-masks.ensures c.check_mask.ensures
-    (check-before _ _ _ _ _ _ _ c.earlier-lengths.ensures c.check-second.ensures refl
-    (check-before _ _ _ _ _ _ _ c.earlier.ensures c.check-third.ensures refl
-    c.check_output-room.ensures))))
+    two-pieces _ _ _ _ _ c.earlier-3.ensures.refused c.check_mask-2.ensures.refused
+    (two-pieces _ _ _ _ _ c.earlier-2.ensures.refused c.check_mask-3.ensures.refused
+    (two-pieces _ _ _ _ _ c.earlier-masks.ensures.refused c.check_mask.ensures.refused
+    (check-before _ _ _ _ _ _ _ c.earlier-lengths.ensures.refused c.check-second.ensures refl
+    (check-before _ _ _ _ _ _ _ c.earlier.ensures.refused c.check-third.ensures refl
+    c.check_output-room.ensures.refused))))

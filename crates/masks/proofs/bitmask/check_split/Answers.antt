@@ -7,7 +7,7 @@ use Rattle.masks.proofs.bitmask.check_split.Goals as goal
 pub returns : goal.returns
 unfolding split_checks
 returns c =
-    two-pieces _ _ _ _ _ c.earlier-2.ensures c.check_span.ensures
-    (two-pieces _ _ _ _ _ c.earlier.ensures
+    two-pieces _ _ _ _ _ c.earlier-2.ensures.refused c.check_span.ensures.refused
+    (two-pieces _ _ _ _ _ c.earlier.ensures.refused
     (one-check _ _ _ _ c.check.ensures c.sum_at_most.ensures)
     (one-check _ _ _ _ c.check-2.ensures refl))

@@ -8,16 +8,20 @@ use Rattle.masks.proofs.checks.check_mask.Goals as goal
 
 pub returns-in_err-check_span : goal.returns-in_err-check_span
 unfolding mask_checks span_checks rank place_in
-returns-in_err-check_span c =
-    exit-number _ _ c.from_residual.ensures.1 ∙ first-number _ _ 2 _ refl c.in_err-check_span.ensures (number-ne0 _)
+returns-in_err-check_span c = record {
+  refused =
+      exit-number _ _ c.from_residual.ensures.1 ∙ first-number _ _ 2 _ refl c.in_err-check_span.ensures.refused (number-ne0 _);
+}
 
 pub count_valid-requires : goal.count_valid-requires
 count_valid-requires c =
-    let a = span-allowed _ _ _ (sym c.in_ok-check_span.ensures) in
+    let a = span-allowed _ _ _ (sym c.in_ok-check_span.ensures.refused) in
     (a.starts, a.short)
 
 pub returns : goal.returns
 unfolding mask_checks
-returns c =
-    passed-before _ _ _ _ c.in_ok-check_span.ensures refl
-    (one-check _ _ _ _ c.check.ensures c.count_valid.ensures)
+returns c = record {
+  refused =
+      passed-before _ _ _ _ c.in_ok-check_span.ensures.refused refl
+      (one-check _ _ _ _ c.check.ensures c.count_valid.ensures);
+}

@@ -8,14 +8,18 @@ use Rattle.masks.proofs.refusal.RefusalLaws.{exit-number, number-ne0}
 use Rattle.masks.proofs.checks.check_span.Goals as goal
 
 pub returns-in_err-check : goal.returns-in_err-check
-returns-in_err-check c =
-    exit-number _ _ c.from_residual.ensures.1
-    ∙ span-refused _ _ _ _ _ c.in_err-check.ensures (number-ne0 _) (ap₂ ◌&&◌ c.within_limit.ensures c.within_limit-2.ensures)
+returns-in_err-check c = record {
+  refused =
+      exit-number _ _ c.from_residual.ensures.1
+      ∙ span-refused _ _ _ _ _ c.in_err-check.ensures (number-ne0 _) (ap₂ ◌&&◌ c.within_limit.ensures c.within_limit-2.ensures);
+}
 
 pub returns : goal.returns
-returns c =
-    let short = and_parts _ _ (passed-one _ _ (sym c.in_ok-check.ensures)) in
-    span-within _ _ _ _ _
-    (leb-true _ _ (sym c.within_limit.ensures ∙ short.0))
-    (leb-true _ _ (sym c.within_limit-2.ensures ∙ short.1))
-    c.check-2.ensures (search rules)
+returns c = record {
+  refused =
+      let short = and_parts _ _ (passed-one _ _ (sym c.in_ok-check.ensures)) in
+      span-within _ _ _ _ _
+      (leb-true _ _ (sym c.within_limit.ensures ∙ short.0))
+      (leb-true _ _ (sym c.within_limit-2.ensures ∙ short.1))
+      c.check-2.ensures (search rules);
+}

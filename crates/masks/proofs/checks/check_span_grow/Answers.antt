@@ -3,4 +3,4 @@ use Rattle.masks.proofs.checks.CheckLaws.{two-pieces}
 use Rattle.masks.proofs.checks.check_span_grow.Goals as goal
 
 pub returns : goal.returns
-returns c = two-pieces _ _ _ _ _ c.earlier.ensures c.check_span.ensures c.check_builder.ensures
+returns c = two-pieces _ _ _ _ _ c.earlier.ensures.refused c.check_span.ensures.refused c.check_builder.ensures

@@ -6,5 +6,5 @@ use Rattle.masks.proofs.compare.num_edges.Goals as goal
 
 pub invariant_of-span : goal.invariant_of-span
 invariant_of-span c =
-    let a = mask-allowed _ _ (sym c.in_ok-check_mask.ensures) in
+    let a = mask-allowed _ _ (sym c.in_ok-check_mask.ensures.refused) in
     record { ends = omega (arith, a.starts, a.short); short = a.short; inside = a.inside }

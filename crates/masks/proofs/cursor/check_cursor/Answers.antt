@@ -9,10 +9,10 @@ use Rattle.masks.proofs.cursor.check_cursor.Goals as goal
 pub returns-in_err-check_span : goal.returns-in_err-check_span
 unfolding cursor_checks span_checks rank place_in
 returns-in_err-check_span c =
-    exit-number _ _ c.from_residual.ensures.1 ∙ first-number _ _ 5 _ refl c.in_err-check_span.ensures (number-ne0 _)
+    exit-number _ _ c.from_residual.ensures.1 ∙ first-number _ _ 5 _ refl c.in_err-check_span.ensures.refused (number-ne0 _)
 
 pub returns : goal.returns
 unfolding cursor_checks
 returns c =
-    passed-before _ _ _ _ c.in_ok-check_span.ensures refl
+    passed-before _ _ _ _ c.in_ok-check_span.ensures.refused refl
     (one-check _ _ _ _ c.check.ensures refl)

@@ -7,5 +7,5 @@ use Rattle.masks.proofs.next_and_not.check_next.Goals as goal
 pub returns : goal.returns
 unfolding next_checks
 returns c =
-    two-pieces _ _ _ _ _ c.earlier-2.ensures c.check_mask.ensures
-    (two-pieces _ _ _ _ _ c.earlier.ensures c.check_other-other.ensures (one-check _ _ _ _ c.check-place.ensures refl))
+    two-pieces _ _ _ _ _ c.earlier-2.ensures.refused c.check_mask.ensures.refused
+    (two-pieces _ _ _ _ _ c.earlier.ensures.refused c.check_other-other.ensures (one-check _ _ _ _ c.check-place.ensures refl))

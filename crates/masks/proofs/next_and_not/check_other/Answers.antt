@@ -11,13 +11,13 @@ pub returns-in_err-check_mask-in-Some : goal.returns-in_err-check_mask-in-Some
 unfolding other_checks mask_checks span_checks rank place_in
 returns-in_err-check_mask-in-Some c =
     rw c.in-Some.is
-    (exit-number _ _ c.from_residual.ensures.1 ∙ first-number _ _ 4 _ refl c.in_err-check_mask-in-Some.ensures (number-ne0 _))
+    (exit-number _ _ c.from_residual.ensures.1 ∙ first-number _ _ 4 _ refl c.in_err-check_mask-in-Some.ensures.refused (number-ne0 _))
 
 pub returns-in_ok-check_mask-in-Some : goal.returns-in_ok-check_mask-in-Some
 unfolding other_checks
 returns-in_ok-check_mask-in-Some c =
     rw c.in-Some.is
-    (passed-before _ _ _ _ c.in_ok-check_mask-in-Some.ensures refl (one-check _ _ _ _ c.check.ensures refl))
+    (passed-before _ _ _ _ c.in_ok-check_mask-in-Some.ensures.refused refl (one-check _ _ _ _ c.check.ensures refl))
 
 pub returns-in-None : goal.returns-in-None
 unfolding other_checks first_failed

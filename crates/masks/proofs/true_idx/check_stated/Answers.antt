@@ -17,10 +17,10 @@ pub returns-in_err-check_mask : goal.returns-in_err-check_mask
 unfolding new_true_checks mask_checks span_checks rank place_in
 returns-in_err-check_mask c =
     exit-number _ _ c.from_residual-in_err-check_mask.ensures.1
-    ∙ passed-before _ _ _ _ c.in_ok-check_limit.ensures refl (first-number _ _ 4 _ refl c.in_err-check_mask.ensures (number-ne0 _))
+    ∙ passed-before _ _ _ _ c.in_ok-check_limit.ensures refl (first-number _ _ 4 _ refl c.in_err-check_mask.ensures.refused (number-ne0 _))
 
 pub returns : goal.returns
 unfolding new_true_checks
 returns c =
     passed-before _ _ _ _ c.in_ok-check_limit.ensures refl
-    (passed-before _ _ _ _ c.in_ok-check_mask.ensures refl (one-check _ _ _ _ c.check.ensures refl))
+    (passed-before _ _ _ _ c.in_ok-check_mask.ensures.refused refl (one-check _ _ _ _ c.check.ensures refl))

@@ -1,38 +1,23 @@
--- For length 0 the number is 0 (`is-empty`); else by cases on the number of the checks (`not-empty`): both calls ensure the count.
-use mathlib.Core.Path.{refl, sym, ap, ◌∙◌}
+-- A run is at most as long as the flags are many (`at_most`). If the checks pass, the start is within the limit (`aligned-allowed`).
+use mathlib.Core.Path.{sym}
 use native.Mathlib.Omega.{arith}
-use Rattle.masks.specs.Answer.{given}
-use Rattle.masks.specs.Utils.{span_count}
-use Rattle.masks.proofs.checks.CheckLaws.{is-given, is-empty, not-empty}
+use Rattle.words.specs.Flags.{flags_of}
+use Rattle.words.specs.Loops.{stretch}
+use Rattle.words.proofs.flags.Windows.{length-window}
 use Rattle.masks.proofs.aligned.SplitLaws.{aligned-allowed}
-use Rattle.masks.proofs.refusal.RefusalLaws.{exit-not-empty}
 use Rattle.masks.proofs.utils.run_flags.Goals as goal
 
-pub returns-then-length-eq0 : goal.returns-then-length-eq0
-unfolding span_count
-returns-then-length-eq0 g c = is-empty _ _ _ c.if-length-eq0.true
-
-pub returns-in_err-check_aligned : goal.returns-in_err-check_aligned
-unfolding span_count
-returns-in_err-check_aligned g c =
-    exit-not-empty _ _ c.from_residual.ensures.1 _ c.if-length-eq0.false _ c.in_err-check_aligned.ensures _ _
+pub returns-then-length-eq0-clause-number : goal.returns-then-length-eq0-clause-number
+returns-then-length-eq0-clause-number g c =
+    let a = c.args in
+    let long = length-window (flags_of a.bytes.now) a.start a.length in
+    omega (arith, g.met.E.End.at_most a.flag (stretch a.bytes.now a.start a.length), long, c.if-length-eq0.true)
 
 pub overflow_add-start : goal.overflow_add-start
 overflow_add-start g c =
     let a = aligned-allowed _ _ _ _ (sym c.in_ok-check_aligned.ensures) in omega (arith, a.0, a.1.0)
 
-pub returns-then-start-length-le64 : goal.returns-then-start-length-le64
-unfolding span_count
-returns-then-start-length-le64 g c =
-    not-empty _ _ _ _ c.if-length-eq0.false (ap given c.short_run.ensures ∙ is-given _ _ _ _ c.in_ok-check_aligned.ensures refl)
-
 pub invariant_of-span : goal.invariant_of-span
 invariant_of-span g c =
     let a = aligned-allowed _ _ _ _ (sym c.in_ok-check_aligned.ensures) in
     record { starts = a.0; short = a.1.0; low = a.1.1 }
-
-pub returns : goal.returns
-unfolding span_count
-returns g c =
-    not-empty _ _ _ _ c.if-length-eq0.false
-    (ap given c.long_run.ensures ∙ is-given _ _ _ _ c.in_ok-check_aligned.ensures refl)

@@ -1,20 +1,18 @@
--- The cursor is made, since the mask passes its checks (`ok-given`), and is not refused (`ok-next`). Each iteration passes over a run
+-- The cursor is made, since the mask passes its checks (`accepted`), and is not refused (`ok-next`). Each iteration passes over a run
 -- (`run-passed`); if none is left all are counted (`no_run`).
-use Rattle.std.specs.Prelude.{is_ok}
 use Rattle.std.proofs.Common.{rules}
-use mathlib.Core.Path.{ap, sym, ◌∙◌}
+use mathlib.Core.Path.{◌∙◌}
 use native.Mathlib.Omega.{arith}
-use Rattle.masks.specs.SliceIterator.{new_slices}
-use Rattle.report.proofs.numbers.NumberLaws.{ok-given, none-counted, no_run, ok-next, ok-same, run-passed}
+use Rattle.masks.proofs.refusal.ClauseLaws.{accepted}
+use Rattle.std.proofs.lemmas.Result.{IfOk-at_ok}
+use Rattle.report.proofs.numbers.NumberLaws.{none-counted, no_run, ok-next, run-passed}
 use Rattle.report.proofs.numbers.runs_of.Goals as goal
 
 pub unwrap-cursor-requires : goal.unwrap-cursor-requires
-unfolding new_slices
-unwrap-cursor-requires c = ap is_ok (ok-given _ _ _ c.new.ensures c.requires)
+unwrap-cursor-requires c = accepted _ (c.new.ensures.refused ∙ c.requires)
 
 pub loop-next-init : goal.loop-next-init
-unfolding new_slices
-loop-next-init c = none-counted _ _ _ (ok-same _ _ (sym c.unwrap-cursor.ensures ∙ ok-given _ _ _ c.new.ensures c.requires))
+loop-next-init c = none-counted _ _ _ (IfOk-at_ok _ c.unwrap-cursor.ensures c.new.ensures.cursor)
 
 pub unwrap-requires : goal.unwrap-requires
 unwrap-requires c = ok-next _ _ _ _ c.requires c.loop-next.invariant _ c.next.ensures.refused
