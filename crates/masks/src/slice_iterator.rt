@@ -42,8 +42,8 @@ fn is_full_byte(byte: u8, bit: usize, left: usize) -> bool
 }
 
 // Returns the first run of ones at or after `place`; with no ones left an empty run at the length. Reads byte by byte and, inside a byte,
-// bit by bit; at the end of the run it leaves both loops. Passes over a byte of ones at once, and over a zero before the run. The two loops
-// are the walk of document 01 (docs/REFERENCE.md), a named form.
+// bit by bit; at the end of the run it leaves both loops. Passes over a byte of ones at once; a zero before the run moves the start on.
+// The two loops are the walk of the reference (docs/REFERENCE.md), a named form.
 fn run_from(span: CheckedSpan, place: usize) -> Run
     requires { place ≤ span.length }
     ensures { result ≡
@@ -68,7 +68,7 @@ fn run_from(span: CheckedSpan, place: usize) -> Run
             continue 'bytes;
         }
         let stop = (bit + left).min(8);
-        'bits: while bit < stop {
+        while bit < stop {
             if (byte >> bit) % 2 == 0 {
                 let ones = at - first;
                 if ones > 0 {
@@ -77,10 +77,7 @@ fn run_from(span: CheckedSpan, place: usize) -> Run
                         length: ones,
                     };
                 }
-                bit += 1;
-                at += 1;
-                first = at;
-                continue 'bits;
+                first = at + 1;
             }
             bit += 1;
             at += 1;

@@ -35,7 +35,7 @@ pub data State : Type 0 where
   masked : Bitmap → List ℕ → State
   no_mask : State
 
--- a history begins with a new builder, its serial and any buffer, with `try_new` calls up to the first accepted one, or with an import
+-- a history begins with a new builder under any serial and any buffer, with `try_new` calls up to the first accepted one, or an import
 pub data Start : Type 0 where
   from_builder : ℕ → List ℕ → Start
   from_span : Start

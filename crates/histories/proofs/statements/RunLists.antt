@@ -65,7 +65,7 @@ saving_from leaves n k (r ∷ rs) =
     gap_calls leaves k r.start ++ (constant r.length true ∷ saving_from leaves n (r.start + r.length) rs)
 
 -- all these calls on a new builder under a serial, over the buffer `buf`, are accepted, its flags are then l, and `freeze` is accepted and
--- returns a mask that agrees with l
+-- returns a mask under that serial that agrees with l
 pub record Saves (serial : ℕ) (l : List Bool) (buf : List ℕ) (calls : List (Call LibraryCall)) : Type 0 where
   pub accepted : map (λ (f : Fed LibraryCall). f.accepted) (trace library_call (start_of (from_builder serial buf)) calls)
       ≡ map (λ (c : Call LibraryCall). true) calls
@@ -75,6 +75,7 @@ pub record Saves (serial : ℕ) (l : List Bool) (buf : List ℕ) (calls : List (
   pub mask : Bitmap
   pub bytes : List ℕ
   pub freezes : step library_call (building builder) freeze ≡ outcome (masked mask bytes) true
+  pub under : mask.serial ≡ serial
   pub agrees : Agrees mask bytes l
 
 -- a mask taken apart into the runs that its cursor lists, and saved under any serial, in any buffer of at least 8 × ceil(length / 64) bytes

@@ -60,25 +60,28 @@ constant-step f j x r =
 
 -- ---- all calls
 
--- all calls are accepted, starting at builder f, and end in a builder with the flags l
+-- all calls are accepted, starting at builder f, and end in a builder with the flags l and the serial of f
 record Ends (f : Filling) (calls : List (Call LibraryCall)) (l : List Bool) : Type 0 where
   pub accepted : map (λ (a : Fed LibraryCall). a.accepted) (trace library_call (building f) calls)
       ≡ map (λ (c : Call LibraryCall). true) calls
   pub builder : Filling
   pub builds : run library_call (building f) calls ≡ building builder
+  pub under : builder.builder.serial ≡ f.builder.serial
   pub holds : Builds builder l
 
 nothing-more : (f : Filling) (l : List Bool) → Builds f l → Ends f [] l
-nothing-more f l i = record { accepted = refl; builder = f; builds = refl; holds = i }
+nothing-more f l i = record { accepted = refl; builder = f; builds = refl; under = refl; holds = i }
 
 then-ends : (f g : Filling) (c : Call LibraryCall) (cs : List (Call LibraryCall)) (l : List Bool)
-    → step library_call (building f) c ≡ outcome (building g) true → Ends g cs l → Ends f (c ∷ cs) l
-then-ends f g c cs l e rest =
+    → step library_call (building f) c ≡ outcome (building g) true → g.builder.serial ≡ f.builder.serial → Ends g cs l
+    → Ends f (c ∷ cs) l
+then-ends f g c cs l e s rest =
     record {
       accepted = ap (λ (o : Outcome). o.accepted ∷ map (λ (a : Fed LibraryCall). a.accepted) (trace library_call o.state cs)) e
           ∙ ap (λ (t : List Bool). true ∷ t) rest.accepted;
       builder = rest.builder;
       builds = ap (λ (o : Outcome). run library_call o.state cs) e ∙ rest.builds;
+      under = rest.under ∙ s;
       holds = rest.holds;
     }
 
@@ -100,9 +103,10 @@ ready-after f l j m x h r =
 -- one `extend_constant` and the calls after it
 constant-ends : (f : Filling) (l : List Bool) (j m : ℕ) (x : Bool) (cs : List (Call LibraryCall)) (all : List Bool) → j ≤ m → Ready f l m
     → ((g : Filling) → Ready g (l ++ copies j x) (m - j) → Ends g cs all) → Ends f (constant j x ∷ cs) all
+unfolding appended
 constant-ends f l j m x cs all h r more =
     let g = appended f (copies j x) in
-    then-ends f g (constant j x) cs all (constant-step f j x (room-less f.builder j m (length f.bytes) h r.room))
+    then-ends f g (constant j x) cs all (constant-step f j x (room-less f.builder j m (length f.bytes) h r.room)) refl
     (more g (ready-after f l j m x h r))
 
 -- the call for a gap, left out or not, and the calls after it
@@ -171,6 +175,7 @@ saved serial l buf calls e =
       bytes = bytes;
       freezes = freezes f (first_failed (freeze_checks f.builder (length f.bytes)))
           (same-checks f.builder (length f.bytes) 0 (builder-accepted f.builder 0 (length f.bytes) e.holds.room));
+      under = e.under;
       agrees = agrees mask bytes l (frozen-stands f l e.holds);
     }
 

@@ -7,13 +7,13 @@ use Rattle.words.specs.Loops.{stretch}
 use Rattle.masks.proofs.slice_iterator.RunLaws.{Walking}
 use Rattle.masks.proofs.slice_iterator.run_from.Given as goal
 
-abbrev pub invariant-bits : goal.invariant-bits
-invariant-bits l =
+abbrev pub invariant-loop-bit : goal.invariant-loop-bit
+invariant-loop-bit l =
     Walking (stretch l.span.bytes.now l.span.start l.span.length) l.span.length l.place l.first l.at
     × ((l.span.start + l.at ≡ 8 * (l.flag / 8) + l.bit) × ((l.initial.bit ≤ l.bit) × (l.bit ≤ l.stop)))
 
-abbrev pub decreases-bits : goal.decreases-bits
-decreases-bits l = l.stop - l.bit
+abbrev pub decreases-loop-bit : goal.decreases-loop-bit
+decreases-loop-bit l = l.stop - l.bit
 
 abbrev pub invariant-bytes : goal.invariant-bytes
 invariant-bytes l = Walking (stretch l.span.bytes.now l.span.start l.span.length) l.span.length l.place l.first l.at
