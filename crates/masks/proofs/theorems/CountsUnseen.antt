@@ -187,12 +187,14 @@ module _ (m : Bitmap) (bytes : List ℕ) (e : first_failed (mask_checks m bytes)
       bytes_left : pair_bytes op m bytes b b_b out ≡ pair_bytes op (forgot m) bytes b b_b out
       unfolding pair_bytes pair_flags
       bytes_left =
-          ap (λ (cs : List Check). kept (first_failed cs) (over out (frozen (pair_each op m bytes b b_b))) out) (pair_left (length out))
+          ap (λ (cs : List Check). kept (first_failed cs) (over out (frozen (pair_each op m bytes b b_b))) out)
+          (pair_left m bytes e b b_b (length out))
 
       bytes-right : pair_bytes op b b_b m bytes out ≡ pair_bytes op b b_b (forgot m) bytes out
       unfolding pair_bytes pair_flags
       bytes-right =
-          ap (λ (cs : List Check). kept (first_failed cs) (over out (frozen (pair_each op b b_b m bytes))) out) (pair-right (length out))
+          ap (λ (cs : List Check). kept (first_failed cs) (over out (frozen (pair_each op b b_b m bytes))) out)
+          (pair-right m bytes e b b_b (length out))
 
   -- ---- combinations with no shortcut: only their checks use the counts
 

@@ -29,16 +29,16 @@ pub returns-in_err-map_err-clause-refused : goal.returns-in_err-map_err-clause-r
 unfolding constant_checks
 returns-in_err-map_err-clause-refused c =
     back-number _ c.args.self _ (search rules) _ c.from_residual.ensures.1
-    ∙ two-pieces _ _ _ _ _ c.earlier.ensures c.check_builder.ensures c.check_limit.ensures
+    ∙ two-pieces _ _ _ _ _ c.earlier.ensures.refused c.check_builder.ensures c.check_limit.ensures
 
 pub append_copies-requires : goal.append_copies-requires
 append_copies-requires c =
     room_of _ _ _
     (sym c.check_builder.ensures
-    ∙ passed-left _ _ (sym c.earlier.ensures ∙ (passed-back _ _ _ c.map_err.ensures.variant c.in_ok-map_err.was)))
+    ∙ passed-left _ _ (sym c.earlier.ensures.refused ∙ (passed-back _ _ _ c.map_err.ensures.variant c.in_ok-map_err.was)))
 
 pub returns-clause-refused : goal.returns-clause-refused
 unfolding constant_checks
 returns-clause-refused c =
     sym (passed-back _ _ _ c.map_err.ensures.variant c.in_ok-map_err.was)
-    ∙ two-pieces _ _ _ _ _ c.earlier.ensures c.check_builder.ensures c.check_limit.ensures
+    ∙ two-pieces _ _ _ _ _ c.earlier.ensures.refused c.check_builder.ensures c.check_limit.ensures
