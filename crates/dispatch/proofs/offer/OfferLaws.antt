@@ -184,7 +184,7 @@ pub lone-checked : (p_bytes : List ℕ) (R : Option Bitmap) (r : Bitmap) (r_byte
     → k ≡ first_failed (next_checks r r_bytes None p_bytes 0) → k ≡ first_failed (offer_checks None p_bytes R r_bytes cursor)
 unfolding offer_checks
 lone-checked p_bytes R r r_bytes cursor k here e =
-    e ∙ lone-number r r_bytes p_bytes ∙ ap (λ (o : Option Bitmap). first_failed (offer_checks None p_bytes o r_bytes cursor)) (sym here)
+    e ∙ ap (λ (o : Option Bitmap). first_failed (offer_checks None p_bytes o r_bytes cursor)) (sym here)
 
 -- with no mask at all no check is made
 pub no-mask-checked : (p_bytes : List ℕ) (R : Option Bitmap) (r_bytes : List ℕ) (cursor : ℕ) → R ≡ None
