@@ -27,6 +27,7 @@ pub enum WindowRefusal {
 }
 
 impl WindowRefusal {
+    // Returns the words for the check that failed: those of the Rust crate.
     fn reason(self) -> &'static str
         ensures { result.now ≡ reason self }
     {
@@ -69,7 +70,7 @@ impl From<WindowRefusal> for u8 {
     }
 }
 
-// A refusal, and the state that the call got: the window of `push_minute`. `new` and `counts` got none and have zeros.
+// A refusal, and the state that the call got. `new` gets none, and `counts` does not return counts that are in doubt: theirs are zeros.
 #[derive(Clone, Copy, Debug, PartialEq, Eq)]
 pub struct Refused<S> {
     pub refusal: WindowRefusal,
