@@ -105,8 +105,8 @@ unfolding new_iter unless_empty window
 new-nth bytes start zero n e = nth-there bytes 0 0 n (span-accepted 0 0 (length bytes) (omega arith) (omega arith) (omega arith))
 new-nth bytes start (suc size) n e =
     ap (λ (a : Answer (Unit {0}) BitmapIter). nth_of a bytes n)
-    (ap given (sym (first-some start size))
-    ∙ sym (is-given 0 (first_failed (span_checks start (suc size) (length bytes))) tt (first_iter start (suc size)) e refl))
+    (sym (is-given 0 (first_failed (span_checks start (suc size) (length bytes))) tt (first_iter start (suc size)) e refl)
+    ∙ ap given (first-some start size))
     ∙ nth-there bytes start (suc size) n e
 
 -- ---- agreement

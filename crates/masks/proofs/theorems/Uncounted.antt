@@ -34,7 +34,6 @@ use Rattle.masks.specs.declared.superseding.Part.{Part}
 use Rattle.masks.proofs.checks.CheckLaws.{is-given}
 use Rattle.masks.proofs.bitmap.MaskLaws.{mask-truthful, true-valid}
 use Rattle.masks.proofs.theorems.SliceTruth.{slice-accepted}
-use Rattle.masks.proofs.theorems.ShortcutsUnseen.{true-count}
 
 -- two answers by the same number are equal except for their counts if their masks are
 but_count_lem : (k : ℕ) (m s t : Bitmap) → forgot s ≡ forgot t → but_count (decided k m s) ≡ but_count (decided k (forgot m) t)

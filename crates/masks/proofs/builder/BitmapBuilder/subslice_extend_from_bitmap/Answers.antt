@@ -23,14 +23,16 @@ pub overflow_add-span : goal.overflow_add-span
 overflow_add-span c =
     let none = sym c.earlier-2.ensures.refused ∙ (passed-back _ _ _ c.map_err.ensures.variant c.in_ok-map_err.was) in
     let rest = sym c.earlier.ensures.refused ∙ passed-right _ _ none in
-    let ok = inner-allowed _ _ _ _ (sym c.check_mask.ensures.refused ∙ passed-left _ _ none) (sym c.check_inner.ensures ∙ passed-left _ _ rest) in
+    let ok = inner-allowed _ _ _ _ (sym c.check_mask.ensures.refused ∙ passed-left _ _ none)
+    (sym c.check_inner.ensures ∙ passed-left _ _ rest) in
     omega (arith, ok.starts, ok.short, ok.inside)
 
 pub invariant_of-span : goal.invariant_of-span
 invariant_of-span c =
     let none = sym c.earlier-2.ensures.refused ∙ (passed-back _ _ _ c.map_err.ensures.variant c.in_ok-map_err.was) in
     let rest = sym c.earlier.ensures.refused ∙ passed-right _ _ none in
-    let ok = inner-allowed _ _ _ _ (sym c.check_mask.ensures.refused ∙ passed-left _ _ none) (sym c.check_inner.ensures ∙ passed-left _ _ rest) in
+    let ok = inner-allowed _ _ _ _ (sym c.check_mask.ensures.refused ∙ passed-left _ _ none)
+    (sym c.check_inner.ensures ∙ passed-left _ _ rest) in
     record {
       ends = omega (arith, ok.starts, ok.short, ok.inside);
       short = omega (arith, ok.short, ok.inside);
@@ -41,7 +43,8 @@ pub append_stretch-requires : goal.append_stretch-requires
 append_stretch-requires c =
     let none = sym c.earlier-2.ensures.refused ∙ (passed-back _ _ _ c.map_err.ensures.variant c.in_ok-map_err.was) in
     let rest = sym c.earlier.ensures.refused ∙ passed-right _ _ none in
-    let ok = inner-allowed _ _ _ _ (sym c.check_mask.ensures.refused ∙ passed-left _ _ none) (sym c.check_inner.ensures ∙ passed-left _ _ rest) in
+    let ok = inner-allowed _ _ _ _ (sym c.check_mask.ensures.refused ∙ passed-left _ _ none)
+    (sym c.check_inner.ensures ∙ passed-left _ _ rest) in
     room_of _ _ _ (sym c.check_builder.ensures ∙ passed-right _ _ rest)
 
 pub returns : goal.returns
@@ -49,7 +52,8 @@ unfolding subslice_checks
 returns c =
     let none = sym c.earlier-2.ensures.refused ∙ (passed-back _ _ _ c.map_err.ensures.variant c.in_ok-map_err.was) in
     let rest = sym c.earlier.ensures.refused ∙ passed-right _ _ none in
-    let ok = inner-allowed _ _ _ _ (sym c.check_mask.ensures.refused ∙ passed-left _ _ none) (sym c.check_inner.ensures ∙ passed-left _ _ rest) in
+    let ok = inner-allowed _ _ _ _ (sym c.check_mask.ensures.refused ∙ passed-left _ _ none)
+    (sym c.check_inner.ensures ∙ passed-left _ _ rest) in
     let both = append-way _ _ _ _ _ _ _ _ (two-pieces _ _ _ _ _ c.earlier-2.ensures.refused c.check_mask.ensures.refused
     (two-pieces _ _ _ _ _ c.earlier.ensures.refused c.check_inner.ensures c.check_builder.ensures))
     (passed-back _ _ _ c.map_err.ensures.variant c.in_ok-map_err.was)
