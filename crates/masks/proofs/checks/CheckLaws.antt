@@ -8,7 +8,7 @@ use native.Mathlib.Omega.{arith}
 use lib.Dec.{leb, eqb}
 use Rattle.std.specs.Prelude.{min}
 use borrow.Author.Tests.{le-leb, lt-leb, leb-true, eq-eqb, ne_eqb}
-use Rattle.masks.specs.Answer.{given, refused, decided, kept, unless_empty}
+use Rattle.masks.specs.Answer.{given, refused, decided, kept}
 use Rattle.masks.specs.Builder.{none_from, possible}
 use Rattle.masks.specs.declared.builder.BitmapBuilder.{BitmapBuilder}
 use Rattle.masks.specs.Checks.{Check, check, rank, place_in, earlier, failure, first_failed, limit, within_limit, span_checks}
@@ -130,15 +130,6 @@ is-kept (suc n) m new old e h = ap (λ (x : ℕ). kept x new old) e
 pub is-new : {A : Type 0} (n m : ℕ) (new old : A) → n ≡ m → n ≡ 0 → new ≡ kept m new old
 unfolding kept
 is-new n m new old e h = ap (λ (x : ℕ). kept x new old) (sym h ∙ e)
-
-pub not-empty : {A : Type 0} (n : ℕ) (x y z : A) → (n ≡ 0 → ⊥) → z ≡ y → z ≡ unless_empty n x y
-unfolding unless_empty
-not-empty zero x y z h e = absurd (h refl)
-not-empty (suc n) x y z h e = e
-
-pub is-empty : {A : Type 0} (n : ℕ) (x y : A) → n ≡ 0 → x ≡ unless_empty n x y
-unfolding unless_empty
-is-empty n x y e = ap (λ (m : ℕ). unless_empty m x y) (sym e)
 
 -- a check whose number did not come out holds
 pub passed-one : (n : ℕ) (t : Bool) → cond t 0 (suc n) ≡ 0 → t ≡ true

@@ -1,6 +1,6 @@
 -- Positions of ones written over an output, and the cursor after them. For `next_chunk`.
 use Rattle.std.proofs.lemmas.Bool.{cases_lt}
-use mathlib.Core.Path.{◌≡◌, refl, sym, ap, ap₂, ◌∙◌}
+use mathlib.Core.Path.{◌≡◌, refl, sym, ap, ◌∙◌}
 use mathlib.Core.Bool.{Bool, true, false}
 use mathlib.Core.List.{List, [], ◌∷◌, ◌++◌}
 use mathlib.Core.Logic.{⊎_elim}
@@ -14,7 +14,7 @@ use Rattle.words.specs.Loops.{stretch}
 use Rattle.words.proofs.flags.Windows.{length_over, over-append, over_enough, over_none, set-over}
 use Rattle.masks.specs.Frozen.{over_from}
 use Rattle.masks.specs.Positions.{place_after, left_of}
-use Rattle.masks.specs.TrueIdx.{ones_from, ones_left, true_moved}
+use Rattle.masks.specs.TrueIdx.{ones_from, ones_left}
 use Rattle.masks.specs.declared.true_idx.TrueIdxIter.{TrueIdxIter}
 use Rattle.masks.proofs.bitmap_ops.FrozenLaws.{length-over_from, over_from-more, over_from-none}
 use Rattle.masks.proofs.true_idx.TrueIdxLaws.{with-mask}

@@ -8,12 +8,10 @@ use Rattle.std.proofs.lemmas.Bool.{and_parts}
 use mathlib.Core.Path.{sym, ap, ◌∙◌}
 use native.Mathlib.Omega.{arith}
 use borrow.Author.Tests.{eqb-true}
-use Rattle.masks.specs.Answer.{Answer, answer, answer_back, decided, kept, refused, unless_empty}
-use Rattle.masks.proofs.checks.CheckLaws.{is-kept, is-refused, not-empty}
+use Rattle.masks.specs.Answer.{Answer, answer, answer_back, decided, kept, refused}
+use Rattle.masks.proofs.checks.CheckLaws.{is-kept, is-refused}
 use Rattle.masks.specs.Checks.{earlier, rank, place_in}
-use Rattle.masks.specs.Cursor.{answer_step, Step}
 use Rattle.masks.specs.Refusal.{failure_back, failure_of, number}
-use Rattle.masks.specs.declared.cursor.Step.{Step as Stepped}
 use Rattle.masks.specs.declared.refusal.Refusal.{Refusal}
 use Rattle.masks.specs.declared.refusal.Refusal.TheVariants.{OverLimit, PastBytes, FalseCount, UnequalLists, ImpossibleBuilder}
 use Rattle.masks.specs.declared.refusal.Refusal.TheVariants.{UnequalLengths, Outside, WrongRecount, WrongAddress, ShortOutput}
@@ -127,13 +125,6 @@ back-is r s x e result h =
     let p = err_from_is_err_and result h in
     ap answer_back (p.1 ∙ ap (λ (y : Refused _). Err y) p.2) ∙ same-refused r s x e
 
-pub step-is : {S A : Type 0} (r : Result (Unit {0}) Refusal) (s : S) (x : Refused S) → Err x ≡ with_state r s
-    → (result : Result (Stepped A S) (Refused S)) → IsErrAnd result (λ (y : Refused S). y ≡ x)
-    → answer_step result ≡ refused (failure_of r) s
-step-is r s x e result h =
-    let p = err_from_is_err_and result h in
-    ap answer_step (p.1 ∙ ap (λ (y : Refused _). Err y) p.2) ∙ same-refused r s x e
-
 -- the number of a call whose refusal carries the record is that of the check
 pub back-number : {S T A : Type 0} (r : Result T Refusal) (s : S) (x : Refused S) → Err x ≡ with_state r s
     → (result : Result A (Refused S)) → IsErrAnd result (λ (y : Refused S). y ≡ x) → failure_back result ≡ failure_of r
@@ -147,21 +138,10 @@ pub exit-refused : {A : Type 0} (result : Result A Refusal) (e : Refusal) → Is
     → (m : ℕ) → number e ≡ m → (a : A) → answer result ≡ decided m tt a
 exit-refused result e h m p a = exit-is result e h ∙ is-refused (number e) m tt a p (number-ne0 e)
 
--- the answer of a call over a bare span, after a failed check that follows the test for no flags
-pub exit-not-empty : {A : Type 0} (result : Result A Refusal) (e : Refusal) → IsErrAnd result (λ (y : Refusal). y ≡ e)
-    → (n : ℕ) → (n ≡ 0 → ⊥) → (m : ℕ) → number e ≡ m → (x : Answer (Unit {0}) A) (a : A)
-    → answer result ≡ unless_empty n x (decided m tt a)
-exit-not-empty result e h n some m p x a = not-empty n x (decided m tt a) (answer result) some (exit-refused result e h m p a)
-
 pub back-refused : {S A : Type 0} (r : Result (Unit {0}) Refusal) (s : S) (x : Refused S) → Err x ≡ with_state r s
     → (result : Result A (Refused S)) → IsErrAnd result (λ (y : Refused S). y ≡ x)
     → (m : ℕ) → failure_of r ≡ m → (a : A) → answer_back result ≡ decided m s a
 back-refused r s x e result h m p a = back-is r s x e result h ∙ is-refused (failure_of r) m s a p (failed-back r s x e)
-
-pub step-refused : {S A : Type 0} (r : Result (Unit {0}) Refusal) (s : S) (x : Refused S) → Err x ≡ with_state r s
-    → (result : Result (Stepped A S) (Refused S)) → IsErrAnd result (λ (y : Refused S). y ≡ x)
-    → (m : ℕ) → failure_of r ≡ m → (a : Step S A) → answer_step result ≡ decided m s a
-step-refused r s x e result h m p a = step-is r s x e result h ∙ is-refused (failure_of r) m s a p (failed-back r s x e)
 
 -- after a failed check, the two promises of a call that may write: its answer and its bytes
 pub refused-way : {S A B : Type 0} (r : Result (Unit {0}) Refusal) (s : S) (x : Refused S) → Err x ≡ with_state r s

@@ -20,7 +20,7 @@ use Rattle.masks.specs.Checks.{Check, check, first_failed, span_checks}
 use Rattle.masks.specs.Chunks.{chunks_at, new_chunks, next_chunk, chunk_step, chunk_checks, chunk_word}
 use Rattle.masks.specs.Cursor.{item, ended, cursor_checks}
 use Rattle.masks.proofs.statements.CursorPlain.{NewPlaces, ChunkPlaces, FlagPlaces, RunPlaces, OnePlaces, CursorsPlainly}
-use Rattle.masks.specs.Iterator.{first_iter, flag_step, iter_at, iter_checks, iter_flags, leading_from, moved_to, new_iter, nth_flag}
+use Rattle.masks.specs.Iterator.{first_iter, flag_step, iter_checks, iter_flags, leading_from, moved_to, new_iter, nth_flag}
 use Rattle.masks.specs.Iterator.{take_leading}
 use Rattle.masks.specs.Mask.{mask_checks}
 use Rattle.masks.specs.Positions.{left_of, place_after, next_positions}

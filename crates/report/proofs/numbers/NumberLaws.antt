@@ -1,5 +1,5 @@
 -- The flags of whole bytes as a mask, and its runs counted one by one.
-use Rattle.std.specs.Prelude.{Option, Some, None, Result, Ok, Err, IfOk, is_some, is_ok}
+use Rattle.std.specs.Prelude.{Option, Some, None, Result, Ok, IfOk, is_some, is_ok}
 use mathlib.Core.Path.{◌≡◌, refl, sym, ap, ◌∙◌}
 use mathlib.Core.Bool.{Bool, true, false, cond}
 use mathlib.Core.List.{List}
@@ -13,7 +13,6 @@ use Rattle.words.specs.Flags.{flags_of, window}
 use Rattle.words.specs.Loops.{stretch}
 use Rattle.words.proofs.flags.Bytes.{length-flags}
 use Rattle.words.proofs.flags.Windows.{length-window, window-all}
-use Rattle.masks.specs.Answer.{answer, answer_back, decided}
 use Rattle.masks.specs.Checks.{first_failed, limit}
 use Rattle.masks.specs.Compare.{edges}
 use Rattle.masks.specs.Cursor.{Step, item, ended, step_of}
@@ -25,12 +24,10 @@ use Rattle.masks.specs.SliceIterator.{run_checks, run_of, runs_from, run_start, 
 use Rattle.masks.specs.Utils.{zeros}
 use Rattle.masks.specs.declared.bitmap.Bitmap.{Bitmap}
 use Rattle.masks.specs.declared.cursor.Step.{Step as Stepped}
-use Rattle.masks.specs.declared.refusal.Refusal.{Refusal}
 use Rattle.masks.specs.declared.refusal.Refused.{Refused}
 use Rattle.masks.specs.declared.slice_iterator.Run.{Run}
 use Rattle.masks.specs.declared.slice_iterator.SlicesIterator.{SlicesIterator}
 use Rattle.masks.proofs.theorems.Accepted.{mask-accepted}
-use Rattle.masks.proofs.refusal.AnswerLaws.{given-value, refused-failed}
 use Rattle.masks.proofs.checks.CheckLaws.{when-gt, when-le}
 use Rattle.masks.proofs.refusal.ClauseLaws.{accepted_back}
 use Rattle.masks.proofs.cursor.CursorLaws.{cursor-allowed, over-mask}

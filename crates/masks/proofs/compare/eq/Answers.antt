@@ -13,14 +13,16 @@ returns-in_err-earlier-clause-refused c =
     ∙ two-pieces _ _ _ _ _ c.in_err-earlier.ensures.refused c.check_mask.ensures.refused c.check_mask-2.ensures.refused
 
 pub returns-else-n-rhs-clause-refused : goal.returns-else-n-rhs-clause-refused
-returns-else-n-rhs-clause-refused c = two-pieces _ _ _ _ _ c.in_ok-earlier.ensures.refused c.check_mask.ensures.refused c.check_mask-2.ensures.refused
+returns-else-n-rhs-clause-refused c =
+    two-pieces _ _ _ _ _ c.in_ok-earlier.ensures.refused c.check_mask.ensures.refused c.check_mask-2.ensures.refused
 
 pub returns-else-n-rhs-clause-flag : goal.returns-else-n-rhs-clause-flag
 returns-else-n-rhs-clause-flag c =
     ne_eqb _ _ c.if-n-rhs.false ∙ lengths_differ _ _ (λ h. c.if-n-rhs.false (sym (length-window _ _ _) ∙ h ∙ length-window _ _ _))
 
 pub returns-then-n-rhs-clause-refused : goal.returns-then-n-rhs-clause-refused
-returns-then-n-rhs-clause-refused c = two-pieces _ _ _ _ _ c.in_ok-earlier.ensures.refused c.check_mask.ensures.refused c.check_mask-2.ensures.refused
+returns-then-n-rhs-clause-refused c =
+    two-pieces _ _ _ _ _ c.in_ok-earlier.ensures.refused c.check_mask.ensures.refused c.check_mask-2.ensures.refused
 
 pub returns-then-n-rhs-clause-flag : goal.returns-then-n-rhs-clause-flag
 returns-then-n-rhs-clause-flag c =

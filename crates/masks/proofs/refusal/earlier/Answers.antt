@@ -14,7 +14,12 @@ returns-in-Err-Err c = record {
 }
 
 pub returns-in-Err-Ok : goal.returns-in-Err-Ok
-returns-in-Err-Ok c = record { refused = sym (earlier-none _) ∙ sym (ap₂ (λ p q. earlier_of (failure_of p) (failure_of q)) c.in-Err-Ok.is-0 c.in-Err-Ok.is-1) }
+returns-in-Err-Ok c = record {
+  refused =
+      sym (earlier-none _) ∙ sym (ap₂ (λ p q. earlier_of (failure_of p) (failure_of q)) c.in-Err-Ok.is-0 c.in-Err-Ok.is-1);
+}
 
 pub returns-in-Ok-default : goal.returns-in-Ok-default
-returns-in-Ok-default c = record { refused = sym (none-earlier _) ∙ sym (ap (λ p. earlier_of (failure_of p) (failure_of c.args.b)) c.in-Ok-default.is-0) }
+returns-in-Ok-default c = record {
+  refused = sym (none-earlier _) ∙ sym (ap (λ p. earlier_of (failure_of p) (failure_of c.args.b)) c.in-Ok-default.is-0);
+}

@@ -6,7 +6,8 @@ use Rattle.masks.proofs.superseding.check_superseding.Goals as goal
 
 pub returns-then-first-second : goal.returns-then-first-second
 returns-then-first-second c =
-    apart _ _ _ _ _ _ _ c.if-first-second.true c.earlier.ensures.refused c.check_mask.ensures.refused c.check_mask-then-first-second.ensures.refused
+    apart _ _ _ _ _ _ _ c.if-first-second.true c.earlier.ensures.refused c.check_mask.ensures.refused
+    c.check_mask-then-first-second.ensures.refused
 
 pub returns-in_err-same : goal.returns-in_err-same
 returns-in_err-same c =

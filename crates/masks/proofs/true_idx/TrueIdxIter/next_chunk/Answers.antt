@@ -1,6 +1,5 @@
 -- As many positions are written as there are left and fit, and the place is the one after them (`told`).
 use mathlib.Core.Path.{sym, ap, ◌∙◌}
-use Prim.Native.Nat.{ℕ}
 use Rattle.masks.specs.TrueIdx.{true_moved}
 use Rattle.masks.proofs.positions.PositionLaws.{told, within-out}
 use Rattle.masks.proofs.refusal.RefusalLaws.{passed-back}
