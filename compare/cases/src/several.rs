@@ -107,6 +107,9 @@ pub fn write(f: &mut File) {
         f.ask(request);
         assert_eq!(f.last[0], Token::Number(number), "{request}");
     }
+    for name in ["superseding_part", "superseding"] {
+        choices(f, &format!("{name} {{3|4194305|1}} 70 {{?|71|3}} {{5|4194305|1}} 70 {{?|71|3}} {TWO_SIZES} s:{{2|1|14}} t:1"));
+    }
     let place = OPTIONAL.replace("{64|70|6}", "{70|71|6}");
     choices(f, &format!("next_and_not {} {TWO_SIZES}", place.strip_prefix("1 ").expect("a first mask")));
     choices(f, &format!("offer {place} {TWO_SIZES}"));
