@@ -26,8 +26,7 @@ def export_lists(call):
     for path in export(call):
         module = path.split("/")[-1].removesuffix(".rt")
         if read(path).count("#[unsafe(no_mangle)]") == 1:
-            found += saying(f"crates/{STATIC}/src/lib.rt", rf"mod {module};") + saying("tests/exports.py", rf'"{module}"')
-            found += saying(f"{RUST}/src/calls/mod.rs", rf"mod {module};")
+            found += saying(f"crates/{STATIC}/src/lib.rt", rf"mod {module};")
     return found
 
 
@@ -46,9 +45,10 @@ def header(call):
     return [path for name in exports_of(call) for path in saying("include/*", rf"\b{name}\b")]
 
 
-@kind("declarations", "the declarations in Rust", applies=is_call, written=True)
+@kind("declarations", "the declarations in Rust, and the list of their modules", applies=is_call, written=True)
 def declarations(call):
-    return [path for name in exports_of(call) for path in saying(f"{RUST}/src/calls/exports.rs", rf"fn {name}\(")]
+    found = [path for name in exports_of(call) for path in saying(f"{RUST}/src/calls/exports.rs", rf"fn {name}\(")]
+    return found and [*found, f"{RUST}/src/calls/mod.rs"]
 
 
 @kind("example", "the example of the plain function", applies=is_call)
@@ -94,7 +94,7 @@ def variant(call):
     return saying("crates/notation/src/call.rt", rf"\b{name or group}\b")
 
 
-@kind("name", "the name of its requests", applies=is_call)
+@kind("name", "the name of its requests", applies=is_call, written=True)
 def name_of_requests(call):
     return saying("crates/notation/src/names.rt", rf'"{asked(call)}" ')
 
@@ -131,18 +131,13 @@ def cases(call):
 def rows(call):
     if not saying("crates/cases/stdin", rf"(?m)^(?:\+ )?{asked(call)} "):
         return []
-    other = ("/calls.rs", "/main.rs", "/several.rs")
+    other = ("/calls.rs", "/several.rs")
     return [path for path in saying(f"{CASES}/*.rs", rf"\b{asked(call)}\b") if not path.endswith(other)]
 
 
 @kind("several", "several of its checks that fail", applies=several_numbers)
 def several(call):
     return saying(f"{CASES}/several.rs", rf"\b{asked(call)}\b")
-
-
-@kind("order of the case file", "its place in the order of the case file", FREE, applies=is_call)
-def place(call):
-    return saying(f"{CASES}/main.rs", rf"ORDER: &str =[^;]*(?<![\w:]){asked(call)}\b")
 
 
 @kind("case file", "the case file", applies=is_call, written=True)
@@ -182,12 +177,12 @@ def reference(call):
     return on_page(call, "REFERENCE")
 
 
-@kind("CALLS", "CALLS: its row, of which a script writes all cells but the answer")
+@kind("CALLS", "CALLS: its row, of which the answer can be made plainer by hand", written=True)
 def calls(call):
     return on_page(call, "CALLS")
 
 
-@kind("ARCHITECTURE", "the table of its crate in ARCHITECTURE", applies=is_call)
+@kind("ARCHITECTURE", "the table of its crate's modules in ARCHITECTURE", applies=is_call, written=True)
 def architecture(call):
     return on_page(call, "ARCHITECTURE")
 
