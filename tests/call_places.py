@@ -60,13 +60,15 @@ def show(call):
 
 
 def show_files(call):
-    hand, written = set(), set()
+    hand, optional, written = set(), set(), set()
     for kind in KINDS:
         if kind.applies(call) and not kind.shared:
-            (written if kind.written else hand).update(kind.find(call))
+            (written if kind.written else hand if kind.level == MUST else optional).update(kind.find(call))
     hand -= written
-    print("\n".join([*sorted(hand), *(f"written: {path}" for path in sorted(written))]))
-    print(f"{call.name}: {len(hand)} files by hand, {len(written)} that scripts write")
+    optional -= hand | written
+    said = (("", hand), ("not of each call: ", optional), ("written: ", written))
+    print("\n".join(f"{before}{path}" for before, paths in said for path in sorted(paths)))
+    print(f"{call.name}: {len(hand | optional)} files by hand, {len(optional)} of them such as not each call has; scripts write {len(written)}")
 
 
 def show_all():

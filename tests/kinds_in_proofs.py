@@ -18,7 +18,7 @@ def contract(call):
     return [call.path] if call.clauses else []
 
 
-@kind("lists", "the lists of modules, if its module has no other call", FREE)
+@kind("lists", "the lists of modules, if its module has no other call", FREE, written=True)
 def lists(call):
     if [other for other in CALLS + OTHERS if other.path == call.path] != [call]:
         return []
@@ -89,7 +89,7 @@ def order(call):
     return [path for path in found if call.definitions & reached(path, call.crate)] or found[:1] if wanted <= rows else []
 
 
-@kind("computed", "the rows computed", FREE, applies=is_call)
+@kind("computed", "the rows computed", applies=is_call)
 def computed(call):
     names = {path.split("/")[-1] for find in (witnesses, wrong_answers, edges, order) for path in find(call)}
     found = files(f"crates/{call.crate}/proofs/computed/*.antt")
@@ -129,7 +129,7 @@ def theorem(call):
     return [path for path in citing(call, "theorems/*.antt") if not path.endswith(others)]
 
 
-@kind("theorem's list", "the list of theorems, if a theorem is only about it", FREE, applies=is_call)
+@kind("theorem's list", "the list of theorems, if a theorem is only about it", FREE, applies=is_call, written=True)
 def theorem_list(call):
     others = set().union(*(other.heads for other in CALLS if other not in forms(call)))
     own = [path for path in theorem(call) if not others & words_in(path)]

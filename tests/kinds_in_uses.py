@@ -20,7 +20,7 @@ def export(call):
     return [path for name in exports_of(call) for path in saying(f"crates/{STATIC}/src/*.rt", rf"fn {name}\(")]
 
 
-@kind("export's lists", "the lists of modules, if the module of its export has no other", FREE)
+@kind("export's lists", "the list of modules, if the module of its export has no other", FREE, written=True)
 def export_lists(call):
     found = []
     for path in export(call):
