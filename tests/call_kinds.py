@@ -108,15 +108,30 @@ def forms(call):
 
 
 def citing(call, pattern, *also):
-    """Returns the files of proofs that name a definition with which a clause of the call begins, and these names."""
+    """Returns the statements and tables that name a definition with which a clause of the call begins, and these names."""
     heads = set().union(*(form.heads for form in forms(call)))
     found = [(path, reached(path, call.crate)) for path in files(f"crates/{call.crate}/proofs/{pattern}")]
     return [path for path, names in found if heads & names and set(also) <= names]
 
 
+def naming(call, pattern):
+    """Returns the proofs that name a definition of the call themselves, not only by what they state or by a law."""
+    names = set().union(*(form.definitions for form in forms(call)))
+    return [path for path in files(f"crates/{call.crate}/proofs/{pattern}") if names & words_in(path)]
+
+
 def saying(pattern, text):
     """Returns the files in which a regular expression is found."""
     return [path for path in files(pattern) if re.search(text, read(path))]
+
+
+def proving(call, statement, *theorems):
+    """Returns the theorems of these names in which each field of a statement is proved that names a definition of the call."""
+    heads = set().union(*(form.heads for form in forms(call)))
+    blocks = re.split(r"\n  pub ", read(f"crates/{call.crate}/proofs/statements/{statement}.antt"))[1:]
+    fields = [block.split(" ")[0] for block in blocks if heads & set(IDENT.findall(block.partition(":")[2]))]
+    found = [path for name in theorems for path in files(f"crates/{call.crate}/proofs/theorems/{name}.antt")]
+    return [path for path in found if all(re.search(rf"(?<![\w-]){field} =", read(path)) for field in fields)]
 
 
 def rows_of(call, pattern):

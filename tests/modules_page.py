@@ -16,7 +16,7 @@ ARCHITECTURE = ROOT / "docs/ARCHITECTURE.md"
 CALLS = ROOT / "docs/CALLS.md"
 HEAD = "| module | what | public functions |\n|---|---|---|\n"
 TABLE = re.compile(rf"(?ms)^## ([^\n]*)\n((?:(?!^## ).)*?){re.escape(HEAD)}(.*?)\n\n")
-FUNCTION = re.compile(r"(?m)^impl (\w+)|^(\})|((?:^ *//[^\n]*\n)*)(?:^ *#\[[^\n]*\]\n)*^ *pub (?:const )?fn (\w+)")
+FUNCTION = re.compile(r"(?m)^impl (\w+)(?![^\n]*\{\}$)|^(\})|((?:^ *//[^\n]*\n)*)(?:^ *#\[[^\n]*\]\n)*^ *pub (?:const )?fn (\w+)")
 
 
 def said(comment):

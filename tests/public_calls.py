@@ -67,14 +67,20 @@ class Call:
         self.arguments = plain[plain.index("(") :].rpartition("->")[0] or plain[plain.index("(") :]
         self.result = plain.rpartition("->")[2].strip() if "->" in plain else ""
         self.clauses = list(calls_page.promised(head))
-        names = set(IDENT.findall(" ".join(calls_page.cited(head))))
-        self.definitions = names & (defined(crate) | imported(path, crate))
-        self.heads = {IDENT.search(side)[0] for side in calls_page.cited(head) if IDENT.search(side)} & (names - {"result"})
-        equations = [clause for clause in self.clauses if "≡" in clause]
-        readers = [re.match(r"\(?(\w+)(?: \([^)]*\)| \w+)? result\b", clause) for clause in equations]
-        self.readers = {found[1] for found in readers if found}
-        self.numbers = ()
-        self.exports, self.request = [], None
+        self.sides = [IDENT.findall(side) for side in calls_page.cited(head)]
+        readers = [re.match(r"\(?(\w+)(?: \([^)]*\)| \w+)? result\b", clause) for clause in self.clauses if "≡" in clause]
+        self.readers = {found[1] for found in readers if found and any(found[1] in defined(other) for other in [crate, *uses()[0][crate]])}
+        self.own, self.definitions, self.heads = set(), set(), set()
+        self.numbers, self.exports, self.request = (), [], None
+
+    def cite(self, sides, common):
+        """Adds what these sides of equations name: the definitions of the call's crate, without those common to calls of most modules, and
+        of each side the one that it begins with."""
+        known = (defined(self.crate) | imported(self.path, self.crate)) - common
+        for side in sides:
+            names = [name for name in side if name in known]
+            self.definitions.update(names)
+            self.heads.update(names[:1])
 
     @property
     def writes(self):
@@ -91,8 +97,11 @@ class Call:
 
     def is_form_of(self, other):
         """Whether both are read by one definition, so that what is shown of the other's holds of this one."""
-        a, b = self.definitions, other.definitions
+        a, b = self.own, other.own
         return self is not other and self.crate == other.crate and bool(a and b) and (a <= b or b <= a)
+
+    def __repr__(self):
+        return self.key
 
 
 def holders(name):
@@ -126,7 +135,7 @@ def functions():
     for crate in crates():
         for path in files(f"crates/{crate}/src/*.rt"):
             text, owner = calls_page.source(path), ""
-            for match in re.finditer(r"(?m)^impl (\w+)|^(\})|\bpub fn (\w+)", text):
+            for match in re.finditer(r"(?m)^impl (\w+)(?![^\n]*\{\}$)|^(\})|\bpub fn (\w+)", text):
                 if match[3]:
                     found.append(Call(crate, path, owner, match[3], calls_page.head_of(text, match.start(3))))
                 else:
@@ -179,14 +188,34 @@ def request_of(call):
     return call.short if call.short in named() else None
 
 
+def common_names(found):
+    """Returns the names that the contracts of calls of more than half of the modules of a crate cite, as `first_failed`."""
+    common = set()
+    for crate in crates():
+        modules = {}
+        for call in found:
+            if call.crate == crate:
+                modules.setdefault(call.module, set()).update(name for side in call.sides for name in side)
+        names = set().union(*modules.values())
+        common |= {name for name in names if len(modules) > 4 and 2 * sum(name in cited for cited in modules.values()) > len(modules)}
+    return common
+
+
 def calls():
-    """Returns the calls, each with its numbers, its exports and its name in requests; and the public functions that are no calls."""
+    """Returns the calls, each with its numbers, its exports and its name in requests; and the public functions that are no calls. What
+    the contract of an export cites counts as cited by its call."""
     found = functions()
     taken = {crate: calls_page.refusals(crate) for crate in crates()}
-    made = returning()
+    made, common, known = returning(), common_names(found), list(bodies())
     for call in found:
         table = taken[call.crate]
         call.numbers = sorted(table.get(call.name, table.get("*", ()) if is_call(call) else ()), key=int)
-        call.exports = [name for name, rest, text in bodies() if makes(call, rest[rest.rfind("\n{") :], text, made)]
         call.request = request_of(call)
+        call.cite(call.sides, common)
+        call.own = set(call.definitions)
+        for name, rest, text in known:
+            contract, _, body = rest.rpartition("\n{")
+            if makes(call, body, text, made):
+                call.exports.append(name)
+                call.cite([IDENT.findall(side) for side in calls_page.cited(contract + " {")], common)
     return [call for call in found if is_call(call)], [call for call in found if not is_call(call)]
