@@ -56,23 +56,28 @@ def example(call):
     return [path for name in plain_of(call) if name in EXAMPLES for path in saying(f"{RUST}/src/calls/*.rs", rf"pub fn {name}\(")]
 
 
-@kind("method", "the function of a type of the Rust crate", applies=has_records)
+def callers(call):
+    """Returns the functions of the Rust crate that call the plain function: file, name, and whether it is public without an example."""
+    found, plain = [], "|".join(plain_of(call)) or NONE
+    for path in files(f"{RUST}/src/**/*.rs"):
+        name, said, bare = "", [], False
+        for line in [] if "/calls/" in path else read(path).split("\n"):
+            head = re.match(r"\s*(pub )?fn (\w+)", line)
+            if head:
+                name, bare = head[2], bool(head[1]) and not any("```" in text for text in said)
+            if re.search(rf"^(?!\s*//).*\bcalls::(?:{plain})\b", line):
+                found.append((path, name, bare))
+            said = [*said, line] if line.lstrip().startswith("//") else said if line.lstrip().startswith("#[") else []
+    return found
+
+
+@kind("method", "the function of a type of the Rust crate, with an example if it is public", applies=has_records)
 def method(call):
-    found = saying(f"{RUST}/src/**/*.rs", rf"(?m)^(?!\s*//).*\bcalls::(?:{'|'.join(plain_of(call)) or NONE})\b")
-    return [path for path in found if "/calls/" not in path]
+    return [] if any(bare for _, _, bare in callers(call)) else sorted({path for path, _, _ in callers(call)})
 
 
 def methods(call):
-    """Returns the names of the functions of the Rust crate that call the plain function."""
-    found, plain = set(), "|".join(plain_of(call)) or NONE
-    for path in method(call):
-        name = ""
-        for line in read(path).split("\n"):
-            head = re.match(r"\s*(?:pub )?fn (\w+)", line)
-            name = head[1] if head else name
-            if re.search(rf"\bcalls::(?:{plain})\b", line):
-                found.add(name)
-    return found
+    return {name for _, name, _ in callers(call)}
 
 
 @kind("Rust", "a test in Rust", applies=is_call)
