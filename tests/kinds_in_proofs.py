@@ -89,14 +89,24 @@ def order(call):
     return [path for path in found if call.definitions & reached(path, call.crate)] or found[:1] if wanted <= rows else []
 
 
-@kind("computed", "the rows computed", applies=is_call)
 def computed(call):
-    """Those in which its shut definitions are unfolded; for a call that has none, those of its tables."""
+    """Those files of computed rows in which its shut definitions are unfolded; for a call that has none, those of its tables."""
     known = specs(call.crate)
     if any(known[name][1].startswith("unfoldable ") for name in call.definitions if name in known):
         return naming(call, "computed/*.antt")
     tables = {path.split("/")[-1] for find in (witnesses, wrong_answers, edges) for path in find(call)}
     return [path for path in files(f"crates/{call.crate}/proofs/computed/*.antt") if path.split("/")[-1] in tables | {"WrongAnswers.antt"}]
+
+
+@kind("computed", "its rows of witnesses and of wrong answers, computed", applies=is_call)
+def rows(call):
+    """Each such row is an entry of a record or a clause there; other tables are computed at once."""
+    return [path for path in computed(call) if re.search(r"/(?:Wrong\w*|Witnesses)\.antt$", path)]
+
+
+@kind("unfolding", "its definitions, unfolded for tables that are computed at once", FREE, applies=is_call, written=True)
+def unfolding(call):
+    return [path for path in computed(call) if path not in rows(call)]
 
 
 @kind("counts", "the statement on counts", applies=counted)

@@ -93,7 +93,7 @@ def c_test(call):
 # ---- requests, models and comparisons
 
 
-@kind("variant", "the variant of its group", applies=is_call)
+@kind("variant", "the variant of its group", applies=is_call, written=True)
 def variant(call):
     _, group, name = request_of(call)
     return saying("crates/notation/src/call.rt", rf"\b{name or group}\b")
@@ -142,7 +142,8 @@ def rows(call):
 
 @kind("several", "several of its checks that fail", applies=several_numbers)
 def several(call):
-    return saying(f"{CASES}/several.rs", rf"\b{asked(call)}\b")
+    """In several.rs, or in the module with its other requests, which asks by `choices`."""
+    return [path for path in saying(f"{CASES}/*.rs", rf"\b{asked(call)}\b") if path.endswith("/several.rs") or "choices(f, " in read(path)]
 
 
 @kind("case file", "the case file", applies=is_call, written=True)

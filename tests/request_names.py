@@ -1,7 +1,9 @@
-"""Compares the table of names in crates/notation/src/names.rt with docs/REQUESTS.md and crates/notation/src/call.rt, and writes it.
+"""Compares the table of names in crates/notation/src/names.rt and the groups in call.rt with docs/REQUESTS.md and with crates/requests.
 
     python3 tests/request_names.py            prints what differs, and fails if anything does
-    python3 tests/request_names.py --write    writes the table anew, and at its end a line for each call that it lacks
+    python3 tests/request_names.py --write    writes the table anew, and at its end a line for each call that it lacks; adds variants
+
+A variant that an arm of crates/requests names and its group lacks is added to the group: so a new call is an arm there.
 
 The table of REQUESTS has each call's arguments, from which their number follows, and its output; a call without arguments after a comma
 has those of the call before it. The order of the lines and the variants are those of the file; the variant of a new line is the name of
@@ -34,10 +36,27 @@ def shapes():
     return found
 
 
+ENUM = re.compile(r"(pub enum (\w+)Call \{\n)(.*?)(\n\})", re.S)
+
+
+def with_variants(text):
+    """Returns call.rt with the variants that arms of crates/requests name, each added at the end of its group."""
+    named = {}
+    for path in sorted((ROOT / "crates/requests/src").glob("*.rt")):
+        for group, variant in re.findall(r"\b(\w+)Call::(\w+)", path.read_text(encoding="utf-8")):
+            named.setdefault(group, []).append(variant)
+
+    def filled(enum):
+        lacking = dict.fromkeys(variant for variant in named.get(enum[2], ()) if not re.search(rf"(?m)^    {variant}\b", enum[3]))
+        return enum[1] + enum[3] + "".join(f"\n    {variant}," for variant in lacking) + enum[4]
+
+    return ENUM.sub(filled, text)
+
+
 def groups():
     """Returns for each variant the groups that have it, by the enums of call.rt."""
     found = {}
-    for group, body in re.findall(r"pub enum (\w+)Call \{(.*?)\n\}", GROUPS.read_text(encoding="utf-8"), re.S):
+    for _, group, body, _ in ENUM.findall(with_variants(GROUPS.read_text(encoding="utf-8"))):
         for variant in re.findall(r"(?m)^    (\w+),", body):
             found.setdefault(variant, []).append(group)
     return found
@@ -65,14 +84,19 @@ def main():
         if name not in known:
             call = call_of(name, shape, known, found)
             rows += [line(name, shape, call)] if call else []
-            complaints += [] if call else [f"{name}: crates/notation/src/call.rt has no variant of this name, or several groups have it"]
+            complaints += [] if call else [f"{name}: no arm of crates/requests makes a variant of this name, or several groups have it"]
     text = re.sub(r"(?s)(names!\[\n).*?(\n\];)", lambda table: table[1] + "\n".join(rows) + table[2], old)
     text = re.sub(r"(const CALLS: usize = )\d+", rf"\g<1>{len(rows)}", text)
+    kept = GROUPS.read_text(encoding="utf-8")
     if "--write" in sys.argv:
         NAMES.write_text(text, encoding="utf-8")
+        GROUPS.write_text(with_variants(kept), encoding="utf-8")
+        kept = with_variants(kept)
     elif text != old:
         changed = sorted(set(text.split("\n")) ^ set(old.split("\n")))
         complaints += ["crates/notation/src/names.rt is not what REQUESTS and call.rt give: run tests/request_names.py --write", *changed]
+    if with_variants(kept) != kept:
+        complaints.append("crates/notation/src/call.rt lacks a variant that requests make: run tests/request_names.py --write")
     print("\n".join(complaints + [f"{len(rows)} names of calls, {len(complaints)} complaints"]))
     return 1 if complaints else 0
 
