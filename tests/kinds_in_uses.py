@@ -132,11 +132,16 @@ def cases(call):
     return [path for path in files(f"{CASES}/*.rs") if re.search(rf'"{asked(call)}"(?: \||, Op| =>)', read(path))]
 
 
+@kind("asked", "its arm by the model's function of its name", FREE, applies=is_call, written=True)
+def asked_by_name(call):
+    return saying(f"{CASES}/asked.rs", rf'"{asked(call)}" =>')
+
+
 @kind("rows", "its rows of the case file", applies=is_call)
 def rows(call):
     if not saying("crates/cases/stdin", rf"(?m)^(?:\+ )?{asked(call)} "):
         return []
-    other = ("/calls.rs", "/several.rs")
+    other = ("/asked.rs", "/calls.rs", "/several.rs")
     return [path for path in saying(f"{CASES}/*.rs", rf"\b{asked(call)}\b") if not path.endswith(other)]
 
 

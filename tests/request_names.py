@@ -21,19 +21,24 @@ OUTPUTS = {"": "Nothing", "o": "Bytes", "i": "Numbers"}
 LINE = re.compile(r'(?m)^    "([^"]+)" (\d+) (\w+) Call::(.*);$')
 
 
-def shapes():
-    """Returns for each call of REQUESTS its arguments and its output, in the order of the table."""
+def table():
+    """Returns for each call of REQUESTS its arguments, its answer and its output, in the order of the table."""
     page = (ROOT / "docs/REQUESTS.md").read_text(encoding="utf-8")
-    table = page.split("| call | answer | output |\n")[1].split("\n\n")[0]
+    rows = page.split("| call | answer | output |\n")[1].split("\n\n")[0]
     found = {}
-    for row in table.split("\n")[1:]:
+    for row in rows.split("\n")[1:]:
         cells = [cell.strip() for cell in row.split("|")[1:-1]]
         arguments = []
         for before, text in re.findall(r"(^|[,;]) ?`([^`]+)`", cells[0]):
             name, *own = text.split(" ")
             arguments = own if own or before != "," else arguments
-            found[name] = arguments, cells[2]
+            found[name] = arguments, cells[1], cells[2]
     return found
+
+
+def shapes():
+    """Returns for each call its arguments and its output."""
+    return {name: (arguments, output) for name, (arguments, _, output) in table().items()}
 
 
 ENUM = re.compile(r"(pub enum (\w+)Call \{\n)(.*?)(\n\})", re.S)

@@ -8,6 +8,7 @@
 //! refused. Function `write` of a module below writes the requests that the module's first comment names.
 
 mod arguments;
+mod asked;
 mod builders;
 mod builders_outside;
 mod calls;
