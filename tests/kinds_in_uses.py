@@ -2,6 +2,7 @@
 files in which it finds the call."""
 import re
 
+import exports
 import in_rust
 from call_kinds import FREE, MAY, NONE, STATIC, asked, exports_of, has_records, is_call, kind, on_page, plain_of, refusing_call, request_of
 from call_kinds import saying, several_numbers
@@ -10,6 +11,7 @@ from public_calls import files, read
 RUST = "bindings/rust"
 CASES = "compare/cases/src"
 EXAMPLES = in_rust.examples()
+NUMBERS = exports.refusals()
 
 
 # ---- C and Rust
@@ -30,8 +32,10 @@ def export_lists(call):
     return found
 
 
-@kind("export refuses", "the statement on the export's refusals", applies=refusing_call)
+@kind("export refuses", "the statement on the export's refusals, with the call's numbers", applies=refusing_call)
 def export_refuses(call):
+    if any(sorted(NUMBERS.get(name, ()), key=int) != call.numbers for name in exports_of(call)):
+        return []
     return [path for name in exports_of(call) for path in saying(f"crates/{STATIC}/proofs/statements/Refusals.antt", f"pub {name} :")]
 
 
