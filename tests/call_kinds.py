@@ -20,7 +20,7 @@ KINDS = []
 class Kind:
     def __init__(self, key, says, level, applies, written, find):
         self.key, self.says, self.level, self.applies, self.written, self.find = key, says, level, applies, written, find
-        self.shared = key == "shape"  # a call touches it only if it brings the first answer of its shape
+        self.shared = key in ("shape", "conversion")  # a call touches these only if it brings the first answer of its shape
 
 
 def kind(key, says, level=MUST, applies=lambda call: True, written=False):

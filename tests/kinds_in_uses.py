@@ -6,7 +6,7 @@ import exports
 import in_rust
 from call_kinds import FREE, MAY, NONE, STATIC, asked, exports_of, has_records, is_call, kind, on_page, plain_of, refusing_call, request_of
 from call_kinds import saying, several_numbers
-from public_calls import files, read
+from public_calls import files, read, words_in
 
 RUST = "bindings/rust"
 CASES = "compare/cases/src"
@@ -42,6 +42,18 @@ def export_refuses(call):
 @kind("export proved", "the theorem on the export's refusals", applies=refusing_call)
 def export_proved(call):
     return [path for name in exports_of(call) for path in saying(f"crates/{STATIC}/proofs/theorems/Refusals.antt", rf"\b{name} =")]
+
+
+@kind("conversion", "what the conversion of its answer holds, and a row of it, for one that no other call has",
+      applies=lambda call: call.conversions and files(f"crates/{STATIC}/proofs/tables/*.antt"))
+def conversion(call):
+    found = []
+    for pattern in ("statements/*Plain.antt", "tables/*.antt"):
+        paths = [path for path in files(f"crates/{STATIC}/proofs/{pattern}") if call.conversions & words_in(path)]
+        if not call.conversions <= set().union(*map(words_in, paths)):
+            return []
+        found += paths
+    return found
 
 
 @kind("header", "the header", applies=is_call, written=True)

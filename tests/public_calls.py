@@ -71,7 +71,7 @@ class Call:
         readers = [re.match(r"\(?(\w+)(?: \([^)]*\)| \w+)? result\b", clause) for clause in self.clauses if "≡" in clause]
         self.readers = {found[1] for found in readers if found and any(found[1] in defined(other) for other in [crate, *uses()[0][crate]])}
         self.own, self.definitions, self.heads = set(), set(), set()
-        self.numbers, self.exports, self.request = (), [], None
+        self.numbers, self.exports, self.request, self.conversions = (), [], None, set()
 
     def cite(self, sides, common):
         """Adds what these sides of equations name: the definitions of the call's crate, without those common to calls of most modules, and
@@ -217,5 +217,7 @@ def calls():
             contract, _, body = rest.rpartition("\n{")
             if makes(call, body, text, made):
                 call.exports.append(name)
-                call.cite([IDENT.findall(side) for side in calls_page.cited(contract + " {")], common)
+                sides = [IDENT.findall(side) for side in calls_page.cited(contract + " {")]
+                call.cite(sides, common)
+                call.conversions |= {name for side in sides for name in side if name.startswith("as_")} & defined(uses()[1])
     return [call for call in found if is_call(call)], [call for call in found if not is_call(call)]
