@@ -446,26 +446,6 @@ pw_mask_answer pw_select(pw_mask selector, const uint8_t *by, size_t by_len, pw_
 pw_mask_answer pw_select_constant(pw_mask selector, const uint8_t *by, size_t by_len, pw_mask truthy,
     const uint8_t *yes, size_t yes_len, bool flag, uint8_t *out, size_t out_len);
 
-/* ---- The combination `and_not` at one index. */
-
-/* Returns whether the flag at `index` is set in the first mask and not in the second. If `first_present` is false there is no first
- * mask, which means all ones; if `second_present` is false there is no second mask, which means all zeros. The record and bytes of an
- * absent mask are not read. Refusal 5 occurs only with both masks; without any mask nothing is refused. Refuses with 1, 2, 3, 5, 6;
- * every other field is then 0. */
-pw_flag pw_and_not_at(bool first_present, pw_mask first, const uint8_t *first_bytes, size_t first_bytes_len,
-    bool second_present, pw_mask second, const uint8_t *second_bytes, size_t second_bytes_len, size_t index);
-
-/* ---- The search for a flag that is set in one mask and not in another. */
-
-/* Returns the first position at or after `from` that is set in the first mask and not in the second, else the first such position from
- * 0; `found` is false if there is no such position. If `second_present` is false there is no second mask, which means all zeros: its
- * record and bytes are not read, and refusal 5 does not occur. `windows` counts the windows of 32 flags read: they begin at `from` and
- * every 32 flags after it, below the length, then at 0 and every 32 flags after it, below `from`; the last one read holds the
- * position, or all are read. A `from` equal to the length is allowed; above it the call is refused with 6. Refuses with 1, 2, 3, 5, 6;
- * every other field is then 0. */
-pw_next_answer pw_next_and_not(pw_mask first, const uint8_t *first_bytes, size_t first_bytes_len,
-    bool second_present, pw_mask second, const uint8_t *second_bytes, size_t second_bytes_len, size_t from);
-
 /* ---- The cursors over runs, flags and positions. A step that finds nothing moves the cursor to the length. */
 
 /* Returns a cursor before the first run of ones of a mask. Refuses with 1, 2, 3; every other field is then 0. */
@@ -516,6 +496,26 @@ pw_step_answer pw_true_idx_next(size_t start, size_t length, size_t place, uint8
  * 0. */
 pw_step_answer pw_true_idx_next_chunk(size_t start, size_t length, size_t place, uint8_t masked,
     const uint8_t *bytes, size_t bytes_len, uint32_t *out, size_t out_len);
+
+/* ---- The combination `and_not` at one index. */
+
+/* Returns whether the flag at `index` is set in the first mask and not in the second. If `first_present` is false there is no first
+ * mask, which means all ones; if `second_present` is false there is no second mask, which means all zeros. The record and bytes of an
+ * absent mask are not read. Refusal 5 occurs only with both masks; without any mask nothing is refused. Refuses with 1, 2, 3, 5, 6;
+ * every other field is then 0. */
+pw_flag pw_and_not_at(bool first_present, pw_mask first, const uint8_t *first_bytes, size_t first_bytes_len,
+    bool second_present, pw_mask second, const uint8_t *second_bytes, size_t second_bytes_len, size_t index);
+
+/* ---- The search for a flag that is set in one mask and not in another. */
+
+/* Returns the first position at or after `from` that is set in the first mask and not in the second, else the first such position from
+ * 0; `found` is false if there is no such position. If `second_present` is false there is no second mask, which means all zeros: its
+ * record and bytes are not read, and refusal 5 does not occur. `windows` counts the windows of 32 flags read: they begin at `from` and
+ * every 32 flags after it, below the length, then at 0 and every 32 flags after it, below `from`; the last one read holds the
+ * position, or all are read. A `from` equal to the length is allowed; above it the call is refused with 6. Refuses with 1, 2, 3, 5, 6;
+ * every other field is then 0. */
+pw_next_answer pw_next_and_not(pw_mask first, const uint8_t *first_bytes, size_t first_bytes_len,
+    bool second_present, pw_mask second, const uint8_t *second_bytes, size_t second_bytes_len, size_t from);
 
 /* ---- Dispatch. */
 

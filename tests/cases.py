@@ -15,12 +15,13 @@ from itertools import product
 
 sys.dont_write_bytecode = True
 from reference import *
+from request_names import shapes
 
 SHOWN = 20
 
 
-# The calls by their names: the arguments (n a number, M a mask, O a mask or none, B a builder, W a window's place, fill and width), and
-# the answer from these and what is lent. A call that has an output returns it after its answer.
+# The calls whose arguments the function of the model takes in another order, or that have no function of their name: the answer from the
+# arguments and what is lent. A call that has an output returns it after its answer.
 
 
 def sides(l):
@@ -32,11 +33,11 @@ def stretches(l, a, b, c):
 
 
 def pair(op):
-    return "MM", lambda l, first, second: combine(op, [(first, l.x), (second, l.y)], l.o)
+    return lambda l, first, second: combine(op, [(first, l.x), (second, l.y)], l.o)
 
 
-def word_op(op, many):
-    return "n" * many, lambda l, *words: [OPS[op](*(list(words) + [0, 0])[:3], 64)]
+def word_op(op):
+    return lambda l, *words: [OPS[op](*(list(words) + [0, 0])[:3], 64)]
 
 
 def run_of_minutes(first, step, many):
@@ -44,7 +45,7 @@ def run_of_minutes(first, step, many):
 
 
 def counting(of):
-    return "nnn", lambda l, *span: count(of, l.x, *span)
+    return lambda l, *span: count(of, l.x, *span)
 
 
 def of_two(l, a, b):
@@ -55,129 +56,135 @@ def part_shown(part):
     return [len(part), taken(FIRST, output_symbols(part))]
 
 
-CALLS = {
-    "load_padded_le_u64": ("", lambda l: [piece(l.x, 0, 64)]),
-    "merge_reversed": ("nnn", lambda l, *a: [merged(*a)]),
-    "nth_set_bit_u32": ("nn", lambda l, w, n: set_bit(w, n)),
-    "nth_set_bit_u64": ("nn", lambda l, w, n: set_bit(w, n)),
-    "store_le_u64": ("n", lambda l, w: ([], over(l.o, words_of(w, 64)))),
-    "store_at": ("nn", lambda l, at, w: ([], over(l.o, words_of(w, 64), min(at, len(l.o))))),
-    "store_whole": ("nn", lambda l, at, w: ([], over(l.o, words_of(w, 64), at) if at + 8 <= len(l.o) else l.o)),
-    "byte_word": ("n", lambda l, at: [piece(l.x, 8 * at, 64)]),
-    "word_from": ("n", lambda l, bit: [piece(l.x, bit, 64)]),
-    "flag_at": ("n", lambda l, bit: [piece(l.x, bit, 1)]),
-    "low_flags": ("nn", lambda l, w, k: [w & full(min(k, 64))]),
-    "shr_or_zero": ("nn", lambda l, w, k: [w >> min(k, 64)]),
-    "shl_or_zero": ("nn", lambda l, w, k: [w << min(k, 64) & WORD]),
-    "concat_low": ("nnn", lambda l, a, k, b: [(a & full(min(k, 64)) | b << min(k, 64)) & WORD]),
-    "constant_word": ("n", lambda l, flag: [WORD * flag]),
-    "constant_flags": ("nn", lambda l, flag, n: [full(min(n, 64)) * flag]),
-    "ones_in_word": ("n", lambda l, w: [w.bit_count()]),
-    "ones_below": ("nn", lambda l, w, k: [(w & full(min(k, 64))).bit_count()]),
-    "none_from": ("nn", lambda l, w, k: [int(w >> min(k, 64) == 0)]),
-    "leading_in_word": ("nnn", lambda l, flag, w, k: [at_front(w & full(min(k, 64)), min(k, 64), flag)]),
-    "trailing_in_word": ("nnn", lambda l, flag, w, k: [at_end(w & full(min(k, 64)), min(k, 64), flag)]),
-    "and_word": word_op(AND, 2),
-    "and_not_word": word_op(AND_NOT, 2),
-    "or_word": word_op(OR, 2),
-    "or_not_word": word_op(OR_NOT, 2),
-    "xor_word": word_op(XOR, 2),
-    "not_word": word_op(NOT, 1),
-    "select_word": word_op(SELECT, 3),
-    "combine_word": ("nnnn", lambda l, op, p, q, r: [OPS[op](p, q, r, 64)]),
-    "combine": ("nnnnn", lambda l, op, a, b, c, n: ([], written(op, stretches(l, a, b, c), n, l.o))),
-    "copy": ("nn", lambda l, start, n: ([], written(OR, [(l.x, start)] * 3, n, l.o))),
-    "fill": ("nn", lambda l, flag, n: ([], written(OR_NOT if flag else AND, [(Lent(b""), 0)] * 3, n, l.o))),
-    "fill_whole": ("nn", lambda l, flag, n: ([], over(l.o, (b"\xff" if flag else b"\0") * 8 * min(n, len(l.o) // 8)))),
-    "copy_count": ("nn", lambda l, start, n: ([count_of(OR, [(l.x, start)] * 3, n)], written(OR, [(l.x, start)] * 3, n, l.o))),
-    "count_ones": ("nn", lambda l, start, n: [count_of(OR, [(l.x, start)] * 3, n)]),
-    "count_ones_of": ("nnnnn", lambda l, op, a, b, c, n: [count_of(op, stretches(l, a, b, c), n)]),
-    "any_set": ("nnnnn", lambda l, op, a, b, c, n: [int(count_of(op, stretches(l, a, b, c), n) > 0)]),
-    "equal": ("nnn", lambda l, a, b, n: [int(count_of(XOR, stretches(l, a, b, 0), n) == 0)]),
-    "AlignedBitmapSlice::new": ("nnn", lambda l, *a: aligned(l.x, *a)),
+OTHERS = {
+    "load_padded_le_u64": lambda l: [piece(l.x, 0, 64)],
+    "merge_reversed": lambda l, *a: [merged(*a)],
+    "nth_set_bit_u32": lambda l, w, n: set_bit(w, n),
+    "nth_set_bit_u64": lambda l, w, n: set_bit(w, n),
+    "store_le_u64": lambda l, w: ([], over(l.o, words_of(w, 64))),
+    "store_at": lambda l, at, w: ([], over(l.o, words_of(w, 64), min(at, len(l.o)))),
+    "store_whole": lambda l, at, w: ([], over(l.o, words_of(w, 64), at) if at + 8 <= len(l.o) else l.o),
+    "byte_word": lambda l, at: [piece(l.x, 8 * at, 64)],
+    "word_from": lambda l, bit: [piece(l.x, bit, 64)],
+    "flag_at": lambda l, bit: [piece(l.x, bit, 1)],
+    "low_flags": lambda l, w, k: [w & full(min(k, 64))],
+    "shr_or_zero": lambda l, w, k: [w >> min(k, 64)],
+    "shl_or_zero": lambda l, w, k: [w << min(k, 64) & WORD],
+    "concat_low": lambda l, a, k, b: [(a & full(min(k, 64)) | b << min(k, 64)) & WORD],
+    "constant_word": lambda l, flag: [WORD * flag],
+    "constant_flags": lambda l, flag, n: [full(min(n, 64)) * flag],
+    "ones_in_word": lambda l, w: [w.bit_count()],
+    "ones_below": lambda l, w, k: [(w & full(min(k, 64))).bit_count()],
+    "none_from": lambda l, w, k: [int(w >> min(k, 64) == 0)],
+    "leading_in_word": lambda l, flag, w, k: [at_front(w & full(min(k, 64)), min(k, 64), flag)],
+    "trailing_in_word": lambda l, flag, w, k: [at_end(w & full(min(k, 64)), min(k, 64), flag)],
+    "and_word": word_op(AND),
+    "and_not_word": word_op(AND_NOT),
+    "or_word": word_op(OR),
+    "or_not_word": word_op(OR_NOT),
+    "xor_word": word_op(XOR),
+    "not_word": word_op(NOT),
+    "select_word": word_op(SELECT),
+    "combine_word": lambda l, op, p, q, r: [OPS[op](p, q, r, 64)],
+    "combine": lambda l, op, a, b, c, n: ([], written(op, stretches(l, a, b, c), n, l.o)),
+    "copy": lambda l, start, n: ([], written(OR, [(l.x, start)] * 3, n, l.o)),
+    "fill": lambda l, flag, n: ([], written(OR_NOT if flag else AND, [(Lent(b""), 0)] * 3, n, l.o)),
+    "fill_whole": lambda l, flag, n: ([], over(l.o, (b"\xff" if flag else b"\0") * 8 * min(n, len(l.o) // 8))),
+    "copy_count": lambda l, start, n: ([count_of(OR, [(l.x, start)] * 3, n)], written(OR, [(l.x, start)] * 3, n, l.o)),
+    "count_ones": lambda l, start, n: [count_of(OR, [(l.x, start)] * 3, n)],
+    "count_ones_of": lambda l, op, a, b, c, n: [count_of(op, stretches(l, a, b, c), n)],
+    "any_set": lambda l, op, a, b, c, n: [int(count_of(op, stretches(l, a, b, c), n) > 0)],
+    "equal": lambda l, a, b, n: [int(count_of(XOR, stretches(l, a, b, 0), n) == 0)],
+    "AlignedBitmapSlice::new": lambda l, *a: aligned(l.x, *a),
     "count_zeros": counting(zeros),
     "leading_zeros": counting(lambda x, n: at_front(x, n, 0)),
     "leading_ones": counting(lambda x, n: at_front(x, n, 1)),
     "trailing_zeros": counting(lambda x, n: at_end(x, n, 0)),
     "trailing_ones": counting(lambda x, n: at_end(x, n, 1)),
-    "BitChunks::new": ("nn", lambda l, *a: chunks_new(l.x, *a)),
-    "BitChunksExact::new": ("n", lambda l, n: chunks_new(l.x, 0, n)),
-    "BitChunks::next": ("nnn", lambda l, *a: chunks_next(l.x, *a)),
-    "remainder": ("nnn", lambda l, *a: chunks_remainder(l.x, *a)),
-    "split_at_unchecked": ("nnn", lambda l, *a: split_at(l.x, *a)),
-    "get_u32": ("nnn", lambda l, *a: get_u32(l.x, *a)),
-    "nth_set_bit_idx": ("nnnn", lambda l, *a: search(l.x, *a, False)),
-    "nth_set_bit_idx_rev": ("nnnn", lambda l, *a: search(l.x, *a, True)),
-    "BitmapBuilder::new": ("", lambda l: [0, 0, 0]),
-    "push": ("Bn", lambda l, b, flag: append(b, l.o, [], 1, lambda: flag)),
-    "push_mut": ("Bn", lambda l, b, flag: append(b, l.o, [], 1, lambda: flag)),
-    "push_word_with_len_unchecked": ("Bnn", lambda l, b, w, n: append(b, l.o, word_checks(w, n), n, lambda: w)),
-    "extend_constant": ("Bnn", lambda l, b, n, flag: append(b, l.o, limited(n), n, lambda: full(n) * flag)),
-    "extend_from_slice": ("Bnn", lambda l, b, *a: append(b, l.o, span_checks(l.x, *a), a[1], lambda: piece(l.x, *a))),
-    "extend_each_repeated_from_slice_unchecked": ("Bnnn", lambda l, b, *a: extend_repeated(b, l.o, l.x, *a)),
-    "subslice_extend_from_bitmap": ("BMnn", lambda l, b, mask, *a: extend_bitmap(b, l.o, mask, l.x, *a)),
-    "gather_extend_from_slice": ("Bnn", lambda l, b, *a: gather(b, l.o, l.x, *a, l.i, True)),
-    "opt_gather_extend_from_slice": ("Bnn", lambda l, b, *a: gather(b, l.o, l.x, *a, l.i, False)),
-    "freeze": ("B", lambda l, builder: freeze(builder, l.o)),
-    "into_opt_validity": ("B", lambda l, builder: into_opt_validity(builder, l.o)),
-    "Bitmap::new": ("", lambda l: [0, 0, 0]),
-    "new_zeroed": ("n", lambda l, n: new_zeroed(n, l.o)),
-    "try_new": ("nn", lambda l, *a: try_new(l.x, *a)),
-    "slice": ("Mnn", lambda l, mask, *a: slice_of(mask, l.x, *a)),
-    "unset_bits": ("M", lambda l, mask: unset_bits(mask, l.x)),
+    "BitChunks::new": lambda l, *a: chunks_new(l.x, *a),
+    "BitChunksExact::new": lambda l, n: chunks_new(l.x, 0, n),
+    "BitChunks::next": lambda l, *a: chunks_next(l.x, *a),
+    "remainder": lambda l, *a: chunks_remainder(l.x, *a),
+    "split_at_unchecked": lambda l, *a: split_at(l.x, *a),
+    "nth_set_bit_idx": lambda l, *a: search(l.x, *a, False),
+    "nth_set_bit_idx_rev": lambda l, *a: search(l.x, *a, True),
+    "BitmapBuilder::new": lambda l: [0, 0, 0],
+    "push": lambda l, b, flag: append(b, l.o, [], 1, lambda: flag),
+    "push_mut": lambda l, b, flag: append(b, l.o, [], 1, lambda: flag),
+    "push_word_with_len_unchecked": lambda l, b, w, n: append(b, l.o, word_checks(w, n), n, lambda: w),
+    "extend_constant": lambda l, b, n, flag: append(b, l.o, limited(n), n, lambda: full(n) * flag),
+    "extend_from_slice": lambda l, b, *a: append(b, l.o, span_checks(l.x, *a), a[1], lambda: piece(l.x, *a)),
+    "extend_each_repeated_from_slice_unchecked": lambda l, b, *a: extend_repeated(b, l.o, l.x, *a),
+    "subslice_extend_from_bitmap": lambda l, b, mask, *a: extend_bitmap(b, l.o, mask, l.x, *a),
+    "gather_extend_from_slice": lambda l, b, *a: gather(b, l.o, l.x, *a, l.i, True),
+    "opt_gather_extend_from_slice": lambda l, b, *a: gather(b, l.o, l.x, *a, l.i, False),
+    "Bitmap::new": lambda l: [0, 0, 0],
+    "slice": lambda l, mask, *a: slice_of(mask, l.x, *a),
     "and": pair(AND),
     "and_not": pair(AND_NOT),
     "or": pair(OR),
     "or_not": pair(OR_NOT),
     "xor": pair(XOR),
-    "not": ("M", lambda l, mask: combine(NOT, [(mask, l.x)], l.o)),
-    "select": ("MMM", lambda l, *masks: combine(SELECT, list(zip(masks, sides(l))), l.o)),
-    "select_constant": ("MMn", lambda l, a, b, flag: combine(SELECT, [(a, l.x), (b, l.y)], l.o, flag)),
-    "eq": ("MM", lambda l, a, b: eq(a, l.x, b, l.y)),
-    "num_edges": ("M", lambda l, mask: num_edges(mask, l.x)),
-    "num_intersections_with": ("MM", lambda l, a, b: num_intersections(a, l.x, b, l.y)),
-    "SlicesIterator::new": ("M", lambda l, mask: new_runs(mask, l.x)),
-    "SlicesIterator::next": ("nnn", lambda l, *a: next_run(l.x, *a)),
-    "BitmapIter::new": ("nn", lambda l, start, n: chunks_new(l.x, start, n) if n else [0, 0, 0]),
-    "BitmapIter::next": ("nnn", lambda l, *a: nth_flag(l.x, *a, 0)),
-    "nth": ("nnnn", lambda l, *a: nth_flag(l.x, *a)),
-    "take_leading_ones": ("nnn", lambda l, *a: take_leading(l.x, *a, 1)),
-    "take_leading_zeros": ("nnn", lambda l, *a: take_leading(l.x, *a, 0)),
-    "TrueIdxIter::new": ("nO", lambda l, n, mask: true_new(n, mask, l.x)),
-    "TrueIdxIter::next": ("nnnn", lambda l, *a: next_true(l.x, *a)),
-    "next_chunk": ("nnnn", lambda l, *a: next_chunk(l.x, *a, l.i)),
-    "superseding_part": ("MM", lambda l, a, b: superseding(*of_two(l, a, b))),
-    "superseding": ("MM", lambda l, a, b: superseding(*of_two(l, a, b))[3:]),
-    "superseding_bytes": ("MM", lambda l, a, b: part_shown(superseding_bytes(*of_two(l, a, b)))),
-    "and_not_at": ("OOn", lambda l, a, b, index: and_not_at(a, l.x, b, l.y, index)),
-    "may_reassign": ("OOn", lambda l, a, b, truck: may_reassign(a, l.x, b, l.y, truck)),
-    "ActivityWindow::new": ("n", lambda l, width: activity_new(width)),
-    "push_minute": ("Wn", lambda l, record, word: push_minutes(l.o, record, [word])),
-    "push_minutes": ("Wnnn", lambda l, record, *a: push_minutes(l.o, record, run_of_minutes(*a))),
-    "counts": ("W", lambda l, record: activity_counts(l.x.data, record)),
-    "next_and_not": ("MOn", lambda l, a, b, place: next_and_not(a, l.x, b, l.y, place)),
-    "offer": ("OOn", lambda l, a, b, cursor: offer(a, l.x, b, l.y, cursor)),
+    "not": lambda l, mask: combine(NOT, [(mask, l.x)], l.o),
+    "select": lambda l, *masks: combine(SELECT, list(zip(masks, sides(l))), l.o),
+    "select_constant": lambda l, a, b, flag: combine(SELECT, [(a, l.x), (b, l.y)], l.o, flag),
+    "num_intersections_with": lambda l, a, b: num_intersections(a, l.x, b, l.y),
+    "SlicesIterator::new": lambda l, mask: new_runs(mask, l.x),
+    "SlicesIterator::next": lambda l, *a: next_run(l.x, *a),
+    "BitmapIter::new": lambda l, start, n: chunks_new(l.x, start, n) if n else [0, 0, 0],
+    "BitmapIter::next": lambda l, *a: nth_flag(l.x, *a, 0),
+    "nth": lambda l, *a: nth_flag(l.x, *a),
+    "take_leading_ones": lambda l, *a: take_leading(l.x, *a, 1),
+    "take_leading_zeros": lambda l, *a: take_leading(l.x, *a, 0),
+    "TrueIdxIter::new": lambda l, n, mask: true_new(n, mask, l.x),
+    "TrueIdxIter::next": lambda l, *a: next_true(l.x, *a),
+    "next_chunk": lambda l, *a: next_chunk(l.x, *a, l.i),
+    "superseding_part": lambda l, a, b: superseding(*of_two(l, a, b)),
+    "superseding": lambda l, a, b: superseding(*of_two(l, a, b))[3:],
+    "superseding_bytes": lambda l, a, b: part_shown(superseding_bytes(*of_two(l, a, b))),
+    "ActivityWindow::new": lambda l, width: activity_new(width),
+    "push_minute": lambda l, record, word: push_minutes(l.o, record, [word]),
+    "push_minutes": lambda l, record, *a: push_minutes(l.o, record, run_of_minutes(*a)),
+    "counts": lambda l, record: activity_counts(l.x.data, record),
 }
 
-WRITERS = {name for name in CALLS if name.split("_")[0] in ("store", "copy", "push", "extend", "subslice", "gather", "opt")}
-WRITERS |= {"combine", "fill", "fill_whole", "freeze", "into_opt_validity", "new_zeroed", "and", "and_not", "or", "or_not", "xor", "not"}
-WRITERS |= {"select", "select_constant", "ActivityWindow::new"}
-LISTERS = {"next_chunk", "counts"}  # these write numbers
-WRITERS |= LISTERS
+
+
+def plainly(name, arguments, output):
+    """Returns how a call is asked by the function of the model of its name: each mask is followed by its bytes, a bare span by none, since
+    its bytes come first; an output comes last."""
+    ask = globals().get(name.split("::")[-1])
+
+    def answer(l, *values):
+        row, lent = [l.x] if arguments[:1] == ["start"] else [], iter(sides(l))
+        for kind, value in zip(arguments, values):
+            row += [value, next(lent)] if kind in ("M", "OM") else [value]
+        return ask(*row, *[l.o] * (output == "o"))
+
+    return answer
+
+
+# Of each call in the table of REQUESTS the kinds of its arguments and its output: WRITERS write bytes or numbers, LISTERS numbers.
+SHAPES = shapes()
+KINDS = {"M": "M", "OM": "O", "B": "B", "W": "W", "C": "nnn", "T": "nnnn"}
+SPECS = {name: "".join(KINDS.get(kind, "n") for kind in arguments) for name, (arguments, _) in SHAPES.items()}
+CALLS = {name: OTHERS.get(name) or plainly(name, *shape) for name, shape in SHAPES.items()}
+WRITERS = {name for name, (_, output) in SHAPES.items() if output}
+LISTERS = {name for name, (_, output) in SHAPES.items() if output == "i"}
 
 
 # The serial of the record that a call returns comes before its three numbers: 0 for a new record; that of the builder or of the mask; the
 # largest of the masks combined, each of which has one.
 
 NEW = {"BitmapBuilder::new", "Bitmap::new", "new_zeroed", "try_new"}
-OWN = {name for name, (spec, _) in CALLS.items() if spec[:1] == "B"} | {"slice", "unset_bits"}
+OWN = {name for name, spec in SPECS.items() if spec[:1] == "B"} | {"slice", "unset_bits"}
 COMBINED = {"and", "and_not", "or", "or_not", "xor", "not", "select", "select_constant"}
 
 
 def with_serial(name, answer, serials):
     if len(answer) < 4 or name not in NEW | OWN | COMBINED:
         return answer
-    serial = 0 if name in NEW else serials[0] if name in OWN else max(serials[: CALLS[name][0].count("M")])
+    serial = 0 if name in NEW else serials[0] if name in OWN else max(serials[: SPECS[name].count("M")])
     return [*answer[:-3], serial, *answer[-3:]]
 
 
@@ -252,7 +259,7 @@ def arranged(spec):
     return at, eval("lambda row: [%s]" % ", ".join(parts))
 
 
-ARRANGED = {name: arranged(spec) for name, (spec, _) in CALLS.items()}
+ARRANGED = {name: arranged(spec) for name, spec in SPECS.items()}
 
 
 class Reader:
@@ -288,7 +295,7 @@ class Reader:
         self.calls += 1
         out = None
         try:
-            answer = CALLS[name][1](l, *ARRANGED[name][1](row))
+            answer = CALLS[name](l, *ARRANGED[name][1](row))
             if type(answer) is tuple and name in WRITERS:
                 answer, out = answer
                 out = out + l.rest

@@ -127,7 +127,7 @@ def interface_text():
 
 
 def compared():
-    """Compares what the script does not write: the numbers, and the Rust crate's records and list of modules."""
+    """Compares what the script does not write: the numbers, the Rust crate's records, and which files its folder of calls has."""
     numbers = source_numbers()
     yield from differences("the header", {name: number for name, (number, _) in in_c.numbers().items()}, numbers)
     yield from differences("the Rust crate", rust_numbers(), numbers)
@@ -135,9 +135,8 @@ def compared():
     text = "\n".join(path.read_text() for path in sorted(in_rust.CALLS.glob("*.rs")))
     wanted = {name: fields for name, (_, fields) in records().items()}
     yield from differences("the Rust crate", {name: fields for name, (_, fields) in records_of(text).items()}, wanted)
-    for name in sorted({path.stem for path in in_rust.CALLS.glob("*.rs")} - {"mod"}):
-        if not re.search(rf"^mod {name};$", (in_rust.CALLS / "mod.rs").read_text(), re.M):
-            yield f"bindings/rust/src/calls/mod.rs does not have the module {name}"
+    strays = set(in_rust.CALLS.glob("*.rs")) - set(in_rust.files()[0]) - {in_rust.CALLS / "records.rs"}
+    yield from (f"{path.relative_to(ROOT)} is of no module of crates/capi: delete it" for path in sorted(strays))
     # an export that returns a u8 returns the number itself
     answers = {"u8", *(name for name, (_, fields) in records().items() if fields[0][0] == "refusal")}
     for export in exports():

@@ -6,10 +6,6 @@ import sys
 ROOT = pathlib.Path(__file__).resolve().parent.parent
 CAPI = ROOT / "crates/capi"
 
-# The order in which the modules are declared; a module that is not named here comes after these.
-ORDER = ["word", "spans", "search", "chunks", "builder", "mask", "superseding", "combine", "at_index", "next_and_not", "cursors"]
-ORDER += ["reassign", "offer", "window"]
-
 # What a refused export returns, by its name or by the encoding that its contract names; from every other one all fields are 0.
 KEPT = {
     "pw_activity_new": "every other field is then 0, and both arrays stay as they are",
@@ -84,9 +80,14 @@ def source(module):
 
 
 def modules():
-    """Yields the modules with exports, in the order of the declarations, each with the text of its first comment."""
-    found = [path.stem for path in sorted((CAPI / "src").glob("*.rt")) if "#[unsafe(no_mangle)]" in path.read_text()]
-    for module in sorted(found, key=lambda m: (ORDER.index(m) if m in ORDER else len(ORDER), m)):
+    """Yields the modules with exports, each with the text of its first comment: in the order in which proofs/statements/Refusals.antt
+    states their exports, and last those that cannot refuse."""
+    fields = {name: place for place, name in enumerate(refusals())}
+    places = {}
+    for path in sorted((CAPI / "src").glob("*.rt")):
+        if "#[unsafe(no_mangle)]" in path.read_text():
+            places[path.stem] = min((fields.get(name, len(fields)) for name in re.findall(r"\bfn (pw_\w+)\(", path.read_text())))
+    for module in sorted(places, key=places.get):
         comment = re.match(r"(?://[^\n]*\n)+", source(module))[0].split("\n//\n")[0]
         heading = said(comment).removeprefix("Exported to C and Rust: ")
         yield module, heading[0].upper() + heading[1:]

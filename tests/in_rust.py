@@ -1,4 +1,5 @@
-"""Makes the exports of crates/capi in Rust: the declarations of bindings/rust/src/calls, and a safe function for each of them.
+"""Makes the exports of crates/capi in Rust: the declarations of bindings/rust/src/calls, a safe function for each of them, and the list of
+their modules.
 
 If an export's first numbers are the fields of a builder or a cursor, the function takes the record; if the export returns the place of
 a cursor, the function returns the cursor. The examples of the functions are written by hand: they are taken from the existing files."""
@@ -91,6 +92,14 @@ def function(export, example, own):
     return text + "}\n"
 
 
+def module_list(found):
+    """Returns calls/mod.rs with the lists of modules at its end written anew; `records` is written by hand."""
+    above = re.split(r"(?m)^mod ", (CALLS / "mod.rs").read_text(), maxsplit=1)[0]
+    names = sorted(found)
+    lists = "".join(f"mod {name};\n" for name in names) + "\n" + "".join(f"pub use {name}::*;\n" for name in names if name != "exports")
+    return above + lists
+
+
 def files():
     """Returns each file that is written, and the functions that have no example."""
     found, shown, lacking = exports(), examples(), []
@@ -117,4 +126,5 @@ def files():
                 lacking += [] if name in shown else [name]
                 parts.append(function(export, shown.get(name, ""), own))
         written[f"{module}.rs"] = "\n".join(parts)
+    written["mod.rs"] = module_list({"records", *(name.removesuffix(".rs") for name in written)})
     return {CALLS / name: text for name, text in written.items()}, lacking

@@ -4,7 +4,7 @@ use std::time::Duration;
 
 use crate::cases::spans;
 use crate::inputs::{Input, Kind};
-use crate::timing::{measure, Effort, Side};
+use crate::timing::{Effort, Side, measure};
 
 /// The programs compared on one case. `plain` is a word loop by hand, if one makes sense.
 pub struct Sides<'a> {

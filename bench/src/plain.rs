@@ -64,11 +64,7 @@ fn write<const BYTE_STARTS: bool>([a, b, c]: [Span; 3], out: &mut [u8], op: impl
 /// Writes the frozen bytes of `op` over three spans of equal lengths.
 pub fn combine_three(spans: [Span; 3], out: &mut [u8], op: impl Fn(u64, u64, u64) -> u64) {
     assert!(spans.iter().all(|span| span.length == spans[0].length));
-    if spans.iter().all(|span| span.shift == 0) {
-        write::<true>(spans, out, op)
-    } else {
-        write::<false>(spans, out, op)
-    }
+    if spans.iter().all(|span| span.shift == 0) { write::<true>(spans, out, op) } else { write::<false>(spans, out, op) }
 }
 
 /// Writes the frozen bytes of `op` over two spans of equal lengths.
@@ -92,11 +88,7 @@ fn ones<const BYTE_STARTS: bool>(a: Span, b: Span, op: impl Fn(u64, u64) -> u64)
 /// Counts the ones of `op` over two spans of equal lengths.
 pub fn count(a: Span, b: Span, op: impl Fn(u64, u64) -> u64) -> usize {
     assert_eq!(a.length, b.length);
-    if a.shift == 0 && b.shift == 0 {
-        ones::<true>(a, b, op)
-    } else {
-        ones::<false>(a, b, op)
-    }
+    if a.shift == 0 && b.shift == 0 { ones::<true>(a, b, op) } else { ones::<false>(a, b, op) }
 }
 
 #[inline(always)]
@@ -111,11 +103,7 @@ pub fn eq(a: Span, b: Span) -> bool {
     if a.length != b.length {
         return false;
     }
-    if a.shift == 0 && b.shift == 0 {
-        equal::<true>(a, b)
-    } else {
-        equal::<false>(a, b)
-    }
+    if a.shift == 0 && b.shift == 0 { equal::<true>(a, b) } else { equal::<false>(a, b) }
 }
 
 /// Returns the position of set flag n: skips words by their counts, then clears the lower ones of the word that has it.

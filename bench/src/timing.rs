@@ -65,9 +65,7 @@ impl<S, O, R: FnMut(&mut S) -> O, A: FnMut(&mut S, O) -> Answer> Side for Statef
 
 /// Returns a side with a state that the call may change, such as the output lent to it.
 pub fn side<'a, S: 'a, O: 'a>(
-    state: S,
-    run: impl FnMut(&mut S) -> O + 'a,
-    answer: impl FnMut(&mut S, O) -> Answer + 'a,
+    state: S, run: impl FnMut(&mut S) -> O + 'a, answer: impl FnMut(&mut S, O) -> Answer + 'a,
 ) -> Box<dyn Side + 'a> {
     Box::new(Stateful { state, run, answer })
 }

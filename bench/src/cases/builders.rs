@@ -4,11 +4,11 @@
 use original::bitmap::{Bitmap, BitmapBuilder};
 use poruwhina::calls::{self, Builder, BuilderAnswer};
 
-use crate::cases::{span, SIZES, STARTS};
+use crate::cases::{SIZES, STARTS, span};
 use crate::driver::{Driver, Label, Sides};
-use crate::inputs::{words_of, words_of_bitmap, Input, Kind, Words};
+use crate::inputs::{Input, Kind, Words, words_of, words_of_bitmap};
 use crate::plain::{self, Span};
-use crate::timing::{side, Answer, Side};
+use crate::timing::{Answer, Side, side};
 
 /// The inputs of an append: a mask to append from, indices into it, single flags, and how many flags the builder has before.
 struct Source {
@@ -69,9 +69,7 @@ fn plainly<'a>(source: &'a Source, length: usize, write: impl Fn(&Source, &mut [
 
 /// Runs a case for each size, in which the builder ends with as many flags.
 fn each(
-    driver: &Driver,
-    (call, kind, at): (&str, Kind, &str),
-    (before, start): (usize, usize),
+    driver: &Driver, (call, kind, at): (&str, Kind, &str), (before, start): (usize, usize),
     sides: impl for<'a> Fn(&'a Source, usize) -> Sides<'a>,
 ) {
     if !driver.wants(call) {

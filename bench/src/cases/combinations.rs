@@ -7,9 +7,9 @@ use poruwhina::calls::{self, Mask, MaskAnswer};
 
 use crate::cases::span;
 use crate::driver::{Driver, Sides};
-use crate::inputs::{words_of, words_of_bitmap, Input, Kind};
+use crate::inputs::{Input, Kind, words_of, words_of_bitmap};
 use crate::plain;
-use crate::timing::{side, Side};
+use crate::timing::{Side, side};
 
 /// Returns a side that writes its result into a lent output and answers a refusal, 0 for none.
 fn writing<'a>(m: &'a [Input], run: impl Fn(&[Input], &mut [u8]) -> u8 + 'a) -> Box<dyn Side + 'a> {
@@ -38,11 +38,8 @@ fn allocating<'a>(m: &'a [Input], run: impl Fn(&[Input]) -> Bitmap + 'a) -> Box<
 
 /// Runs the cases of a combination of two masks with unknown counts.
 fn pair(
-    driver: &Driver,
-    call: &str,
-    ours: impl Fn(Mask, &[u8], Mask, &[u8], &mut [u8]) -> MaskAnswer + Copy + 'static,
-    original: impl Fn(&Bitmap, &Bitmap) -> Bitmap + Copy + 'static,
-    word: impl Fn(u64, u64) -> u64 + Copy + 'static,
+    driver: &Driver, call: &str, ours: impl Fn(Mask, &[u8], Mask, &[u8], &mut [u8]) -> MaskAnswer + Copy + 'static,
+    original: impl Fn(&Bitmap, &Bitmap) -> Bitmap + Copy + 'static, word: impl Fn(u64, u64) -> u64 + Copy + 'static,
 ) {
     driver.each(call, Kind::Half, &[1, 2], |m| Sides {
         ours: writing(m, move |m, out| ours(m[0].mask, m[0].bytes(), m[1].mask, m[1].bytes(), out).refusal),
@@ -53,9 +50,7 @@ fn pair(
 
 /// Runs the cases of a combination of two masks with known counts, which the library checks.
 fn known(
-    driver: &Driver,
-    call: &str,
-    ours: impl Fn(Mask, &[u8], Mask, &[u8], &mut [u8]) -> MaskAnswer + Copy + 'static,
+    driver: &Driver, call: &str, ours: impl Fn(Mask, &[u8], Mask, &[u8], &mut [u8]) -> MaskAnswer + Copy + 'static,
     original: impl Fn(&Bitmap, &Bitmap) -> Bitmap + Copy + 'static,
 ) {
     driver.each(call, Kind::Half, &[1, 2], |m| Sides {

@@ -7,13 +7,10 @@ use crate::cases::span;
 use crate::driver::{Driver, Sides};
 use crate::inputs::{Input, Kind};
 use crate::plain;
-use crate::timing::{number, side, Side};
+use crate::timing::{Side, number, side};
 
 fn end(
-    driver: &Driver,
-    call: &str,
-    kind: Kind,
-    ours: impl Fn(&[u8], usize, usize, usize) -> Number + Copy + 'static,
+    driver: &Driver, call: &str, kind: Kind, ours: impl Fn(&[u8], usize, usize, usize) -> Number + Copy + 'static,
     original: impl Fn(&[u8], usize, usize) -> usize + Copy + 'static,
 ) {
     driver.each(call, kind, &[1], |m| Sides {

@@ -7,7 +7,7 @@ use poruwhina::calls::{self, Cursor, Step};
 
 use crate::driver::{Driver, Sides};
 use crate::inputs::{Input, Kind};
-use crate::timing::{side, walk, Answer, Side};
+use crate::timing::{Answer, Side, side, walk};
 
 /// Returns the steps of a cursor up to the first that finds nothing.
 fn steps<'a>(mut cursor: Cursor, bytes: &'a [u8], next: impl Fn(Cursor, &[u8]) -> Step + 'a) -> impl Iterator<Item = Step> + 'a {

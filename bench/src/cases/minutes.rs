@@ -5,7 +5,7 @@ use poruwhina::calls;
 use crate::cases::SIZES;
 use crate::driver::{Driver, Label, Sides};
 use crate::inputs::Words;
-use crate::timing::{side, Side};
+use crate::timing::{Side, side};
 
 const WIDTHS: [usize; 6] = [8, 16, 32, 64, 128, 256];
 

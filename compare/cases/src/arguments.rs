@@ -2,7 +2,7 @@
 
 use crate::token::Token;
 use model::loops::{Stretch, WordOp};
-use model::{Builder, Cursor, Mask, Span};
+use model::{Builder, Cursor, Lent, Mask, Span};
 
 /// The arguments that are not yet taken, and the serials of the records that are not yet taken.
 pub struct Args<'a>(pub &'a [Token], pub &'a [u32]);
@@ -52,6 +52,14 @@ impl Args<'_> {
     pub fn optional(&mut self) -> Option<Mask> {
         let (present, mask) = (self.flag(), self.mask());
         present.then_some(mask)
+    }
+
+    pub fn lent<'b>(&mut self, bytes: &'b [u8]) -> Lent<'b> {
+        Lent { mask: self.mask(), bytes }
+    }
+
+    pub fn lent_or_none<'b>(&mut self, bytes: &'b [u8]) -> Option<Lent<'b>> {
+        self.optional().map(|mask| Lent { mask, bytes })
     }
 
     pub fn builder(&mut self) -> Builder {

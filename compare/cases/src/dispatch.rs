@@ -2,6 +2,7 @@
 
 use crate::file::File;
 use crate::patterns::{MAX, MOST, paint};
+use crate::several::{OPTIONAL, TWO_SIZES, choices};
 use crate::token::show;
 
 const LENGTHS: [u64; 8] = [0, 1, 8, 40, 63, 64, 65, 129];
@@ -27,7 +28,7 @@ pub fn write(f: &mut File) {
     answers(f);
     f.note("one flag of two masks: refusals");
     refusals(f);
-    f.note("one flag of two masks: the flag limit");
+    f.note("one flag of two masks: the flag limit, and several checks at once");
     limits(f);
 }
 
@@ -82,5 +83,8 @@ fn limits(f: &mut File) {
             }
         }
         f.ask(&format!("{name} 1 5 {MOST} ? 1 0..8 {MOST} ? {}..{}", MOST - 70, MOST + 2));
+        choices(f, &format!("{name} {OPTIONAL} {TWO_SIZES}"));
+        choices(f, &format!("{name} 1 {{3|4194305|1}} 70 {{?|1|3}} 0 0 0 ? {{64|70|6}} x:{{524352|9|2}}"));
+        choices(f, &format!("{name} 0 0 0 ? 1 {{3|4194305|1}} 70 {{?|1|3}} {{64|70|6}} y:{{524352|9|2}}"));
     }
 }

@@ -2,6 +2,7 @@
 
 use crate::file::File;
 use crate::patterns::{MAX, MOST, paint};
+use crate::several::{OPTIONAL, TWO_SIZES, choices};
 use crate::token::show;
 
 const LENGTHS: [u64; 14] = [0, 1, 8, 31, 32, 33, 40, 63, 64, 65, 95, 96, 97, 129];
@@ -41,6 +42,7 @@ pub fn write(f: &mut File) {
     none(f);
     refusals(f);
     limits(f);
+    together(f);
 }
 
 /// Asks for one permitted truck, none revoked, at each place with each cursor: before it, in the window that it cuts, after it.
@@ -103,4 +105,17 @@ fn limits(f: &mut File) {
             f.ask(&format!("offer 1 5 {n} ? 1 64 {n} ? {cursor}"));
         }
     }
+}
+
+/// Asks with several checks that fail at once; a cursor may be at the length.
+fn together(f: &mut File) {
+    f.note("offers: several checks at once");
+    f.lend_pattern('x', &paint(8, 509), 524_352);
+    f.lend_pattern('y', &paint(9, 509), 524_352);
+    let place = OPTIONAL.replace("{64|70|6}", "{70|71|6}");
+    choices(f, &format!("next_and_not {} {TWO_SIZES}", place.strip_prefix("1 ").expect("a first mask")));
+    choices(f, &format!("offer {place} {TWO_SIZES}"));
+    choices(f, "next_and_not {3|4194305|1} 70 {?|71|3} 0 0 0 ? {70|71|6} x:{524352|9|2}");
+    choices(f, "offer 1 {3|4194305|1} 70 {?|71|3} 0 0 0 ? {70|71|6} x:{524352|9|2}");
+    choices(f, "offer 0 0 0 ? 1 {3|4194305|1} 70 {?|71|3} xffffffffffffffff y:{524352|9|2}");
 }

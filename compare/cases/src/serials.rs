@@ -3,6 +3,7 @@
 use crate::combinations::{combinations, masks};
 use crate::file::File;
 use crate::patterns::{MAX, MOST, paint, zeros};
+use crate::several::{TWO_SIZES, choices};
 use crate::token::show;
 
 const CALLS: [&str; 3] = ["superseding_part", "superseding", "superseding_bytes"];
@@ -64,7 +65,7 @@ fn equal(f: &mut File) {
     }
 }
 
-/// Asks at the limit, with exactly full bytes and one fewer, and for lengths of 0 at every start bit.
+/// Asks at the limit, with exactly full bytes and one fewer, for lengths of 0 at every start bit, and with several checks failing.
 fn edges(f: &mut File) {
     f.lend('x', &paint(9, 16));
     f.lend('y', &paint(10, 16));
@@ -79,6 +80,9 @@ fn edges(f: &mut File) {
         f.ask(&format!("{name} 0 {MOST} ? 0 {MOST} ? s:3 t:3"));
         f.ask(&format!("{name} {MOST} 1 ? {MOST} 8 ? s:3 t:3,4"));
         f.ask(&format!("{name} {},{MOST} {MOST} ? 0 8 ? s:4 t:3", MOST - 1));
+    }
+    for name in &CALLS[..2] {
+        choices(f, &format!("{name} {{3|4194305|1}} 70 {{?|71|3}} {{5|4194305|1}} 70 {{?|71|3}} {TWO_SIZES} s:{{2|1|14}} t:1"));
     }
 }
 

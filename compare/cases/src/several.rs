@@ -1,4 +1,5 @@
-//! Several checks that fail in one call: each check by itself, each pair of them, all of them, and every choice of them as a range.
+//! Several checks that fail in one call: each check by itself, each pair of them, all of them, and every choice of them as a range. The
+//! modules of some calls ask for their own by `choices`.
 
 use crate::file::File;
 use crate::patterns::paint;
@@ -48,8 +49,8 @@ const MASKS: [&str; 6] = [
 
 /// Two masks of 70 flags, the sizes that follow them, and two masks that may be absent with an index.
 const TWO: &str = "{3|4194305|1} 70 {?|1|3} {5|4194305|1} {70|69|5} {?|1|3}";
-const TWO_SIZES: &str = "x:{524352|9|2} y:{524352|9|2}";
-const OPTIONAL: &str = "1 {3|4194305|1} 70 {?|1|3} 1 {5|4194305|1} {70|69|5} {?|1|3} {64|70|6}";
+pub const TWO_SIZES: &str = "x:{524352|9|2} y:{524352|9|2}";
+pub const OPTIONAL: &str = "1 {3|4194305|1} 70 {?|1|3} 1 {5|4194305|1} {70|69|5} {?|1|3} {64|70|6}";
 
 /// Requests with a stale count and other checks that fail, and the number that refuses them.
 const STALE: [(&str, u64); 8] = [
@@ -97,22 +98,11 @@ pub fn write(f: &mut File) {
     choices(f, "select 3 70 ? 5 70 ? {6|4194305|1} {70|69|5} {?|1|3} z:{524352|9|2} o:{16|15|9}");
     choices(f, &format!("eq {} {TWO_SIZES}", TWO.replace("{70|69|5}", "70")));
     choices(f, &format!("num_intersections_with {TWO} {TWO_SIZES}"));
-    for name in ["and_not_at", "may_reassign"] {
-        choices(f, &format!("{name} {OPTIONAL} {TWO_SIZES}"));
-        choices(f, &format!("{name} 1 {{3|4194305|1}} 70 {{?|1|3}} 0 0 0 ? {{64|70|6}} x:{{524352|9|2}}"));
-        choices(f, &format!("{name} 0 0 0 ? 1 {{3|4194305|1}} 70 {{?|1|3}} {{64|70|6}} y:{{524352|9|2}}"));
-    }
     f.note("several checks at once: a stale count beside others");
     for (request, number) in STALE {
         f.ask(request);
         assert_eq!(f.last[0], Token::Number(number), "{request}");
     }
-    let place = OPTIONAL.replace("{64|70|6}", "{70|71|6}");
-    choices(f, &format!("next_and_not {} {TWO_SIZES}", place.strip_prefix("1 ").expect("a first mask")));
-    choices(f, &format!("offer {place} {TWO_SIZES}"));
-    choices(f, "next_and_not {3|4194305|1} 70 {?|71|3} 0 0 0 ? {70|71|6} x:{524352|9|2}");
-    choices(f, "offer 1 {3|4194305|1} 70 {?|71|3} 0 0 0 ? {70|71|6} x:{524352|9|2}");
-    choices(f, "offer 0 0 0 ? 1 {3|4194305|1} 70 {?|71|3} xffffffffffffffff y:{524352|9|2}");
     f.note("several checks at once: the builder, and outputs of new masks");
     f.lend_numbers(&[0]);
     f.lend_pattern('o', &paint(7, 251), 524_352);
@@ -140,7 +130,7 @@ fn places(template: &str) -> (Vec<&str>, Vec<[&str; 3]>) {
 }
 
 /// Asks with no bad value, all of them, each one and each pair, and with every choice as a range.
-fn choices(f: &mut File, template: &str) {
+pub fn choices(f: &mut File, template: &str) {
     let (texts, places) = places(template);
     let request = |value: &dyn Fn(usize) -> String| {
         let parts: Vec<String> = (0..places.len()).map(|k| format!("{}{}", texts[k], value(k))).collect();

@@ -83,14 +83,6 @@ unsafe extern "C" {
         selector: Mask, by: *const u8, by_len: usize, truthy: Mask, yes: *const u8, yes_len: usize, flag: bool, out: *mut u8,
         out_len: usize,
     ) -> MaskAnswer;
-    pub fn pw_and_not_at(
-        first_present: bool, first: Mask, first_bytes: *const u8, first_bytes_len: usize, second_present: bool, second: Mask,
-        second_bytes: *const u8, second_bytes_len: usize, index: usize,
-    ) -> Flag;
-    pub fn pw_next_and_not(
-        first: Mask, first_bytes: *const u8, first_bytes_len: usize, second_present: bool, second: Mask, second_bytes: *const u8,
-        second_bytes_len: usize, from: usize,
-    ) -> NextAnswer;
     pub fn pw_slices_new(mask: Mask, bytes: *const u8, bytes_len: usize) -> CursorAnswer;
     pub fn pw_slices_next(start: usize, length: usize, place: usize, bytes: *const u8, bytes_len: usize) -> StepAnswer;
     pub fn pw_iter_new(bytes: *const u8, bytes_len: usize, start: usize, length: usize) -> CursorAnswer;
@@ -103,6 +95,14 @@ unsafe extern "C" {
     pub fn pw_true_idx_next_chunk(
         start: usize, length: usize, place: usize, masked: u8, bytes: *const u8, bytes_len: usize, out: *mut u32, out_len: usize,
     ) -> StepAnswer;
+    pub fn pw_and_not_at(
+        first_present: bool, first: Mask, first_bytes: *const u8, first_bytes_len: usize, second_present: bool, second: Mask,
+        second_bytes: *const u8, second_bytes_len: usize, index: usize,
+    ) -> Flag;
+    pub fn pw_next_and_not(
+        first: Mask, first_bytes: *const u8, first_bytes_len: usize, second_present: bool, second: Mask, second_bytes: *const u8,
+        second_bytes_len: usize, from: usize,
+    ) -> NextAnswer;
     pub fn pw_may_reassign(
         permitted: bool, permission: Mask, permission_bytes: *const u8, permission_bytes_len: usize, revoked: bool, revocation: Mask,
         revocation_bytes: *const u8, revocation_bytes_len: usize, truck: usize,

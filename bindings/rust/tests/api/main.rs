@@ -5,6 +5,7 @@ mod combining;
 mod lists;
 mod minutes;
 mod offering;
+mod plain;
 mod positions;
 mod reading;
 mod rebuilding;
