@@ -1,6 +1,7 @@
 -- The rows of `tables/`, by computation.
 pub mod EdgeRows
 pub mod Examples
+pub mod FarRows
 pub mod FaultRows
 pub mod LargeRows
 pub mod OrderRows

@@ -1,6 +1,7 @@
 -- Tables of inputs with their answers, and of wrong answers: they pin the definitions, and no contract cites them.
 pub mod EdgeRows
 pub mod Examples
+pub mod FarRows
 pub mod FaultRows
 pub mod LargeRows
 pub mod OrderRows

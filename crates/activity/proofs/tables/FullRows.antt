@@ -34,6 +34,10 @@ spread_counts n =
 abbrev pub two_high : ActivityWindow
 two_high = window_of (spread ∷ 0x8000000000000000 ∷ []) (take 63 (spread_counts 1) ++ (2 ∷ [])) 2 2 3
 
+-- three words, with this place, number of kept words and width
+abbrev pub three : ℕ → ℕ → ℕ → ActivityWindow
+three place fill width = window_of (spread ∷ spread ∷ spread ∷ []) (spread_counts 3) place fill width
+
 -- 256 minutes at width 256, each with these eight flags, with the counts given
 abbrev pub full : List ℕ → ActivityWindow
 full counts = record { words = replicate 256 spread; counts = counts; place = 0; fill = 256; width = 256 }
@@ -57,18 +61,19 @@ full_rows =
     -- 256 of 256: kept as 256, not as 0 or 255; with one word in place of another the count is 255
     numbers (counted (counts_of (full (spread_counts 256)))) (0 ∷ replicate 7 256 ++ (0 ∷ 256 ∷ []))
     ∷ numbers ((counts_of (full (spread_counts 0))).refusal ∷ []) (16 ∷ [])
-    ∷ numbers (pushed (push_of (full (spread_counts 256)) 0x8000000000000000)) (0 ∷ replicate 7 255 ++ (0 ∷ 256 ∷ 1 ∷ 256 ∷ 256 ∷ 0x8000000000000000 ∷ spread ∷ []))
+    ∷ numbers (pushed (push_of (full (spread_counts 256)) 0x8000000000000000))
+    (0 ∷ replicate 7 255 ++ (0 ∷ 256 ∷ 1 ∷ 256 ∷ 256 ∷ 0x8000000000000000 ∷ spread ∷ []))
     ∷ []
 
 unfoldable pub number_rows : List Row
 number_rows =
     -- widths, places and numbers of kept words that equal good ones in their low 8, 16 or 32 bits
-    numbers ((new_of 512).refusal ∷ (new_of 65537).refusal ∷ (new_of 4194305).refusal ∷ (new_of 4294967297).refusal ∷ []) (16 ∷ 16 ∷ 16 ∷ 16 ∷ [])
+    numbers ((new_of 512).refusal ∷ (new_of 65537).refusal ∷ (new_of 4194305).refusal ∷ (new_of 4294967297).refusal ∷ [])
+    (16 ∷ 16 ∷ 16 ∷ 16 ∷ [])
     ∷ numbers
-    ((push_of (window_of (spread ∷ []) (spread_counts 1) 257 1 3) 0).refusal ∷ (push_of (window_of (spread ∷ []) (spread_counts 1) 4294967297 1 3) 0).refusal
-    ∷ (push_of (window_of (spread ∷ []) (spread_counts 1) 1 257 3) 0).refusal ∷ (push_of (window_of (spread ∷ []) (spread_counts 1) 1 4294967297 3) 0).refusal
-    ∷ (push_of (window_of (spread ∷ []) (spread_counts 1) 1 1 259) 0).refusal ∷ (push_of (window_of (spread ∷ []) (spread_counts 1) 1 1 4294967299) 0).refusal
-    ∷ (push_of (window_of (spread ∷ []) (spread_counts 1) 1 1 3) 0).refusal ∷ [])
+    ((push_of (three 257 3 3) 0).refusal ∷ (push_of (three 4294967297 3 3) 0).refusal ∷ (push_of (three 1 259 3) 0).refusal
+    ∷ (push_of (three 1 4294967299 3) 0).refusal ∷ (push_of (three 1 3 259) 0).refusal ∷ (push_of (three 1 3 4294967299) 0).refusal
+    ∷ (push_of (three 1 3 3) 0).refusal ∷ [])
     (16 ∷ 16 ∷ 16 ∷ 16 ∷ 16 ∷ 16 ∷ 0 ∷ [])
     -- a stray word whose low 32 bits are zero
     ∷ numbers ((counts_of (window_of (spread ∷ 0x100000000 ∷ []) (spread_counts 1) 1 1 3)).refusal ∷ []) (16 ∷ [])

@@ -1,5 +1,5 @@
--- The fault in each mask of `may_reassign` and `offer` in turn, also where the answer would not depend on its flags: rows as in `FaultRows` of
--- masks.
+-- The fault in each mask of `may_reassign` and `offer` in turn, also where the answer would not depend on its flags: rows as in
+-- `FaultRows` of masks.
 use Rattle.std.specs.Prelude.{List, [], ◌∷◌, Some, None}
 use Rattle.masks.proofs.tables.EdgeRows.{SplitRow}
 use Rattle.masks.proofs.tables.FaultRows.{faulty, clear, full, zeros, ones, short}

@@ -1,5 +1,5 @@
--- Trucks and cursors just above the limit, at 2^32 and at the largest number of 64 bits: 6 if there is a mask that they are checked against,
--- else an answer. And cursors at the length, and windows of other lengths than those of `WrongOffers`.
+-- Trucks and cursors just above the limit, at 2^32 and at the largest number of 64 bits: 6 if there is a mask that they are checked
+-- against, else an answer. And cursors at the length, and windows of other lengths than those of `WrongOffers`.
 --
 -- A row has the numbers of a call, through the definition that its contract cites, and those of the reference's words there.
 -- `proofs/computed/LargeRows.antt` proves that the columns are equal.

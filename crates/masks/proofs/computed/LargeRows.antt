@@ -31,6 +31,6 @@ unfolding
     aligned_of aligned_checks span_count split_at split_checks window_at search_from search_back new_chunks next_chunk chunks_remainder
     cursor_checks new_iter nth_flag take_leading new_slices next_slice new_true new_true_checks next_true true_checks next_positions
     mask_checks try_new_of new_zeroed_of zeroed_checks unset_bits_of edges_of slice_of slice_checks piece_checks cut_zeros recounts
-    each_of not_checks pair_of pair_checks and_not_at_of and_not_at_checks index_checks length_checks next_and_not_of next_checks other_checks
-    builder_checks possible constant_checks word_checks span_grow_checks inner_checks subslice_checks gather_checks all_below
+    each_of not_checks pair_of pair_checks and_not_at_of and_not_at_checks index_checks length_checks next_and_not_of next_checks
+    other_checks builder_checks possible constant_checks word_checks span_grow_checks inner_checks subslice_checks gather_checks all_below
 all_hold = record { spans = refl; others = refl }

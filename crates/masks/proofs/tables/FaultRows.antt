@@ -1,6 +1,6 @@
--- The fault in each mask of a call in turn: a start and a length above the limit, a mask past its byte, a false count. The number is that of
--- the fault, wherever the mask stands, also where the answer would not depend on its flags: the mask beside one that is constant, the one
--- that a selection does not take, the loser of two, the second mask where the first decides.
+-- The fault in each mask of a call in turn: a start and a length above the limit, a mask past its byte, a false count. The number is that
+-- of the fault, wherever the mask stands, also where the answer would not depend on its flags: the mask beside one that is constant, the
+-- one that a selection does not take, the loser of two, the second mask where the first decides.
 --
 -- A row has the numbers of a call with each fault, through the definition that its contract cites, and those of the reference's words.
 -- `proofs/computed/FaultRows.antt` proves that the columns are equal.
@@ -27,7 +27,8 @@ use Rattle.masks.proofs.tables.Witnesses.{number_of, byte, buffer, too_long}
 -- the numbers of a call with each fault in one of its masks, the other masks having eight flags
 abbrev pub at_faults : (Bitmap → ℕ) → List ℕ
 at_faults f =
-    f (mask_of too_long 8 None) ∷ f (mask_of 0 too_long None) ∷ f (mask_of 1 8 None) ∷ f (mask_of 0 8 (Some 3)) ∷ f (mask_of 0 8 (Some 5)) ∷ []
+    f (mask_of too_long 8 None) ∷ f (mask_of 0 too_long None) ∷ f (mask_of 1 8 None) ∷ f (mask_of 0 8 (Some 3))
+    ∷ f (mask_of 0 8 (Some 5)) ∷ []
 
 abbrev pub faulty : (Bitmap → ℕ) → SplitRow
 faulty f = numbers (at_faults f) (1 ∷ 1 ∷ 2 ∷ 3 ∷ 3 ∷ [])

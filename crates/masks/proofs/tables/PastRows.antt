@@ -161,6 +161,7 @@ serial_rows =
     -- the larger serial wins, and equal ones are compared to the last bit
     numbers (won (superseding_of (all wide) some (all 1) none)) (0 ∷ 0 ∷ 8 ∷ wide ∷ [])
     ∷ numbers (won (superseding_of (all 1) some (all wide) none)) (1 ∷ 0 ∷ 8 ∷ wide ∷ [])
+    ∷ numbers (won (superseding_of (all 4294967297) some (all 1) none)) (0 ∷ 0 ∷ 8 ∷ 4294967297 ∷ [])
     ∷ numbers (won (superseding_of (all 18446744073709551614) some (all largest) none)) (1 ∷ 0 ∷ 8 ∷ largest ∷ [])
     ∷ numbers (won (superseding_of (all largest) some (all largest) none)) (14 ∷ [])
     ∷ numbers (won (superseding_of (all largest) some (all largest) some)) (0 ∷ 0 ∷ 8 ∷ largest ∷ [])

@@ -28,13 +28,13 @@ module _ (bytes : List ℕ) (start n index w : ℕ) (e : given w ≡ window_at b
   abbrev flags : List Bool
   flags = window (stretch bytes start n) index 32
 
-  is : w ≡ word_of flags
+  window-is : w ≡ word_of flags
   unfolding window_at window_word
-  is = given-value (first_failed (span_checks start n (length bytes))) tt w (word_of flags) e
+  window-is = given-value (first_failed (span_checks start n (length bytes))) tt w (word_of flags) e
 
   -- bit k is flag index + k of the span's list
   bit : (k : ℕ) → k < 32 → bit_at w k ≡ get_or (stretch bytes start n) (index + k) false
-  bit k h = ap (λ (x : ℕ). bit_at x k) is ∙ at-word flags k ∙ at_in (stretch bytes start n) index 32 k h
+  bit k h = ap (λ (x : ℕ). bit_at x k) window-is ∙ at-word flags k ∙ at_in (stretch bytes start n) index 32 k h
 
   inside : (k : ℕ) → k < 32 → index + k < n → bit_at w k ≡ flag_at bytes (start + (index + k))
   inside k h p = bit k h ∙ at-stretch bytes start n (index + k) p
@@ -44,7 +44,7 @@ module _ (bytes : List ℕ) (start n index w : ℕ) (e : given w ≡ window_at b
       bit k h ∙ get_or-eq_default (stretch bytes start n) false (omega (arith, length-window (flags_of bytes) start n))
 
   narrow-window : w < 2 ^ 32
-  narrow-window = narrow (stretch bytes start n) index 32 32 w is (omega arith)
+  narrow-window = narrow (stretch bytes start n) index 32 32 w window-is (omega arith)
 
 pub window-plain : WindowPlain
 window-plain =

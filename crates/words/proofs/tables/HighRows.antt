@@ -1,5 +1,5 @@
--- Words with high flags, and many of them: rules that show only in the upper bytes of a word, past the first word of a list, or at counts above
--- 255.
+-- Words with high flags, and many of them: rules that show only in the upper bytes of a word, past the first word of a list, or at counts
+-- above 255.
 --
 -- A row has the numbers of a definition at one input, and those of its plain reading there, worked out by hand.
 -- `proofs/computed/HighRows.antt` proves that the columns are equal.
@@ -81,7 +81,8 @@ nine = (0xFF ∷ replicate 7 0) ++ (0x81 ∷ [])
 unfoldable pub long_rows : List Row
 long_rows =
     -- counts, and equal flags at the ends, of 72 flags
-    numbers (count (flags_of nine) ∷ leading true (flags_of nine) ∷ leading false (stretch nine 8 64) ∷ trailing false (stretch nine 0 71) ∷ [])
+    numbers (count (flags_of nine) ∷ leading true (flags_of nine) ∷ leading false (stretch nine 8 64)
+    ∷ trailing false (stretch nine 0 71) ∷ [])
     (10 ∷ 8 ∷ 56 ∷ 6 ∷ [])
     ∷ numbers (trailing true (copies 70 true) ∷ leading false (copies 300 false) ∷ count (copies 300 true) ∷ []) (70 ∷ 300 ∷ 300 ∷ [])
     -- whether any flag is set, whether two lists are the same, in the second word
@@ -91,21 +92,25 @@ long_rows =
     ∷ same_flags (copies 70 true) (copies 71 true) ∷ []))
     (1 ∷ 0 ∷ 0 ∷ [])
     ∷ numbers
-    (map digit (all_are true (copies 300 true) ∷ all_are true (copies 299 true ++ (false ∷ [])) ∷ all_are false (copies 299 false ++ (true ∷ []))
-    ∷ []))
-    (1 ∷ 0 ∷ 0 ∷ [])
+    (map digit (all_are true (copies 300 true) ∷ all_are true (copies 299 true ++ (false ∷ []))
+    ∷ all_are false (copies 299 false ++ (true ∷ []))
+    ∷ all_are false (copies 256 true) ∷ all_are true (copies 256 false) ∷ []))
+    (1 ∷ 0 ∷ 0 ∷ 0 ∷ 0 ∷ [])
     -- the first flags that differ: the 64th, starting at 0 and at 7 of the first byte; not the 65th
     ∷ numbers
     (map digit (differs_early false (replicate 7 0 ++ (0x80 ∷ [])) 0 64 ∷ differs_early false (replicate 7 0 ++ (0x80 ∷ [])) 7 57
     ∷ differs_early false (replicate 7 0 ++ (0x80 ∷ [])) 0 63 ∷ differs_early false (replicate 8 0 ++ (0xFF ∷ [])) 0 72
-    ∷ differs_early false (0xFF ∷ replicate 8 0) 8 64 ∷ []))
-    (1 ∷ 1 ∷ 0 ∷ 0 ∷ 0 ∷ [])
+    ∷ differs_early false (0xFF ∷ replicate 8 0) 8 64
+    ∷ differs_early false (replicate 8 0 ++ (0xFF ∷ [])) 7 64 ∷ []))
+    (1 ∷ 1 ∷ 0 ∷ 0 ∷ 0 ∷ 0 ∷ [])
     -- a stretch past the bytes is false, however far; written flags past the first word
     ∷ numbers (map digit (stretch (0xFF ∷ []) 6 4)) (1 ∷ 1 ∷ 0 ∷ 0 ∷ [])
-    ∷ numbers (map digit (stretch (0xFF ∷ []) 8 2 ++ stretch (0xFF ∷ []) 256 1 ++ stretch (0xFF ∷ []) 18446744073709551615 2)) (replicate 5 0)
+    ∷ numbers (map digit (stretch (0xFF ∷ []) 8 2 ++ stretch (0xFF ∷ []) 256 1 ++ stretch (0xFF ∷ []) 18446744073709551615 2))
+    (replicate 5 0)
     ∷ numbers (map digit (window (over_at (copies 70 false) 66 (copies 9 true)) 64 6)) (0 ∷ 0 ∷ 1 ∷ 1 ∷ 1 ∷ 1 ∷ [])
     ∷ numbers (over (1 ∷ 2 ∷ 3 ∷ []) (9 ∷ 8 ∷ 7 ∷ 6 ∷ [])) (9 ∷ 8 ∷ 7 ∷ [])
-    ∷ numbers (length (whole_words (copies 65 true)) ∷ count (whole_words (copies 65 true)) ∷ length (whole_words []) ∷ []) (128 ∷ 65 ∷ 0 ∷ [])
+    ∷ numbers (length (whole_words (copies 65 true)) ∷ count (whole_words (copies 65 true)) ∷ length (whole_words []) ∷ [])
+    (128 ∷ 65 ∷ 0 ∷ [])
     -- operations past the first word, and past the end of one of their bytes, where it reads false: the flags 70, 71 and 72
     ∷ numbers (map digit (combined And nine 70 nine 63 nine 0 3)) (0 ∷ 1 ∷ 0 ∷ [])
     ∷ numbers (map digit (combined AndNot nine 70 nine 63 nine 0 3)) (0 ∷ 0 ∷ 0 ∷ [])

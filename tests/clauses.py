@@ -1,0 +1,186 @@
+#!/usr/bin/env python3
+"""Checks that the contract of each public function of the crates CRATES has the clauses that its signature asks for.
+
+    python3 tests/clauses.py            prints what is missing, and fails if anything is
+    python3 tests/clauses.py --test     takes each clause out of a copy, one by one, and checks that its absence is seen
+
+A contract has named clauses, with the same names everywhere. They fix every output on every input together, so none may be missing, and
+the prover does not see that one is: without `unchanged` a call is still proved. What a signature asks for:
+
+| signature | clauses |
+|---|---|
+| `-> Result<T, E>` | `refused`: the number of the first failed check; if T is not `()`, or something is lent `&mut`, one that says the value |
+| `&mut` of an argument | the value it has if the call is accepted, under `OnOk` or `IfOk`; with a `Result` also that it is unchanged, under `OnErr` |
+| `E` holds the record passed | `state`: it is returned unchanged, under `IfErr` |
+| any other result | a clause about it |
+
+`refused` says the number on every input. It may have a premise only where a clause `empty` has the opposite one. A clause of a `Result`
+that is none of RULES says a value, and its name is one of VALUES."""
+import pathlib
+import re
+import sys
+
+from calls_page import head_of
+
+ROOT = pathlib.Path(__file__).resolve().parent.parent
+CRATES = ("masks", "dispatch")
+# The clauses that say no value, each with what it may be stated by.
+RULES = {
+    "refused": r"failure_of result ≡|failure_back result ≡",
+    "empty": r"→ failure_of result ≡ 0",
+    "bytes": r"OnOk result",
+    "unchanged": r"OnErr result",
+    "state": r"IfErr result|OnErr result",
+}
+# The clauses that say a value, by what it is.
+VALUES = ("appended", "bound", "count", "cursor", "edges", "equal", "flag", "found", "mask", "may", "number", "offering", "part", "place")
+VALUES += ("position", "positions", "record", "result", "span", "spans", "split", "step", "taken", "validity", "window", "word", "zeros")
+# Errors that are only a number; every other error holds what was passed.
+NUMBERS = ("Refusal",)
+
+
+class Function:
+    """A public function: its name, its arguments, its result and its clauses by name; a clause with no name is `result`."""
+
+    def __init__(self, name, head):
+        self.name = name
+        signature = re.split(r"\b(?:requires|ensures)\b", head)[0]
+        inner = signature[signature.index("(") :]
+        self.arguments, self.result = split_signature(inner)
+        self.clauses = {}
+        for clause in re.finditer(r"\bensures(?:\s+(\w+))?\s*\{", head):
+            name = clause[1] or "result"
+            if name in self.clauses:
+                self.clauses[name + " again"] = ""
+            self.clauses[name] = " ".join(braced(head, clause.end()).split())
+
+
+def braced(text, at):
+    """Returns the text from `at` to the brace that closes the one before it."""
+    start, depth = at, 1
+    while depth:
+        depth += {"{": 1, "}": -1}.get(text[at], 0)
+        at += 1
+    return text[start : at - 1]
+
+
+def split_signature(text):
+    """Returns the arguments of a signature, each as text, and its result."""
+    depth, at, parts = 0, 0, [""]
+    for at, letter in enumerate(text):
+        depth += {"(": 1, "[": 1, "<": 1, ")": -1, "]": -1}.get(letter, 0)
+        depth -= letter == ">" and text[at - 1] != "-"
+        if depth == 0:
+            break
+        if letter == "," and depth == 1:
+            parts.append("")
+        elif (letter, depth) != ("(", 1):
+            parts[-1] += letter
+    arguments = [" ".join(part.split()) for part in parts if part.strip()]
+    result = re.match(r"\s*->\s*(.*?)\s*(?:where\b.*)?$", text[at + 1 :], re.S)
+    return arguments, " ".join(result[1].split()) if result else "()"
+
+
+def functions(text):
+    """Yields the public functions of a source, methods with their type's name."""
+    text = re.sub(r"//[^\n]*", "", text)
+    owner = ""
+    for match in re.finditer(r"(?m)^impl(?:<[^>]*>)? (\w+)|^(\})|\bpub fn (\w+)", text):
+        if match[1] or match[2]:
+            owner = match[1] + "::" if match[1] else ""
+        else:
+            yield Function(owner + match[3], head_of(text, match.start(3)))
+
+
+def lent_names(function):
+    """Returns the names of the arguments that are lent `&mut`."""
+    found = []
+    for argument in function.arguments:
+        if re.match(r"&(?:'\w+ )?mut self\b", argument):
+            found.append("self")
+        elif re.match(r"(?:mut )?\w+ ?: ?&(?:'\w+ )?mut\b", argument):
+            found.append(re.match(r"(?:mut )?(\w+)", argument)[1])
+    return found
+
+
+def missing(function):
+    """Yields what the contract of a function lacks."""
+    clauses = function.clauses
+    result = re.fullmatch(r"Result<(.*), (\w+)(<.*>)?>", function.result)
+    lent = lent_names(function)
+    if not result:
+        if not any(re.search(r"\bresult\b", text) for text in clauses.values()) and function.result != "()":
+            yield "no clause about the result"
+        for name in lent:
+            if not any(re.search(rf"\b{name}\.new\b", text) for text in clauses.values()):
+                yield f"no clause about what {name} becomes"
+        return
+    values = [name for name in clauses if name not in RULES]
+    for name in [name for name in values if name not in VALUES]:
+        yield f"a clause named {name}, which is no name of a clause"
+    for name, text in clauses.items():
+        if name in RULES and not re.search(RULES[name], text):
+            yield f"{name} is stated by none of {RULES[name]}"
+    if "refused" not in clauses:
+        yield "no clause refused"
+    elif "→" in clauses["refused"] and "empty" not in clauses:
+        yield "refused has a premise, and there is no clause empty"
+    accepted = [text for name, text in clauses.items() if re.search(r"\b(?:OnOk|IfOk) result\b", text)]
+    refused = [text for name, text in clauses.items() if re.search(r"\bOnErr result\b", text)]
+    if result[1] != "()" and not any(re.search(r"\bIfOk result\b|≡", clauses[name]) for name in values):
+        yield "no clause says the value"
+    for name in lent:
+        if not any(re.search(rf"\b{name}\.new\b", text) for text in accepted):
+            yield f"no clause says what {name} becomes"
+        if not any(re.search(rf"\b{name}\.new ≡ {name}\.old", text) for text in refused):
+            yield f"no clause says that {name} is unchanged after a refusal"
+    if result[2] not in NUMBERS and "state" not in clauses:
+        yield "no clause state"
+
+
+def sources(root):
+    for crate in CRATES:
+        for path in sorted((root / "crates" / crate / "src").rglob("*.rt")):
+            yield path, path.read_text(encoding="utf-8")
+
+
+def complaints(texts):
+    """Returns a line for each thing that is missing, and the number of functions with a `Result`."""
+    found, results = [], 0
+    for path, text in texts:
+        for function in functions(text):
+            results += function.result.startswith("Result<")
+            found += [f"{path.relative_to(ROOT)}: {function.name}: {what}" for what in missing(function)]
+    return found, results
+
+
+def without_each(text):
+    """Yields the name of each clause of a public function with a `Result`, and the source without that clause."""
+    for match in re.finditer(r"\bpub fn \w+", text):
+        head = head_of(text, match.start())
+        if "-> Result<" not in head:
+            continue
+        for clause in re.finditer(r"\bensures(?:\s+(\w+))?\s*\{", head):
+            start = match.start() + clause.start()
+            end = match.start() + clause.end() + len(braced(head, clause.end())) + 1
+            yield f"{match[0]} {clause[1]}", text[:start] + text[end:]
+
+
+def main():
+    texts = list(sources(ROOT))
+    found, results = complaints(texts)
+    if "--test" in sys.argv:
+        tried, unseen = 0, []
+        for path, text in texts:
+            for name, less in without_each(text):
+                tried += 1
+                if not complaints([(path, less)])[0] and not name.endswith(" bound"):
+                    unseen.append(f"{path.relative_to(ROOT)}: {name}: its absence is not seen")
+        print("\n".join(unseen + [f"{tried} clauses taken out one by one, {len(unseen)} not seen"]))
+        return 1 if unseen or not tried else 0
+    print("\n".join(found + [f"{results} public functions that may refuse, {len(found)} complaints on their clauses"]))
+    return 1 if found else 0
+
+
+if __name__ == "__main__":
+    sys.exit(main())
