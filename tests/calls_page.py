@@ -76,24 +76,42 @@ def arguments(head):
     return [part.split(":")[0].split()[-1].lstrip("&") for part in parts if part.strip()]
 
 
-def promised(head):
-    """Yields the text of each `ensures`."""
-    for clause in re.finditer(r"\bensures(?:\s+\w+)?\s*\{", head):
+def named(head):
+    """Yields the name of each `ensures`, if it has one, and its text."""
+    for clause in re.finditer(r"\bensures(?:\s+(\w+))?\s*\{", head):
         at, depth = clause.end(), 1
         while depth:
             depth += {"{": 1, "}": -1}.get(head[at], 0)
             at += 1
-        yield " ".join(head[clause.end() : at - 1].split())
+        yield clause[1] or "", " ".join(head[clause.end() : at - 1].split())
+
+
+def promised(head):
+    """Yields the text of each `ensures`."""
+    for _, text in named(head):
+        yield text
 
 
 def cited(head):
-    """Returns for each `ensures` what the result or a lent buffer equals, or a clause with a premise or a function whole; lent bytes are
-    only their names."""
+    """Returns what the page has of each `ensures`: by which checks the call is refused, what a value equals, or a clause of another form
+    whole. Lent bytes are only their names. Left out is that a refusal leaves what was passed as it was, which all clauses `unchanged` and
+    `state` say in the same words."""
     out = []
-    for clause in promised(head):
-        before, _, side = clause.partition("≡")
-        side = clause if "→" in before or "λ" in before else (side or before).strip()
-        out.append(re.sub(r"[«»]|(?<=\w)\.(?:now|old)\b", "", side))
+    for name, clause in named(head):
+        text = re.sub(r"[«»]|(?<=\w)\.(?:now|old)\b", "", clause)
+        refused = re.fullmatch(r"(?:(.*?) → )?\w+ result ≡ first_failed (.*)", text)
+        value = re.fullmatch(r"IfOk result \(λ \w+\. .*? ≡ (.*)\)|OnOk result \(.*? ≡ (.*)\)", text)
+        if name == "refused" and refused:
+            checks = re.sub(r"^\((.*)\)$", r"\1", refused[2])
+            out.append((f"if `{refused[1]}`, " if refused[1] else "") + f"refused by `{checks}`")
+        elif name == "empty" and text.endswith("→ failure_of result ≡ 0"):
+            out.append(f"if `{text.partition(' →')[0]}`, not refused")
+        elif value:
+            out.append(f"{name}: `{value[1] or value[2]}`")
+        elif not (name in ("unchanged", "state") and re.match(r"(?:OnErr|IfErr) result ", text)):
+            before, _, side = text.partition("≡")
+            side = text if "→" in before or "λ" in before else (side or before).strip()
+            out.append((f"{name}: " if name else "") + f"`{side}`")
     return out
 
 
@@ -107,7 +125,7 @@ def source(path):
 
 
 def functions(crate):
-    """Returns name, arguments and definitions of each public function: methods with their type's name."""
+    """Returns the arguments of each public function, what the page has of its clauses, and their number: methods by their type's name."""
     found = {}
     for path in sorted(glob.glob(os.path.join(ROOT, "crates", crate, "src", "*.rt"))):
         text = source(path)
@@ -119,7 +137,7 @@ def functions(crate):
                 owner = ""
             else:
                 head = head_of(text, match.start(3))
-                found[owner + match[3]] = arguments(head), cited(head)
+                found[owner + match[3]] = arguments(head), cited(head), len(list(promised(head)))
     return found
 
 
@@ -286,7 +304,7 @@ def facts():
     order = re.findall(r"\d+", re.search(r"(?m)^order =(.*?)^$", read("crates", "masks", "specs", "Checks.antt"), re.S)[1])
     for crate in CRATES:
         numbers, wrong, named, unseen = refusals(crate), wrong_answers(crate), witnessed(crate), counts_unseen(crate)
-        for name, (args, definitions) in functions(crate).items():
+        for name, (args, definitions, _) in functions(crate).items():
             checks = sorted(numbers.get(name, numbers.get("*", ())), key=lambda n: (order.index(n) if n in order else 0, int(n)))
             if name in rows:
                 complaints.append(f"two public functions are named {name}")
@@ -297,7 +315,7 @@ def facts():
             rows[name] = {
                 "call": f"`{name}({', '.join(args)})`",
                 "checks": " ".join(checks) or "none",
-                "definition": "; ".join(f"`{d}`" for d in definitions).replace("|", "\\|"),
+                "definition": "; ".join(definitions).replace("|", "\\|"),
                 "wrong answers ruled out": "; ".join(wrong.pop(name, [])),
             }
         complaints += [f"{crate}/proofs/tables/Wrong*.antt: no public function {name}" for name in wrong]
@@ -311,7 +329,7 @@ def size_of(path):
         return str(sum(text.count("\n") + 1 for text in records(reached())[0].values()))
     if path.endswith("/src"):
         crate = path.split("/")[0]
-        return str(sum(len(definitions) for _, definitions in functions(crate).values()) + len(impls(crate)))
+        return str(sum(clauses for _, _, clauses in functions(crate).values()) + len(impls(crate)))
     if not os.path.isfile(os.path.join(ROOT, "crates", path)):
         return "no such file"
     return str(sum(1 for line in read("crates", path).split("\n") if line and not re.match(r"(unfoldable )?(pub )?use ", line)))

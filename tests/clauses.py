@@ -7,12 +7,11 @@
 A contract has named clauses, with the same names everywhere. They fix every output on every input together, so none may be missing, and
 the prover does not see that one is: without `unchanged` a call is still proved. What a signature asks for:
 
-| signature | clauses |
-|---|---|
-| `-> Result<T, E>` | `refused`: the number of the first failed check; if T is not `()`, or something is lent `&mut`, one that says the value |
-| `&mut` of an argument | the value it has if the call is accepted, under `OnOk` or `IfOk`; with a `Result` also that it is unchanged, under `OnErr` |
-| `E` holds the record passed | `state`: it is returned unchanged, under `IfErr` |
-| any other result | a clause about it |
+- `Result<T, E>`: `refused`, the number of the first failed check; if T is not `()`, a clause that says the value.
+- An argument lent `&mut`: the value that it has if the call is accepted, under `OnOk` or `IfOk`; of a `Result` also that it is unchanged
+  after a refusal, under `OnErr`.
+- An error that holds what was passed: `state`, that it is returned unchanged, under `IfErr`.
+- Any other result: a clause about it.
 
 `refused` says the number on every input. It may have a premise only where a clause `empty` has the opposite one. A clause of a `Result`
 that is none of RULES says a value, and its name is one of VALUES."""
@@ -26,15 +25,15 @@ ROOT = pathlib.Path(__file__).resolve().parent.parent
 CRATES = ("masks", "dispatch")
 # The clauses that say no value, each with what it may be stated by.
 RULES = {
-    "refused": r"failure_of result ≡|failure_back result ≡",
+    "refused": r"(?:failure_of|failure_back|offer_failure) result ≡",
     "empty": r"→ failure_of result ≡ 0",
     "bytes": r"OnOk result",
     "unchanged": r"OnErr result",
     "state": r"IfErr result|OnErr result",
 }
 # The clauses that say a value, by what it is.
-VALUES = ("appended", "bound", "count", "cursor", "edges", "equal", "flag", "found", "mask", "may", "number", "offering", "part", "place")
-VALUES += ("position", "positions", "record", "result", "span", "spans", "split", "step", "taken", "validity", "window", "word", "zeros")
+VALUES = ("appended", "bound", "cursor", "edges", "flag", "found", "mask", "may", "number", "offering", "part", "place", "position")
+VALUES += ("positions", "refused_part", "refused_place", "result", "spans", "split", "step", "word", "zeros")
 # Errors that are only a number; every other error holds what was passed.
 NUMBERS = ("Refusal",)
 
@@ -85,7 +84,7 @@ def functions(text):
     """Yields the public functions of a source, methods with their type's name."""
     text = re.sub(r"//[^\n]*", "", text)
     owner = ""
-    for match in re.finditer(r"(?m)^impl(?:<[^>]*>)? (\w+)|^(\})|\bpub fn (\w+)", text):
+    for match in re.finditer(r"(?m)^impl(?:<[^>]*>)? (\w+)(?:<[^>]*>)? \{$|^(\})|\bpub fn (\w+)", text):
         if match[1] or match[2]:
             owner = match[1] + "::" if match[1] else ""
         else:

@@ -55,6 +55,11 @@ def imported(path, crate):
     return frozenset(name.split(" as ")[0].strip() for names in lists for name in names.split(","))
 
 
+def sides_of(head):
+    """Returns the names in each side of an equation, or in each other clause, of a contract."""
+    return [IDENT.findall(side) for said in calls_page.cited(head) for side in re.findall(r"`([^`]*)`", said)]
+
+
 class Call:
     """A public function: its file, its name (a method's with the type), its head, and what its contract cites."""
 
@@ -67,7 +72,7 @@ class Call:
         self.arguments = plain[plain.index("(") :].rpartition("->")[0] or plain[plain.index("(") :]
         self.result = plain.rpartition("->")[2].strip() if "->" in plain else ""
         self.clauses = list(calls_page.promised(head))
-        self.sides = [IDENT.findall(side) for side in calls_page.cited(head)]
+        self.sides = sides_of(head)
         readers = [re.match(r"\(?(\w+)(?: \([^)]*\)| \w+)? result\b", clause) for clause in self.clauses if "≡" in clause]
         self.readers = {found[1] for found in readers if found and any(found[1] in defined(other) for other in [crate, *uses()[0][crate]])}
         self.own, self.definitions, self.heads = set(), set(), set()
@@ -217,7 +222,7 @@ def calls():
             contract, _, body = rest.rpartition("\n{")
             if makes(call, body, text, made):
                 call.exports.append(name)
-                sides = [IDENT.findall(side) for side in calls_page.cited(contract + " {")]
+                sides = sides_of(contract + " {")
                 call.cite(sides, common)
                 call.conversions |= {name for side in sides for name in side if name.startswith("as_")} & defined(uses()[1])
     return [call for call in found if is_call(call)], [call for call in found if not is_call(call)]

@@ -49,7 +49,7 @@ pub fn offer(
 ) -> Result<Offering, RefusedOffer>
     ensures refused { offer_failure result ≡ first_failed
         (offer_checks permission permission_bytes.now revocation revocation_bytes.now cursor) }
-    ensures offer { IfOk result (λ o. o ≡
+    ensures offering { IfOk result (λ o. o ≡
         offered_of permission permission_bytes.now revocation revocation_bytes.now cursor) }
     ensures state { IfErr result (λ e. e.cursor ≡ cursor) }
     ensures bound { windows_in result ≤ most_windows permission }
@@ -71,7 +71,7 @@ fn offer_next(
 ) -> Result<Offering, RefusedOffer>
     ensures refused { offer_failure result ≡ first_failed
         (offer_checks (Some permission) permission_bytes.now revocation revocation_bytes.now cursor) }
-    ensures offer { IfOk result (λ o. o ≡
+    ensures offering { IfOk result (λ o. o ≡
         offered_of (Some permission) permission_bytes.now revocation revocation_bytes.now cursor) }
     ensures state { IfErr result (λ e. e.cursor ≡ cursor) }
     ensures bound { windows_in result ≤ most_windows (Some permission) }
@@ -105,7 +105,7 @@ fn offer_none(
 ) -> Result<Offering, RefusedOffer>
     ensures refused { offer_failure result ≡ first_failed
         (offer_checks None permission_bytes.now revocation revocation_bytes.now cursor) }
-    ensures offer { IfOk result (λ o. o ≡
+    ensures offering { IfOk result (λ o. o ≡
         offered_of None permission_bytes.now revocation revocation_bytes.now cursor) }
     ensures state { IfErr result (λ e. e.cursor ≡ cursor) }
     ensures bound { windows_in result ≤ most_windows None }
