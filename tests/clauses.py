@@ -126,8 +126,8 @@ def missing(function):
         yield "refused has a premise, and there is no clause empty"
     accepted = [text for name, text in clauses.items() if re.search(r"\b(?:OnOk|IfOk) result\b", text)]
     refused = [text for name, text in clauses.items() if re.search(r"\bOnErr result\b", text)]
-    if result[1] != "()" and not any(re.search(r"\bIfOk result\b|≡", clauses[name]) for name in values):
-        yield "no clause says the value"
+    if result[1] != "()":
+        yield from unsaid(result[1], [clauses[name] for name in values])
     for name in lent:
         if not any(re.search(rf"\b{name}\.new\b", text) for text in accepted):
             yield f"no clause says what {name} becomes"
@@ -135,6 +135,30 @@ def missing(function):
             yield f"no clause says that {name} is unchanged after a refusal"
     if result[2] not in NUMBERS and "state" not in clauses:
         yield "no clause state"
+
+
+def unsaid(kind, texts):
+    """Yields what these clauses leave open of a value: all of it, or a part, if they say it by its parts."""
+    shapes = [re.match(r"IfOk result \(λ (\w+)\. (.*) ≡ ", text) for text in texts]
+    said = [(found[1], found[2]) for found in shapes if found]
+    whole = [name for name, left in said if left == name or not left.startswith(f"{name}.")]
+    parts = {left.partition(".")[2] for name, left in said if left.startswith(f"{name}.")}
+    if not whole and not parts:
+        yield "no clause says the value"
+    elif not whole:
+        for part in fields(kind) - parts:
+            yield f"no clause says the part {part} of the value"
+
+
+def fields(kind):
+    """Returns the names of the parts of a type: the numbers of a pair's sides, or a record's fields."""
+    if kind.startswith("("):
+        return {str(k) for k in range(len(split_signature(kind)[0]))}
+    for _, text in sources(ROOT):
+        found = re.search(rf"\bstruct {kind}\b[^{{;]*\{{(.*?)\}}", text, re.S)
+        if found:
+            return set(re.findall(r"(?m)^\s*pub (\w+):", found[1]))
+    return {"of an unknown type"}
 
 
 def sources(root):
