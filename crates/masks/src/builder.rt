@@ -68,6 +68,7 @@ impl BitmapBuilder {
     }
 
     // Appends the first k flags of a word. Refuses with 6 if k is above 64 or a bit from k up is set.
+    #[tactic(auto, using(crate::proofs::checks::CheckLaws::two_pieces), unfolding(crate::specs::Appends::word_checks))]
     pub fn push_word_with_len_unchecked(
         self,
         buf: &mut [u8],

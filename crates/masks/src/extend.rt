@@ -25,6 +25,7 @@ const LIMIT_WORDS: usize = Bitmap::LIMIT / 64;
 
 impl BitmapBuilder {
     // Appends n copies of a flag.
+    #[tactic(auto, using(crate::proofs::checks::CheckLaws::two_pieces), unfolding(crate::specs::Appends::constant_checks))]
     pub fn extend_constant(
         self,
         buf: &mut [u8],
@@ -74,6 +75,7 @@ impl BitmapBuilder {
     }
 
     // Appends the n flags of a mask starting at `start`. Refuses with 6 if they do not all lie in the mask.
+    #[tactic(auto, using(crate::proofs::checks::CheckLaws::two_pieces), unfolding(crate::specs::Appends::subslice_checks))]
     pub fn subslice_extend_from_bitmap(
         self,
         buf: &mut [u8],

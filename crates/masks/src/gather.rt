@@ -50,6 +50,7 @@ impl BitmapBuilder {
     }
 
     // Appends the flag at each index, or 0 if the index is not below the span's length.
+    #[tactic(auto, using(crate::proofs::checks::CheckLaws::two_pieces), unfolding(crate::specs::Appends::span_grow_checks))]
     pub fn opt_gather_extend_from_slice(
         self,
         buf: &mut [u8],

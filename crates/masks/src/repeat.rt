@@ -16,6 +16,7 @@ use words::word::flag_at;
 
 impl BitmapBuilder {
     // Appends each flag of a span, `repeats` times in turn; 0 repeats append nothing.
+    #[tactic(auto, using(crate::proofs::checks::CheckLaws::two_pieces), unfolding(crate::specs::Appends::span_grow_checks))]
     pub fn extend_each_repeated_from_slice_unchecked(
         self,
         buf: &mut [u8],

@@ -86,6 +86,10 @@ failed-append (c ∷ a) b = ap (earlier (failure c)) (failed-append a b) ∙ sym
 pub two-pieces : (a b r : ℕ) (A B : List Check) → r ≡ earlier a b → a ≡ first_failed A → b ≡ first_failed B → r ≡ first_failed (A ++ B)
 two-pieces a b r A B e p q = e ∙ ap₂ earlier p q ∙ sym (failed-append A B)
 
+-- the same by a name that the attribute of a function can hold
+pub two_pieces : (a b r : ℕ) (A B : List Check) → r ≡ earlier a b → a ≡ first_failed A → b ≡ first_failed B → r ≡ first_failed (A ++ B)
+two_pieces = two-pieces
+
 pub one-check : (r n : ℕ) (t u : Bool) → r ≡ cond t 0 n → t ≡ u → r ≡ first_failed (check n u ∷ [])
 unfolding first_failed
 one-check r n t u e h = e ∙ ap (λ (x : Bool). cond x 0 n) h ∙ sym (earlier-none (cond u 0 n))

@@ -11,8 +11,8 @@ overflow_add-next c =
     let passed = sym (ap failure_of e) ∙ c.next_and_not.ensures.refused in
     omega (arith, found_inside _ _ _ _ _ _ passed (rw e at c.next_and_not.ensures.found) _ c.in-Some.is)
 
-pub returns-in-Some-clause-offer : goal.returns-in-Some-clause-offer
-returns-in-Some-clause-offer c =
+pub returns-in-Some-clause-offering : goal.returns-in-Some-clause-offering
+returns-in-Some-clause-offering c =
     let e : c.next_and_not.result ≡ Ok c.in_ok-found.found = search rules in
     let passed = sym (ap failure_of e) ∙ c.next_and_not.ensures.refused in
     found-way _ _ _ _ _ _ passed (rw e at c.next_and_not.ensures.found) _
@@ -24,8 +24,8 @@ returns-in-Some-clause-bound c =
     let passed = sym (ap failure_of e) ∙ c.next_and_not.ensures.refused in
     found-bound _ _ _ _ _ _ passed (rw e at c.next_and_not.ensures.found)
 
-pub returns-in-None-clause-offer : goal.returns-in-None-clause-offer
-returns-in-None-clause-offer c =
+pub returns-in-None-clause-offering : goal.returns-in-None-clause-offering
+returns-in-None-clause-offering c =
     let e : c.next_and_not.result ≡ Ok c.in_ok-found.found = search rules in
     let passed = sym (ap failure_of e) ∙ c.next_and_not.ensures.refused in
     found-way _ _ _ _ _ _ passed (rw e at c.next_and_not.ensures.found) _
