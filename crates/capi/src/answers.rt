@@ -7,7 +7,7 @@
 // generic impl cannot name the fields, since C has no generics and each answer is a record of its own. Over a trait each record would
 // still write both arms, as two functions.
 ghost use Rattle.std.specs.Prelude.{◌≡◌};
-ghost use Rattle.masks.specs.Answer.{answer, answer_back};
+ghost use Rattle.masks.specs.equations.Answer.{answer, answer_back};
 ghost use Rattle.capi.specs.Answers.{as_flag, as_mask, as_number};
 
 use crate::records::{Builder, Cursor, Mask};

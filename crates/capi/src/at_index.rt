@@ -1,8 +1,8 @@
 // Exported to C and Rust: the combination `and_not` at one index.
-#![tactic(auto, using(masks::proofs::refusal::ClauseLaws::answered), unfolding(masks::specs::AtIndex::and_not_at_of))]
+#![tactic(auto, using(masks::proofs::refusal::ClauseLaws::answered), unfolding(masks::specs::equations::AtIndex::and_not_at_of))]
 
 ghost use Rattle.std.specs.Prelude.{◌≡◌};
-ghost use Rattle.masks.specs.AtIndex.{and_not_at_of};
+ghost use Rattle.masks.specs.equations.AtIndex.{and_not_at_of};
 ghost use Rattle.capi.specs.Answers.{as_flag};
 ghost use Rattle.capi.specs.Records.{optional_in};
 

@@ -1,13 +1,14 @@
 // Exported to C and Rust: the builder. Each append writes finished words to `buf`, leaves its other bytes unchanged, and returns the
 // builder after it; pw_freeze and pw_into_opt_validity write the frozen bytes at the start of `buf`.
-#![tactic(auto, using(masks::proofs::refusal::ClauseLaws::answered_back, masks::proofs::refusal::ClauseLaws::written_back), unfolding(masks::specs::Freeze::freeze_bytes))]
+#![tactic(auto, using(masks::proofs::refusal::ClauseLaws::answered_back, masks::proofs::refusal::ClauseLaws::written_back), unfolding(masks::specs::equations::Freeze::freeze_bytes))]
 
 ghost use Rattle.std.specs.Prelude.{◌≡◌};
-ghost use Rattle.masks.specs.Answer.{answer_back};
-ghost use Rattle.masks.specs.Appends.{append_answer, append_bytes, extend_bitmap, extend_constant, extend_gather, extend_opt_gather};
-ghost use Rattle.masks.specs.Appends.{extend_repeated, extend_slice, push_flag, push_word};
+ghost use Rattle.masks.specs.equations.Answer.{answer_back};
+ghost use Rattle.masks.specs.equations.Appends.{append_answer, append_bytes, extend_bitmap, extend_constant, extend_gather};
+ghost use Rattle.masks.specs.equations.Appends.{extend_opt_gather};
+ghost use Rattle.masks.specs.equations.Appends.{extend_repeated, extend_slice, push_flag, push_word};
 ghost use Rattle.masks.specs.Builder.{new_builder};
-ghost use Rattle.masks.specs.Freeze.{freeze_bytes, freeze_of, into_opt_validity_of};
+ghost use Rattle.masks.specs.equations.Freeze.{freeze_bytes, freeze_of, into_opt_validity_of};
 ghost use Rattle.capi.specs.Answers.{as_builder, as_mask, as_validity};
 ghost use Rattle.capi.specs.Records.{builder_in, builder_out, mask_in, serial_builder_in};
 

@@ -1,8 +1,9 @@
 // Exported to C and Rust: the words of a span, and the flags after the last whole one.
-#![tactic(auto, using(masks::proofs::refusal::ClauseLaws::answered, masks::proofs::refusal::ClauseLaws::answered_step, masks::proofs::refusal::ClauseLaws::answered_parts), unfolding(crate::specs::Answers::as_word, masks::specs::Chunks::new_chunks, masks::specs::Chunks::next_chunk, masks::specs::Chunks::chunks_remainder))]
+#![tactic(auto, using(masks::proofs::refusal::ClauseLaws::answered, masks::proofs::refusal::ClauseLaws::answered_step, masks::proofs::refusal::ClauseLaws::answered_parts), unfolding(crate::specs::Answers::as_word, masks::specs::equations::Chunks::new_chunks, masks::specs::equations::Chunks::next_chunk, masks::specs::equations::Chunks::chunks_remainder))]
 
 ghost use Rattle.std.specs.Prelude.{◌≡◌};
-ghost use Rattle.masks.specs.Chunks.{chunks_at, chunks_remainder, new_chunks, next_chunk};
+ghost use Rattle.masks.specs.Chunks.{chunks_at};
+ghost use Rattle.masks.specs.equations.Chunks.{chunks_remainder, new_chunks, next_chunk};
 ghost use Rattle.capi.specs.Answers.{as_cursor, as_remainder, as_word};
 ghost use Rattle.capi.specs.Records.{chunks_out, chunks_place};
 

@@ -1,9 +1,10 @@
 // Exported to C and Rust: the combinations of masks of equal lengths. The mask returned has start 0 and the largest of their serials.
-#![tactic(auto, using(masks::proofs::refusal::ClauseLaws::answered, masks::proofs::refusal::ClauseLaws::written), unfolding(masks::specs::Combine::pair_of, masks::specs::Combine::pair_bytes, masks::specs::Combine::each_of, masks::specs::Combine::each_bytes))]
+#![tactic(auto, using(masks::proofs::refusal::ClauseLaws::answered, masks::proofs::refusal::ClauseLaws::written), unfolding(masks::specs::equations::Combine::pair_of, masks::specs::equations::Combine::pair_bytes, masks::specs::equations::Combine::each_of, masks::specs::equations::Combine::each_bytes))]
 
 ghost use Rattle.std.specs.Prelude.{◌≡◌};
-ghost use Rattle.masks.specs.Combine.{And, AndNot, Or, OrNot, Xor, pair_bytes, pair_of};
-ghost use Rattle.masks.specs.Combine.{not_bytes, not_of, select_bytes, select_constant_bytes, select_constant_of, select_of};
+ghost use Rattle.masks.specs.Combine.{And, AndNot, Or, OrNot, Xor};
+ghost use Rattle.masks.specs.equations.Combine.{pair_bytes, pair_of};
+ghost use Rattle.masks.specs.equations.Combine.{not_bytes, not_of, select_bytes, select_constant_bytes, select_constant_of, select_of};
 ghost use Rattle.capi.specs.Answers.{as_mask};
 ghost use Rattle.capi.specs.Records.{mask_in};
 

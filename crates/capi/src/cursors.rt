@@ -1,11 +1,13 @@
 // Exported to C and Rust: the cursors over runs, flags and positions. A step that finds nothing moves the cursor to the length.
-#![tactic(auto, using(masks::proofs::refusal::ClauseLaws::answered, masks::proofs::refusal::ClauseLaws::answered_step, masks::proofs::refusal::ClauseLaws::answered_parts, masks::proofs::refusal::ClauseLaws::written_back, masks::proofs::refusal::SpanClauses::iter_made), unfolding(crate::specs::Answers::as_bit, crate::specs::Answers::as_run, crate::specs::Answers::as_word, crate::specs::Records::true_in, masks::specs::Iterator::nth_flag, masks::specs::Iterator::take_leading, masks::specs::Positions::next_positions, masks::specs::Positions::positions_over, masks::specs::SliceIterator::new_slices, masks::specs::SliceIterator::next_slice, masks::specs::TrueIdx::new_true, masks::specs::TrueIdx::next_true))]
+#![tactic(auto, using(masks::proofs::refusal::ClauseLaws::answered, masks::proofs::refusal::ClauseLaws::answered_step, masks::proofs::refusal::ClauseLaws::answered_parts, masks::proofs::refusal::ClauseLaws::written_back, masks::proofs::refusal::SpanClauses::iter_made), unfolding(crate::specs::Answers::as_bit, crate::specs::Answers::as_run, crate::specs::Answers::as_word, crate::specs::Records::true_in, masks::specs::equations::Iterator::nth_flag, masks::specs::equations::Iterator::take_leading, masks::specs::equations::Positions::next_positions, masks::specs::equations::Positions::positions_over, masks::specs::equations::SliceIterator::new_slices, masks::specs::equations::SliceIterator::next_slice, masks::specs::equations::TrueIdx::new_true, masks::specs::equations::TrueIdx::next_true))]
 
 ghost use Rattle.std.specs.Prelude.{◌≡◌, true, false, length as list_length};
-ghost use Rattle.masks.specs.Iterator.{iter_at, new_iter, nth_flag, take_leading};
-ghost use Rattle.masks.specs.Positions.{positions_over, next_positions};
-ghost use Rattle.masks.specs.SliceIterator.{new_slices, next_slice, slices_at};
-ghost use Rattle.masks.specs.TrueIdx.{new_true, next_true};
+ghost use Rattle.masks.specs.Iterator.{iter_at};
+ghost use Rattle.masks.specs.equations.Iterator.{new_iter, nth_flag, take_leading};
+ghost use Rattle.masks.specs.equations.Positions.{positions_over, next_positions};
+ghost use Rattle.masks.specs.SliceIterator.{slices_at};
+ghost use Rattle.masks.specs.equations.SliceIterator.{new_slices, next_slice};
+ghost use Rattle.masks.specs.equations.TrueIdx.{new_true, next_true};
 ghost use Rattle.capi.specs.Answers.{as_bit, as_cursor, as_run, as_taken, as_word};
 ghost use Rattle.capi.specs.Records.{iter_out, iter_place, mask_in, optional_in, slices_out, slices_place, true_in, true_out, true_place};
 

@@ -1,11 +1,12 @@
 // Exported to C and Rust: the calls that make, slice, count and compare masks.
-#![tactic(auto, using(masks::proofs::refusal::ClauseLaws::answered, masks::proofs::refusal::ClauseLaws::answered_back, masks::proofs::refusal::ClauseLaws::answered_recounted, masks::proofs::refusal::ClauseLaws::written), unfolding(masks::specs::Mask::try_new_of, masks::specs::Mask::slice_of, masks::specs::Mask::new_zeroed_of, masks::specs::Mask::new_zeroed_bytes, masks::specs::Compare::common_of, masks::specs::Compare::edges_of, masks::specs::Compare::eq_of))]
+#![tactic(auto, using(masks::proofs::refusal::ClauseLaws::answered, masks::proofs::refusal::ClauseLaws::answered_back, masks::proofs::refusal::ClauseLaws::answered_recounted, masks::proofs::refusal::ClauseLaws::written), unfolding(masks::specs::equations::Mask::try_new_of, masks::specs::equations::Mask::slice_of, masks::specs::equations::Mask::new_zeroed_of, masks::specs::equations::Mask::new_zeroed_bytes, masks::specs::equations::Compare::common_of, masks::specs::equations::Compare::edges_of, masks::specs::equations::Compare::eq_of))]
 
 ghost use Rattle.std.specs.Prelude.{◌≡◌};
-ghost use Rattle.masks.specs.Answer.{answer_back};
-ghost use Rattle.masks.specs.Compare.{common_of, edges_of, eq_of};
-ghost use Rattle.masks.specs.Mask.{empty_mask, new_zeroed_bytes, new_zeroed_of, slice_of, try_new_of};
-ghost use Rattle.masks.specs.Mask.{unset_bits_of};
+ghost use Rattle.masks.specs.equations.Answer.{answer_back};
+ghost use Rattle.masks.specs.equations.Compare.{common_of, edges_of, eq_of};
+ghost use Rattle.masks.specs.Mask.{empty_mask};
+ghost use Rattle.masks.specs.equations.Mask.{new_zeroed_bytes, new_zeroed_of, slice_of, try_new_of};
+ghost use Rattle.masks.specs.equations.Mask.{unset_bits_of};
 ghost use Rattle.capi.specs.Answers.{as_flag, as_mask, as_number, as_same_mask, as_zeros};
 ghost use Rattle.capi.specs.Records.{mask_in, mask_out};
 

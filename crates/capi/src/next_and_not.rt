@@ -1,9 +1,9 @@
 // Exported to C and Rust: the search for a flag that is set in one mask and not in another.
-#![tactic(auto, using(masks::proofs::refusal::ClauseLaws::answered), unfolding(masks::specs::NextAndNot::next_and_not_of))]
+#![tactic(auto, using(masks::proofs::refusal::ClauseLaws::answered), unfolding(masks::specs::equations::NextAndNot::next_and_not_of))]
 
 ghost use Rattle.std.specs.Prelude.{◌≡◌};
-ghost use Rattle.masks.specs.Answer.{answer};
-ghost use Rattle.masks.specs.NextAndNot.{next_and_not_of};
+ghost use Rattle.masks.specs.equations.Answer.{answer};
+ghost use Rattle.masks.specs.equations.NextAndNot.{next_and_not_of};
 ghost use Rattle.capi.specs.Answers.{as_next};
 ghost use Rattle.capi.specs.Records.{mask_in, optional_in};
 

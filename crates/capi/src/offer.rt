@@ -1,8 +1,8 @@
 // Exported to C and Rust: the next truck that dispatch offers.
-#![tactic(auto, using(dispatch::proofs::offer::OfferLaws::offer_answered), unfolding(dispatch::specs::Offer::offer_of))]
+#![tactic(auto, using(dispatch::proofs::offer::OfferLaws::offer_answered), unfolding(dispatch::specs::equations::Offer::offer_of))]
 
 ghost use Rattle.std.specs.Prelude.{◌≡◌};
-ghost use Rattle.dispatch.specs.Offer.{offer_answer, offer_of};
+ghost use Rattle.dispatch.specs.equations.Offer.{offer_answer, offer_of};
 ghost use Rattle.capi.specs.Answers.{as_offer};
 ghost use Rattle.capi.specs.Records.{optional_in};
 

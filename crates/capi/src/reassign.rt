@@ -1,8 +1,8 @@
 // Exported to C and Rust: dispatch.
-#![tactic(auto, using(masks::proofs::refusal::ClauseLaws::answered), unfolding(dispatch::specs::Dispatch::may_reassign))]
+#![tactic(auto, using(masks::proofs::refusal::ClauseLaws::answered), unfolding(dispatch::specs::equations::Dispatch::may_reassign))]
 
 ghost use Rattle.std.specs.Prelude.{◌≡◌};
-ghost use Rattle.dispatch.specs.Dispatch.{may_reassign};
+ghost use Rattle.dispatch.specs.equations.Dispatch.{may_reassign};
 ghost use Rattle.capi.specs.Answers.{as_flag};
 ghost use Rattle.capi.specs.Records.{optional_in};
 

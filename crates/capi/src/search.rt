@@ -1,9 +1,9 @@
 // Exported to C and Rust: the searches for the n-th set flag of a span.
-#![tactic(auto, using(masks::proofs::refusal::ClauseLaws::answered), unfolding(masks::specs::Search::search_back, masks::specs::Search::search_from))]
+#![tactic(auto, using(masks::proofs::refusal::ClauseLaws::answered), unfolding(masks::specs::equations::Search::search_back, masks::specs::equations::Search::search_from))]
 
 ghost use Rattle.std.specs.Prelude.{◌≡◌};
-ghost use Rattle.masks.specs.Answer.{answer};
-ghost use Rattle.masks.specs.Search.{search_back, search_from};
+ghost use Rattle.masks.specs.equations.Answer.{answer};
+ghost use Rattle.masks.specs.equations.Search.{search_back, search_from};
 ghost use Rattle.capi.specs.Answers.{as_position};
 
 use crate::answers::Position;

@@ -1,10 +1,11 @@
 // Exported to C and Rust: which of two masks supersedes the other. The C interface has no references: the part of the bytes is returned
 // as the slice that it is of, its first byte and the byte past its last.
-#![tactic(auto, using(masks::proofs::refusal::ClauseLaws::answered), unfolding(crate::specs::Answers::as_part, masks::specs::Superseding::superseding_of))]
+#![tactic(auto, using(masks::proofs::refusal::ClauseLaws::answered), unfolding(crate::specs::Answers::as_part, masks::specs::equations::Superseding::superseding_of))]
 
 ghost use Rattle.std.specs.Prelude.{◌≡◌, cond};
-ghost use Rattle.masks.specs.Answer.{answer};
-ghost use Rattle.masks.specs.Superseding.{bytes_of, superseding_of, within};
+ghost use Rattle.masks.specs.equations.Answer.{answer};
+ghost use Rattle.masks.specs.Superseding.{within};
+ghost use Rattle.masks.specs.equations.Superseding.{bytes_of, superseding_of};
 ghost use Rattle.capi.specs.Answers.{as_part};
 ghost use Rattle.capi.specs.Records.{mask_in};
 

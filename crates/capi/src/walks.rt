@@ -1,8 +1,8 @@
 // The cursors of masks and the items that they return, as records and numbers of the C interface.
 ghost use Rattle.std.specs.Prelude.{ℕ, ◌≡◌};
 ghost use Rattle.words.specs.Flags.{digit};
-ghost use Rattle.masks.specs.Answer.{answer, answer_back};
-ghost use Rattle.masks.specs.Cursor.{answer_step};
+ghost use Rattle.masks.specs.equations.Answer.{answer, answer_back};
+ghost use Rattle.masks.specs.equations.Cursor.{answer_step};
 ghost use Rattle.capi.specs.declared.records.Cursor.{Cursor};
 ghost use Rattle.capi.specs.Answers.{as_cursor, as_remainder, as_step, as_taken};
 ghost use Rattle.capi.specs.Records.{chunks_out, cursor_of, iter_out, slices_out, true_out};

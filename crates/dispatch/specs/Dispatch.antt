@@ -1,7 +1,7 @@
 -- Whether truck t may be reassigned: with no permission mask, no truck may.
 use Rattle.std.specs.Prelude.{ℕ, Bool, false, List, Option, Some, None}
 use Rattle.masks.specs.declared.bitmap.Bitmap.{Bitmap}
-use Rattle.masks.specs.Answer.{Answer, checked}
+use Rattle.masks.specs.equations.Answer.{Answer, checked}
 use Rattle.masks.specs.AtIndex.{and_not_at_checks, and_not_flag}
 
 -- Flag t of the permission mask and not flag t of the revocation mask; an absent revocation mask takes nothing away. An operator
@@ -9,8 +9,3 @@ use Rattle.masks.specs.AtIndex.{and_not_at_checks, and_not_flag}
 unfoldable pub reassignable : Option Bitmap → List ℕ → Option Bitmap → List ℕ → ℕ → Bool
 reassignable (Some p) p_bytes revocation r_bytes t = and_not_flag (Some p) p_bytes revocation r_bytes t
 reassignable None p_bytes revocation r_bytes t = false
-
--- Checks 1 to 3 of each mask that is present, 5 if both are, and 6: the truck's number is below the length. No checks without a mask.
-unfoldable pub may_reassign : Option Bitmap → List ℕ → Option Bitmap → List ℕ → ℕ → Answer (Unit {0}) Bool
-may_reassign permission p_bytes revocation r_bytes t =
-    checked (and_not_at_checks permission p_bytes revocation r_bytes t) tt (reassignable permission p_bytes revocation r_bytes t)

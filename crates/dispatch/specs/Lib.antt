@@ -1,3 +1,4 @@
 -- What the contracts of this crate mean.
 pub mod Dispatch
 pub mod Offer
+pub mod equations

@@ -3,7 +3,7 @@
 use Rattle.std.specs.Prelude.{ℕ, zero, suc, ◌+◌, ◌/◌, Bool, cond, ◌&&◌, List, [], ◌∷◌, ◌++◌, leb, ltb, length, Option, Some, None, Result}
 use Rattle.std.specs.Prelude.{Ok, Err}
 use Rattle.masks.specs.declared.bitmap.Bitmap.{Bitmap}
-use Rattle.masks.specs.Answer.{Answer, given, refused, checked}
+use Rattle.masks.specs.equations.Answer.{Answer, given, refused, checked}
 use Rattle.masks.specs.Checks.{Check}
 use Rattle.masks.specs.NextAndNot.{free_flags, next_checks}
 use Rattle.masks.specs.Search.{nth_from}
@@ -15,11 +15,6 @@ use Rattle.dispatch.specs.declared.offer.Offering.{Offering}
 abbrev pub offer_failure : Result Offering RefusedOffer → ℕ
 offer_failure (Ok o) = 0
 offer_failure (Err e) = number e.refusal
-
--- a result as an answer; a refusal has the caller's cursor
-abbrev pub offer_answer : Result Offering RefusedOffer → Answer ℕ Offering
-offer_answer (Ok o) = given o
-offer_answer (Err e) = refused (number e.refusal) e.cursor
 
 -- ---- the truck and the cursor
 
@@ -84,10 +79,6 @@ offer_checks None p_bytes None r_bytes cursor = []
 unfoldable pub offered_of : Option Bitmap → List ℕ → Option Bitmap → List ℕ → ℕ → Offering
 offered_of (Some p) p_bytes revocation r_bytes cursor = offering p.length (free_flags p p_bytes revocation r_bytes) cursor
 offered_of None p_bytes revocation r_bytes cursor = record { truck = None; cursor = cursor; windows = 0 }
-
-unfoldable pub offer_of : Option Bitmap → List ℕ → Option Bitmap → List ℕ → ℕ → Answer ℕ Offering
-offer_of permission p_bytes revocation r_bytes cursor =
-    checked (offer_checks permission p_bytes revocation r_bytes cursor) cursor (offered_of permission p_bytes revocation r_bytes cursor)
 
 -- ---- the bound on the windows
 

@@ -3,9 +3,10 @@ use Rattle.std.specs.Prelude.{ℕ, Bool, List}
 use Rattle.words.specs.declared.ops.Op.{Op}
 use Rattle.words.specs.declared.ops.Op.TheVariants.{And, AndNot, Or, OrNot, Xor}
 use Rattle.masks.specs.declared.bitmap.Recounted.{Recounted}
-use Rattle.masks.specs.Answer.{Answer, given, refused}
-use Rattle.masks.specs.Combine.{pair_of, pair_bytes, not_of, not_bytes, select_of, select_bytes, select_constant_of, select_constant_bytes}
-use Rattle.masks.specs.Mask.{slice_of, unset_bits_of}
+use Rattle.masks.specs.equations.Answer.{Answer, given, refused}
+use Rattle.masks.specs.equations.Combine.{pair_of, pair_bytes, not_of, not_bytes, select_of, select_bytes, select_constant_of}
+use Rattle.masks.specs.equations.Combine.{select_constant_bytes}
+use Rattle.masks.specs.equations.Mask.{slice_of, unset_bits_of}
 use Rattle.masks.specs.declared.bitmap.Bitmap.{Bitmap}
 use Rattle.histories.specs.ReferenceList.{Pair, and, and_not, or, or_not, xor, inverted, flag_by_flag, piece, selected, selected_or}
 use Rattle.histories.specs.Rows.{Argument, Keeps, Lent, RowCall, Tuple, Writes, keep, write, of_one, of_two, of_three}

@@ -6,8 +6,8 @@
 use Rattle.std.specs.Prelude.{ℕ, zero, suc, ◌+◌, Bool, false, cond, not, ◌&&◌, ◌||◌, ltb, drop, replicate, take}
 use mathlib.Core.List.{List, [], ◌∷◌, flat_map, map, zip, zip_with}
 use Rattle.words.specs.Flags.{bit_at, flag_at}
-use Rattle.masks.specs.Appends.{Append, push_flag, extend_constant, push_word, extend_slice}
-use Rattle.masks.specs.Appends.{extend_repeated, extend_bitmap, extend_gather, extend_opt_gather}
+use Rattle.masks.specs.equations.Appends.{Append, push_flag, extend_constant, push_word, extend_slice}
+use Rattle.masks.specs.equations.Appends.{extend_repeated, extend_bitmap, extend_gather, extend_opt_gather}
 use Rattle.masks.specs.declared.bitmap.Bitmap.{Bitmap}
 
 -- n consecutive numbers that begin with `first`

@@ -4,7 +4,7 @@
 -- A row's answer and bytes are the definitions that the call's contract cites. Its flags are the reference list's own words: by their
 -- type they see only lists of flags, no record, no byte and no count of the masks.
 use Rattle.std.specs.Prelude.{ℕ, zero, suc, Bool, List}
-use Rattle.masks.specs.Answer.{Answer}
+use Rattle.masks.specs.equations.Answer.{Answer}
 use Rattle.masks.specs.declared.bitmap.Bitmap.{Bitmap}
 
 -- ---- the masks that a call takes

@@ -1,9 +1,9 @@
 // Ties each row of `MaskRows` to its call: each function here makes one call of masks and nothing else, and its contract is the row's
 // answer and the row's bytes. Nobody calls these functions; a row for another call would leave its function unproved.
-#![tactic(auto, using(masks::proofs::refusal::ClauseLaws::answered, masks::proofs::refusal::ClauseLaws::answered_back, masks::proofs::refusal::ClauseLaws::written, masks::proofs::refusal::ClauseLaws::answered_recounted), unfolding(masks::specs::Combine::pair_of, masks::specs::Combine::pair_bytes, masks::specs::Combine::each_of, masks::specs::Combine::each_bytes, masks::specs::Mask::slice_of))]
+#![tactic(auto, using(masks::proofs::refusal::ClauseLaws::answered, masks::proofs::refusal::ClauseLaws::answered_back, masks::proofs::refusal::ClauseLaws::written, masks::proofs::refusal::ClauseLaws::answered_recounted), unfolding(masks::specs::equations::Combine::pair_of, masks::specs::equations::Combine::pair_bytes, masks::specs::equations::Combine::each_of, masks::specs::equations::Combine::each_bytes, masks::specs::equations::Mask::slice_of))]
 
 ghost use Rattle.std.specs.Prelude.{◌≡◌};
-ghost use Rattle.masks.specs.Answer.{answer, answer_back};
+ghost use Rattle.masks.specs.equations.Answer.{answer, answer_back};
 ghost use Rattle.histories.specs.MaskRows.{constant_row, count_row, not_row, pair_row, recounted, select_row, slice_row};
 ghost use Rattle.histories.specs.ReferenceList.{Pair};
 ghost use Rattle.histories.specs.Rows.{one, two, three, with_bytes};

@@ -4,7 +4,7 @@
 use Rattle.std.specs.Prelude.{ℕ, ◌+◌, ◌-◌, ◌*◌, ◌/◌, ◌%◌, Bool, cond, List, ◌++◌, leb, length}
 use Rattle.words.specs.Flags.{word_of}
 use Rattle.words.specs.Loops.{stretch}
-use Rattle.masks.specs.Answer.{Answer, given, checked, unless_empty}
+use Rattle.masks.specs.equations.Answer.{Answer, given, checked, unless_empty}
 use Rattle.masks.specs.Checks.{Check, span_checks, address_checks}
 use Rattle.masks.specs.declared.aligned.AlignedBitmapSlice.{AlignedBitmapSlice}
 
@@ -44,14 +44,6 @@ aligned_split bytes start n address =
       suffix_len = suffix_length start n address;
     }
 
--- the split of no flags: all 0
-abbrev pub empty_split : AlignedBitmapSlice
-empty_split = record { prefix = 0; prefix_len = 0; bulk_start = 0; bulk_len = 0; suffix = 0; suffix_len = 0 }
-
 -- checks 1, 2 and 8 of a span of n flags over `size` bytes, at an address remainder
 unfoldable pub aligned_checks : ℕ → ℕ → ℕ → ℕ → List Check
 aligned_checks start n size address = span_checks start n size ++ address_checks address
-
-unfoldable pub aligned_of : List ℕ → ℕ → ℕ → ℕ → Answer (Unit {0}) AlignedBitmapSlice
-aligned_of bytes start n address =
-    unless_empty n (given empty_split) (checked (aligned_checks start n (length bytes) address) tt (aligned_split bytes start n address))

@@ -1,6 +1,6 @@
 -- The combination `and_not` at one index, where either mask may be absent.
 use Rattle.std.specs.Prelude.{ℕ, Bool, true, false, not, ◌&&◌, List, [], ◌∷◌, ◌++◌, eqb, ltb, get_or, Option, Some, None}
-use Rattle.masks.specs.Answer.{Answer, checked}
+use Rattle.masks.specs.equations.Answer.{Answer, checked}
 use Rattle.masks.specs.Checks.{Check, check}
 use Rattle.masks.specs.Mask.{mask_checks, mask_flags}
 use Rattle.masks.specs.declared.bitmap.Bitmap.{Bitmap}
@@ -35,9 +35,3 @@ length_checks None second = []
 unfoldable pub and_not_at_checks : Option Bitmap → List ℕ → Option Bitmap → List ℕ → ℕ → List Check
 and_not_at_checks first a_bytes second b_bytes i =
     index_checks first a_bytes i ++ (index_checks second b_bytes i ++ length_checks first second)
-
--- ---- the answer
-
-unfoldable pub and_not_at_of : Option Bitmap → List ℕ → Option Bitmap → List ℕ → ℕ → Answer (Unit {0}) Bool
-and_not_at_of first a_bytes second b_bytes i =
-    checked (and_not_at_checks first a_bytes second b_bytes i) tt (and_not_flag first a_bytes second b_bytes i)

@@ -2,7 +2,7 @@
 use Rattle.std.specs.Prelude.{ℕ, ◌+◌, ◌-◌, List, [], ◌∷◌, ◌++◌, leb, length}
 use Rattle.words.specs.Flags.{word_of, window}
 use Rattle.words.specs.Loops.{stretch}
-use Rattle.masks.specs.Answer.{Answer, checked}
+use Rattle.masks.specs.equations.Answer.{Answer, checked}
 use Rattle.masks.specs.Checks.{Check, check, within_limit, span_checks}
 use Rattle.masks.specs.declared.bitmask.Span.{Span}
 
@@ -18,9 +18,6 @@ split_checks start n at size = span_checks start n size ++ (within_limit (start 
 -- the spans of the first `at` flags, and of those after them
 abbrev pub parts_at : ℕ → ℕ → ℕ → Span × Span
 parts_at start n at = (span_of start at, span_of (start + at) (n - at))
-
-unfoldable pub split_at : List ℕ → ℕ → ℕ → ℕ → Answer (Unit {0}) (Span × Span)
-split_at bytes start n at = checked (split_checks start n at (length bytes)) tt (parts_at start n at)
 
 -- ---- a window of 32 flags
 

@@ -2,7 +2,7 @@
 use Rattle.std.specs.Prelude.{ℕ, ◌+◌, ◌*◌, ◌/◌, ◌%◌, cond, List, ltb, length}
 use Rattle.words.specs.Flags.{word_of, window}
 use Rattle.words.specs.Loops.{stretch}
-use Rattle.masks.specs.Answer.{Answer, checked}
+use Rattle.masks.specs.equations.Answer.{Answer, checked}
 use Rattle.masks.specs.Checks.{Check, span_checks}
 use Rattle.masks.specs.Cursor.{Step, item, ended, cursor_checks}
 use Rattle.masks.specs.declared.chunks.BitChunks.{BitChunks}
@@ -10,12 +10,6 @@ use Rattle.masks.specs.declared.chunks.BitChunks.{BitChunks}
 -- a cursor over n flags starting at `start`, at a place that counts words: the one place where its record is made
 abbrev pub chunks_at : ℕ → ℕ → ℕ → BitChunks
 chunks_at start n place = record { start = start; length = n; place = place }
-
--- ---- a new cursor
-
--- the answer of `BitChunks::new`: checks 1 and 2, and a cursor at place 0
-unfoldable pub new_chunks : List ℕ → ℕ → ℕ → Answer (Unit {0}) BitChunks
-new_chunks bytes start n = checked (span_checks start n (length bytes)) tt (chunks_at start n 0)
 
 -- ---- the next word
 
@@ -34,14 +28,8 @@ chunk_step bytes c =
 abbrev pub chunk_checks : BitChunks → List ℕ → List Check
 chunk_checks c bytes = cursor_checks c.start c.length c.place (length bytes)
 
-unfoldable pub next_chunk : BitChunks → List ℕ → Answer BitChunks (Step BitChunks ℕ)
-next_chunk c bytes = checked (chunk_checks c bytes) c (chunk_step bytes c)
-
 -- ---- the remainder
 
 -- the last n mod 64 flags of a span as a word, with zeros above them
 unfoldable pub remainder_word : List ℕ → ℕ → ℕ → ℕ
 remainder_word bytes start n = word_of (window (stretch bytes start n) (64 * (n / 64)) (n % 64))
-
-unfoldable pub chunks_remainder : BitChunks → List ℕ → Answer BitChunks (ℕ × ℕ)
-chunks_remainder c bytes = checked (chunk_checks c bytes) c (remainder_word bytes c.start c.length, c.length % 64)

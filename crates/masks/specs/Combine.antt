@@ -5,7 +5,7 @@ use Rattle.words.specs.Flags.{copies, over}
 use Rattle.words.specs.Ops.{op_of, zip3}
 use Rattle.words.specs.declared.ops.Op.{Op}
 pub use Rattle.words.specs.declared.ops.Op.TheVariants.{And, AndNot, Or, OrNot, Xor, Not, Select}
-use Rattle.masks.specs.Answer.{Answer, checked, kept}
+use Rattle.masks.specs.equations.Answer.{Answer, checked, kept}
 use Rattle.masks.specs.Checks.{Check, check, first_failed, output_checks}
 use Rattle.masks.specs.Frozen.{frozen}
 use Rattle.masks.specs.Mask.{mask_under, mask_flags, mask_checks, zero_count, uncounted}
@@ -32,11 +32,6 @@ shortcut AndNot n l r = None
 shortcut OrNot n l r = None
 shortcut Not n l r = None
 shortcut Select n l r = None
-
--- the n flags of the result: copies of the shortcut's flag, or without a shortcut those combined flag by flag
-abbrev pub result_flags : Option Bool → ℕ → List Bool → List Bool
-result_flags None n flags = flags
-result_flags (Some x) n flags = copies n x
 
 -- the count of a result of n flags: n if a shortcut makes it all zeros, 0 for no flags, else unknown
 abbrev pub result_count : Option Bool → ℕ → Option ℕ
@@ -73,20 +68,7 @@ pair_flags op a a_bytes b b_bytes = pair_each op a a_bytes b b_bytes
 unfoldable pub pair_mask : Op → Bitmap → List ℕ → Bitmap → List ℕ → Bitmap
 pair_mask op a a_bytes b b_bytes = result_mask (a ∷ b ∷ []) a.length (result_count (pair_shortcut op a a_bytes b b_bytes) a.length)
 
-unfoldable pub pair_of : Op → Bitmap → List ℕ → Bitmap → List ℕ → List ℕ → Answer (Unit {0}) Bitmap
-pair_of op a a_bytes b b_bytes out = checked (pair_checks a a_bytes b b_bytes (length out)) tt (pair_mask op a a_bytes b b_bytes)
-
-unfoldable pub pair_bytes : Op → Bitmap → List ℕ → Bitmap → List ℕ → List ℕ → List ℕ
-pair_bytes op a a_bytes b b_bytes out =
-    kept (first_failed (pair_checks a a_bytes b b_bytes (length out))) (over out (frozen (pair_flags op a a_bytes b b_bytes))) out
-
 -- ---- combinations with no shortcut, by their checks, their masks, how many flags these have, and the flags of the result
-
-unfoldable pub each_of : List Check → List Bitmap → ℕ → Answer (Unit {0}) Bitmap
-each_of cs masks n = checked cs tt (result_mask masks n (uncounted n))
-
-unfoldable pub each_bytes : List Check → List Bool → List ℕ → List ℕ
-each_bytes cs flags out = kept (first_failed cs) (over out (frozen flags)) out
 
 -- `not`, which inverts each flag: its checks, its flags, its answer, and what the output then holds
 unfoldable pub not_checks : Bitmap → List ℕ → ℕ → List Check
@@ -94,12 +76,6 @@ not_checks m bytes size = mask_checks m bytes ++ output_checks m.length size
 
 abbrev pub not_flags : Bitmap → List ℕ → List Bool
 not_flags m bytes = map not (mask_flags m bytes)
-
-abbrev pub not_of : Bitmap → List ℕ → List ℕ → Answer (Unit {0}) Bitmap
-not_of m bytes out = each_of (not_checks m bytes (length out)) (m ∷ []) m.length
-
-abbrev pub not_bytes : Bitmap → List ℕ → List ℕ → List ℕ
-not_bytes m bytes out = each_bytes (not_checks m bytes (length out)) (not_flags m bytes) out
 
 -- `select`, which takes the second mask's flag where the first's is 1, else the third's: as for `not`
 unfoldable pub select_checks : Bitmap → List ℕ → Bitmap → List ℕ → Bitmap → List ℕ → ℕ → List Check
@@ -112,20 +88,6 @@ select_checks s s_bytes t t_bytes f f_bytes size =
 abbrev pub select_flags : Bitmap → List ℕ → Bitmap → List ℕ → Bitmap → List ℕ → List Bool
 select_flags s s_bytes t t_bytes f f_bytes = zip3 cond (mask_flags s s_bytes) (mask_flags t t_bytes) (mask_flags f f_bytes)
 
-abbrev pub select_of : Bitmap → List ℕ → Bitmap → List ℕ → Bitmap → List ℕ → List ℕ → Answer (Unit {0}) Bitmap
-select_of s s_bytes t t_bytes f f_bytes out = each_of (select_checks s s_bytes t t_bytes f f_bytes (length out)) (s ∷ t ∷ f ∷ []) s.length
-
-abbrev pub select_bytes : Bitmap → List ℕ → Bitmap → List ℕ → Bitmap → List ℕ → List ℕ → List ℕ
-select_bytes s s_bytes t t_bytes f f_bytes out =
-    each_bytes (select_checks s s_bytes t t_bytes f f_bytes (length out)) (select_flags s s_bytes t t_bytes f f_bytes) out
-
 -- `select_constant`, which takes the second mask's flag where the first's is 1, else the constant; its checks are those of a pair
 abbrev pub select_constant_flags : Bitmap → List ℕ → Bitmap → List ℕ → Bool → List Bool
 select_constant_flags s s_bytes t t_bytes x = zip_with (λ p q. cond p q x) (mask_flags s s_bytes) (mask_flags t t_bytes)
-
-abbrev pub select_constant_of : Bitmap → List ℕ → Bitmap → List ℕ → Bool → List ℕ → Answer (Unit {0}) Bitmap
-select_constant_of s s_bytes t t_bytes x out = each_of (pair_checks s s_bytes t t_bytes (length out)) (s ∷ t ∷ []) s.length
-
-abbrev pub select_constant_bytes : Bitmap → List ℕ → Bitmap → List ℕ → Bool → List ℕ → List ℕ
-select_constant_bytes s s_bytes t t_bytes x out =
-    each_bytes (pair_checks s s_bytes t t_bytes (length out)) (select_constant_flags s s_bytes t t_bytes x) out

@@ -1,6 +1,6 @@
 -- Cursors: a span and the next place in it. Document 01 (docs/REFERENCE.md) calls them walks.
 use Rattle.std.specs.Prelude.{ℕ, List, [], ◌∷◌, ◌++◌, leb, Option, Some, None, Result, Ok, Err}
-use Rattle.masks.specs.Answer.{Answer, given, refused}
+use Rattle.masks.specs.equations.Answer.{Answer, given, refused}
 use Rattle.masks.specs.Checks.{Check, check, span_checks}
 use Rattle.masks.specs.Refusal.{number}
 use Rattle.masks.specs.declared.cursor.Step.{Step as Stepped}
@@ -18,8 +18,3 @@ pub data Step (C A : Type 0) : Type 0 where
 abbrev pub step_of : {A C : Type 0} → Option A → C → Step C A
 step_of (Some a) c = item a c
 step_of None c = ended c
-
--- the answer of a call on a cursor
-abbrev pub answer_step : {A C : Type 0} → Result (Stepped A C) (Refused C) → Answer C (Step C A)
-answer_step (Ok s) = given (step_of s.item s.cursor)
-answer_step (Err e) = refused (number e.refusal) e.state

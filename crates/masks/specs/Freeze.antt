@@ -1,7 +1,7 @@
 -- Freezing: the mask of a builder's flags, and their frozen bytes.
 use Rattle.std.specs.Prelude.{ℕ, ◌+◌, ◌-◌, cond, List, eqb, length, Option, Some, None}
 use Rattle.words.specs.Flags.{count, over, word_flags}
-use Rattle.masks.specs.Answer.{Answer, checked, kept}
+use Rattle.masks.specs.equations.Answer.{Answer, checked, kept}
 use Rattle.masks.specs.Builder.{filling, builder_flags, builder_checks}
 use Rattle.masks.specs.Checks.{Check, first_failed}
 use Rattle.masks.specs.Frozen.{frozen}
@@ -27,13 +27,3 @@ freeze_checks b size = builder_checks b b.length size
 -- a builder's buffer with the frozen bytes of its flags at the start
 unfoldable pub frozen_over : BitmapBuilder → List ℕ → List ℕ
 frozen_over b bytes = over bytes (frozen (builder_flags (filling b bytes)))
-
--- what `freeze` and `into_opt_validity` answer, and what the buffer then holds
-abbrev pub freeze_of : BitmapBuilder → List ℕ → Answer BitmapBuilder Bitmap
-freeze_of b bytes = checked (freeze_checks b (length bytes)) b (frozen_mask b)
-
-abbrev pub into_opt_validity_of : BitmapBuilder → List ℕ → Answer BitmapBuilder (Option Bitmap)
-into_opt_validity_of b bytes = checked (freeze_checks b (length bytes)) b (validity_of b)
-
-abbrev pub freeze_bytes : BitmapBuilder → List ℕ → List ℕ
-freeze_bytes b bytes = kept (first_failed (freeze_checks b (length bytes))) (frozen_over b bytes) bytes

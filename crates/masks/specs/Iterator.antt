@@ -2,7 +2,7 @@
 use Rattle.std.specs.Prelude.{ℕ, ◌+◌, Bool, false, cond, List, eqb, ltb, length, drop, get_or}
 use Rattle.words.specs.Ends.{leading}
 use Rattle.words.specs.Loops.{stretch}
-use Rattle.masks.specs.Answer.{Answer, given, checked, unless_empty}
+use Rattle.masks.specs.equations.Answer.{Answer, given, checked, unless_empty}
 use Rattle.masks.specs.Checks.{Check, span_checks}
 use Rattle.masks.specs.Cursor.{Step, item, ended, cursor_checks}
 use Rattle.masks.specs.declared.iterator.BitmapIter.{BitmapIter}
@@ -24,11 +24,6 @@ moved_to c place = iter_at c.start c.length place
 abbrev pub first_iter : ℕ → ℕ → BitmapIter
 first_iter start n = cond (eqb n 0) (iter_at 0 0 0) (iter_at start n 0)
 
--- the answer of `BitmapIter::new`: checks 1 and 2, and the cursor; for length 0 the cursor before them
-unfoldable pub new_iter : List ℕ → ℕ → ℕ → Answer (Unit {0}) BitmapIter
-new_iter bytes start n =
-    unless_empty n (given (first_iter start n)) (checked (span_checks start n (length bytes)) tt (first_iter start n))
-
 -- ---- a flag: checks 1, 2 and 6
 
 abbrev pub iter_checks : BitmapIter → List ℕ → List Check
@@ -41,9 +36,6 @@ flag_step bytes c k =
     (item (get_or (iter_flags c bytes) (c.place + k) false) (moved_to c (c.place + k + 1)))
     (ended (moved_to c c.length))
 
-unfoldable pub nth_flag : BitmapIter → List ℕ → ℕ → Answer BitmapIter (Step BitmapIter Bool)
-nth_flag c bytes k = checked (iter_checks c bytes) c (flag_step bytes c k)
-
 -- ---- how many flags in a row are equal: checks 1, 2 and 6
 
 -- how many flags x there are in a row, starting at a place of l
@@ -53,7 +45,3 @@ leading_from x l place = leading x (drop place l)
 -- how many flags x there are in a row at the cursor
 abbrev pub leading_at : Bool → BitmapIter → List ℕ → ℕ
 leading_at x c bytes = leading_from x (iter_flags c bytes) c.place
-
--- their number, and the cursor past them
-unfoldable pub take_leading : Bool → BitmapIter → List ℕ → Answer BitmapIter (ℕ × BitmapIter)
-take_leading x c bytes = checked (iter_checks c bytes) c (leading_at x c bytes, moved_to c (c.place + leading_at x c bytes))

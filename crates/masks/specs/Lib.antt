@@ -1,6 +1,5 @@
--- What the contracts of this crate mean. Read `Checks`, `Answer` and `Mask` first.
+-- What the contracts of this crate mean. Read `Checks`, `Refusal` and `Mask` first. No contract of this crate cites `equations`.
 pub mod Aligned
-pub mod Answer
 pub mod Refusal
 pub mod Appends
 pub mod AtIndex
@@ -23,3 +22,4 @@ pub mod Superseding
 pub mod TrueIdx
 pub mod Utils
 pub mod Workers
+pub mod equations

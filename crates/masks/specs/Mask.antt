@@ -3,7 +3,7 @@ use Rattle.std.specs.Prelude.{ℕ, ◌+◌, ◌-◌, ◌/◌, max, Bool, true, f
 use Rattle.std.specs.Prelude.{Some, None}
 use Rattle.words.specs.Flags.{copies, over}
 use Rattle.words.specs.Loops.{stretch}
-use Rattle.masks.specs.Answer.{Answer, checked, kept}
+use Rattle.masks.specs.equations.Answer.{Answer, checked, kept}
 use Rattle.masks.specs.Checks.{Check, check, first_failed, output_checks, within_limit, span_checks}
 use Rattle.masks.specs.Frozen.{frozen}
 use Rattle.masks.specs.Utils.{zeros}
@@ -58,23 +58,9 @@ mask_checks m bytes = span_checks m.start m.length (length bytes) ++ (check 3 (c
 abbrev pub empty_mask : Bitmap
 empty_mask = mask_of 0 0 (Some 0)
 
-unfoldable pub try_new_of : List ℕ → ℕ → ℕ → Answer (Unit {0}) Bitmap
-try_new_of bytes start n = checked (span_checks start n (length bytes)) tt (mask_of start n (uncounted n))
-
 -- checks 1 and 9 of a mask of n zeros in an output of `size` bytes
 unfoldable pub zeroed_checks : ℕ → ℕ → List Check
 zeroed_checks n size = within_limit n ∷ output_checks n size
-
-unfoldable pub new_zeroed_of : ℕ → List ℕ → Answer (Unit {0}) Bitmap
-new_zeroed_of n out = checked (zeroed_checks n (length out)) tt (mask_of 0 n (Some n))
-
-unfoldable pub new_zeroed_bytes : ℕ → List ℕ → List ℕ
-new_zeroed_bytes n out = kept (first_failed (zeroed_checks n (length out))) (over out (frozen (copies n false))) out
-
-unfoldable pub unset_bits_of : Bitmap → List ℕ → Answer Bitmap Recounted
-unset_bits_of m bytes =
-    checked (mask_checks m bytes) m
-    (record { mask = with_count m (Some (zero_count m bytes)); zeros = zero_count m bytes })
 
 -- ---- slice
 
@@ -114,6 +100,3 @@ slice_checks m bytes offset n =
 
 abbrev pub sliced_mask : Bitmap → List ℕ → ℕ → ℕ → Bitmap
 sliced_mask m bytes offset n = cut_mask m (m.start + offset) n (sliced_count m.length n (cut_zeros m bytes offset n) m.unset)
-
-unfoldable pub slice_of : Bitmap → List ℕ → ℕ → ℕ → Answer Bitmap Bitmap
-slice_of m bytes offset n = checked (slice_checks m bytes offset n) m (sliced_mask m bytes offset n)

@@ -1,7 +1,7 @@
 -- The next flag that is set in one mask and not in another, starting at a place and going round once, and how many windows of 32 flags are
 -- read.
 use Rattle.std.specs.Prelude.{ℕ, ◌+◌, ◌-◌, ◌/◌, Bool, List, [], ◌∷◌, ◌++◌, eqb, leb, Option, Some, None}
-use Rattle.masks.specs.Answer.{Answer, checked}
+use Rattle.masks.specs.equations.Answer.{Answer, checked}
 use Rattle.masks.specs.Checks.{Check, check}
 use Rattle.masks.specs.Combine.{AndNot, pair_flags}
 use Rattle.masks.specs.Mask.{mask_checks, mask_flags}
@@ -43,7 +43,3 @@ other_checks n None b_bytes = []
 unfoldable pub next_checks : Bitmap → List ℕ → Option Bitmap → List ℕ → ℕ → List Check
 next_checks a a_bytes second b_bytes from =
     mask_checks a a_bytes ++ (other_checks a.length second b_bytes ++ (check 6 (leb from a.length) ∷ []))
-
-unfoldable pub next_and_not_of : Bitmap → List ℕ → Option Bitmap → List ℕ → ℕ → Answer (Unit {0}) Found
-next_and_not_of a a_bytes second b_bytes from =
-    checked (next_checks a a_bytes second b_bytes from) tt (next_set a.length (free_flags a a_bytes second b_bytes) from)

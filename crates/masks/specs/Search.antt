@@ -3,7 +3,7 @@ use Rattle.std.specs.Prelude.{ℕ, ◌+◌, ◌-◌, Bool, cond, List, ltb, leng
 use Rattle.words.specs.Flags.{count}
 use Rattle.words.specs.Loops.{stretch}
 use Rattle.words.specs.Nth.{nth_place}
-use Rattle.masks.specs.Answer.{Answer, checked}
+use Rattle.masks.specs.equations.Answer.{Answer, checked}
 use Rattle.masks.specs.Checks.{span_checks}
 
 -- the position of the n-th set flag at or after `from`, counted from 0; none if at most n are set there
@@ -13,11 +13,3 @@ nth_from l n from = cond (ltb n (count (drop from l))) (Some (from + nth_place (
 -- the position of the n-th set flag counted down from below `end`: of c set flags before it, the one numbered c - 1 - n
 unfoldable pub nth_back : List Bool → ℕ → ℕ → Option ℕ
 nth_back l n end = cond (ltb n (count (take end l))) (Some (nth_place (take end l) (count (take end l) - 1 - n))) None
-
--- ---- the calls: checks 1 and 2
-
-unfoldable pub search_from : List ℕ → ℕ → ℕ → ℕ → ℕ → Answer (Unit {0}) (Option ℕ)
-search_from bytes start size n from = checked (span_checks start size (length bytes)) tt (nth_from (stretch bytes start size) n from)
-
-unfoldable pub search_back : List ℕ → ℕ → ℕ → ℕ → ℕ → Answer (Unit {0}) (Option ℕ)
-search_back bytes start size n end = checked (span_checks start size (length bytes)) tt (nth_back (stretch bytes start size) n end)

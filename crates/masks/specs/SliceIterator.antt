@@ -1,7 +1,7 @@
 -- The runs of ones of a mask, one by one.
 use Rattle.std.specs.Prelude.{ℕ, suc, ◌+◌, Bool, true, false, cond, List, [], ◌∷◌, ltb, eqb, length}
 use Rattle.words.specs.Loops.{stretch}
-use Rattle.masks.specs.Answer.{Answer, checked}
+use Rattle.masks.specs.equations.Answer.{Answer, checked}
 use Rattle.masks.specs.Checks.{Check}
 use Rattle.masks.specs.Cursor.{Step, item, ended, cursor_checks}
 use Rattle.masks.specs.Iterator.{leading_from}
@@ -21,11 +21,6 @@ slices_moved c place = slices_at c.start c.length place
 abbrev pub run_of : ℕ → ℕ → Run
 run_of first n = record { start = first; length = n }
 
--- ---- a new cursor: checks 1 to 3
-
-unfoldable pub new_slices : Bitmap → List ℕ → Answer (Unit {0}) SlicesIterator
-new_slices m bytes = checked (mask_checks m bytes) tt (slices_at m.start m.length 0)
-
 -- ---- the next run: checks 1, 2 and 6
 
 abbrev pub run_checks : SlicesIterator → List ℕ → List Check
@@ -41,9 +36,6 @@ slice_step c l =
     let first = run_start l c.place in
     let n = leading_from true l first in
     cond (ltb first c.length) (item (run_of first n) (slices_moved c (first + n))) (ended (slices_moved c c.length))
-
-unfoldable pub next_slice : SlicesIterator → List ℕ → Answer SlicesIterator (Step SlicesIterator Run)
-next_slice c bytes = checked (run_checks c bytes) c (slice_step c (stretch bytes c.start c.length))
 
 -- ---- all runs of a list
 

@@ -1,7 +1,7 @@
 -- Which of two masks of one operator supersedes the other, and the part of the bytes lent that holds it.
 use Rattle.std.specs.Prelude.{ℕ, ◌+◌, ◌-◌, ◌/◌, ◌%◌, Bool, true, false, cond, not, ◌||◌, List, [], ◌∷◌, ◌++◌, eqb, ltb, take, drop}
 use Rattle.words.specs.Counts.{same_flags}
-use Rattle.masks.specs.Answer.{Answer, given, refused, checked}
+use Rattle.masks.specs.equations.Answer.{Answer, given, refused, checked}
 use Rattle.masks.specs.Checks.{Check, check}
 use Rattle.masks.specs.Mask.{cut_mask, mask_checks, mask_flags}
 use Rattle.masks.specs.declared.bitmap.Bitmap.{Bitmap}
@@ -34,14 +34,6 @@ winning a b = cond (ltb a.serial b.serial) (part_of true b) (part_of false a)
 
 -- ---- the answers
 
-unfoldable pub superseding_of : Bitmap → List ℕ → Bitmap → List ℕ → Answer (Unit {0}) Part
-superseding_of a a_bytes b b_bytes = checked (superseding_checks a a_bytes b b_bytes) tt (winning a b)
-
--- only the record of the winner
-abbrev pub record_of : Answer (Unit {0}) Part → Answer (Unit {0}) Bitmap
-record_of (given p) = given p.mask
-record_of (refused k s) = refused k s
-
 -- the bytes from number `from` to before number `to`; `part_bytes`: those of a part, in the slice that it names
 abbrev pub within : ℕ → ℕ → List ℕ → List ℕ
 within from to bytes = take (to - from) (drop from bytes)
@@ -52,13 +44,3 @@ part_bytes p a_bytes b_bytes = within p.from p.to (cond p.second b_bytes a_bytes
 -- where a part lies, by where the two slices do: in the slice that it names, from its first byte
 abbrev pub part_place : Part → ℕ × ℕ → ℕ × ℕ → ℕ × ℕ
 part_place p a b = ((cond p.second b a).0, (cond p.second b a).1 + p.from)
-
--- the bytes that `superseding_bytes` returns: after a refusal an empty part of the first slice
-abbrev pub bytes_of : Answer (Unit {0}) Part → List ℕ → List ℕ → List ℕ
-bytes_of (given p) a_bytes b_bytes = part_bytes p a_bytes b_bytes
-bytes_of (refused k s) a_bytes b_bytes = within 0 0 a_bytes
-
--- where these bytes lie, by where the two slices do: after a refusal where the first slice does
-abbrev pub place_of : Answer (Unit {0}) Part → ℕ × ℕ → ℕ × ℕ → ℕ × ℕ
-place_of (given p) a b = part_place p a b
-place_of (refused k s) a b = a

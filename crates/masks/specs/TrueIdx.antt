@@ -3,7 +3,7 @@ use Rattle.std.specs.Prelude.{ℕ, suc, ◌+◌, Bool, true, false, cond, List, 
 use Rattle.words.specs.Flags.{copies}
 use Rattle.words.specs.Loops.{stretch}
 use Rattle.masks.specs.declared.bitmap.Bitmap.{Bitmap}
-use Rattle.masks.specs.Answer.{Answer, checked}
+use Rattle.masks.specs.equations.Answer.{Answer, checked}
 use Rattle.masks.specs.Checks.{Check, check, within_limit}
 use Rattle.masks.specs.Cursor.{Step, item, ended, cursor_checks}
 use Rattle.masks.specs.Mask.{mask_checks}
@@ -30,9 +30,6 @@ unfoldable pub first_true : ℕ → Option Bitmap → TrueIdxIter
 first_true n (Some m) = true_at m.start n 0 true
 first_true n None = true_at 0 n 0 false
 
-unfoldable pub new_true : ℕ → Option Bitmap → List ℕ → Answer (Unit {0}) TrueIdxIter
-new_true n mask bytes = checked (new_true_checks n mask bytes) tt (first_true n mask)
-
 -- ---- the next position
 
 -- the flags of a cursor; with no mask every flag is set
@@ -49,10 +46,6 @@ true_checks c size =
 unfoldable pub true_step : TrueIdxIter → Option ℕ → Step TrueIdxIter ℕ
 true_step c None = ended (true_moved c c.length)
 true_step c (Some p) = item p (true_moved c (p + 1))
-
--- the answer of `TrueIdxIter::next`: the first one at or after the place
-unfoldable pub next_true : TrueIdxIter → List ℕ → Answer TrueIdxIter (Step TrueIdxIter ℕ)
-next_true c bytes = checked (true_checks c (length bytes)) c (true_step c (nth_from (true_flags c bytes) 0 c.place))
 
 -- ---- all positions of ones of a list
 

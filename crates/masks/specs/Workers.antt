@@ -17,6 +17,9 @@ use Rattle.masks.specs.declared.aligned.AlignedBitmapSlice.{AlignedBitmapSlice}
 use Rattle.masks.specs.declared.bitmap.Bitmap.{Bitmap}
 use Rattle.masks.specs.declared.builder.BitmapBuilder.{BitmapBuilder}
 use Rattle.masks.specs.declared.slice_iterator.Run.{Run}
+use Rattle.std.specs.Prelude.{ℕ, Bool, Option, Some, None}
+use mathlib.Core.List.{List}
+use Rattle.words.specs.Flags.{copies}
 
 -- ---- `utils`: counts over the parts of an aligned split
 
@@ -149,3 +152,8 @@ pub record Searchable (a : Bitmap) (second : Option Bitmap) (from end : ℕ) : T
   pub beside : Beside a.length second
   pub ordered : from ≤ end
   pub inside : end ≤ a.length
+
+-- the n flags of the result: copies of the shortcut's flag, or without a shortcut those combined flag by flag
+abbrev pub result_flags : Option Bool → ℕ → List Bool → List Bool
+result_flags None n flags = flags
+result_flags (Some x) n flags = copies n x

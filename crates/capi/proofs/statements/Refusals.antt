@@ -9,28 +9,34 @@ use Rattle.words.specs.Flags.{bits}
 use Rattle.words.specs.Loops.{stretch}
 use Rattle.words.specs.Nth.{nth_one}
 use Rattle.words.specs.declared.ops.Op.{Op}
-use Rattle.masks.specs.Aligned.{aligned_of}
-use Rattle.masks.specs.Appends.{Append, push_flag, extend_constant, push_word, extend_slice, extend_repeated}
-use Rattle.masks.specs.Appends.{extend_bitmap, extend_gather, extend_opt_gather, append_answer, append_bytes}
-use Rattle.masks.specs.Bitmask.{split_at, window_at}
-use Rattle.masks.specs.Chunks.{chunks_at, new_chunks, next_chunk, chunks_remainder}
-use Rattle.masks.specs.AtIndex.{and_not_at_of}
-use Rattle.masks.specs.Combine.{And, AndNot, Or, OrNot, Xor, pair_of, pair_bytes, not_of, not_bytes}
-use Rattle.masks.specs.Combine.{select_of, select_bytes, select_constant_of, select_constant_bytes}
-use Rattle.masks.specs.Compare.{eq_of, edges_of, common_of}
-use Rattle.masks.specs.Freeze.{freeze_of, into_opt_validity_of, freeze_bytes}
-use Rattle.masks.specs.Iterator.{iter_at, new_iter, nth_flag, take_leading}
-use Rattle.masks.specs.Mask.{try_new_of, new_zeroed_of, new_zeroed_bytes, unset_bits_of, slice_of}
-use Rattle.masks.specs.NextAndNot.{next_and_not_of}
-use Rattle.masks.specs.Positions.{next_positions, positions_over}
+use Rattle.masks.specs.equations.Aligned.{aligned_of}
+use Rattle.masks.specs.equations.Appends.{Append, push_flag, extend_constant, push_word, extend_slice, extend_repeated}
+use Rattle.masks.specs.equations.Appends.{extend_bitmap, extend_gather, extend_opt_gather, append_answer, append_bytes}
+use Rattle.masks.specs.Bitmask.{window_at}
+use Rattle.masks.specs.equations.Bitmask.{split_at}
+use Rattle.masks.specs.Chunks.{chunks_at}
+use Rattle.masks.specs.equations.Chunks.{new_chunks, next_chunk, chunks_remainder}
+use Rattle.masks.specs.equations.AtIndex.{and_not_at_of}
+use Rattle.masks.specs.Combine.{And, AndNot, Or, OrNot, Xor}
+use Rattle.masks.specs.equations.Combine.{pair_of, pair_bytes, not_of, not_bytes}
+use Rattle.masks.specs.equations.Combine.{select_of, select_bytes, select_constant_of, select_constant_bytes}
+use Rattle.masks.specs.equations.Compare.{eq_of, edges_of, common_of}
+use Rattle.masks.specs.equations.Freeze.{freeze_of, into_opt_validity_of, freeze_bytes}
+use Rattle.masks.specs.Iterator.{iter_at}
+use Rattle.masks.specs.equations.Iterator.{new_iter, nth_flag, take_leading}
+use Rattle.masks.specs.equations.Mask.{try_new_of, new_zeroed_of, new_zeroed_bytes, unset_bits_of, slice_of}
+use Rattle.masks.specs.equations.NextAndNot.{next_and_not_of}
+use Rattle.masks.specs.equations.Positions.{next_positions, positions_over}
 use Rattle.masks.proofs.statements.Refusals.{among, all_among}
-use Rattle.masks.specs.Search.{search_from, search_back}
-use Rattle.masks.specs.SliceIterator.{slices_at, new_slices, next_slice}
-use Rattle.masks.specs.Superseding.{superseding_of}
-use Rattle.masks.specs.TrueIdx.{new_true, next_true}
-use Rattle.masks.specs.Utils.{span_count, zeros}
-use Rattle.dispatch.specs.Dispatch.{may_reassign}
-use Rattle.dispatch.specs.Offer.{offer_of}
+use Rattle.masks.specs.equations.Search.{search_from, search_back}
+use Rattle.masks.specs.SliceIterator.{slices_at}
+use Rattle.masks.specs.equations.SliceIterator.{new_slices, next_slice}
+use Rattle.masks.specs.equations.Superseding.{superseding_of}
+use Rattle.masks.specs.equations.TrueIdx.{new_true, next_true}
+use Rattle.masks.specs.Utils.{zeros}
+use Rattle.masks.specs.equations.Utils.{span_count}
+use Rattle.dispatch.specs.equations.Dispatch.{may_reassign}
+use Rattle.dispatch.specs.equations.Offer.{offer_of}
 use Rattle.activity.specs.Window.{new_of, push_of, counts_of}
 use Rattle.capi.specs.Answers.{as_bit, as_builder, as_cursor, as_flag, as_mask, as_next, as_nth, as_number, as_offer, as_position}
 use Rattle.capi.specs.Answers.{as_remainder, as_run, as_same_mask, as_part, as_spans, as_split, as_taken, as_validity, as_word, as_zeros}

@@ -2,7 +2,7 @@
 --
 -- `place` is the place of the cursor that the call returns, also of one that it refused, which is then the caller's own.
 use Rattle.std.specs.Prelude.{ℕ, ◌≡◌, true, false}
-use Rattle.masks.specs.Answer.{given, refused}
+use Rattle.masks.specs.equations.Answer.{given, refused}
 use Rattle.masks.specs.Cursor.{item, ended}
 use Rattle.masks.specs.declared.slice_iterator.Run.{Run}
 use Rattle.capi.specs.Answers.{as_bit, as_cursor, as_remainder, as_run, as_step, as_taken, as_word}

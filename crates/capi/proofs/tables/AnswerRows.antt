@@ -2,7 +2,7 @@
 --
 -- All numbers of a row differ, so that a field that is lost, or exchanged with another, shows.
 use Rattle.std.specs.Prelude.{ℕ, ◌≡◌, true, false, [], ◌∷◌, Some, None, Ok, Err}
-use Rattle.masks.specs.Answer.{Answer, given, refused}
+use Rattle.masks.specs.equations.Answer.{Answer, given, refused}
 use Rattle.masks.specs.Cursor.{item, ended}
 use Rattle.masks.specs.declared.bitmap.Bitmap.{Bitmap}
 use Rattle.masks.specs.declared.builder.BitmapBuilder.{BitmapBuilder}

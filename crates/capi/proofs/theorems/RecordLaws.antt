@@ -1,9 +1,11 @@
 -- A record of masks that is returned to C and passed back is unchanged: nothing of it is lost.
 use Rattle.std.specs.Prelude.{Option, Some, None}
 use Rattle.std.proofs.Common.{◌≡◌, refl, ap, ◌∙◌, Bool, true, false, List, ℕ, zero, suc}
-use Rattle.masks.specs.Answer.{checked, decided, kept}
-use Rattle.masks.specs.Appends.{Append, push_flag, extend_constant, push_word, extend_slice, extend_repeated, extend_bitmap, extend_gather}
-use Rattle.masks.specs.Appends.{extend_opt_gather, append_answer, append_bytes, append_checks, append_flags, constant_checks, gather_checks}
+use Rattle.masks.specs.equations.Answer.{checked, decided, kept}
+use Rattle.masks.specs.equations.Appends.{Append, push_flag, extend_constant, push_word, extend_slice, extend_repeated, extend_bitmap}
+use Rattle.masks.specs.equations.Appends.{extend_gather}
+use Rattle.masks.specs.Appends.{constant_checks, gather_checks}
+use Rattle.masks.specs.equations.Appends.{extend_opt_gather, append_answer, append_bytes, append_checks, append_flags}
 use Rattle.masks.specs.Appends.{span_grow_checks, subslice_checks, word_checks}
 use Rattle.masks.specs.Builder.{appended, builder_checks, filling, in_progress, possible}
 use Rattle.masks.specs.Checks.{Check, first_failed}

@@ -7,9 +7,10 @@ use borrow.Author.Tests.{ne_eqb}
 use Rattle.std.specs.Prelude.{Result, Ok, Err}
 use Rattle.masks.specs.declared.next_and_not.Found.{Found}
 use Rattle.masks.specs.declared.bitmap.Recounted.{Recounted}
-use Rattle.masks.specs.Answer.{Answer, given, refused}
-use Rattle.masks.specs.Appends.{Append, append_answer, append_bytes, push_flag, extend_constant, push_word, extend_slice, extend_repeated}
-use Rattle.masks.specs.Appends.{extend_bitmap, extend_gather, extend_opt_gather}
+use Rattle.masks.specs.equations.Answer.{Answer, given, refused}
+use Rattle.masks.specs.equations.Appends.{Append, append_answer, append_bytes, push_flag, extend_constant, push_word, extend_slice}
+use Rattle.masks.specs.equations.Appends.{extend_repeated}
+use Rattle.masks.specs.equations.Appends.{extend_bitmap, extend_gather, extend_opt_gather}
 use Rattle.masks.specs.Chunks.{chunks_at}
 use Rattle.masks.specs.Combine.{And, AndNot, Or, OrNot, Xor}
 use Rattle.masks.specs.Cursor.{Step, item, ended}

@@ -1,12 +1,13 @@
 -- The wrong answers of `proofs/tables/WrongAnswers.antt` are ruled out, by computation.
 use mathlib.Core.Path.{refl}
 use Rattle.masks.proofs.computed.WrongAnswers.{same_code, tried, plain, flag, bits, count, flags_of, window}
-use Rattle.masks.specs.Answer.{decided}
+use Rattle.masks.specs.equations.Answer.{decided}
 use Rattle.masks.specs.AtIndex.{and_not_at_checks, and_not_flag, flag_or, index_checks, length_checks}
 use Rattle.masks.specs.Checks.{earlier, first_failed, rank, place_in, span_checks}
 use Rattle.masks.specs.Mask.{mask_checks}
 use Rattle.masks.specs.Utils.{zeros}
-use Rattle.dispatch.specs.Dispatch.{may_reassign, reassignable}
+use Rattle.dispatch.specs.Dispatch.{reassignable}
+use Rattle.dispatch.specs.equations.Dispatch.{may_reassign}
 use Rattle.dispatch.proofs.tables.WrongAnswers.{WrongAnswers}
 
 pub ruled_out : WrongAnswers

@@ -3,14 +3,15 @@ use mathlib.Core.Path.{refl}
 use mathlib.Core.List.{◌++◌}
 use Rattle.masks.proofs.computed.WrongAnswers.{answer, bits, Code, flags_of, number, option, same_code, tried, window}
 use Rattle.masks.proofs.computed.WrongNext.{count, nth_place, zip3}
-use Rattle.masks.specs.Answer.{decided}
+use Rattle.masks.specs.equations.Answer.{decided}
 use Rattle.masks.specs.Checks.{earlier, first_failed, rank, place_in, span_checks}
 use Rattle.masks.specs.Combine.{pair_flags, shortcut}
 use Rattle.masks.specs.Mask.{mask_checks}
 use Rattle.masks.specs.NextAndNot.{free_flags, next_checks, other_checks}
 use Rattle.masks.specs.Search.{nth_from}
 use Rattle.dispatch.specs.declared.offer.Offering.{Offering}
-use Rattle.dispatch.specs.Offer.{beginning, in_order, next_truck, offer_checks, offered_of, offering, offer_of, up_to, windows_read}
+use Rattle.dispatch.specs.Offer.{beginning, in_order, next_truck, offer_checks, offered_of, offering, up_to, windows_read}
+use Rattle.dispatch.specs.equations.Offer.{offer_of}
 use Rattle.dispatch.proofs.tables.WrongOffers.{WrongOffers}
 
 abbrev offering_code : Code Offering

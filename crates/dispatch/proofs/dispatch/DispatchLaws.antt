@@ -6,9 +6,11 @@ use mathlib.Core.Path.{◌≡◌, refl, sym}
 use mathlib.Core.Bool.{Bool, true, false}
 use mathlib.Core.List.{List}
 use Prim.Native.Nat.{ℕ}
-use Rattle.masks.specs.AtIndex.{and_not_at_of, and_not_flag}
+use Rattle.masks.specs.AtIndex.{and_not_flag}
+use Rattle.masks.specs.equations.AtIndex.{and_not_at_of}
 use Rattle.masks.specs.declared.bitmap.Bitmap.{Bitmap}
-use Rattle.dispatch.specs.Dispatch.{may_reassign, reassignable}
+use Rattle.dispatch.specs.Dispatch.{reassignable}
+use Rattle.dispatch.specs.equations.Dispatch.{may_reassign}
 
 -- with a permission mask: `and_not` at the truck's number
 pub is-and-not-at : (p : Bitmap) (p_bytes : List ℕ) (R : Option Bitmap) (r_bytes : List ℕ) (t : ℕ)

@@ -15,9 +15,10 @@ use Rattle.std.specs.Result.{IsErrAnd}
 use Rattle.std.proofs.lemmas.Result.{err_from_is_err_and}
 use Rattle.masks.specs.Refusal.{number}
 use Rattle.dispatch.specs.declared.offer.RefusedOffer.{RefusedOffer}
-use Rattle.dispatch.specs.Offer.{offer_answer, offer_failure}
+use Rattle.dispatch.specs.Offer.{offer_failure}
+use Rattle.dispatch.specs.equations.Offer.{offer_answer}
 use Rattle.masks.specs.declared.next_and_not.Found.{Found}
-use Rattle.masks.specs.Answer.{given, refused, decided}
+use Rattle.masks.specs.equations.Answer.{given, refused, decided}
 use Rattle.masks.specs.Checks.{check, earlier, first_failed, limit}
 use Rattle.masks.specs.Mask.{mask_checks}
 use Rattle.masks.specs.NextAndNot.{free_flags, going_round, next_checks, next_set, other_checks, windows_of}

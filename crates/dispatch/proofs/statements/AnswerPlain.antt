@@ -1,11 +1,12 @@
 -- The plain reading of the answers of `may_reassign` and `offer`: their value, or the number.
 use Rattle.std.specs.Prelude.{◌≡◌, Bool, Result, Ok, Err}
-use Rattle.masks.specs.Answer.{Answer, given, refused, answer}
+use Rattle.masks.specs.equations.Answer.{Answer, given, refused, answer}
 use Rattle.masks.specs.Refusal.{number}
 use Rattle.masks.specs.declared.refusal.Refusal.{Refusal}
 use Rattle.dispatch.specs.declared.offer.RefusedOffer.{RefusedOffer}
 use Rattle.dispatch.specs.declared.offer.Offering.{Offering}
-use Rattle.dispatch.specs.Offer.{offer_answer, offer_failure}
+use Rattle.dispatch.specs.Offer.{offer_failure}
+use Rattle.dispatch.specs.equations.Offer.{offer_answer}
 
 -- the definition by which the contract of `may_reassign` reads a result
 abbrev pub reassign_answer : Result Bool Refusal → Answer (Unit {0}) Bool

@@ -4,8 +4,8 @@ use Rattle.masks.specs.Checks.{first_failed}
 use Rattle.masks.proofs.statements.CountsUnseen.{Unseen}
 use Rattle.masks.specs.Mask.{mask_checks}
 use Rattle.masks.specs.declared.bitmap.Bitmap.{Bitmap}
-use Rattle.dispatch.specs.Dispatch.{may_reassign}
-use Rattle.dispatch.specs.Offer.{offer_of}
+use Rattle.dispatch.specs.equations.Dispatch.{may_reassign}
+use Rattle.dispatch.specs.equations.Offer.{offer_of}
 
 pub record CountsUnseen : Type 0 where
   -- `may_reassign`

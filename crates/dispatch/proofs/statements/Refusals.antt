@@ -2,8 +2,8 @@
 use Rattle.std.specs.Prelude.{ℕ, List, [], ◌∷◌, Option, Some, None}
 use Rattle.masks.specs.declared.bitmap.Bitmap.{Bitmap}
 use Rattle.masks.proofs.statements.Refusals.{Refuses}
-use Rattle.dispatch.specs.Dispatch.{may_reassign}
-use Rattle.dispatch.specs.Offer.{offer_of}
+use Rattle.dispatch.specs.equations.Dispatch.{may_reassign}
+use Rattle.dispatch.specs.equations.Offer.{offer_of}
 
 -- of `may_reassign`: with both masks, with one, with none
 abbrev pub may_give : Option Bitmap → Option Bitmap → List ℕ

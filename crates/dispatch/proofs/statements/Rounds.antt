@@ -2,12 +2,13 @@
 -- are trucks that may be reassigned.
 use Rattle.std.specs.Prelude.{ℕ, zero, suc, ◌+◌, ◌≤◌, ◌<◌, ◌≡◌, Bool, true, false, cond, ◌&&◌, List, [], ◌∷◌, ◌++◌, eqb, ltb, Option, Some}
 use Rattle.std.specs.Prelude.{None}
-use Rattle.masks.specs.Answer.{Answer, given, refused}
+use Rattle.masks.specs.equations.Answer.{Answer, given, refused}
 use Rattle.masks.specs.Checks.{first_failed}
 use Rattle.masks.specs.declared.bitmap.Bitmap.{Bitmap}
 use Rattle.dispatch.specs.Dispatch.{reassignable}
 use Rattle.dispatch.specs.declared.offer.Offering.{Offering}
-use Rattle.dispatch.specs.Offer.{offer_checks, offered_of, offer_of}
+use Rattle.dispatch.specs.Offer.{offer_checks, offered_of}
+use Rattle.dispatch.specs.equations.Offer.{offer_of}
 
 -- ---- one call, of n trucks; `may` is whether each may be reassigned
 

@@ -6,15 +6,16 @@
 use Rattle.std.specs.Prelude.{ℕ, Bool, true, false, List, [], ◌∷◌, replicate, Option, Some, None, Err}
 use Rattle.masks.specs.declared.bitmap.Bitmap.{Bitmap}
 use Rattle.masks.specs.declared.refusal.Refusal.TheVariants.{Outside}
-use Rattle.masks.specs.Answer.{Answer, given, refused}
+use Rattle.masks.specs.equations.Answer.{Answer, given, refused}
 use Rattle.masks.specs.Mask.{mask_of}
 use Rattle.masks.proofs.tables.EdgeRows.{SplitRow}
 use Rattle.masks.proofs.tables.LargeRows.{Hold, all_give, eight, ones, largest, wide}
 use Rattle.masks.proofs.tables.StartRows.{numbers}
 use Rattle.masks.proofs.tables.Witnesses.{number_of}
 use Rattle.dispatch.specs.declared.offer.Offering.{Offering}
-use Rattle.dispatch.specs.Dispatch.{may_reassign}
-use Rattle.dispatch.specs.Offer.{most_windows, offer_of, windows_in}
+use Rattle.dispatch.specs.equations.Dispatch.{may_reassign}
+use Rattle.dispatch.specs.Offer.{most_windows, windows_in}
+use Rattle.dispatch.specs.equations.Offer.{offer_of}
 
 -- a refused truck as 6, an accepted one as 0 and the answer
 abbrev pub reassigned : Answer (Unit {0}) Bool → List ℕ

@@ -2,8 +2,8 @@
 use Rattle.std.specs.Prelude.{ℕ, ◌≡◌, [], ◌∷◌, ◌++◌, Option, Some, None}
 use Rattle.masks.specs.declared.bitmap.Bitmap.{Bitmap}
 use Rattle.masks.proofs.tables.Witnesses.{number_of, byte, whole, shorter, at_masks}
-use Rattle.dispatch.specs.Dispatch.{may_reassign}
-use Rattle.dispatch.specs.Offer.{offer_of}
+use Rattle.dispatch.specs.equations.Dispatch.{may_reassign}
+use Rattle.dispatch.specs.equations.Offer.{offer_of}
 use Rattle.dispatch.proofs.statements.Refusals.{may_give, offer_gives}
 
 -- the number of `may_reassign` at a truck

@@ -2,11 +2,12 @@
 --
 -- Rows as in `WrongAnswers` of words: the definition at one input, its value there, and two answers of a faulty call.
 use Rattle.std.specs.Prelude.{ℕ, [], Some, None, Ok}
-use Rattle.masks.specs.Answer.{given, refused}
+use Rattle.masks.specs.equations.Answer.{given, refused}
 use Rattle.masks.proofs.tables.WrongMasks.{Tried}
 use Rattle.masks.proofs.tables.WrongNext.{some40, some40_bytes, taken40, taken40_bytes}
 use Rattle.dispatch.specs.declared.offer.Offering.{Offering}
-use Rattle.dispatch.specs.Offer.{most_windows, offer_of, windows_in}
+use Rattle.dispatch.specs.Offer.{most_windows, windows_in}
+use Rattle.dispatch.specs.equations.Offer.{offer_of}
 
 abbrev pub truck_at : ℕ → ℕ → ℕ → Offering
 truck_at t cursor k = record { truck = Some t; cursor = cursor; windows = k }

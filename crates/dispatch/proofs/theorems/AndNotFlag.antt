@@ -7,7 +7,7 @@ use mathlib.Core.List.{List}
 use Prim.Native.Nat.{ℕ}
 use native.Mathlib.Omega.{arith}
 use lib.ListN.{length, get_or}
-use Rattle.masks.specs.Answer.{given, checked, decided}
+use Rattle.masks.specs.equations.Answer.{given, checked, decided}
 use Rattle.masks.specs.AtIndex.{and_not_at_checks, index_checks, length_checks}
 use Rattle.masks.specs.Checks.{first_failed}
 use Rattle.masks.specs.Combine.{AndNot, pair_checks, pair_flags, pair_mask}
@@ -16,7 +16,8 @@ use Rattle.masks.specs.Mask.{mask_flags}
 use Rattle.masks.specs.declared.bitmap.Bitmap.{Bitmap}
 use Rattle.masks.proofs.theorems.AndNotFlag.{flag-of-and-not as at-and-not, flag-of-written as at-written, no_second}
 use Rattle.masks.proofs.refusal.AnswerLaws.{given-value}
-use Rattle.dispatch.specs.Dispatch.{may_reassign, reassignable}
+use Rattle.dispatch.specs.Dispatch.{reassignable}
+use Rattle.dispatch.specs.equations.Dispatch.{may_reassign}
 use Rattle.dispatch.proofs.dispatch.DispatchLaws.{is-and-not-at}
 
 -- ---- no permission mask

@@ -5,7 +5,7 @@ use Prim.Native.Nat.{ℕ}
 use mathlib.Core.Path.{◌≡◌, refl, ap, ap₂, ◌∙◌}
 use mathlib.Core.Bool.{Bool}
 use mathlib.Core.List.{List}
-use Rattle.masks.specs.Answer.{checked}
+use Rattle.masks.specs.equations.Answer.{checked}
 use Rattle.masks.specs.AtIndex.{and_not_at_checks, and_not_flag, flag_or}
 use Rattle.masks.specs.Checks.{Check}
 use Rattle.masks.proofs.statements.CountsUnseen.{forgot}
@@ -14,9 +14,11 @@ use Rattle.masks.specs.Mask.{mask_checks}
 use Rattle.masks.specs.Checks.{first_failed}
 use Rattle.masks.proofs.theorems.CountsUnseenLaws.{at-checks-left, at-checks-right, free-left, free-right, next-checks-left}
 use Rattle.masks.proofs.theorems.CountsUnseenLaws.{next-checks-right}
-use Rattle.dispatch.specs.Offer.{offer_checks, offer_of, offered_of, offering}
+use Rattle.dispatch.specs.Offer.{offer_checks, offered_of, offering}
+use Rattle.dispatch.specs.equations.Offer.{offer_of}
 use Rattle.dispatch.proofs.statements.CountsUnseen.{CountsUnseen}
-use Rattle.dispatch.specs.Dispatch.{may_reassign, reassignable}
+use Rattle.dispatch.specs.Dispatch.{reassignable}
+use Rattle.dispatch.specs.equations.Dispatch.{may_reassign}
 
 -- the truck's flag reads no count of the revocation mask, whether there is a permission mask or not
 flag_unseen : (p : Option Bitmap) (p_bytes : List ℕ) (r : Bitmap) (r_bytes : List ℕ) (t : ℕ)

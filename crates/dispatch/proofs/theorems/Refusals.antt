@@ -2,15 +2,16 @@
 use Rattle.std.specs.Prelude.{Some, None}
 use mathlib.Core.Path.{refl, subst, sym}
 use Prim.Native.Nat.{ℕ}
-use Rattle.masks.specs.Answer.{decided}
+use Rattle.masks.specs.equations.Answer.{decided}
 use Rattle.masks.specs.AtIndex.{and_not_at_checks, index_checks, length_checks}
 use Rattle.masks.specs.Checks.{span_checks}
 use Rattle.masks.specs.Mask.{mask_checks}
 use Rattle.masks.specs.NextAndNot.{next_checks, other_checks}
 use Rattle.masks.proofs.statements.Refusals.{Refuses, numbers, among, all_among}
 use Rattle.masks.proofs.theorems.Refusals.{refuses-by}
-use Rattle.dispatch.specs.Dispatch.{may_reassign}
-use Rattle.dispatch.specs.Offer.{offer_checks, offer_of, offered_of}
+use Rattle.dispatch.specs.equations.Dispatch.{may_reassign}
+use Rattle.dispatch.specs.Offer.{offer_checks, offered_of}
+use Rattle.dispatch.specs.equations.Offer.{offer_of}
 use Rattle.dispatch.proofs.offer.OfferLaws.{lone-number}
 use Rattle.dispatch.proofs.statements.Refusals.{OfferRefusals, Refusals, offer_gives}
 

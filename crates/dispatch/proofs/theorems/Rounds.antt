@@ -10,7 +10,7 @@ use Prim.Native.Nat.{ℕ, zero, suc, ◌+◌, ◌-◌, ◌≤◌}
 use native.Mathlib.Omega.{arith}
 use lib.ListN.{length, take, get_or, length-append}
 use lib.Seq.{take_all}
-use Rattle.masks.specs.Answer.{Answer, given}
+use Rattle.masks.specs.equations.Answer.{Answer, given}
 use Rattle.masks.specs.Checks.{first_failed}
 use Rattle.masks.specs.NextAndNot.{free_flags}
 use Rattle.masks.specs.declared.bitmap.Bitmap.{Bitmap}
@@ -20,7 +20,8 @@ use Rattle.masks.proofs.next_and_not.NextAndNotLaws.{elsewhere-accepted, free-le
 use Rattle.masks.proofs.theorems.NextPlain.{first-listed, free-flag, head_of, ones, ones-same}
 use Rattle.dispatch.specs.Dispatch.{reassignable}
 use Rattle.dispatch.specs.declared.offer.Offering.{Offering}
-use Rattle.dispatch.specs.Offer.{moved_to, next_truck, offer_checks, offered_of, offering, offer_of, or_else}
+use Rattle.dispatch.specs.Offer.{moved_to, next_truck, offer_checks, offered_of, offering, or_else}
+use Rattle.dispatch.specs.equations.Offer.{offer_of}
 use Rattle.dispatch.proofs.statements.Rounds.{Accepted, ARound, cursor_of, First, many_below, may, offers, OneCall, Right, times, truck_in}
 use Rattle.dispatch.proofs.statements.Rounds.{trucks_of}
 use Rattle.dispatch.proofs.theorems.RoundLaws.{around, around_first, around_many, around_times, none_around, turn}

@@ -9,17 +9,20 @@ use lib.ListN.{length}
 use Rattle.words.specs.Counts.{any_set}
 use Rattle.words.specs.Flags.{bits, copies, count, flags_of, is_one, over, window, word_of}
 use Rattle.words.specs.Ops.{zip3}
-use Rattle.masks.specs.Answer.{decided, kept}
+use Rattle.masks.specs.equations.Answer.{decided, kept}
 use Rattle.masks.specs.Appends.{all_below, constant_checks, gather_checks, gathered, inner_checks}
 use Rattle.masks.specs.Appends.{repeated, span_grow_checks, subslice_checks, word_checks}
 use Rattle.masks.specs.Builder.{Filling, appended, builder_checks, builder_flags, in_progress, possible}
 use Rattle.masks.specs.Checks.{earlier, first_failed, rank, place_in, output_checks, span_checks}
-use Rattle.masks.specs.Combine.{each_bytes, each_of, largest_serial, not_checks, pair_bytes, pair_checks, pair_flags, pair_mask, pair_of}
+use Rattle.masks.specs.Combine.{largest_serial, not_checks, pair_checks, pair_flags, pair_mask}
+use Rattle.masks.specs.equations.Combine.{each_bytes, each_of, pair_bytes, pair_of}
 use Rattle.masks.specs.Combine.{select_checks, shortcut}
-use Rattle.masks.specs.Freeze.{freeze_bytes, freeze_checks, frozen_mask, frozen_over, validity_of}
+use Rattle.masks.specs.Freeze.{freeze_checks, frozen_mask, frozen_over, validity_of}
+use Rattle.masks.specs.equations.Freeze.{freeze_bytes}
 use Rattle.masks.specs.Frozen.{frozen, over_from, packed}
 use Rattle.masks.specs.Mask.{cut_zeros, kept_count, mask_checks, piece_checks, recounts}
-use Rattle.masks.specs.Mask.{slice_checks, slice_of, try_new_of, unset_bits_of, zero_count}
+use Rattle.masks.specs.Mask.{slice_checks, zero_count}
+use Rattle.masks.specs.equations.Mask.{slice_of, try_new_of, unset_bits_of}
 use Rattle.masks.specs.Utils.{zeros}
 use Rattle.masks.specs.declared.bitmap.Bitmap.{Bitmap}
 use Rattle.masks.specs.declared.builder.BitmapBuilder.{BitmapBuilder}

@@ -13,7 +13,7 @@ use Rattle.words.specs.Loops.{stretch}
 use Rattle.words.proofs.flags.Windows.{in_window, length-window, window-all}
 use Rattle.histories.proofs.statements.Agreement.{Agrees, count_shown, flag_of, flag_shown, frozen_shown, nth_of}
 use Rattle.histories.proofs.statements.Agreement.{nth_shown, refrozen, then_frozen, runs_of, runs_shown}
-use Rattle.masks.specs.Answer.{Answer, given, unless_empty}
+use Rattle.masks.specs.equations.Answer.{Answer, given, unless_empty}
 use Rattle.masks.specs.Appends.{subslice_checks}
 use Rattle.masks.specs.Builder.{Filling, appended, filling, new_builder}
 use Rattle.masks.specs.Checks.{first_failed, span_checks}
@@ -21,11 +21,15 @@ use Rattle.masks.specs.Cursor.{item, ended, cursor_checks}
 use Rattle.masks.specs.Freeze.{freeze_checks, frozen_mask, frozen_over}
 use Rattle.masks.specs.Frozen.{frozen, frozen_size}
 use Rattle.histories.proofs.statements.Owed.{Stands}
-use Rattle.masks.specs.Iterator.{first_iter, flag_step, iter_at, iter_flags, moved_to, new_iter, nth_flag}
+use Rattle.masks.specs.Iterator.{first_iter, flag_step, iter_at, iter_flags, moved_to}
+use Rattle.masks.specs.equations.Iterator.{new_iter, nth_flag}
 use Rattle.masks.proofs.statements.Listing.{runs_left}
-use Rattle.masks.specs.Mask.{mask_checks, mask_flags, unset_bits_of, with_count, zero_count}
-use Rattle.masks.specs.Search.{nth_back, nth_from, search_back, search_from}
-use Rattle.masks.specs.SliceIterator.{new_slices, runs_from, slices_at}
+use Rattle.masks.specs.Mask.{mask_checks, mask_flags, with_count, zero_count}
+use Rattle.masks.specs.equations.Mask.{unset_bits_of}
+use Rattle.masks.specs.Search.{nth_back, nth_from}
+use Rattle.masks.specs.equations.Search.{search_back, search_from}
+use Rattle.masks.specs.SliceIterator.{runs_from, slices_at}
+use Rattle.masks.specs.equations.SliceIterator.{new_slices}
 use Rattle.masks.proofs.statements.TrueCounts.{TrueCount}
 use Rattle.masks.specs.Utils.{zeros}
 use Rattle.masks.specs.Workers.{Room}

@@ -10,9 +10,10 @@ use lib.ListN.{length, take}
 use Rattle.words.specs.Flags.{copies, count, flags_of, window, word_flags}
 use Rattle.words.specs.Loops.{stretch}
 use Rattle.words.proofs.flags.Windows.{length-copies, length_over, length-window}
-use Rattle.masks.specs.Answer.{decided, kept}
-use Rattle.masks.specs.Appends.{Append, push_flag, extend_constant, push_word, extend_slice, extend_repeated, extend_bitmap}
-use Rattle.masks.specs.Appends.{extend_gather, extend_opt_gather, append_checks, append_flags, constant_checks, gather_checks, gathered}
+use Rattle.masks.specs.equations.Answer.{decided, kept}
+use Rattle.masks.specs.equations.Appends.{Append, push_flag, extend_constant, push_word, extend_slice, extend_repeated, extend_bitmap}
+use Rattle.masks.specs.Appends.{constant_checks, gather_checks, gathered}
+use Rattle.masks.specs.equations.Appends.{extend_gather, extend_opt_gather, append_checks, append_flags}
 use Rattle.masks.specs.Appends.{grow_checks, inner_checks, repeated, span_grow_checks, subslice_checks, word_checks, all_below}
 use Rattle.masks.specs.Builder.{Filling, appended, builder_checks, builder_flags, none_from}
 use Rattle.masks.specs.Checks.{Check, check, first_failed, limit, span_checks, within_limit}

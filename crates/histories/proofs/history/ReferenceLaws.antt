@@ -19,8 +19,10 @@ use Rattle.words.proofs.flags.Bits.{bits-take}
 use Rattle.words.proofs.ops.Combining.{else-clear}
 use Rattle.words.proofs.theorems.Plain.{at-flags, at-stretch, window-part}
 use Rattle.words.proofs.flags.Windows.{at-window, length-window}
-use Rattle.masks.specs.Appends.{Append, push_flag, extend_constant, push_word, extend_slice, extend_repeated, extend_bitmap, extend_gather}
-use Rattle.masks.specs.Appends.{extend_opt_gather, all_below, append_checks, append_flags, gather_checks, gathered, grow_checks}
+use Rattle.masks.specs.equations.Appends.{Append, push_flag, extend_constant, push_word, extend_slice, extend_repeated, extend_bitmap}
+use Rattle.masks.specs.equations.Appends.{extend_gather}
+use Rattle.masks.specs.Appends.{all_below, gather_checks, gathered, grow_checks}
+use Rattle.masks.specs.equations.Appends.{extend_opt_gather, append_checks, append_flags}
 use Rattle.masks.specs.Appends.{inner_checks, repeated, span_grow_checks, subslice_checks, word_checks}
 use Rattle.masks.specs.Builder.{none_from}
 use Rattle.masks.specs.Checks.{Check, check, first_failed, within_limit}

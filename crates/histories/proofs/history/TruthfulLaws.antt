@@ -6,9 +6,11 @@ use mathlib.Core.Bool.{true}
 use mathlib.Core.List.{List, ◌++◌}
 use Prim.Native.Nat.{ℕ, zero, suc}
 use lib.ListN.{length}
-use Rattle.masks.specs.Answer.{Answer, given, refused, decided}
-use Rattle.masks.specs.Appends.{Append, push_flag, extend_constant, push_word, extend_slice, extend_repeated, extend_bitmap, extend_gather}
-use Rattle.masks.specs.Appends.{extend_opt_gather, append_answer, append_bytes, grow_checks, inner_checks, subslice_checks}
+use Rattle.masks.specs.equations.Answer.{Answer, given, refused, decided}
+use Rattle.masks.specs.equations.Appends.{Append, push_flag, extend_constant, push_word, extend_slice, extend_repeated, extend_bitmap}
+use Rattle.masks.specs.equations.Appends.{extend_gather}
+use Rattle.masks.specs.Appends.{grow_checks, inner_checks, subslice_checks}
+use Rattle.masks.specs.equations.Appends.{extend_opt_gather, append_answer, append_bytes}
 use Rattle.masks.specs.Checks.{first_failed}
 use Rattle.masks.specs.Mask.{mask_checks}
 use Rattle.masks.proofs.statements.TrueCounts.{Truthful}

@@ -14,11 +14,14 @@ use Rattle.words.specs.Ops.{op_of, zip3}
 use Rattle.words.specs.declared.ops.Op.{Op}
 use Rattle.words.proofs.flags.Windows.{length-window}
 use Rattle.masks.specs.declared.bitmap.Recounted.{Recounted}
-use Rattle.masks.specs.Answer.{given, refused, checked, decided}
+use Rattle.masks.specs.equations.Answer.{given, refused, checked, decided}
 use Rattle.masks.specs.Checks.{Check, check, first_failed, limit, output_checks, within_limit}
-use Rattle.masks.specs.Combine.{each_bytes, each_of, not_checks, not_flags, pair_bytes, pair_checks, pair_each, pair_flags, pair_mask}
-use Rattle.masks.specs.Combine.{pair_of, pair_shortcut, result_count, select_checks, select_constant_flags, select_flags}
-use Rattle.masks.specs.Mask.{mask_checks, mask_flags, piece_checks, slice_of, sliced_mask, uncounted, unset_bits_of, with_count, zero_count}
+use Rattle.masks.specs.Combine.{not_checks, not_flags, pair_checks, pair_each, pair_flags, pair_mask}
+use Rattle.masks.specs.equations.Combine.{each_bytes, each_of, pair_bytes}
+use Rattle.masks.specs.Combine.{pair_shortcut, result_count, select_checks, select_constant_flags, select_flags}
+use Rattle.masks.specs.equations.Combine.{pair_of}
+use Rattle.masks.specs.Mask.{mask_checks, mask_flags, piece_checks, sliced_mask, uncounted, with_count, zero_count}
+use Rattle.masks.specs.equations.Mask.{slice_of, unset_bits_of}
 use Rattle.masks.proofs.statements.TrueCounts.{Sound, TrueCount}
 use Rattle.masks.specs.declared.bitmap.Bitmap.{Bitmap}
 use Rattle.masks.proofs.refusal.AnswerLaws.{given-number, given-value, refused-state}

@@ -10,7 +10,7 @@ use native.Mathlib.Omega.{arith}
 use lib.ListN.{length}
 use Rattle.words.specs.Flags.{flags_of, over, window}
 use Rattle.words.proofs.flags.Windows.{length_over}
-use Rattle.masks.specs.Answer.{Answer, given, refused, kept, checked}
+use Rattle.masks.specs.equations.Answer.{Answer, given, refused, kept, checked}
 use Rattle.masks.specs.Checks.{Check, first_failed, limit}
 use Rattle.masks.specs.Combine.{result_mask}
 use Rattle.masks.specs.Frozen.{frozen}

@@ -3,19 +3,22 @@
 use Rattle.std.specs.Prelude.{ℕ, ◌≤◌, ◌<◌, ◌≡◌, Bool, true, false, cond, List, [], ltb, length, get_or, take, Option, Some, None}
 use Rattle.words.specs.Flags.{over}
 use Rattle.masks.specs.declared.bitmap.Recounted.{Recounted}
-use Rattle.masks.specs.Answer.{Answer, given, refused}
-use Rattle.masks.specs.Appends.{Append, append_answer, append_bytes, push_flag, extend_constant, push_word, extend_slice}
-use Rattle.masks.specs.Appends.{extend_repeated, extend_bitmap, extend_gather, extend_opt_gather}
+use Rattle.masks.specs.equations.Answer.{Answer, given, refused}
+use Rattle.masks.specs.equations.Appends.{Append, append_answer, append_bytes, push_flag, extend_constant, push_word, extend_slice}
+use Rattle.masks.specs.equations.Appends.{extend_repeated, extend_bitmap, extend_gather, extend_opt_gather}
 use Rattle.masks.specs.Builder.{new_builder}
 use Rattle.masks.specs.Checks.{first_failed}
 use Rattle.masks.specs.Cursor.{Step, item, ended}
-use Rattle.masks.specs.Freeze.{freeze_bytes, freeze_of}
+use Rattle.masks.specs.equations.Freeze.{freeze_bytes, freeze_of}
 use Rattle.masks.specs.Frozen.{frozen, frozen_size}
-use Rattle.masks.specs.Iterator.{new_iter, nth_flag}
+use Rattle.masks.specs.equations.Iterator.{new_iter, nth_flag}
 use Rattle.masks.proofs.statements.Listing.{listing}
-use Rattle.masks.specs.Mask.{mask_checks, mask_flags, unset_bits_of}
-use Rattle.masks.specs.Search.{nth_back, nth_from, search_back, search_from}
-use Rattle.masks.specs.SliceIterator.{new_slices, next_slice, runs_from}
+use Rattle.masks.specs.Mask.{mask_checks, mask_flags}
+use Rattle.masks.specs.equations.Mask.{unset_bits_of}
+use Rattle.masks.specs.Search.{nth_back, nth_from}
+use Rattle.masks.specs.equations.Search.{search_back, search_from}
+use Rattle.masks.specs.SliceIterator.{runs_from}
+use Rattle.masks.specs.equations.SliceIterator.{new_slices, next_slice}
 use Rattle.masks.proofs.statements.TrueCounts.{Sound, TrueCount, Truthful}
 use Rattle.masks.specs.Utils.{zeros}
 use Rattle.masks.specs.declared.bitmap.Bitmap.{Bitmap}

@@ -5,11 +5,12 @@
 -- history's own record and bytes, and which calls were refused; its words are those of `ReferenceList` and of the rows. A table
 -- lists the calls that make a mask from masks: codes, and the row of each code.
 use Rattle.std.specs.Prelude.{ℕ, Bool, true, false, cond, List, [], ◌∷◌, ◌++◌, Option, Some, None}
-use Rattle.masks.specs.Answer.{Answer, given, refused, checked}
-use Rattle.masks.specs.Appends.{Append, append_answer, append_bytes}
+use Rattle.masks.specs.equations.Answer.{Answer, given, refused, checked}
+use Rattle.masks.specs.equations.Appends.{Append, append_answer, append_bytes}
 use Rattle.masks.specs.Builder.{Filling, builder_under, filling}
-use Rattle.masks.specs.Freeze.{freeze_bytes, freeze_of, into_opt_validity_of}
-use Rattle.masks.specs.Mask.{mask_checks, try_new_of}
+use Rattle.masks.specs.equations.Freeze.{freeze_bytes, freeze_of, into_opt_validity_of}
+use Rattle.masks.specs.Mask.{mask_checks}
+use Rattle.masks.specs.equations.Mask.{try_new_of}
 use Rattle.masks.specs.declared.bitmap.Bitmap.{Bitmap}
 use Rattle.masks.specs.declared.builder.BitmapBuilder.{BitmapBuilder}
 use Rattle.histories.specs.ReferenceList.{added, flags_in, span_flags}

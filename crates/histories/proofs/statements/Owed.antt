@@ -1,7 +1,7 @@
 -- What must be proved of a row's call; no history, no state and no reference list is named here. The statement of demand 3 does not
 -- cite this file; its proof uses these definitions and knows no call by name.
 use Rattle.std.specs.Prelude.{ℕ, ◌≡◌, Bool, List}
-use Rattle.masks.specs.Answer.{given, refused}
+use Rattle.masks.specs.equations.Answer.{given, refused}
 use Rattle.masks.specs.Mask.{mask_flags}
 use Rattle.masks.proofs.statements.TrueCounts.{Sound, Truthful}
 use Rattle.masks.specs.declared.bitmap.Bitmap.{Bitmap}

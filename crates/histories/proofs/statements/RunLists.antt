@@ -4,7 +4,7 @@
 -- is about the contracts of `extend_constant` and `freeze`.
 use Rattle.std.specs.Prelude.{ℕ, ◌+◌, ◌-◌, ◌≤◌, ◌<◌, ◌≡◌, Bool, true, false, cond, ◌&&◌, List, [], ◌∷◌, ◌++◌, map, eqb, leb, ltb, length}
 use Rattle.std.specs.Prelude.{Some}
-use Rattle.masks.specs.Appends.{extend_constant}
+use Rattle.masks.specs.equations.Appends.{extend_constant}
 use Rattle.masks.specs.Builder.{Filling, builder_flags}
 use Rattle.masks.specs.Checks.{first_failed, limit}
 use Rattle.masks.specs.Frozen.{frozen_size}

@@ -1,10 +1,11 @@
 -- Serials and histories: only lists of flags are compared, serials may differ, and the record of `superseding` may begin a history. So may
 -- a new builder under any serial (`from_builder`): the theorem on histories is about all of these, and the list of flags has no serial.
 use Rattle.std.specs.Prelude.{ℕ, ◌≡◌, cond, List}
-use Rattle.masks.specs.Answer.{given}
+use Rattle.masks.specs.equations.Answer.{given}
 use Rattle.masks.specs.Builder.{filling, new_builder}
 use Rattle.masks.specs.Mask.{mask_flags}
-use Rattle.masks.specs.Superseding.{part_bytes, superseding_of}
+use Rattle.masks.specs.Superseding.{part_bytes}
+use Rattle.masks.specs.equations.Superseding.{superseding_of}
 use Rattle.masks.proofs.statements.SupersedingPlain.{Accepted, under}
 use Rattle.masks.specs.declared.bitmap.Bitmap.{Bitmap}
 use Rattle.masks.specs.declared.superseding.Part.{Part}

@@ -2,8 +2,8 @@
 -- refused a history in which it is refused; each ends in a mask. Also the kinds that are never refused.
 use Rattle.std.specs.Prelude.{ℕ, ◌≡◌, true, false, List, [], ◌∷◌, ◌++◌, map, replicate, Some, None}
 use Rattle.words.specs.Flags.{is_one}
-use Rattle.masks.specs.Appends.{Append, push_flag, extend_constant, push_word, extend_slice}
-use Rattle.masks.specs.Appends.{extend_repeated, extend_bitmap, extend_gather, extend_opt_gather}
+use Rattle.masks.specs.equations.Appends.{Append, push_flag, extend_constant, push_word, extend_slice}
+use Rattle.masks.specs.equations.Appends.{extend_repeated, extend_bitmap, extend_gather, extend_opt_gather}
 use Rattle.masks.specs.Builder.{Filling}
 use Rattle.masks.proofs.tables.Examples.{first, lent}
 use Rattle.masks.specs.Mask.{mask_of, mask_under}

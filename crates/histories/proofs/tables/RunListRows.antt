@@ -2,7 +2,7 @@
 -- needed. Then run lists with their lists of flags, and the calls that save one.
 use Rattle.std.specs.Prelude.{ℕ, ◌≡◌, Bool, true, false, List, [], ◌∷◌, map}
 use Rattle.words.specs.Flags.{is_one}
-use Rattle.masks.specs.Appends.{extend_constant}
+use Rattle.masks.specs.equations.Appends.{extend_constant}
 use Rattle.masks.specs.SliceIterator.{run_of}
 use Rattle.masks.specs.declared.slice_iterator.Run.{Run}
 use Rattle.histories.proofs.statements.History.{append}

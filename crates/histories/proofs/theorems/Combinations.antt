@@ -9,9 +9,10 @@ use lib.Dec.{eqb}
 use lib.ListN.{length}
 use borrow.Author.Tests.{eq-eqb, le-leb}
 use Rattle.words.specs.Flags.{over}
-use Rattle.masks.specs.Answer.{given, checked, kept}
+use Rattle.masks.specs.equations.Answer.{given, checked, kept}
 use Rattle.masks.specs.Checks.{Check, check, earlier, first_failed, output_checks}
-use Rattle.masks.specs.Combine.{each_bytes, each_of, not_checks, pair_bytes, pair_checks, pair_mask, pair_of, pair_shortcut}
+use Rattle.masks.specs.Combine.{not_checks, pair_checks, pair_mask, pair_shortcut}
+use Rattle.masks.specs.equations.Combine.{each_bytes, each_of, pair_bytes, pair_of}
 use Rattle.masks.specs.Combine.{result_count, result_mask, select_checks}
 use Rattle.masks.specs.Frozen.{frozen, frozen_size}
 use Rattle.masks.specs.Mask.{mask_checks, uncounted}

@@ -7,7 +7,7 @@ use mathlib.Core.List.{List, []}
 use Prim.Native.Nat.{ℕ, zero, suc, ◌≤◌}
 use native.Mathlib.Omega.{arith}
 use lib.ListN.{length}
-use Rattle.masks.specs.Answer.{decided}
+use Rattle.masks.specs.equations.Answer.{decided}
 use Rattle.masks.specs.Checks.{first_failed}
 use Rattle.masks.specs.Frozen.{frozen_size}
 use Rattle.masks.specs.Mask.{mask_checks}

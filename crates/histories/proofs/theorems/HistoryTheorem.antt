@@ -11,12 +11,13 @@ use Rattle.words.specs.Counts.{any_set}
 use Rattle.words.specs.Flags.{bits, count, flags_of, window}
 use Rattle.words.specs.Loops.{stretch}
 use Rattle.words.proofs.flags.Windows.{length-window}
-use Rattle.masks.specs.Answer.{decided}
-use Rattle.masks.specs.Appends.{append_checks}
+use Rattle.masks.specs.equations.Answer.{decided}
+use Rattle.masks.specs.equations.Appends.{append_checks}
 use Rattle.masks.specs.Builder.{filling, builder_flags, in_progress, builder_under}
 use Rattle.masks.specs.Checks.{first_failed, span_checks}
 use Rattle.masks.specs.Freeze.{total_ones, freeze_checks}
-use Rattle.masks.specs.Mask.{mask_checks, mask_of, try_new_of, uncounted}
+use Rattle.masks.specs.Mask.{mask_checks, mask_of, uncounted}
+use Rattle.masks.specs.equations.Mask.{try_new_of}
 use Rattle.masks.specs.declared.bitmap.Bitmap.{Bitmap}
 use Rattle.masks.proofs.checks.CheckLaws.{span-allowed}
 use Rattle.masks.proofs.bitmap.MaskLaws.{mask-sound}

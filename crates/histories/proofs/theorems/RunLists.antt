@@ -11,7 +11,7 @@ use lib.ListN.{length}
 use borrow.Author.Tests.{eqb-true}
 use Rattle.words.specs.Flags.{copies, flags_of}
 use Rattle.words.proofs.flags.Windows.{length-copies, length-window}
-use Rattle.masks.specs.Answer.{decided, kept}
+use Rattle.masks.specs.equations.Answer.{decided, kept}
 use Rattle.masks.specs.Appends.{constant_checks}
 use Rattle.masks.specs.Builder.{Filling, appended, builder_under, filling}
 use Rattle.masks.specs.Checks.{check, first_failed, limit, span_checks}
@@ -19,7 +19,8 @@ use Rattle.masks.specs.Freeze.{freeze_checks, frozen_mask, frozen_over}
 use Rattle.masks.specs.Frozen.{frozen_size}
 use Rattle.masks.specs.Mask.{count_valid, mask_checks, mask_flags}
 use Rattle.masks.proofs.statements.Listing.{runs_left}
-use Rattle.masks.specs.SliceIterator.{new_slices, runs_from, slices_at}
+use Rattle.masks.specs.SliceIterator.{runs_from, slices_at}
+use Rattle.masks.specs.equations.SliceIterator.{new_slices}
 use Rattle.masks.specs.Workers.{Room}
 use Rattle.masks.specs.declared.bitmap.Bitmap.{Bitmap}
 use Rattle.masks.specs.declared.slice_iterator.Run.{Run}

@@ -12,7 +12,8 @@ use mathlib.Core.Logic.{◌⊎◌, inl, inr}
 use borrow.Author.Tests.{le-leb, leb-true, leb-false}
 use Rattle.words.proofs.flags.Windows.{length-window, window-add, window-cut, window-all, bits-window}
 use Rattle.masks.specs.Aligned.{bytes_to_aligned, bulk_offset, prefix_length, bulk_start_of, bulk_length, suffix_length}
-use Rattle.masks.specs.Aligned.{aligned_split, aligned_checks, empty_split}
+use Rattle.masks.specs.Aligned.{aligned_split, aligned_checks}
+use Rattle.masks.specs.equations.Aligned.{empty_split}
 use Rattle.masks.specs.declared.aligned.AlignedBitmapSlice.{AlignedBitmapSlice}
 use Rattle.masks.specs.Checks.{first_failed, limit, span_checks, address_checks}
 use Rattle.masks.specs.Workers.{split_flags}

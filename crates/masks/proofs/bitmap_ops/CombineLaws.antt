@@ -20,7 +20,8 @@ use Rattle.words.specs.declared.ops.Op.{Op}
 use Rattle.words.specs.declared.ops.Op.TheVariants.{And, AndNot, Or, OrNot, Xor, Not, Select}
 use Rattle.words.proofs.flags.Bytes.{flags-inj, flags-over}
 use Rattle.masks.specs.Checks.{Check, check, first_failed, output_checks}
-use Rattle.masks.specs.Combine.{shortcut, result_flags, largest_serial, result_mask, result_count, pair_checks, pair_shortcut}
+use Rattle.masks.specs.Combine.{shortcut, largest_serial, result_mask, result_count, pair_checks, pair_shortcut}
+use Rattle.masks.specs.Workers.{result_flags}
 use Rattle.masks.specs.Combine.{pair_flags, pair_mask, select_checks}
 use Rattle.masks.specs.Frozen.{packed, frozen, frozen_size, over_from, with_frozen}
 use Rattle.masks.specs.Mask.{mask_under, mask_checks, uncounted}

@@ -8,7 +8,7 @@ use native.Mathlib.Omega.{arith}
 use lib.Dec.{leb, eqb}
 use Rattle.std.specs.Prelude.{min}
 use borrow.Author.Tests.{le-leb, lt-leb, leb-true, eq-eqb, ne_eqb}
-use Rattle.masks.specs.Answer.{given, refused, decided, kept}
+use Rattle.masks.specs.equations.Answer.{given, refused, decided, kept}
 use Rattle.masks.specs.Builder.{none_from, possible}
 use Rattle.masks.specs.declared.builder.BitmapBuilder.{BitmapBuilder}
 use Rattle.masks.specs.Checks.{Check, check, rank, place_in, earlier, failure, first_failed, limit, within_limit, span_checks}

@@ -4,29 +4,38 @@ use mathlib.Core.Bool.{xor}
 use Rattle.words.specs.Counts.{any_set}
 use Rattle.words.specs.Flags.{bits, copies, count, flags_of, over, window, word_of}
 use Rattle.words.specs.Ops.{zip3}
-use Rattle.masks.specs.Aligned.{aligned_checks, aligned_of, bulk_offset, bulk_start_of, prefix_length}
-use Rattle.masks.specs.Answer.{decided, kept, unless_empty}
+use Rattle.masks.specs.Aligned.{aligned_checks, bulk_offset, bulk_start_of, prefix_length}
+use Rattle.masks.specs.equations.Aligned.{aligned_of}
+use Rattle.masks.specs.equations.Answer.{decided, kept, unless_empty}
 use Rattle.masks.specs.Appends.{all_below, constant_checks, gather_checks, gathered, inner_checks, repeated, span_grow_checks}
 use Rattle.masks.specs.Appends.{subslice_checks, word_checks}
-use Rattle.masks.specs.AtIndex.{and_not_at_checks, and_not_at_of, index_checks, length_checks}
-use Rattle.masks.specs.Bitmask.{split_at, split_checks, window_at}
+use Rattle.masks.specs.AtIndex.{and_not_at_checks, index_checks, length_checks}
+use Rattle.masks.specs.equations.AtIndex.{and_not_at_of}
+use Rattle.masks.specs.Bitmask.{split_checks, window_at}
+use Rattle.masks.specs.equations.Bitmask.{split_at}
 use Rattle.masks.specs.Builder.{appended, builder_checks, builder_flags, in_progress, possible}
 use Rattle.masks.specs.Checks.{address_checks, earlier, first_failed, rank, place_in, output_checks, span_checks}
-use Rattle.masks.specs.Chunks.{chunks_remainder, next_chunk}
-use Rattle.masks.specs.Combine.{each_bytes, each_of, not_checks, pair_bytes, pair_of, pair_checks, pair_flags, pair_mask, select_checks}
+use Rattle.masks.specs.equations.Chunks.{chunks_remainder, next_chunk}
+use Rattle.masks.specs.Combine.{not_checks, pair_checks, pair_flags, pair_mask, select_checks}
+use Rattle.masks.specs.equations.Combine.{each_bytes, each_of, pair_bytes, pair_of}
 use Rattle.masks.specs.Combine.{shortcut}
-use Rattle.masks.specs.Compare.{common_checks, common_of, eq_of}
+use Rattle.masks.specs.Compare.{common_checks}
+use Rattle.masks.specs.equations.Compare.{common_of, eq_of}
 use Rattle.masks.specs.Cursor.{cursor_checks}
 use Rattle.masks.proofs.tables.EdgeRows.{EdgesHold, limit_rows, edge_rows, mask_rows, unwritten_rows, split_rows, start_rows, count_rows}
 use Rattle.masks.specs.Freeze.{frozen_over}
 use Rattle.masks.specs.Frozen.{frozen, over_from, packed}
-use Rattle.masks.specs.Iterator.{nth_flag, take_leading}
-use Rattle.masks.specs.Mask.{cut_zeros, kept_count, mask_checks, new_zeroed_bytes, new_zeroed_of, piece_checks, recounts, slice_checks}
-use Rattle.masks.specs.Mask.{slice_of, try_new_of, unset_bits_of, zero_count, zeroed_checks}
-use Rattle.masks.specs.Positions.{positions_over}
-use Rattle.masks.specs.SliceIterator.{new_slices, next_slice}
-use Rattle.masks.specs.TrueIdx.{new_true, new_true_checks, next_true, ones_from, ones_left, true_checks, true_flags}
-use Rattle.masks.specs.Utils.{span_count, zeros}
+use Rattle.masks.specs.equations.Iterator.{nth_flag, take_leading}
+use Rattle.masks.specs.Mask.{cut_zeros, kept_count, mask_checks, piece_checks, recounts, slice_checks}
+use Rattle.masks.specs.equations.Mask.{new_zeroed_bytes, new_zeroed_of}
+use Rattle.masks.specs.Mask.{zero_count, zeroed_checks}
+use Rattle.masks.specs.equations.Mask.{slice_of, try_new_of, unset_bits_of}
+use Rattle.masks.specs.equations.Positions.{positions_over}
+use Rattle.masks.specs.equations.SliceIterator.{new_slices, next_slice}
+use Rattle.masks.specs.TrueIdx.{new_true_checks, ones_from, ones_left, true_checks, true_flags}
+use Rattle.masks.specs.equations.TrueIdx.{new_true, next_true}
+use Rattle.masks.specs.Utils.{zeros}
+use Rattle.masks.specs.equations.Utils.{span_count}
 
 pub all_hold : EdgesHold
 unfolding

@@ -3,18 +3,25 @@ use mathlib.Core.Path.{refl}
 use mathlib.Core.Bool.{xor}
 use Rattle.words.specs.Counts.{any_set, same_flags}
 use Rattle.words.specs.Flags.{bits, count, flags_of, window}
-use Rattle.masks.specs.Answer.{decided, kept}
+use Rattle.masks.specs.equations.Answer.{decided, kept}
 use Rattle.masks.specs.Appends.{inner_checks, subslice_checks}
-use Rattle.masks.specs.AtIndex.{and_not_at_checks, and_not_at_of, index_checks, length_checks}
+use Rattle.masks.specs.AtIndex.{and_not_at_checks, index_checks, length_checks}
+use Rattle.masks.specs.equations.AtIndex.{and_not_at_of}
 use Rattle.masks.specs.Builder.{builder_checks, possible}
 use Rattle.masks.specs.Checks.{earlier, first_failed, rank, place_in, output_checks, span_checks}
-use Rattle.masks.specs.Combine.{each_bytes, each_of, not_checks, pair_bytes, pair_checks, pair_of, select_checks}
-use Rattle.masks.specs.Compare.{common_checks, common_of, edges_of, eq_of}
-use Rattle.masks.specs.Mask.{mask_checks, unset_bits_of}
-use Rattle.masks.specs.NextAndNot.{next_and_not_of, next_checks, other_checks}
-use Rattle.masks.specs.SliceIterator.{new_slices}
-use Rattle.masks.specs.Superseding.{superseding_checks, superseding_of}
-use Rattle.masks.specs.TrueIdx.{new_true, new_true_checks}
+use Rattle.masks.specs.Combine.{not_checks, pair_checks, select_checks}
+use Rattle.masks.specs.equations.Combine.{each_bytes, each_of, pair_bytes, pair_of}
+use Rattle.masks.specs.Compare.{common_checks}
+use Rattle.masks.specs.equations.Compare.{common_of, edges_of, eq_of}
+use Rattle.masks.specs.Mask.{mask_checks}
+use Rattle.masks.specs.equations.Mask.{unset_bits_of}
+use Rattle.masks.specs.NextAndNot.{next_checks, other_checks}
+use Rattle.masks.specs.equations.NextAndNot.{next_and_not_of}
+use Rattle.masks.specs.equations.SliceIterator.{new_slices}
+use Rattle.masks.specs.Superseding.{superseding_checks}
+use Rattle.masks.specs.equations.Superseding.{superseding_of}
+use Rattle.masks.specs.TrueIdx.{new_true_checks}
+use Rattle.masks.specs.equations.TrueIdx.{new_true}
 use Rattle.masks.specs.Utils.{zeros}
 use Rattle.masks.proofs.tables.FaultRows.{pair_rows, length_rows, mask_rows, FaultsHold}
 

@@ -3,21 +3,30 @@ use mathlib.Core.Path.{refl}
 use mathlib.Core.Bool.{xor}
 use Rattle.words.specs.Counts.{any_set, same_flags}
 use Rattle.words.specs.Flags.{bits, count, flags_of, window}
-use Rattle.masks.specs.Aligned.{aligned_checks, aligned_of}
-use Rattle.masks.specs.Answer.{decided, unless_empty}
+use Rattle.masks.specs.Aligned.{aligned_checks}
+use Rattle.masks.specs.equations.Aligned.{aligned_of}
+use Rattle.masks.specs.equations.Answer.{decided, unless_empty}
 use Rattle.masks.specs.Appends.{all_below, word_checks, constant_checks, span_grow_checks, inner_checks, subslice_checks, gather_checks}
-use Rattle.masks.specs.AtIndex.{and_not_at_checks, and_not_at_of, index_checks, length_checks}
-use Rattle.masks.specs.Bitmask.{split_checks, split_at, window_at}
+use Rattle.masks.specs.AtIndex.{and_not_at_checks, index_checks, length_checks}
+use Rattle.masks.specs.equations.AtIndex.{and_not_at_of}
+use Rattle.masks.specs.Bitmask.{split_checks, window_at}
+use Rattle.masks.specs.equations.Bitmask.{split_at}
 use Rattle.masks.specs.Builder.{builder_checks, possible}
 use Rattle.masks.specs.Checks.{earlier, first_failed, rank, place_in, span_checks, address_checks, output_checks}
-use Rattle.masks.specs.Combine.{pair_checks, pair_of, each_of, not_checks, select_checks}
-use Rattle.masks.specs.Compare.{edges_of, common_checks, common_of}
-use Rattle.masks.specs.Mask.{cut_zeros, recounts, mask_checks, zeroed_checks, piece_checks, slice_checks, new_zeroed_of, unset_bits_of}
-use Rattle.masks.specs.Mask.{slice_of}
+use Rattle.masks.specs.Combine.{pair_checks, not_checks, select_checks}
+use Rattle.masks.specs.equations.Combine.{pair_of, each_of}
+use Rattle.masks.specs.Compare.{common_checks}
+use Rattle.masks.specs.equations.Compare.{edges_of, common_of}
+use Rattle.masks.specs.Mask.{cut_zeros, recounts, mask_checks, zeroed_checks, piece_checks, slice_checks}
+use Rattle.masks.specs.equations.Mask.{new_zeroed_of, unset_bits_of}
+use Rattle.masks.specs.equations.Mask.{slice_of}
 use Rattle.masks.proofs.tables.OrderRows.{order_rows, OrderHolds}
-use Rattle.masks.specs.Superseding.{superseding_checks, superseding_of}
-use Rattle.masks.specs.TrueIdx.{new_true_checks, true_checks, new_true, next_true}
-use Rattle.masks.specs.Utils.{span_count, zeros}
+use Rattle.masks.specs.Superseding.{superseding_checks}
+use Rattle.masks.specs.equations.Superseding.{superseding_of}
+use Rattle.masks.specs.TrueIdx.{new_true_checks, true_checks}
+use Rattle.masks.specs.equations.TrueIdx.{new_true, next_true}
+use Rattle.masks.specs.Utils.{zeros}
+use Rattle.masks.specs.equations.Utils.{span_count}
 
 pub all_hold : OrderHolds
 unfolding

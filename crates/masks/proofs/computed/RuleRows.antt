@@ -4,15 +4,17 @@ use mathlib.Core.Bool.{xor}
 use Rattle.words.specs.Counts.{any_set}
 use Rattle.words.specs.Flags.{bits, copies, count, flags_of, over, window, word_of}
 use Rattle.words.specs.Ops.{zip3}
-use Rattle.masks.specs.Answer.{decided, kept}
+use Rattle.masks.specs.equations.Answer.{decided, kept}
 use Rattle.masks.specs.Appends.{all_below, constant_checks, gather_checks, gathered, span_grow_checks, word_checks}
 use Rattle.masks.specs.Builder.{appended, builder_checks, builder_flags, in_progress, possible}
 use Rattle.masks.specs.Checks.{earlier, first_failed, rank, place_in, output_checks, span_checks}
-use Rattle.masks.specs.Combine.{each_bytes, each_of, largest_serial, not_checks, pair_bytes, pair_checks, pair_flags, pair_mask, pair_of}
+use Rattle.masks.specs.Combine.{largest_serial, not_checks, pair_checks, pair_flags, pair_mask}
+use Rattle.masks.specs.equations.Combine.{each_bytes, each_of, pair_bytes, pair_of}
 use Rattle.masks.specs.Combine.{shortcut}
 use Rattle.masks.specs.Freeze.{frozen_over}
 use Rattle.masks.specs.Frozen.{frozen, over_from, packed}
-use Rattle.masks.specs.Mask.{cut_zeros, kept_count, mask_checks, piece_checks, recounts, slice_checks, slice_of, try_new_of, unset_bits_of}
+use Rattle.masks.specs.Mask.{cut_zeros, kept_count, mask_checks, piece_checks, recounts, slice_checks}
+use Rattle.masks.specs.equations.Mask.{slice_of, try_new_of, unset_bits_of}
 use Rattle.masks.specs.Mask.{zero_count}
 use Rattle.masks.proofs.tables.RuleRows.{rows, RulesHold}
 use Rattle.masks.specs.Utils.{zeros}

@@ -3,32 +3,42 @@ use mathlib.Core.Path.{refl}
 use mathlib.Core.Bool.{xor}
 use Rattle.words.specs.Counts.{any_set, same_flags}
 use Rattle.words.specs.Flags.{bits, count, flags_of, window}
-use Rattle.masks.specs.Aligned.{aligned_checks, aligned_of}
-use Rattle.masks.specs.Answer.{decided, unless_empty}
+use Rattle.masks.specs.Aligned.{aligned_checks}
+use Rattle.masks.specs.equations.Aligned.{aligned_of}
+use Rattle.masks.specs.equations.Answer.{decided, unless_empty}
 use Rattle.masks.specs.Appends.{all_below, word_checks, constant_checks, span_grow_checks, inner_checks, subslice_checks, gather_checks}
-use Rattle.masks.specs.AtIndex.{and_not_at_checks, and_not_at_of, index_checks, length_checks}
-use Rattle.masks.specs.NextAndNot.{next_and_not_of, next_checks, other_checks}
-use Rattle.masks.specs.Bitmask.{split_checks, split_at, window_at}
+use Rattle.masks.specs.AtIndex.{and_not_at_checks, index_checks, length_checks}
+use Rattle.masks.specs.equations.AtIndex.{and_not_at_of}
+use Rattle.masks.specs.NextAndNot.{next_checks, other_checks}
+use Rattle.masks.specs.equations.NextAndNot.{next_and_not_of}
+use Rattle.masks.specs.Bitmask.{split_checks, window_at}
+use Rattle.masks.specs.equations.Bitmask.{split_at}
 use Rattle.masks.specs.Builder.{builder_checks, possible}
 use Rattle.masks.specs.Checks.{earlier, first_failed, rank, place_in, span_checks, address_checks, output_checks}
-use Rattle.masks.specs.Chunks.{new_chunks, next_chunk, chunks_remainder}
-use Rattle.masks.specs.Combine.{pair_checks, pair_of, each_of, not_checks, select_checks}
-use Rattle.masks.specs.Compare.{eq_of, edges_of, common_checks, common_of}
+use Rattle.masks.specs.equations.Chunks.{new_chunks, next_chunk, chunks_remainder}
+use Rattle.masks.specs.Combine.{pair_checks, not_checks, select_checks}
+use Rattle.masks.specs.equations.Combine.{pair_of, each_of}
+use Rattle.masks.specs.Compare.{common_checks}
+use Rattle.masks.specs.equations.Compare.{eq_of, edges_of, common_of}
 use Rattle.masks.specs.Cursor.{cursor_checks}
-use Rattle.masks.specs.Iterator.{new_iter, nth_flag, take_leading}
-use Rattle.masks.specs.Mask.{cut_zeros, recounts, mask_checks, zeroed_checks, piece_checks, slice_checks, try_new_of, new_zeroed_of}
-use Rattle.masks.specs.Mask.{unset_bits_of, slice_of}
-use Rattle.masks.specs.Positions.{next_positions}
+use Rattle.masks.specs.equations.Iterator.{new_iter, nth_flag, take_leading}
+use Rattle.masks.specs.Mask.{cut_zeros, recounts, mask_checks, zeroed_checks, piece_checks, slice_checks}
+use Rattle.masks.specs.equations.Mask.{try_new_of, new_zeroed_of}
+use Rattle.masks.specs.equations.Mask.{unset_bits_of, slice_of}
+use Rattle.masks.specs.equations.Positions.{next_positions}
 use Rattle.masks.proofs.statements.Refusals.{addressed, spans, cursors, unmasked_cursors, splits, builders, pushed-words, span-appends}
 use Rattle.masks.proofs.statements.Refusals.{gathers}
 use Rattle.masks.proofs.statements.Refusals.{piece-appends, zeroed-masks, masks, slices, combinations, inversions, intersections}
 use Rattle.masks.proofs.statements.Refusals.{indexed-pairs}
 use Rattle.masks.proofs.statements.Refusals.{indexed-masks, stated-masks, stated_lengths, supersessions}
-use Rattle.masks.specs.Search.{search_from, search_back}
-use Rattle.masks.specs.SliceIterator.{new_slices, next_slice}
-use Rattle.masks.specs.Superseding.{superseding_checks, superseding_of}
-use Rattle.masks.specs.TrueIdx.{new_true_checks, true_checks, new_true, next_true}
-use Rattle.masks.specs.Utils.{span_count, zeros}
+use Rattle.masks.specs.equations.Search.{search_from, search_back}
+use Rattle.masks.specs.equations.SliceIterator.{new_slices, next_slice}
+use Rattle.masks.specs.Superseding.{superseding_checks}
+use Rattle.masks.specs.equations.Superseding.{superseding_of}
+use Rattle.masks.specs.TrueIdx.{new_true_checks, true_checks}
+use Rattle.masks.specs.equations.TrueIdx.{new_true, next_true}
+use Rattle.masks.specs.Utils.{zeros}
+use Rattle.masks.specs.equations.Utils.{span_count}
 use Rattle.masks.proofs.tables.Witnesses.{witnesses, Witnessed}
 
 pub witnessed : Witnessed

@@ -8,11 +8,12 @@ unfoldable pub use Rattle.words.specs.Flags.{count}
 unfoldable pub use Rattle.words.specs.Nth.{nth_place}
 unfoldable pub use Rattle.words.specs.Ops.{zip3}
 use Rattle.masks.specs.declared.next_and_not.Found.{Found}
-use Rattle.masks.specs.Answer.{decided}
+use Rattle.masks.specs.equations.Answer.{decided}
 use Rattle.masks.specs.Checks.{earlier, first_failed, rank, place_in, span_checks}
 use Rattle.masks.specs.Combine.{pair_flags, shortcut}
 use Rattle.masks.specs.Mask.{mask_checks, zero_count}
-use Rattle.masks.specs.NextAndNot.{free_flags, going_round, next_and_not_of, next_checks, next_set, other_checks}
+use Rattle.masks.specs.NextAndNot.{free_flags, going_round, next_checks, next_set, other_checks}
+use Rattle.masks.specs.equations.NextAndNot.{next_and_not_of}
 use Rattle.masks.specs.Search.{nth_from}
 use Rattle.masks.specs.Utils.{zeros}
 use Rattle.masks.proofs.tables.WrongNext.{WrongNext}

@@ -5,7 +5,7 @@ use Prim.Native.Nat.{ℕ, zero, suc, ◌<◌, ◌≤◌}
 use native.Mathlib.Omega.{arith}
 use lib.Dec.{leb}
 use borrow.Author.Tests.{le-leb}
-use Rattle.masks.specs.Answer.{Answer, given}
+use Rattle.masks.specs.equations.Answer.{Answer, given}
 use Rattle.masks.specs.Checks.{Check, check, earlier, first_failed}
 use Rattle.masks.specs.Cursor.{Step, item, ended}
 use Rattle.masks.proofs.statements.Listing.{item_then, listing, cursor_of, after_calls}

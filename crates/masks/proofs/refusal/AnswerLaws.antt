@@ -2,7 +2,7 @@
 use mathlib.Core.Path.{◌≡◌, refl}
 use Prim.Native.Nat.{ℕ, zero, suc}
 use native.Mathlib.Omega.{arith}
-use Rattle.masks.specs.Answer.{given, refused, decided}
+use Rattle.masks.specs.equations.Answer.{given, refused, decided}
 
 pub refused-number : {S A : Type 0} (n m : ℕ) (s s' : S) (a : A) → refused n s ≡ decided m s' a → n ≡ m
 unfolding decided

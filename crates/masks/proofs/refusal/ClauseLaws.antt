@@ -6,13 +6,16 @@ use mathlib.Core.List.{List, []}
 use Prim.Native.Nat.{ℕ, zero, suc}
 use native.Mathlib.Omega.{arith}
 use Rattle.std.proofs.lemmas.Result.{IfOk-weaker}
-use Rattle.masks.specs.Answer.{answer, answer_back, given, refused, decided, kept, unless_empty}
+use Rattle.masks.specs.equations.Answer.{answer, answer_back, given, refused, decided, kept, unless_empty}
 use Rattle.masks.specs.Builder.{Filling, filling}
 use Rattle.masks.specs.Checks.{first_failed}
-use Rattle.masks.specs.Cursor.{Step, answer_step, step_of}
-use Rattle.masks.specs.Mask.{mask_checks, unset_bits_of, with_count, zero_count}
+use Rattle.masks.specs.Cursor.{Step, step_of}
+use Rattle.masks.specs.equations.Cursor.{answer_step}
+use Rattle.masks.specs.Mask.{mask_checks, with_count, zero_count}
+use Rattle.masks.specs.equations.Mask.{unset_bits_of}
 use Rattle.masks.specs.Refusal.{failure_back, failure_of, number}
-use Rattle.masks.specs.Superseding.{bytes_of, part_bytes, part_place, place_of}
+use Rattle.masks.specs.Superseding.{part_bytes, part_place}
+use Rattle.masks.specs.equations.Superseding.{bytes_of, place_of}
 use Rattle.masks.specs.declared.bitmap.Bitmap.{Bitmap}
 use Rattle.masks.specs.declared.bitmap.Recounted.{Recounted}
 use Rattle.masks.specs.declared.builder.BitmapBuilder.{BitmapBuilder}

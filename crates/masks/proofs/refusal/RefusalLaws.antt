@@ -8,7 +8,7 @@ use Rattle.std.proofs.lemmas.Bool.{and_parts}
 use mathlib.Core.Path.{sym, ap, ◌∙◌}
 use native.Mathlib.Omega.{arith}
 use borrow.Author.Tests.{eqb-true}
-use Rattle.masks.specs.Answer.{Answer, answer, answer_back, decided, kept, refused}
+use Rattle.masks.specs.equations.Answer.{Answer, answer, answer_back, decided, kept, refused}
 use Rattle.masks.proofs.checks.CheckLaws.{is-kept, is-refused}
 use Rattle.masks.specs.Checks.{earlier, rank, place_in}
 use Rattle.masks.specs.Refusal.{failure_back, failure_of, number}

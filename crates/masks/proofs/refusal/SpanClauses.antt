@@ -11,12 +11,15 @@ use Rattle.words.specs.Flags.{flags_of}
 use Rattle.words.specs.Loops.{stretch}
 use Rattle.words.proofs.ends.EndLaws.{leading_le, trailing_le}
 use Rattle.words.proofs.flags.Windows.{length-window}
-use Rattle.masks.specs.Aligned.{aligned_checks, aligned_of, aligned_split, empty_split}
-use Rattle.masks.specs.Answer.{answer}
+use Rattle.masks.specs.Aligned.{aligned_checks, aligned_split}
+use Rattle.masks.specs.equations.Aligned.{aligned_of, empty_split}
+use Rattle.masks.specs.equations.Answer.{answer}
 use Rattle.masks.specs.Checks.{first_failed, span_checks}
-use Rattle.masks.specs.Iterator.{first_iter, new_iter}
+use Rattle.masks.specs.Iterator.{first_iter}
+use Rattle.masks.specs.equations.Iterator.{new_iter}
 use Rattle.masks.specs.Refusal.{failure_of}
-use Rattle.masks.specs.Utils.{span_count, zeros}
+use Rattle.masks.specs.Utils.{zeros}
+use Rattle.masks.specs.equations.Utils.{span_count}
 use Rattle.masks.specs.declared.aligned.AlignedBitmapSlice.{AlignedBitmapSlice}
 use Rattle.masks.specs.declared.iterator.BitmapIter.{BitmapIter}
 use Rattle.masks.specs.declared.refusal.Refusal.{Refusal}

@@ -4,9 +4,10 @@
 -- A contract compares an answer through `answer`, `answer_back` or `answer_step`. If their cases were exchanged there or a number altered,
 -- code with the same error would be proved, and no table would show it, since the tables are about what is given and refused.
 use Rattle.std.specs.Prelude.{◌≡◌, Some, None, Ok, Err}
-use Rattle.masks.specs.Answer.{given, refused, answer, answer_back}
-use Rattle.masks.specs.Appends.{change_answer}
-use Rattle.masks.specs.Cursor.{item, ended, answer_step}
+use Rattle.masks.specs.equations.Answer.{given, refused, answer, answer_back}
+use Rattle.masks.specs.equations.Appends.{change_answer}
+use Rattle.masks.specs.Cursor.{item, ended}
+use Rattle.masks.specs.equations.Cursor.{answer_step}
 use Rattle.masks.specs.Refusal.{failure_back, failure_of, number}
 use Rattle.masks.specs.declared.builder.BitmapBuilder.{BitmapBuilder}
 use Rattle.masks.specs.declared.refusal.Refusal.{Refusal}

@@ -4,9 +4,9 @@
 -- `AppendsPlainly` is proved of every call that appends, on every input that it accepts.
 use Rattle.std.specs.Prelude.{ℕ, ◌+◌, ◌*◌, ◌/◌, ◌%◌, ◌<◌, ◌≡◌, Bool, false, cond, List, ltb, length, get_or}
 use Rattle.words.specs.Flags.{bit_at, flag_at}
-use Rattle.masks.specs.Answer.{given}
-use Rattle.masks.specs.Appends.{Append, push_flag, extend_constant, push_word, extend_slice, extend_repeated}
-use Rattle.masks.specs.Appends.{extend_bitmap, extend_gather, extend_opt_gather, append_answer, append_bytes}
+use Rattle.masks.specs.equations.Answer.{given}
+use Rattle.masks.specs.equations.Appends.{Append, push_flag, extend_constant, push_word, extend_slice, extend_repeated}
+use Rattle.masks.specs.equations.Appends.{extend_bitmap, extend_gather, extend_opt_gather, append_answer, append_bytes}
 use Rattle.masks.specs.declared.builder.BitmapBuilder.{BitmapBuilder}
 
 -- how many flags a call appends

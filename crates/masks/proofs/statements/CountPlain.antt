@@ -7,10 +7,12 @@ use Rattle.words.specs.Flags.{count, word_flags}
 use Rattle.words.specs.Loops.{stretch}
 use Rattle.words.specs.declared.ops.Op.{Op}
 use Rattle.masks.specs.declared.bitmap.Recounted.{Recounted}
-use Rattle.masks.specs.Answer.{Answer, given}
-use Rattle.masks.specs.Combine.{And, AndNot, Or, OrNot, Xor, pair_of, not_of, select_of, select_constant_of}
-use Rattle.masks.specs.Freeze.{freeze_of, into_opt_validity_of}
-use Rattle.masks.specs.Mask.{mask_flags, empty_mask, try_new_of, new_zeroed_of, unset_bits_of, slice_of}
+use Rattle.masks.specs.equations.Answer.{Answer, given}
+use Rattle.masks.specs.Combine.{And, AndNot, Or, OrNot, Xor}
+use Rattle.masks.specs.equations.Combine.{pair_of, not_of, select_of, select_constant_of}
+use Rattle.masks.specs.equations.Freeze.{freeze_of, into_opt_validity_of}
+use Rattle.masks.specs.Mask.{mask_flags, empty_mask}
+use Rattle.masks.specs.equations.Mask.{try_new_of, new_zeroed_of, unset_bits_of, slice_of}
 use Rattle.masks.specs.Utils.{zeros}
 use Rattle.masks.specs.declared.bitmap.Bitmap.{Bitmap}
 use Rattle.masks.specs.declared.builder.BitmapBuilder.{BitmapBuilder}

@@ -2,17 +2,19 @@
 -- unknown, except for the counts in the records that `slice`, `superseding_part` and `superseding` return.
 use Rattle.std.specs.Prelude.{ℕ, ◌≡◌, Bool, List, Option, Some, None}
 use Rattle.words.specs.declared.ops.Op.{Op}
-use Rattle.masks.specs.Answer.{Answer, given, refused}
-use Rattle.masks.specs.Appends.{append_answer, append_bytes, extend_bitmap}
-use Rattle.masks.specs.AtIndex.{and_not_at_of}
+use Rattle.masks.specs.equations.Answer.{Answer, given, refused}
+use Rattle.masks.specs.equations.Appends.{append_answer, append_bytes, extend_bitmap}
+use Rattle.masks.specs.equations.AtIndex.{and_not_at_of}
 use Rattle.masks.specs.Checks.{first_failed}
-use Rattle.masks.specs.Combine.{not_bytes, not_of, pair_bytes, pair_of, select_bytes, select_constant_bytes, select_constant_of, select_of}
-use Rattle.masks.specs.Compare.{common_of, edges_of, eq_of}
-use Rattle.masks.specs.Mask.{mask_checks, slice_of, unset_bits_of, with_count}
-use Rattle.masks.specs.NextAndNot.{next_and_not_of}
-use Rattle.masks.specs.SliceIterator.{new_slices}
-use Rattle.masks.specs.Superseding.{bytes_of, record_of, superseding_of}
-use Rattle.masks.specs.TrueIdx.{new_true}
+use Rattle.masks.specs.equations.Combine.{not_bytes, not_of, pair_bytes, pair_of, select_bytes, select_constant_bytes, select_constant_of}
+use Rattle.masks.specs.equations.Combine.{select_of}
+use Rattle.masks.specs.equations.Compare.{common_of, edges_of, eq_of}
+use Rattle.masks.specs.Mask.{mask_checks, with_count}
+use Rattle.masks.specs.equations.Mask.{slice_of, unset_bits_of}
+use Rattle.masks.specs.equations.NextAndNot.{next_and_not_of}
+use Rattle.masks.specs.equations.SliceIterator.{new_slices}
+use Rattle.masks.specs.equations.Superseding.{bytes_of, record_of, superseding_of}
+use Rattle.masks.specs.equations.TrueIdx.{new_true}
 use Rattle.masks.specs.declared.bitmap.Bitmap.{Bitmap}
 use Rattle.masks.specs.declared.builder.BitmapBuilder.{BitmapBuilder}
 use Rattle.masks.specs.declared.superseding.Part.{Part}

@@ -5,13 +5,18 @@
 -- that was passed to it.
 use Rattle.std.specs.Prelude.{ℕ, suc, ◌+◌, ◌/◌, ◌≤◌, ◌<◌, ◌≡◌, Bool, true, false, not, List, length, get_or, Some, None}
 use Rattle.words.specs.Flags.{flag_at}
-use Rattle.masks.specs.Answer.{given}
-use Rattle.masks.specs.Chunks.{chunks_at, new_chunks, next_chunk}
+use Rattle.masks.specs.equations.Answer.{given}
+use Rattle.masks.specs.Chunks.{chunks_at}
+use Rattle.masks.specs.equations.Chunks.{new_chunks, next_chunk}
 use Rattle.masks.specs.Cursor.{item, ended}
-use Rattle.masks.specs.Iterator.{iter_at, new_iter, nth_flag, take_leading}
-use Rattle.masks.specs.Positions.{next_positions, left_of}
-use Rattle.masks.specs.SliceIterator.{slices_at, new_slices, next_slice}
-use Rattle.masks.specs.TrueIdx.{true_at, new_true, next_true}
+use Rattle.masks.specs.Iterator.{iter_at}
+use Rattle.masks.specs.equations.Iterator.{new_iter, nth_flag, take_leading}
+use Rattle.masks.specs.Positions.{left_of}
+use Rattle.masks.specs.equations.Positions.{next_positions}
+use Rattle.masks.specs.SliceIterator.{slices_at}
+use Rattle.masks.specs.equations.SliceIterator.{new_slices, next_slice}
+use Rattle.masks.specs.TrueIdx.{true_at}
+use Rattle.masks.specs.equations.TrueIdx.{new_true, next_true}
 use Rattle.masks.specs.declared.bitmap.Bitmap.{Bitmap}
 use Rattle.masks.specs.declared.chunks.BitChunks.{BitChunks}
 use Rattle.masks.specs.declared.iterator.BitmapIter.{BitmapIter}

@@ -1,7 +1,7 @@
 -- The items of a cursor call by call, and all runs and all ones of a list: the terms in which the theorems on cursors are stated. No
 -- contract cites it.
 use Rattle.std.specs.Prelude.{ℕ, zero, suc, ◌+◌, ◌≤◌, ◌<◌, ◌≡◌, Bool, true, false, List, [], ◌∷◌, length, drop, get_or}
-use Rattle.masks.specs.Answer.{Answer, given, refused}
+use Rattle.masks.specs.equations.Answer.{Answer, given, refused}
 use Rattle.masks.specs.Cursor.{Step, item, ended}
 use Rattle.masks.specs.SliceIterator.{runs_from}
 use Rattle.masks.specs.declared.slice_iterator.Run.{Run}

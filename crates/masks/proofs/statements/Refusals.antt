@@ -4,26 +4,30 @@
 -- the statement on every call and input, through the definitions that the contracts cite. `Witnesses` has an input for each number.
 use Rattle.std.specs.Prelude.{ℕ, ◌≡◌, Bool, true, false, ◌&&◌, ◌||◌, List, [], ◌∷◌, eqb, length, Some, None}
 use Rattle.words.specs.declared.ops.Op.{Op}
-use Rattle.masks.specs.Aligned.{aligned_of}
-use Rattle.masks.specs.Answer.{Answer, refused}
-use Rattle.masks.specs.Appends.{Append, push_flag, extend_constant, push_word, extend_slice, extend_repeated}
-use Rattle.masks.specs.Appends.{extend_bitmap, extend_gather, extend_opt_gather, append_answer, append_bytes}
-use Rattle.masks.specs.AtIndex.{and_not_at_of}
-use Rattle.masks.specs.NextAndNot.{next_and_not_of}
-use Rattle.masks.specs.Bitmask.{split_at, window_at}
+use Rattle.masks.specs.equations.Aligned.{aligned_of}
+use Rattle.masks.specs.equations.Answer.{Answer, refused}
+use Rattle.masks.specs.equations.Appends.{Append, push_flag, extend_constant, push_word, extend_slice, extend_repeated}
+use Rattle.masks.specs.equations.Appends.{extend_bitmap, extend_gather, extend_opt_gather, append_answer, append_bytes}
+use Rattle.masks.specs.equations.AtIndex.{and_not_at_of}
+use Rattle.masks.specs.equations.NextAndNot.{next_and_not_of}
+use Rattle.masks.specs.Bitmask.{window_at}
+use Rattle.masks.specs.equations.Bitmask.{split_at}
 use Rattle.masks.specs.Checks.{Check, first_failed, order}
-use Rattle.masks.specs.Chunks.{new_chunks, next_chunk, chunks_remainder}
-use Rattle.masks.specs.Combine.{pair_of, pair_bytes, not_of, not_bytes, select_of, select_bytes, select_constant_of, select_constant_bytes}
-use Rattle.masks.specs.Compare.{eq_of, edges_of, common_of}
-use Rattle.masks.specs.Freeze.{freeze_of, into_opt_validity_of, freeze_bytes}
-use Rattle.masks.specs.Iterator.{new_iter, nth_flag, take_leading}
-use Rattle.masks.specs.Mask.{try_new_of, new_zeroed_of, new_zeroed_bytes, unset_bits_of, slice_checks, slice_of}
-use Rattle.masks.specs.Positions.{next_positions, positions_over}
-use Rattle.masks.specs.Search.{search_from, search_back}
-use Rattle.masks.specs.SliceIterator.{new_slices, next_slice}
-use Rattle.masks.specs.Superseding.{record_of, superseding_of}
-use Rattle.masks.specs.TrueIdx.{true_at, new_true, next_true}
-use Rattle.masks.specs.Utils.{span_count}
+use Rattle.masks.specs.equations.Chunks.{new_chunks, next_chunk, chunks_remainder}
+use Rattle.masks.specs.equations.Combine.{pair_of, pair_bytes, not_of, not_bytes, select_of, select_bytes, select_constant_of}
+use Rattle.masks.specs.equations.Combine.{select_constant_bytes}
+use Rattle.masks.specs.equations.Compare.{eq_of, edges_of, common_of}
+use Rattle.masks.specs.equations.Freeze.{freeze_of, into_opt_validity_of, freeze_bytes}
+use Rattle.masks.specs.equations.Iterator.{new_iter, nth_flag, take_leading}
+use Rattle.masks.specs.Mask.{slice_checks}
+use Rattle.masks.specs.equations.Mask.{try_new_of, new_zeroed_of, new_zeroed_bytes, unset_bits_of, slice_of}
+use Rattle.masks.specs.equations.Positions.{next_positions, positions_over}
+use Rattle.masks.specs.equations.Search.{search_from, search_back}
+use Rattle.masks.specs.equations.SliceIterator.{new_slices, next_slice}
+use Rattle.masks.specs.equations.Superseding.{record_of, superseding_of}
+use Rattle.masks.specs.TrueIdx.{true_at}
+use Rattle.masks.specs.equations.TrueIdx.{new_true, next_true}
+use Rattle.masks.specs.equations.Utils.{span_count}
 use Rattle.masks.specs.declared.bitmap.Bitmap.{Bitmap}
 use Rattle.masks.specs.declared.builder.BitmapBuilder.{BitmapBuilder}
 use Rattle.masks.specs.declared.chunks.BitChunks.{BitChunks}

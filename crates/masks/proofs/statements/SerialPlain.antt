@@ -5,12 +5,13 @@
 use Rattle.std.specs.Prelude.{ℕ, ◌≤◌, ◌≡◌, Bool, List, [], ◌∷◌, ◌⊎◌, Some}
 use Rattle.words.specs.declared.ops.Op.{Op}
 use Rattle.masks.specs.declared.bitmap.Recounted.{Recounted}
-use Rattle.masks.specs.Answer.{given}
-use Rattle.masks.specs.Appends.{Append, append_answer}
+use Rattle.masks.specs.equations.Answer.{given}
+use Rattle.masks.specs.equations.Appends.{Append, append_answer}
 use Rattle.masks.specs.Builder.{new_builder}
-use Rattle.masks.specs.Combine.{pair_of, not_of, select_of, select_constant_of}
-use Rattle.masks.specs.Freeze.{freeze_of, into_opt_validity_of}
-use Rattle.masks.specs.Mask.{empty_mask, try_new_of, new_zeroed_of, unset_bits_of, slice_of}
+use Rattle.masks.specs.equations.Combine.{pair_of, not_of, select_of, select_constant_of}
+use Rattle.masks.specs.equations.Freeze.{freeze_of, into_opt_validity_of}
+use Rattle.masks.specs.Mask.{empty_mask}
+use Rattle.masks.specs.equations.Mask.{try_new_of, new_zeroed_of, unset_bits_of, slice_of}
 use Rattle.masks.specs.declared.bitmap.Bitmap.{Bitmap}
 use Rattle.masks.specs.declared.builder.BitmapBuilder.{BitmapBuilder}
 

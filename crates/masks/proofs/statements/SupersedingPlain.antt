@@ -1,10 +1,11 @@
 -- What superseding means, in the words of request (i).
 use Rattle.std.specs.Prelude.{ℕ, ◌+◌, ◌-◌, ◌/◌, ◌%◌, ◌≤◌, ◌<◌, ◌≡◌, Bool, true, false, cond, List, length}
-use Rattle.masks.specs.Answer.{given, refused}
+use Rattle.masks.specs.equations.Answer.{given, refused}
 use Rattle.masks.specs.Checks.{first_failed}
-use Rattle.masks.specs.Compare.{eq_of}
+use Rattle.masks.specs.equations.Compare.{eq_of}
 use Rattle.masks.specs.Mask.{mask_checks, mask_flags, mask_under}
-use Rattle.masks.specs.Superseding.{fitted, part_bytes, part_of, part_place, superseding_of, within}
+use Rattle.masks.specs.Superseding.{fitted, part_bytes, part_of, part_place, within}
+use Rattle.masks.specs.equations.Superseding.{superseding_of}
 use Rattle.masks.specs.declared.bitmap.Bitmap.{Bitmap}
 use Rattle.masks.specs.declared.superseding.Part.{Part}
 

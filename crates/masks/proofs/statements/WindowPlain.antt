@@ -1,7 +1,7 @@
 -- `get_u32` in plain words, at every index, however large: the index is not checked, and there are zeros from the span's end on.
 use Rattle.std.specs.Prelude.{ℕ, ◌+◌, ◌*◌, ◌^◌, ◌≤◌, ◌<◌, ◌≡◌, false, List, length}
 use Rattle.words.specs.Flags.{bit_at, flag_at}
-use Rattle.masks.specs.Answer.{given}
+use Rattle.masks.specs.equations.Answer.{given}
 use Rattle.masks.specs.Bitmask.{window_at}
 use Rattle.masks.specs.Checks.{limit}
 

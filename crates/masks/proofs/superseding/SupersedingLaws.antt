@@ -8,7 +8,7 @@ use lib.Dec.{ltb}
 use lib.ListN.{length}
 use borrow.Author.Tests.{eq-eqb, ne_eqb, le-ltb, lt-ltb}
 use Rattle.words.specs.Counts.{same_flags}
-use Rattle.masks.specs.Answer.{given}
+use Rattle.masks.specs.equations.Answer.{given}
 use Rattle.masks.specs.Checks.{Check, check, earlier, first_failed, rank, place_in, span_checks}
 use Rattle.masks.specs.Mask.{mask_checks, mask_flags}
 use Rattle.masks.specs.Superseding.{agree, part_of, superseding_checks, winning}

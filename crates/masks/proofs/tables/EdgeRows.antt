@@ -4,26 +4,34 @@
 -- A row has the value of the definitions at one input, and that of the papers' words there, worked out by hand. Each call goes through the
 -- definition that its contract cites. `proofs/computed/EdgeRows.antt` proves that the columns are equal.
 use Rattle.std.specs.Prelude.{ℕ, ◌≡◌, true, false, List, [], ◌∷◌, ◌++◌, map, replicate, Some, None}
-use Rattle.masks.specs.Aligned.{aligned_of}
-use Rattle.masks.specs.Answer.{Answer, given, refused}
-use Rattle.masks.specs.Appends.{Append, push_flag, extend_constant, push_word, extend_slice, extend_repeated, extend_bitmap, extend_gather}
-use Rattle.masks.specs.Appends.{extend_opt_gather, append_answer, append_bytes}
-use Rattle.masks.specs.AtIndex.{and_not_at_of}
-use Rattle.masks.specs.Bitmask.{split_at, window_at}
+use Rattle.masks.specs.equations.Aligned.{aligned_of}
+use Rattle.masks.specs.equations.Answer.{Answer, given, refused}
+use Rattle.masks.specs.equations.Appends.{Append, push_flag, extend_constant, push_word, extend_slice, extend_repeated, extend_bitmap}
+use Rattle.masks.specs.equations.Appends.{extend_gather}
+use Rattle.masks.specs.equations.Appends.{extend_opt_gather, append_answer, append_bytes}
+use Rattle.masks.specs.equations.AtIndex.{and_not_at_of}
+use Rattle.masks.specs.Bitmask.{window_at}
+use Rattle.masks.specs.equations.Bitmask.{split_at}
 use Rattle.masks.specs.Builder.{builder_of, new_builder}
-use Rattle.masks.specs.Chunks.{chunks_at, next_chunk, chunks_remainder}
-use Rattle.masks.specs.Combine.{And, AndNot, OrNot, pair_of, pair_bytes, not_of, not_bytes, select_of, select_bytes, select_constant_of}
-use Rattle.masks.specs.Combine.{select_constant_bytes}
-use Rattle.masks.specs.Compare.{eq_of, common_of}
+use Rattle.masks.specs.Chunks.{chunks_at}
+use Rattle.masks.specs.equations.Chunks.{next_chunk, chunks_remainder}
+use Rattle.masks.specs.Combine.{And, AndNot, OrNot}
+use Rattle.masks.specs.equations.Combine.{pair_of, pair_bytes, not_of, not_bytes, select_of, select_bytes, select_constant_of}
+use Rattle.masks.specs.equations.Combine.{select_constant_bytes}
+use Rattle.masks.specs.equations.Compare.{eq_of, common_of}
 use Rattle.masks.proofs.tables.Examples.{Value, mask, count, bytes, accepted, refusal, sliced_value, sliced_to, mixed, frozen_in, first}
-use Rattle.masks.specs.Freeze.{freeze_of, freeze_bytes, into_opt_validity_of}
-use Rattle.masks.specs.Iterator.{iter_at, nth_flag, take_leading}
-use Rattle.masks.specs.Mask.{mask_of, try_new_of, new_zeroed_of, new_zeroed_bytes, slice_of}
-use Rattle.masks.specs.Positions.{positions_over}
+use Rattle.masks.specs.equations.Freeze.{freeze_of, freeze_bytes, into_opt_validity_of}
+use Rattle.masks.specs.Iterator.{iter_at}
+use Rattle.masks.specs.equations.Iterator.{nth_flag, take_leading}
+use Rattle.masks.specs.Mask.{mask_of}
+use Rattle.masks.specs.equations.Mask.{try_new_of, new_zeroed_of, new_zeroed_bytes, slice_of}
+use Rattle.masks.specs.equations.Positions.{positions_over}
 use Rattle.masks.proofs.tables.RuleRows.{Row, row, pair_of_told}
-use Rattle.masks.specs.SliceIterator.{slices_at, new_slices, next_slice}
-use Rattle.masks.specs.TrueIdx.{true_at, new_true, next_true}
-use Rattle.masks.specs.Utils.{span_count}
+use Rattle.masks.specs.SliceIterator.{slices_at}
+use Rattle.masks.specs.equations.SliceIterator.{new_slices, next_slice}
+use Rattle.masks.specs.TrueIdx.{true_at}
+use Rattle.masks.specs.equations.TrueIdx.{new_true, next_true}
+use Rattle.masks.specs.equations.Utils.{span_count}
 use Rattle.masks.proofs.tables.Witnesses.{byte, whole, shorter, buffer}
 use Rattle.masks.specs.declared.aligned.AlignedBitmapSlice.{AlignedBitmapSlice}
 use Rattle.masks.specs.declared.bitmap.Bitmap.{Bitmap}

@@ -6,18 +6,22 @@
 use Rattle.std.specs.Prelude.{ℕ, ◌≡◌, true, List, [], ◌∷◌, ◌++◌, map, length, replicate, Option, Some, None}
 use Rattle.words.specs.Flags.{is_one}
 use Rattle.masks.specs.declared.bitmap.Recounted.{Recounted}
-use Rattle.masks.specs.Answer.{Answer, given, refused}
-use Rattle.masks.specs.Appends.{Append, push_flag, extend_constant, extend_slice, extend_repeated, extend_gather, extend_opt_gather}
-use Rattle.masks.specs.Appends.{append_answer, append_bytes}
+use Rattle.masks.specs.equations.Answer.{Answer, given, refused}
+use Rattle.masks.specs.equations.Appends.{Append, push_flag, extend_constant, extend_slice, extend_repeated, extend_gather}
+use Rattle.masks.specs.equations.Appends.{extend_opt_gather}
+use Rattle.masks.specs.equations.Appends.{append_answer, append_bytes}
 use Rattle.masks.specs.Builder.{new_builder}
-use Rattle.masks.specs.Combine.{OrNot, pair_of, pair_bytes, select_of, select_bytes}
-use Rattle.masks.specs.Compare.{edges_of}
-use Rattle.masks.specs.Freeze.{freeze_bytes, freeze_of, into_opt_validity_of}
+use Rattle.masks.specs.Combine.{OrNot}
+use Rattle.masks.specs.equations.Combine.{pair_of, pair_bytes, select_of, select_bytes}
+use Rattle.masks.specs.equations.Compare.{edges_of}
+use Rattle.masks.specs.equations.Freeze.{freeze_bytes, freeze_of, into_opt_validity_of}
 use Rattle.masks.specs.Frozen.{frozen}
 use Rattle.masks.proofs.statements.Listing.{listing}
-use Rattle.masks.specs.Mask.{empty_mask, mask_of, slice_of, try_new_of, unset_bits_of}
-use Rattle.masks.specs.Search.{search_from, search_back}
-use Rattle.masks.specs.SliceIterator.{new_slices, next_slice, run_of}
+use Rattle.masks.specs.Mask.{empty_mask, mask_of}
+use Rattle.masks.specs.equations.Mask.{slice_of, try_new_of, unset_bits_of}
+use Rattle.masks.specs.equations.Search.{search_from, search_back}
+use Rattle.masks.specs.SliceIterator.{run_of}
+use Rattle.masks.specs.equations.SliceIterator.{new_slices, next_slice}
 use Rattle.masks.specs.declared.bitmap.Bitmap.{Bitmap}
 use Rattle.masks.specs.declared.builder.BitmapBuilder.{BitmapBuilder}
 use Rattle.masks.specs.declared.slice_iterator.Run.{Run}

@@ -5,23 +5,30 @@
 -- `proofs/computed/FarRows.antt` proves that the columns are equal.
 use Rattle.std.specs.Prelude.{ℕ, true, false, List, [], ◌∷◌, ◌++◌, replicate, Option, Some, None}
 use Rattle.words.specs.Flags.{digit}
-use Rattle.masks.specs.Answer.{Answer, given, refused}
-use Rattle.masks.specs.Appends.{extend_bitmap, extend_gather, extend_slice, push_word, append_answer}
-use Rattle.masks.specs.AtIndex.{and_not_at_of}
-use Rattle.masks.specs.Bitmask.{split_at, window_at}
+use Rattle.masks.specs.equations.Answer.{Answer, given, refused}
+use Rattle.masks.specs.equations.Appends.{extend_bitmap, extend_gather, extend_slice, push_word, append_answer}
+use Rattle.masks.specs.equations.AtIndex.{and_not_at_of}
+use Rattle.masks.specs.Bitmask.{window_at}
+use Rattle.masks.specs.equations.Bitmask.{split_at}
 use Rattle.masks.specs.Builder.{builder_of, new_builder}
-use Rattle.masks.specs.Chunks.{chunks_at, new_chunks, next_chunk, chunks_remainder}
-use Rattle.masks.specs.Combine.{And, pair_bytes, not_bytes}
-use Rattle.masks.specs.Compare.{edges_of, common_of}
-use Rattle.masks.specs.Freeze.{freeze_of, into_opt_validity_of}
-use Rattle.masks.specs.Iterator.{iter_at, new_iter, nth_flag, take_leading}
-use Rattle.masks.specs.Mask.{mask_of, mask_under, try_new_of, slice_of, unset_bits_of}
-use Rattle.masks.specs.NextAndNot.{next_and_not_of}
-use Rattle.masks.specs.Positions.{next_positions, positions_over}
-use Rattle.masks.specs.Search.{search_from, search_back}
-use Rattle.masks.specs.SliceIterator.{slices_at, new_slices, next_slice}
-use Rattle.masks.specs.Superseding.{bytes_of, place_of, superseding_of}
-use Rattle.masks.specs.TrueIdx.{true_at, new_true, next_true}
+use Rattle.masks.specs.Chunks.{chunks_at}
+use Rattle.masks.specs.equations.Chunks.{new_chunks, next_chunk, chunks_remainder}
+use Rattle.masks.specs.Combine.{And}
+use Rattle.masks.specs.equations.Combine.{pair_bytes, not_bytes}
+use Rattle.masks.specs.equations.Compare.{edges_of, common_of}
+use Rattle.masks.specs.equations.Freeze.{freeze_of, into_opt_validity_of}
+use Rattle.masks.specs.Iterator.{iter_at}
+use Rattle.masks.specs.equations.Iterator.{new_iter, nth_flag, take_leading}
+use Rattle.masks.specs.Mask.{mask_of, mask_under}
+use Rattle.masks.specs.equations.Mask.{try_new_of, slice_of, unset_bits_of}
+use Rattle.masks.specs.equations.NextAndNot.{next_and_not_of}
+use Rattle.masks.specs.equations.Positions.{next_positions, positions_over}
+use Rattle.masks.specs.equations.Search.{search_from, search_back}
+use Rattle.masks.specs.SliceIterator.{slices_at}
+use Rattle.masks.specs.equations.SliceIterator.{new_slices, next_slice}
+use Rattle.masks.specs.equations.Superseding.{bytes_of, place_of, superseding_of}
+use Rattle.masks.specs.TrueIdx.{true_at}
+use Rattle.masks.specs.equations.TrueIdx.{new_true, next_true}
 use Rattle.masks.specs.declared.bitmap.Bitmap.{Bitmap}
 use Rattle.masks.specs.declared.slice_iterator.Run.{Run}
 use Rattle.masks.specs.declared.superseding.Part.{Part}

@@ -6,16 +6,18 @@
 -- `proofs/computed/FaultRows.antt` proves that the columns are equal.
 use Rattle.std.specs.Prelude.{ℕ, true, false, List, [], ◌∷◌, replicate, Some, None}
 use Rattle.words.specs.declared.ops.Op.{Op}
-use Rattle.masks.specs.Appends.{extend_bitmap, append_answer}
-use Rattle.masks.specs.AtIndex.{and_not_at_of}
+use Rattle.masks.specs.equations.Appends.{extend_bitmap, append_answer}
+use Rattle.masks.specs.equations.AtIndex.{and_not_at_of}
 use Rattle.masks.specs.Builder.{new_builder}
-use Rattle.masks.specs.Combine.{And, AndNot, Or, OrNot, Xor, pair_of, pair_bytes, not_of, select_of, select_bytes, select_constant_of}
-use Rattle.masks.specs.Compare.{eq_of, edges_of, common_of}
-use Rattle.masks.specs.Mask.{mask_of, mask_under, unset_bits_of}
-use Rattle.masks.specs.NextAndNot.{next_and_not_of}
-use Rattle.masks.specs.SliceIterator.{new_slices}
-use Rattle.masks.specs.Superseding.{record_of, superseding_of}
-use Rattle.masks.specs.TrueIdx.{new_true}
+use Rattle.masks.specs.Combine.{And, AndNot, Or, OrNot, Xor}
+use Rattle.masks.specs.equations.Combine.{pair_of, pair_bytes, not_of, select_of, select_bytes, select_constant_of}
+use Rattle.masks.specs.equations.Compare.{eq_of, edges_of, common_of}
+use Rattle.masks.specs.Mask.{mask_of, mask_under}
+use Rattle.masks.specs.equations.Mask.{unset_bits_of}
+use Rattle.masks.specs.equations.NextAndNot.{next_and_not_of}
+use Rattle.masks.specs.equations.SliceIterator.{new_slices}
+use Rattle.masks.specs.equations.Superseding.{record_of, superseding_of}
+use Rattle.masks.specs.equations.TrueIdx.{new_true}
 use Rattle.masks.specs.declared.bitmap.Bitmap.{Bitmap}
 use Rattle.masks.proofs.tables.EdgeRows.{SplitRow}
 use Rattle.masks.proofs.tables.LargeRows.{Hold}

@@ -5,25 +5,33 @@
 -- A row has the numbers of a call, 0 for an accepted one, through the definition that its contract cites, and those of the reference's
 -- words there. `proofs/computed/LargeRows.antt` proves that the columns are equal.
 use Rattle.std.specs.Prelude.{ℕ, ◌≡◌, true, false, List, [], ◌∷◌, map, replicate, Some, None}
-use Rattle.masks.specs.Aligned.{aligned_of}
-use Rattle.masks.specs.Appends.{Append, push_flag, extend_constant, push_word, extend_slice, extend_repeated, extend_bitmap, extend_gather}
-use Rattle.masks.specs.Appends.{extend_opt_gather, append_answer}
-use Rattle.masks.specs.AtIndex.{and_not_at_of}
-use Rattle.masks.specs.Bitmask.{split_at, window_at}
+use Rattle.masks.specs.equations.Aligned.{aligned_of}
+use Rattle.masks.specs.equations.Appends.{Append, push_flag, extend_constant, push_word, extend_slice, extend_repeated, extend_bitmap}
+use Rattle.masks.specs.equations.Appends.{extend_gather}
+use Rattle.masks.specs.equations.Appends.{extend_opt_gather, append_answer}
+use Rattle.masks.specs.equations.AtIndex.{and_not_at_of}
+use Rattle.masks.specs.Bitmask.{window_at}
+use Rattle.masks.specs.equations.Bitmask.{split_at}
 use Rattle.masks.specs.Builder.{builder_of, new_builder}
 use Rattle.masks.specs.Checks.{first_failed, output_checks}
-use Rattle.masks.specs.Chunks.{chunks_at, new_chunks, next_chunk, chunks_remainder}
-use Rattle.masks.specs.Combine.{And, pair_of, not_of}
-use Rattle.masks.specs.Compare.{edges_of}
-use Rattle.masks.specs.Freeze.{freeze_of, into_opt_validity_of}
-use Rattle.masks.specs.Iterator.{iter_at, new_iter, nth_flag, take_leading}
-use Rattle.masks.specs.Mask.{mask_of, mask_under, try_new_of, new_zeroed_of, unset_bits_of, slice_of}
-use Rattle.masks.specs.NextAndNot.{next_and_not_of}
-use Rattle.masks.specs.Positions.{next_positions}
-use Rattle.masks.specs.Search.{search_from, search_back}
-use Rattle.masks.specs.SliceIterator.{slices_at, new_slices, next_slice}
-use Rattle.masks.specs.TrueIdx.{true_at, new_true, next_true}
-use Rattle.masks.specs.Utils.{span_count}
+use Rattle.masks.specs.Chunks.{chunks_at}
+use Rattle.masks.specs.equations.Chunks.{new_chunks, next_chunk, chunks_remainder}
+use Rattle.masks.specs.Combine.{And}
+use Rattle.masks.specs.equations.Combine.{pair_of, not_of}
+use Rattle.masks.specs.equations.Compare.{edges_of}
+use Rattle.masks.specs.equations.Freeze.{freeze_of, into_opt_validity_of}
+use Rattle.masks.specs.Iterator.{iter_at}
+use Rattle.masks.specs.equations.Iterator.{new_iter, nth_flag, take_leading}
+use Rattle.masks.specs.Mask.{mask_of, mask_under}
+use Rattle.masks.specs.equations.Mask.{try_new_of, new_zeroed_of, unset_bits_of, slice_of}
+use Rattle.masks.specs.equations.NextAndNot.{next_and_not_of}
+use Rattle.masks.specs.equations.Positions.{next_positions}
+use Rattle.masks.specs.equations.Search.{search_from, search_back}
+use Rattle.masks.specs.SliceIterator.{slices_at}
+use Rattle.masks.specs.equations.SliceIterator.{new_slices, next_slice}
+use Rattle.masks.specs.TrueIdx.{true_at}
+use Rattle.masks.specs.equations.TrueIdx.{new_true, next_true}
+use Rattle.masks.specs.equations.Utils.{span_count}
 use Rattle.masks.specs.declared.bitmap.Bitmap.{Bitmap}
 use Rattle.masks.proofs.tables.EdgeRows.{SplitRow}
 use Rattle.masks.proofs.tables.StartRows.{numbers}

@@ -5,17 +5,20 @@
 -- other two numbers (`may_give` of `Refusals`), except 6 and 7 of `slice`: if its 7 fails, 3 or an earlier one fails too (`never_seven`).
 -- So these rows fix the order as far as it shows.
 use Rattle.std.specs.Prelude.{ℕ, ◌≡◌, true, false, List, [], ◌∷◌, map, Some, None}
-use Rattle.masks.specs.Aligned.{aligned_of}
-use Rattle.masks.specs.Appends.{push_word, extend_constant, extend_slice, extend_bitmap, extend_gather}
-use Rattle.masks.specs.Bitmask.{split_at, window_at}
+use Rattle.masks.specs.equations.Aligned.{aligned_of}
+use Rattle.masks.specs.equations.Appends.{push_word, extend_constant, extend_slice, extend_bitmap, extend_gather}
+use Rattle.masks.specs.Bitmask.{window_at}
+use Rattle.masks.specs.equations.Bitmask.{split_at}
 use Rattle.masks.specs.Builder.{builder_of}
 use Rattle.masks.specs.Combine.{And}
-use Rattle.masks.specs.Compare.{edges_of, common_of}
-use Rattle.masks.specs.Freeze.{freeze_of}
-use Rattle.masks.specs.Mask.{mask_of, new_zeroed_of, unset_bits_of, slice_of}
-use Rattle.masks.specs.Superseding.{superseding_of}
-use Rattle.masks.specs.TrueIdx.{true_at, new_true, next_true}
-use Rattle.masks.specs.Utils.{span_count}
+use Rattle.masks.specs.equations.Compare.{edges_of, common_of}
+use Rattle.masks.specs.equations.Freeze.{freeze_of}
+use Rattle.masks.specs.Mask.{mask_of}
+use Rattle.masks.specs.equations.Mask.{new_zeroed_of, unset_bits_of, slice_of}
+use Rattle.masks.specs.equations.Superseding.{superseding_of}
+use Rattle.masks.specs.TrueIdx.{true_at}
+use Rattle.masks.specs.equations.TrueIdx.{new_true, next_true}
+use Rattle.masks.specs.equations.Utils.{span_count}
 use Rattle.masks.proofs.tables.Witnesses.{number_of, byte, whole, shorter, buffer, too_long, to_impossible, to_no_bytes}
 use Rattle.masks.proofs.tables.Witnesses.{pair_number, not_number, select_number, select_constant_number, at_number}
 use Rattle.masks.specs.declared.bitmap.Bitmap.{Bitmap}

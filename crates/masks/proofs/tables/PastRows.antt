@@ -4,22 +4,29 @@
 -- `StartRows`, and those of the reference's words there, worked out by hand. `proofs/computed/PastRows.antt` proves that they are equal.
 use Rattle.std.specs.Prelude.{ℕ, true, false, Bool, List, [], ◌∷◌, replicate, Some, None}
 use Rattle.words.specs.Flags.{digit}
-use Rattle.masks.specs.Answer.{Answer, given, refused}
-use Rattle.masks.specs.Appends.{Append, extend_bitmap, extend_opt_gather, extend_repeated, append_answer}
-use Rattle.masks.specs.AtIndex.{and_not_at_of}
-use Rattle.masks.specs.Bitmask.{split_at, window_at}
+use Rattle.masks.specs.equations.Answer.{Answer, given, refused}
+use Rattle.masks.specs.equations.Appends.{Append, extend_bitmap, extend_opt_gather, extend_repeated, append_answer}
+use Rattle.masks.specs.equations.AtIndex.{and_not_at_of}
+use Rattle.masks.specs.Bitmask.{window_at}
+use Rattle.masks.specs.equations.Bitmask.{split_at}
 use Rattle.masks.specs.Builder.{builder_under, new_builder}
-use Rattle.masks.specs.Chunks.{chunks_at, next_chunk, chunks_remainder}
-use Rattle.masks.specs.Combine.{Or, pair_of, select_of, select_constant_of}
-use Rattle.masks.specs.Freeze.{freeze_of}
-use Rattle.masks.specs.Iterator.{iter_at, nth_flag, take_leading}
-use Rattle.masks.specs.Mask.{mask_of, mask_under, slice_of, unset_bits_of}
-use Rattle.masks.specs.NextAndNot.{next_and_not_of}
-use Rattle.masks.specs.Positions.{next_positions, positions_over}
-use Rattle.masks.specs.Search.{search_from, search_back}
-use Rattle.masks.specs.SliceIterator.{slices_at, next_slice}
-use Rattle.masks.specs.Superseding.{superseding_of}
-use Rattle.masks.specs.TrueIdx.{true_at, next_true}
+use Rattle.masks.specs.Chunks.{chunks_at}
+use Rattle.masks.specs.equations.Chunks.{next_chunk, chunks_remainder}
+use Rattle.masks.specs.Combine.{Or}
+use Rattle.masks.specs.equations.Combine.{pair_of, select_of, select_constant_of}
+use Rattle.masks.specs.equations.Freeze.{freeze_of}
+use Rattle.masks.specs.Iterator.{iter_at}
+use Rattle.masks.specs.equations.Iterator.{nth_flag, take_leading}
+use Rattle.masks.specs.Mask.{mask_of, mask_under}
+use Rattle.masks.specs.equations.Mask.{slice_of, unset_bits_of}
+use Rattle.masks.specs.equations.NextAndNot.{next_and_not_of}
+use Rattle.masks.specs.equations.Positions.{next_positions, positions_over}
+use Rattle.masks.specs.equations.Search.{search_from, search_back}
+use Rattle.masks.specs.SliceIterator.{slices_at}
+use Rattle.masks.specs.equations.SliceIterator.{next_slice}
+use Rattle.masks.specs.equations.Superseding.{superseding_of}
+use Rattle.masks.specs.TrueIdx.{true_at}
+use Rattle.masks.specs.equations.TrueIdx.{next_true}
 use Rattle.masks.specs.declared.bitmap.Bitmap.{Bitmap}
 use Rattle.masks.specs.declared.bitmap.Recounted.{Recounted}
 use Rattle.masks.specs.declared.builder.BitmapBuilder.{BitmapBuilder}

@@ -7,11 +7,13 @@
 use Rattle.std.specs.Prelude.{ℕ, ◌≡◌, true, false, List, [], ◌∷◌, map, replicate, Option, Some, None}
 use Rattle.words.specs.declared.ops.Op.{Op}
 use Rattle.masks.specs.declared.bitmap.Recounted.{Recounted}
-use Rattle.masks.specs.Answer.{Answer, given, refused}
-use Rattle.masks.specs.Appends.{extend_constant, push_word, extend_gather, extend_opt_gather}
-use Rattle.masks.specs.Combine.{And, AndNot, Or, Xor, pair_of, pair_bytes, each_of, each_bytes, not_checks, not_flags}
+use Rattle.masks.specs.equations.Answer.{Answer, given, refused}
+use Rattle.masks.specs.equations.Appends.{extend_constant, push_word, extend_gather, extend_opt_gather}
+use Rattle.masks.specs.Combine.{And, AndNot, Or, Xor, not_checks, not_flags}
+use Rattle.masks.specs.equations.Combine.{pair_of, pair_bytes, each_of, each_bytes}
 use Rattle.masks.proofs.tables.Examples.{Value, mask, count, refusal, sliced_value, frozen_in, lent, first, mixed, sliced_to, A-bytes}
-use Rattle.masks.specs.Mask.{mask_of, slice_of, try_new_of, unset_bits_of}
+use Rattle.masks.specs.Mask.{mask_of}
+use Rattle.masks.specs.equations.Mask.{slice_of, try_new_of, unset_bits_of}
 use Rattle.masks.specs.declared.bitmap.Bitmap.{Bitmap}
 
 -- ---- a row

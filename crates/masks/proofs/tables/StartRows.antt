@@ -5,17 +5,22 @@
 -- out by hand. `proofs/computed/StartRows.antt` proves that the columns are equal.
 use Rattle.std.specs.Prelude.{ℕ, ◌≡◌, true, false, List, [], ◌∷◌, ◌++◌, map, replicate, Option, Some, None}
 use Rattle.words.specs.Flags.{digit}
-use Rattle.masks.specs.Answer.{Answer, given, refused}
-use Rattle.masks.specs.Bitmask.{split_at, window_at}
-use Rattle.masks.specs.Chunks.{chunks_at, next_chunk, chunks_remainder}
+use Rattle.masks.specs.equations.Answer.{Answer, given, refused}
+use Rattle.masks.specs.Bitmask.{window_at}
+use Rattle.masks.specs.equations.Bitmask.{split_at}
+use Rattle.masks.specs.Chunks.{chunks_at}
+use Rattle.masks.specs.equations.Chunks.{next_chunk, chunks_remainder}
 use Rattle.masks.specs.Cursor.{Step, item, ended}
 use Rattle.masks.proofs.tables.EdgeRows.{SplitRow, two_bytes, twelve}
-use Rattle.masks.specs.Iterator.{iter_at, nth_flag, take_leading}
-use Rattle.masks.specs.Mask.{slice_of}
-use Rattle.masks.specs.Positions.{next_positions, positions_over}
-use Rattle.masks.specs.Search.{search_from, search_back}
-use Rattle.masks.specs.SliceIterator.{new_slices, next_slice, slices_at}
-use Rattle.masks.specs.TrueIdx.{new_true, next_true, true_at}
+use Rattle.masks.specs.Iterator.{iter_at}
+use Rattle.masks.specs.equations.Iterator.{nth_flag, take_leading}
+use Rattle.masks.specs.equations.Mask.{slice_of}
+use Rattle.masks.specs.equations.Positions.{next_positions, positions_over}
+use Rattle.masks.specs.equations.Search.{search_from, search_back}
+use Rattle.masks.specs.SliceIterator.{slices_at}
+use Rattle.masks.specs.equations.SliceIterator.{new_slices, next_slice}
+use Rattle.masks.specs.TrueIdx.{true_at}
+use Rattle.masks.specs.equations.TrueIdx.{new_true, next_true}
 use Rattle.masks.specs.declared.bitmap.Bitmap.{Bitmap}
 use Rattle.masks.specs.declared.bitmask.Span.{Span}
 use Rattle.masks.specs.declared.chunks.BitChunks.{BitChunks}

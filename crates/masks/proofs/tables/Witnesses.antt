@@ -7,30 +7,39 @@ use Rattle.std.specs.Prelude.{ℕ, ◌≡◌, true, false, cond, List, [], ◌�
 use Rattle.words.specs.Ends.{leading, trailing}
 use Rattle.words.specs.Loops.{stretch}
 use Rattle.words.specs.declared.ops.Op.{Op}
-use Rattle.masks.specs.Aligned.{aligned_of}
-use Rattle.masks.specs.Answer.{Answer, given, refused}
-use Rattle.masks.specs.Appends.{Append, push_flag, extend_constant, push_word, extend_slice, extend_repeated, extend_bitmap, extend_gather}
-use Rattle.masks.specs.Appends.{extend_opt_gather, append_answer}
-use Rattle.masks.specs.AtIndex.{and_not_at_of}
-use Rattle.masks.specs.NextAndNot.{next_and_not_of}
-use Rattle.masks.specs.Bitmask.{split_at, window_at}
+use Rattle.masks.specs.equations.Aligned.{aligned_of}
+use Rattle.masks.specs.equations.Answer.{Answer, given, refused}
+use Rattle.masks.specs.equations.Appends.{Append, push_flag, extend_constant, push_word, extend_slice, extend_repeated, extend_bitmap}
+use Rattle.masks.specs.equations.Appends.{extend_gather}
+use Rattle.masks.specs.equations.Appends.{extend_opt_gather, append_answer}
+use Rattle.masks.specs.equations.AtIndex.{and_not_at_of}
+use Rattle.masks.specs.equations.NextAndNot.{next_and_not_of}
+use Rattle.masks.specs.Bitmask.{window_at}
+use Rattle.masks.specs.equations.Bitmask.{split_at}
 use Rattle.masks.specs.Builder.{builder_of, new_builder}
-use Rattle.masks.specs.Chunks.{chunks_at, new_chunks, next_chunk, chunks_remainder}
-use Rattle.masks.specs.Combine.{And, AndNot, Or, OrNot, Xor, pair_of, not_of, select_of, select_constant_of}
-use Rattle.masks.specs.Compare.{eq_of, edges_of, common_of}
-use Rattle.masks.specs.Freeze.{freeze_of, into_opt_validity_of}
-use Rattle.masks.specs.Iterator.{iter_at, new_iter, nth_flag, take_leading}
-use Rattle.masks.specs.Mask.{mask_of, try_new_of, new_zeroed_of, unset_bits_of, slice_of}
+use Rattle.masks.specs.Chunks.{chunks_at}
+use Rattle.masks.specs.equations.Chunks.{new_chunks, next_chunk, chunks_remainder}
+use Rattle.masks.specs.Combine.{And, AndNot, Or, OrNot, Xor}
+use Rattle.masks.specs.equations.Combine.{pair_of, not_of, select_of, select_constant_of}
+use Rattle.masks.specs.equations.Compare.{eq_of, edges_of, common_of}
+use Rattle.masks.specs.equations.Freeze.{freeze_of, into_opt_validity_of}
+use Rattle.masks.specs.Iterator.{iter_at}
+use Rattle.masks.specs.equations.Iterator.{new_iter, nth_flag, take_leading}
+use Rattle.masks.specs.Mask.{mask_of}
+use Rattle.masks.specs.equations.Mask.{try_new_of, new_zeroed_of, unset_bits_of, slice_of}
 use Rattle.masks.proofs.statements.Refusals.{may_give, Family, addressed, spans, cursors, unmasked_cursors, splits, builders, pushed-words}
 use Rattle.masks.proofs.statements.Refusals.{span-appends, gathers, piece-appends, zeroed-masks, masks, slices, combinations, inversions}
 use Rattle.masks.proofs.statements.Refusals.{intersections}
 use Rattle.masks.proofs.statements.Refusals.{indexed-pairs, indexed-masks, stated-masks, stated_lengths, supersessions}
-use Rattle.masks.specs.Search.{search_from, search_back}
-use Rattle.masks.specs.SliceIterator.{slices_at, new_slices, next_slice}
-use Rattle.masks.specs.Positions.{next_positions}
-use Rattle.masks.specs.Superseding.{record_of, superseding_of}
-use Rattle.masks.specs.TrueIdx.{true_at, new_true, next_true}
-use Rattle.masks.specs.Utils.{span_count, zeros}
+use Rattle.masks.specs.equations.Search.{search_from, search_back}
+use Rattle.masks.specs.SliceIterator.{slices_at}
+use Rattle.masks.specs.equations.SliceIterator.{new_slices, next_slice}
+use Rattle.masks.specs.equations.Positions.{next_positions}
+use Rattle.masks.specs.equations.Superseding.{record_of, superseding_of}
+use Rattle.masks.specs.TrueIdx.{true_at}
+use Rattle.masks.specs.equations.TrueIdx.{new_true, next_true}
+use Rattle.masks.specs.Utils.{zeros}
+use Rattle.masks.specs.equations.Utils.{span_count}
 use Rattle.masks.specs.declared.bitmap.Bitmap.{Bitmap}
 use Rattle.masks.specs.declared.builder.BitmapBuilder.{BitmapBuilder}
 

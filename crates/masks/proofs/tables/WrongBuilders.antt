@@ -3,12 +3,13 @@
 -- Rows as in `WrongAnswers` of words. An answer is paired with what the lent buffer then holds.
 use Rattle.std.specs.Prelude.{ℕ, true, List, [], ◌∷◌, ◌++◌, replicate, Some, None}
 use Rattle.words.proofs.tables.WrongAnswers.{Tried}
-use Rattle.masks.specs.Answer.{Answer, given, refused}
-use Rattle.masks.specs.Appends.{Append, push_flag, extend_constant, push_word, extend_slice, extend_repeated, extend_bitmap, extend_gather}
-use Rattle.masks.specs.Appends.{extend_opt_gather, append_answer, append_bytes, change_answer}
+use Rattle.masks.specs.equations.Answer.{Answer, given, refused}
+use Rattle.masks.specs.equations.Appends.{Append, push_flag, extend_constant, push_word, extend_slice, extend_repeated, extend_bitmap}
+use Rattle.masks.specs.equations.Appends.{extend_gather}
+use Rattle.masks.specs.equations.Appends.{extend_opt_gather, append_answer, append_bytes, change_answer}
 use Rattle.masks.specs.Builder.{builder_of, new_builder}
 use Rattle.masks.proofs.tables.Examples.{first, lent}
-use Rattle.masks.specs.Freeze.{freeze_of, into_opt_validity_of, freeze_bytes}
+use Rattle.masks.specs.equations.Freeze.{freeze_of, into_opt_validity_of, freeze_bytes}
 use Rattle.masks.specs.Mask.{mask_of}
 use Rattle.masks.proofs.tables.WrongSpans.{two}
 use Rattle.masks.specs.declared.builder.BitmapBuilder.{BitmapBuilder}

@@ -3,13 +3,16 @@
 -- Rows as in `WrongAnswers` of words.
 use Rattle.std.specs.Prelude.{ℕ, true, false, List, [], ◌∷◌, length, None}
 use Rattle.words.proofs.tables.WrongAnswers.{Tried}
-use Rattle.masks.specs.Answer.{Answer, given, refused}
+use Rattle.masks.specs.equations.Answer.{Answer, given, refused}
 use Rattle.masks.specs.Cursor.{item, ended}
-use Rattle.masks.specs.Iterator.{iter_at, new_iter, nth_flag, take_leading}
+use Rattle.masks.specs.Iterator.{iter_at}
+use Rattle.masks.specs.equations.Iterator.{new_iter, nth_flag, take_leading}
 use Rattle.masks.specs.Mask.{mask_of}
-use Rattle.masks.specs.Positions.{next_positions, positions_over}
-use Rattle.masks.specs.SliceIterator.{slices_at, run_of, new_slices, next_slice}
-use Rattle.masks.specs.TrueIdx.{true_at, new_true, next_true}
+use Rattle.masks.specs.equations.Positions.{next_positions, positions_over}
+use Rattle.masks.specs.SliceIterator.{slices_at, run_of}
+use Rattle.masks.specs.equations.SliceIterator.{new_slices, next_slice}
+use Rattle.masks.specs.TrueIdx.{true_at}
+use Rattle.masks.specs.equations.TrueIdx.{new_true, next_true}
 use Rattle.masks.proofs.tables.WrongSpans.{two}
 use Rattle.masks.specs.declared.true_idx.TrueIdxIter.{TrueIdxIter}
 

@@ -5,14 +5,16 @@ use Rattle.std.specs.Prelude.{ℕ, true, false, List, [], ◌∷◌, ◌++◌, r
 pub use Rattle.words.proofs.tables.WrongAnswers.{Tried}
 use Rattle.words.specs.declared.ops.Op.{Op}
 use Rattle.masks.specs.declared.bitmap.Recounted.{Recounted}
-use Rattle.masks.specs.Answer.{Answer, given, refused}
-use Rattle.masks.specs.AtIndex.{and_not_at_of}
+use Rattle.masks.specs.equations.Answer.{Answer, given, refused}
+use Rattle.masks.specs.equations.AtIndex.{and_not_at_of}
 use Rattle.masks.specs.Checks.{earlier, first_failed, output_checks, span_checks}
-use Rattle.masks.specs.Combine.{And, AndNot, Or, OrNot, Xor, pair_of, pair_bytes, not_of, not_bytes, select_of, select_bytes}
-use Rattle.masks.specs.Combine.{select_constant_of, select_constant_bytes}
-use Rattle.masks.specs.Compare.{eq_of, edges_of, common_of}
+use Rattle.masks.specs.Combine.{And, AndNot, Or, OrNot, Xor}
+use Rattle.masks.specs.equations.Combine.{pair_of, pair_bytes, not_of, not_bytes, select_of, select_bytes}
+use Rattle.masks.specs.equations.Combine.{select_constant_of, select_constant_bytes}
+use Rattle.masks.specs.equations.Compare.{eq_of, edges_of, common_of}
 use Rattle.masks.proofs.tables.Examples.{first, lent}
-use Rattle.masks.specs.Mask.{mask_checks, mask_of, empty_mask, try_new_of, new_zeroed_of, new_zeroed_bytes, unset_bits_of, slice_of}
+use Rattle.masks.specs.Mask.{mask_checks, mask_of, empty_mask}
+use Rattle.masks.specs.equations.Mask.{try_new_of, new_zeroed_of, new_zeroed_bytes, unset_bits_of, slice_of}
 use Rattle.masks.proofs.tables.WrongSpans.{two}
 use Rattle.masks.specs.declared.bitmap.Bitmap.{Bitmap}
 

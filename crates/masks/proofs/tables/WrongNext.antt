@@ -3,9 +3,9 @@
 -- Rows as in `WrongAnswers` of words: the definition at one input, its value, and two answers of a faulty call.
 use Rattle.std.specs.Prelude.{ℕ, List, [], ◌∷◌, Some, None}
 use Rattle.masks.specs.declared.next_and_not.Found.{Found}
-use Rattle.masks.specs.Answer.{given, refused}
+use Rattle.masks.specs.equations.Answer.{given, refused}
 use Rattle.masks.specs.Mask.{mask_of}
-use Rattle.masks.specs.NextAndNot.{next_and_not_of}
+use Rattle.masks.specs.equations.NextAndNot.{next_and_not_of}
 use Rattle.masks.proofs.tables.WrongMasks.{Tried}
 use Rattle.masks.specs.declared.bitmap.Bitmap.{Bitmap}
 

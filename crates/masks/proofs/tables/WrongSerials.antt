@@ -3,14 +3,16 @@
 -- Rows as in `WrongAnswers` of words. An answer of a call that writes is paired with what the lent output then holds.
 use Rattle.std.specs.Prelude.{ℕ, Bool, true, false, List, [], ◌∷◌, Some, None}
 pub use Rattle.words.proofs.tables.WrongAnswers.{Tried}
-use Rattle.masks.specs.Answer.{given, refused}
-use Rattle.masks.specs.Appends.{push_flag}
+use Rattle.masks.specs.equations.Answer.{given, refused}
+use Rattle.masks.specs.equations.Appends.{push_flag}
 use Rattle.masks.specs.Builder.{builder_of, builder_under}
-use Rattle.masks.specs.Combine.{Or, select_bytes, select_of}
+use Rattle.masks.specs.Combine.{Or}
+use Rattle.masks.specs.equations.Combine.{select_bytes, select_of}
 use Rattle.masks.proofs.tables.Examples.{first, lent}
-use Rattle.masks.specs.Freeze.{freeze_of}
-use Rattle.masks.specs.Mask.{mask_of, mask_under, slice_of}
-use Rattle.masks.specs.Superseding.{bytes_of, record_of, superseding_of}
+use Rattle.masks.specs.equations.Freeze.{freeze_of}
+use Rattle.masks.specs.Mask.{mask_of, mask_under}
+use Rattle.masks.specs.equations.Mask.{slice_of}
+use Rattle.masks.specs.equations.Superseding.{bytes_of, record_of, superseding_of}
 use Rattle.masks.proofs.tables.WrongBuilders.{appending, freezing}
 use Rattle.masks.proofs.tables.WrongMasks.{Written, paired}
 use Rattle.masks.proofs.tables.WrongSpans.{two}

@@ -5,13 +5,16 @@ use Rattle.std.specs.Prelude.{ℕ, true, false, List, [], ◌∷◌, ◌++◌, r
 use Rattle.words.specs.Ends.{leading, trailing}
 use Rattle.words.specs.Loops.{stretch}
 use Rattle.words.proofs.tables.WrongAnswers.{Tried}
-use Rattle.masks.specs.Aligned.{aligned_of}
-use Rattle.masks.specs.Answer.{given, refused}
-use Rattle.masks.specs.Bitmask.{span_of, split_at, window_at}
-use Rattle.masks.specs.Chunks.{chunks_at, new_chunks, next_chunk, chunks_remainder}
+use Rattle.masks.specs.equations.Aligned.{aligned_of}
+use Rattle.masks.specs.equations.Answer.{given, refused}
+use Rattle.masks.specs.Bitmask.{span_of, window_at}
+use Rattle.masks.specs.equations.Bitmask.{split_at}
+use Rattle.masks.specs.Chunks.{chunks_at}
+use Rattle.masks.specs.equations.Chunks.{new_chunks, next_chunk, chunks_remainder}
 use Rattle.masks.specs.Cursor.{item}
-use Rattle.masks.specs.Search.{search_from, search_back}
-use Rattle.masks.specs.Utils.{span_count, zeros}
+use Rattle.masks.specs.equations.Search.{search_from, search_back}
+use Rattle.masks.specs.Utils.{zeros}
+use Rattle.masks.specs.equations.Utils.{span_count}
 use Rattle.masks.specs.declared.aligned.AlignedBitmapSlice.{AlignedBitmapSlice}
 
 -- the flags 1,0,1,1,0,1,0,0 and 0,0,0,0,1,1,1,1

@@ -9,8 +9,9 @@ use Prim.Native.Nat.{ℕ, ◌<◌}
 use lib.Dec.{eqb, ltb}
 use lib.ListN.{length, get_or}
 use borrow.Author.Tests.{eq-eqb, eqb-true, lt-ltb}
-use Rattle.masks.specs.Answer.{given, decided, checked}
-use Rattle.masks.specs.AtIndex.{and_not_at_checks, and_not_at_of, and_not_flag, flag_or, index_checks, index_inside, length_checks}
+use Rattle.masks.specs.equations.Answer.{given, decided, checked}
+use Rattle.masks.specs.AtIndex.{and_not_at_checks, and_not_flag, flag_or, index_checks, index_inside, length_checks}
+use Rattle.masks.specs.equations.AtIndex.{and_not_at_of}
 use Rattle.masks.specs.Checks.{first_failed}
 use Rattle.masks.specs.Combine.{AndNot, pair_checks, pair_flags, pair_mask}
 use Rattle.masks.specs.Frozen.{with_frozen}

@@ -1,6 +1,6 @@
 -- The statements of `proofs/statements/AnswerPlain.antt`: what each answer means.
 use mathlib.Core.Path.{refl}
-use Rattle.masks.specs.Answer.{decided}
+use Rattle.masks.specs.equations.Answer.{decided}
 use Rattle.masks.proofs.statements.AnswerPlain.{AnswersPlain}
 
 pub answers-plain : AnswersPlain

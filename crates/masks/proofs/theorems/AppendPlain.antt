@@ -16,10 +16,12 @@ use Rattle.words.specs.Flags.{bit_at, bits, copies, flag_at, flags_of, window}
 use Rattle.words.specs.Loops.{stretch}
 use Rattle.words.proofs.theorems.Plain.{at_bits, at-flags, at-stretch}
 use Rattle.words.proofs.flags.Windows.{length-window, length-copies, at_copies, at_in, at_take, at-window}
-use Rattle.masks.specs.Answer.{given}
+use Rattle.masks.specs.equations.Answer.{given}
 use Rattle.masks.proofs.statements.AppendPlain.{new_count, new_flag, builder_flag, AppendsPlainly, AppendPlain}
-use Rattle.masks.specs.Appends.{Append, push_flag, extend_constant, push_word, extend_slice, extend_repeated, extend_bitmap, extend_gather}
-use Rattle.masks.specs.Appends.{extend_opt_gather, append_checks, append_flags, append_answer, append_bytes, grow_checks, word_checks}
+use Rattle.masks.specs.equations.Appends.{Append, push_flag, extend_constant, push_word, extend_slice, extend_repeated, extend_bitmap}
+use Rattle.masks.specs.equations.Appends.{extend_gather}
+use Rattle.masks.specs.Appends.{grow_checks, word_checks}
+use Rattle.masks.specs.equations.Appends.{extend_opt_gather, append_checks, append_flags, append_answer, append_bytes}
 use Rattle.masks.specs.Appends.{constant_checks, span_grow_checks, subslice_checks, inner_checks, gather_checks, all_below, gathered}
 use Rattle.masks.specs.Appends.{repeated}
 use Rattle.masks.specs.Builder.{filling, appended, builder_flags, in_progress, none_from}

@@ -12,15 +12,18 @@ use borrow.Author.Tests.{eq-eqb, ne_eqb, le-leb, lt-leb, eqb-true}
 use Rattle.words.specs.Flags.{count}
 use Rattle.words.specs.declared.ops.Op.{Op}
 use Rattle.masks.specs.declared.bitmap.Recounted.{Recounted}
-use Rattle.masks.specs.Answer.{given, checked}
+use Rattle.masks.specs.equations.Answer.{given, checked}
 use Rattle.masks.specs.Checks.{Check, check, first_failed, span_checks}
-use Rattle.masks.specs.Combine.{And, AndNot, Or, OrNot, Xor, pair_of, pair_mask, pair_checks, shortcut, result_count, result_mask, each_of}
+use Rattle.masks.specs.Combine.{And, AndNot, Or, OrNot, Xor, pair_mask, pair_checks, shortcut, result_count, result_mask}
+use Rattle.masks.specs.equations.Combine.{pair_of, each_of}
 use Rattle.masks.specs.Combine.{not_checks, select_checks}
 use Rattle.masks.proofs.statements.CountPlain.{Brings, told, counted, MadeCounts, SliceCounts, PairCounts, EachCounts, CountsPlainly}
 use Rattle.masks.specs.Freeze.{freeze_checks, frozen_mask, total_ones, validity_of}
 use Rattle.masks.specs.declared.builder.BitmapBuilder.{BitmapBuilder}
-use Rattle.masks.specs.Mask.{mask_of, mask_flags, uncounted, zero_count, with_count, try_new_of, new_zeroed_of, zeroed_checks}
-use Rattle.masks.specs.Mask.{unset_bits_of, mask_checks, slice_of, slice_checks, sliced_mask, sliced_count, cut_zeros, recounts}
+use Rattle.masks.specs.Mask.{mask_of, mask_flags, uncounted, zero_count, with_count, zeroed_checks}
+use Rattle.masks.specs.equations.Mask.{try_new_of, new_zeroed_of}
+use Rattle.masks.specs.Mask.{mask_checks, slice_checks, sliced_mask, sliced_count, cut_zeros, recounts}
+use Rattle.masks.specs.equations.Mask.{unset_bits_of, slice_of}
 use Rattle.masks.specs.Mask.{recount_valid, kept_count, piece_checks}
 use Rattle.masks.specs.Utils.{zeros}
 use Rattle.masks.specs.declared.bitmap.Bitmap.{Bitmap}

@@ -11,23 +11,34 @@ use Rattle.words.specs.Counts.{same_flags}
 use Rattle.words.specs.Flags.{count, over, window}
 use Rattle.words.specs.declared.ops.Op.{Op}
 use Rattle.masks.specs.declared.bitmap.Recounted.{Recounted}
-use Rattle.masks.specs.Answer.{Answer, given, refused, checked, decided, kept}
+use Rattle.masks.specs.equations.Answer.{Answer, given, refused, checked, decided, kept}
 use Rattle.masks.specs.Appends.{grow_checks, inner_checks, subslice_checks}
-use Rattle.masks.specs.AtIndex.{and_not_at_of, and_not_flag, flag_or}
+use Rattle.masks.specs.AtIndex.{and_not_flag, flag_or}
+use Rattle.masks.specs.equations.AtIndex.{and_not_at_of}
 use Rattle.masks.specs.Builder.{appended, filling}
 use Rattle.masks.specs.Checks.{Check, check, first_failed, within_limit}
-use Rattle.masks.specs.Combine.{each_bytes, each_of, not_bytes, not_flags, not_of, pair_bytes}
-use Rattle.masks.specs.Combine.{pair_each, pair_flags, pair_mask, pair_of}
-use Rattle.masks.specs.Combine.{largest_serial, result_count, result_mask, select_bytes, select_checks, select_constant_bytes}
-use Rattle.masks.specs.Combine.{select_constant_flags, select_constant_of, select_flags, select_of, shortcut}
-use Rattle.masks.specs.Compare.{common_checks, common_of, edges, edges_of, eq_of}
+use Rattle.masks.specs.Combine.{not_flags}
+use Rattle.masks.specs.equations.Combine.{each_bytes, each_of, not_bytes, not_of, pair_bytes}
+use Rattle.masks.specs.Combine.{pair_each, pair_flags, pair_mask}
+use Rattle.masks.specs.equations.Combine.{pair_of}
+use Rattle.masks.specs.Combine.{largest_serial, result_count, result_mask, select_checks}
+use Rattle.masks.specs.equations.Combine.{select_bytes, select_constant_bytes}
+use Rattle.masks.specs.Combine.{select_constant_flags, select_flags, shortcut}
+use Rattle.masks.specs.equations.Combine.{select_constant_of, select_of}
+use Rattle.masks.specs.Compare.{common_checks, edges}
+use Rattle.masks.specs.equations.Compare.{common_of, edges_of, eq_of}
 use Rattle.masks.proofs.statements.CountsUnseen.{CountsUnseen, UnseenBoth, but_count, forgot, forgot_part, made_but_count, part_but_count}
 use Rattle.masks.specs.Frozen.{frozen}
-use Rattle.masks.specs.Mask.{mask_checks, mask_flags, piece_checks, sliced_mask, slice_of, unset_bits_of, with_count, zero_count}
-use Rattle.masks.specs.NextAndNot.{next_and_not_of, next_set}
-use Rattle.masks.specs.SliceIterator.{new_slices, slices_at}
-use Rattle.masks.specs.Superseding.{agree, bytes_of, part_of, record_of, superseding_checks, superseding_of, winning}
-use Rattle.masks.specs.TrueIdx.{first_true, new_true, new_true_checks, true_at}
+use Rattle.masks.specs.Mask.{mask_checks, mask_flags, piece_checks, sliced_mask, with_count, zero_count}
+use Rattle.masks.specs.equations.Mask.{slice_of, unset_bits_of}
+use Rattle.masks.specs.NextAndNot.{next_set}
+use Rattle.masks.specs.equations.NextAndNot.{next_and_not_of}
+use Rattle.masks.specs.SliceIterator.{slices_at}
+use Rattle.masks.specs.equations.SliceIterator.{new_slices}
+use Rattle.masks.specs.Superseding.{agree, part_of, superseding_checks, winning}
+use Rattle.masks.specs.equations.Superseding.{bytes_of, record_of, superseding_of}
+use Rattle.masks.specs.TrueIdx.{first_true, new_true_checks, true_at}
+use Rattle.masks.specs.equations.TrueIdx.{new_true}
 use Rattle.masks.specs.declared.bitmap.Bitmap.{Bitmap}
 use Rattle.masks.specs.declared.builder.BitmapBuilder.{BitmapBuilder}
 use Rattle.masks.specs.declared.superseding.Part.{Part}

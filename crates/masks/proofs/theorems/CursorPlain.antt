@@ -15,18 +15,23 @@ use Rattle.words.specs.Loops.{stretch}
 use Rattle.words.proofs.ends.EndLaws.{leading_le}
 use Rattle.words.proofs.theorems.Plain.{at-stretch}
 use Rattle.words.proofs.flags.Windows.{length-window}
-use Rattle.masks.specs.Answer.{given, unless_empty}
+use Rattle.masks.specs.equations.Answer.{given, unless_empty}
 use Rattle.masks.specs.Checks.{Check, check, first_failed, span_checks}
-use Rattle.masks.specs.Chunks.{chunks_at, new_chunks, next_chunk, chunk_step, chunk_checks, chunk_word}
+use Rattle.masks.specs.Chunks.{chunks_at, chunk_step, chunk_checks, chunk_word}
+use Rattle.masks.specs.equations.Chunks.{new_chunks, next_chunk}
 use Rattle.masks.specs.Cursor.{item, ended, cursor_checks}
 use Rattle.masks.proofs.statements.CursorPlain.{NewPlaces, ChunkPlaces, FlagPlaces, RunPlaces, OnePlaces, CursorsPlainly}
-use Rattle.masks.specs.Iterator.{first_iter, flag_step, iter_checks, iter_flags, leading_from, moved_to, new_iter, nth_flag}
-use Rattle.masks.specs.Iterator.{take_leading}
+use Rattle.masks.specs.Iterator.{first_iter, flag_step, iter_checks, iter_flags, leading_from, moved_to}
+use Rattle.masks.specs.equations.Iterator.{new_iter, nth_flag}
+use Rattle.masks.specs.equations.Iterator.{take_leading}
 use Rattle.masks.specs.Mask.{mask_checks}
-use Rattle.masks.specs.Positions.{left_of, place_after, next_positions}
+use Rattle.masks.specs.Positions.{left_of, place_after}
+use Rattle.masks.specs.equations.Positions.{next_positions}
 use Rattle.masks.specs.Search.{nth_from}
-use Rattle.masks.specs.SliceIterator.{slices_at, slices_moved, run_of, new_slices, run_checks, run_start, slice_step, next_slice}
-use Rattle.masks.specs.TrueIdx.{true_at, true_moved, new_true_checks, first_true, new_true, true_flags, true_checks, true_step, next_true}
+use Rattle.masks.specs.SliceIterator.{slices_at, slices_moved, run_of, run_checks, run_start, slice_step}
+use Rattle.masks.specs.equations.SliceIterator.{new_slices, next_slice}
+use Rattle.masks.specs.TrueIdx.{true_at, true_moved, new_true_checks, first_true, true_flags, true_checks, true_step}
+use Rattle.masks.specs.equations.TrueIdx.{new_true, next_true}
 use Rattle.masks.specs.declared.chunks.BitChunks.{BitChunks}
 use Rattle.masks.specs.declared.iterator.BitmapIter.{BitmapIter}
 use Rattle.masks.specs.declared.slice_iterator.Run.{Run}

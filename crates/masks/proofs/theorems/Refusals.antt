@@ -13,35 +13,49 @@ use borrow.Author.Tests.{eq-eqb, eqb-true}
 use Rattle.masks.proofs.refusal.AnswerLaws.{refused-number, refused-state, refused-failed}
 use Rattle.masks.proofs.checks.CheckLaws.{is-kept}
 use Rattle.masks.proofs.theorems.SliceTruth.{slice-number}
-use Rattle.masks.specs.Aligned.{aligned_checks, aligned_of}
-use Rattle.masks.specs.Answer.{Answer, given, refused, checked, kept, unless_empty}
-use Rattle.masks.specs.Appends.{Append, push_flag, extend_constant, push_word, extend_slice, extend_repeated, extend_bitmap, extend_gather}
-use Rattle.masks.specs.Appends.{extend_opt_gather}
-use Rattle.masks.specs.Appends.{append_checks, word_checks, constant_checks, span_grow_checks, inner_checks, subslice_checks, gather_checks}
-use Rattle.masks.specs.AtIndex.{and_not_at_checks, and_not_at_of, index_checks, length_checks}
-use Rattle.masks.specs.NextAndNot.{next_and_not_of, next_checks, other_checks}
-use Rattle.masks.specs.Bitmask.{split_checks, split_at, window_at}
+use Rattle.masks.specs.Aligned.{aligned_checks}
+use Rattle.masks.specs.equations.Aligned.{aligned_of}
+use Rattle.masks.specs.equations.Answer.{Answer, given, refused, checked, kept, unless_empty}
+use Rattle.masks.specs.equations.Appends.{Append, push_flag, extend_constant, push_word, extend_slice, extend_repeated, extend_bitmap}
+use Rattle.masks.specs.equations.Appends.{extend_gather}
+use Rattle.masks.specs.equations.Appends.{extend_opt_gather}
+use Rattle.masks.specs.Appends.{word_checks, constant_checks, span_grow_checks, inner_checks, subslice_checks, gather_checks}
+use Rattle.masks.specs.equations.Appends.{append_checks}
+use Rattle.masks.specs.AtIndex.{and_not_at_checks, index_checks, length_checks}
+use Rattle.masks.specs.equations.AtIndex.{and_not_at_of}
+use Rattle.masks.specs.NextAndNot.{next_checks, other_checks}
+use Rattle.masks.specs.equations.NextAndNot.{next_and_not_of}
+use Rattle.masks.specs.Bitmask.{split_checks, window_at}
+use Rattle.masks.specs.equations.Bitmask.{split_at}
 use Rattle.masks.specs.Builder.{builder_checks}
 use Rattle.masks.specs.Checks.{Check, rank, earlier, failure, first_failed, order, span_checks, address_checks, output_checks}
-use Rattle.masks.specs.Chunks.{chunk_checks, new_chunks, next_chunk, chunks_remainder}
-use Rattle.masks.specs.Combine.{pair_checks, pair_of, pair_bytes, each_of, each_bytes, not_checks, select_checks}
-use Rattle.masks.specs.Compare.{eq_of, edges_of, common_checks, common_of}
+use Rattle.masks.specs.Chunks.{chunk_checks}
+use Rattle.masks.specs.equations.Chunks.{new_chunks, next_chunk, chunks_remainder}
+use Rattle.masks.specs.Combine.{pair_checks, not_checks, select_checks}
+use Rattle.masks.specs.equations.Combine.{pair_of, pair_bytes, each_of, each_bytes}
+use Rattle.masks.specs.Compare.{common_checks}
+use Rattle.masks.specs.equations.Compare.{eq_of, edges_of, common_of}
 use Rattle.masks.specs.Cursor.{cursor_checks}
 use Rattle.masks.specs.Freeze.{freeze_checks}
-use Rattle.masks.specs.Iterator.{iter_checks, new_iter, nth_flag, take_leading}
-use Rattle.masks.specs.Mask.{mask_checks, zeroed_checks, piece_checks, slice_checks, try_new_of, new_zeroed_of, new_zeroed_bytes}
-use Rattle.masks.specs.Mask.{unset_bits_of, slice_of}
+use Rattle.masks.specs.Iterator.{iter_checks}
+use Rattle.masks.specs.equations.Iterator.{new_iter, nth_flag, take_leading}
+use Rattle.masks.specs.Mask.{mask_checks, zeroed_checks, piece_checks, slice_checks}
+use Rattle.masks.specs.equations.Mask.{try_new_of, new_zeroed_of, new_zeroed_bytes}
+use Rattle.masks.specs.equations.Mask.{unset_bits_of, slice_of}
 use Rattle.masks.proofs.statements.Refusals.{numbers, among, all_among, Refuses, RefusesUnwritten, Refusals, may_give, append_family}
 use Rattle.masks.proofs.statements.Refusals.{Family, addressed, spans, cursors, unmasked_cursors, splits, builders, pushed-words}
 use Rattle.masks.proofs.statements.Refusals.{span-appends, gathers}
 use Rattle.masks.proofs.statements.Refusals.{piece-appends, zeroed-masks, masks, slices, combinations, inversions, intersections}
 use Rattle.masks.proofs.statements.Refusals.{indexed-pairs, indexed-masks, stated-masks, stated_lengths, supersessions}
-use Rattle.masks.specs.Positions.{next_positions, positions_over}
-use Rattle.masks.specs.Search.{search_from, search_back}
-use Rattle.masks.specs.SliceIterator.{run_checks, new_slices, next_slice}
-use Rattle.masks.specs.Superseding.{record_of, superseding_checks, superseding_of}
-use Rattle.masks.specs.TrueIdx.{true_at, new_true_checks, true_checks, new_true, next_true}
-use Rattle.masks.specs.Utils.{span_count}
+use Rattle.masks.specs.equations.Positions.{next_positions, positions_over}
+use Rattle.masks.specs.equations.Search.{search_from, search_back}
+use Rattle.masks.specs.SliceIterator.{run_checks}
+use Rattle.masks.specs.equations.SliceIterator.{new_slices, next_slice}
+use Rattle.masks.specs.Superseding.{superseding_checks}
+use Rattle.masks.specs.equations.Superseding.{record_of, superseding_of}
+use Rattle.masks.specs.TrueIdx.{true_at, new_true_checks, true_checks}
+use Rattle.masks.specs.equations.TrueIdx.{new_true, next_true}
+use Rattle.masks.specs.equations.Utils.{span_count}
 use Rattle.masks.specs.declared.bitmap.Bitmap.{Bitmap}
 use Rattle.masks.specs.declared.builder.BitmapBuilder.{BitmapBuilder}
 use Rattle.masks.specs.declared.superseding.Part.{Part}

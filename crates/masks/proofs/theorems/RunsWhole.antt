@@ -13,13 +13,14 @@ use borrow.Author.Tests.{lt-ltb, le-ltb}
 use Rattle.words.specs.Flags.{flags_of}
 use Rattle.words.specs.Loops.{stretch}
 use Rattle.words.proofs.flags.Windows.{length-window}
-use Rattle.masks.specs.Answer.{Answer, given}
+use Rattle.masks.specs.equations.Answer.{Answer, given}
 use Rattle.masks.specs.Checks.{first_failed, span_checks}
 use Rattle.masks.specs.Cursor.{Step, item, ended, cursor_checks}
 use Rattle.masks.specs.Iterator.{leading_from}
 use Rattle.masks.proofs.statements.Listing.{listing, runs_left, listed, Maximal, AllRuns, no_run, run_at}
 use Rattle.masks.specs.Mask.{mask_checks, mask_flags}
-use Rattle.masks.specs.SliceIterator.{slices_at, slices_moved, run_of, run_checks, run_start, slice_step, next_slice, runs_from}
+use Rattle.masks.specs.SliceIterator.{slices_at, slices_moved, run_of, run_checks, run_start, slice_step, runs_from}
+use Rattle.masks.specs.equations.SliceIterator.{next_slice}
 use Rattle.masks.specs.declared.bitmap.Bitmap.{Bitmap}
 use Rattle.masks.specs.declared.slice_iterator.Run.{Run}
 use Rattle.masks.specs.declared.slice_iterator.SlicesIterator.{SlicesIterator}

@@ -16,7 +16,8 @@ use Rattle.words.specs.Nth.{nth_place}
 use Rattle.masks.specs.Checks.{first_failed}
 use Rattle.masks.proofs.statements.Listing.{listing}
 use Rattle.masks.specs.Search.{nth_from, nth_back}
-use Rattle.masks.specs.TrueIdx.{true_flags, true_checks, next_true, ones_from, ones_left}
+use Rattle.masks.specs.TrueIdx.{true_flags, true_checks, ones_from, ones_left}
+use Rattle.masks.specs.equations.TrueIdx.{next_true}
 use Rattle.masks.specs.declared.true_idx.TrueIdxIter.{TrueIdxIter}
 use Rattle.masks.proofs.theorems.SearchPlain.{forward-none, backward-none}
 use Rattle.masks.proofs.theorems.TrueIdxPlain.{lists-ones}

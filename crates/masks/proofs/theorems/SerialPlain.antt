@@ -10,13 +10,15 @@ use native.Mathlib.Omega.{arith}
 use lib.Dec.{eqb}
 use lib.ListN.{length}
 use Rattle.masks.specs.declared.bitmap.Recounted.{Recounted}
-use Rattle.masks.specs.Answer.{given, checked}
-use Rattle.masks.specs.Appends.{Append, append_answer, append_checks, append_flags}
+use Rattle.masks.specs.equations.Answer.{given, checked}
+use Rattle.masks.specs.equations.Appends.{Append, append_answer, append_checks, append_flags}
 use Rattle.masks.specs.Builder.{appended, filling}
 use Rattle.masks.specs.Checks.{Check, first_failed, span_checks}
-use Rattle.masks.specs.Combine.{each_of, largest_serial, not_checks, pair_checks, pair_mask, pair_of, result_mask, select_checks}
+use Rattle.masks.specs.Combine.{largest_serial, not_checks, pair_checks, pair_mask, result_mask, select_checks}
+use Rattle.masks.specs.equations.Combine.{each_of, pair_of}
 use Rattle.masks.specs.Freeze.{total_ones, freeze_checks, frozen_mask, validity_of}
-use Rattle.masks.specs.Mask.{mask_checks, mask_of, new_zeroed_of, slice_checks, slice_of, sliced_mask, try_new_of, uncounted, unset_bits_of}
+use Rattle.masks.specs.Mask.{mask_checks, mask_of, slice_checks, sliced_mask, uncounted}
+use Rattle.masks.specs.equations.Mask.{new_zeroed_of, slice_of, try_new_of, unset_bits_of}
 use Rattle.masks.specs.Mask.{with_count, zero_count, zeroed_checks}
 use Rattle.masks.proofs.statements.SerialPlain.{Largest, SerialsPlainly}
 use Rattle.masks.specs.declared.bitmap.Bitmap.{Bitmap}

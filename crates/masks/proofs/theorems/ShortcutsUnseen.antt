@@ -14,7 +14,8 @@ use Rattle.words.specs.Ops.{op_of, zip3}
 use Rattle.words.specs.declared.ops.Op.{Op}
 use Rattle.words.specs.declared.ops.Op.TheVariants.{And, AndNot, Or, OrNot, Xor, Not, Select}
 use Rattle.words.proofs.flags.Windows.{length-window}
-use Rattle.masks.specs.Combine.{shortcut, result_flags, pair_each, pair_shortcut}
+use Rattle.masks.specs.Combine.{shortcut, pair_each, pair_shortcut}
+use Rattle.masks.specs.Workers.{result_flags}
 use Rattle.masks.specs.Mask.{mask_flags, zero_count}
 use Rattle.masks.proofs.statements.TrueCounts.{TrueCount, Truthful}
 use Rattle.masks.specs.Utils.{zeros}

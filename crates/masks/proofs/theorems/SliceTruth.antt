@@ -15,11 +15,13 @@ use borrow.Author.Tests.{le-leb, eqb-true}
 use Rattle.words.specs.Flags.{copies, count, flags_of, window}
 use Rattle.words.proofs.counts.Counting.{count_add, count-copies, count-not}
 use Rattle.words.proofs.flags.Windows.{in_window, length-copies, length-window}
-use Rattle.masks.specs.Answer.{given, decided, checked}
+use Rattle.masks.specs.equations.Answer.{given, decided, checked}
 use Rattle.masks.specs.Checks.{Check, check, earlier, first_failed, limit, within_limit}
-use Rattle.masks.specs.Combine.{result_count, result_flags}
+use Rattle.masks.specs.Combine.{result_count}
+use Rattle.masks.specs.Workers.{result_flags}
 use Rattle.masks.specs.Mask.{cut_zeros, kept_count, mask_checks, mask_flags, mask_under, piece_checks}
-use Rattle.masks.specs.Mask.{recounts, recount_valid, slice_checks, sliced_count, sliced_mask, slice_of, uncounted}
+use Rattle.masks.specs.Mask.{recounts, recount_valid, slice_checks, sliced_count, sliced_mask, uncounted}
+use Rattle.masks.specs.equations.Mask.{slice_of}
 use Rattle.masks.proofs.statements.TrueCounts.{TrueCount, Truthful}
 use Rattle.masks.specs.Utils.{zeros}
 use Rattle.masks.specs.Workers.{PieceAllowed, cut_of}

@@ -14,11 +14,12 @@ use Rattle.words.specs.Flags.{flags_of, window}
 use Rattle.words.proofs.flags.Bytes.{flags-drop, flags-take}
 use Rattle.words.proofs.theorems.Plain.{equal-same, same-equal}
 use Rattle.words.proofs.flags.Windows.{at_take, window-drop, window-ext}
-use Rattle.masks.specs.Answer.{given, refused}
+use Rattle.masks.specs.equations.Answer.{given, refused}
 use Rattle.masks.specs.Checks.{Check, check, first_failed, limit, place_in, rank, span_checks}
-use Rattle.masks.specs.Compare.{eq_of}
+use Rattle.masks.specs.equations.Compare.{eq_of}
 use Rattle.masks.specs.Mask.{count_is, count_valid, mask_checks, mask_flags}
-use Rattle.masks.specs.Superseding.{agree, fitted, part_of, superseding_checks, superseding_of, winning, within}
+use Rattle.masks.specs.Superseding.{agree, fitted, part_of, superseding_checks, winning, within}
+use Rattle.masks.specs.equations.Superseding.{superseding_of}
 use Rattle.masks.proofs.statements.SupersedingPlain.{Accepted, Fits, Supersedes, SupersedingPlainly, Winning}
 use Rattle.masks.specs.Utils.{zeros}
 use Rattle.masks.specs.declared.bitmap.Bitmap.{Bitmap}

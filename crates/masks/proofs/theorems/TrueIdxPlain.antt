@@ -15,14 +15,15 @@ use Rattle.words.specs.Flags.{copies, count}
 use Rattle.words.specs.Nth.{nth_place}
 use Rattle.words.proofs.nth.NthLaws.{nth-lt}
 use Rattle.masks.specs.declared.bitmap.Bitmap.{Bitmap}
-use Rattle.masks.specs.Answer.{Answer, given}
+use Rattle.masks.specs.equations.Answer.{Answer, given}
 use Rattle.masks.specs.Checks.{Check, check, earlier, first_failed, span_checks, within_limit}
 use Rattle.masks.specs.Cursor.{Step, item, ended, cursor_checks}
 use Rattle.masks.proofs.statements.Listing.{listing, AllOnes, no_one, one_at}
 use Rattle.masks.specs.Mask.{count_valid, mask_checks}
 use Rattle.masks.specs.Positions.{left_of}
 use Rattle.masks.specs.Search.{nth_from}
-use Rattle.masks.specs.TrueIdx.{new_true_checks, first_true, true_moved, true_flags, true_checks, true_step, next_true, ones_from}
+use Rattle.masks.specs.TrueIdx.{new_true_checks, first_true, true_moved, true_flags, true_checks, true_step, ones_from}
+use Rattle.masks.specs.equations.TrueIdx.{next_true}
 use Rattle.masks.specs.TrueIdx.{ones_left}
 use Rattle.masks.specs.declared.true_idx.TrueIdxIter.{TrueIdxIter}
 use Rattle.masks.proofs.checks.CheckLaws.{both_left, both_right, check-allowed, is-given, passed-before}

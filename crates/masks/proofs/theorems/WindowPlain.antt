@@ -10,7 +10,7 @@ use Rattle.words.specs.Flags.{bit_at, flag_at, flags_of, window, word_of}
 use Rattle.words.specs.Loops.{stretch}
 use Rattle.words.proofs.flags.Windows.{length-window, at_in}
 use Rattle.words.proofs.theorems.Plain.{at-stretch, at-word}
-use Rattle.masks.specs.Answer.{given, decided}
+use Rattle.masks.specs.equations.Answer.{given, decided}
 use Rattle.masks.specs.Bitmask.{window_at, window_word}
 use Rattle.masks.specs.Checks.{first_failed, limit, span_checks}
 use Rattle.masks.proofs.bitmask.BitmaskLaws.{narrow}

@@ -3,8 +3,9 @@ use Rattle.std.specs.Prelude.{cond}
 use mathlib.Core.Path.{◌≡◌, ap, ◌∙◌}
 use mathlib.Core.List.{List}
 use Prim.Native.Nat.{ℕ}
-use Rattle.masks.specs.Answer.{Answer, given, refused}
-use Rattle.masks.specs.Superseding.{bytes_of, superseding_of, within}
+use Rattle.masks.specs.equations.Answer.{Answer, given, refused}
+use Rattle.masks.specs.Superseding.{within}
+use Rattle.masks.specs.equations.Superseding.{bytes_of, superseding_of}
 use Rattle.masks.specs.declared.superseding.Part.{Part}
 use Rattle.masks.proofs.refusal.ClauseLaws.{answered}
 use Rattle.capi.specs.Answers.{as_part}

@@ -1,0 +1,8 @@
+-- The calls of `Bitmask` as one equation each: their answers by their checks, and what lent bytes hold after them.
+use Rattle.std.specs.Prelude.{ℕ, List, length}
+use Rattle.masks.specs.equations.Answer.{Answer, checked}
+use Rattle.masks.specs.declared.bitmask.Span.{Span}
+use Rattle.masks.specs.Bitmask.{split_checks, parts_at}
+
+unfoldable pub split_at : List ℕ → ℕ → ℕ → ℕ → Answer (Unit {0}) (Span × Span)
+split_at bytes start n at = checked (split_checks start n at (length bytes)) tt (parts_at start n at)
