@@ -110,7 +110,7 @@ new-nth bytes start zero n e = nth-there bytes 0 0 n (span-accepted 0 0 (length 
 new-nth bytes start (suc size) n e =
     ap (λ (a : Answer (Unit {0}) BitmapIter). nth_of a bytes n)
     (sym (is-given 0 (first_failed (span_checks start (suc size) (length bytes))) tt (first_iter start (suc size)) e refl)
-    ∙ ap given (first-some start size))
+    ∙ ap given (first-some (iter_at 0 0 0) (iter_at start (suc size) 0) size))
     ∙ nth-there bytes start (suc size) n e
 
 -- ---- agreement

@@ -5,6 +5,7 @@ use mathlib.Core.List.{List, ◌++◌}
 use Prim.Native.Nat.{ℕ, suc, ◌+◌, ◌-◌, ◌≤◌, ◌<◌, min}
 use native.Mathlib.Nat.{add-zero}
 use native.Mathlib.Omega.{arith}
+use lib.Dec.{eqb}
 use lib.ListN.{length, take, drop, get_or, length-drop, take-append-drop}
 use lib.Seq.{drop-drop}
 use borrow.Author.Tests.{lt-ltb, le-ltb, ne_eqb}
@@ -14,13 +15,14 @@ use Rattle.words.proofs.ends.EndLaws.{leading_le, leading-some, leading-all}
 use Rattle.words.proofs.theorems.Plain.{window-part}
 use Rattle.words.proofs.flags.Windows.{length-window, window-cut, in_window, at_in}
 use Rattle.masks.specs.Cursor.{item, ended}
-use Rattle.masks.specs.Iterator.{first_iter, flag_step, iter_at, leading_from, moved_to}
+use Rattle.masks.specs.Iterator.{flag_step, leading_from, moved_to}
 use Rattle.masks.specs.declared.iterator.BitmapIter.{BitmapIter}
 
 -- ---- a new cursor
 
-pub first-some : (start n : ℕ) → first_iter start (suc n) ≡ iter_at start (suc n) 0
-first-some start n = ap (λ (t : Bool). cond t (iter_at 0 0 0) (iter_at start (suc n) 0)) (ne_eqb (suc n) 0 (λ h. omega arith))
+-- over a flag or more it is the second of the two
+pub first-some : (a b : BitmapIter) (n : ℕ) → cond (eqb (suc n) 0) a b ≡ b
+first-some a b n = ap (λ (t : Bool). cond t a b) (ne_eqb (suc n) 0 (λ h. omega arith))
 
 -- ---- the two answers of a cursor
 

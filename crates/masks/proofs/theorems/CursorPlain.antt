@@ -21,9 +21,8 @@ use Rattle.masks.specs.Chunks.{chunks_at, chunk_step, chunk_checks, chunk_word}
 use Rattle.masks.specs.equations.Chunks.{new_chunks, next_chunk}
 use Rattle.masks.specs.Cursor.{item, ended, cursor_checks}
 use Rattle.masks.proofs.statements.CursorPlain.{NewPlaces, ChunkPlaces, FlagPlaces, RunPlaces, OnePlaces, CursorsPlainly}
-use Rattle.masks.specs.Iterator.{first_iter, flag_step, iter_checks, iter_flags, leading_from, moved_to}
-use Rattle.masks.specs.equations.Iterator.{new_iter, nth_flag}
-use Rattle.masks.specs.equations.Iterator.{take_leading}
+use Rattle.masks.specs.Iterator.{first_iter, flag_step, iter_at, iter_checks, iter_flags, leading_from, moved_to}
+use Rattle.masks.specs.equations.Iterator.{new_iter, nth_flag, take_leading}
 use Rattle.masks.specs.Mask.{mask_checks}
 use Rattle.masks.specs.Positions.{left_of, place_after}
 use Rattle.masks.specs.equations.Positions.{next_positions}
@@ -61,7 +60,8 @@ new-places = record {
   chunks = λ bytes start n c e. given-value (first_failed (span_checks start n (length bytes))) tt c (chunks_at start n 0) e;
   flags-none = λ bytes start c e. cc;
   flags = λ bytes start n c e.
-      given-value (first_failed (span_checks start (suc n) (length bytes))) tt c (first_iter start (suc n)) e ∙ first-some start n;
+      given-value (first_failed (span_checks start (suc n) (length bytes))) tt c (first_iter start (suc n)) e
+      ∙ first-some (iter_at 0 0 0) (iter_at start (suc n) 0) n;
   runs = λ m bytes c e. given-value (first_failed (mask_checks m bytes)) tt c (slices_at m.start m.length 0) e;
   ones = λ n m bytes c e. given-value (first_failed (new_true_checks n (Some m) bytes)) tt c (true_at m.start n 0 true) e;
   every = λ n bytes c e. given-value (first_failed (new_true_checks n None bytes)) tt c (true_at 0 n 0 false) e;
