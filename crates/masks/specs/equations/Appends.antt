@@ -1,5 +1,5 @@
 -- The calls of `Appends` as one equation each: their answers by their checks, and what lent bytes hold after them.
-use Rattle.std.specs.Prelude.{ℕ, ◌*◌, Bool, List, ◌∷◌, length, take}
+use Rattle.std.specs.Prelude.{[], ℕ, ◌*◌, Bool, List, ◌∷◌, length, take}
 use Rattle.words.specs.Flags.{copies, window, word_flags}
 use Rattle.words.specs.Loops.{stretch}
 use Rattle.masks.specs.equations.Answer.{Answer, checked, decided, kept}

@@ -1,5 +1,5 @@
 -- The calls of `Combine` as one equation each: their answers by their checks, and what lent bytes hold after them.
-use Rattle.std.specs.Prelude.{ℕ, Bool, length}
+use Rattle.std.specs.Prelude.{[], ℕ, Bool, length}
 use mathlib.Core.List.{List, ◌∷◌}
 use Rattle.words.specs.Flags.{over}
 use Rattle.words.specs.declared.ops.Op.{Op}
