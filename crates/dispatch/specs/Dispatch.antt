@@ -1,8 +1,7 @@
 -- Whether truck t may be reassigned: with no permission mask, no truck may.
 use Rattle.std.specs.Prelude.{ℕ, Bool, false, List, Option, Some, None}
 use Rattle.masks.specs.declared.bitmap.Bitmap.{Bitmap}
-use Rattle.masks.specs.equations.Answer.{Answer, checked}
-use Rattle.masks.specs.AtIndex.{and_not_at_checks, and_not_flag}
+use Rattle.masks.specs.AtIndex.{and_not_flag}
 
 -- Flag t of the permission mask and not flag t of the revocation mask; an absent revocation mask takes nothing away. An operator
 -- with no permission mask may reassign nothing, whether or not revocations exist.

@@ -3,7 +3,6 @@
 use Rattle.std.specs.Prelude.{ℕ, zero, suc, ◌+◌, ◌/◌, Bool, cond, ◌&&◌, List, [], ◌∷◌, ◌++◌, leb, ltb, length, Option, Some, None, Result}
 use Rattle.std.specs.Prelude.{Ok, Err}
 use Rattle.masks.specs.declared.bitmap.Bitmap.{Bitmap}
-use Rattle.masks.specs.equations.Answer.{Answer, given, refused, checked}
 use Rattle.masks.specs.Checks.{Check}
 use Rattle.masks.specs.NextAndNot.{free_flags, next_checks}
 use Rattle.masks.specs.Search.{nth_from}

@@ -1,10 +1,9 @@
 -- The aligned split of a span: a prefix, whole words at addresses divisible by 8, and a suffix.
 --
 -- The address is that of the first lent byte, as its remainder by 8: the Rust takes the address itself.
-use Rattle.std.specs.Prelude.{ℕ, ◌+◌, ◌-◌, ◌*◌, ◌/◌, ◌%◌, Bool, cond, List, ◌++◌, leb, length}
+use Rattle.std.specs.Prelude.{ℕ, ◌+◌, ◌-◌, ◌*◌, ◌/◌, ◌%◌, Bool, cond, List, ◌++◌, leb}
 use Rattle.words.specs.Flags.{word_of}
 use Rattle.words.specs.Loops.{stretch}
-use Rattle.masks.specs.equations.Answer.{Answer, given, checked, unless_empty}
 use Rattle.masks.specs.Checks.{Check, span_checks, address_checks}
 use Rattle.masks.specs.declared.aligned.AlignedBitmapSlice.{AlignedBitmapSlice}
 

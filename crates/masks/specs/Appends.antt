@@ -2,13 +2,11 @@
 --
 -- Each call appends a list of flags if all its checks pass. Else the builder and the buffer are unchanged. A contract names the checks and
 -- the flags of its call; the exports and the step of a history have them from two tables, `append_checks` and `append_flags`.
-use Rattle.std.specs.Prelude.{ℕ, ◌+◌, ◌*◌, Bool, true, false, ◌&&◌, List, [], ◌∷◌, ◌++◌, leb, ltb, length, get_or, take}
-use Rattle.words.specs.Flags.{copies, window, word_flags}
-use Rattle.words.specs.Loops.{stretch}
-use Rattle.masks.specs.equations.Answer.{Answer, checked, decided, kept}
-use Rattle.masks.specs.Builder.{filling, appended, builder_checks, none_from}
-use Rattle.masks.specs.Checks.{Check, check, first_failed, within_limit, span_checks}
-use Rattle.masks.specs.Mask.{mask_checks, mask_flags}
+use Rattle.std.specs.Prelude.{ℕ, ◌+◌, Bool, true, false, ◌&&◌, List, [], ◌∷◌, ◌++◌, leb, ltb, length, get_or}
+use Rattle.words.specs.Flags.{copies}
+use Rattle.masks.specs.Builder.{builder_checks, none_from}
+use Rattle.masks.specs.Checks.{Check, check, within_limit, span_checks}
+use Rattle.masks.specs.Mask.{mask_checks}
 use Rattle.masks.specs.declared.bitmap.Bitmap.{Bitmap}
 use Rattle.masks.specs.declared.builder.BitmapBuilder.{BitmapBuilder}
 

@@ -1,6 +1,5 @@
 -- The combination `and_not` at one index, where either mask may be absent.
 use Rattle.std.specs.Prelude.{ℕ, Bool, true, false, not, ◌&&◌, List, [], ◌∷◌, ◌++◌, eqb, ltb, get_or, Option, Some, None}
-use Rattle.masks.specs.equations.Answer.{Answer, checked}
 use Rattle.masks.specs.Checks.{Check, check}
 use Rattle.masks.specs.Mask.{mask_checks, mask_flags}
 use Rattle.masks.specs.declared.bitmap.Bitmap.{Bitmap}

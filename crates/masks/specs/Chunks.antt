@@ -2,8 +2,7 @@
 use Rattle.std.specs.Prelude.{ℕ, ◌+◌, ◌*◌, ◌/◌, ◌%◌, cond, List, ltb, length}
 use Rattle.words.specs.Flags.{word_of, window}
 use Rattle.words.specs.Loops.{stretch}
-use Rattle.masks.specs.equations.Answer.{Answer, checked}
-use Rattle.masks.specs.Checks.{Check, span_checks}
+use Rattle.masks.specs.Checks.{Check}
 use Rattle.masks.specs.Cursor.{Step, item, ended, cursor_checks}
 use Rattle.masks.specs.declared.chunks.BitChunks.{BitChunks}
 

@@ -1,13 +1,10 @@
 -- The combinations of masks: flag by flag, or by only the counts if these show that the result is constant.
 use Rattle.std.specs.Prelude.{ℕ, max, Bool, true, false, not, cond, ◌&&◌, ◌||◌, eqb, length, Option, Some, None}
 use mathlib.Core.List.{List, [], ◌∷◌, ◌++◌, map, zip_with}
-use Rattle.words.specs.Flags.{copies, over}
 use Rattle.words.specs.Ops.{op_of, zip3}
 use Rattle.words.specs.declared.ops.Op.{Op}
 pub use Rattle.words.specs.declared.ops.Op.TheVariants.{And, AndNot, Or, OrNot, Xor, Not, Select}
-use Rattle.masks.specs.equations.Answer.{Answer, checked, kept}
-use Rattle.masks.specs.Checks.{Check, check, first_failed, output_checks}
-use Rattle.masks.specs.Frozen.{frozen}
+use Rattle.masks.specs.Checks.{Check, check, output_checks}
 use Rattle.masks.specs.Mask.{mask_under, mask_flags, mask_checks, zero_count, uncounted}
 use Rattle.masks.specs.declared.bitmap.Bitmap.{Bitmap}
 

@@ -2,11 +2,9 @@
 use Rattle.std.specs.Prelude.{ℕ, ◌+◌, Bool, ◌&&◌, eqb}
 use Rattle.std.specs.Bool.{xor}
 use mathlib.Core.List.{List, [], ◌∷◌, ◌++◌, zip_with}
-use Rattle.words.specs.Counts.{same_flags}
 use Rattle.words.specs.Flags.{count, digit}
-use Rattle.masks.specs.equations.Answer.{Answer, checked}
 use Rattle.masks.specs.Checks.{Check, check}
-use Rattle.masks.specs.Mask.{mask_checks, mask_flags}
+use Rattle.masks.specs.Mask.{mask_checks}
 use Rattle.masks.specs.declared.bitmap.Bitmap.{Bitmap}
 
 -- how many flags differ from the next one

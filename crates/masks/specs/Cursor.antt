@@ -1,10 +1,6 @@
 -- Cursors: a span and the next place in it. Document 01 (docs/REFERENCE.md) calls them walks.
-use Rattle.std.specs.Prelude.{ℕ, List, [], ◌∷◌, ◌++◌, leb, Option, Some, None, Result, Ok, Err}
-use Rattle.masks.specs.equations.Answer.{Answer, given, refused}
+use Rattle.std.specs.Prelude.{ℕ, List, [], ◌∷◌, ◌++◌, leb, Option, Some, None}
 use Rattle.masks.specs.Checks.{Check, check, span_checks}
-use Rattle.masks.specs.Refusal.{number}
-use Rattle.masks.specs.declared.cursor.Step.{Step as Stepped}
-use Rattle.masks.specs.declared.refusal.Refused.{Refused}
 
 -- checks 1, 2 and 6 of a cursor over `size` bytes
 unfoldable pub cursor_checks : ℕ → ℕ → ℕ → ℕ → List Check

@@ -1,9 +1,8 @@
 -- Freezing: the mask of a builder's flags, and their frozen bytes.
 use Rattle.std.specs.Prelude.{ℕ, ◌+◌, ◌-◌, cond, List, eqb, length, Option, Some, None}
 use Rattle.words.specs.Flags.{count, over, word_flags}
-use Rattle.masks.specs.equations.Answer.{Answer, checked, kept}
 use Rattle.masks.specs.Builder.{filling, builder_flags, builder_checks}
-use Rattle.masks.specs.Checks.{Check, first_failed}
+use Rattle.masks.specs.Checks.{Check}
 use Rattle.masks.specs.Frozen.{frozen}
 use Rattle.masks.specs.Mask.{mask_under}
 use Rattle.masks.specs.declared.bitmap.Bitmap.{Bitmap}

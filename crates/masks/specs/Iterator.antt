@@ -2,8 +2,7 @@
 use Rattle.std.specs.Prelude.{ℕ, ◌+◌, Bool, false, cond, List, eqb, ltb, length, drop, get_or}
 use Rattle.words.specs.Ends.{leading}
 use Rattle.words.specs.Loops.{stretch}
-use Rattle.masks.specs.equations.Answer.{Answer, given, checked, unless_empty}
-use Rattle.masks.specs.Checks.{Check, span_checks}
+use Rattle.masks.specs.Checks.{Check}
 use Rattle.masks.specs.Cursor.{Step, item, ended, cursor_checks}
 use Rattle.masks.specs.declared.iterator.BitmapIter.{BitmapIter}
 

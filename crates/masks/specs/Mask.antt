@@ -1,14 +1,10 @@
 -- The mask: its flags, its zero count, and what a slice makes of them.
-use Rattle.std.specs.Prelude.{ℕ, ◌+◌, ◌-◌, ◌/◌, max, Bool, true, false, cond, not, ◌&&◌, List, [], ◌∷◌, ◌++◌, eqb, leb, length, Option}
+use Rattle.std.specs.Prelude.{ℕ, ◌+◌, ◌-◌, ◌/◌, max, Bool, true, cond, not, ◌&&◌, List, [], ◌∷◌, ◌++◌, eqb, leb, length, Option}
 use Rattle.std.specs.Prelude.{Some, None}
-use Rattle.words.specs.Flags.{copies, over}
 use Rattle.words.specs.Loops.{stretch}
-use Rattle.masks.specs.equations.Answer.{Answer, checked, kept}
-use Rattle.masks.specs.Checks.{Check, check, first_failed, output_checks, within_limit, span_checks}
-use Rattle.masks.specs.Frozen.{frozen}
+use Rattle.masks.specs.Checks.{Check, check, output_checks, within_limit, span_checks}
 use Rattle.masks.specs.Utils.{zeros}
 use Rattle.masks.specs.declared.bitmap.Bitmap.{Bitmap}
-use Rattle.masks.specs.declared.bitmap.Recounted.{Recounted}
 
 -- a mask under a serial, with its start, length and count: the one place where its record is made
 abbrev pub mask_under : ℕ → ℕ → ℕ → Option ℕ → Bitmap

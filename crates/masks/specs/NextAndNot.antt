@@ -1,7 +1,6 @@
 -- The next flag that is set in one mask and not in another, starting at a place and going round once, and how many windows of 32 flags are
 -- read.
 use Rattle.std.specs.Prelude.{ℕ, ◌+◌, ◌-◌, ◌/◌, Bool, List, [], ◌∷◌, ◌++◌, eqb, leb, Option, Some, None}
-use Rattle.masks.specs.equations.Answer.{Answer, checked}
 use Rattle.masks.specs.Checks.{Check, check}
 use Rattle.masks.specs.Combine.{AndNot, pair_flags}
 use Rattle.masks.specs.Mask.{mask_checks, mask_flags}

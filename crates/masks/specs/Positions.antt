@@ -1,9 +1,6 @@
 -- Many positions of ones at once.
-use Rattle.std.specs.Prelude.{ℕ, zero, suc, ◌+◌, cond, List, ltb, length, take, get_or}
-use Rattle.words.specs.Flags.{over}
-use Rattle.masks.specs.equations.Answer.{Answer, checked, kept}
-use Rattle.masks.specs.Checks.{first_failed}
-use Rattle.masks.specs.TrueIdx.{ones_left, true_checks, true_flags, true_moved}
+use Rattle.std.specs.Prelude.{ℕ, zero, suc, ◌+◌, cond, List, ltb, length, get_or}
+use Rattle.masks.specs.TrueIdx.{ones_left, true_flags}
 use Rattle.masks.specs.declared.true_idx.TrueIdxIter.{TrueIdxIter}
 
 -- the positions that a cursor has left

@@ -1,10 +1,7 @@
 -- The set flag number n of a list, counted up from a place, and counted down from below an end.
-use Rattle.std.specs.Prelude.{ℕ, ◌+◌, ◌-◌, Bool, cond, List, ltb, length, take, drop, Option, Some, None}
+use Rattle.std.specs.Prelude.{ℕ, ◌+◌, ◌-◌, Bool, cond, List, ltb, take, drop, Option, Some, None}
 use Rattle.words.specs.Flags.{count}
-use Rattle.words.specs.Loops.{stretch}
 use Rattle.words.specs.Nth.{nth_place}
-use Rattle.masks.specs.equations.Answer.{Answer, checked}
-use Rattle.masks.specs.Checks.{span_checks}
 
 -- the position of the n-th set flag at or after `from`, counted from 0; none if at most n are set there
 unfoldable pub nth_from : List Bool → ℕ → ℕ → Option ℕ

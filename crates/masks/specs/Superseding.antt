@@ -1,7 +1,6 @@
 -- Which of two masks of one operator supersedes the other, and the part of the bytes lent that holds it.
 use Rattle.std.specs.Prelude.{ℕ, ◌+◌, ◌-◌, ◌/◌, ◌%◌, Bool, true, false, cond, not, ◌||◌, List, [], ◌∷◌, ◌++◌, eqb, ltb, take, drop}
 use Rattle.words.specs.Counts.{same_flags}
-use Rattle.masks.specs.equations.Answer.{Answer, given, refused, checked}
 use Rattle.masks.specs.Checks.{Check, check}
 use Rattle.masks.specs.Mask.{cut_mask, mask_checks, mask_flags}
 use Rattle.masks.specs.declared.bitmap.Bitmap.{Bitmap}

@@ -3,11 +3,9 @@ use Rattle.std.specs.Prelude.{ℕ, suc, ◌+◌, Bool, true, false, cond, List, 
 use Rattle.words.specs.Flags.{copies}
 use Rattle.words.specs.Loops.{stretch}
 use Rattle.masks.specs.declared.bitmap.Bitmap.{Bitmap}
-use Rattle.masks.specs.equations.Answer.{Answer, checked}
 use Rattle.masks.specs.Checks.{Check, check, within_limit}
 use Rattle.masks.specs.Cursor.{Step, item, ended, cursor_checks}
 use Rattle.masks.specs.Mask.{mask_checks}
-use Rattle.masks.specs.Search.{nth_from}
 use Rattle.masks.specs.declared.true_idx.TrueIdxIter.{TrueIdxIter}
 
 -- a cursor over n flags starting at `start`, at a place, masked or not: the one place where its record is made

@@ -30,7 +30,7 @@ use Rattle.masks.specs.declared.bitmap.Bitmap.{Bitmap}
 use Rattle.masks.proofs.statements.TrueCounts.{Truthful}
 use Rattle.masks.proofs.bitmap.MaskLaws.{mask-truthful}
 use Rattle.masks.proofs.theorems.ShortcutsUnseen.{flags-by_operation, true-count}
-use Rattle.masks.proofs.checks.CheckLaws.{both_left, both_right, first-allowed, rest-allowed, is-given, is-refused, is-kept, is-new}
+use Rattle.masks.proofs.checks.CheckLaws.{both_left, both_right, first-allowed, rest-allowed}
 use Rattle.masks.proofs.bitmap_ops.FrozenLaws.{Small, flags-packed, packed-small, over_from-small}
 
 -- ---- from flags to bytes

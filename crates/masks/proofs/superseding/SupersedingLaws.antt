@@ -8,14 +8,12 @@ use lib.Dec.{ltb}
 use lib.ListN.{length}
 use borrow.Author.Tests.{eq-eqb, ne_eqb, le-ltb, lt-ltb}
 use Rattle.words.specs.Counts.{same_flags}
-use Rattle.masks.specs.equations.Answer.{given}
 use Rattle.masks.specs.Checks.{Check, check, earlier, first_failed, rank, place_in, span_checks}
 use Rattle.masks.specs.Mask.{mask_checks, mask_flags}
 use Rattle.masks.specs.Superseding.{agree, part_of, superseding_checks, winning}
 use Rattle.masks.specs.declared.bitmap.Bitmap.{Bitmap}
 use Rattle.masks.specs.declared.superseding.Part.{Part}
-use Rattle.masks.proofs.refusal.AnswerLaws.{given-number, given-value}
-use Rattle.masks.proofs.checks.CheckLaws.{SpanAllowed, before, both_left, both_right, earlier-none, failed-append, first-number, is-given}
+use Rattle.masks.proofs.checks.CheckLaws.{SpanAllowed, before, both_left, both_right, earlier-none, failed-append, first-number}
 use Rattle.masks.proofs.checks.CheckLaws.{one-check, passed-before, two-pieces}
 use Rattle.masks.proofs.bitmap.MaskLaws.{mask-allowed}
 

@@ -21,7 +21,7 @@ use Rattle.masks.specs.Combine.{not_flags}
 use Rattle.masks.specs.equations.Combine.{each_bytes, each_of, not_bytes, not_of, pair_bytes}
 use Rattle.masks.specs.Combine.{pair_each, pair_flags, pair_mask}
 use Rattle.masks.specs.equations.Combine.{pair_of}
-use Rattle.masks.specs.Combine.{largest_serial, result_count, result_mask, select_checks}
+use Rattle.masks.specs.Combine.{largest_serial, result_count, result_mask}
 use Rattle.masks.specs.equations.Combine.{select_bytes, select_constant_bytes}
 use Rattle.masks.specs.Combine.{select_constant_flags, select_flags, shortcut}
 use Rattle.masks.specs.equations.Combine.{select_constant_of, select_of}

@@ -1,5 +1,5 @@
 -- The calls of `Compare` as one equation each: their answers by their checks, and what lent bytes hold after them.
-use Rattle.std.specs.Prelude.{ℕ, ◌+◌, Bool}
+use Rattle.std.specs.Prelude.{ℕ, Bool}
 use mathlib.Core.List.{List, ◌++◌}
 use Rattle.words.specs.Counts.{same_flags}
 use Rattle.masks.specs.equations.Answer.{Answer, checked}

@@ -13,14 +13,16 @@ pub overflow_add-span : goal.overflow_add-span
 overflow_add-span c =
     let none = sym c.earlier-2.ensures.refused ∙ (passed-back _ _ _ c.map_err.ensures.variant c.in_ok-map_err.was) in
     let rest = sym c.earlier.ensures.refused ∙ passed-right _ _ none in
-    let ok = inner-allowed _ _ _ _ (sym c.check_mask.ensures.refused ∙ passed-left _ _ none) (sym c.check_inner.ensures ∙ passed-left _ _ rest) in
+    let ok = inner-allowed _ _ _ _ (sym c.check_mask.ensures.refused ∙ passed-left _ _ none)
+    (sym c.check_inner.ensures ∙ passed-left _ _ rest) in
     omega (arith, ok.starts, ok.short, ok.inside)
 
 pub invariant_of-span : goal.invariant_of-span
 invariant_of-span c =
     let none = sym c.earlier-2.ensures.refused ∙ (passed-back _ _ _ c.map_err.ensures.variant c.in_ok-map_err.was) in
     let rest = sym c.earlier.ensures.refused ∙ passed-right _ _ none in
-    let ok = inner-allowed _ _ _ _ (sym c.check_mask.ensures.refused ∙ passed-left _ _ none) (sym c.check_inner.ensures ∙ passed-left _ _ rest) in
+    let ok = inner-allowed _ _ _ _ (sym c.check_mask.ensures.refused ∙ passed-left _ _ none)
+    (sym c.check_inner.ensures ∙ passed-left _ _ rest) in
     record {
       ends = omega (arith, ok.starts, ok.short, ok.inside);
       short = omega (arith, ok.short, ok.inside);
@@ -36,5 +38,6 @@ pub returns-clause-appended : goal.returns-clause-appended
 returns-clause-appended c =
     let none = sym c.earlier-2.ensures.refused ∙ (passed-back _ _ _ c.map_err.ensures.variant c.in_ok-map_err.was) in
     let rest = sym c.earlier.ensures.refused ∙ passed-right _ _ none in
-    let ok = inner-allowed _ _ _ _ (sym c.check_mask.ensures.refused ∙ passed-left _ _ none) (sym c.check_inner.ensures ∙ passed-left _ _ rest) in
+    let ok = inner-allowed _ _ _ _ (sym c.check_mask.ensures.refused ∙ passed-left _ _ none)
+    (sym c.check_inner.ensures ∙ passed-left _ _ rest) in
     c.append_stretch.ensures ∙ ap (appended _) (sym (in_window _ _ _ _ _ ok.inside))
