@@ -100,20 +100,20 @@ typedef struct {
 typedef struct {
     uint8_t refusal;
     size_t value;
-} pw_number;
+} pw_number_answer;
 
 /* A flag, or the answer yes or no. */
 typedef struct {
     uint8_t refusal;
     bool value;
-} pw_flag;
+} pw_flag_answer;
 
 /* A position, if `found`; else `value` is 0. */
 typedef struct {
     uint8_t refusal;
     bool found;
     size_t value;
-} pw_position;
+} pw_position_answer;
 
 /* The position of a set bit of a word in `value`, if `found`; else the number of set bits of the word in `ones`. */
 typedef struct {
@@ -248,27 +248,31 @@ pw_split_answer pw_aligned_new(const uint8_t *bytes, size_t bytes_len, size_t st
 
 /* Counts the zeros of a span. `address` is the address of the first byte modulo 8; the count does not depend on it. With length 0
  * returns 0 without any check. Refuses with 1, 2, 8; every other field is then 0. */
-pw_number pw_count_zeros(const uint8_t *bytes, size_t bytes_len, size_t start, size_t length, size_t address);
+pw_number_answer pw_count_zeros(const uint8_t *bytes, size_t bytes_len, size_t start, size_t length, size_t address);
 
 /* Counts the zeros before the first set flag of a span, or the whole length if no flag is set. `address` is the address of the first
  * byte modulo 8; the count does not depend on it. With length 0 returns 0 without any check. Refuses with 1, 2, 8; every other field
  * is then 0. */
-pw_number pw_leading_zeros(const uint8_t *bytes, size_t bytes_len, size_t start, size_t length, size_t address);
+pw_number_answer pw_leading_zeros(const uint8_t *bytes, size_t bytes_len, size_t start, size_t length,
+    size_t address);
 
 /* Counts the ones before the first zero of a span, or the whole length if every flag is set. `address` is the address of the first
  * byte modulo 8; the count does not depend on it. With length 0 returns 0 without any check. Refuses with 1, 2, 8; every other field
  * is then 0. */
-pw_number pw_leading_ones(const uint8_t *bytes, size_t bytes_len, size_t start, size_t length, size_t address);
+pw_number_answer pw_leading_ones(const uint8_t *bytes, size_t bytes_len, size_t start, size_t length,
+    size_t address);
 
 /* Counts the zeros after the last set flag of a span, or the whole length if no flag is set. `address` is the address of the first
  * byte modulo 8; the count does not depend on it. With length 0 returns 0 without any check. Refuses with 1, 2, 8; every other field
  * is then 0. */
-pw_number pw_trailing_zeros(const uint8_t *bytes, size_t bytes_len, size_t start, size_t length, size_t address);
+pw_number_answer pw_trailing_zeros(const uint8_t *bytes, size_t bytes_len, size_t start, size_t length,
+    size_t address);
 
 /* Counts the ones after the last zero of a span, or the whole length if every flag is set. `address` is the address of the first byte
  * modulo 8; the count does not depend on it. With length 0 returns 0 without any check. Refuses with 1, 2, 8; every other field is
  * then 0. */
-pw_number pw_trailing_ones(const uint8_t *bytes, size_t bytes_len, size_t start, size_t length, size_t address);
+pw_number_answer pw_trailing_ones(const uint8_t *bytes, size_t bytes_len, size_t start, size_t length,
+    size_t address);
 
 /* Returns two spans: the first `at` flags, and the flags starting at `at`. `at` may equal the length; above it the call is refused
  * with 6. Refuses with 1, 2, 6; every other field is then 0. */
@@ -277,19 +281,19 @@ pw_spans_answer pw_split_at_unchecked(const uint8_t *bytes, size_t bytes_len, si
 
 /* Returns 32 flags starting at `index`, the first in the lowest bit, with zeros past the end of the span. `index` may be any number.
  * Refuses with 1, 2; every other field is then 0. */
-pw_number pw_get_u32(const uint8_t *bytes, size_t bytes_len, size_t start, size_t length, size_t index);
+pw_number_answer pw_get_u32(const uint8_t *bytes, size_t bytes_len, size_t start, size_t length, size_t index);
 
 /* ---- The searches for the n-th set flag of a span. */
 
 /* Returns the position of the n-th set flag at or after `from`, counting from 0. `found` is false if at most `n` flags are set there.
  * `from` may exceed the length. Refuses with 1, 2; every other field is then 0. */
-pw_position pw_nth_set_bit_idx(const uint8_t *bytes, size_t bytes_len, size_t start, size_t length, size_t n,
+pw_position_answer pw_nth_set_bit_idx(const uint8_t *bytes, size_t bytes_len, size_t start, size_t length, size_t n,
     size_t from);
 
 /* Returns the position of the n-th set flag before `end`, counting down from 0: number 0 is the set flag nearest to `end`. `found` is
  * false if at most `n` flags are set there. `end` may exceed the length. Refuses with 1, 2; every other field is then 0. */
-pw_position pw_nth_set_bit_idx_rev(const uint8_t *bytes, size_t bytes_len, size_t start, size_t length, size_t n,
-    size_t end);
+pw_position_answer pw_nth_set_bit_idx_rev(const uint8_t *bytes, size_t bytes_len, size_t start, size_t length,
+    size_t n, size_t end);
 
 /* ---- The words of a span, and the flags after the last whole one. */
 
@@ -386,15 +390,15 @@ pw_zeros_answer pw_unset_bits(pw_mask mask, const uint8_t *bytes, size_t bytes_l
 
 /* Returns whether two masks have equal lengths and equal flags. Unequal lengths are not refused, and serials are ignored. Refuses with
  * 1, 2, 3; every other field is then 0. */
-pw_flag pw_eq(pw_mask lhs, const uint8_t *left, size_t left_len, pw_mask rhs, const uint8_t *right,
-    size_t right_len);
+pw_flag_answer pw_eq(pw_mask lhs, const uint8_t *lhs_bytes, size_t lhs_bytes_len, pw_mask rhs,
+    const uint8_t *rhs_bytes, size_t rhs_bytes_len);
 
 /* Counts the flags of a mask that differ from the next flag. Refuses with 1, 2, 3; every other field is then 0. */
-pw_number pw_num_edges(pw_mask mask, const uint8_t *bytes, size_t bytes_len);
+pw_number_answer pw_num_edges(pw_mask mask, const uint8_t *bytes, size_t bytes_len);
 
 /* Counts the flags that are set in both of two masks of equal lengths. Refuses with 1, 2, 3, 5; every other field is then 0. */
-pw_number pw_num_intersections_with(pw_mask lhs, const uint8_t *left, size_t left_len, pw_mask rhs,
-    const uint8_t *right, size_t right_len);
+pw_number_answer pw_num_intersections_with(pw_mask lhs, const uint8_t *lhs_bytes, size_t lhs_bytes_len, pw_mask rhs,
+    const uint8_t *rhs_bytes, size_t rhs_bytes_len);
 
 /* ---- Which of two masks supersedes the other. The C interface has no references: the part of the bytes is returned as the slice that
  * it is of, its first byte and the byte past its last. */
@@ -409,28 +413,28 @@ pw_part_answer pw_superseding(pw_mask first, const uint8_t *first_bytes, size_t 
 
 /* Writes which flags are set in both masks, as frozen bytes at the start of `out`, and returns the mask over them. Refuses with 1, 2,
  * 3, 5, 9; every other field is then 0. */
-pw_mask_answer pw_and(pw_mask lhs, const uint8_t *left, size_t left_len, pw_mask rhs, const uint8_t *right,
-    size_t right_len, uint8_t *out, size_t out_len);
+pw_mask_answer pw_and(pw_mask lhs, const uint8_t *lhs_bytes, size_t lhs_bytes_len, pw_mask rhs,
+    const uint8_t *rhs_bytes, size_t rhs_bytes_len, uint8_t *out, size_t out_len);
 
 /* Writes which flags are set in the first mask and not in the second, as frozen bytes at the start of `out`, and returns the mask over
  * them. Refuses with 1, 2, 3, 5, 9; every other field is then 0. */
-pw_mask_answer pw_and_not(pw_mask lhs, const uint8_t *left, size_t left_len, pw_mask rhs, const uint8_t *right,
-    size_t right_len, uint8_t *out, size_t out_len);
+pw_mask_answer pw_and_not(pw_mask lhs, const uint8_t *lhs_bytes, size_t lhs_bytes_len, pw_mask rhs,
+    const uint8_t *rhs_bytes, size_t rhs_bytes_len, uint8_t *out, size_t out_len);
 
 /* Writes which flags are set in at least one of two masks, as frozen bytes at the start of `out`, and returns the mask over them.
  * Refuses with 1, 2, 3, 5, 9; every other field is then 0. */
-pw_mask_answer pw_or(pw_mask lhs, const uint8_t *left, size_t left_len, pw_mask rhs, const uint8_t *right,
-    size_t right_len, uint8_t *out, size_t out_len);
+pw_mask_answer pw_or(pw_mask lhs, const uint8_t *lhs_bytes, size_t lhs_bytes_len, pw_mask rhs,
+    const uint8_t *rhs_bytes, size_t rhs_bytes_len, uint8_t *out, size_t out_len);
 
 /* Writes which flags are set in the first mask or not set in the second, as frozen bytes at the start of `out`, and returns the mask
  * over them. Refuses with 1, 2, 3, 5, 9; every other field is then 0. */
-pw_mask_answer pw_or_not(pw_mask lhs, const uint8_t *left, size_t left_len, pw_mask rhs, const uint8_t *right,
-    size_t right_len, uint8_t *out, size_t out_len);
+pw_mask_answer pw_or_not(pw_mask lhs, const uint8_t *lhs_bytes, size_t lhs_bytes_len, pw_mask rhs,
+    const uint8_t *rhs_bytes, size_t rhs_bytes_len, uint8_t *out, size_t out_len);
 
 /* Writes which flags differ between two masks, as frozen bytes at the start of `out`, and returns the mask over them. Refuses with 1,
  * 2, 3, 5, 9; every other field is then 0. */
-pw_mask_answer pw_xor(pw_mask lhs, const uint8_t *left, size_t left_len, pw_mask rhs, const uint8_t *right,
-    size_t right_len, uint8_t *out, size_t out_len);
+pw_mask_answer pw_xor(pw_mask lhs, const uint8_t *lhs_bytes, size_t lhs_bytes_len, pw_mask rhs,
+    const uint8_t *rhs_bytes, size_t rhs_bytes_len, uint8_t *out, size_t out_len);
 
 /* Writes each flag of a mask inverted, as frozen bytes at the start of `out`, and returns the mask over them. Refuses with 1, 2, 3, 9;
  * every other field is then 0. */
@@ -438,13 +442,14 @@ pw_mask_answer pw_not(pw_mask mask, const uint8_t *bytes, size_t bytes_len, uint
 
 /* Writes the flag of `truthy` where the selector's is set, else that of `falsy`, as frozen bytes at the start of `out`, and returns
  * the mask over them. Refuses with 1, 2, 3, 5, 9; every other field is then 0. */
-pw_mask_answer pw_select(pw_mask selector, const uint8_t *by, size_t by_len, pw_mask truthy, const uint8_t *yes,
-    size_t yes_len, pw_mask falsy, const uint8_t *no, size_t no_len, uint8_t *out, size_t out_len);
+pw_mask_answer pw_select(pw_mask selector, const uint8_t *selector_bytes, size_t selector_bytes_len, pw_mask truthy,
+    const uint8_t *truthy_bytes, size_t truthy_bytes_len, pw_mask falsy, const uint8_t *falsy_bytes,
+    size_t falsy_bytes_len, uint8_t *out, size_t out_len);
 
 /* Writes the flag of `truthy` where the selector's is set, else `flag`, as frozen bytes at the start of `out`, and returns the mask
  * over them. Refuses with 1, 2, 3, 5, 9; every other field is then 0. */
-pw_mask_answer pw_select_constant(pw_mask selector, const uint8_t *by, size_t by_len, pw_mask truthy,
-    const uint8_t *yes, size_t yes_len, bool flag, uint8_t *out, size_t out_len);
+pw_mask_answer pw_select_constant(pw_mask selector, const uint8_t *selector_bytes, size_t selector_bytes_len,
+    pw_mask truthy, const uint8_t *truthy_bytes, size_t truthy_bytes_len, bool flag, uint8_t *out, size_t out_len);
 
 /* ---- The cursors over runs, flags and positions. A step that finds nothing moves the cursor to the length. */
 
@@ -503,7 +508,7 @@ pw_step_answer pw_true_idx_next_chunk(size_t start, size_t length, size_t place,
  * mask, which means all ones; if `second_present` is false there is no second mask, which means all zeros. The record and bytes of an
  * absent mask are not read. Refusal 5 occurs only with both masks; without any mask nothing is refused. Refuses with 1, 2, 3, 5, 6;
  * every other field is then 0. */
-pw_flag pw_and_not_at(bool first_present, pw_mask first, const uint8_t *first_bytes, size_t first_bytes_len,
+pw_flag_answer pw_and_not_at(bool first_present, pw_mask first, const uint8_t *first_bytes, size_t first_bytes_len,
     bool second_present, pw_mask second, const uint8_t *second_bytes, size_t second_bytes_len, size_t index);
 
 /* ---- The search for a flag that is set in one mask and not in another. */
@@ -524,7 +529,7 @@ pw_next_answer pw_next_and_not(pw_mask first, const uint8_t *first_bytes, size_t
  * mask, and no truck is revoked. The record and bytes of an absent mask are not read. Refusal 5 occurs only with both masks; without
  * any mask nothing is refused. No permission mask is the opposite of no mask from pw_into_opt_validity or in pw_true_idx_new, which
  * means all ones: end the builder of a permission mask with pw_freeze. Refuses with 1, 2, 3, 5, 6; every other field is then 0. */
-pw_flag pw_may_reassign(bool permitted, pw_mask permission, const uint8_t *permission_bytes,
+pw_flag_answer pw_may_reassign(bool permitted, pw_mask permission, const uint8_t *permission_bytes,
     size_t permission_bytes_len, bool revoked, pw_mask revocation, const uint8_t *revocation_bytes,
     size_t revocation_bytes_len, size_t truck);
 
@@ -662,14 +667,14 @@ static inline pw_validity_answer pw_serial_into_opt_validity(const pw_serial_bui
 
 /* The version of the interface. A program that includes this file refers to it, so that a library of another version does not link,
  * where the compiler is GCC or Clang. */
-uint32_t pw_interface_3(void);
+uint32_t pw_interface_4(void);
 #if defined(__GNUC__)
 #if defined(__has_attribute)
 #if __has_attribute(retain)
 __attribute__((retain))
 #endif
 #endif
-__attribute__((used)) static uint32_t (*const pw_interface)(void) = pw_interface_3;
+__attribute__((used)) static uint32_t (*const pw_interface)(void) = pw_interface_4;
 #endif
 
 #ifdef __cplusplus

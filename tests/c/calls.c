@@ -62,9 +62,9 @@ static bool is_step(pw_step_answer s, uint64_t value, size_t count, size_t place
 
 static bool is_end(pw_step_answer s, size_t place) { return s.refusal == 0 && !s.found && s.place == place; }
 
-static bool is_at(pw_position p, size_t value) { return p.refusal == 0 && p.found && p.value == value; }
+static bool is_at(pw_position_answer p, size_t value) { return p.refusal == 0 && p.found && p.value == value; }
 
-static bool is_missing(pw_position p) { return p.refusal == 0 && !p.found; }
+static bool is_missing(pw_position_answer p) { return p.refusal == 0 && !p.found; }
 
 static bool is_bit(pw_nth_answer a, uint32_t value) { return a.refusal == 0 && a.found && a.value == value && a.ones == 0; }
 

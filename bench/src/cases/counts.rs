@@ -1,7 +1,7 @@
 //! Counts over one span or two masks, and the comparison of two masks.
 
 use original::bitmap::utils;
-use poruwhina::calls::{self, Number};
+use poruwhina::calls::{self, NumberAnswer};
 
 use crate::cases::span;
 use crate::driver::{Driver, Sides};
@@ -10,7 +10,7 @@ use crate::plain;
 use crate::timing::{Side, number, side};
 
 fn end(
-    driver: &Driver, call: &str, kind: Kind, ours: impl Fn(&[u8], usize, usize, usize) -> Number + Copy + 'static,
+    driver: &Driver, call: &str, kind: Kind, ours: impl Fn(&[u8], usize, usize, usize) -> NumberAnswer + Copy + 'static,
     original: impl Fn(&[u8], usize, usize) -> usize + Copy + 'static,
 ) {
     driver.each(call, kind, &[1], |m| Sides {

@@ -22,7 +22,7 @@ fn found(position: Option<usize>) -> usize {
     position.unwrap_or(usize::MAX)
 }
 
-fn ours_found(p: calls::Position) -> usize {
+fn ours_found(p: calls::PositionAnswer) -> usize {
     found(p.found.then_some(p.value))
 }
 

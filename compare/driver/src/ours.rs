@@ -52,15 +52,15 @@ pub fn word(word: u64) -> Answer {
     Answer::word(word)
 }
 
-pub fn number(a: calls::Number) -> Answer {
+pub fn number(a: calls::NumberAnswer) -> Answer {
     answer(a.refusal, &[a.value], State::None)
 }
 
-pub fn flag(a: calls::Flag) -> Answer {
+pub fn flag(a: calls::FlagAnswer) -> Answer {
     answer(a.refusal, &[a.value.into()], State::None)
 }
 
-pub fn position(a: calls::Position) -> Answer {
+pub fn position(a: calls::PositionAnswer) -> Answer {
     Answer { refusal: a.refusal, values: there(a.found, vec![a.value as u64]), state: State::None }
 }
 

@@ -18,14 +18,14 @@ use Rattle.masks.specs.declared.superseding.Part.{Part}
 use Rattle.capi.specs.Records.{mask_out, no_mask, builder_out, no_cursor}
 use Rattle.capi.specs.declared.answers.BuilderAnswer.{BuilderAnswer}
 use Rattle.capi.specs.declared.answers.CursorAnswer.{CursorAnswer}
-use Rattle.capi.specs.declared.answers.Flag.{Flag}
+use Rattle.capi.specs.declared.answers.FlagAnswer.{FlagAnswer}
 use Rattle.capi.specs.declared.answers.MaskAnswer.{MaskAnswer}
 use Rattle.capi.specs.declared.answers.NextAnswer.{NextAnswer}
 use Rattle.capi.specs.declared.answers.NthAnswer.{NthAnswer}
-use Rattle.capi.specs.declared.answers.Number.{Number}
+use Rattle.capi.specs.declared.answers.NumberAnswer.{NumberAnswer}
 use Rattle.capi.specs.declared.answers.OfferAnswer.{OfferAnswer}
 use Rattle.capi.specs.declared.answers.PartAnswer.{PartAnswer}
-use Rattle.capi.specs.declared.answers.Position.{Position}
+use Rattle.capi.specs.declared.answers.PositionAnswer.{PositionAnswer}
 use Rattle.capi.specs.declared.answers.SpansAnswer.{SpansAnswer}
 use Rattle.capi.specs.declared.answers.SplitAnswer.{SplitAnswer}
 use Rattle.capi.specs.declared.answers.StepAnswer.{StepAnswer}
@@ -37,24 +37,24 @@ use Rattle.capi.specs.declared.records.Mask.{Mask}
 
 -- ---- a number, a flag, a position
 
-abbrev pub number_of : ℕ → ℕ → Number
+abbrev pub number_of : ℕ → ℕ → NumberAnswer
 number_of k n = record { refusal = k; value = n }
 
-unfoldable pub as_number : {S : Type 0} → Answer S ℕ → Number
+unfoldable pub as_number : {S : Type 0} → Answer S ℕ → NumberAnswer
 as_number (given n) = number_of 0 n
 as_number (refused k s) = number_of k 0
 
-abbrev pub flag_of : ℕ → Bool → Flag
+abbrev pub flag_of : ℕ → Bool → FlagAnswer
 flag_of k x = record { refusal = k; value = x }
 
-unfoldable pub as_flag : {S : Type 0} → Answer S Bool → Flag
+unfoldable pub as_flag : {S : Type 0} → Answer S Bool → FlagAnswer
 as_flag (given x) = flag_of 0 x
 as_flag (refused k s) = flag_of k false
 
-abbrev pub position_of : ℕ → Bool → ℕ → Position
+abbrev pub position_of : ℕ → Bool → ℕ → PositionAnswer
 position_of k found p = record { refusal = k; found = found; value = p }
 
-unfoldable pub as_position : {S : Type 0} → Answer S (Option ℕ) → Position
+unfoldable pub as_position : {S : Type 0} → Answer S (Option ℕ) → PositionAnswer
 as_position (given (Some p)) = position_of 0 true p
 as_position (given None) = position_of 0 false 0
 as_position (refused k s) = position_of k false 0

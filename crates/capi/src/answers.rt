@@ -17,7 +17,7 @@ use masks::refusal::{Refusal, Refused};
 // A number.
 #[repr(C)]
 #[derive(Clone, Copy, Default)]
-pub struct Number {
+pub struct NumberAnswer {
     pub refusal: u8,
     pub value: usize,
 }
@@ -25,7 +25,7 @@ pub struct Number {
 // A flag, or the answer yes or no.
 #[repr(C)]
 #[derive(Clone, Copy, Default)]
-pub struct Flag {
+pub struct FlagAnswer {
     pub refusal: u8,
     pub value: bool,
 }
@@ -33,7 +33,7 @@ pub struct Flag {
 // A position, if `found`; else `value` is 0.
 #[repr(C)]
 #[derive(Clone, Copy, Default)]
-pub struct Position {
+pub struct PositionAnswer {
     pub refusal: u8,
     pub found: bool,
     pub value: usize,
@@ -172,30 +172,30 @@ pub struct WindowAnswer {
 }
 
 #[tactic(auto, unfolding(crate::specs::Answers::as_number))]
-impl From<Result<usize, Refusal>> for Number {
+impl From<Result<usize, Refusal>> for NumberAnswer {
     ghost from_gives = { λ r a. a ≡ as_number (answer r) };
 
-    fn from(r: Result<usize, Refusal>) -> Number {
+    fn from(r: Result<usize, Refusal>) -> NumberAnswer {
         match r {
-            Ok(value) => Number { refusal: 0, value },
-            Err(e) => Number {
+            Ok(value) => NumberAnswer { refusal: 0, value },
+            Err(e) => NumberAnswer {
                 refusal: e.into(),
-                ..Number::default()
+                ..NumberAnswer::default()
             },
         }
     }
 }
 
 #[tactic(auto, unfolding(crate::specs::Answers::as_flag))]
-impl From<Result<bool, Refusal>> for Flag {
+impl From<Result<bool, Refusal>> for FlagAnswer {
     ghost from_gives = { λ r a. a ≡ as_flag (answer r) };
 
-    fn from(r: Result<bool, Refusal>) -> Flag {
+    fn from(r: Result<bool, Refusal>) -> FlagAnswer {
         match r {
-            Ok(value) => Flag { refusal: 0, value },
-            Err(e) => Flag {
+            Ok(value) => FlagAnswer { refusal: 0, value },
+            Err(e) => FlagAnswer {
                 refusal: e.into(),
-                ..Flag::default()
+                ..FlagAnswer::default()
             },
         }
     }

@@ -6,7 +6,7 @@ ghost use Rattle.masks.specs.equations.AtIndex.{and_not_at_of};
 ghost use Rattle.capi.specs.Answers.{as_flag};
 ghost use Rattle.capi.specs.Records.{optional_in};
 
-use crate::answers::Flag;
+use crate::answers::FlagAnswer;
 use crate::records::{Mask, optional_in};
 use masks::at_index::and_not_at;
 
@@ -22,7 +22,7 @@ pub extern "C" fn pw_and_not_at(
     second: Mask,
     second_bytes: &[u8],
     index: usize,
-) -> Flag
+) -> FlagAnswer
     ensures { result ≡
         as_flag (and_not_at_of (optional_in first_present first) first_bytes.now (optional_in second_present second)
         second_bytes.now index) }

@@ -16,17 +16,17 @@ use masks::bitmap_ops::{and, and_not, not, or, or_not, select, select_constant, 
 #[unsafe(no_mangle)]
 pub extern "C" fn pw_and(
     lhs: Mask,
-    left: &[u8],
+    lhs_bytes: &[u8],
     rhs: Mask,
-    right: &[u8],
+    rhs_bytes: &[u8],
     out: &mut [u8],
 ) -> MaskAnswer
     ensures answer { result ≡
-        as_mask (pair_of And (mask_in lhs) left.now (mask_in rhs) right.now out.old) }
+        as_mask (pair_of And (mask_in lhs) lhs_bytes.now (mask_in rhs) rhs_bytes.now out.old) }
     ensures bytes { out.new ≡
-        pair_bytes And (mask_in lhs) left.now (mask_in rhs) right.now out.old }
+        pair_bytes And (mask_in lhs) lhs_bytes.now (mask_in rhs) rhs_bytes.now out.old }
 {
-    and(lhs.into(), left, rhs.into(), right, out).into()
+    and(lhs.into(), lhs_bytes, rhs.into(), rhs_bytes, out).into()
 }
 
 // Writes which flags are set in the first mask and not in the second, as frozen bytes at the start of `out`, and returns the mask over
@@ -34,34 +34,34 @@ pub extern "C" fn pw_and(
 #[unsafe(no_mangle)]
 pub extern "C" fn pw_and_not(
     lhs: Mask,
-    left: &[u8],
+    lhs_bytes: &[u8],
     rhs: Mask,
-    right: &[u8],
+    rhs_bytes: &[u8],
     out: &mut [u8],
 ) -> MaskAnswer
     ensures answer { result ≡
-        as_mask (pair_of AndNot (mask_in lhs) left.now (mask_in rhs) right.now out.old) }
+        as_mask (pair_of AndNot (mask_in lhs) lhs_bytes.now (mask_in rhs) rhs_bytes.now out.old) }
     ensures bytes { out.new ≡
-        pair_bytes AndNot (mask_in lhs) left.now (mask_in rhs) right.now out.old }
+        pair_bytes AndNot (mask_in lhs) lhs_bytes.now (mask_in rhs) rhs_bytes.now out.old }
 {
-    and_not(lhs.into(), left, rhs.into(), right, out).into()
+    and_not(lhs.into(), lhs_bytes, rhs.into(), rhs_bytes, out).into()
 }
 
 // Writes which flags are set in at least one of two masks, as frozen bytes at the start of `out`, and returns the mask over them.
 #[unsafe(no_mangle)]
 pub extern "C" fn pw_or(
     lhs: Mask,
-    left: &[u8],
+    lhs_bytes: &[u8],
     rhs: Mask,
-    right: &[u8],
+    rhs_bytes: &[u8],
     out: &mut [u8],
 ) -> MaskAnswer
     ensures answer { result ≡
-        as_mask (pair_of Or (mask_in lhs) left.now (mask_in rhs) right.now out.old) }
+        as_mask (pair_of Or (mask_in lhs) lhs_bytes.now (mask_in rhs) rhs_bytes.now out.old) }
     ensures bytes { out.new ≡
-        pair_bytes Or (mask_in lhs) left.now (mask_in rhs) right.now out.old }
+        pair_bytes Or (mask_in lhs) lhs_bytes.now (mask_in rhs) rhs_bytes.now out.old }
 {
-    or(lhs.into(), left, rhs.into(), right, out).into()
+    or(lhs.into(), lhs_bytes, rhs.into(), rhs_bytes, out).into()
 }
 
 // Writes which flags are set in the first mask or not set in the second, as frozen bytes at the start of `out`, and returns the mask
@@ -69,34 +69,34 @@ pub extern "C" fn pw_or(
 #[unsafe(no_mangle)]
 pub extern "C" fn pw_or_not(
     lhs: Mask,
-    left: &[u8],
+    lhs_bytes: &[u8],
     rhs: Mask,
-    right: &[u8],
+    rhs_bytes: &[u8],
     out: &mut [u8],
 ) -> MaskAnswer
     ensures answer { result ≡
-        as_mask (pair_of OrNot (mask_in lhs) left.now (mask_in rhs) right.now out.old) }
+        as_mask (pair_of OrNot (mask_in lhs) lhs_bytes.now (mask_in rhs) rhs_bytes.now out.old) }
     ensures bytes { out.new ≡
-        pair_bytes OrNot (mask_in lhs) left.now (mask_in rhs) right.now out.old }
+        pair_bytes OrNot (mask_in lhs) lhs_bytes.now (mask_in rhs) rhs_bytes.now out.old }
 {
-    or_not(lhs.into(), left, rhs.into(), right, out).into()
+    or_not(lhs.into(), lhs_bytes, rhs.into(), rhs_bytes, out).into()
 }
 
 // Writes which flags differ between two masks, as frozen bytes at the start of `out`, and returns the mask over them.
 #[unsafe(no_mangle)]
 pub extern "C" fn pw_xor(
     lhs: Mask,
-    left: &[u8],
+    lhs_bytes: &[u8],
     rhs: Mask,
-    right: &[u8],
+    rhs_bytes: &[u8],
     out: &mut [u8],
 ) -> MaskAnswer
     ensures answer { result ≡
-        as_mask (pair_of Xor (mask_in lhs) left.now (mask_in rhs) right.now out.old) }
+        as_mask (pair_of Xor (mask_in lhs) lhs_bytes.now (mask_in rhs) rhs_bytes.now out.old) }
     ensures bytes { out.new ≡
-        pair_bytes Xor (mask_in lhs) left.now (mask_in rhs) right.now out.old }
+        pair_bytes Xor (mask_in lhs) lhs_bytes.now (mask_in rhs) rhs_bytes.now out.old }
 {
-    xor(lhs.into(), left, rhs.into(), right, out).into()
+    xor(lhs.into(), lhs_bytes, rhs.into(), rhs_bytes, out).into()
 }
 
 // Writes each flag of a mask inverted, as frozen bytes at the start of `out`, and returns the mask over them.
@@ -113,25 +113,27 @@ pub extern "C" fn pw_not(mask: Mask, bytes: &[u8], out: &mut [u8]) -> MaskAnswer
 #[unsafe(no_mangle)]
 pub extern "C" fn pw_select(
     selector: Mask,
-    by: &[u8],
+    selector_bytes: &[u8],
     truthy: Mask,
-    yes: &[u8],
+    truthy_bytes: &[u8],
     falsy: Mask,
-    no: &[u8],
+    falsy_bytes: &[u8],
     out: &mut [u8],
 ) -> MaskAnswer
     ensures answer { result ≡
-        as_mask (select_of (mask_in selector) by.now (mask_in truthy) yes.now (mask_in falsy) no.now out.old) }
+        as_mask (select_of (mask_in selector) selector_bytes.now
+        (mask_in truthy) truthy_bytes.now (mask_in falsy) falsy_bytes.now out.old) }
     ensures bytes { out.new ≡
-        select_bytes (mask_in selector) by.now (mask_in truthy) yes.now (mask_in falsy) no.now out.old }
+        select_bytes (mask_in selector) selector_bytes.now
+        (mask_in truthy) truthy_bytes.now (mask_in falsy) falsy_bytes.now out.old }
 {
     select(
         selector.into(),
-        by,
+        selector_bytes,
         truthy.into(),
-        yes,
+        truthy_bytes,
         falsy.into(),
-        no,
+        falsy_bytes,
         out,
     )
     .into()
@@ -142,14 +144,24 @@ pub extern "C" fn pw_select(
 #[unsafe(no_mangle)]
 pub extern "C" fn pw_select_constant(
     selector: Mask,
-    by: &[u8],
+    selector_bytes: &[u8],
     truthy: Mask,
-    yes: &[u8],
+    truthy_bytes: &[u8],
     flag: bool,
     out: &mut [u8],
 ) -> MaskAnswer
-    ensures answer { result ≡ as_mask (select_constant_of (mask_in selector) by.now (mask_in truthy) yes.now flag out.old) }
-    ensures bytes { out.new ≡ select_constant_bytes (mask_in selector) by.now (mask_in truthy) yes.now flag out.old }
+    ensures answer { result ≡
+        as_mask (select_constant_of (mask_in selector) selector_bytes.now (mask_in truthy) truthy_bytes.now flag out.old) }
+    ensures bytes { out.new ≡
+        select_constant_bytes (mask_in selector) selector_bytes.now (mask_in truthy) truthy_bytes.now flag out.old }
 {
-    select_constant(selector.into(), by, truthy.into(), yes, flag, out).into()
+    select_constant(
+        selector.into(),
+        selector_bytes,
+        truthy.into(),
+        truthy_bytes,
+        flag,
+        out,
+    )
+    .into()
 }

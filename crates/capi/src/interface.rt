@@ -4,10 +4,10 @@
 // a record, a signature or the meaning of a number changes, not when a call is added; tests/declarations.py checks this.
 ghost use Rattle.std.specs.Prelude.{◌≡◌};
 
-// Returns the version of the interface, 3.
+// Returns the version of the interface, 4.
 #[unsafe(no_mangle)]
-pub extern "C" fn pw_interface_3() -> u32
-    ensures { result ≡ 3 }
+pub extern "C" fn pw_interface_4() -> u32
+    ensures { result ≡ 4 }
 {
-    3
+    4
 }

@@ -10,7 +10,7 @@ ghost use Rattle.masks.specs.equations.Mask.{unset_bits_of};
 ghost use Rattle.capi.specs.Answers.{as_flag, as_mask, as_number, as_same_mask, as_zeros};
 ghost use Rattle.capi.specs.Records.{mask_in, mask_out};
 
-use crate::answers::{Flag, MaskAnswer, Number, ZerosAnswer};
+use crate::answers::{FlagAnswer, MaskAnswer, NumberAnswer, ZerosAnswer};
 use crate::records::Mask;
 use masks::bitmap::{Bitmap, Recounted};
 use masks::compare::{eq, num_edges, num_intersections_with};
@@ -98,15 +98,15 @@ pub extern "C" fn pw_unset_bits(mask: Mask, bytes: &[u8]) -> ZerosAnswer
 
 // Returns whether two masks have equal lengths and equal flags. Unequal lengths are not refused, and serials are ignored.
 #[unsafe(no_mangle)]
-pub extern "C" fn pw_eq(lhs: Mask, left: &[u8], rhs: Mask, right: &[u8]) -> Flag
-    ensures { result ≡ as_flag (eq_of (mask_in lhs) left.now (mask_in rhs) right.now) }
+pub extern "C" fn pw_eq(lhs: Mask, lhs_bytes: &[u8], rhs: Mask, rhs_bytes: &[u8]) -> FlagAnswer
+    ensures { result ≡ as_flag (eq_of (mask_in lhs) lhs_bytes.now (mask_in rhs) rhs_bytes.now) }
 {
-    eq(lhs.into(), left, rhs.into(), right).into()
+    eq(lhs.into(), lhs_bytes, rhs.into(), rhs_bytes).into()
 }
 
 // Counts the flags of a mask that differ from the next flag.
 #[unsafe(no_mangle)]
-pub extern "C" fn pw_num_edges(mask: Mask, bytes: &[u8]) -> Number
+pub extern "C" fn pw_num_edges(mask: Mask, bytes: &[u8]) -> NumberAnswer
     ensures { result ≡ as_number (edges_of (mask_in mask) bytes.now) }
 {
     num_edges(mask.into(), bytes).into()
@@ -116,11 +116,11 @@ pub extern "C" fn pw_num_edges(mask: Mask, bytes: &[u8]) -> Number
 #[unsafe(no_mangle)]
 pub extern "C" fn pw_num_intersections_with(
     lhs: Mask,
-    left: &[u8],
+    lhs_bytes: &[u8],
     rhs: Mask,
-    right: &[u8],
-) -> Number
-    ensures { result ≡ as_number (common_of (mask_in lhs) left.now (mask_in rhs) right.now) }
+    rhs_bytes: &[u8],
+) -> NumberAnswer
+    ensures { result ≡ as_number (common_of (mask_in lhs) lhs_bytes.now (mask_in rhs) rhs_bytes.now) }
 {
-    num_intersections_with(lhs.into(), left, rhs.into(), right).into()
+    num_intersections_with(lhs.into(), lhs_bytes, rhs.into(), rhs_bytes).into()
 }

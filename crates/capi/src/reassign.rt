@@ -6,7 +6,7 @@ ghost use Rattle.dispatch.specs.equations.Dispatch.{may_reassign};
 ghost use Rattle.capi.specs.Answers.{as_flag};
 ghost use Rattle.capi.specs.Records.{optional_in};
 
-use crate::answers::Flag;
+use crate::answers::FlagAnswer;
 use crate::records::{Mask, optional_in};
 use dispatch::dispatch::may_reassign;
 
@@ -24,7 +24,7 @@ pub extern "C" fn pw_may_reassign(
     revocation: Mask,
     revocation_bytes: &[u8],
     truck: usize,
-) -> Flag
+) -> FlagAnswer
     ensures { result ≡
         as_flag (may_reassign (optional_in permitted permission) permission_bytes.now (optional_in revoked revocation)
         revocation_bytes.now truck) }

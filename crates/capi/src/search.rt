@@ -6,24 +6,24 @@ ghost use Rattle.masks.specs.equations.Answer.{answer};
 ghost use Rattle.masks.specs.equations.Search.{search_back, search_from};
 ghost use Rattle.capi.specs.Answers.{as_position};
 
-use crate::answers::Position;
+use crate::answers::PositionAnswer;
 use masks::bitmask::{nth_set_bit_idx, nth_set_bit_idx_rev};
 use masks::refusal::Refusal;
 
 #[tactic(auto, unfolding(crate::specs::Answers::as_position))]
-impl From<Result<Option<usize>, Refusal>> for Position {
+impl From<Result<Option<usize>, Refusal>> for PositionAnswer {
     ghost from_gives = { λ r a. a ≡ as_position (answer r) };
 
-    fn from(r: Result<Option<usize>, Refusal>) -> Position {
+    fn from(r: Result<Option<usize>, Refusal>) -> PositionAnswer {
         match r {
-            Ok(p) => Position {
+            Ok(p) => PositionAnswer {
                 refusal: 0,
                 found: p.is_some(),
                 value: p.unwrap_or(0),
             },
-            Err(e) => Position {
+            Err(e) => PositionAnswer {
                 refusal: e.into(),
-                ..Position::default()
+                ..PositionAnswer::default()
             },
         }
     }
@@ -38,7 +38,7 @@ pub extern "C" fn pw_nth_set_bit_idx(
     length: usize,
     n: usize,
     from: usize,
-) -> Position
+) -> PositionAnswer
     ensures { result ≡ as_position (search_from bytes.now start length n from) }
 {
     nth_set_bit_idx(bytes, start, length, n, from).into()
@@ -53,7 +53,7 @@ pub extern "C" fn pw_nth_set_bit_idx_rev(
     length: usize,
     n: usize,
     end: usize,
-) -> Position
+) -> PositionAnswer
     ensures { result ≡ as_position (search_back bytes.now start length n end) }
 {
     nth_set_bit_idx_rev(bytes, start, length, n, end).into()

@@ -12,7 +12,7 @@ ghost use Rattle.masks.specs.Utils.{zeros};
 ghost use Rattle.masks.specs.equations.Utils.{span_count};
 ghost use Rattle.capi.specs.Answers.{as_number, as_spans, as_split};
 
-use crate::answers::{Number, SpansAnswer, SplitAnswer};
+use crate::answers::{NumberAnswer, SpansAnswer, SplitAnswer};
 use masks::aligned::AlignedBitmapSlice;
 use masks::bitmask::{Span, get_u32, split_at_unchecked};
 use masks::refusal::Refusal;
@@ -84,7 +84,7 @@ pub extern "C" fn pw_count_zeros(
     start: usize,
     length: usize,
     address: usize,
-) -> Number
+) -> NumberAnswer
     ensures { result ≡
         as_number (span_count bytes.now start length address (zeros (stretch bytes.now start length))) }
 {
@@ -99,7 +99,7 @@ pub extern "C" fn pw_leading_zeros(
     start: usize,
     length: usize,
     address: usize,
-) -> Number
+) -> NumberAnswer
     ensures { result ≡
         as_number (span_count bytes.now start length address (leading false (stretch bytes.now start length))) }
 {
@@ -114,7 +114,7 @@ pub extern "C" fn pw_leading_ones(
     start: usize,
     length: usize,
     address: usize,
-) -> Number
+) -> NumberAnswer
     ensures { result ≡
         as_number (span_count bytes.now start length address (leading true (stretch bytes.now start length))) }
 {
@@ -129,7 +129,7 @@ pub extern "C" fn pw_trailing_zeros(
     start: usize,
     length: usize,
     address: usize,
-) -> Number
+) -> NumberAnswer
     ensures { result ≡
         as_number (span_count bytes.now start length address (trailing false (stretch bytes.now start length))) }
 {
@@ -144,7 +144,7 @@ pub extern "C" fn pw_trailing_ones(
     start: usize,
     length: usize,
     address: usize,
-) -> Number
+) -> NumberAnswer
     ensures { result ≡
         as_number (span_count bytes.now start length address (trailing true (stretch bytes.now start length))) }
 {
@@ -167,7 +167,12 @@ pub extern "C" fn pw_split_at_unchecked(
 
 // Returns 32 flags starting at `index`, the first in the lowest bit, with zeros past the end of the span. `index` may be any number.
 #[unsafe(no_mangle)]
-pub extern "C" fn pw_get_u32(bytes: &[u8], start: usize, length: usize, index: usize) -> Number
+pub extern "C" fn pw_get_u32(
+    bytes: &[u8],
+    start: usize,
+    length: usize,
+    index: usize,
+) -> NumberAnswer
     ensures { result ≡ as_number (window_at bytes.now start length index) }
 {
     get_u32(bytes, start, length, index)

@@ -2,20 +2,20 @@
 use Rattle.std.specs.Prelude.{ℕ, List, ◌++◌, Result, Ok, Err, codes, decimal}
 use Rattle.masks.specs.declared.refusal.Refusal.{Refusal}
 use Rattle.masks.specs.declared.refusal.Refused.{Refused}
-use Rattle.masks.specs.declared.refusal.Refusal.TheVariants.{OverLimit, PastBytes, FalseCount, UnequalLists, ImpossibleBuilder}
-use Rattle.masks.specs.declared.refusal.Refusal.TheVariants.{UnequalLengths, Outside, WrongRecount, WrongAddress, ShortOutput}
+use Rattle.masks.specs.declared.refusal.Refusal.TheVariants.{AboveLimit, OutsideBytes, FalseCount, SerialConflict, ImpossibleBuilder}
+use Rattle.masks.specs.declared.refusal.Refusal.TheVariants.{UnequalLengths, OutsideMask, CountNotOfSlice, AddressRemainder, OutputTooSmall}
 
 abbrev pub number : Refusal → ℕ
-number OverLimit = 1
-number PastBytes = 2
+number AboveLimit = 1
+number OutsideBytes = 2
 number FalseCount = 3
-number UnequalLists = 14
+number SerialConflict = 14
 number ImpossibleBuilder = 4
 number UnequalLengths = 5
-number Outside = 6
-number WrongRecount = 7
-number WrongAddress = 8
-number ShortOutput = 9
+number OutsideMask = 6
+number CountNotOfSlice = 7
+number AddressRemainder = 8
+number OutputTooSmall = 9
 
 -- the number with which a call refuses, 0 if it does not
 abbrev pub failure_of : {A : Type 0} → Result A Refusal → ℕ
@@ -28,16 +28,16 @@ failure_back (Ok a) = 0
 failure_back (Err e) = number e.refusal
 -- the words for a failed check
 abbrev pub reason : Refusal → List ℕ
-reason OverLimit = codes "a start or a length is above 4,194,304"
-reason PastBytes = codes "start + length is above 8 * the bytes lent"
+reason AboveLimit = codes "a start or a length is above 4,194,304"
+reason OutsideBytes = codes "start + length is above 8 * the bytes lent"
 reason FalseCount = codes "a known zero count is not the number of zeros"
-reason UnequalLists = codes "the masks have equal serials and different flags"
+reason SerialConflict = codes "the masks have equal serials and different flags"
 reason ImpossibleBuilder = codes "the builder is not possible: its word, ones or buffer do not fit its length"
 reason UnequalLengths = codes "the masks combined, or a mask and the length stated for it, are not equal in length"
-reason Outside = codes "the inner piece does not lie in its mask"
-reason WrongRecount = codes "the known count is below the zeros cut off, or the rest above the new length"
-reason WrongAddress = codes "the address remainder is above 7"
-reason ShortOutput = codes "the output does not hold 8 * ceil(new length / 64) bytes"
+reason OutsideMask = codes "the inner piece does not lie in its mask"
+reason CountNotOfSlice = codes "the known count is below the zeros cut off, or the rest above the new length"
+reason AddressRemainder = codes "the address remainder is above 7"
+reason OutputTooSmall = codes "the output does not hold 8 * ceil(new length / 64) bytes"
 
 -- the text of a refusal
 abbrev pub said : Refusal → List ℕ

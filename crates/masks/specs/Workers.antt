@@ -1,6 +1,6 @@
 -- What the private functions of masks require and promise. No contract of a public function cites it, so it need not be believed.
 use Rattle.masks.specs.declared.refusal.Refusal.{Refusal}
-use Rattle.masks.specs.declared.refusal.Refusal.TheVariants.{WrongRecount}
+use Rattle.masks.specs.declared.refusal.Refusal.TheVariants.{CountNotOfSlice}
 use Rattle.std.specs.Prelude.{◌≡◌, refl, ℕ, ◌+◌, ◌-◌, ◌*◌, ◌/◌, ◌%◌, ◌≤◌, ◌<◌, Bool, true, false, cond, ◌&&◌, ◌||◌, List, ◌++◌, eqb, leb}
 use Rattle.std.specs.Prelude.{take, Option, Some, None, Result, Ok, Err}
 use Rattle.words.specs.Flags.{bits, count, word_flags}
@@ -56,11 +56,11 @@ outside bytes start whole offset n = zeros (stretch bytes start offset) + zeros 
 
 -- a recount of n flags: z less the zeros cut off, or that check 7 fails
 unfoldable pub recounted_of : ℕ → ℕ → ℕ → Result (Option ℕ) Refusal
-recounted_of z cut n = cond (leb cut z && leb (z - cut) n) (Ok (Some (z - cut))) (Err WrongRecount)
+recounted_of z cut n = cond (leb cut z && leb (z - cut) n) (Ok (Some (z - cut))) (Err CountNotOfSlice)
 
 -- the count of a slice of n of `old` flags, or that check 7 fails
 abbrev pub cut_of : ℕ → ℕ → ℕ → Option ℕ → Result (Option ℕ) Refusal
-cut_of old n cut u = cond (recount_valid old n cut u) (Ok (sliced_count old n cut u)) (Err WrongRecount)
+cut_of old n cut u = cond (recount_valid old n cut u) (Ok (sliced_count old n cut u)) (Err CountNotOfSlice)
 
 -- ---- `shortcuts`
 

@@ -82,7 +82,7 @@ fn check_inside(mask: Bitmap, bytes: &[u8], index: usize) -> Result<(), Refusal>
         (mask_checks mask bytes.now ++ (index_inside index mask ∷ [])) }
 {
     check_mask(mask, bytes)?;
-    check(Refusal::Outside, index < mask.length)
+    check(Refusal::OutsideMask, index < mask.length)
 }
 
 // Checks that two masks, if both are there, have equal lengths.

@@ -177,9 +177,9 @@ pub(crate) fn not_counted(length: usize) -> Option<usize>
 fn check_piece(mask: Bitmap, bytes: &[u8], offset: usize, length: usize) -> Result<(), Refusal>
     ensures { failure_of result ≡ first_failed (piece_checks mask bytes.now offset length) }
 {
-    let inside = check(Refusal::Outside, sum_at_most(offset, length, mask.length));
+    let inside = check(Refusal::OutsideMask, sum_at_most(offset, length, mask.length));
     let starts = check(
-        Refusal::OverLimit,
+        Refusal::AboveLimit,
         sum_at_most(mask.start, offset, Bitmap::LIMIT),
     );
     let short = check_limit(length);
@@ -242,7 +242,7 @@ fn recount(zeros: usize, cut: usize, length: usize) -> Result<Option<usize>, Ref
 {
     match zeros.checked_sub(cut) {
         Some(rest) if rest <= length => Ok(Some(rest)),
-        _ => Err(Refusal::WrongRecount),
+        _ => Err(Refusal::CountNotOfSlice),
     }
 }
 

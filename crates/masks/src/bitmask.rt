@@ -30,8 +30,8 @@ fn check_split(start: usize, length: usize, at: usize, size: usize) -> Result<()
     earlier(
         check_span(start, length, size),
         earlier(
-            check(Refusal::OverLimit, sum_at_most(start, at, Bitmap::LIMIT)),
-            check(Refusal::Outside, at <= length),
+            check(Refusal::AboveLimit, sum_at_most(start, at, Bitmap::LIMIT)),
+            check(Refusal::OutsideMask, at <= length),
         ),
     )
 }

@@ -27,18 +27,18 @@ pub fn check_span(start: usize, length: usize, size: usize) -> Result<(), Refusa
 {
     // `&`: one branch for both, in every check of a mask.
     check(
-        Refusal::OverLimit,
+        Refusal::AboveLimit,
         within_limit(start) & within_limit(length),
     )?;
     let end = (start + length).div_ceil(8);
-    check(Refusal::PastBytes, end <= size)
+    check(Refusal::OutsideBytes, end <= size)
 }
 
 // Makes check 8: an address remainder is at most 7.
 pub(crate) fn check_address(address: usize) -> Result<(), Refusal>
     ensures { failure_of result ≡ first_failed (address_checks address) }
 {
-    check(Refusal::WrongAddress, address <= 7)
+    check(Refusal::AddressRemainder, address <= 7)
 }
 
 // Returns whether z is the number of zeros of a span. Counts them, except if z is 0 or the length: then it looks for a flag that differs.
@@ -87,7 +87,7 @@ pub(crate) fn sum_at_most(a: usize, b: usize, c: usize) -> bool
 pub fn check_output(n: usize, size: usize) -> Result<(), Refusal>
     ensures refused { failure_of result ≡ first_failed (output_checks n size) }
 {
-    check(Refusal::ShortOutput, n.div_ceil(64) <= size / 8)
+    check(Refusal::OutputTooSmall, n.div_ceil(64) <= size / 8)
 }
 
 // Returns whether calls can have produced this builder over a buffer of `size` bytes (check 4).
@@ -117,7 +117,7 @@ fn check_small(b: BitmapBuilder, size: usize) -> Result<(), Refusal>
     ensures { failure_of result ≡ cond (possible b size) 9 4 }
 {
     check(Refusal::ImpossibleBuilder, is_possible(b, size))?;
-    Err(Refusal::ShortOutput)
+    Err(Refusal::OutputTooSmall)
 }
 
 // Makes checks 1, 4 and 9 for appending `more` flags to a builder. Speed: by `sum_at_most`, which makes both tests, `freeze` took
@@ -126,10 +126,10 @@ pub(crate) fn check_builder(b: BitmapBuilder, more: usize, size: usize) -> Resul
     ensures { failure_of result ≡ first_failed (builder_checks b (b.length + more) size) }
 {
     if Bitmap::LIMIT < b.length {
-        return Err(Refusal::OverLimit);
+        return Err(Refusal::AboveLimit);
     }
     if Bitmap::LIMIT - b.length < more {
-        return Err(Refusal::OverLimit);
+        return Err(Refusal::AboveLimit);
     }
     check_room(b, b.length + more, size)
 }
@@ -154,14 +154,14 @@ pub(crate) fn check_word(word: u64, k: usize) -> Result<(), Refusal>
         (within_limit k ∷ check 6 (leb k 64 && none_from word k) ∷ []) }
 {
     check_limit(k)?;
-    check(Refusal::Outside, k <= 64 && none_from(word, k))
+    check(Refusal::OutsideMask, k <= 64 && none_from(word, k))
 }
 
 // Makes check 1 on a stated length.
 pub(crate) fn check_limit(n: usize) -> Result<(), Refusal>
     ensures { failure_of result ≡ first_failed (within_limit n ∷ []) }
 {
-    check(Refusal::OverLimit, within_limit(n))
+    check(Refusal::AboveLimit, within_limit(n))
 }
 
 // Makes checks 1 and 6 on n flags starting at `start` of a mask of `whole` flags.
@@ -170,5 +170,5 @@ pub(crate) fn check_inner(start: usize, n: usize, whole: usize) -> Result<(), Re
 {
     check_limit(start)?;
     check_limit(n)?;
-    check(Refusal::Outside, sum_at_most(start, n, whole))
+    check(Refusal::OutsideMask, sum_at_most(start, n, whole))
 }

@@ -25,5 +25,5 @@ pub(crate) fn check_cursor(
     ensures { failure_of result ≡ first_failed (cursor_checks start length place size) }
 {
     check_span(start, length, size)?;
-    check(Refusal::Outside, place <= length)
+    check(Refusal::OutsideMask, place <= length)
 }

@@ -38,7 +38,7 @@ impl BitmapBuilder {
                 check_span(start, n, bytes.len()),
                 check_builder(self, idxs.len(), buf.len()),
             ),
-            check(Refusal::Outside, all_below(idxs, n)),
+            check(Refusal::OutsideMask, all_below(idxs, n)),
         )
         .map_err(|r| r.with(self))?;
         let span = CheckedSpan {

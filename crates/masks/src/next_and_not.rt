@@ -126,7 +126,7 @@ fn check_next(
     ensures { failure_of result ≡ first_failed
         (next_checks first first_bytes.now second second_bytes.now from) }
 {
-    let place = check(Refusal::Outside, from <= first.length);
+    let place = check(Refusal::OutsideMask, from <= first.length);
     let other = check_other(first.length, second, second_bytes);
     earlier(check_mask(first, first_bytes), earlier(other, place))
 }

@@ -11,26 +11,26 @@ use std::fmt;
 #[derive(Clone, Copy, PartialEq, Eq, PartialOrd, Ord, Debug)]
 pub enum Refusal {
     // 1: a start or a length, stated or resulting, is above the flag limit.
-    OverLimit,
+    AboveLimit,
     // 2: start + length is above 8 * the bytes lent.
-    PastBytes,
+    OutsideBytes,
     // 3: a known zero count is not that of the flags.
     FalseCount,
     // 14: two masks with equal serials have different flags.
-    UnequalLists,
+    SerialConflict,
     // 4: the builder's word has a bit set at or above length mod 64, its ones are above 64 * (length div 64), or its buffer has fewer than
     // 8 * (length div 64) bytes.
     ImpossibleBuilder,
     // 5: the masks combined, or a mask and its stated length, differ in length.
     UnequalLengths,
     // 6: a piece, a place, an index or a pushed word does not lie inside.
-    Outside,
+    OutsideMask,
     // 7: `slice` recounts and finds that the known count cannot be right.
-    WrongRecount,
+    CountNotOfSlice,
     // 8: the address remainder is above 7.
-    WrongAddress,
+    AddressRemainder,
     // 9: the output, or the builder's buffer, does not hold the result.
-    ShortOutput,
+    OutputTooSmall,
 }
 
 impl Refusal {
@@ -39,22 +39,22 @@ impl Refusal {
         ensures { result.now ≡ reason self }
     {
         match self {
-            Refusal::OverLimit => "a start or a length is above 4,194,304",
-            Refusal::PastBytes => "start + length is above 8 * the bytes lent",
+            Refusal::AboveLimit => "a start or a length is above 4,194,304",
+            Refusal::OutsideBytes => "start + length is above 8 * the bytes lent",
             Refusal::FalseCount => "a known zero count is not the number of zeros",
-            Refusal::UnequalLists => "the masks have equal serials and different flags",
+            Refusal::SerialConflict => "the masks have equal serials and different flags",
             Refusal::ImpossibleBuilder => {
                 "the builder is not possible: its word, ones or buffer do not fit its length"
             }
             Refusal::UnequalLengths => {
                 "the masks combined, or a mask and the length stated for it, are not equal in length"
             }
-            Refusal::Outside => "the inner piece does not lie in its mask",
-            Refusal::WrongRecount => {
+            Refusal::OutsideMask => "the inner piece does not lie in its mask",
+            Refusal::CountNotOfSlice => {
                 "the known count is below the zeros cut off, or the rest above the new length"
             }
-            Refusal::WrongAddress => "the address remainder is above 7",
-            Refusal::ShortOutput => "the output does not hold 8 * ceil(new length / 64) bytes",
+            Refusal::AddressRemainder => "the address remainder is above 7",
+            Refusal::OutputTooSmall => "the output does not hold 8 * ceil(new length / 64) bytes",
         }
     }
 
@@ -75,16 +75,16 @@ impl From<Refusal> for u8 {
 
     fn from(refusal: Refusal) -> u8 {
         match refusal {
-            Refusal::OverLimit => 1,
-            Refusal::PastBytes => 2,
+            Refusal::AboveLimit => 1,
+            Refusal::OutsideBytes => 2,
             Refusal::FalseCount => 3,
-            Refusal::UnequalLists => 14,
+            Refusal::SerialConflict => 14,
             Refusal::ImpossibleBuilder => 4,
             Refusal::UnequalLengths => 5,
-            Refusal::Outside => 6,
-            Refusal::WrongRecount => 7,
-            Refusal::WrongAddress => 8,
-            Refusal::ShortOutput => 9,
+            Refusal::OutsideMask => 6,
+            Refusal::CountNotOfSlice => 7,
+            Refusal::AddressRemainder => 8,
+            Refusal::OutputTooSmall => 9,
         }
     }
 }

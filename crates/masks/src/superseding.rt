@@ -35,7 +35,7 @@ fn check_superseding(
         return earlier(check_mask(first, lhs_bytes), check_mask(second, rhs_bytes));
     }
     let same = eq(first, lhs_bytes, second, rhs_bytes)?;
-    check(Refusal::UnequalLists, same)
+    check(Refusal::SerialConflict, same)
 }
 
 // Returns the part of its slice that holds a mask, and the mask over that part. No type says that the mask's checks have passed: a `Bitmap`

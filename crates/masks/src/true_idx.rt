@@ -71,7 +71,7 @@ pub(crate) fn check_next(cursor: TrueIdxIter, size: usize) -> Result<(), Refusal
     }
     check_limit(cursor.start)?;
     check_limit(cursor.length)?;
-    check(Refusal::Outside, cursor.place <= cursor.length)
+    check(Refusal::OutsideMask, cursor.place <= cursor.length)
 }
 
 // Counts the zeros before the next one; 0 without a mask. Takes the cursor's fields, as `zeros_from` does: over a `CheckedSpan`, `next`

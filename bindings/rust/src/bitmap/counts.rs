@@ -111,7 +111,7 @@ impl Bitmap {
         found(calls::nth_set_bit_idx_rev(self.bytes(), self.start, self.length, n, end))
     }
 
-    fn count(&self, call: impl FnOnce(&[u8], usize, usize, usize) -> calls::Number) -> usize {
+    fn count(&self, call: impl FnOnce(&[u8], usize, usize, usize) -> calls::NumberAnswer) -> usize {
         // The last argument is the address remainder; no count depends on it.
         let answer = call(self.bytes(), self.start, self.length, 0);
         check_passed(answer.refusal);
@@ -119,7 +119,7 @@ impl Bitmap {
     }
 }
 
-fn found(answer: calls::Position) -> Option<usize> {
+fn found(answer: calls::PositionAnswer) -> Option<usize> {
     check_passed(answer.refusal);
     answer.found.then_some(answer.value)
 }

@@ -22,7 +22,7 @@ use super::records::*;
 #[inline]
 pub fn and_not_at(
     first_present: bool, first: Mask, first_bytes: &[u8], second_present: bool, second: Mask, second_bytes: &[u8], index: usize,
-) -> Flag {
+) -> FlagAnswer {
     unsafe {
         exports::pw_and_not_at(
             first_present,

@@ -18,8 +18,10 @@ use super::records::*;
 /// assert_eq!(out[0], 0x01);
 /// ```
 #[inline]
-pub fn and(lhs: Mask, left: &[u8], rhs: Mask, right: &[u8], out: &mut [u8]) -> MaskAnswer {
-    unsafe { exports::pw_and(lhs, left.as_ptr(), left.len(), rhs, right.as_ptr(), right.len(), out.as_mut_ptr(), out.len()) }
+pub fn and(lhs: Mask, lhs_bytes: &[u8], rhs: Mask, rhs_bytes: &[u8], out: &mut [u8]) -> MaskAnswer {
+    unsafe {
+        exports::pw_and(lhs, lhs_bytes.as_ptr(), lhs_bytes.len(), rhs, rhs_bytes.as_ptr(), rhs_bytes.len(), out.as_mut_ptr(), out.len())
+    }
 }
 
 /// Writes which flags are set in the first mask and not in the second, as frozen bytes at the start of `out`, and returns the
@@ -35,8 +37,10 @@ pub fn and(lhs: Mask, left: &[u8], rhs: Mask, right: &[u8], out: &mut [u8]) -> M
 /// assert_eq!(out[0], 0x04);
 /// ```
 #[inline]
-pub fn and_not(lhs: Mask, left: &[u8], rhs: Mask, right: &[u8], out: &mut [u8]) -> MaskAnswer {
-    unsafe { exports::pw_and_not(lhs, left.as_ptr(), left.len(), rhs, right.as_ptr(), right.len(), out.as_mut_ptr(), out.len()) }
+pub fn and_not(lhs: Mask, lhs_bytes: &[u8], rhs: Mask, rhs_bytes: &[u8], out: &mut [u8]) -> MaskAnswer {
+    unsafe {
+        exports::pw_and_not(lhs, lhs_bytes.as_ptr(), lhs_bytes.len(), rhs, rhs_bytes.as_ptr(), rhs_bytes.len(), out.as_mut_ptr(), out.len())
+    }
 }
 
 /// Writes which flags are set in at least one of two masks, as frozen bytes at the start of `out`, and returns the mask over
@@ -52,8 +56,10 @@ pub fn and_not(lhs: Mask, left: &[u8], rhs: Mask, right: &[u8], out: &mut [u8]) 
 /// assert_eq!(out[0], 0x05);
 /// ```
 #[inline]
-pub fn or(lhs: Mask, left: &[u8], rhs: Mask, right: &[u8], out: &mut [u8]) -> MaskAnswer {
-    unsafe { exports::pw_or(lhs, left.as_ptr(), left.len(), rhs, right.as_ptr(), right.len(), out.as_mut_ptr(), out.len()) }
+pub fn or(lhs: Mask, lhs_bytes: &[u8], rhs: Mask, rhs_bytes: &[u8], out: &mut [u8]) -> MaskAnswer {
+    unsafe {
+        exports::pw_or(lhs, lhs_bytes.as_ptr(), lhs_bytes.len(), rhs, rhs_bytes.as_ptr(), rhs_bytes.len(), out.as_mut_ptr(), out.len())
+    }
 }
 
 /// Writes which flags are set in the first mask or not set in the second, as frozen bytes at the start of `out`, and returns the
@@ -69,8 +75,10 @@ pub fn or(lhs: Mask, left: &[u8], rhs: Mask, right: &[u8], out: &mut [u8]) -> Ma
 /// assert_eq!(out[0], 0x06);
 /// ```
 #[inline]
-pub fn or_not(lhs: Mask, left: &[u8], rhs: Mask, right: &[u8], out: &mut [u8]) -> MaskAnswer {
-    unsafe { exports::pw_or_not(lhs, left.as_ptr(), left.len(), rhs, right.as_ptr(), right.len(), out.as_mut_ptr(), out.len()) }
+pub fn or_not(lhs: Mask, lhs_bytes: &[u8], rhs: Mask, rhs_bytes: &[u8], out: &mut [u8]) -> MaskAnswer {
+    unsafe {
+        exports::pw_or_not(lhs, lhs_bytes.as_ptr(), lhs_bytes.len(), rhs, rhs_bytes.as_ptr(), rhs_bytes.len(), out.as_mut_ptr(), out.len())
+    }
 }
 
 /// Writes which flags differ between two masks, as frozen bytes at the start of `out`, and returns the mask over them. Refuses
@@ -86,8 +94,10 @@ pub fn or_not(lhs: Mask, left: &[u8], rhs: Mask, right: &[u8], out: &mut [u8]) -
 /// assert_eq!(out[0], 0x05);
 /// ```
 #[inline]
-pub fn xor(lhs: Mask, left: &[u8], rhs: Mask, right: &[u8], out: &mut [u8]) -> MaskAnswer {
-    unsafe { exports::pw_xor(lhs, left.as_ptr(), left.len(), rhs, right.as_ptr(), right.len(), out.as_mut_ptr(), out.len()) }
+pub fn xor(lhs: Mask, lhs_bytes: &[u8], rhs: Mask, rhs_bytes: &[u8], out: &mut [u8]) -> MaskAnswer {
+    unsafe {
+        exports::pw_xor(lhs, lhs_bytes.as_ptr(), lhs_bytes.len(), rhs, rhs_bytes.as_ptr(), rhs_bytes.len(), out.as_mut_ptr(), out.len())
+    }
 }
 
 /// Writes each flag of a mask inverted, as frozen bytes at the start of `out`, and returns the mask over them. Refuses with 1, 2,
@@ -117,18 +127,20 @@ pub fn not(mask: Mask, bytes: &[u8], out: &mut [u8]) -> MaskAnswer {
 /// assert_eq!(out[0], 0x0B);
 /// ```
 #[inline]
-pub fn select(selector: Mask, by: &[u8], truthy: Mask, yes: &[u8], falsy: Mask, no: &[u8], out: &mut [u8]) -> MaskAnswer {
+pub fn select(
+    selector: Mask, selector_bytes: &[u8], truthy: Mask, truthy_bytes: &[u8], falsy: Mask, falsy_bytes: &[u8], out: &mut [u8],
+) -> MaskAnswer {
     unsafe {
         exports::pw_select(
             selector,
-            by.as_ptr(),
-            by.len(),
+            selector_bytes.as_ptr(),
+            selector_bytes.len(),
             truthy,
-            yes.as_ptr(),
-            yes.len(),
+            truthy_bytes.as_ptr(),
+            truthy_bytes.len(),
             falsy,
-            no.as_ptr(),
-            no.len(),
+            falsy_bytes.as_ptr(),
+            falsy_bytes.len(),
             out.as_mut_ptr(),
             out.len(),
         )
@@ -147,8 +159,18 @@ pub fn select(selector: Mask, by: &[u8], truthy: Mask, yes: &[u8], falsy: Mask, 
 /// assert_eq!(out[0], 0x0B);
 /// ```
 #[inline]
-pub fn select_constant(selector: Mask, by: &[u8], truthy: Mask, yes: &[u8], flag: bool, out: &mut [u8]) -> MaskAnswer {
+pub fn select_constant(selector: Mask, selector_bytes: &[u8], truthy: Mask, truthy_bytes: &[u8], flag: bool, out: &mut [u8]) -> MaskAnswer {
     unsafe {
-        exports::pw_select_constant(selector, by.as_ptr(), by.len(), truthy, yes.as_ptr(), yes.len(), flag, out.as_mut_ptr(), out.len())
+        exports::pw_select_constant(
+            selector,
+            selector_bytes.as_ptr(),
+            selector_bytes.len(),
+            truthy,
+            truthy_bytes.as_ptr(),
+            truthy_bytes.len(),
+            flag,
+            out.as_mut_ptr(),
+            out.len(),
+        )
     }
 }

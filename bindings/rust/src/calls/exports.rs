@@ -8,15 +8,15 @@ unsafe extern "C" {
     pub fn pw_nth_set_bit_u64(w: u64, n: u64) -> NthAnswer;
     pub fn pw_nth_set_bit_u32(w: u32, n: u32) -> NthAnswer;
     pub fn pw_aligned_new(bytes: *const u8, bytes_len: usize, start: usize, length: usize, address: usize) -> SplitAnswer;
-    pub fn pw_count_zeros(bytes: *const u8, bytes_len: usize, start: usize, length: usize, address: usize) -> Number;
-    pub fn pw_leading_zeros(bytes: *const u8, bytes_len: usize, start: usize, length: usize, address: usize) -> Number;
-    pub fn pw_leading_ones(bytes: *const u8, bytes_len: usize, start: usize, length: usize, address: usize) -> Number;
-    pub fn pw_trailing_zeros(bytes: *const u8, bytes_len: usize, start: usize, length: usize, address: usize) -> Number;
-    pub fn pw_trailing_ones(bytes: *const u8, bytes_len: usize, start: usize, length: usize, address: usize) -> Number;
+    pub fn pw_count_zeros(bytes: *const u8, bytes_len: usize, start: usize, length: usize, address: usize) -> NumberAnswer;
+    pub fn pw_leading_zeros(bytes: *const u8, bytes_len: usize, start: usize, length: usize, address: usize) -> NumberAnswer;
+    pub fn pw_leading_ones(bytes: *const u8, bytes_len: usize, start: usize, length: usize, address: usize) -> NumberAnswer;
+    pub fn pw_trailing_zeros(bytes: *const u8, bytes_len: usize, start: usize, length: usize, address: usize) -> NumberAnswer;
+    pub fn pw_trailing_ones(bytes: *const u8, bytes_len: usize, start: usize, length: usize, address: usize) -> NumberAnswer;
     pub fn pw_split_at_unchecked(bytes: *const u8, bytes_len: usize, start: usize, length: usize, at: usize) -> SpansAnswer;
-    pub fn pw_get_u32(bytes: *const u8, bytes_len: usize, start: usize, length: usize, index: usize) -> Number;
-    pub fn pw_nth_set_bit_idx(bytes: *const u8, bytes_len: usize, start: usize, length: usize, n: usize, from: usize) -> Position;
-    pub fn pw_nth_set_bit_idx_rev(bytes: *const u8, bytes_len: usize, start: usize, length: usize, n: usize, end: usize) -> Position;
+    pub fn pw_get_u32(bytes: *const u8, bytes_len: usize, start: usize, length: usize, index: usize) -> NumberAnswer;
+    pub fn pw_nth_set_bit_idx(bytes: *const u8, bytes_len: usize, start: usize, length: usize, n: usize, from: usize) -> PositionAnswer;
+    pub fn pw_nth_set_bit_idx_rev(bytes: *const u8, bytes_len: usize, start: usize, length: usize, n: usize, end: usize) -> PositionAnswer;
     pub fn pw_chunks_new(bytes: *const u8, bytes_len: usize, start: usize, length: usize) -> CursorAnswer;
     pub fn pw_chunks_new_exact(bytes: *const u8, bytes_len: usize, length: usize) -> CursorAnswer;
     pub fn pw_chunks_next(start: usize, length: usize, place: usize, bytes: *const u8, bytes_len: usize) -> StepAnswer;
@@ -53,35 +53,44 @@ unsafe extern "C" {
     pub fn pw_try_new(bytes: *const u8, bytes_len: usize, start: usize, length: usize) -> MaskAnswer;
     pub fn pw_slice(mask: Mask, bytes: *const u8, bytes_len: usize, offset: usize, length: usize) -> MaskAnswer;
     pub fn pw_unset_bits(mask: Mask, bytes: *const u8, bytes_len: usize) -> ZerosAnswer;
-    pub fn pw_eq(lhs: Mask, left: *const u8, left_len: usize, rhs: Mask, right: *const u8, right_len: usize) -> Flag;
-    pub fn pw_num_edges(mask: Mask, bytes: *const u8, bytes_len: usize) -> Number;
-    pub fn pw_num_intersections_with(lhs: Mask, left: *const u8, left_len: usize, rhs: Mask, right: *const u8, right_len: usize) -> Number;
+    pub fn pw_eq(
+        lhs: Mask, lhs_bytes: *const u8, lhs_bytes_len: usize, rhs: Mask, rhs_bytes: *const u8, rhs_bytes_len: usize,
+    ) -> FlagAnswer;
+    pub fn pw_num_edges(mask: Mask, bytes: *const u8, bytes_len: usize) -> NumberAnswer;
+    pub fn pw_num_intersections_with(
+        lhs: Mask, lhs_bytes: *const u8, lhs_bytes_len: usize, rhs: Mask, rhs_bytes: *const u8, rhs_bytes_len: usize,
+    ) -> NumberAnswer;
     pub fn pw_superseding(
         first: Mask, first_bytes: *const u8, first_bytes_len: usize, second: Mask, second_bytes: *const u8, second_bytes_len: usize,
     ) -> PartAnswer;
     pub fn pw_and(
-        lhs: Mask, left: *const u8, left_len: usize, rhs: Mask, right: *const u8, right_len: usize, out: *mut u8, out_len: usize,
+        lhs: Mask, lhs_bytes: *const u8, lhs_bytes_len: usize, rhs: Mask, rhs_bytes: *const u8, rhs_bytes_len: usize, out: *mut u8,
+        out_len: usize,
     ) -> MaskAnswer;
     pub fn pw_and_not(
-        lhs: Mask, left: *const u8, left_len: usize, rhs: Mask, right: *const u8, right_len: usize, out: *mut u8, out_len: usize,
+        lhs: Mask, lhs_bytes: *const u8, lhs_bytes_len: usize, rhs: Mask, rhs_bytes: *const u8, rhs_bytes_len: usize, out: *mut u8,
+        out_len: usize,
     ) -> MaskAnswer;
     pub fn pw_or(
-        lhs: Mask, left: *const u8, left_len: usize, rhs: Mask, right: *const u8, right_len: usize, out: *mut u8, out_len: usize,
+        lhs: Mask, lhs_bytes: *const u8, lhs_bytes_len: usize, rhs: Mask, rhs_bytes: *const u8, rhs_bytes_len: usize, out: *mut u8,
+        out_len: usize,
     ) -> MaskAnswer;
     pub fn pw_or_not(
-        lhs: Mask, left: *const u8, left_len: usize, rhs: Mask, right: *const u8, right_len: usize, out: *mut u8, out_len: usize,
+        lhs: Mask, lhs_bytes: *const u8, lhs_bytes_len: usize, rhs: Mask, rhs_bytes: *const u8, rhs_bytes_len: usize, out: *mut u8,
+        out_len: usize,
     ) -> MaskAnswer;
     pub fn pw_xor(
-        lhs: Mask, left: *const u8, left_len: usize, rhs: Mask, right: *const u8, right_len: usize, out: *mut u8, out_len: usize,
+        lhs: Mask, lhs_bytes: *const u8, lhs_bytes_len: usize, rhs: Mask, rhs_bytes: *const u8, rhs_bytes_len: usize, out: *mut u8,
+        out_len: usize,
     ) -> MaskAnswer;
     pub fn pw_not(mask: Mask, bytes: *const u8, bytes_len: usize, out: *mut u8, out_len: usize) -> MaskAnswer;
     pub fn pw_select(
-        selector: Mask, by: *const u8, by_len: usize, truthy: Mask, yes: *const u8, yes_len: usize, falsy: Mask, no: *const u8,
-        no_len: usize, out: *mut u8, out_len: usize,
+        selector: Mask, selector_bytes: *const u8, selector_bytes_len: usize, truthy: Mask, truthy_bytes: *const u8,
+        truthy_bytes_len: usize, falsy: Mask, falsy_bytes: *const u8, falsy_bytes_len: usize, out: *mut u8, out_len: usize,
     ) -> MaskAnswer;
     pub fn pw_select_constant(
-        selector: Mask, by: *const u8, by_len: usize, truthy: Mask, yes: *const u8, yes_len: usize, flag: bool, out: *mut u8,
-        out_len: usize,
+        selector: Mask, selector_bytes: *const u8, selector_bytes_len: usize, truthy: Mask, truthy_bytes: *const u8,
+        truthy_bytes_len: usize, flag: bool, out: *mut u8, out_len: usize,
     ) -> MaskAnswer;
     pub fn pw_slices_new(mask: Mask, bytes: *const u8, bytes_len: usize) -> CursorAnswer;
     pub fn pw_slices_next(start: usize, length: usize, place: usize, bytes: *const u8, bytes_len: usize) -> StepAnswer;
@@ -98,7 +107,7 @@ unsafe extern "C" {
     pub fn pw_and_not_at(
         first_present: bool, first: Mask, first_bytes: *const u8, first_bytes_len: usize, second_present: bool, second: Mask,
         second_bytes: *const u8, second_bytes_len: usize, index: usize,
-    ) -> Flag;
+    ) -> FlagAnswer;
     pub fn pw_next_and_not(
         first: Mask, first_bytes: *const u8, first_bytes_len: usize, second_present: bool, second: Mask, second_bytes: *const u8,
         second_bytes_len: usize, from: usize,
@@ -106,7 +115,7 @@ unsafe extern "C" {
     pub fn pw_may_reassign(
         permitted: bool, permission: Mask, permission_bytes: *const u8, permission_bytes_len: usize, revoked: bool, revocation: Mask,
         revocation_bytes: *const u8, revocation_bytes_len: usize, truck: usize,
-    ) -> Flag;
+    ) -> FlagAnswer;
     pub fn pw_offer(
         permitted: bool, permission: Mask, permission_bytes: *const u8, permission_bytes_len: usize, revoked: bool, revocation: Mask,
         revocation_bytes: *const u8, revocation_bytes_len: usize, cursor: usize,
@@ -118,9 +127,9 @@ unsafe extern "C" {
     pub fn pw_activity_counts(
         words: *const [u64; 256], counts: *const [u32; 64], place: usize, fill: usize, width: usize, out: *mut [u32; 64],
     ) -> u8;
-    pub fn pw_interface_3() -> u32;
+    pub fn pw_interface_4() -> u32;
 }
 
 /// A library of another version has no such symbol, and does not link.
 #[used]
-static INTERFACE: unsafe extern "C" fn() -> u32 = pw_interface_3;
+static INTERFACE: unsafe extern "C" fn() -> u32 = pw_interface_4;

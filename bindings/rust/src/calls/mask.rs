@@ -81,8 +81,8 @@ pub fn unset_bits(mask: Mask, bytes: &[u8]) -> ZerosAnswer {
 /// assert!(eq(a, &[0x2D], b, &[0x0B]).value);
 /// ```
 #[inline]
-pub fn eq(lhs: Mask, left: &[u8], rhs: Mask, right: &[u8]) -> Flag {
-    unsafe { exports::pw_eq(lhs, left.as_ptr(), left.len(), rhs, right.as_ptr(), right.len()) }
+pub fn eq(lhs: Mask, lhs_bytes: &[u8], rhs: Mask, rhs_bytes: &[u8]) -> FlagAnswer {
+    unsafe { exports::pw_eq(lhs, lhs_bytes.as_ptr(), lhs_bytes.len(), rhs, rhs_bytes.as_ptr(), rhs_bytes.len()) }
 }
 
 /// Counts the flags of a mask that differ from the next flag. Refuses with 1, 2, 3; every other field is then 0.
@@ -93,7 +93,7 @@ pub fn eq(lhs: Mask, left: &[u8], rhs: Mask, right: &[u8]) -> Flag {
 /// assert_eq!(num_edges(try_new(&[0x2D], 0, 6).mask, &[0x2D]).value, 4);
 /// ```
 #[inline]
-pub fn num_edges(mask: Mask, bytes: &[u8]) -> Number {
+pub fn num_edges(mask: Mask, bytes: &[u8]) -> NumberAnswer {
     unsafe { exports::pw_num_edges(mask, bytes.as_ptr(), bytes.len()) }
 }
 
@@ -106,6 +106,6 @@ pub fn num_edges(mask: Mask, bytes: &[u8]) -> Number {
 /// assert_eq!(num_intersections_with(mask, &[0x2D], mask, &[0x0F]).value, 3);
 /// ```
 #[inline]
-pub fn num_intersections_with(lhs: Mask, left: &[u8], rhs: Mask, right: &[u8]) -> Number {
-    unsafe { exports::pw_num_intersections_with(lhs, left.as_ptr(), left.len(), rhs, right.as_ptr(), right.len()) }
+pub fn num_intersections_with(lhs: Mask, lhs_bytes: &[u8], rhs: Mask, rhs_bytes: &[u8]) -> NumberAnswer {
+    unsafe { exports::pw_num_intersections_with(lhs, lhs_bytes.as_ptr(), lhs_bytes.len(), rhs, rhs_bytes.as_ptr(), rhs_bytes.len()) }
 }

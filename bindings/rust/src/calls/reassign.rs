@@ -23,7 +23,7 @@ use super::records::*;
 #[inline]
 pub fn may_reassign(
     permitted: bool, permission: Mask, permission_bytes: &[u8], revoked: bool, revocation: Mask, revocation_bytes: &[u8], truck: usize,
-) -> Flag {
+) -> FlagAnswer {
     unsafe {
         exports::pw_may_reassign(
             permitted,

@@ -70,13 +70,13 @@ pub struct Cursor {
 /// A number or a refusal.
 ///
 /// ```
-/// use poruwhina::calls::{get_u32, Number};
+/// use poruwhina::calls::{get_u32, NumberAnswer};
 ///
-/// assert_eq!(get_u32(&[0x2D], 0, 9, 0), Number { refusal: 2, value: 0 });
+/// assert_eq!(get_u32(&[0x2D], 0, 9, 0), NumberAnswer { refusal: 2, value: 0 });
 /// ```
 #[repr(C)]
 #[derive(Clone, Copy, Debug, PartialEq, Eq, Default)]
-pub struct Number {
+pub struct NumberAnswer {
     /// The number of the first check that failed, or 0.
     pub refusal: u8,
     /// The answer.
@@ -86,13 +86,13 @@ pub struct Number {
 /// A flag or a refusal.
 ///
 /// ```
-/// use poruwhina::calls::{bitmap_new, eq, Flag};
+/// use poruwhina::calls::{bitmap_new, eq, FlagAnswer};
 ///
-/// assert_eq!(eq(bitmap_new(), &[], bitmap_new(), &[]), Flag { refusal: 0, value: true });
+/// assert_eq!(eq(bitmap_new(), &[], bitmap_new(), &[]), FlagAnswer { refusal: 0, value: true });
 /// ```
 #[repr(C)]
 #[derive(Clone, Copy, Debug, PartialEq, Eq, Default)]
-pub struct Flag {
+pub struct FlagAnswer {
     /// The number of the first check that failed, or 0.
     pub refusal: u8,
     /// The answer.
@@ -102,13 +102,13 @@ pub struct Flag {
 /// A position, none, or a refusal.
 ///
 /// ```
-/// use poruwhina::calls::{nth_set_bit_idx, Position};
+/// use poruwhina::calls::{nth_set_bit_idx, PositionAnswer};
 ///
-/// assert_eq!(nth_set_bit_idx(&[0x20], 0, 8, 0, 0), Position { refusal: 0, found: true, value: 5 });
+/// assert_eq!(nth_set_bit_idx(&[0x20], 0, 8, 0, 0), PositionAnswer { refusal: 0, found: true, value: 5 });
 /// ```
 #[repr(C)]
 #[derive(Clone, Copy, Debug, PartialEq, Eq, Default)]
-pub struct Position {
+pub struct PositionAnswer {
     /// The number of the first check that failed, or 0.
     pub refusal: u8,
     /// Whether there is such a position.

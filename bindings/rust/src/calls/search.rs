@@ -15,7 +15,7 @@ use super::records::*;
 /// assert!(!nth_set_bit_idx(&[0x2D], 0, 6, 4, 0).found);
 /// ```
 #[inline]
-pub fn nth_set_bit_idx(bytes: &[u8], start: usize, length: usize, n: usize, from: usize) -> Position {
+pub fn nth_set_bit_idx(bytes: &[u8], start: usize, length: usize, n: usize, from: usize) -> PositionAnswer {
     unsafe { exports::pw_nth_set_bit_idx(bytes.as_ptr(), bytes.len(), start, length, n, from) }
 }
 
@@ -30,6 +30,6 @@ pub fn nth_set_bit_idx(bytes: &[u8], start: usize, length: usize, n: usize, from
 /// assert_eq!(nth_set_bit_idx_rev(&[0x2D], 0, 6, 3, 900).value, 0);
 /// ```
 #[inline]
-pub fn nth_set_bit_idx_rev(bytes: &[u8], start: usize, length: usize, n: usize, end: usize) -> Position {
+pub fn nth_set_bit_idx_rev(bytes: &[u8], start: usize, length: usize, n: usize, end: usize) -> PositionAnswer {
     unsafe { exports::pw_nth_set_bit_idx_rev(bytes.as_ptr(), bytes.len(), start, length, n, end) }
 }

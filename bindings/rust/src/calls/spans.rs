@@ -29,7 +29,7 @@ pub fn aligned_new(bytes: &[u8], start: usize, length: usize, address: usize) ->
 /// assert_eq!(poruwhina::calls::count_zeros(&[0x2D], 2, 7, 0).refusal, 2);
 /// ```
 #[inline]
-pub fn count_zeros(bytes: &[u8], start: usize, length: usize, address: usize) -> Number {
+pub fn count_zeros(bytes: &[u8], start: usize, length: usize, address: usize) -> NumberAnswer {
     unsafe { exports::pw_count_zeros(bytes.as_ptr(), bytes.len(), start, length, address) }
 }
 
@@ -42,7 +42,7 @@ pub fn count_zeros(bytes: &[u8], start: usize, length: usize, address: usize) ->
 /// assert_eq!(poruwhina::calls::leading_zeros(&[0x2C], 0, 6, 8).refusal, 8);
 /// ```
 #[inline]
-pub fn leading_zeros(bytes: &[u8], start: usize, length: usize, address: usize) -> Number {
+pub fn leading_zeros(bytes: &[u8], start: usize, length: usize, address: usize) -> NumberAnswer {
     unsafe { exports::pw_leading_zeros(bytes.as_ptr(), bytes.len(), start, length, address) }
 }
 
@@ -54,7 +54,7 @@ pub fn leading_zeros(bytes: &[u8], start: usize, length: usize, address: usize) 
 /// assert_eq!(poruwhina::calls::leading_ones(&[0x2D], 2, 4, 0).value, 2);
 /// ```
 #[inline]
-pub fn leading_ones(bytes: &[u8], start: usize, length: usize, address: usize) -> Number {
+pub fn leading_ones(bytes: &[u8], start: usize, length: usize, address: usize) -> NumberAnswer {
     unsafe { exports::pw_leading_ones(bytes.as_ptr(), bytes.len(), start, length, address) }
 }
 
@@ -66,7 +66,7 @@ pub fn leading_ones(bytes: &[u8], start: usize, length: usize, address: usize) -
 /// assert_eq!(poruwhina::calls::trailing_zeros(&[0x2D], 0, 8, 0).value, 2);
 /// ```
 #[inline]
-pub fn trailing_zeros(bytes: &[u8], start: usize, length: usize, address: usize) -> Number {
+pub fn trailing_zeros(bytes: &[u8], start: usize, length: usize, address: usize) -> NumberAnswer {
     unsafe { exports::pw_trailing_zeros(bytes.as_ptr(), bytes.len(), start, length, address) }
 }
 
@@ -78,7 +78,7 @@ pub fn trailing_zeros(bytes: &[u8], start: usize, length: usize, address: usize)
 /// assert_eq!(poruwhina::calls::trailing_ones(&[0x2D], 0, 4, 0).value, 2);
 /// ```
 #[inline]
-pub fn trailing_ones(bytes: &[u8], start: usize, length: usize, address: usize) -> Number {
+pub fn trailing_ones(bytes: &[u8], start: usize, length: usize, address: usize) -> NumberAnswer {
     unsafe { exports::pw_trailing_ones(bytes.as_ptr(), bytes.len(), start, length, address) }
 }
 
@@ -102,6 +102,6 @@ pub fn split_at_unchecked(bytes: &[u8], start: usize, length: usize, at: usize) 
 /// assert_eq!(poruwhina::calls::get_u32(&[0x2D], 0, 6, 2).value, 0x0B);
 /// ```
 #[inline]
-pub fn get_u32(bytes: &[u8], start: usize, length: usize, index: usize) -> Number {
+pub fn get_u32(bytes: &[u8], start: usize, length: usize, index: usize) -> NumberAnswer {
     unsafe { exports::pw_get_u32(bytes.as_ptr(), bytes.len(), start, length, index) }
 }

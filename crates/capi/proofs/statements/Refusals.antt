@@ -2,7 +2,7 @@
 --
 -- There is a field for each export that returns a refusal's number or 0, stated with the definition that its contract cites; the numbers
 -- listed are those that the header has for it. Exports that are not here return no such number: `pw_load_padded_le_u64`,
--- `pw_merge_reversed`, `pw_builder_new`, `pw_bitmap_new` and `pw_interface_3`.
+-- `pw_merge_reversed`, `pw_builder_new`, `pw_bitmap_new` and `pw_interface_4`.
 use Rattle.std.specs.Prelude.{ℕ, ◌≡◌, Bool, true, false, List, [], ◌∷◌, length}
 use Rattle.words.specs.Ends.{leading, trailing}
 use Rattle.words.specs.Flags.{bits}

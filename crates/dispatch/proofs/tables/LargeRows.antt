@@ -5,7 +5,7 @@
 -- `proofs/computed/LargeRows.antt` proves that the columns are equal.
 use Rattle.std.specs.Prelude.{ℕ, Bool, true, false, List, [], ◌∷◌, replicate, Option, Some, None, Err}
 use Rattle.masks.specs.declared.bitmap.Bitmap.{Bitmap}
-use Rattle.masks.specs.declared.refusal.Refusal.TheVariants.{Outside}
+use Rattle.masks.specs.declared.refusal.Refusal.TheVariants.{OutsideMask}
 use Rattle.masks.specs.equations.Answer.{Answer, given, refused}
 use Rattle.masks.specs.Mask.{mask_of}
 use Rattle.masks.proofs.tables.EdgeRows.{SplitRow}
@@ -85,7 +85,7 @@ cursor_rows =
     ∷ most_windows (of_ones 64) ∷ most_windows (of_ones 130) ∷ most_windows (of_ones 4194304) ∷ [])
     (1 ∷ 2 ∷ 2 ∷ 3 ∷ 3 ∷ 6 ∷ 131073 ∷ [])
     -- a refusal has read no window
-    ∷ numbers (windows_in (Err (record { refusal = Outside; cursor = 9 })) ∷ []) (0 ∷ [])
+    ∷ numbers (windows_in (Err (record { refusal = OutsideMask; cursor = 9 })) ∷ []) (0 ∷ [])
     ∷ []
 
 pub record LargeHolds : Type 0 where

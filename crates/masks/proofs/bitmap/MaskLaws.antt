@@ -1,7 +1,7 @@
 -- The mask's checks, its count, and the count of a slice.
 use Rattle.std.proofs.lemmas.Bool.{cases_lt}
 use Rattle.masks.specs.declared.refusal.Refusal.{Refusal}
-use Rattle.masks.specs.declared.refusal.Refusal.TheVariants.{WrongRecount}
+use Rattle.masks.specs.declared.refusal.Refusal.TheVariants.{CountNotOfSlice}
 use Rattle.std.specs.Prelude.{Option, Some, None, Result, Ok, Err}
 use mathlib.Core.Path.{◌≡◌, refl, sym, ap, ◌∙◌, subst}
 use mathlib.Core.Bool.{Bool, true, false, cond, ◌&&◌}
@@ -94,13 +94,13 @@ cut-known old n cut x z u r k t e h =
     e ∙ ap (λ (y : ℕ). recounted_of z y n) h
     ∙ sym (ap (cut_of old n cut) k
     ∙ ap (λ (b : Bool). cond (cond b (leb cut z && leb (z - cut) n) true) (Ok (cond b (Some (z - cut)) (kept_count z old n)))
-    (Err WrongRecount)) t)
+    (Err CountNotOfSlice)) t)
 
-pub below-cut : (z cut n : ℕ) → z < cut → (Err WrongRecount) ≡ recounted_of z cut n
+pub below-cut : (z cut n : ℕ) → z < cut → (Err CountNotOfSlice) ≡ recounted_of z cut n
 unfolding recounted_of
 below-cut z cut n h = rw (lt-leb cut z h)
 
-pub above-length : (z cut n : ℕ) → cut ≤ z → n < z - cut → (Err WrongRecount) ≡ recounted_of z cut n
+pub above-length : (z cut n : ℕ) → cut ≤ z → n < z - cut → (Err CountNotOfSlice) ≡ recounted_of z cut n
 unfolding recounted_of
 above-length z cut n h k = rw (le-leb cut z h, lt-leb (z - cut) n k)
 
@@ -109,19 +109,19 @@ unfolding recounted_of
 within_both z cut n h k = rw (le-leb cut z h, le-leb (z - cut) n k)
 
 -- whether check 7 passes, and the new count, by the value of `cut_of`
-pub cut_wrong : (old n cut : ℕ) (u : Option ℕ) → (Err WrongRecount) ≡ cut_of old n cut u → recount_valid old n cut u ≡ false
+pub cut_wrong : (old n cut : ℕ) (u : Option ℕ) → (Err CountNotOfSlice) ≡ cut_of old n cut u → recount_valid old n cut u ≡ false
 cut_wrong old n cut u e = go (recount_valid old n cut u) e
   where
-    go : (t : Bool) → (Err WrongRecount) ≡ cond t (Ok (sliced_count old n cut u)) (Err WrongRecount) → t ≡ false
+    go : (t : Bool) → (Err CountNotOfSlice) ≡ cond t (Ok (sliced_count old n cut u)) (Err CountNotOfSlice) → t ≡ false
     go true e = absurd (let z : ◌≡◌ {A = ℕ} 0 1 = cc in omega arith)
     go false e = refl
 
 pub cut-error : (old n cut : ℕ) (u : Option ℕ) (e : Refusal) → cut_of old n cut u ≡ Err e
-    → (Err WrongRecount ≡ cut_of old n cut u) × (e ≡ WrongRecount)
+    → (Err CountNotOfSlice ≡ cut_of old n cut u) × (e ≡ CountNotOfSlice)
 cut-error old n cut u e h = go (recount_valid old n cut u) h
   where
-    go : (t : Bool) → cond t (Ok (sliced_count old n cut u)) (Err WrongRecount) ≡ Err e
-        → (Err WrongRecount ≡ cond t (Ok (sliced_count old n cut u)) (Err WrongRecount)) × (e ≡ WrongRecount)
+    go : (t : Bool) → cond t (Ok (sliced_count old n cut u)) (Err CountNotOfSlice) ≡ Err e
+        → (Err CountNotOfSlice ≡ cond t (Ok (sliced_count old n cut u)) (Err CountNotOfSlice)) × (e ≡ CountNotOfSlice)
     go true k = cc
     go false k = (refl, cc)
 
@@ -129,7 +129,7 @@ pub cut_right : (old n cut : ℕ) (u v : Option ℕ) → Ok v ≡ cut_of old n c
     → (recount_valid old n cut u ≡ true) × (v ≡ sliced_count old n cut u)
 cut_right old n cut u v e = go (recount_valid old n cut u) e
   where
-    go : (t : Bool) → Ok v ≡ cond t (Ok (sliced_count old n cut u)) (Err WrongRecount) → (t ≡ true) × (v ≡ sliced_count old n cut u)
+    go : (t : Bool) → Ok v ≡ cond t (Ok (sliced_count old n cut u)) (Err CountNotOfSlice) → (t ≡ true) × (v ≡ sliced_count old n cut u)
     go true e = (refl, cc)
     go false e = absurd (let z : ◌≡◌ {A = ℕ} 0 1 = cc in omega arith)
 
@@ -147,7 +147,7 @@ module _ (m : Bitmap) (bytes : List ℕ) (offset n k : ℕ) (piece : k ≡ first
       first-number (piece_checks m bytes offset n) k 6 (recount_valid m.length n (cut_zeros m bytes offset n) m.unset)
       (piece-before m bytes offset n) piece h
 
-  pub slice_wrong : k ≡ 0 → (Err WrongRecount) ≡ cut_of m.length n (cut_zeros m bytes offset n) m.unset
+  pub slice_wrong : k ≡ 0 → (Err CountNotOfSlice) ≡ cut_of m.length n (cut_zeros m bytes offset n) m.unset
       → 7 ≡ first_failed (slice_checks m bytes offset n)
   unfolding slice_checks
   slice_wrong z e =

@@ -13,8 +13,8 @@ use Rattle.masks.proofs.checks.CheckLaws.{is-kept, is-refused}
 use Rattle.masks.specs.Checks.{earlier, rank, place_in}
 use Rattle.masks.specs.Refusal.{failure_back, failure_of, number}
 use Rattle.masks.specs.declared.refusal.Refusal.{Refusal}
-use Rattle.masks.specs.declared.refusal.Refusal.TheVariants.{OverLimit, PastBytes, FalseCount, UnequalLists, ImpossibleBuilder}
-use Rattle.masks.specs.declared.refusal.Refusal.TheVariants.{UnequalLengths, Outside, WrongRecount, WrongAddress, ShortOutput}
+use Rattle.masks.specs.declared.refusal.Refusal.TheVariants.{AboveLimit, OutsideBytes, FalseCount, SerialConflict, ImpossibleBuilder}
+use Rattle.masks.specs.declared.refusal.Refusal.TheVariants.{UnequalLengths, OutsideMask, CountNotOfSlice, AddressRemainder, OutputTooSmall}
 use Rattle.masks.specs.declared.refusal.Refused.{Refused}
 use Rattle.masks.specs.contracts.refusal.RefusalOrd.TheImpl.{cmp-value}
 
@@ -22,38 +22,38 @@ use Rattle.masks.specs.contracts.refusal.RefusalOrd.TheImpl.{cmp-value}
 
 abbrev refusals : List Refusal
 refusals =
-    OverLimit
-    ∷ PastBytes
+    AboveLimit
+    ∷ OutsideBytes
     ∷ FalseCount
-    ∷ UnequalLists
+    ∷ SerialConflict
     ∷ ImpossibleBuilder
     ∷ UnequalLengths
-    ∷ Outside
-    ∷ WrongRecount
-    ∷ WrongAddress
-    ∷ ShortOutput
+    ∷ OutsideMask
+    ∷ CountNotOfSlice
+    ∷ AddressRemainder
+    ∷ OutputTooSmall
     ∷ []
 
 abbrev all : (Refusal → Bool) → List Refusal → Bool
 all p [] = true
 all p (x ∷ xs) = p x && all p xs
 
-at : (p : Refusal → Bool) (l : List Refusal) → all p l ≡ true → (k : ℕ) → k < length l → p (get_or l k OverLimit) ≡ true
+at : (p : Refusal → Bool) (l : List Refusal) → all p l ≡ true → (k : ℕ) → k < length l → p (get_or l k AboveLimit) ≡ true
 at p [] e k h = absurd (omega (arith, h))
 at p (x ∷ xs) e zero h = (and_parts _ _ e).0
 at p (x ∷ xs) e (suc k) h = at p xs (and_parts _ _ e).1 k (omega (arith, h))
 
 of-each : (p : Refusal → Bool) → all p refusals ≡ true → (r : Refusal) → p r ≡ true
-of-each p e OverLimit = at p refusals e 0 (omega arith)
-of-each p e PastBytes = at p refusals e 1 (omega arith)
+of-each p e AboveLimit = at p refusals e 0 (omega arith)
+of-each p e OutsideBytes = at p refusals e 1 (omega arith)
 of-each p e FalseCount = at p refusals e 2 (omega arith)
-of-each p e UnequalLists = at p refusals e 3 (omega arith)
+of-each p e SerialConflict = at p refusals e 3 (omega arith)
 of-each p e ImpossibleBuilder = at p refusals e 4 (omega arith)
 of-each p e UnequalLengths = at p refusals e 5 (omega arith)
-of-each p e Outside = at p refusals e 6 (omega arith)
-of-each p e WrongRecount = at p refusals e 7 (omega arith)
-of-each p e WrongAddress = at p refusals e 8 (omega arith)
-of-each p e ShortOutput = at p refusals e 9 (omega arith)
+of-each p e OutsideMask = at p refusals e 6 (omega arith)
+of-each p e CountNotOfSlice = at p refusals e 7 (omega arith)
+of-each p e AddressRemainder = at p refusals e 8 (omega arith)
+of-each p e OutputTooSmall = at p refusals e 9 (omega arith)
 
 -- refusals are declared in the order of their numbers' ranks
 pub least-number : (x y : Refusal) → number (ord_min cmp-value.it x y) ≡ earlier (number x) (number y)
@@ -64,16 +64,16 @@ least-number x y =
 
 -- no refusal has the number 0, which means that no check failed
 pub number-ne0 : (r : Refusal) → number r ≡ 0 → ⊥
-number-ne0 OverLimit e = omega arith
-number-ne0 PastBytes e = omega arith
+number-ne0 AboveLimit e = omega arith
+number-ne0 OutsideBytes e = omega arith
 number-ne0 FalseCount e = omega arith
-number-ne0 UnequalLists e = omega arith
+number-ne0 SerialConflict e = omega arith
 number-ne0 ImpossibleBuilder e = omega arith
 number-ne0 UnequalLengths e = omega arith
-number-ne0 Outside e = omega arith
-number-ne0 WrongRecount e = omega arith
-number-ne0 WrongAddress e = omega arith
-number-ne0 ShortOutput e = omega arith
+number-ne0 OutsideMask e = omega arith
+number-ne0 CountNotOfSlice e = omega arith
+number-ne0 AddressRemainder e = omega arith
+number-ne0 OutputTooSmall e = omega arith
 
 -- ---- the early exit of a `?` in calls whose refusal carries no record
 

@@ -11,21 +11,21 @@ use Rattle.masks.specs.equations.Cursor.{answer_step}
 use Rattle.masks.specs.Refusal.{failure_back, failure_of, number}
 use Rattle.masks.specs.declared.builder.BitmapBuilder.{BitmapBuilder}
 use Rattle.masks.specs.declared.refusal.Refusal.{Refusal}
-use Rattle.masks.specs.declared.refusal.Refusal.TheVariants.{OverLimit, PastBytes, FalseCount, UnequalLists, ImpossibleBuilder}
-use Rattle.masks.specs.declared.refusal.Refusal.TheVariants.{UnequalLengths, Outside, WrongRecount, WrongAddress, ShortOutput}
+use Rattle.masks.specs.declared.refusal.Refusal.TheVariants.{AboveLimit, OutsideBytes, FalseCount, SerialConflict, ImpossibleBuilder}
+use Rattle.masks.specs.declared.refusal.Refusal.TheVariants.{UnequalLengths, OutsideMask, CountNotOfSlice, AddressRemainder, OutputTooSmall}
 
 -- the numbers of the refusals: those of the reference, and 14 of paper 02
 pub record NumbersPlain : Type 0 where
-  pub over_limit : number OverLimit ≡ 1
-  pub past_bytes : number PastBytes ≡ 2
+  pub over_limit : number AboveLimit ≡ 1
+  pub past_bytes : number OutsideBytes ≡ 2
   pub false_count : number FalseCount ≡ 3
   pub impossible_builder : number ImpossibleBuilder ≡ 4
   pub unequal_lengths : number UnequalLengths ≡ 5
-  pub outside : number Outside ≡ 6
-  pub wrong_recount : number WrongRecount ≡ 7
-  pub wrong_address : number WrongAddress ≡ 8
-  pub short_output : number ShortOutput ≡ 9
-  pub unequal_lists : number UnequalLists ≡ 14
+  pub outside : number OutsideMask ≡ 6
+  pub wrong_recount : number CountNotOfSlice ≡ 7
+  pub wrong_address : number AddressRemainder ≡ 8
+  pub short_output : number OutputTooSmall ≡ 9
+  pub unequal_lists : number SerialConflict ≡ 14
 
 pub record AnswersPlain : Type 1 where
   -- a call that refuses with only a number

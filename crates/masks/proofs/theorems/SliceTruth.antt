@@ -1,7 +1,7 @@
 -- A slice of a mask with a true count has a true count. No slice is refused with 7: check 7 may fail for a false count, but then check 3,
 -- which comes before it, fails too. A slice of the whole mask changes nothing. The count of a combination is true of the flags that it
 -- writes.
-use Rattle.masks.specs.declared.refusal.Refusal.TheVariants.{WrongRecount}
+use Rattle.masks.specs.declared.refusal.Refusal.TheVariants.{CountNotOfSlice}
 use Rattle.std.specs.Prelude.{Option, Some, None, Ok, Err}
 use mathlib.Core.Path.{◌≡◌, refl, sym, ap, ap₂, ◌∙◌}
 use mathlib.Core.Bool.{Bool, true, false, not, cond, ◌&&◌}
@@ -217,7 +217,7 @@ slice-whole m bytes e =
     let s : m.start + 0 ≡ m.start = omega arith in
     let right = slice-right m bytes 0 m.length 0 (whole-allowed m bytes e) m.unset refl
     (sym (ap (λ (x : ℕ). cut_of m.length m.length x m.unset) none
-    ∙ ap₂ (λ (b : Bool) (u : Option ℕ). cond b (Ok u) (Err WrongRecount)) known.1 known.0)) in
+    ∙ ap₂ (λ (b : Bool) (u : Option ℕ). cond b (Ok u) (Err CountNotOfSlice)) known.1 known.0)) in
     sym (ap given right.1 ∙ is-given 0 (first_failed (slice_checks m bytes 0 m.length)) m (sliced_mask m bytes 0 m.length) right.0 refl)
     ∙ ap (λ (x : ℕ). given (mask_under m.serial x m.length m.unset)) s
 
