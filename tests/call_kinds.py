@@ -75,7 +75,7 @@ def has_records(call):
 
 def specs(crate):
     """Returns the definitions of a crate by name, each with its file and its text."""
-    return {name: (path, text) for path in files(f"crates/{crate}/specs/*.antt")
+    return {name: (path, text) for path in files(f"crates/{crate}/specs/**/*.antt")
             for name, text in calls_page.parts(path.removeprefix("crates/")).items()}
 
 

@@ -23,6 +23,10 @@ CRATES = ("words", "activity", "masks", "dispatch", "report")
 TOTAL = re.compile(r"[\d,]+(?= lines of definitions\s+and\s+contracts)")
 NAME = r"[^\W\d][\w'-]*"
 SAID_IN = ("README.md", os.path.join("docs", "CALLS.md"), os.path.join("docs", "TRUST.md"))
+EXPORTS = "capi/src"
+# The lines of a second sum, which a reader of the exports believes in addition, and the pages that state it.
+MORE = re.compile(r"[\d,]+(?= lines of equations\s+and\s+conversions)")
+MORE_IN = (os.path.join("docs", "CALLS.md"), os.path.join("docs", "TRUST.md"))
 PLAIN = {"bit_at", "flag_at"}  # the sentence on Arrow's numbering, which the definitions of words/specs/Flags.antt are proved to say
 RECORDS = "*/src"  # the row of the records and enums
 CALL = re.compile(r"^`([\w:]+)(?:\(.*\))?`$")
@@ -41,10 +45,10 @@ def beside(crate, pattern):
 
 def definitions():
     """Returns the files of definitions, of statements and of tables, without the lists of modules."""
-    folders = ("specs", "proofs/statements", "proofs/tables")
+    folders = ("specs", "specs/equations", "proofs/statements", "proofs/tables")
     found = [path for folder in folders for path in glob.glob(os.path.join(ROOT, "crates", "*", folder, "*.antt"))]
     paths = sorted(os.path.relpath(path, os.path.join(ROOT, "crates")) for path in found)
-    return [path for path in paths if not path.endswith("/Lib.antt")]
+    return [path for path in paths if not path.endswith(("/Lib.antt", "/equations.antt"))]
 
 
 # ---- the functions of src/*.rt
@@ -159,7 +163,8 @@ def impls(crate):
 
 def uses(text):
     """Returns the files of definitions that a source or such a file uses, with the names taken from each."""
-    found = re.findall(r"use Rattle\.(\w+)\.specs\.([A-Z]\w*)\.\{([^}]*)\}", text)
+    found = re.findall(r"use Rattle\.(\w+)\.specs\.((?:equations\.)?[A-Z]\w*)\.\{([^}]*)\}", text)
+    found = [(crate, name.replace(".", "/"), names) for crate, name, names in found]
     files = [(f"{crate}/specs/{name}.antt", {n.split(" as ")[-1].strip() for n in names.split(",")}) for crate, name, names in found]
     return [(file, names) for file, names in files if os.path.isfile(os.path.join(ROOT, "crates", file))]
 
@@ -324,15 +329,26 @@ def facts():
 
 def size_of(path):
     """Counts the lines of a file, without imports and empty lines; for a crate's src, the clauses of its public functions and impls; for
-    RECORDS, the lines of the records and enums that are cited."""
+    RECORDS, the lines of the records and enums that are cited; for EXPORTS, the clauses of the exports and the lines of their records."""
     if path == RECORDS:
         return str(sum(text.count("\n") + 1 for text in records(reached())[0].values()))
+    if path == EXPORTS:
+        return str(sum(text.count("ensures") + text.count("\n") + 1 for text in exported()))
     if path.endswith("/src"):
         crate = path.split("/")[0]
         return str(sum(clauses for _, _, clauses in functions(crate).values()) + len(impls(crate)))
     if not os.path.isfile(os.path.join(ROOT, "crates", path)):
         return "no such file"
     return str(sum(1 for line in read("crates", path).split("\n") if line and not re.match(r"(unfoldable )?(pub )?use ", line)))
+
+
+def exported():
+    """Yields the records of the exports, from the keyword to the closing brace, and one line with the clauses of all exports."""
+    texts = [source(path) for path in sorted(glob.glob(os.path.join(ROOT, "crates", "capi", "src", "*.rt")))]
+    for text in texts:
+        yield from (found[0] for found in re.finditer(r"(?m)^pub struct \w+ \{.*?^\}", text, re.S))
+    heads = [head_of(text, found.end()) for text in texts for found in re.finditer(r'\bpub extern "C" fn ', text)]
+    yield " ".join("ensures" for head in heads for _ in promised(head)).replace("\n", " ")
 
 
 def cells_of(line):
@@ -381,25 +397,31 @@ def main():
     first = "\n".join(old).split("| file | lines | what |")[1].split("\n\n")[0]
     believed = set(re.findall(r"`(\S+\.antt)`", first))
     total = f"{sum(int(size_of(path)) for path in re.findall(r'(?m)^. `(.*?)`', first)):,}"
+    second = "\n".join(old).split("lines of equations and conversions")[1].split("| file | lines | what |")[1].split("\n\n")[0]
+    besides = re.findall(r"(?m)^. `(.*?)`", second)
+    more = f"{sum(int(size_of(path)) for path in besides):,}"
+    wanted = {path for path in definitions() if "/specs/equations/" in path or path.startswith("capi/specs/")} | {EXPORTS}
+    complaints += [f"{path}: in the equations and conversions or in their table, not in both" for path in sorted(wanted ^ set(besides))]
     complaints += [f"{path}: in the contracts or in the first table, not in both" for path in sorted(believed ^ reached())]
     complaints += [f"{path} is not named" for path in definitions() if f"`{path}`" not in "\n".join(old)]
     complaints += [f"{seen.count(name)} rows for {name}" for name in sorted(set(seen)) if seen.count(name) > 1]
     complaints += unreached(believed) + records(believed)[1]
     complaints += [] if f"`{RECORDS}`" in first else [f"the first table has no row {RECORDS}"]
-    for page in SAID_IN:
-        said = TOTAL.findall(read(page))
-        if "--write" not in sys.argv and said != [total]:
-            complaints.append(f"{page}: the lines of definitions and contracts are {total}, and it says {' '.join(said) or 'nothing'}")
+    sums = [(page, TOTAL, total) for page in SAID_IN] + [(page, MORE, more) for page in MORE_IN]
+    for page, pattern, number in sums:
+        said = pattern.findall(read(page))
+        if "--write" not in sys.argv and said != [number]:
+            complaints.append(f"{page}: a sum of lines is {number}, and it says {' '.join(said) or 'nothing'}")
     if "--write" in sys.argv:
         with open(PAGE, "w", encoding="utf-8") as file:
             file.write("\n".join(out))
-        for page in SAID_IN:
-            text = TOTAL.sub(total, read(page))
+        for page, pattern, number in sums:
+            text = pattern.sub(number, read(page))
             with open(os.path.join(ROOT, page), "w", encoding="utf-8") as file:
                 file.write(text)
     else:
         complaints += [f"line {k}: is   {a}\n{' ' * 8}wants {b}" for k, (a, b) in enumerate(zip(old, out), 1) if a != b]
-    print("\n".join(complaints + [f"{len(rows)} public functions, {total} lines to believe, {len(complaints)} complaints"]))
+    print("\n".join(complaints + [f"{len(rows)} public functions, {total} lines to believe, {more} more for exports, {len(complaints)} complaints"]))
     return 1 if complaints else 0
 
 

@@ -60,7 +60,7 @@ EDITS = (
     ),
     (
         "histories_ties.py",
-        "crates/masks/specs/Appends.antt",
+        "crates/masks/specs/equations/Appends.antt",
         "  extend_opt_gather :",
         "  extend_reversed : List ℕ → Append\n  extend_opt_gather :",
         "the constructors of Append are",

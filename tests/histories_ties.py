@@ -6,7 +6,7 @@ The theorem on histories is about definitions: a step of histories/proofs/statem
 (`try_new_of`, `append_answer` and `append_bytes`, `freeze_of`, `into_opt_validity_of`, `freeze_bytes`). It is about the code if the
 contract of the call has the same definition of the same arguments. Calls that make a mask from masks are tied to their rows by functions
 (histories/src/rows.rt); this script is for the others: `try_new`, `freeze`, `into_opt_validity`, and for each constructor of `Append`
-(masks/specs/Appends.antt) the calls of APPENDS, whose arguments are those of the constructor in the same order. A call is tied by
+(masks/specs/equations/Appends.antt) the calls of APPENDS, whose arguments are those of the constructor in the same order. A call is tied by
 
     itself      its `ensures` are the equations: its result read as an answer, and `buf.new`, with the definitions of the step
     its export  the `ensures` of pw_NAME in capi/src are these equations, and pw_NAME calls it; or
@@ -64,13 +64,13 @@ def steps():
 
 def rows(name):
     """Returns the rows of a table of Appends.antt: by constructor its variables and the right side."""
-    text = definitions("masks", "specs", "Appends.antt")
+    text = definitions("masks", "specs", "equations", "Appends.antt")
     found = re.findall(rf"(?m)^{name} \((\w+)([\w ]*)\)(?: b buf)? = (.*)$", text)
     return {constructor: (variables.split(), right) for constructor, variables, right in found}
 
 
 def constructors():
-    data = definitions("masks", "specs", "Appends.antt").split("pub data Append ")[1].split("\n\n")[0]
+    data = definitions("masks", "specs", "equations", "Appends.antt").split("pub data Append ")[1].split("\n\n")[0]
     return re.findall(r"(?m)^  (\w+) :", data)
 
 

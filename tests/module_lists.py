@@ -21,6 +21,8 @@ def lists(crate):
     if (src / "lib.rt").exists():
         yield src / "lib.rt", sources
     yield specs / "Lib.antt", [path for path in specs.glob("*.antt") if path.stem != "Lib"]
+    if (specs / "equations").is_dir():
+        yield specs / "equations.antt", list((specs / "equations").glob("*.antt"))
     folders = [path for path in proofs.glob("*") if path.is_dir()]
     for folder in folders:
         yield folder.with_suffix(".antt"), list(folder.glob("*.antt"))

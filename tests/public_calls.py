@@ -45,13 +45,13 @@ def crates():
 @functools.cache
 def defined(crate):
     """Returns the names that the specs of a crate define."""
-    return frozenset(name for path in files(f"crates/{crate}/specs/*.antt") for name in calls_page.parts(path.removeprefix("crates/")))
+    return frozenset(name for path in files(f"crates/{crate}/specs/**/*.antt") for name in calls_page.parts(path.removeprefix("crates/")))
 
 
 @functools.cache
 def imported(path, crate):
     """Returns the names that a source takes from the specs of its crate."""
-    lists = re.findall(rf"ghost use Rattle\.{crate}\.specs\.[A-Z]\w*\.\{{([^}}]*)\}}", calls_page.source(path))
+    lists = re.findall(rf"ghost use Rattle\.{crate}\.specs\.(?:equations\.)?[A-Z]\w*\.\{{([^}}]*)\}}", calls_page.source(path))
     return frozenset(name.split(" as ")[0].strip() for names in lists for name in names.split(","))
 
 

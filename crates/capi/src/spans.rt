@@ -1,10 +1,10 @@
 // Exported to C and Rust: the calls over spans without a mask: the aligned split, the counts, a span split in two, 32 flags as a number.
-#![tactic(auto, using(masks::proofs::refusal::ClauseLaws::answered, masks::proofs::refusal::SpanClauses::zeros_counted, masks::proofs::refusal::SpanClauses::leading_counted, masks::proofs::refusal::SpanClauses::trailing_counted, masks::proofs::refusal::SpanClauses::split_made), unfolding(masks::specs::equations::Bitmask::split_at, masks::specs::Bitmask::window_at))]
+#![tactic(auto, using(masks::proofs::refusal::ClauseLaws::answered, masks::proofs::refusal::SpanClauses::zeros_counted, masks::proofs::refusal::SpanClauses::leading_counted, masks::proofs::refusal::SpanClauses::trailing_counted, masks::proofs::refusal::SpanClauses::split_made), unfolding(masks::specs::equations::Bitmask::split_at, masks::specs::equations::Bitmask::window_at))]
 
 ghost use Rattle.std.specs.Prelude.{◌≡◌, true, false};
 ghost use Rattle.masks.specs.equations.Answer.{answer};
 ghost use Rattle.masks.specs.equations.Aligned.{aligned_of};
-ghost use Rattle.masks.specs.Bitmask.{window_at};
+ghost use Rattle.masks.specs.equations.Bitmask.{window_at};
 ghost use Rattle.masks.specs.equations.Bitmask.{split_at};
 ghost use Rattle.words.specs.Ends.{leading, trailing};
 ghost use Rattle.words.specs.Loops.{stretch};

@@ -2,7 +2,6 @@
 use Rattle.std.specs.Prelude.{ℕ, ◌+◌, ◌-◌, List, [], ◌∷◌, ◌++◌, leb, length}
 use Rattle.words.specs.Flags.{word_of, window}
 use Rattle.words.specs.Loops.{stretch}
-use Rattle.masks.specs.equations.Answer.{Answer, checked}
 use Rattle.masks.specs.Checks.{Check, check, within_limit, span_checks}
 use Rattle.masks.specs.declared.bitmask.Span.{Span}
 
@@ -24,7 +23,3 @@ parts_at start n at = (span_of start at, span_of (start + at) (n - at))
 -- the 32 flags of a span starting at the index, as a number, with zeros past the span's end
 unfoldable pub window_word : List ℕ → ℕ → ℕ → ℕ → ℕ
 window_word bytes start n index = word_of (window (stretch bytes start n) index 32)
-
--- the answer of `get_u32`: checks 1 and 2, and the window
-unfoldable pub window_at : List ℕ → ℕ → ℕ → ℕ → Answer (Unit {0}) ℕ
-window_at bytes start n index = checked (span_checks start n (length bytes)) tt (window_word bytes start n index)

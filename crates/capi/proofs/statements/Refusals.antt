@@ -12,7 +12,7 @@ use Rattle.words.specs.declared.ops.Op.{Op}
 use Rattle.masks.specs.equations.Aligned.{aligned_of}
 use Rattle.masks.specs.equations.Appends.{Append, push_flag, extend_constant, push_word, extend_slice, extend_repeated}
 use Rattle.masks.specs.equations.Appends.{extend_bitmap, extend_gather, extend_opt_gather, append_answer, append_bytes}
-use Rattle.masks.specs.Bitmask.{window_at}
+use Rattle.masks.specs.equations.Bitmask.{window_at}
 use Rattle.masks.specs.equations.Bitmask.{split_at}
 use Rattle.masks.specs.Chunks.{chunks_at}
 use Rattle.masks.specs.equations.Chunks.{new_chunks, next_chunk, chunks_remainder}

@@ -11,7 +11,8 @@ use Rattle.masks.specs.equations.Answer.{decided, kept, unless_empty}
 use Rattle.masks.specs.Appends.{all_below, gather_checks, gathered, inner_checks, span_grow_checks, subslice_checks, word_checks}
 use Rattle.masks.specs.AtIndex.{and_not_at_checks, and_not_flag, flag_or, index_checks, length_checks}
 use Rattle.masks.specs.equations.AtIndex.{and_not_at_of}
-use Rattle.masks.specs.Bitmask.{split_checks, window_at, window_word}
+use Rattle.masks.specs.Bitmask.{split_checks, window_word}
+use Rattle.masks.specs.equations.Bitmask.{window_at}
 use Rattle.masks.specs.equations.Bitmask.{split_at}
 use Rattle.masks.specs.Builder.{appended, builder_checks, in_progress, possible}
 use Rattle.masks.specs.Checks.{earlier, first_failed, rank, place_in, output_checks, span_checks}

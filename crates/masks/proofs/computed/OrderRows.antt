@@ -9,7 +9,8 @@ use Rattle.masks.specs.equations.Answer.{decided, unless_empty}
 use Rattle.masks.specs.Appends.{all_below, word_checks, constant_checks, span_grow_checks, inner_checks, subslice_checks, gather_checks}
 use Rattle.masks.specs.AtIndex.{and_not_at_checks, index_checks, length_checks}
 use Rattle.masks.specs.equations.AtIndex.{and_not_at_of}
-use Rattle.masks.specs.Bitmask.{split_checks, window_at}
+use Rattle.masks.specs.Bitmask.{split_checks}
+use Rattle.masks.specs.equations.Bitmask.{window_at}
 use Rattle.masks.specs.equations.Bitmask.{split_at}
 use Rattle.masks.specs.Builder.{builder_checks, possible}
 use Rattle.masks.specs.Checks.{earlier, first_failed, rank, place_in, span_checks, address_checks, output_checks}

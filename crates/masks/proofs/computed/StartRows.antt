@@ -4,7 +4,8 @@ use Rattle.words.specs.Ends.{leading}
 use Rattle.words.specs.Flags.{bits, copies, count, flags_of, over, window, word_of}
 use Rattle.words.specs.Nth.{nth_place}
 use Rattle.masks.specs.equations.Answer.{decided, kept}
-use Rattle.masks.specs.Bitmask.{split_checks, window_at, window_word}
+use Rattle.masks.specs.Bitmask.{split_checks, window_word}
+use Rattle.masks.specs.equations.Bitmask.{window_at}
 use Rattle.masks.specs.equations.Bitmask.{split_at}
 use Rattle.masks.specs.Checks.{earlier, first_failed, rank, place_in, span_checks}
 use Rattle.masks.specs.Chunks.{chunk_step, chunk_word, remainder_word}

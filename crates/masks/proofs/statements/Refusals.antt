@@ -10,7 +10,7 @@ use Rattle.masks.specs.equations.Appends.{Append, push_flag, extend_constant, pu
 use Rattle.masks.specs.equations.Appends.{extend_bitmap, extend_gather, extend_opt_gather, append_answer, append_bytes}
 use Rattle.masks.specs.equations.AtIndex.{and_not_at_of}
 use Rattle.masks.specs.equations.NextAndNot.{next_and_not_of}
-use Rattle.masks.specs.Bitmask.{window_at}
+use Rattle.masks.specs.equations.Bitmask.{window_at}
 use Rattle.masks.specs.equations.Bitmask.{split_at}
 use Rattle.masks.specs.Checks.{Check, first_failed, order}
 use Rattle.masks.specs.equations.Chunks.{new_chunks, next_chunk, chunks_remainder}

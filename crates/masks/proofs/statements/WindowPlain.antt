@@ -2,7 +2,7 @@
 use Rattle.std.specs.Prelude.{ℕ, ◌+◌, ◌*◌, ◌^◌, ◌≤◌, ◌<◌, ◌≡◌, false, List, length}
 use Rattle.words.specs.Flags.{bit_at, flag_at}
 use Rattle.masks.specs.equations.Answer.{given}
-use Rattle.masks.specs.Bitmask.{window_at}
+use Rattle.masks.specs.equations.Bitmask.{window_at}
 use Rattle.masks.specs.Checks.{limit}
 
 -- of a span of n flags that begins at flag `start` of the bytes

@@ -8,7 +8,7 @@ use Rattle.words.specs.Flags.{digit}
 use Rattle.masks.specs.equations.Answer.{Answer, given, refused}
 use Rattle.masks.specs.equations.Appends.{extend_bitmap, extend_gather, extend_slice, push_word, append_answer}
 use Rattle.masks.specs.equations.AtIndex.{and_not_at_of}
-use Rattle.masks.specs.Bitmask.{window_at}
+use Rattle.masks.specs.equations.Bitmask.{window_at}
 use Rattle.masks.specs.equations.Bitmask.{split_at}
 use Rattle.masks.specs.Builder.{builder_of, new_builder}
 use Rattle.masks.specs.Chunks.{chunks_at}

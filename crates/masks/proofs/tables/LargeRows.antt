@@ -10,7 +10,7 @@ use Rattle.masks.specs.equations.Appends.{Append, push_flag, extend_constant, pu
 use Rattle.masks.specs.equations.Appends.{extend_gather}
 use Rattle.masks.specs.equations.Appends.{extend_opt_gather, append_answer}
 use Rattle.masks.specs.equations.AtIndex.{and_not_at_of}
-use Rattle.masks.specs.Bitmask.{window_at}
+use Rattle.masks.specs.equations.Bitmask.{window_at}
 use Rattle.masks.specs.equations.Bitmask.{split_at}
 use Rattle.masks.specs.Builder.{builder_of, new_builder}
 use Rattle.masks.specs.Checks.{first_failed, output_checks}

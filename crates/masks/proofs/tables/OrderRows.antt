@@ -7,7 +7,7 @@
 use Rattle.std.specs.Prelude.{ℕ, ◌≡◌, true, false, List, [], ◌∷◌, map, Some, None}
 use Rattle.masks.specs.equations.Aligned.{aligned_of}
 use Rattle.masks.specs.equations.Appends.{push_word, extend_constant, extend_slice, extend_bitmap, extend_gather}
-use Rattle.masks.specs.Bitmask.{window_at}
+use Rattle.masks.specs.equations.Bitmask.{window_at}
 use Rattle.masks.specs.equations.Bitmask.{split_at}
 use Rattle.masks.specs.Builder.{builder_of}
 use Rattle.masks.specs.Combine.{And}

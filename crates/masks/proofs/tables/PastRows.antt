@@ -7,7 +7,7 @@ use Rattle.words.specs.Flags.{digit}
 use Rattle.masks.specs.equations.Answer.{Answer, given, refused}
 use Rattle.masks.specs.equations.Appends.{Append, extend_bitmap, extend_opt_gather, extend_repeated, append_answer}
 use Rattle.masks.specs.equations.AtIndex.{and_not_at_of}
-use Rattle.masks.specs.Bitmask.{window_at}
+use Rattle.masks.specs.equations.Bitmask.{window_at}
 use Rattle.masks.specs.equations.Bitmask.{split_at}
 use Rattle.masks.specs.Builder.{builder_under, new_builder}
 use Rattle.masks.specs.Chunks.{chunks_at}

@@ -6,7 +6,7 @@
 use Rattle.std.specs.Prelude.{ℕ, ◌≡◌, true, false, List, [], ◌∷◌, ◌++◌, map, replicate, Option, Some, None}
 use Rattle.words.specs.Flags.{digit}
 use Rattle.masks.specs.equations.Answer.{Answer, given, refused}
-use Rattle.masks.specs.Bitmask.{window_at}
+use Rattle.masks.specs.equations.Bitmask.{window_at}
 use Rattle.masks.specs.equations.Bitmask.{split_at}
 use Rattle.masks.specs.Chunks.{chunks_at}
 use Rattle.masks.specs.equations.Chunks.{next_chunk, chunks_remainder}

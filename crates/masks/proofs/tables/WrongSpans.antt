@@ -7,7 +7,8 @@ use Rattle.words.specs.Loops.{stretch}
 use Rattle.words.proofs.tables.WrongAnswers.{Tried}
 use Rattle.masks.specs.equations.Aligned.{aligned_of}
 use Rattle.masks.specs.equations.Answer.{given, refused}
-use Rattle.masks.specs.Bitmask.{span_of, window_at}
+use Rattle.masks.specs.Bitmask.{span_of}
+use Rattle.masks.specs.equations.Bitmask.{window_at}
 use Rattle.masks.specs.equations.Bitmask.{split_at}
 use Rattle.masks.specs.Chunks.{chunks_at}
 use Rattle.masks.specs.equations.Chunks.{new_chunks, next_chunk, chunks_remainder}

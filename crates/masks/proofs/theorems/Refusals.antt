@@ -25,7 +25,8 @@ use Rattle.masks.specs.AtIndex.{and_not_at_checks, index_checks, length_checks}
 use Rattle.masks.specs.equations.AtIndex.{and_not_at_of}
 use Rattle.masks.specs.NextAndNot.{next_checks, other_checks}
 use Rattle.masks.specs.equations.NextAndNot.{next_and_not_of}
-use Rattle.masks.specs.Bitmask.{split_checks, window_at}
+use Rattle.masks.specs.Bitmask.{split_checks}
+use Rattle.masks.specs.equations.Bitmask.{window_at}
 use Rattle.masks.specs.equations.Bitmask.{split_at}
 use Rattle.masks.specs.Builder.{builder_checks}
 use Rattle.masks.specs.Checks.{Check, rank, earlier, failure, first_failed, order, span_checks, address_checks, output_checks}

@@ -11,7 +11,8 @@ use Rattle.words.specs.Loops.{stretch}
 use Rattle.words.proofs.flags.Windows.{length-window, at_in}
 use Rattle.words.proofs.theorems.Plain.{at-stretch, at-word}
 use Rattle.masks.specs.equations.Answer.{given, decided}
-use Rattle.masks.specs.Bitmask.{window_at, window_word}
+use Rattle.masks.specs.Bitmask.{window_word}
+use Rattle.masks.specs.equations.Bitmask.{window_at}
 use Rattle.masks.specs.Checks.{first_failed, limit, span_checks}
 use Rattle.masks.proofs.bitmask.BitmaskLaws.{narrow}
 use Rattle.masks.proofs.refusal.AnswerLaws.{given-value}
