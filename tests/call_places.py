@@ -11,9 +11,12 @@ from the sources: from its arguments and its answer, the definitions that its co
 two calls are read by one definition, as `push` and `push_mut`, what is shown of one by this definition counts for both."""
 import sys
 
-import kinds_in_proofs  # noqa: F401 (adds its kinds)
-import kinds_in_uses  # noqa: F401
+import kinds_in_proofs
+import kinds_in_uses
 from call_kinds import CALLS, KINDS, MAY, MUST, OTHERS
+
+# These modules add their kinds to KINDS.
+assert kinds_in_proofs and kinds_in_uses
 
 # What the sources do not decide: the call or crate, the kind that it need not have, and why.
 NOT_NEEDED = {

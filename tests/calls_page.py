@@ -421,7 +421,8 @@ def main():
                 file.write(text)
     else:
         complaints += [f"line {k}: is   {a}\n{' ' * 8}wants {b}" for k, (a, b) in enumerate(zip(old, out), 1) if a != b]
-    print("\n".join(complaints + [f"{len(rows)} public functions, {total} lines to believe, {more} more for exports, {len(complaints)} complaints"]))
+    counted = f"{len(rows)} public functions, {total} lines to believe, {more} more for exports"
+    print("\n".join(complaints + [f"{counted}, {len(complaints)} complaints"]))
     return 1 if complaints else 0
 
 

@@ -14,7 +14,12 @@ import sys
 from itertools import product
 
 sys.dont_write_bytecode = True
-from reference import *
+import reference
+from reference import AND, AND_NOT, Lent, MISSING, NOT, OPS, OR, OR_NOT, Refused, SELECT, WORD, XOR, activity_counts, activity_new, aligned
+from reference import append, at_end, at_front, chunks_new, chunks_next, chunks_remainder, combine, count, count_of, extend_bitmap
+from reference import extend_repeated, full, gather, limited, merged, new_runs, next_chunk, next_run, next_true, nth_flag
+from reference import num_intersections, over, piece, push_minutes, search, set_bit, slice_of, span_checks, split_at, superseding
+from reference import superseding_bytes, take_leading, true_new, word_checks, words_of, written, zeros
 from request_names import shapes
 
 SHOWN = 20
@@ -153,7 +158,7 @@ OTHERS = {
 def plainly(name, arguments, output):
     """Returns how a call is asked by the function of the model of its name: each mask is followed by its bytes, a bare span by none, since
     its bytes come first; an output comes last."""
-    ask = globals().get(name.split("::")[-1])
+    ask = getattr(reference, name.split("::")[-1], None)
 
     def answer(l, *values):
         row, lent = [l.x] if arguments[:1] == ["start"] else [], iter(sides(l))

@@ -11,7 +11,7 @@ struct Timespec {
     nanoseconds: i64,
 }
 
-extern "C" {
+unsafe extern "C" {
     fn clock_gettime(clock: i32, time: *mut Timespec) -> i32;
 }
 

@@ -259,7 +259,7 @@ fn comparing(f: &mut File) {
         f.lend('x', &paint(kind, 40));
         for flag in FLAGS {
             f.lend('y', &turned(kind, 40, flag));
-            f.ask(&format!("equal 0 0 200"));
+            f.ask("equal 0 0 200");
             if other == "equal" {
                 STARTS.iter().for_each(|start| f.ask(&format!("equal {start} {start} {}", lengths())));
             } else {
@@ -295,13 +295,13 @@ fn long(f: &mut File) {
     }
     f.lend('o', &paint(7, 1250));
     let lengths = list(&[4096, 4097, 9000, 9599, 9664, MAX]);
-    for i in 0..6 {
+    for (i, start) in STARTS.iter().enumerate() {
         f.ask(&format!("count_ones_of 0..7 {} {lengths}", near(i)));
         f.ask(&format!("combine 0..7 {} {lengths} o:1245", near(i)));
         f.ask(&format!("combine {i} {} 9600", near(i)));
-        f.ask(&format!("count_ones {} {lengths}", STARTS[i]));
-        f.ask(&format!("copy {} {lengths}", STARTS[i]));
-        f.ask(&format!("copy_count {} {lengths}", STARTS[i]));
+        f.ask(&format!("count_ones {start} {lengths}"));
+        f.ask(&format!("copy {start} {lengths}"));
+        f.ask(&format!("copy_count {start} {lengths}"));
     }
     f.ask(&format!("equal {} {} {lengths}", list(&STARTS), list(&STARTS)));
     f.ask(&format!("fill 0,1 {lengths}"));

@@ -114,9 +114,9 @@ fn dispatch_reads_the_flag_of_and_not() {
     let (permitted, revoked) = (random.flags(130), random.flags(130));
     let (permission, revocation) = (mask_at(&permitted, 3), mask_at(&revoked, 6));
     let both = permission.and_not(&revocation).unwrap();
-    for truck in 0..130 {
+    for (truck, &is_permitted) in permitted.iter().enumerate() {
         assert_eq!(may_reassign(Permission::Mask(&permission), Some(&revocation), truck).ok(), both.get(truck));
-        assert_eq!(may_reassign(Permission::Mask(&permission), None, truck), Ok(permitted[truck]));
+        assert_eq!(may_reassign(Permission::Mask(&permission), None, truck), Ok(is_permitted));
         assert_eq!(may_reassign(Permission::NoMask, Some(&revocation), truck), Ok(false));
         assert_eq!(may_reassign(Permission::NoMask, None, truck), Ok(false));
     }
