@@ -4,8 +4,9 @@
     python3 tests/declarations.py --write    writes them anew, after a call was added
 
 It writes the records and functions of include/poruwhina.h (in_c.py), the declarations of the Rust crate with a safe function for each
-(in_rust.py), and include/interface.txt. It compares the records of the Rust crate, the named numbers, and what a refusal prints.
-Nothing else compares these: a program that declares an export otherwise links, and then reads the wrong bytes.
+(in_rust.py), and include/interface.txt. It compares the records of the Rust crate, the named numbers, and the names, texts and order of
+refusals, which include/refusals.txt lists. Nothing else compares these: a program that declares an export otherwise links, and then reads
+the wrong bytes.
 
 include/interface.txt holds the version of the interface and a digest of every record, function and number. Under one version no digest
 may change or disappear: if one would, the version must be raised, in the name of the symbol that crates/capi/src/interface.rt exports.
@@ -61,14 +62,38 @@ def texts(text, arm, numbers):
     return {numbers[name]: words for name, words in re.findall(arm, text, re.S) if name in numbers}
 
 
-def source_texts():
-    """Returns what the definitions `reason` of masks and of activity have."""
-    found = {}
+def listed():
+    """Returns the rows of include/refusals.txt, in their order: number, name and text; and those of numbers that a call gives."""
+    lines = (ROOT / "include/refusals.txt").read_text().splitlines()
+    rows = [tuple(line.split(" ", 2)) for line in lines if line and not line.startswith("#")]
+    return rows, [row for row in rows if row[2] != "later"]
+
+
+def source_refusals():
+    """Returns the name and the text of each number, by the definitions `number` and `reason` of masks and of activity."""
+    names, found = {}, {}
     for path in ("crates/masks/specs/Refusal.antt", "crates/activity/specs/Window.antt"):
         text = (ROOT / path).read_text()
         numbers = dict(re.findall(r"(?m)^number (\w+) = (\d+)$", text))
+        names.update({number: name for name, number in numbers.items()})
         found.update(texts(text, r'\nreason (\w+) = codes "([^"]*)"', numbers))
-    return found
+    return names, found
+
+
+def unlisted():
+    """Returns a complaint for each name, text or place in the order that is not as in include/refusals.txt."""
+    rows, given = listed()
+    names, said = source_refusals()
+    yield from differences("include/refusals.txt", {number: name for number, name, _ in given}, names)
+    yield from differences("include/refusals.txt", {number: text for number, _, text in given}, said)
+    order = re.findall(r"\d+", re.search(r"(?m)^order =(.*?)^$", (ROOT / CHECKS / "Checks.antt").read_text(), re.S)[1])
+    if [number for number, _, _ in given if number in order] != order:
+        yield f"include/refusals.txt has another order than {CHECKS}Checks.antt"
+    body = re.search(r"pub enum Refusal \{(.*?)\n\}", (ROOT / "crates/masks/src/refusal.rt").read_text(), re.S)[1]
+    if re.findall(r"(?m)^    (\w+),$", body) != [name for number, name, _ in given if number in order]:
+        yield "include/refusals.txt has other names, or another order, than crates/masks/src/refusal.rt"
+    if sorted(int(number) for number, _, _ in rows) != list(range(1, 17)):
+        yield "include/refusals.txt has not each number from 1 to 16 once"
 
 
 def rust_texts():
@@ -131,7 +156,8 @@ def compared():
     numbers = source_numbers()
     yield from differences("the header", {name: number for name, (number, _) in in_c.numbers().items()}, numbers)
     yield from differences("the Rust crate", rust_numbers(), numbers)
-    yield from differences("the Rust crate", rust_texts(), source_texts())
+    yield from differences("the Rust crate", rust_texts(), source_refusals()[1])
+    yield from unlisted()
     text = "\n".join(path.read_text() for path in sorted(in_rust.CALLS.glob("*.rs")))
     wanted = {name: fields for name, (_, fields) in records().items()}
     yield from differences("the Rust crate", {name: fields for name, (_, fields) in records_of(text).items()}, wanted)
