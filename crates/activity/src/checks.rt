@@ -1,4 +1,4 @@
-// Whether a run of minutes leaves a record: its numbers, its words and its counts.
+//! Whether a run of minutes leaves a record: its numbers, its words and its counts.
 ghost use Rattle.std.specs.Prelude.{◌≡◌, ℕ, ◌≤◌, Bool, true, ◌&&◌, ◌==◌, fold, eqb};
 ghost use Rattle.std.specs.Int.Bits.{bit_or};
 ghost use Rattle.std.specs.List.{zip};

@@ -1,8 +1,8 @@
-// A search over two masks, the second of which may be absent, for the next flag that is set in the first and not in the second: it starts
-// at a place and goes round once.
-//
-// Its answer has the number of windows of 32 flags that it covers. The code reads words of 64 flags and passes over whole blocks; the
-// number follows from where it stops.
+//! A search over two masks, the second of which may be absent, for the next flag that is set in the first and not in the second: it starts
+//! at a place and goes round once.
+//!
+//! Its answer has the number of windows of 32 flags that it covers. The code reads words of 64 flags and passes over whole blocks; the
+//! number follows from where it stops.
 ghost use Rattle.std.specs.Prelude.{◌≡◌, false, ℕ, ◌+◌, ◌≤◌, take, IfOk};
 ghost use Rattle.words.specs.Counts.{any_set};
 ghost use Rattle.words.specs.Flags.{window, word_flags};
@@ -21,20 +21,20 @@ use words::flags::Operand;
 use words::ops::{Op, and_not_word};
 use words::word::{shr_or_zero, word_from};
 
-// A position, or none, and the number of windows of 32 flags that the search covers.
+/// A position, or none, and the number of windows of 32 flags that the search covers.
 #[derive(Clone, Copy, PartialEq, Eq, Debug)]
 pub struct Found {
     pub position: Option<usize>,
     pub windows: usize,
 }
 
-// Returns the first position at or after `from` that is set in the first mask and not in the second, else the first such position below
-// `from`, or none. An absent second mask takes nothing away. Windows begin at `from` and at every 32nd flag after it, then at 0 and at
-// every 32nd flag below `from`; the answer counts those up to the one that holds the position, or all. Refuses with 6 if `from` is above
-// the length.
-//
-// Masks of at most 64 flags are one word each, read once and searched twice, with no loop. This function and its checks are compiled into
-// its callers: with either as a function of its own 40 flags take 281 instructions in place of 247.
+/// Returns the first position at or after `from` that is set in the first mask and not in the second, else the first such position below
+/// `from`, or none. An absent second mask takes nothing away. Windows begin at `from` and at every 32nd flag after it, then at 0 and at
+/// every 32nd flag below `from`; the answer counts those up to the one that holds the position, or all. Refuses with 6 if `from` is above
+/// the length.
+///
+/// Masks of at most 64 flags are one word each, read once and searched twice, with no loop. This function and its checks are compiled into
+/// its callers: with either as a function of its own 40 flags take 281 instructions in place of 247.
 #[inline(always)]
 pub fn next_and_not(
     first: Bitmap,

@@ -1,4 +1,4 @@
-// The three parts of a span, and how many flags in a row are equal at either end of it.
+//! The three parts of a span, and how many flags in a row are equal at either end of it.
 ghost use Rattle.std.specs.Prelude.{◌≡◌, ℕ, Bool, List, ◌++◌, ◌+◌, ◌/◌, ◌≤◌, ◌<◌, length, take};
 ghost use Rattle.std.proofs.Common.{sym, ap, ◌∙◌, append_assoc};
 ghost use Rattle.words.specs.Ends.{leading, trailing};

@@ -1,5 +1,5 @@
-// Many positions of ones at once, written to a lent output: for callers that need all of them, since a call for each costs more than what
-// it does.
+//! Many positions of ones at once, written to a lent output: for callers that need all of them, since a call for each costs more than what
+//! it does.
 ghost use Rattle.std.specs.Prelude.{◌≡◌, true, List, ℕ, ◌+◌, ◌*◌, ◌≤◌, min, take, length as list_length, IfOk, IfErr, OnOk, OnErr};
 ghost use Rattle.words.specs.Flags.{copies, over, word_flags};
 ghost use Rattle.words.specs.Loops.{stretch};
@@ -127,8 +127,8 @@ fn place_after(cursor: TrueIdxIter, out: &[u32], count: usize) -> usize
 }
 
 impl TrueIdxIter {
-    // Writes the positions of the next ones to the start of `out`, as many as fit: the results of repeated calls of `next`. Returns their
-    // number, and the cursor past the last; if there are fewer than `out` has room for, the cursor at the length.
+    /// Writes the positions of the next ones to the start of `out`, as many as fit: the results of repeated calls of `next`. Returns their
+    /// number, and the cursor past the last; if there are fewer than `out` has room for, the cursor at the length.
     pub fn next_chunk(
         self,
         bytes: &[u8],

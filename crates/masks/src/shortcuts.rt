@@ -1,5 +1,5 @@
-// What the zero counts of two masks imply about their combination: nothing, or that all its flags equal one flag. An unknown count is not
-// computed for this: the first word usually shows that a mask is not constant.
+//! What the zero counts of two masks imply about their combination: nothing, or that all its flags equal one flag. An unknown count is not
+//! computed for this: the first word usually shows that a mask is not constant.
 ghost use Rattle.std.specs.Prelude.{◌≡◌, not};
 ghost use Rattle.words.specs.declared.ops.Op.TheVariants.{Xor};
 ghost use Rattle.masks.specs.Combine.{result_count, shortcut};

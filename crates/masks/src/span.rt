@@ -1,4 +1,4 @@
-// Spans that have passed their checks, words of their flags, and how many flags in a row are equal.
+//! Spans that have passed their checks, words of their flags, and how many flags in a row are equal.
 ghost use Rattle.std.specs.Prelude.{false, ◌≡◌, ◌+◌, ◌*◌, ◌≤◌, length as list_length, IfOk};
 ghost use Rattle.words.specs.Flags.{word_of};
 ghost use Rattle.words.specs.Loops.{stretch};

@@ -1,5 +1,5 @@
-// Loops over whole words of lanes: no padding and no slow path inside, so that they are vectorised. A loop has its operation and its
-// lanes as type parameters; `each` picks the operation.
+//! Loops over whole words of lanes: no padding and no slow path inside, so that they are vectorised. A loop has its operation and its
+//! lanes as type parameters; `each` picks the operation.
 ghost use Rattle.std.specs.Prelude.{◌≡◌, ◌*◌, ◌^◌, ◌≤◌, ◌<◌, ℕ, Bool, List, length};
 ghost use Rattle.words.specs.Flags.{word_flags, bits, copies, flags_of, count, over, window};
 ghost use Rattle.words.specs.Loops.{combined};

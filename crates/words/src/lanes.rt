@@ -1,5 +1,5 @@
-// Lanes: words of a lent stretch, all in range, so that a loop over them has no padding and no slow path. Three lanes with the number of
-// words that they all have are what the loops of `kernels` read.
+//! Lanes: words of a lent stretch, all in range, so that a loop over them has no padding and no slow path. Three lanes with the number of
+//! words that they all have are what the loops of `kernels` read.
 ghost use Rattle.std.specs.Prelude.{◌≡◌, ◌*◌, ◌+◌, ◌-◌, ◌/◌, ◌≤◌, ◌<◌, ℕ, List, length};
 ghost use Rattle.words.specs.Flags.{word_flags, flags_of, window};
 ghost use Rattle.words.specs.Loops.{combined};
