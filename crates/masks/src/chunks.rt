@@ -96,8 +96,8 @@ impl BitChunksExact {
 }
 
 impl CheckedSpan<'_> {
-    // Reads the 64 flags starting at flag 64 * k, all in range. Merges two words if the start is inside a byte. Speed: by `word_from`,
-    // which promises the same, `next` took 1.06 times the instructions.
+    // Reads the 64 flags starting at flag 64 * k, all in range. Merges two words if the start is inside a byte. Not by `word_from`, which
+    // promises the same and is slower here (PROVING, `CheckedSpan::word`).
     fn word(self, k: usize) -> u64
         requires { 64 * k + 64 ≤ self.length }
         ensures { word_flags result ≡ stretch self.entry.bytes.now (self.entry.start + 64 * k) 64 }

@@ -15,8 +15,7 @@ use words::counts::{count_ones_of, equal};
 use words::flags::Operand;
 use words::ops::Op;
 
-/// Returns whether two masks have the same length and flags. Compiled into its callers: as a function of its own 40 flags took 32
-/// instructions more.
+/// Returns whether two masks have the same length and flags. Compiled into its callers, which short masks notice (PROVING, `eq`).
 #[inline(always)]
 pub fn eq(lhs: Bitmap, lhs_bytes: &[u8], rhs: Bitmap, rhs_bytes: &[u8]) -> Result<bool, Refusal>
     ensures refused { failure_of result ≡ first_failed

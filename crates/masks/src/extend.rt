@@ -163,9 +163,8 @@ fn fill_words(b: BitmapBuilder, buf: &mut [u8], whole: usize, flag: bool) -> Bit
     grown(b, longer, 0, ones)
 }
 
-// Appends flags of a span: up to a full word, whole words, and a last word, which is read on its own so that each word of the loop has
-// a byte after it. Compiled into its callers: as a function of its own 40 flags that fill the word in progress take 231 instructions in
-// place of 178.
+// Appends flags of a span: up to a full word, whole words, and a last word, which is read on its own so that each word of the loop has a
+// byte after it. Compiled into its callers, which short spans notice (PROVING, `append_stretch`).
 #[inline(always)]
 pub(crate) fn append_stretch(b: BitmapBuilder, buf: &mut [u8], span: &CheckedSpan) -> BitmapBuilder
     requires { Room b span.now.length (length buf.old) }

@@ -29,8 +29,8 @@ pub struct Run {
     pub length: usize,
 }
 
-// Returns whether a byte is all ones, is entered at its first bit, and lies inside the span, of which `left` flags are left. With `&&` the
-// search for all runs took 1.02 times the instructions where half the flags are set, and 1.07 times where all are.
+// Returns whether a byte is all ones, is entered at its first bit, and lies inside the span, of which `left` flags are left. By nested
+// tests, which are faster than `&&` (PROVING, `is_full_byte`).
 fn is_full_byte(byte: u8, bit: usize, left: usize) -> bool
     ensures { result ≡ (eqb bit 0 && (eqb byte 255 && leb 8 left)) }
 {

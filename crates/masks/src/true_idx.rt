@@ -74,8 +74,8 @@ pub(crate) fn check_next(cursor: TrueIdxIter, size: usize) -> Result<(), Refusal
     check(Refusal::OutsideMask, cursor.place <= cursor.length)
 }
 
-// Counts the zeros before the next one; 0 without a mask. Takes the cursor's fields, as `zeros_from` does: over a `CheckedSpan`, `next`
-// without a mask took 1.08 times the instructions.
+// Counts the zeros before the next one; 0 without a mask. Takes the cursor's fields, as `zeros_from` does: a `CheckedSpan` made here slows
+// `next` without a mask (PROVING, `zeros_next`).
 fn zeros_next(cursor: TrueIdxIter, bytes: &[u8]) -> usize
     requires { (cursor.start ≤ limit) × ((cursor.length ≤ limit) × (cursor.place ≤ cursor.length)) }
     ensures { result ≡ leading_from false (true_flags cursor bytes.now) cursor.place }

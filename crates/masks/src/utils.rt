@@ -34,7 +34,7 @@ fn long_zeros(span: &Addressed) -> usize
 
 // Counts the zeros of a span that has passed its checks. Too large to be inlined into a call; `count_zeros` reads a short span itself and
 // passes its address remainder, other calls pass 0. Takes the span as three arguments, in registers: with a struct `check_mask` became too
-// large to be inlined into the calls, and masks whose count is unknown took up to 1.4 times the instructions.
+// large to be inlined into the calls (PROVING, `zeros_at`).
 pub(crate) fn zeros_at(bytes: &[u8], start: usize, length: usize, address: usize) -> usize
     requires { (start ≤ 2 * limit) × ((length ≤ limit) × (address ≤ 7)) }
     ensures { result ≡ zeros (stretch bytes.now start length) }

@@ -6,8 +6,8 @@ ghost use Rattle.words.specs.Columns.{column_counts};
 use crate::planes::{spread, totals};
 use std::array;
 
-/// Returns for each flag how many of the first 511 words have it set: nine planes hold no larger number. For fewer than 32 words five
-/// planes are read, which halves the instructions of the reading.
+/// Returns for each flag how many of the first 511 words have it set: nine planes hold no larger number. For fewer than 32 words only five
+/// planes are read, since the others are zero (PROVING, `column_counts`).
 pub fn column_counts(words: &[u64]) -> [u32; 64]
     ensures { result ≡ column_counts (take 511 words.now) }
 {
@@ -20,8 +20,8 @@ pub fn column_counts(words: &[u64]) -> [u32; 64]
     }
 }
 
-/// Returns for each column of half a word the number with only its flag set. Columns are selected by numbers from memory: by shifts, four
-/// columns take three times as many instructions.
+/// Returns for each column of half a word the number with only its flag set. Columns are selected by numbers from memory: the target has no
+/// shift by another number in each lane (PROVING, `single_flags`).
 pub fn single_flags() -> [u32; 32]
     ensures { (c : ℕ) → c < 32 → get_or result c 0 ≡ 2 ^ c }
 {

@@ -17,7 +17,7 @@ use crate::word::{byte_word, low_flags, near_word, ones_below, ones_in_word, shr
 
 /// Counts the ones of a stretch. Whole words that start at a byte, all in range, are counted with no check for partial ones. Rare cases are
 /// in functions outside this body and get a slice or record of their own, so that this slice stays in registers. `ones` of `rows` makes the
-/// same choice by the number of words: if it is called from here, 1000 flags take 30 more instructions.
+/// same choice by the number of words; a call of it from here is slower (PROVING, `count_ones`).
 pub fn count_ones(bytes: &[u8], start: usize, len: usize) -> usize
     ensures { result ≡ count (stretch bytes.now start len) }
 {
@@ -95,7 +95,7 @@ fn copy_then_count(bytes: &[u8], start: usize, len: usize, out: &mut [u8]) -> us
 fn words_covering(x: usize, y: usize, z: usize) -> usize
     ensures { (x ≤ 8 * result) × ((y ≤ 8 * result) × (z ≤ 8 * result)) }
 {
-    // one word too many if the last is whole: by `div_ceil` `num_edges` of 1000 flags takes 1.011 of the instructions
+    // one word too many if the last is whole, which is faster than `div_ceil` (PROVING, `words_covering`)
     x.max(y).max(z) / 8 + 1
 }
 
@@ -107,8 +107,7 @@ fn past_end(op: Op) -> bool
 }
 
 // Counts the ones among those of `len` flags that come after the first n words, all of which equal `flag`. 64 * n may be past the largest
-// number, so n is compared first: with `saturating_mul` and `usize::from(flag)` in place of the comparison 1000 flags take 1.02 of the
-// instructions.
+// number, so n is compared first, which is faster than `saturating_mul` and `usize::from(flag)` (PROVING, `ones_after`).
 fn ones_after(flag: bool, len: usize, n: usize) -> usize
     ensures { result ≡ (len - 64 * n) * digit flag }
 {
@@ -178,7 +177,7 @@ fn any_whole<A: Lane, B: Lane, C: Lane>(op: Op, lanes: &Lanes<A, B, C>) -> bool
 {
     let n = lanes.n;
     let mut i = 0;
-    // block by block, the last of which is shorter: with `step_by(64)` 65,536 flags take 1.04 of the instructions
+    // block by block, the last of which is shorter: faster than `step_by(64)` (PROVING, `any_whole`)
     while i < n {
         let k = (n - i).min(64);
         let block = lanes.part(i, k);
@@ -209,8 +208,8 @@ pub fn any_set<'a>(op: Op, a: &Operand<'a>, b: &Operand<'a>, c: &Operand<'a>, le
         || any_after(past_end(op), len, n)
 }
 
-/// Returns whether two stretches have the same flags. At most 64 are two words, compared here: by `any_set`, which reads three, `eq` of 40
-/// flags takes 247 instructions in place of 176, and 188 if this function is not inlined.
+/// Returns whether two stretches have the same flags. At most 64 are two words, compared here, in the caller's code: `any_set` reads three
+/// (PROVING, `equal`).
 #[inline(always)]
 pub fn equal<'a>(a: &Operand<'a>, b: &Operand<'a>, len: usize) -> bool
     ensures { result ≡ same_flags (stretch a.now.bytes.now a.now.start len) (stretch b.now.bytes.now b.now.start len) }

@@ -6,8 +6,8 @@ ghost use Rattle.words.specs.Flags.{word_flags, flags_of, window};
 
 use crate::word::word_at;
 
-/// The flags of `bytes` starting at flag `start`. It is passed by reference: by value each function that passes it on copies it, and 40
-/// flags took 1.04 to 1.12 times the instructions. The operands of a call have one lifetime, so that one may be passed as two.
+/// The flags of `bytes` starting at flag `start`. It is passed by reference: by value each function that passes it on copies it (PROVING,
+/// `Operand`). The operands of a call have one lifetime, so that one may be passed as two.
 #[derive(Clone, Copy)]
 pub struct Operand<'a> {
     pub bytes: &'a [u8],

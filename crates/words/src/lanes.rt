@@ -35,7 +35,7 @@ pub(crate) trait Lane: Drop {
 }
 
 // n words that begin at a byte. Not a slice of arrays of eight bytes (`as_chunks`): if n is 0 the byte may lie past the end, so that `at`
-// would have to be cut to the length of the bytes first, and counting 40 flags takes 1.02 of the instructions.
+// would have to be cut to the length of the bytes first (PROVING, `ByteLane`).
 #[derive(Clone, Copy)]
 pub(crate) struct ByteLane<'a> {
     pub(crate) bytes: &'a [u8],

@@ -45,7 +45,7 @@ pub(crate) fn triple_word<'a>(
 
 /// Combines three stretches and writes the result to the start of `out`, padded with zeros to whole words, as far as it fits. At most a
 /// word is one store; of more, the whole words in range are written by a kernel, then the rest word by word. The test for no flags is made
-/// only for a short stretch: made first, `not` of 100 flags took 1.02 of the instructions.
+/// only for a short stretch, so that longer ones do not pay for it (PROVING, `combine`).
 pub fn combine<'a>(
     op: Op,
     a: &Operand<'a>,

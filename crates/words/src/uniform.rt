@@ -46,7 +46,7 @@ fn words_are(flag: bool, words: &ByteLane) -> bool
 {
     let n = words.n;
     let mut i = 0;
-    // block by block, the last of which is shorter: with `step_by(64)` 65,536 flags take 1.04 of the instructions
+    // block by block, the last of which is shorter: faster than `step_by(64)` (PROVING, `words_are`)
     while i < n {
         let k = (n - i).min(64);
         let block = words.part(i, k);
