@@ -11,7 +11,7 @@ use crate::compare::eq;
 use crate::refusal::{Refusal, check, earlier};
 
 /// The winner: whether it is the second mask, the part of its slice that holds it, from byte `from` to before byte `to`, and its record
-/// over that part. `second` is part of the answer (paper 02): it does not say how to read another field.
+/// over that part. `second` is part of the answer: it does not say how to read another field.
 #[derive(Clone, Copy, PartialEq, Eq, Debug)]
 pub struct Part {
     pub second: bool,
