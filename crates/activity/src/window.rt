@@ -85,6 +85,17 @@ impl<S> fmt::Display for Refused<S> {
     }
 }
 
+// By this `?` passes the refusal on, in a caller that does not return the state.
+impl<S: Drop> From<Refused<S>> for WindowRefusal {
+    ghost from_gives = { λ e r. r ≡ e.refusal };
+
+    fn from(refused: Refused<S>) -> WindowRefusal {
+        refused.refusal
+    }
+}
+
+impl<S: fmt::Debug + Drop> Error for Refused<S> {}
+
 impl ActivityWindow {
     /// Returns a window that keeps up to `width` words, 1 to 256, and has none yet. Refuses any other width by 16, with a window of zeros:
     /// its width is 0 too, so that every call refuses it.

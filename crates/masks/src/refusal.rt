@@ -7,7 +7,7 @@ use std::error::Error;
 use std::fmt;
 
 /// The checks that a call can fail, in their order: of several that fail the first one here is the answer. Each is a check of the reference
-/// with its number (its question, answered no); 14 is one of paper 02.
+/// with its number.
 #[derive(Clone, Copy, PartialEq, Eq, PartialOrd, Ord, Debug)]
 pub enum Refusal {
     /// 1: a start or a length, stated or resulting, is above the flag limit.
@@ -113,6 +113,17 @@ impl<S> fmt::Display for Refused<S> {
         write!(f, "{}", self.refusal)
     }
 }
+
+// By this `?` passes the refusal on, in a caller that does not return the record.
+impl<S: Drop> From<Refused<S>> for Refusal {
+    ghost from_gives = { λ e r. r ≡ e.refusal };
+
+    fn from(refused: Refused<S>) -> Refusal {
+        refused.refusal
+    }
+}
+
+impl<S: fmt::Debug + Drop> Error for Refused<S> {}
 
 /// Returns the refusal of two checks that comes first in their order; none if both pass. It joins checks of which one made later may come
 /// first, as check 1 of a second mask comes before check 3 of the first. If each comes after those made before it, a call uses `?`.
