@@ -17,6 +17,13 @@ PAGES = ("docs/*.md", "README.md", "tests/*.py")
 
 EDITS = (
     (
+        "layout.py",
+        "docs/REFERENCE.md",
+        "in the project's own words.",
+        "by pap" "er 02.",
+        "docs/REFERENCE.md: line 3 cites 'pap" "er 02'",
+    ),
+    (
         "calls_page.py",
         "crates/masks/proofs/statements/CountsUnseen.antt",
         "  -- `next_and_not`, whose second mask may be absent\n",

@@ -40,8 +40,9 @@ class Export:
 
 
 def said(comment):
-    """Returns a comment's lines as one text."""
-    return " ".join(line.lstrip("/").strip() for line in comment.strip().split("\n") if line.strip("/ "))
+    """Returns the lines of a comment as one text, whichever of //, /// and //! it has."""
+    lines = (re.sub(r"^//[/!]?", "", line).strip() for line in comment.strip().split("\n"))
+    return " ".join(line for line in lines if line)
 
 
 def pairs(text):
@@ -88,7 +89,7 @@ def modules():
         if "#[unsafe(no_mangle)]" in path.read_text():
             places[path.stem] = min((fields.get(name, len(fields)) for name in re.findall(r"\bfn (pw_\w+)\(", path.read_text())))
     for module in sorted(places, key=places.get):
-        comment = re.match(r"(?://[^\n]*\n)+", source(module))[0].split("\n//\n")[0]
+        comment = re.match(r"(?://[^\n]*\n)+", source(module))[0].split("\n//!\n")[0]
         heading = said(comment).removeprefix("Exported to C and Rust: ")
         yield module, heading[0].upper() + heading[1:]
 

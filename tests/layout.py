@@ -1,4 +1,4 @@
-"""Prints which lines are too long and which imports are not used; the status is 1 if there are any.
+"""Prints which lines are too long, which imports are not used, and which citations lead outside; the status is 1 if there are any.
 
     python3 tests/layout.py            reads this repository
     python3 tests/layout.py FOLDER     reads another copy of it
@@ -8,7 +8,10 @@ attribute of a .rt file, which `rt fmt` writes on one line.
 
 The imports are those of .antt files, and those that .rt files make for clauses by `ghost use`. An import is used if its name occurs
 elsewhere in the file, outside comments; an operator such as `◌+◌` if each of its symbols does. So a name that a variable also has counts
-as used. A name imported by `pub use` is passed on, and is not checked."""
+as used. A name imported by `pub use` is passed on, and is not checked.
+
+The repository stands alone: outside docs/changes nothing cites a paper, nor a request or a demand by its letter or number. A rule is
+stated where it is used, or in docs/REFERENCE.md."""
 import os
 import pathlib
 import re
@@ -25,15 +28,20 @@ USE = {
     ".rt": re.compile(rf"(?m)^(pub )?ghost use {BRINGS};$"),
 }
 COMMENT = {".antt": r"(?m)(?:^|(?<=\s))--.*$", ".rt": r"//.*"}
+# What cites a paper, also over two lines of a comment; and the files that are read for it besides SUFFIXES.
+GAP = r"\s+(?:(?:--|//[/!]?|#|\*)\s*)?"
+CITED = re.compile(rf"(?i:\b(?:document|paper){GAP}0\d|\b(?:papers?|calls-0\d)\b|\brequests?{GAP}\([a-z]\)|\bdemands?[_ ]?\d)")
+ALSO_CITE = (".toml", ".txt", ".edit", ".svg")
+MAY_CITE = ("docs/changes/", "tests/layout.py")
 BETWEEN = re.compile(r'[\s(){}.;,@"«»⟦⟧]+')
 
 
 def files(root):
-    """Yields the files that are read: those of SUFFIXES, and scripts that have no suffix; not those that are made, in out/ and target/."""
+    """Yields the files that are read: by their suffix, and scripts that have none; not those that are made, in out/ and target/."""
     for folder, below, names in os.walk(root):
         below[:] = sorted(name for name in below if name not in ("out", "target") and (name[0] != "." or name == ".ci"))
         for path in (pathlib.Path(folder, name) for name in sorted(names)):
-            if path.suffix in SUFFIXES or path.suffix == "" and path.read_bytes()[:2] == b"#!":
+            if path.suffix in SUFFIXES + ALSO_CITE or path.suffix == "" and path.read_bytes()[:2] == b"#!":
                 yield path
 
 
@@ -61,16 +69,30 @@ def unused_imports(path, text):
                 yield f"{name} of {use[2]} is imported and not used"
 
 
+def citations(path, text):
+    for cited in CITED.finditer(text):
+        yield f"line {text.count(chr(10), 0, cited.start()) + 1} cites '{' '.join(cited[0].split())}'"
+
+
+def complaints_of(root, path, text):
+    if path.suffix not in ALSO_CITE:
+        yield from long_lines(path, text)
+    if path.suffix in USE:
+        yield from unused_imports(path, text)
+    if not str(path.relative_to(root)).startswith(MAY_CITE):
+        yield from citations(path, text)
+
+
 def main():
     root = pathlib.Path(sys.argv[1]).resolve() if len(sys.argv) > 1 else ROOT
     read = complaints = 0
     for path in files(root):
         text, read = path.read_text(encoding="utf-8"), read + 1
-        found = [*long_lines(path, text), *(unused_imports(path, text) if path.suffix in USE else ())]
+        found = list(complaints_of(root, path, text))
         complaints += len(found)
         for complaint in found:
             print(f"{path.relative_to(root)}: {complaint}")
-    print(f"{read} files, {complaints} complaints of lines and imports")
+    print(f"{read} files, {complaints} complaints of lines, imports and citations")
     return 1 if complaints or not read else 0
 
 

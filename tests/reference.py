@@ -1,4 +1,4 @@
-"""The calls of the library by the reference, and the window of minutes by paper 02, for tests/cases.py.
+"""The calls of the library by the reference, for tests/cases.py.
 
 A list of flags is one number here: flag j of it is bit j. Arrow numbers flag j of a buffer as bit j mod 8 of byte j div 8, the least
 significant bit first, so that the bytes read as one number, the first byte lowest, have flag j at bit j. Everything else is
@@ -128,7 +128,7 @@ def found(row, k):
 
 
 def set_bit(word, n):
-    """Returns the place of set bit n, counted from 0; or none, and the number of set bits (paper 02, (f))."""
+    """Returns the place of set bit n, counted from 0; or none, and the number of set bits."""
     ones = word.bit_count()
     return [places(word)[n]] if n < ones else [MISSING, ones]
 
@@ -357,7 +357,7 @@ def and_not_at(first, a, second, b, index):
 
 
 def may_reassign(permission, p, revocation, r, truck):
-    """By paper 02 (d) an operator with no permission mask may reassign nothing; the checks are those of `and_not_at`."""
+    """An operator with no permission mask may reassign nothing; the checks are those of `and_not_at`."""
     flag = and_not_at(permission, p, revocation, r, truck)
     return [0] if permission is None else flag
 
@@ -384,7 +384,7 @@ def superseding_bytes(first, a, s, second, b, t):
 
 
 def next_and_not(first, a, second, b, place):
-    """Returns, by paper 02 (m), the first position at or after the place, else the first from 0; and the windows up to the one with it."""
+    """Returns the first position at or after the place, else the first from 0; and the windows up to the one with it."""
     n = first[1]
     checks = mask_checks(first, a) + [(6, place <= n)]
     if second is not None:
@@ -480,7 +480,7 @@ def next_chunk(lent, start, n, place, masked, out):
     return [len(some), start, n, behind, masked], some + out[len(some) :]
 
 
-# Paper 02 (l): the window of minutes. Its arrays are bytes, 256 words and 64 counts; a refusal by 16 may leave an output of its own.
+# The window of minutes. Its arrays are bytes, 256 words and 64 counts; a refusal by 16 may leave an output of its own.
 
 
 def busy(words):

@@ -1,4 +1,4 @@
-//! The window of the last minutes, as paper 02 (l) defines it: over the list of minutes, every count made afresh.
+//! The window of the last minutes, as the reference defines it: over the list of minutes, every count made afresh.
 
 /// The one number of these calls.
 pub const REFUSED: u8 = 16;

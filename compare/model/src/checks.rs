@@ -1,4 +1,4 @@
-//! The checks 1 to 9 of the reference, and 14 of paper 02.
+//! The checks 1 to 9 and 14 of the reference.
 
 use crate::{Answer, Builder, Cursor, LIMIT, Lent, Span, State, frozen_size};
 

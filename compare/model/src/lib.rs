@@ -1,4 +1,4 @@
-//! The calls of the library as the reference and paper 02 define them, flag by flag over lists of flags.
+//! The calls of the library as the reference defines them, flag by flag over lists of flags.
 //!
 //! Nothing here is taken from the library: no word is shifted, no count is kept in addition to the flags, and each sum is taken in 128
 //! bits. It is slow and meant to be read next to the reference. A public function without a comment models the call of its name.

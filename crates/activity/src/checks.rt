@@ -1,4 +1,4 @@
-// Whether a run of minutes leaves a record: its numbers, its words and its counts.
+//! Whether a run of minutes leaves a record: its numbers, its words and its counts.
 ghost use Rattle.std.specs.Prelude.{◌≡◌, ℕ, ◌≤◌, Bool, true, ◌&&◌, ◌==◌, fold, eqb};
 ghost use Rattle.std.specs.Int.Bits.{bit_or};
 ghost use Rattle.std.specs.List.{zip};
@@ -25,16 +25,16 @@ fn numbers_fit(place: usize, fill: usize, width: usize) -> bool
     width_fits(width) && place < width && fill <= width && (width <= fill || place == fill)
 }
 
-// Returns whether all words are zero. The fold joins the words, so that it is vectorised: compared with 0 one by one, 255 words take 1.8
-// times the instructions.
+// Returns whether all words are zero. The fold joins the words, so that it is vectorised: the target has no comparison of 64-bit lanes
+// (PROVING, `all_zero`).
 fn all_zero(words: &[u64]) -> bool
     ensures { result ≡ eqb (fold (λ all w. bit_or all w) 0 words.now) 0 }
 {
     words.iter().fold(0, |all, w| all | *w) == 0
 }
 
-// Returns whether two lists of 64 numbers are equal. This fold reads each pair: with `all` it takes 3.4 times the instructions, and with
-// `==` of the arrays `push_minute` takes 1.04 times.
+// Returns whether two lists of 64 numbers are equal. This fold reads each pair, and is faster than `all` and than `==` of the arrays
+// (PROVING, `same_numbers`).
 fn same_numbers(a: &[u32; 64], b: &[u32; 64]) -> bool
     ensures { result ≡ fold (λ (same : Bool) (p : ℕ × ℕ). same && (p.0 == p.1)) true (zip a.now b.now) }
 {

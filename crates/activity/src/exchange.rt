@@ -1,4 +1,4 @@
-// The counts of a window in which one word takes the place of another.
+//! The counts of a window in which one word takes the place of another.
 ghost use Rattle.std.specs.Prelude.{ℕ, ◌≡◌, ◌+◌, ◌/◌, ◌%◌, ◌^◌, ◌≤◌, ◌<◌, get_or, length};
 ghost use Rattle.activity.specs.Workers.{Holds, Exchanged};
 

@@ -1,4 +1,4 @@
-// The calls over arrays that the caller keeps and lends: nothing of the window is copied.
+//! The calls over arrays that the caller keeps and lends: nothing of the window is copied.
 ghost use Rattle.std.specs.Prelude.{◌≡◌, IfOk};
 ghost use Rattle.activity.specs.Lent.{window_at, numbers_of};
 ghost use Rattle.activity.specs.Window.{failure_of, answer, minute_on, push_of, counts_of};
@@ -8,7 +8,7 @@ use crate::checks::left_by_minutes;
 use crate::exchange::exchange;
 use crate::window::{Refused, WindowRefusal, check};
 
-// The numbers of a window: where the next word goes, how many are kept, and how many are kept at most.
+/// The numbers of a window: where the next word goes, how many are kept, and how many are kept at most.
 #[derive(Clone, Copy)]
 pub struct Numbers {
     pub place: usize,
@@ -32,8 +32,8 @@ fn minute_in(words: &mut [u64; 256], counts: &mut [u32; 64], at: Numbers, word: 
     }
 }
 
-// Puts the word of the next minute into the window of the lent arrays, and returns its numbers. Refuses by 16 if no run of minutes leaves
-// the window: the arrays are unchanged, and the numbers are returned as they came.
+/// Puts the word of the next minute into the window of the lent arrays, and returns its numbers. Refuses by 16 if no run of minutes leaves
+/// the window: the arrays are unchanged, and the numbers are returned as they came.
 #[tactic(auto, unfolding(crate::specs::Window::push_of))]
 pub fn push_minute(
     words: &mut [u64; 256],
@@ -49,8 +49,8 @@ pub fn push_minute(
     Ok(minute_in(words, counts, at, word))
 }
 
-// Returns for each flag how many of the kept words of the lent arrays have it set. Refuses by 16 if no run of minutes leaves the
-// window.
+/// Returns for each flag how many of the kept words of the lent arrays have it set. Refuses by 16 if no run of minutes leaves the
+/// window.
 #[tactic(auto, unfolding(crate::specs::Window::counts_of))]
 pub fn counts(
     words: &[u64; 256],

@@ -1,4 +1,4 @@
-// The window of the last minutes: a record by value, 256 words of which the first `fill` are kept, and a count for each flag.
+//! The window of the last minutes: a record by value, 256 words of which the first `fill` are kept, and a count for each flag.
 ghost use Rattle.std.specs.Prelude.{◌≡◌, cond, Ok, Err, Some};
 ghost use Rattle.activity.specs.Window.{no_minute, number, reason, said, answer, new_of, push_of, counts_of};
 ghost use Rattle.activity.specs.declared.window.WindowRefusal.TheVariants.{ImpossibleWindow};
@@ -8,8 +8,8 @@ use crate::lent::{self, Numbers};
 use std::error::Error;
 use std::fmt;
 
-// A window of minutes. Minute k, counted from 0, is kept at k mod width. Unused words are zero. `place` is where the next word goes, and
-// `fill` the number of words kept. The words are an array and their number, since there is no heap and C lends arrays of this length.
+/// A window of minutes. Minute k, counted from 0, is kept at k mod width. Unused words are zero. `place` is where the next word goes, and
+/// `fill` the number of words kept. The words are an array and their number, since there is no heap and C lends arrays of this length.
 #[derive(Clone, Copy)]
 pub struct ActivityWindow {
     pub words: [u64; 256],
@@ -19,10 +19,10 @@ pub struct ActivityWindow {
     pub width: usize,
 }
 
-// The reason for a refusal.
+/// The reason for a refusal.
 #[derive(Clone, Copy, Debug, PartialEq, Eq)]
 pub enum WindowRefusal {
-    // 16: the width is not 1 to 256, or no run of minutes leaves the window.
+    /// 16: the width is not 1 to 256, or no run of minutes leaves the window.
     ImpossibleWindow,
 }
 
@@ -70,7 +70,7 @@ impl From<WindowRefusal> for u8 {
     }
 }
 
-// A refusal, and the state that the call got. `new` gets none, and `counts` does not return counts that are in doubt: theirs are zeros.
+/// A refusal, and the state that the call got. `new` gets none, and `counts` does not return counts that are in doubt: theirs are zeros.
 #[derive(Clone, Copy, Debug, PartialEq, Eq)]
 pub struct Refused<S> {
     pub refusal: WindowRefusal,
@@ -85,9 +85,20 @@ impl<S> fmt::Display for Refused<S> {
     }
 }
 
+// By this `?` passes the refusal on, in a caller that does not return the state.
+impl<S: Drop> From<Refused<S>> for WindowRefusal {
+    ghost from_gives = { λ e r. r ≡ e.refusal };
+
+    fn from(refused: Refused<S>) -> WindowRefusal {
+        refused.refusal
+    }
+}
+
+impl<S: fmt::Debug + Drop> Error for Refused<S> {}
+
 impl ActivityWindow {
-    // Returns a window that keeps up to `width` words, 1 to 256, and has none yet. Refuses any other width by 16, with a window of zeros:
-    // its width is 0 too, so that every call refuses it.
+    /// Returns a window that keeps up to `width` words, 1 to 256, and has none yet. Refuses any other width by 16, with a window of zeros:
+    /// its width is 0 too, so that every call refuses it.
     #[tactic(auto, unfolding(crate::specs::Window::new_of))]
     pub fn new(width: usize) -> Result<ActivityWindow, Refused<ActivityWindow>>
         ensures { answer result ≡ new_of width }
@@ -96,8 +107,8 @@ impl ActivityWindow {
         Ok(no_minute(width))
     }
 
-    // Returns the window after one more minute, with `word` as the word of that minute. Refuses by 16 if no run of minutes leaves this
-    // window, and returns it as it came.
+    /// Returns the window after one more minute, with `word` as the word of that minute. Refuses by 16 if no run of minutes leaves this
+    /// window, and returns it as it came.
     #[tactic(auto, unfolding(crate::specs::Window::push_of))]
     pub fn push_minute(self, word: u64) -> Result<ActivityWindow, Refused<ActivityWindow>>
         ensures { answer result ≡ push_of self word }
@@ -121,7 +132,7 @@ impl ActivityWindow {
         })
     }
 
-    // Returns for each flag how many of the kept words have it set. Refuses by 16 if no run of minutes leaves this window, with 64 zeros.
+    /// Returns for each flag how many of the kept words have it set. Refuses by 16 if no run of minutes leaves this window, with 64 zeros.
     #[tactic(auto, unfolding(crate::specs::Window::counts_of, crate::specs::Window::zeros))]
     pub fn counts(self) -> Result<[u32; 64], Refused<[u32; 64]>>
         ensures { answer result ≡ counts_of self }

@@ -1,11 +1,11 @@
-// The records in which answers are passed to C and Rust. `refusal` is 0, or the number of the check that failed. On refusal the fields for
-// what the call would have changed (a mask, a builder, a cursor's place, the cursor of an offer, a window's numbers) hold it unchanged;
-// every other field is 0. The answers, and the parameters of the exports, have a number for a refusal and a flag next to a value, since C
-// has neither `Result` nor `Option`.
-//
-// The `From` of most answers, here and next to exports, has one shape: a value goes into its fields, a refusal into a record of zeros. One
-// generic impl cannot name the fields, since C has no generics and each answer is a record of its own. Over a trait each record would
-// still write both arms, as two functions.
+//! The records in which answers are passed to C and Rust. `refusal` is 0, or the number of the check that failed. On refusal the fields for
+//! what the call would have changed (a mask, a builder, a cursor's place, the cursor of an offer, a window's numbers) hold it unchanged;
+//! every other field is 0. The answers, and the parameters of the exports, have a number for a refusal and a flag next to a value, since C
+//! has neither `Result` nor `Option`.
+//!
+//! The `From` of most answers, here and next to exports, has one shape: a value goes into its fields, a refusal into a record of zeros. One
+//! generic impl cannot name the fields, since C has no generics and each answer is a record of its own. Over a trait each record would
+//! still write both arms, as two functions.
 ghost use Rattle.std.specs.Prelude.{◌≡◌};
 ghost use Rattle.masks.specs.equations.Answer.{answer, answer_back};
 ghost use Rattle.capi.specs.Answers.{as_flag, as_mask, as_number};
@@ -14,7 +14,7 @@ use crate::records::{Builder, Cursor, Mask};
 use masks::bitmap::Bitmap;
 use masks::refusal::{Refusal, Refused};
 
-// A number.
+/// A number.
 #[repr(C)]
 #[derive(Clone, Copy, Default)]
 pub struct NumberAnswer {
@@ -22,7 +22,7 @@ pub struct NumberAnswer {
     pub value: usize,
 }
 
-// A flag, or the answer yes or no.
+/// A flag, or the answer yes or no.
 #[repr(C)]
 #[derive(Clone, Copy, Default)]
 pub struct FlagAnswer {
@@ -30,7 +30,7 @@ pub struct FlagAnswer {
     pub value: bool,
 }
 
-// A position, if `found`; else `value` is 0.
+/// A position, if `found`; else `value` is 0.
 #[repr(C)]
 #[derive(Clone, Copy, Default)]
 pub struct PositionAnswer {
@@ -39,7 +39,7 @@ pub struct PositionAnswer {
     pub value: usize,
 }
 
-// The position of a set bit of a word in `value`, if `found`; else the number of set bits of the word in `ones`.
+/// The position of a set bit of a word in `value`, if `found`; else the number of set bits of the word in `ones`.
 #[repr(C)]
 #[derive(Clone, Copy, Default)]
 pub struct NthAnswer {
@@ -49,7 +49,7 @@ pub struct NthAnswer {
     pub ones: u32,
 }
 
-// A position, if `found`, and the number of windows of 32 flags read.
+/// A position, if `found`, and the number of windows of 32 flags read.
 #[repr(C)]
 #[derive(Clone, Copy, Default)]
 pub struct NextAnswer {
@@ -59,7 +59,7 @@ pub struct NextAnswer {
     pub windows: usize,
 }
 
-// A truck, if `found`; the cursor for the next call; and the number of windows of 32 flags read.
+/// A truck, if `found`; the cursor for the next call; and the number of windows of 32 flags read.
 #[repr(C)]
 #[derive(Clone, Copy, Default)]
 pub struct OfferAnswer {
@@ -70,7 +70,7 @@ pub struct OfferAnswer {
     pub windows: usize,
 }
 
-// A mask.
+/// A mask.
 #[repr(C)]
 #[derive(Clone, Copy, Default)]
 pub struct MaskAnswer {
@@ -78,7 +78,7 @@ pub struct MaskAnswer {
     pub mask: Mask,
 }
 
-// A mask, if `present`. If `present` is false and `refusal` is 0, all flags are set, or there are none.
+/// A mask, if `present`. If `present` is false and `refusal` is 0, all flags are set, or there are none.
 #[repr(C)]
 #[derive(Clone, Copy, Default)]
 pub struct ValidityAnswer {
@@ -87,7 +87,7 @@ pub struct ValidityAnswer {
     pub mask: Mask,
 }
 
-// The number of zeros of a mask, and the mask with that count stored.
+/// The number of zeros of a mask, and the mask with that count stored.
 #[repr(C)]
 #[derive(Clone, Copy)]
 pub struct ZerosAnswer {
@@ -96,8 +96,8 @@ pub struct ZerosAnswer {
     pub mask: Mask,
 }
 
-// The winner of two masks. It is the second one if `second` is true, else the first. Its bytes are those of the slice passed with it that
-// are numbered `from` up to, not including, `to`; `mask` is its record over them. On refusal they are an empty part of the first slice.
+/// The winner of two masks. It is the second one if `second` is true, else the first. Its bytes are those of the slice passed with it that
+/// are numbered `from` up to, not including, `to`; `mask` is its record over them. On refusal they are an empty part of the first slice.
 #[repr(C)]
 #[derive(Clone, Copy, Default)]
 pub struct PartAnswer {
@@ -108,7 +108,7 @@ pub struct PartAnswer {
     pub mask: Mask,
 }
 
-// The builder after the append, unchanged on refusal.
+/// The builder after the append, unchanged on refusal.
 #[repr(C)]
 #[derive(Clone, Copy)]
 pub struct BuilderAnswer {
@@ -116,7 +116,7 @@ pub struct BuilderAnswer {
     pub builder: Builder,
 }
 
-// A new cursor.
+/// A new cursor.
 #[repr(C)]
 #[derive(Clone, Copy, Default)]
 pub struct CursorAnswer {
@@ -124,9 +124,9 @@ pub struct CursorAnswer {
     pub cursor: Cursor,
 }
 
-// The item that a cursor returns, if `found`, and the cursor's new place; its start and length do not change. `value` is a word, a run's
-// start, a flag as 0 or 1, or a position; `count` is a run's length, the number of flags of a remainder, of flags counted or of
-// positions written.
+/// The item that a cursor returns, if `found`, and the cursor's new place; its start and length do not change. `value` is a word, a run's
+/// start, a flag as 0 or 1, or a position; `count` is a run's length, the number of flags of a remainder, of flags counted or of
+/// positions written.
 #[repr(C)]
 #[derive(Clone, Copy, Default)]
 pub struct StepAnswer {
@@ -137,7 +137,7 @@ pub struct StepAnswer {
     pub place: usize,
 }
 
-// A span split in three: the lengths are in flags, `bulk_start` is a byte of the buffer, `bulk_len` is a number of words.
+/// A span split in three: the lengths are in flags, `bulk_start` is a byte of the buffer, `bulk_len` is a number of words.
 #[repr(C)]
 #[derive(Clone, Copy, Default)]
 pub struct SplitAnswer {
@@ -150,7 +150,7 @@ pub struct SplitAnswer {
     pub suffix_len: usize,
 }
 
-// Two spans.
+/// Two spans.
 #[repr(C)]
 #[derive(Clone, Copy, Default)]
 pub struct SpansAnswer {
@@ -161,7 +161,7 @@ pub struct SpansAnswer {
     pub second_length: usize,
 }
 
-// A window of minutes without its arrays: the place of its next word, the number of words that it has, and its width.
+/// A window of minutes without its arrays: the place of its next word, the number of words that it has, and its width.
 #[repr(C)]
 #[derive(Clone, Copy, Default)]
 pub struct WindowAnswer {

@@ -1,4 +1,4 @@
-// Exported to C and Rust: the combination `and_not` at one index.
+//! Exported to C and Rust: the combination `and_not` at one index.
 #![tactic(auto, using(masks::proofs::refusal::ClauseLaws::answered), unfolding(masks::specs::equations::AtIndex::and_not_at_of))]
 
 ghost use Rattle.std.specs.Prelude.{◌≡◌};
@@ -10,9 +10,9 @@ use crate::answers::FlagAnswer;
 use crate::records::{Mask, optional_in};
 use masks::at_index::and_not_at;
 
-// Returns whether the flag at `index` is set in the first mask and not in the second. If `first_present` is false there is no first
-// mask, which means all ones; if `second_present` is false there is no second mask, which means all zeros. The record and bytes of an
-// absent mask are not read. Refusal 5 occurs only with both masks; without any mask nothing is refused.
+/// Returns whether the flag at `index` is set in the first mask and not in the second. If `first_present` is false there is no first
+/// mask, which means all ones; if `second_present` is false there is no second mask, which means all zeros. The record and bytes of an
+/// absent mask are not read. Refusal 5 occurs only with both masks; without any mask nothing is refused.
 #[unsafe(no_mangle)]
 pub extern "C" fn pw_and_not_at(
     first_present: bool,

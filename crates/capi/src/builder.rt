@@ -1,5 +1,5 @@
-// Exported to C and Rust: the builder. Each append writes finished words to `buf`, leaves its other bytes unchanged, and returns the
-// builder after it; pw_freeze and pw_into_opt_validity write the frozen bytes at the start of `buf`.
+//! Exported to C and Rust: the builder. Each append writes finished words to `buf`, leaves its other bytes unchanged, and returns the
+//! builder after it; pw_freeze and pw_into_opt_validity write the frozen bytes at the start of `buf`.
 #![tactic(auto, using(masks::proofs::refusal::ClauseLaws::answered_back, masks::proofs::refusal::ClauseLaws::written_back), unfolding(masks::specs::equations::Freeze::freeze_bytes))]
 
 ghost use Rattle.std.specs.Prelude.{◌≡◌};
@@ -56,7 +56,7 @@ impl From<Result<Option<Bitmap>, Refused<BitmapBuilder>>> for ValidityAnswer {
     }
 }
 
-// Returns a builder with no flags.
+/// Returns a builder with no flags.
 #[unsafe(no_mangle)]
 pub extern "C" fn pw_builder_new() -> Builder
     ensures { result ≡ builder_out new_builder }
@@ -64,7 +64,7 @@ pub extern "C" fn pw_builder_new() -> Builder
     BitmapBuilder::new().into()
 }
 
-// Appends `flag`.
+/// Appends `flag`.
 #[unsafe(no_mangle)]
 pub extern "C" fn pw_push(
     length: usize,
@@ -79,7 +79,7 @@ pub extern "C" fn pw_push(
     builder_in(length, word, ones).push(buf, flag).into()
 }
 
-// Appends `n` copies of `flag`.
+/// Appends `n` copies of `flag`.
 #[unsafe(no_mangle)]
 pub extern "C" fn pw_extend_constant(
     length: usize,
@@ -97,7 +97,7 @@ pub extern "C" fn pw_extend_constant(
         .into()
 }
 
-// Appends the lowest `n` bits of `flags`, bit 0 first. `n` must be at most 64, and all higher bits 0.
+/// Appends the lowest `n` bits of `flags`, bit 0 first. `n` must be at most 64, and all higher bits 0.
 #[unsafe(no_mangle)]
 pub extern "C" fn pw_push_word_with_len_unchecked(
     length: usize,
@@ -115,7 +115,7 @@ pub extern "C" fn pw_push_word_with_len_unchecked(
         .into()
 }
 
-// Appends the `n` flags of `bytes` that start at bit `start`.
+/// Appends the `n` flags of `bytes` that start at bit `start`.
 #[unsafe(no_mangle)]
 pub extern "C" fn pw_extend_from_slice(
     length: usize,
@@ -136,7 +136,7 @@ pub extern "C" fn pw_extend_from_slice(
         .into()
 }
 
-// Appends `repeats` copies of each of the `n` flags of `bytes` that start at bit `start`, one flag after the other.
+/// Appends `repeats` copies of each of the `n` flags of `bytes` that start at bit `start`, one flag after the other.
 #[unsafe(no_mangle)]
 pub extern "C" fn pw_extend_each_repeated_from_slice_unchecked(
     length: usize,
@@ -158,7 +158,7 @@ pub extern "C" fn pw_extend_each_repeated_from_slice_unchecked(
         .into()
 }
 
-// Appends the `n` flags of `mask` that start at its flag `start`.
+/// Appends the `n` flags of `mask` that start at its flag `start`.
 #[unsafe(no_mangle)]
 pub extern "C" fn pw_subslice_extend_from_bitmap(
     length: usize,
@@ -181,7 +181,7 @@ pub extern "C" fn pw_subslice_extend_from_bitmap(
         .into()
 }
 
-// Appends, for each index in `idxs`, that flag of the `n` flags of `bytes` that start at bit `start`. Each index must be below `n`.
+/// Appends, for each index in `idxs`, that flag of the `n` flags of `bytes` that start at bit `start`. Each index must be below `n`.
 #[unsafe(no_mangle)]
 pub extern "C" fn pw_gather_extend_from_slice(
     length: usize,
@@ -204,7 +204,7 @@ pub extern "C" fn pw_gather_extend_from_slice(
         .into()
 }
 
-// Appends, for each index in `idxs`, that flag of the `n` flags of `bytes` that start at bit `start`, or 0 if the index is `n` or more.
+/// Appends, for each index in `idxs`, that flag of the `n` flags of `bytes` that start at bit `start`, or 0 if the index is `n` or more.
 #[unsafe(no_mangle)]
 pub extern "C" fn pw_opt_gather_extend_from_slice(
     length: usize,
@@ -227,8 +227,8 @@ pub extern "C" fn pw_opt_gather_extend_from_slice(
         .into()
 }
 
-// Writes the frozen bytes of the builder's flags at the start of `buf` and returns the mask over them, with its zero count known from
-// `ones` and `word`, and with the builder's `serial`, which the caller kept. The builder is not returned: it does not change.
+/// Writes the frozen bytes of the builder's flags at the start of `buf` and returns the mask over them, with its zero count known from
+/// `ones` and `word`, and with the builder's `serial`, which the caller kept. The builder is not returned: it does not change.
 #[unsafe(no_mangle)]
 pub extern "C" fn pw_freeze(
     length: usize,
@@ -245,9 +245,9 @@ pub extern "C" fn pw_freeze(
         .into()
 }
 
-// Writes the frozen bytes of the builder's flags at the start of `buf` and returns the mask that pw_freeze returns, or no mask if all
-// flags are set, also if there are no flags. As in Arrow, no mask means all ones here; in pw_may_reassign no permission mask means no
-// truck: end the builder of a permission mask with pw_freeze.
+/// Writes the frozen bytes of the builder's flags at the start of `buf` and returns the mask that pw_freeze returns, or no mask if all
+/// flags are set, also if there are no flags. As in Arrow, no mask means all ones here; in pw_may_reassign no permission mask means no
+/// truck: end the builder of a permission mask with pw_freeze.
 #[unsafe(no_mangle)]
 pub extern "C" fn pw_into_opt_validity(
     length: usize,

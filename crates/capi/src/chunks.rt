@@ -1,4 +1,4 @@
-// Exported to C and Rust: the words of a span, and the flags after the last whole one.
+//! Exported to C and Rust: the words of a span, and the flags after the last whole one.
 #![tactic(auto, using(masks::proofs::refusal::ClauseLaws::answered, masks::proofs::refusal::ClauseLaws::answered_step, masks::proofs::refusal::ClauseLaws::answered_parts), unfolding(crate::specs::Answers::as_word, masks::specs::equations::Chunks::new_chunks, masks::specs::equations::Chunks::next_chunk, masks::specs::equations::Chunks::chunks_remainder))]
 
 ghost use Rattle.std.specs.Prelude.{◌≡◌};
@@ -21,7 +21,7 @@ fn chunks_in(start: usize, length: usize, place: usize) -> BitChunks
     }
 }
 
-// Returns a cursor at the first word of a span.
+/// Returns a cursor at the first word of a span.
 #[unsafe(no_mangle)]
 pub extern "C" fn pw_chunks_new(bytes: &[u8], start: usize, length: usize) -> CursorAnswer
     ensures { result ≡ as_cursor chunks_out (new_chunks bytes.now start length) }
@@ -29,7 +29,7 @@ pub extern "C" fn pw_chunks_new(bytes: &[u8], start: usize, length: usize) -> Cu
     BitChunks::new(bytes, start, length).into()
 }
 
-// Returns a cursor at the first word of the first `length` flags of `bytes`.
+/// Returns a cursor at the first word of the first `length` flags of `bytes`.
 #[unsafe(no_mangle)]
 pub extern "C" fn pw_chunks_new_exact(bytes: &[u8], length: usize) -> CursorAnswer
     ensures { result ≡ as_cursor chunks_out (new_chunks bytes.now 0 length) }
@@ -37,8 +37,8 @@ pub extern "C" fn pw_chunks_new_exact(bytes: &[u8], length: usize) -> CursorAnsw
     BitChunksExact::new(bytes, length).into()
 }
 
-// Returns the next word in `value` and moves the cursor one word on. After the last whole word `found` is false and the cursor does not
-// move.
+/// Returns the next word in `value` and moves the cursor one word on. After the last whole word `found` is false and the cursor does not
+/// move.
 #[unsafe(no_mangle)]
 pub extern "C" fn pw_chunks_next(
     start: usize,
@@ -51,8 +51,8 @@ pub extern "C" fn pw_chunks_next(
     chunks_in(start, length, place).next(bytes).into()
 }
 
-// Returns the last length mod 64 flags of the span as a word in `value`, zero above them, and their number in `count`. `found` is true.
-// The result does not depend on the place, and the cursor does not move.
+/// Returns the last length mod 64 flags of the span as a word in `value`, zero above them, and their number in `count`. `found` is true.
+/// The result does not depend on the place, and the cursor does not move.
 #[unsafe(no_mangle)]
 pub extern "C" fn pw_chunks_remainder(
     start: usize,

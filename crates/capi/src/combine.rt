@@ -1,4 +1,4 @@
-// Exported to C and Rust: the combinations of masks of equal lengths. The mask returned has start 0 and the largest of their serials.
+//! Exported to C and Rust: the combinations of masks of equal lengths. The mask returned has start 0 and the largest of their serials.
 #![tactic(auto, using(masks::proofs::refusal::ClauseLaws::answered, masks::proofs::refusal::ClauseLaws::written), unfolding(masks::specs::equations::Combine::pair_of, masks::specs::equations::Combine::pair_bytes, masks::specs::equations::Combine::each_of, masks::specs::equations::Combine::each_bytes))]
 
 ghost use Rattle.std.specs.Prelude.{◌≡◌};
@@ -12,7 +12,7 @@ use crate::answers::MaskAnswer;
 use crate::records::Mask;
 use masks::bitmap_ops::{and, and_not, not, or, or_not, select, select_constant, xor};
 
-// Writes which flags are set in both masks, as frozen bytes at the start of `out`, and returns the mask over them.
+/// Writes which flags are set in both masks, as frozen bytes at the start of `out`, and returns the mask over them.
 #[unsafe(no_mangle)]
 pub extern "C" fn pw_and(
     lhs: Mask,
@@ -29,8 +29,8 @@ pub extern "C" fn pw_and(
     and(lhs.into(), lhs_bytes, rhs.into(), rhs_bytes, out).into()
 }
 
-// Writes which flags are set in the first mask and not in the second, as frozen bytes at the start of `out`, and returns the mask over
-// them.
+/// Writes which flags are set in the first mask and not in the second, as frozen bytes at the start of `out`, and returns the mask over
+/// them.
 #[unsafe(no_mangle)]
 pub extern "C" fn pw_and_not(
     lhs: Mask,
@@ -47,7 +47,7 @@ pub extern "C" fn pw_and_not(
     and_not(lhs.into(), lhs_bytes, rhs.into(), rhs_bytes, out).into()
 }
 
-// Writes which flags are set in at least one of two masks, as frozen bytes at the start of `out`, and returns the mask over them.
+/// Writes which flags are set in at least one of two masks, as frozen bytes at the start of `out`, and returns the mask over them.
 #[unsafe(no_mangle)]
 pub extern "C" fn pw_or(
     lhs: Mask,
@@ -64,8 +64,8 @@ pub extern "C" fn pw_or(
     or(lhs.into(), lhs_bytes, rhs.into(), rhs_bytes, out).into()
 }
 
-// Writes which flags are set in the first mask or not set in the second, as frozen bytes at the start of `out`, and returns the mask
-// over them.
+/// Writes which flags are set in the first mask or not set in the second, as frozen bytes at the start of `out`, and returns the mask
+/// over them.
 #[unsafe(no_mangle)]
 pub extern "C" fn pw_or_not(
     lhs: Mask,
@@ -82,7 +82,7 @@ pub extern "C" fn pw_or_not(
     or_not(lhs.into(), lhs_bytes, rhs.into(), rhs_bytes, out).into()
 }
 
-// Writes which flags differ between two masks, as frozen bytes at the start of `out`, and returns the mask over them.
+/// Writes which flags differ between two masks, as frozen bytes at the start of `out`, and returns the mask over them.
 #[unsafe(no_mangle)]
 pub extern "C" fn pw_xor(
     lhs: Mask,
@@ -99,7 +99,7 @@ pub extern "C" fn pw_xor(
     xor(lhs.into(), lhs_bytes, rhs.into(), rhs_bytes, out).into()
 }
 
-// Writes each flag of a mask inverted, as frozen bytes at the start of `out`, and returns the mask over them.
+/// Writes each flag of a mask inverted, as frozen bytes at the start of `out`, and returns the mask over them.
 #[unsafe(no_mangle)]
 pub extern "C" fn pw_not(mask: Mask, bytes: &[u8], out: &mut [u8]) -> MaskAnswer
     ensures answer { result ≡ as_mask (not_of (mask_in mask) bytes.now out.old) }
@@ -108,8 +108,8 @@ pub extern "C" fn pw_not(mask: Mask, bytes: &[u8], out: &mut [u8]) -> MaskAnswer
     not(mask.into(), bytes, out).into()
 }
 
-// Writes the flag of `truthy` where the selector's is set, else that of `falsy`, as frozen bytes at the start of `out`, and returns the
-// mask over them.
+/// Writes the flag of `truthy` where the selector's is set, else that of `falsy`, as frozen bytes at the start of `out`, and returns the
+/// mask over them.
 #[unsafe(no_mangle)]
 pub extern "C" fn pw_select(
     selector: Mask,
@@ -139,8 +139,8 @@ pub extern "C" fn pw_select(
     .into()
 }
 
-// Writes the flag of `truthy` where the selector's is set, else `flag`, as frozen bytes at the start of `out`, and returns the mask over
-// them.
+/// Writes the flag of `truthy` where the selector's is set, else `flag`, as frozen bytes at the start of `out`, and returns the mask over
+/// them.
 #[unsafe(no_mangle)]
 pub extern "C" fn pw_select_constant(
     selector: Mask,

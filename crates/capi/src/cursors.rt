@@ -1,4 +1,4 @@
-// Exported to C and Rust: the cursors over runs, flags and positions. A step that finds nothing moves the cursor to the length.
+//! Exported to C and Rust: the cursors over runs, flags and positions. A step that finds nothing moves the cursor to the length.
 #![tactic(auto, using(masks::proofs::refusal::ClauseLaws::answered, masks::proofs::refusal::ClauseLaws::answered_step, masks::proofs::refusal::ClauseLaws::answered_parts, masks::proofs::refusal::ClauseLaws::written_back, masks::proofs::refusal::SpanClauses::iter_made), unfolding(crate::specs::Answers::as_bit, crate::specs::Answers::as_run, crate::specs::Answers::as_word, crate::specs::Records::true_in, masks::specs::equations::Iterator::nth_flag, masks::specs::equations::Iterator::take_leading, masks::specs::equations::Positions::next_positions, masks::specs::equations::Positions::positions_over, masks::specs::equations::SliceIterator::new_slices, masks::specs::equations::SliceIterator::next_slice, masks::specs::equations::TrueIdx::new_true, masks::specs::equations::TrueIdx::next_true))]
 
 ghost use Rattle.std.specs.Prelude.{◌≡◌, true, false, length as list_length};
@@ -19,7 +19,7 @@ use masks::true_idx::TrueIdxIter;
 
 // ---- runs
 
-// Returns a cursor before the first run of ones of a mask.
+/// Returns a cursor before the first run of ones of a mask.
 #[unsafe(no_mangle)]
 pub extern "C" fn pw_slices_new(mask: Mask, bytes: &[u8]) -> CursorAnswer
     ensures { result ≡ as_cursor slices_out (new_slices (mask_in mask) bytes.now) }
@@ -27,8 +27,8 @@ pub extern "C" fn pw_slices_new(mask: Mask, bytes: &[u8]) -> CursorAnswer
     SlicesIterator::new(mask.into(), bytes).into()
 }
 
-// Returns the next run of ones, its start in `value` and its length in `count`, and moves the cursor past it. If there is no further
-// run, `found` is false and the place is the length.
+/// Returns the next run of ones, its start in `value` and its length in `count`, and moves the cursor past it. If there is no further
+/// run, `found` is false and the place is the length.
 #[unsafe(no_mangle)]
 pub extern "C" fn pw_slices_next(
     start: usize,
@@ -59,7 +59,7 @@ fn iter_in(start: usize, length: usize, place: usize) -> BitmapIter
     }
 }
 
-// Returns a cursor before the first flag of a span. With length 0 its start, length and place are 0, without any check.
+/// Returns a cursor before the first flag of a span. With length 0 its start, length and place are 0, without any check.
 #[unsafe(no_mangle)]
 pub extern "C" fn pw_iter_new(bytes: &[u8], start: usize, length: usize) -> CursorAnswer
     ensures { result ≡ as_cursor iter_out (new_iter bytes.now start length) }
@@ -67,7 +67,7 @@ pub extern "C" fn pw_iter_new(bytes: &[u8], start: usize, length: usize) -> Curs
     BitmapIter::new(bytes, start, length).into()
 }
 
-// Returns the next flag, 0 or 1, in `value` and moves the cursor past it. At the end `found` is false and the cursor does not move.
+/// Returns the next flag, 0 or 1, in `value` and moves the cursor past it. At the end `found` is false and the cursor does not move.
 #[unsafe(no_mangle)]
 pub extern "C" fn pw_iter_next(
     start: usize,
@@ -80,8 +80,8 @@ pub extern "C" fn pw_iter_next(
     iter_in(start, length, place).next(bytes).into()
 }
 
-// Skips `n` flags, returns the following one, 0 or 1, in `value` and moves the cursor past it. If there is no such flag, `found` is
-// false and the place is the length.
+/// Skips `n` flags, returns the following one, 0 or 1, in `value` and moves the cursor past it. If there is no such flag, `found` is
+/// false and the place is the length.
 #[unsafe(no_mangle)]
 pub extern "C" fn pw_iter_nth(
     start: usize,
@@ -95,8 +95,8 @@ pub extern "C" fn pw_iter_nth(
     iter_in(start, length, place).nth(bytes, n).into()
 }
 
-// Counts the ones from the cursor up to the next zero, or to the end, returns their number in `count` and moves the cursor past them.
-// `found` is true, also if `count` is 0.
+/// Counts the ones from the cursor up to the next zero, or to the end, returns their number in `count` and moves the cursor past them.
+/// `found` is true, also if `count` is 0.
 #[unsafe(no_mangle)]
 pub extern "C" fn pw_take_leading_ones(
     start: usize,
@@ -111,8 +111,8 @@ pub extern "C" fn pw_take_leading_ones(
         .into()
 }
 
-// Counts the zeros from the cursor up to the next one, or to the end, returns their number in `count` and moves the cursor past them.
-// `found` is true, also if `count` is 0.
+/// Counts the zeros from the cursor up to the next one, or to the end, returns their number in `count` and moves the cursor past them.
+/// `found` is true, also if `count` is 0.
 #[unsafe(no_mangle)]
 pub extern "C" fn pw_take_leading_zeros(
     start: usize,
@@ -140,9 +140,9 @@ fn true_in(start: usize, length: usize, place: usize, masked: u8) -> TrueIdxIter
     }
 }
 
-// Returns a cursor before the first position of a one in a mask of `length` flags. If `present` is false there is no mask: its record
-// and bytes are not read, the cursor has every position below `length`, as in Arrow, and 1 is the only refusal. In pw_may_reassign no
-// permission mask means no truck.
+/// Returns a cursor before the first position of a one in a mask of `length` flags. If `present` is false there is no mask: its record
+/// and bytes are not read, the cursor has every position below `length`, as in Arrow, and 1 is the only refusal. In pw_may_reassign no
+/// permission mask means no truck.
 #[unsafe(no_mangle)]
 pub extern "C" fn pw_true_idx_new(
     length: usize,
@@ -155,8 +155,8 @@ pub extern "C" fn pw_true_idx_new(
     TrueIdxIter::new(length, optional_in(present, mask), bytes).into()
 }
 
-// Returns the next position of a one in `value` and moves the cursor past it. If there is no further one, `found` is false and the place
-// is the length. If `masked` is 0 there is no mask: every position is returned, and refusal 2 does not occur.
+/// Returns the next position of a one in `value` and moves the cursor past it. If there is no further one, `found` is false and the place
+/// is the length. If `masked` is 0 there is no mask: every position is returned, and refusal 2 does not occur.
 #[unsafe(no_mangle)]
 pub extern "C" fn pw_true_idx_next(
     start: usize,
@@ -170,10 +170,10 @@ pub extern "C" fn pw_true_idx_next(
     true_in(start, length, place, masked).next(bytes).into()
 }
 
-// Writes the next positions of ones at the start of `out`, as many as there are and it has room for, and returns their number in
-// `count`. They are what as many calls of pw_true_idx_next return; the rest of `out` is unchanged. The cursor moves past the last of
-// them, or to the length if `out` is not filled; if `out` is empty it does not move. `found` is true. If `masked` is 0 there is no mask:
-// every position is written, and refusal 2 does not occur.
+/// Writes the next positions of ones at the start of `out`, as many as there are and it has room for, and returns their number in
+/// `count`. They are what as many calls of pw_true_idx_next return; the rest of `out` is unchanged. The cursor moves past the last of
+/// them, or to the length if `out` is not filled; if `out` is empty it does not move. `found` is true. If `masked` is 0 there is no mask:
+/// every position is written, and refusal 2 does not occur.
 #[unsafe(no_mangle)]
 pub extern "C" fn pw_true_idx_next_chunk(
     start: usize,

@@ -1,9 +1,9 @@
-// The calls of words, activity, masks and dispatch as functions that C and Rust link. Records are passed as numbers, a slice as its pointer
-// and its number of elements; include/poruwhina.h declares all the functions.
-//
-// This crate only converts: each export makes the call's records from its numbers, makes the call, and makes numbers from the answer. Each
-// call has an export of its own, since C links names: so there are several exports of one shape. What belongs together, as a mask and its
-// bytes or a cursor's numbers, is passed as several parameters, as the C interface has it.
+//! The calls of words, activity, masks and dispatch as functions that C and Rust link. Records are passed as numbers, a slice as its
+//! pointer and its number of elements; include/poruwhina.h declares all the functions.
+//!
+//! This crate only converts: each export makes the call's records from its numbers, makes the call, and makes numbers from the answer. Each
+//! call has an export of its own, since C links names: so there are several exports of one shape. What belongs together, as a mask and its
+//! bytes or a cursor's numbers, is passed as several parameters, as the C interface has it.
 #![tactic(auto)]
 
 pub mod answers;

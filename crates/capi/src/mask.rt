@@ -1,4 +1,4 @@
-// Exported to C and Rust: the calls that make, slice, count and compare masks.
+//! Exported to C and Rust: the calls that make, slice, count and compare masks.
 #![tactic(auto, using(masks::proofs::refusal::ClauseLaws::answered, masks::proofs::refusal::ClauseLaws::answered_back, masks::proofs::refusal::ClauseLaws::answered_recounted, masks::proofs::refusal::ClauseLaws::written), unfolding(masks::specs::equations::Mask::try_new_of, masks::specs::equations::Mask::slice_of, masks::specs::equations::Mask::new_zeroed_of, masks::specs::equations::Mask::new_zeroed_bytes, masks::specs::equations::Compare::common_of, masks::specs::equations::Compare::edges_of, masks::specs::equations::Compare::eq_of))]
 
 ghost use Rattle.std.specs.Prelude.{◌≡◌};
@@ -53,7 +53,7 @@ fn counting_out(came: Mask, r: Result<Recounted, Refused<Bitmap>>) -> ZerosAnswe
     }
 }
 
-// Returns the mask of no flags, its zero count known as 0.
+/// Returns the mask of no flags, its zero count known as 0.
 #[unsafe(no_mangle)]
 pub extern "C" fn pw_bitmap_new() -> Mask
     ensures { result ≡ mask_out empty_mask }
@@ -61,7 +61,7 @@ pub extern "C" fn pw_bitmap_new() -> Mask
     Bitmap::new().into()
 }
 
-// Writes the frozen bytes of `length` zeros at the start of `out` and returns the mask over them, its zero count known.
+/// Writes the frozen bytes of `length` zeros at the start of `out` and returns the mask over them, its zero count known.
 #[unsafe(no_mangle)]
 pub extern "C" fn pw_new_zeroed(length: usize, out: &mut [u8]) -> MaskAnswer
     ensures answer { result ≡ as_mask (new_zeroed_of length out.old) }
@@ -70,8 +70,8 @@ pub extern "C" fn pw_new_zeroed(length: usize, out: &mut [u8]) -> MaskAnswer
     Bitmap::new_zeroed(length, out).into()
 }
 
-// Returns the mask of the `length` flags of `bytes` that start at bit `start`. Its zero count is unknown, or known as 0 if `length` is
-// 0.
+/// Returns the mask of the `length` flags of `bytes` that start at bit `start`. Its zero count is unknown, or known as 0 if `length` is
+/// 0.
 #[unsafe(no_mangle)]
 pub extern "C" fn pw_try_new(bytes: &[u8], start: usize, length: usize) -> MaskAnswer
     ensures { result ≡ as_mask (try_new_of bytes.now start length) }
@@ -79,8 +79,8 @@ pub extern "C" fn pw_try_new(bytes: &[u8], start: usize, length: usize) -> MaskA
     Bitmap::try_new(bytes, start, length).into()
 }
 
-// Returns the mask of the `length` flags of `mask` that start at its flag `offset`, over the same bytes. Its zero count may be unknown
-// although that of `mask` is known.
+/// Returns the mask of the `length` flags of `mask` that start at its flag `offset`, over the same bytes. Its zero count may be unknown
+/// although that of `mask` is known.
 #[unsafe(no_mangle)]
 pub extern "C" fn pw_slice(mask: Mask, bytes: &[u8], offset: usize, length: usize) -> MaskAnswer
     ensures { result ≡ as_same_mask mask (slice_of (mask_in mask) bytes.now offset length) }
@@ -88,7 +88,7 @@ pub extern "C" fn pw_slice(mask: Mask, bytes: &[u8], offset: usize, length: usiz
     sliced_out(mask, Bitmap::from(mask).slice(bytes, offset, length))
 }
 
-// Returns the number of zeros of `mask`, and the mask with that count stored.
+/// Returns the number of zeros of `mask`, and the mask with that count stored.
 #[unsafe(no_mangle)]
 pub extern "C" fn pw_unset_bits(mask: Mask, bytes: &[u8]) -> ZerosAnswer
     ensures { result ≡ as_zeros mask (unset_bits_of (mask_in mask) bytes.now) }
@@ -96,7 +96,7 @@ pub extern "C" fn pw_unset_bits(mask: Mask, bytes: &[u8]) -> ZerosAnswer
     counting_out(mask, Bitmap::from(mask).unset_bits(bytes))
 }
 
-// Returns whether two masks have equal lengths and equal flags. Unequal lengths are not refused, and serials are ignored.
+/// Returns whether two masks have equal lengths and equal flags. Unequal lengths are not refused, and serials are ignored.
 #[unsafe(no_mangle)]
 pub extern "C" fn pw_eq(lhs: Mask, lhs_bytes: &[u8], rhs: Mask, rhs_bytes: &[u8]) -> FlagAnswer
     ensures { result ≡ as_flag (eq_of (mask_in lhs) lhs_bytes.now (mask_in rhs) rhs_bytes.now) }
@@ -104,7 +104,7 @@ pub extern "C" fn pw_eq(lhs: Mask, lhs_bytes: &[u8], rhs: Mask, rhs_bytes: &[u8]
     eq(lhs.into(), lhs_bytes, rhs.into(), rhs_bytes).into()
 }
 
-// Counts the flags of a mask that differ from the next flag.
+/// Counts the flags of a mask that differ from the next flag.
 #[unsafe(no_mangle)]
 pub extern "C" fn pw_num_edges(mask: Mask, bytes: &[u8]) -> NumberAnswer
     ensures { result ≡ as_number (edges_of (mask_in mask) bytes.now) }
@@ -112,7 +112,7 @@ pub extern "C" fn pw_num_edges(mask: Mask, bytes: &[u8]) -> NumberAnswer
     num_edges(mask.into(), bytes).into()
 }
 
-// Counts the flags that are set in both of two masks of equal lengths.
+/// Counts the flags that are set in both of two masks of equal lengths.
 #[unsafe(no_mangle)]
 pub extern "C" fn pw_num_intersections_with(
     lhs: Mask,

@@ -1,4 +1,4 @@
-// Exported to C and Rust: the search for a flag that is set in one mask and not in another.
+//! Exported to C and Rust: the search for a flag that is set in one mask and not in another.
 #![tactic(auto, using(masks::proofs::refusal::ClauseLaws::answered), unfolding(masks::specs::equations::NextAndNot::next_and_not_of))]
 
 ghost use Rattle.std.specs.Prelude.{◌≡◌};
@@ -32,11 +32,11 @@ impl From<Result<Found, Refusal>> for NextAnswer {
     }
 }
 
-// Returns the first position at or after `from` that is set in the first mask and not in the second, else the first such position from 0;
-// `found` is false if there is no such position. If `second_present` is false there is no second mask, which means all zeros: its record
-// and bytes are not read, and refusal 5 does not occur. `windows` counts the windows of 32 flags read: they begin at `from` and every 32
-// flags after it, below the length, then at 0 and every 32 flags after it, below `from`; the last one read holds the position, or all
-// are read. A `from` equal to the length is allowed; above it the call is refused with 6.
+/// Returns the first position at or after `from` that is set in the first mask and not in the second, else the first such position from 0;
+/// `found` is false if there is no such position. If `second_present` is false there is no second mask, which means all zeros: its record
+/// and bytes are not read, and refusal 5 does not occur. `windows` counts the windows of 32 flags read: they begin at `from` and every 32
+/// flags after it, below the length, then at 0 and every 32 flags after it, below `from`; the last one read holds the position, or all
+/// are read. A `from` equal to the length is allowed; above it the call is refused with 6.
 #[unsafe(no_mangle)]
 pub extern "C" fn pw_next_and_not(
     first: Mask,

@@ -1,4 +1,4 @@
-// Exported to C and Rust: the next truck that dispatch offers.
+//! Exported to C and Rust: the next truck that dispatch offers.
 #![tactic(auto, using(dispatch::proofs::offer::OfferLaws::offer_answered), unfolding(dispatch::specs::equations::Offer::offer_of))]
 
 ghost use Rattle.std.specs.Prelude.{◌≡◌};
@@ -32,11 +32,11 @@ impl From<Result<Offering, RefusedOffer>> for OfferAnswer {
     }
 }
 
-// Returns the first truck at or after `cursor` that is permitted and not revoked, else the first such truck from 0, and in `cursor` the
-// number after that truck, for the next call. If there is no such truck, `found` is false and `cursor` is unchanged. `windows` counts
-// windows of 32 flags as pw_next_and_not does, at most ceil(length / 32) + 1. If `permitted` is false there is no permission mask: no
-// truck is found, and `windows` is 0. If `revoked` is false there is no revocation mask, and no truck is revoked. The record and bytes
-// of an absent mask are not read. Refusal 5 occurs only with both masks; 6 only with a permission mask, if `cursor` is above its length.
+/// Returns the first truck at or after `cursor` that is permitted and not revoked, else the first such truck from 0, and in `cursor` the
+/// number after that truck, for the next call. If there is no such truck, `found` is false and `cursor` is unchanged. `windows` counts
+/// windows of 32 flags as pw_next_and_not does, at most ceil(length / 32) + 1. If `permitted` is false there is no permission mask: no
+/// truck is found, and `windows` is 0. If `revoked` is false there is no revocation mask, and no truck is revoked. The record and bytes
+/// of an absent mask are not read. Refusal 5 occurs only with both masks; 6 only with a permission mask, if `cursor` is above its length.
 #[unsafe(no_mangle)]
 pub extern "C" fn pw_offer(
     permitted: bool,

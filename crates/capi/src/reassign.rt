@@ -1,4 +1,4 @@
-// Exported to C and Rust: dispatch.
+//! Exported to C and Rust: dispatch.
 #![tactic(auto, using(masks::proofs::refusal::ClauseLaws::answered), unfolding(dispatch::specs::equations::Dispatch::may_reassign))]
 
 ghost use Rattle.std.specs.Prelude.{◌≡◌};
@@ -10,11 +10,11 @@ use crate::answers::FlagAnswer;
 use crate::records::{Mask, optional_in};
 use dispatch::dispatch::may_reassign;
 
-// Returns whether truck number `truck` may be reassigned: its flag is set in the permission mask and not in the revocation mask. If
-// `permitted` is false there is no permission mask, and the answer is no for every truck; if `revoked` is false there is no revocation
-// mask, and no truck is revoked. The record and bytes of an absent mask are not read. Refusal 5 occurs only with both masks; without any
-// mask nothing is refused. No permission mask is the opposite of no mask from pw_into_opt_validity or in pw_true_idx_new, which means
-// all ones: end the builder of a permission mask with pw_freeze.
+/// Returns whether truck number `truck` may be reassigned: its flag is set in the permission mask and not in the revocation mask. If
+/// `permitted` is false there is no permission mask, and the answer is no for every truck; if `revoked` is false there is no revocation
+/// mask, and no truck is revoked. The record and bytes of an absent mask are not read. Refusal 5 occurs only with both masks; without any
+/// mask nothing is refused. No permission mask is the opposite of no mask from pw_into_opt_validity or in pw_true_idx_new, which means
+/// all ones: end the builder of a permission mask with pw_freeze.
 #[unsafe(no_mangle)]
 pub extern "C" fn pw_may_reassign(
     permitted: bool,

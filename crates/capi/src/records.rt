@@ -1,18 +1,18 @@
-// The records that are passed to and from C and Rust, and the record of masks that each one is.
-//
-// A builder and a cursor are returned as a record and passed again as its numbers, which stay in registers: a record that is passed
-// from call to call through memory costs several times the call.
-//
-// `known` is a flag next to a value, since C has no `Option`. It and `masked` are numbers, since a record may be damaged and a `bool`
-// other than 0 and 1 is undefined in C and in Rust.
+//! The records that are passed to and from C and Rust, and the record of masks that each one is.
+//!
+//! A builder and a cursor are returned as a record and passed again as its numbers, which stay in registers: a record that is passed
+//! from call to call through memory costs several times the call.
+//!
+//! `known` is a flag next to a value, since C has no `Option`. It and `masked` are numbers, since a record may be damaged and a `bool`
+//! other than 0 and 1 is undefined in C and in Rust.
 ghost use Rattle.std.specs.Prelude.{◌≡◌};
 ghost use Rattle.capi.specs.Records.{builder_in, builder_out, mask_in, mask_out, optional_in, serial_builder_in};
 
 use masks::bitmap::Bitmap;
 use masks::builder::BitmapBuilder;
 
-// A mask: a span of its bytes, its zero count, and the serial of the revocation list that it was drawn up under. `zeros` is read only if
-// `known` is not 0; an unknown count is returned as 0.
+/// A mask: a span of its bytes, its zero count, and the serial of the revocation list that it was drawn up under. `zeros` is read only if
+/// `known` is not 0; an unknown count is returned as 0.
 #[repr(C)]
 #[derive(Clone, Copy, Default)]
 pub struct Mask {
@@ -23,8 +23,8 @@ pub struct Mask {
     pub serial: u32,
 }
 
-// A builder: its length, the word in progress and the number of ones in the finished words, which are in its buffer. It has no serial,
-// since no append changes it: the caller keeps the serial with the builder and passes it to pw_freeze and pw_into_opt_validity.
+/// A builder: its length, the word in progress and the number of ones in the finished words, which are in its buffer. It has no serial,
+/// since no append changes it: the caller keeps the serial with the builder and passes it to pw_freeze and pw_into_opt_validity.
 #[repr(C)]
 #[derive(Clone, Copy)]
 pub struct Builder {
@@ -33,8 +33,8 @@ pub struct Builder {
     pub ones: usize,
 }
 
-// A cursor: a span and the next place in it, counted in flags, or in words for pw_chunks_. `masked` is 0 for a cursor that
-// pw_true_idx_new makes without a mask, else 1; only pw_true_idx_next and pw_true_idx_next_chunk read it.
+/// A cursor: a span and the next place in it, counted in flags, or in words for pw_chunks_. `masked` is 0 for a cursor that
+/// pw_true_idx_new makes without a mask, else 1; only pw_true_idx_next and pw_true_idx_next_chunk read it.
 #[repr(C)]
 #[derive(Clone, Copy, Default)]
 pub struct Cursor {

@@ -1,4 +1,4 @@
-// Exported to C and Rust: the searches for the n-th set flag of a span.
+//! Exported to C and Rust: the searches for the n-th set flag of a span.
 #![tactic(auto, using(masks::proofs::refusal::ClauseLaws::answered), unfolding(masks::specs::equations::Search::search_back, masks::specs::equations::Search::search_from))]
 
 ghost use Rattle.std.specs.Prelude.{◌≡◌};
@@ -29,8 +29,8 @@ impl From<Result<Option<usize>, Refusal>> for PositionAnswer {
     }
 }
 
-// Returns the position of the n-th set flag at or after `from`, counting from 0. `found` is false if at most `n` flags are set there.
-// `from` may exceed the length.
+/// Returns the position of the n-th set flag at or after `from`, counting from 0. `found` is false if at most `n` flags are set there.
+/// `from` may exceed the length.
 #[unsafe(no_mangle)]
 pub extern "C" fn pw_nth_set_bit_idx(
     bytes: &[u8],
@@ -44,8 +44,8 @@ pub extern "C" fn pw_nth_set_bit_idx(
     nth_set_bit_idx(bytes, start, length, n, from).into()
 }
 
-// Returns the position of the n-th set flag before `end`, counting down from 0: number 0 is the set flag nearest to `end`. `found` is
-// false if at most `n` flags are set there. `end` may exceed the length.
+/// Returns the position of the n-th set flag before `end`, counting down from 0: number 0 is the set flag nearest to `end`. `found` is
+/// false if at most `n` flags are set there. `end` may exceed the length.
 #[unsafe(no_mangle)]
 pub extern "C" fn pw_nth_set_bit_idx_rev(
     bytes: &[u8],

@@ -1,4 +1,4 @@
-// Exported to C and Rust: the calls over spans without a mask: the aligned split, the counts, a span split in two, 32 flags as a number.
+//! Exported to C and Rust: the calls over spans without a mask: the aligned split, the counts, a span split in two, 32 flags as a number.
 #![tactic(auto, using(masks::proofs::refusal::ClauseLaws::answered, masks::proofs::refusal::SpanClauses::zeros_counted, masks::proofs::refusal::SpanClauses::leading_counted, masks::proofs::refusal::SpanClauses::trailing_counted, masks::proofs::refusal::SpanClauses::split_made), unfolding(masks::specs::equations::Bitmask::split_at, masks::specs::equations::Bitmask::window_at))]
 
 ghost use Rattle.std.specs.Prelude.{◌≡◌, true, false};
@@ -62,8 +62,8 @@ impl From<Result<(Span, Span), Refusal>> for SpansAnswer {
     }
 }
 
-// Splits a span into a prefix, whole words at addresses divisible by 8, and a suffix. `address` is the address of the first byte modulo
-// 8. A span that lies in eight bytes is all prefix. With length 0 every field is 0, without any check.
+/// Splits a span into a prefix, whole words at addresses divisible by 8, and a suffix. `address` is the address of the first byte modulo
+/// 8. A span that lies in eight bytes is all prefix. With length 0 every field is 0, without any check.
 #[unsafe(no_mangle)]
 pub extern "C" fn pw_aligned_new(
     bytes: &[u8],
@@ -76,8 +76,8 @@ pub extern "C" fn pw_aligned_new(
     AlignedBitmapSlice::new(bytes, start, length, address).into()
 }
 
-// Counts the zeros of a span. `address` is the address of the first byte modulo 8; the count does not depend on it. With length 0 returns
-// 0 without any check.
+/// Counts the zeros of a span. `address` is the address of the first byte modulo 8; the count does not depend on it. With length 0 returns
+/// 0 without any check.
 #[unsafe(no_mangle)]
 pub extern "C" fn pw_count_zeros(
     bytes: &[u8],
@@ -91,8 +91,8 @@ pub extern "C" fn pw_count_zeros(
     count_zeros(bytes, start, length, address).into()
 }
 
-// Counts the zeros before the first set flag of a span, or the whole length if no flag is set. `address` is the address of the first byte
-// modulo 8; the count does not depend on it. With length 0 returns 0 without any check.
+/// Counts the zeros before the first set flag of a span, or the whole length if no flag is set. `address` is the address of the first byte
+/// modulo 8; the count does not depend on it. With length 0 returns 0 without any check.
 #[unsafe(no_mangle)]
 pub extern "C" fn pw_leading_zeros(
     bytes: &[u8],
@@ -106,8 +106,8 @@ pub extern "C" fn pw_leading_zeros(
     leading_zeros(bytes, start, length, address).into()
 }
 
-// Counts the ones before the first zero of a span, or the whole length if every flag is set. `address` is the address of the first byte
-// modulo 8; the count does not depend on it. With length 0 returns 0 without any check.
+/// Counts the ones before the first zero of a span, or the whole length if every flag is set. `address` is the address of the first byte
+/// modulo 8; the count does not depend on it. With length 0 returns 0 without any check.
 #[unsafe(no_mangle)]
 pub extern "C" fn pw_leading_ones(
     bytes: &[u8],
@@ -121,8 +121,8 @@ pub extern "C" fn pw_leading_ones(
     leading_ones(bytes, start, length, address).into()
 }
 
-// Counts the zeros after the last set flag of a span, or the whole length if no flag is set. `address` is the address of the first byte
-// modulo 8; the count does not depend on it. With length 0 returns 0 without any check.
+/// Counts the zeros after the last set flag of a span, or the whole length if no flag is set. `address` is the address of the first byte
+/// modulo 8; the count does not depend on it. With length 0 returns 0 without any check.
 #[unsafe(no_mangle)]
 pub extern "C" fn pw_trailing_zeros(
     bytes: &[u8],
@@ -136,8 +136,8 @@ pub extern "C" fn pw_trailing_zeros(
     trailing_zeros(bytes, start, length, address).into()
 }
 
-// Counts the ones after the last zero of a span, or the whole length if every flag is set. `address` is the address of the first byte
-// modulo 8; the count does not depend on it. With length 0 returns 0 without any check.
+/// Counts the ones after the last zero of a span, or the whole length if every flag is set. `address` is the address of the first byte
+/// modulo 8; the count does not depend on it. With length 0 returns 0 without any check.
 #[unsafe(no_mangle)]
 pub extern "C" fn pw_trailing_ones(
     bytes: &[u8],
@@ -151,8 +151,8 @@ pub extern "C" fn pw_trailing_ones(
     trailing_ones(bytes, start, length, address).into()
 }
 
-// Returns two spans: the first `at` flags, and the flags starting at `at`. `at` may equal the length; above it the call is refused with
-// 6.
+/// Returns two spans: the first `at` flags, and the flags starting at `at`. `at` may equal the length; above it the call is refused with
+/// 6.
 #[unsafe(no_mangle)]
 pub extern "C" fn pw_split_at_unchecked(
     bytes: &[u8],
@@ -165,7 +165,7 @@ pub extern "C" fn pw_split_at_unchecked(
     split_at_unchecked(bytes, start, length, at).into()
 }
 
-// Returns 32 flags starting at `index`, the first in the lowest bit, with zeros past the end of the span. `index` may be any number.
+/// Returns 32 flags starting at `index`, the first in the lowest bit, with zeros past the end of the span. `index` may be any number.
 #[unsafe(no_mangle)]
 pub extern "C" fn pw_get_u32(
     bytes: &[u8],

@@ -1,5 +1,5 @@
-// Exported to C and Rust: which of two masks supersedes the other. The C interface has no references: the part of the bytes is returned
-// as the slice that it is of, its first byte and the byte past its last.
+//! Exported to C and Rust: which of two masks supersedes the other. The C interface has no references: the part of the bytes is returned
+//! as the slice that it is of, its first byte and the byte past its last.
 #![tactic(auto, using(masks::proofs::refusal::ClauseLaws::answered), unfolding(crate::specs::Answers::as_part, masks::specs::equations::Superseding::superseding_of))]
 
 ghost use Rattle.std.specs.Prelude.{◌≡◌, cond};
@@ -34,9 +34,9 @@ impl From<Result<Part, Refusal>> for PartAnswer {
     }
 }
 
-// Returns the winner of two masks of one operator, the one with the larger serial, over the part of its bytes that holds it. With equal
-// serials and equal flags the first wins; with equal serials and different flags the call is refused with 14. Both masks are checked,
-// the loser too.
+/// Returns the winner of two masks of one operator, the one with the larger serial, over the part of its bytes that holds it. With equal
+/// serials and equal flags the first wins; with equal serials and different flags the call is refused with 14. Both masks are checked,
+/// the loser too.
 #[unsafe(no_mangle)]
 pub extern "C" fn pw_superseding(
     first: Mask,

@@ -1,4 +1,4 @@
-// The cursors of masks and the items that they return, as records and numbers of the C interface.
+//! The cursors of masks and the items that they return, as records and numbers of the C interface.
 ghost use Rattle.std.specs.Prelude.{ℕ, ◌≡◌};
 ghost use Rattle.words.specs.Flags.{digit};
 ghost use Rattle.masks.specs.equations.Answer.{answer, answer_back};

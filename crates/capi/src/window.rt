@@ -1,7 +1,7 @@
-// Exported to C and Rust: the window of minutes: in how many of the last minutes each truck was busy.
-//
-// A window is lent as its two arrays, of 256 words and of 64 counts, and is passed with its place, its fill and its width, as the
-// call before returned them. These three numbers are parameters, as the C interface has them, and are passed in registers.
+//! Exported to C and Rust: the window of minutes: in how many of the last minutes each truck was busy.
+//!
+//! A window is lent as its two arrays, of 256 words and of 64 counts, and is passed with its place, its fill and its width, as the
+//! call before returned them. These three numbers are parameters, as the C interface has them, and are passed in registers.
 #![tactic(auto, unfolding(activity::specs::Window::no_minute, crate::specs::Window::as_window, crate::specs::Window::unless_refused, crate::specs::Window::window_in))]
 
 ghost use Rattle.std.specs.Prelude.{◌≡◌};
@@ -35,8 +35,8 @@ fn window_out(a: ActivityWindow, words: &mut [u64; 256], counts: &mut [u32; 64])
     }
 }
 
-// Writes an empty window, all words and counts 0, to both arrays and returns its numbers. It keeps the words of the last `width`
-// minutes; `width` must be 1 to 256.
+/// Writes an empty window, all words and counts 0, to both arrays and returns its numbers. It keeps the words of the last `width`
+/// minutes; `width` must be 1 to 256.
 #[unsafe(no_mangle)]
 pub extern "C" fn pw_activity_new(
     words: &mut [u64; 256],
@@ -60,9 +60,9 @@ pub extern "C" fn pw_activity_new(
     }
 }
 
-// Writes `word`, whose bit j is the flag of truck j in the next minute, into the window, updates the counts and returns the new numbers.
-// The oldest word is replaced if the window already has `width` words. `place`, `fill` and `width` are those that the call before
-// returned.
+/// Writes `word`, whose bit j is the flag of truck j in the next minute, into the window, updates the counts and returns the new numbers.
+/// The oldest word is replaced if the window already has `width` words. `place`, `fill` and `width` are those that the call before
+/// returned.
 #[unsafe(no_mangle)]
 pub extern "C" fn pw_activity_push_minute(
     words: &mut [u64; 256],
@@ -95,8 +95,8 @@ pub extern "C" fn pw_activity_push_minute(
     }
 }
 
-// Writes to `out`, for each of the 64 flags, the number of kept words that have it set. Returns 0, or the number of the refusal.
-// `place`, `fill` and `width` are those that the call before returned.
+/// Writes to `out`, for each of the 64 flags, the number of kept words that have it set. Returns 0, or the number of the refusal.
+/// `place`, `fill` and `width` are those that the call before returned.
 #[unsafe(no_mangle)]
 pub extern "C" fn pw_activity_counts(
     words: &[u64; 256],

@@ -1,4 +1,4 @@
-// Exported to C and Rust: the calls of words. They refuse nothing.
+//! Exported to C and Rust: the calls of words. They refuse nothing.
 ghost use Rattle.std.specs.Prelude.{◌≡◌};
 ghost use Rattle.words.specs.Flags.{bits, flags_of, window, word_flags};
 ghost use Rattle.words.specs.Merge.{merged};
@@ -29,7 +29,7 @@ impl From<Result<u32, u32>> for NthAnswer {
     }
 }
 
-// Loads the first eight bytes of `part` as a little-endian word, padding a shorter slice with zeros.
+/// Loads the first eight bytes of `part` as a little-endian word, padding a shorter slice with zeros.
 #[unsafe(no_mangle)]
 pub extern "C" fn pw_load_padded_le_u64(part: &[u8]) -> u64
     ensures { word_flags result ≡ window (flags_of part.now) 0 64 }
@@ -37,8 +37,8 @@ pub extern "C" fn pw_load_padded_le_u64(part: &[u8]) -> u64
     load_padded_le_u64(part)
 }
 
-// Returns 64 flags: those of `current` starting at `offset`, then the low flags of `next`. An offset of 0, or of 64 or more, returns
-// `current`.
+/// Returns 64 flags: those of `current` starting at `offset`, then the low flags of `next`. An offset of 0, or of 64 or more, returns
+/// `current`.
 #[unsafe(no_mangle)]
 pub extern "C" fn pw_merge_reversed(current: u64, next: u64, offset: usize) -> u64
     ensures { word_flags result ≡ merged (word_flags current) (word_flags next) offset }
@@ -46,8 +46,8 @@ pub extern "C" fn pw_merge_reversed(current: u64, next: u64, offset: usize) -> u
     merge_reversed(current, next, offset)
 }
 
-// Returns in `value` the position of set bit `n` of the word `w`, counting from 0. If at most `n` bits are set, `found` is false and
-// `ones` is the number of set bits.
+/// Returns in `value` the position of set bit `n` of the word `w`, counting from 0. If at most `n` bits are set, `found` is false and
+/// `ones` is the number of set bits.
 #[unsafe(no_mangle)]
 pub extern "C" fn pw_nth_set_bit_u64(w: u64, n: u64) -> NthAnswer
     ensures { result ≡ as_nth (nth_one (bits 64 w) n) }
@@ -55,8 +55,8 @@ pub extern "C" fn pw_nth_set_bit_u64(w: u64, n: u64) -> NthAnswer
     nth_set_bit_u64(w, n).into()
 }
 
-// Returns in `value` the position of set bit `n` of the 32-bit word `w`, counting from 0. If at most `n` bits are set, `found` is false
-// and `ones` is the number of set bits.
+/// Returns in `value` the position of set bit `n` of the 32-bit word `w`, counting from 0. If at most `n` bits are set, `found` is false
+/// and `ones` is the number of set bits.
 #[unsafe(no_mangle)]
 pub extern "C" fn pw_nth_set_bit_u32(w: u32, n: u32) -> NthAnswer
     ensures { result ≡ as_nth (nth_one (bits 32 w) n) }

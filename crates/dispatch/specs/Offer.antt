@@ -1,5 +1,5 @@
 -- Which truck is offered next: the first at or after a cursor that is permitted and not revoked, going round to truck 0 once; and how
--- many windows of 32 flags are read for it, in the words of paper 02 (m).
+-- many windows of 32 flags are read for it, in the words of the reference.
 use Rattle.std.specs.Prelude.{ℕ, zero, suc, ◌+◌, ◌/◌, Bool, cond, ◌&&◌, List, [], ◌∷◌, ◌++◌, leb, ltb, length, Option, Some, None, Result}
 use Rattle.std.specs.Prelude.{Ok, Err}
 use Rattle.masks.specs.declared.bitmap.Bitmap.{Bitmap}

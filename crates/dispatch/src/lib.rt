@@ -1,4 +1,4 @@
-// Which trucks may be reassigned, by the permission and revocation masks of the dispatch software.
+//! Which trucks may be reassigned, by the permission and revocation masks of the dispatch software.
 #![tactic(auto)]
 
 pub mod dispatch;

@@ -1,5 +1,5 @@
-// The next truck that may be reassigned: the first at or after a cursor that is permitted and not revoked, going round to truck 0 once. A
-// mask and its bytes are two parameters, as in `dispatch.rt`.
+//! The next truck that may be reassigned: the first at or after a cursor that is permitted and not revoked, going round to truck 0 once. A
+//! mask and its bytes are two parameters, as in `dispatch.rt`.
 ghost use Rattle.std.specs.Prelude.{◌≡◌, ◌≤◌, IfOk, IfErr, Some};
 ghost use Rattle.masks.specs.Checks.{first_failed};
 ghost use Rattle.masks.specs.Refusal.{said};
@@ -11,7 +11,7 @@ use masks::refusal::Refusal;
 use std::error::Error;
 use std::fmt;
 
-// A truck and the cursor one past it, or none and the cursor unchanged; and the number of windows of 32 flags that the search covers.
+/// A truck and the cursor one past it, or none and the cursor unchanged; and the number of windows of 32 flags that the search covers.
 #[derive(Clone, Copy, PartialEq, Eq, Debug)]
 pub struct Offering {
     pub truck: Option<usize>,
@@ -19,8 +19,8 @@ pub struct Offering {
     pub windows: usize,
 }
 
-// The refusal of a check, and the cursor unchanged. Not masks' `Refused`: of the types of masks this crate names only those that
-// combinations and searches take or return.
+/// The refusal of a check, and the cursor unchanged. Not masks' `Refused`: of the types of masks this crate names only those that
+/// combinations and searches take or return.
 #[derive(Clone, Copy, PartialEq, Eq, Debug)]
 pub struct RefusedOffer {
     pub refusal: Refusal,
@@ -37,9 +37,9 @@ impl fmt::Display for RefusedOffer {
 
 impl Error for RefusedOffer {}
 
-// Returns the first truck at or after the cursor that is permitted and not revoked, else the first one of all. Refuses with 6 if the cursor
-// is above the length of the permission mask. Without a permission mask no truck is offered and no window counted, but checks 1, 2 and 3
-// apply to a revocation mask. A refusal has the cursor unchanged.
+/// Returns the first truck at or after the cursor that is permitted and not revoked, else the first one of all. Refuses with 6 if the
+/// cursor is above the length of the permission mask. Without a permission mask no truck is offered and no window counted, but checks 1, 2
+/// and 3 apply to a revocation mask. A refusal has the cursor unchanged.
 pub fn offer(
     permission: Option<Bitmap>,
     permission_bytes: &[u8],

@@ -1,5 +1,4 @@
--- The reference list's own words (the plain list of document 01, docs/REFERENCE.md): what spans, other masks and appends add to it, and
--- what the operations make of flags.
+-- The reference list's own words: what spans, other masks and appends add to it, and what the operations make of flags.
 --
 -- Written from the reference and Arrow's numbering: `flag_at bytes j` is bit j mod 8 of byte j div 8, `bit_at w j` is bit j of w. This file
 -- has no definition that the contract of a history's call cites; `ReferenceLaws` proves that both say the same.

@@ -1,5 +1,5 @@
-// Ties each row of `MaskRows` to its call: each function here makes one call of masks and nothing else, and its contract is the row's
-// answer and the row's bytes. Nobody calls these functions; a row for another call would leave its function unproved.
+//! Ties each row of `MaskRows` to its call: each function here makes one call of masks and nothing else, and its contract is the row's
+//! answer and the row's bytes. Nobody calls these functions; a row for another call would leave its function unproved.
 #![tactic(auto, using(masks::proofs::refusal::ClauseLaws::answered, masks::proofs::refusal::ClauseLaws::answered_back, masks::proofs::refusal::ClauseLaws::written, masks::proofs::refusal::ClauseLaws::answered_recounted), unfolding(masks::specs::equations::Combine::pair_of, masks::specs::equations::Combine::pair_bytes, masks::specs::equations::Combine::each_of, masks::specs::equations::Combine::each_bytes, masks::specs::equations::Mask::slice_of))]
 
 ghost use Rattle.std.specs.Prelude.{◌≡◌};
@@ -12,7 +12,7 @@ use masks::bitmap::{Bitmap, Recounted};
 use masks::bitmap_ops::{and, and_not, not, or, or_not, select, select_constant, xor};
 use masks::refusal::{Refusal, Refused};
 
-// Calls `slice`; answers as the row of `slice` does.
+/// Calls `slice`; answers as the row of `slice` does.
 pub fn slice_row(
     mask: Bitmap,
     bytes: &[u8],
@@ -24,14 +24,14 @@ pub fn slice_row(
     mask.slice(bytes, offset, length)
 }
 
-// Calls `unset_bits`; answers as its row does. The row keeps the mask and drops the count.
+/// Calls `unset_bits`; answers as its row does. The row keeps the mask and drops the count.
 pub fn count_row(mask: Bitmap, bytes: &[u8]) -> Result<Recounted, Refused<Bitmap>>
     ensures { recounted (answer_back result) ≡ count_row.answer mask bytes.now }
 {
     mask.unset_bits(bytes)
 }
 
-// Calls `and`; answers and writes as the row of `and` does.
+/// Calls `and`; answers and writes as the row of `and` does.
 pub fn and_row(
     lhs: Bitmap,
     left: &[u8],
@@ -47,7 +47,7 @@ pub fn and_row(
     and(lhs, left, rhs, right, out)
 }
 
-// Calls `and_not`; answers and writes as the row of `and_not` does.
+/// Calls `and_not`; answers and writes as the row of `and_not` does.
 pub fn and_not_row(
     lhs: Bitmap,
     left: &[u8],
@@ -63,7 +63,7 @@ pub fn and_not_row(
     and_not(lhs, left, rhs, right, out)
 }
 
-// Calls `or`; answers and writes as the row of `or` does.
+/// Calls `or`; answers and writes as the row of `or` does.
 pub fn or_row(
     lhs: Bitmap,
     left: &[u8],
@@ -79,7 +79,7 @@ pub fn or_row(
     or(lhs, left, rhs, right, out)
 }
 
-// Calls `or_not`; answers and writes as the row of `or_not` does.
+/// Calls `or_not`; answers and writes as the row of `or_not` does.
 pub fn or_not_row(
     lhs: Bitmap,
     left: &[u8],
@@ -95,7 +95,7 @@ pub fn or_not_row(
     or_not(lhs, left, rhs, right, out)
 }
 
-// Calls `xor`; answers and writes as the row of `xor` does.
+/// Calls `xor`; answers and writes as the row of `xor` does.
 pub fn xor_row(
     lhs: Bitmap,
     left: &[u8],
@@ -111,7 +111,7 @@ pub fn xor_row(
     xor(lhs, left, rhs, right, out)
 }
 
-// Calls `not`; answers and writes as the row of `not` does.
+/// Calls `not`; answers and writes as the row of `not` does.
 pub fn not_row(mask: Bitmap, bytes: &[u8], out: &mut [u8]) -> Result<Bitmap, Refusal>
     ensures answer { answer result ≡ (not_row out.old).answer (one (with_bytes mask bytes.now)) }
     ensures bytes { out.new ≡ (not_row out.old).bytes (one (with_bytes mask bytes.now)) }
@@ -119,7 +119,7 @@ pub fn not_row(mask: Bitmap, bytes: &[u8], out: &mut [u8]) -> Result<Bitmap, Ref
     not(mask, bytes, out)
 }
 
-// Calls `select`; answers and writes as the row of `select` does.
+/// Calls `select`; answers and writes as the row of `select` does.
 pub fn select_row(
     selector: Bitmap,
     by: &[u8],
@@ -137,7 +137,7 @@ pub fn select_row(
     select(selector, by, truthy, yes, falsy, no, out)
 }
 
-// Calls `select_constant`; answers and writes as the row of `select_constant` does.
+/// Calls `select_constant`; answers and writes as the row of `select_constant` does.
 pub fn constant_row(
     selector: Bitmap,
     by: &[u8],

@@ -1,4 +1,4 @@
-// The program maskreport on no bytes. tests/maskreport.py wrote stdin and stdout.
+//! The program maskreport on no bytes. tests/maskreport.py wrote stdin and stdout.
 #![tactic(auto)]
 
 use std::io::Input;

@@ -1,4 +1,4 @@
-// The program maskreport on 65,537 bytes, one more than it takes. tests/maskreport.py wrote stdin and stdout.
+//! The program maskreport on 65,537 bytes, one more than it takes. tests/maskreport.py wrote stdin and stdout.
 #![tactic(auto)]
 
 use std::io::Input;

@@ -1,5 +1,4 @@
--- The nine questions of document 01 (docs/REFERENCE.md), and 14 of paper 02. Here a question is a check: its number, and whether
--- it is answered yes.
+-- The checks 1 to 9 and 14 of the reference: each is its number, and whether it holds.
 --
 -- A call's checks are a list made of the pieces below. The number of the call is that of the first check that fails. First is the one of
 -- the least `rank`: so a list may name its checks in any order.

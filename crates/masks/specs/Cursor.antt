@@ -1,4 +1,4 @@
--- Cursors: a span and the next place in it. Document 01 (docs/REFERENCE.md) calls them walks.
+-- Cursors: a span and the next place in it.
 use Rattle.std.specs.Prelude.{ℕ, List, [], ◌∷◌, ◌++◌, leb, Option, Some, None}
 use Rattle.masks.specs.Checks.{Check, check, span_checks}
 

@@ -1,4 +1,4 @@
-// The aligned split of a span: prefix, whole words, suffix.
+//! The aligned split of a span: prefix, whole words, suffix.
 ghost use Rattle.std.specs.Prelude.{◌≡◌, ◌≢◌, ◌*◌, ◌≤◌, length as list_length, IfOk};
 ghost use Rattle.masks.specs.Refusal.{failure_of};
 ghost use Rattle.masks.specs.Aligned.{aligned_checks, aligned_split, prefix_length, bulk_start_of, bulk_offset};
@@ -8,8 +8,8 @@ use crate::checks::{check_address, check_span};
 use crate::refusal::Refusal;
 use crate::span::flags_word;
 
-// A span's flags in three parts: a word of prefix flags, whole words that begin at a byte, and a word of suffix flags. The Rust's
-// `AlignedBitmapSlice`, with the whole words as the number of their first byte and how many they are.
+/// A span's flags in three parts: a word of prefix flags, whole words that begin at a byte, and a word of suffix flags. The Rust's
+/// `AlignedBitmapSlice`, with the whole words as the number of their first byte and how many they are.
 #[derive(Clone, Copy, PartialEq, Eq, Debug, Default)]
 pub struct AlignedBitmapSlice {
     pub prefix: u64,
@@ -21,8 +21,8 @@ pub struct AlignedBitmapSlice {
 }
 
 impl AlignedBitmapSlice {
-    // Splits a span. `address` is the address of `bytes[0]` modulo 8; one above 7 is refused with 8. For length 0 all parts are empty and
-    // nothing is checked.
+    /// Splits a span. `address` is the address of `bytes[0]` modulo 8; one above 7 is refused with 8. For length 0 all parts are empty and
+    /// nothing is checked.
     pub fn new(
         bytes: &[u8],
         start: usize,

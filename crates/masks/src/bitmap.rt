@@ -1,5 +1,5 @@
-// The mask: its record, and the calls that make one, cut it and count it. As in the reference, a mask and its bytes are two parameters;
-// they become a `CheckedSpan` once the mask's checks have passed.
+//! The mask: its record, and the calls that make one, cut it and count it. As in the reference, a mask and its bytes are two parameters;
+//! they become a `CheckedSpan` once the mask's checks have passed.
 ghost use Rattle.std.specs.Prelude.{◌≡◌, false, ◌+◌, ◌≤◌, length as list_length, Some, IfOk, IfErr, OnOk, OnErr};
 ghost use Rattle.words.specs.Flags.{copies};
 ghost use Rattle.masks.specs.Refusal.{failure_of, failure_back};
@@ -17,8 +17,8 @@ use crate::span::CheckedSpan;
 use words::flags::Operand;
 use words::loops::fill;
 
-// A mask: a span of its bytes, its zero count if it is known, and the serial of the revocation list that it was drawn up under. The Rust's
-// `Bitmap` with a serial.
+/// A mask: a span of its bytes, its zero count if it is known, and the serial of the revocation list that it was drawn up under. The Rust's
+/// `Bitmap` with a serial.
 #[derive(Clone, Copy, PartialEq, Eq, Debug)]
 pub struct Bitmap {
     pub start: usize,
@@ -27,7 +27,7 @@ pub struct Bitmap {
     pub serial: u32,
 }
 
-// A mask with its count known, and the count.
+/// A mask with its count known, and the count.
 #[derive(Clone, Copy, PartialEq, Eq, Debug)]
 pub struct Recounted {
     pub mask: Bitmap,
@@ -35,18 +35,18 @@ pub struct Recounted {
 }
 
 impl Bitmap {
-    // The flag limit: the largest start and length that the calls take.
+    /// The flag limit: the largest start and length that the calls take.
     pub const LIMIT: usize = 4194304;
 
-    // Returns the empty mask.
+    /// Returns the empty mask.
     pub fn new() -> Self
         ensures { result ≡ empty_mask }
     {
         mask_of(0, 0, Some(0))
     }
 
-    // Returns a mask of `length` zeros and writes its frozen bytes to the start of `out`. Refuses with 1 if `length` is above the flag
-    // limit, with 9 if `out` is too short.
+    /// Returns a mask of `length` zeros and writes its frozen bytes to the start of `out`. Refuses with 1 if `length` is above the flag
+    /// limit, with 9 if `out` is too short.
     pub fn new_zeroed(length: usize, out: &mut [u8]) -> Result<Bitmap, Refusal>
         ensures refused { failure_of result ≡ first_failed
             (zeroed_checks length (list_length out.old)) }
@@ -60,8 +60,8 @@ impl Bitmap {
         Ok(mask_of(0, length, Some(length)))
     }
 
-    // Returns the mask of `length` flags of `bytes` starting at `start`. Its zeros are not counted; the count is known only for length 0.
-    // Refuses with 1 if `start` or `length` is above the flag limit, with 2 if the flags end past the bytes.
+    /// Returns the mask of `length` flags of `bytes` starting at `start`. Its zeros are not counted; the count is known only for length 0.
+    /// Refuses with 1 if `start` or `length` is above the flag limit, with 2 if the flags end past the bytes.
     pub fn try_new(bytes: &[u8], start: usize, length: usize) -> Result<Bitmap, Refusal>
         ensures refused { failure_of result ≡ first_failed
             (span_checks start length (list_length bytes.now)) }
@@ -72,7 +72,7 @@ impl Bitmap {
         Ok(mask_of(start, length, unset))
     }
 
-    // Returns the number of zeros, and the mask with that count stored.
+    /// Returns the number of zeros, and the mask with that count stored.
     pub fn unset_bits(self, bytes: &[u8]) -> Result<Recounted, Refused<Bitmap>>
         ensures refused { failure_back result ≡ first_failed (mask_checks self bytes.now) }
         ensures zeros { IfOk result (λ r. r.zeros ≡ zero_count self bytes.now) }
@@ -108,8 +108,8 @@ impl Bitmap {
         }
     }
 
-    // Returns the mask of the `length` flags starting at `offset`, under the serial of this one. Refuses with 6 if they do not all lie in
-    // this mask, with 1 if `offset`, `length` or their start in the bytes is above the flag limit.
+    /// Returns the mask of the `length` flags starting at `offset`, under the serial of this one. Refuses with 6 if they do not all lie in
+    /// this mask, with 1 if `offset`, `length` or their start in the bytes is above the flag limit.
     pub fn slice(
         self,
         bytes: &[u8],
@@ -177,7 +177,10 @@ pub(crate) fn not_counted(length: usize) -> Option<usize>
 fn check_piece(mask: Bitmap, bytes: &[u8], offset: usize, length: usize) -> Result<(), Refusal>
     ensures { failure_of result ≡ first_failed (piece_checks mask bytes.now offset length) }
 {
-    let inside = check(Refusal::OutsideMask, sum_at_most(offset, length, mask.length));
+    let inside = check(
+        Refusal::OutsideMask,
+        sum_at_most(offset, length, mask.length),
+    );
     let starts = check(
         Refusal::AboveLimit,
         sum_at_most(mask.start, offset, Bitmap::LIMIT),

@@ -1,6 +1,6 @@
-// The combinations: each writes its flags as frozen bytes to the start of a lent output. Masks start at any bit. Each refuses with 5 if the
-// lengths of its masks differ, with 9 if the output is too short; nothing is then written. The crate `words` writes whole words of flags,
-// which are the frozen bytes of the contracts by the law `frozen-written` of `CombineLaws`.
+//! The combinations: each writes its flags as frozen bytes to the start of a lent output. Masks start at any bit. Each refuses with 5 if
+//! the lengths of its masks differ, with 9 if the output is too short; nothing is then written. The crate `words` writes whole words of
+//! flags, which are the frozen bytes of the contracts by the law `frozen-written` of `CombineLaws`.
 ghost use Rattle.std.specs.Prelude.{◌≡◌, [], ◌∷◌, length, IfOk, OnOk, OnErr};
 ghost use Rattle.words.specs.declared.ops.Op.TheVariants.{And, AndNot, Or, OrNot, Xor};
 ghost use Rattle.masks.specs.Refusal.{failure_of};
@@ -57,8 +57,7 @@ fn check_pair(
 }
 
 // Combines two masks by an operation on two flags: makes the checks, then writes the flag of the shortcut, or without one goes flag by
-// flag. The operands are made before the shortcut: made after it, `and` took 1.03 times the instructions at 40 flags. Count and serial are
-// made after the flags are written: made before, it took 1.04.
+// flag. For speed the operands are made before the shortcut, and count and serial after the flags are written (PROVING, `combine_two`).
 fn combine_two(
     op: Op,
     lhs: Bitmap,
@@ -88,8 +87,8 @@ fn combine_two(
     Ok(result_mask(serial, n, unset))
 }
 
-// Writes the flags that are set in both masks as frozen bytes to the start of `out`, and returns the mask of them. This and the four below
-// are the Rust's names for `combine_two`.
+/// Writes the flags that are set in both masks as frozen bytes to the start of `out`, and returns the mask of them. This and the four below
+/// are the Rust's names for `combine_two`.
 pub fn and(
     lhs: Bitmap,
     lhs_bytes: &[u8],
@@ -107,8 +106,8 @@ pub fn and(
     combine_two(Op::And, lhs, lhs_bytes, rhs, rhs_bytes, out)
 }
 
-// Writes the flags that are set in the first mask and not in the second as frozen bytes to the start of `out`, and returns the mask of
-// them.
+/// Writes the flags that are set in the first mask and not in the second as frozen bytes to the start of `out`, and returns the mask of
+/// them.
 pub fn and_not(
     lhs: Bitmap,
     lhs_bytes: &[u8],
@@ -126,7 +125,7 @@ pub fn and_not(
     combine_two(Op::AndNot, lhs, lhs_bytes, rhs, rhs_bytes, out)
 }
 
-// Writes the flags that are set in at least one of two masks as frozen bytes to the start of `out`, and returns the mask of them.
+/// Writes the flags that are set in at least one of two masks as frozen bytes to the start of `out`, and returns the mask of them.
 pub fn or(
     lhs: Bitmap,
     lhs_bytes: &[u8],
@@ -144,8 +143,8 @@ pub fn or(
     combine_two(Op::Or, lhs, lhs_bytes, rhs, rhs_bytes, out)
 }
 
-// Writes the flags that are set in the first mask or not set in the second as frozen bytes to the start of `out`, and returns the mask of
-// them.
+/// Writes the flags that are set in the first mask or not set in the second as frozen bytes to the start of `out`, and returns the mask of
+/// them.
 pub fn or_not(
     lhs: Bitmap,
     lhs_bytes: &[u8],
@@ -163,7 +162,7 @@ pub fn or_not(
     combine_two(Op::OrNot, lhs, lhs_bytes, rhs, rhs_bytes, out)
 }
 
-// Writes the flags that are set in exactly one of two masks as frozen bytes to the start of `out`, and returns the mask of them.
+/// Writes the flags that are set in exactly one of two masks as frozen bytes to the start of `out`, and returns the mask of them.
 pub fn xor(
     lhs: Bitmap,
     lhs_bytes: &[u8],
@@ -189,7 +188,7 @@ fn check_not(mask: Bitmap, bytes: &[u8], size: usize) -> Result<(), Refusal>
     check_output(mask.length, size)
 }
 
-// Writes the inverted flags of a mask as frozen bytes to the start of `out`, and returns the mask of them.
+/// Writes the inverted flags of a mask as frozen bytes to the start of `out`, and returns the mask of them.
 pub fn not(mask: Bitmap, bytes: &[u8], out: &mut [u8]) -> Result<Bitmap, Refusal>
     ensures refused { failure_of result ≡ first_failed
         (not_checks mask bytes.now (length out.old)) }
@@ -230,8 +229,8 @@ fn check_select(
     )
 }
 
-// Writes the flag of `truthy` where that of `selector` is set, and that of `falsy` elsewhere, as frozen bytes to the start of `out`, and
-// returns the mask of them.
+/// Writes the flag of `truthy` where that of `selector` is set, and that of `falsy` elsewhere, as frozen bytes to the start of `out`, and
+/// returns the mask of them.
 pub fn select(
     selector: Bitmap,
     selector_bytes: &[u8],
@@ -269,8 +268,8 @@ pub fn select(
     Ok(result_mask(serial, n, unset))
 }
 
-// Writes the flag of `truthy` where that of `selector` is set, and `flag` elsewhere, as frozen bytes to the start of `out`, and returns the
-// mask of them.
+/// Writes the flag of `truthy` where that of `selector` is set, and `flag` elsewhere, as frozen bytes to the start of `out`, and returns
+/// the mask of them.
 pub fn select_constant(
     selector: Bitmap,
     selector_bytes: &[u8],

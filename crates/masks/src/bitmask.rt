@@ -1,4 +1,4 @@
-// Spans cut in two, windows of 32 flags, and searches for the n-th set flag by such windows.
+//! Spans cut in two, windows of 32 flags, and searches for the n-th set flag by such windows.
 ghost use Rattle.std.specs.Prelude.{◌≡◌, ◌+◌, ◌*◌, ◌≤◌, ◌<◌, length as list_length, IfOk};
 ghost use Rattle.words.specs.Flags.{bits, count, word_of};
 ghost use Rattle.words.specs.Loops.{stretch};
@@ -16,7 +16,7 @@ use crate::span::CheckedSpan;
 use words::nth::nth_set_bit_u32;
 use words::word::{load_padded_le_u64, low_flags, near_word, shr_or_zero};
 
-// A span: a start bit and a length in bits. The Rust's `BitMask`, with the bytes lent to each call.
+/// A span: a start bit and a length in bits. The Rust's `BitMask`, with the bytes lent to each call.
 #[derive(Clone, Copy, PartialEq, Eq, Debug)]
 pub struct Span {
     pub start: usize,
@@ -36,8 +36,8 @@ fn check_split(start: usize, length: usize, at: usize, size: usize) -> Result<()
     )
 }
 
-// Splits a span in two: the flags below `at`, and the rest. Refuses with 6 if `at` is above the length, with 1 if `start + at` is above the
-// flag limit.
+/// Splits a span in two: the flags below `at`, and the rest. Refuses with 6 if `at` is above the length, with 1 if `start + at` is above
+/// the flag limit.
 pub fn split_at_unchecked(
     bytes: &[u8],
     start: usize,
@@ -60,7 +60,7 @@ pub fn split_at_unchecked(
     ))
 }
 
-// Returns the 32 flags starting at `index`, with zeros past the end of the span.
+/// Returns the 32 flags starting at `index`, with zeros past the end of the span.
 pub fn get_u32(bytes: &[u8], start: usize, length: usize, index: usize) -> Result<u32, Refusal>
     ensures refused { failure_of result ≡ first_failed
         (span_checks start length (list_length bytes.now)) }
@@ -70,7 +70,7 @@ pub fn get_u32(bytes: &[u8], start: usize, length: usize, index: usize) -> Resul
     Ok(span.window(index))
 }
 
-// Returns the position of the n-th set flag at or after `from`, counting from 0, or none if there are at most n.
+/// Returns the position of the n-th set flag at or after `from`, counting from 0, or none if there are at most n.
 pub fn nth_set_bit_idx(
     bytes: &[u8],
     start: usize,
@@ -86,8 +86,8 @@ pub fn nth_set_bit_idx(
     Ok(span.nth_from(n, from))
 }
 
-// Returns the position of the n-th set flag below `end`, where the last one is number 0, or none if there are at most n. `end` may exceed
-// the length.
+/// Returns the position of the n-th set flag below `end`, where the last one is number 0, or none if there are at most n. `end` may exceed
+/// the length.
 pub fn nth_set_bit_idx_rev(
     bytes: &[u8],
     start: usize,

@@ -1,5 +1,5 @@
-// The builder: flags are appended to a lent buffer. A word is written when it is full. Each append refuses with 1 if the new length is
-// above the flag limit, with 4 if no calls leave such a builder, with 9 if the buffer is too short for the new length.
+//! The builder: flags are appended to a lent buffer. A word is written when it is full. Each append refuses with 1 if the new length is
+//! above the flag limit, with 4 if no calls leave such a builder, with 9 if the buffer is too short for the new length.
 ghost use Rattle.std.specs.Prelude.{◌≡◌, List, ℕ, ◌≤◌, ◌-◌, ◌%◌, length, take, [], ◌∷◌, IfOk, IfErr, OnOk, OnErr};
 ghost use Rattle.words.specs.Flags.{word_flags};
 ghost use Rattle.masks.specs.Checks.{first_failed};
@@ -15,8 +15,8 @@ use crate::refusal::{Refusal, Refused, earlier};
 use words::ops::or_word;
 use words::word::{constant_word, low_flags, ones_in_word, shl_or_zero, shr_or_zero, store_whole};
 
-// A builder: its length, the word in progress, the ones in the finished words, and the serial that its mask will have. The Rust's
-// `BitmapBuilder` with a serial, its buffer lent to each call.
+/// A builder: its length, the word in progress, the ones in the finished words, and the serial that its mask will have. The Rust's
+/// `BitmapBuilder` with a serial, its buffer lent to each call.
 #[derive(Clone, Copy, PartialEq, Eq, Debug, Default)]
 pub struct BitmapBuilder {
     pub length: usize,
@@ -26,14 +26,14 @@ pub struct BitmapBuilder {
 }
 
 impl BitmapBuilder {
-    // Returns a builder with no flags, under serial 0.
+    /// Returns a builder with no flags, under serial 0.
     pub fn new() -> Self
         ensures { result ≡ new_builder }
     {
         BitmapBuilder::default()
     }
 
-    // Appends one flag.
+    /// Appends one flag.
     pub fn push(self, buf: &mut [u8], flag: bool) -> Result<BitmapBuilder, Refused<BitmapBuilder>>
         ensures refused { failure_back result ≡ first_failed (grow_checks self 1 (length buf.old)) }
         ensures appended { IfOk result (λ b. filling b buf.new ≡
@@ -45,8 +45,8 @@ impl BitmapBuilder {
         Ok(push_flags(self, buf, constant_word(flag), 1))
     }
 
-    // Appends one flag and changes the caller's own record; if it refuses, the record is unchanged. A named form of the reference: length,
-    // word and ones are taken apart, pushed by value and stored back; the serial stays.
+    /// Appends one flag and changes the caller's own record; if it refuses, the record is unchanged. A named form of the reference: length,
+    /// word and ones are taken apart, pushed by value and stored back; the serial stays.
     pub fn push_mut(&mut self, buf: &mut [u8], flag: bool) -> Result<(), Refusal>
         ensures refused { failure_of result ≡ first_failed
             (grow_checks self.old 1 (length buf.old)) }
@@ -67,7 +67,7 @@ impl BitmapBuilder {
         }
     }
 
-    // Appends the first k flags of a word. Refuses with 6 if k is above 64 or a bit from k up is set.
+    /// Appends the first k flags of a word. Refuses with 6 if k is above 64 or a bit from k up is set.
     #[tactic(auto, using(crate::proofs::checks::CheckLaws::two_pieces), unfolding(crate::specs::Appends::word_checks))]
     pub fn push_word_with_len_unchecked(
         self,
@@ -86,7 +86,7 @@ impl BitmapBuilder {
         Ok(push_flags(self, buf, word, k))
     }
 
-    // Writes the word in progress, and returns the mask of all flags.
+    /// Writes the word in progress, and returns the mask of all flags.
     pub fn freeze(self, buf: &mut [u8]) -> Result<Bitmap, Refused<BitmapBuilder>>
         ensures refused { failure_back result ≡ first_failed (freeze_checks self (length buf.old)) }
         ensures mask { IfOk result (λ m. m ≡ frozen_mask self) }
@@ -99,8 +99,8 @@ impl BitmapBuilder {
         Ok(frozen_mask(self))
     }
 
-    // Writes the word in progress, and returns the mask of all flags, or none if all are set: Arrow's none, which means all ones. In
-    // dispatch no permission mask means no truck, so there a builder is ended by `freeze`.
+    /// Writes the word in progress, and returns the mask of all flags, or none if all are set: Arrow's none, which means all ones. In
+    /// dispatch no permission mask means no truck, so there a builder is ended by `freeze`.
     pub fn into_opt_validity(self, buf: &mut [u8]) -> Result<Option<Bitmap>, Refused<BitmapBuilder>>
         ensures refused { failure_back result ≡ first_failed (freeze_checks self (length buf.old)) }
         ensures mask { IfOk result (λ m. m ≡ validity_of self) }

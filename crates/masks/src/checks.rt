@@ -1,4 +1,4 @@
-// The checks that the calls share. Those that are public are for crates above masks, to make checks of their own from; so far none does.
+//! The checks that the calls share. Those that are public are for crates above masks, to make checks of their own from; so far none does.
 ghost use Rattle.std.specs.Prelude.{◌≡◌, cond, ◌&&◌, [], ◌∷◌, ◌++◌, ◌+◌, ◌≤◌, eqb, leb};
 ghost use Rattle.masks.specs.Refusal.{failure_of};
 ghost use Rattle.masks.specs.Checks.{first_failed, limit, check, within_limit, span_checks, address_checks, output_checks};
@@ -21,7 +21,7 @@ pub(crate) fn within_limit(n: usize) -> bool
     n <= Bitmap::LIMIT
 }
 
-// Makes checks 1 and 2 of a span over `size` bytes. The numbers may have any size: check 1 comes before they are added.
+/// Makes checks 1 and 2 of a span over `size` bytes. The numbers may have any size: check 1 comes before they are added.
 pub fn check_span(start: usize, length: usize, size: usize) -> Result<(), Refusal>
     ensures refused { failure_of result ≡ first_failed (span_checks start length size) }
 {
@@ -68,7 +68,7 @@ fn count_valid(mask: Bitmap, bytes: &[u8]) -> bool
     }
 }
 
-// Makes checks 1 to 3 of a mask. Counts its zeros only if 1 and 2 pass: both come before 3.
+/// Makes checks 1 to 3 of a mask. Counts its zeros only if 1 and 2 pass: both come before 3.
 pub fn check_mask(mask: Bitmap, bytes: &[u8]) -> Result<(), Refusal>
     ensures refused { failure_of result ≡ first_failed (mask_checks mask bytes.now) }
 {
@@ -83,7 +83,7 @@ pub(crate) fn sum_at_most(a: usize, b: usize, c: usize) -> bool
     a <= c && b <= c - a
 }
 
-// Makes check 9: an output of `size` bytes holds the frozen bytes of n flags.
+/// Makes check 9: an output of `size` bytes holds the frozen bytes of n flags.
 pub fn check_output(n: usize, size: usize) -> Result<(), Refusal>
     ensures refused { failure_of result ≡ first_failed (output_checks n size) }
 {
@@ -120,8 +120,8 @@ fn check_small(b: BitmapBuilder, size: usize) -> Result<(), Refusal>
     Err(Refusal::OutputTooSmall)
 }
 
-// Makes checks 1, 4 and 9 for appending `more` flags to a builder. Speed: by `sum_at_most`, which makes both tests, `freeze` took
-// 1.06 times the instructions and `extend_from_slice` of 40 flags 1.05 times.
+// Makes checks 1, 4 and 9 for appending `more` flags to a builder. Not by `sum_at_most`, which makes both tests: this is faster (PROVING,
+// `check_builder`).
 pub(crate) fn check_builder(b: BitmapBuilder, more: usize, size: usize) -> Result<(), Refusal>
     ensures { failure_of result ≡ first_failed (builder_checks b (b.length + more) size) }
 {

@@ -1,4 +1,4 @@
-// The words of a span that starts at any bit: a cursor that returns them one by one, and the flags after the last whole word.
+//! The words of a span that starts at any bit: a cursor that returns them one by one, and the flags after the last whole word.
 ghost use Rattle.std.specs.Prelude.{◌≡◌, ◌+◌, ◌*◌, ◌%◌, ◌≤◌, length as list_length, IfOk, IfErr};
 ghost use Rattle.words.specs.Flags.{word_flags};
 ghost use Rattle.words.specs.Loops.{stretch};
@@ -14,7 +14,7 @@ use crate::span::{CheckedSpan, flags_word};
 use words::merge::merge_reversed;
 use words::word::byte_word;
 
-// A cursor over the words of a span; its place counts words. The Rust's `BitChunks`, with the bytes lent to each call.
+/// A cursor over the words of a span; its place counts words. The Rust's `BitChunks`, with the bytes lent to each call.
 #[derive(Clone, Copy, PartialEq, Eq, Debug)]
 pub struct BitChunks {
     pub start: usize,
@@ -22,12 +22,12 @@ pub struct BitChunks {
     pub place: usize,
 }
 
-// The Rust's `BitChunksExact`, whose span starts at 0: the name of its constructor. It has no record of its own.
+/// The Rust's `BitChunksExact`, whose span starts at 0: the name of its constructor. It has no record of its own.
 #[derive(Clone, Copy)]
 pub struct BitChunksExact {}
 
 impl BitChunks {
-    // Returns a cursor at the first word of a span.
+    /// Returns a cursor at the first word of a span.
     pub fn new(bytes: &[u8], start: usize, length: usize) -> Result<BitChunks, Refusal>
         ensures refused { failure_of result ≡ first_failed
             (span_checks start length (list_length bytes.now)) }
@@ -41,7 +41,7 @@ impl BitChunks {
         })
     }
 
-    // Returns the word at the cursor, and the cursor one word further; after the last whole word no word, and the cursor unmoved.
+    /// Returns the word at the cursor, and the cursor one word further; after the last whole word no word, and the cursor unmoved.
     pub fn next(self, bytes: &[u8]) -> Result<Step<u64, BitChunks>, Refused<BitChunks>>
         ensures refused { failure_back result ≡ first_failed (chunk_checks self bytes.now) }
         ensures step { IfOk result (λ s. step_of s.item s.cursor ≡ chunk_step bytes.now self) }
@@ -70,7 +70,7 @@ impl BitChunks {
         })
     }
 
-    // Returns the flags after the last whole word, as a word, and how many they are, wherever the cursor is.
+    /// Returns the flags after the last whole word, as a word, and how many they are, wherever the cursor is.
     pub fn remainder(self, bytes: &[u8]) -> Result<(u64, usize), Refused<BitChunks>>
         ensures refused { failure_back result ≡ first_failed (chunk_checks self bytes.now) }
         ensures word { IfOk result (λ r. r.0 ≡ remainder_word bytes.now self.start self.length) }
@@ -85,7 +85,7 @@ impl BitChunks {
 }
 
 impl BitChunksExact {
-    // Returns a cursor at the first word of the first `length` flags of `bytes`: a `BitChunks` of start 0.
+    /// Returns a cursor at the first word of the first `length` flags of `bytes`: a `BitChunks` of start 0.
     pub fn new(bytes: &[u8], length: usize) -> Result<BitChunks, Refusal>
         ensures refused { failure_of result ≡ first_failed
             (span_checks 0 length (list_length bytes.now)) }
@@ -96,8 +96,8 @@ impl BitChunksExact {
 }
 
 impl CheckedSpan<'_> {
-    // Reads the 64 flags starting at flag 64 * k, all in range. Merges two words if the start is inside a byte. Speed: by `word_from`,
-    // which promises the same, `next` took 1.06 times the instructions.
+    // Reads the 64 flags starting at flag 64 * k, all in range. Merges two words if the start is inside a byte. Not by `word_from`, which
+    // promises the same and is slower here (PROVING, `CheckedSpan::word`).
     fn word(self, k: usize) -> u64
         requires { 64 * k + 64 ≤ self.length }
         ensures { word_flags result ≡ stretch self.entry.bytes.now (self.entry.start + 64 * k) 64 }

@@ -1,4 +1,4 @@
-// The calls that compare or count the flags of one mask or of two: equality, edges and common ones.
+//! The calls that compare or count the flags of one mask or of two: equality, edges and common ones.
 ghost use Rattle.std.specs.Prelude.{◌≡◌, ◌++◌, IfOk};
 ghost use Rattle.words.specs.Counts.{same_flags};
 ghost use Rattle.words.specs.Loops.{stretch};
@@ -15,8 +15,7 @@ use words::counts::{count_ones_of, equal};
 use words::flags::Operand;
 use words::ops::Op;
 
-// Returns whether two masks have the same length and flags. Compiled into its callers: as a function of its own 40 flags took 32
-// instructions more.
+/// Returns whether two masks have the same length and flags. Compiled into its callers, which short masks notice (PROVING, `eq`).
 #[inline(always)]
 pub fn eq(lhs: Bitmap, lhs_bytes: &[u8], rhs: Bitmap, rhs_bytes: &[u8]) -> Result<bool, Refusal>
     ensures refused { failure_of result ≡ first_failed
@@ -51,7 +50,7 @@ impl CheckedSpan<'_> {
     }
 }
 
-// Counts the flags that differ from the flag after them.
+/// Counts the flags that differ from the flag after them.
 pub fn num_edges(mask: Bitmap, bytes: &[u8]) -> Result<usize, Refusal>
     ensures refused { failure_of result ≡ first_failed (mask_checks mask bytes.now) }
     ensures edges { IfOk result (λ n. n ≡ edges (mask_flags mask bytes.now)) }
@@ -65,7 +64,7 @@ pub fn num_edges(mask: Bitmap, bytes: &[u8]) -> Result<usize, Refusal>
     Ok(span.edges())
 }
 
-// Counts the flags that are set in both masks. Refuses with 5 if their lengths differ.
+/// Counts the flags that are set in both masks. Refuses with 5 if their lengths differ.
 pub fn num_intersections_with(
     lhs: Bitmap,
     lhs_bytes: &[u8],

@@ -1,6 +1,6 @@
-// Long extensions of a builder: up to a full word, then whole words written straight to the buffer, then the rest. The workers require
-// `Room`, a fact about the builder, the number of flags to append and the buffer. It is no field of a struct, since that number is another
-// one at each call; a builder and its buffer stay two parameters, as the reference lends them.
+//! Long extensions of a builder: up to a full word, then whole words written straight to the buffer, then the rest. The workers require
+//! `Room`, a fact about the builder, the number of flags to append and the buffer. It is no field of a struct, since that number is another
+//! one at each call; a builder and its buffer stay two parameters, as the reference lends them.
 ghost use Rattle.std.specs.Prelude.{true, ◌&&◌, ◌≡◌, ◌+◌, ◌*◌, ◌%◌, ◌≤◌, ◌<◌, leb, ltb, length, IfOk, IfErr, OnErr};
 ghost use Rattle.words.specs.Flags.{copies, window};
 ghost use Rattle.words.specs.Loops.{stretch};
@@ -24,7 +24,7 @@ use words::word::{constant_flags, constant_word, low_flags, near_word, word_from
 const LIMIT_WORDS: usize = Bitmap::LIMIT / 64;
 
 impl BitmapBuilder {
-    // Appends n copies of a flag.
+    /// Appends n copies of a flag.
     #[tactic(auto, using(crate::proofs::checks::CheckLaws::two_pieces), unfolding(crate::specs::Appends::constant_checks))]
     pub fn extend_constant(
         self,
@@ -46,7 +46,7 @@ impl BitmapBuilder {
         Ok(append_copies(self, buf, n, flag))
     }
 
-    // Appends the n flags of `bytes` starting at `start`. Refuses with 2 if they end past the bytes.
+    /// Appends the n flags of `bytes` starting at `start`. Refuses with 2 if they end past the bytes.
     #[tactic(auto, unfolding(crate::specs::Appends::span_grow_checks))]
     pub fn extend_from_slice(
         self,
@@ -74,7 +74,7 @@ impl BitmapBuilder {
         Ok(append_stretch(self, buf, &span))
     }
 
-    // Appends the n flags of a mask starting at `start`. Refuses with 6 if they do not all lie in the mask.
+    /// Appends the n flags of a mask starting at `start`. Refuses with 6 if they do not all lie in the mask.
     #[tactic(auto, using(crate::proofs::checks::CheckLaws::two_pieces), unfolding(crate::specs::Appends::subslice_checks))]
     pub fn subslice_extend_from_bitmap(
         self,
@@ -163,9 +163,8 @@ fn fill_words(b: BitmapBuilder, buf: &mut [u8], whole: usize, flag: bool) -> Bit
     grown(b, longer, 0, ones)
 }
 
-// Appends flags of a span: up to a full word, whole words, and a last word, which is read on its own so that each word of the loop has
-// a byte after it. Compiled into its callers: as a function of its own 40 flags that fill the word in progress take 231 instructions in
-// place of 178.
+// Appends flags of a span: up to a full word, whole words, and a last word, which is read on its own so that each word of the loop has a
+// byte after it. Compiled into its callers, which short spans notice (PROVING, `append_stretch`).
 #[inline(always)]
 pub(crate) fn append_stretch(b: BitmapBuilder, buf: &mut [u8], span: &CheckedSpan) -> BitmapBuilder
     requires { Room b span.now.length (length buf.old) }

@@ -1,4 +1,4 @@
-// Flags of a span gathered by indices of 32 bits, a word at a time.
+//! Flags of a span gathered by indices of 32 bits, a word at a time.
 ghost use Rattle.std.specs.Prelude.{◌≡◌, false, ◌≤◌, length, take, get_or, IfOk, IfErr, OnErr};
 ghost use Rattle.words.specs.Flags.{word_flags};
 ghost use Rattle.words.specs.Loops.{stretch};
@@ -15,9 +15,9 @@ use crate::span::CheckedSpan;
 use words::word::{concat_low, constant_word, flag_at};
 
 impl BitmapBuilder {
-    // Appends the flag at each index; refuses with 6 if an index is not below the length of the span. This and
-    // `opt_gather_extend_from_slice` are the Rust's names over `append_gathered`. They differ in the check of the indices, so one function
-    // for both would take a flag and promise by cases.
+    /// Appends the flag at each index; refuses with 6 if an index is not below the length of the span. This and
+    /// `opt_gather_extend_from_slice` are the Rust's names over `append_gathered`. They differ in the check of the indices, so one function
+    /// for both would take a flag and promise by cases.
     pub fn gather_extend_from_slice(
         self,
         buf: &mut [u8],
@@ -49,7 +49,7 @@ impl BitmapBuilder {
         Ok(append_gathered(self, buf, &span, idxs))
     }
 
-    // Appends the flag at each index, or 0 if the index is not below the span's length.
+    /// Appends the flag at each index, or 0 if the index is not below the span's length.
     #[tactic(auto, using(crate::proofs::checks::CheckLaws::two_pieces), unfolding(crate::specs::Appends::span_grow_checks))]
     pub fn opt_gather_extend_from_slice(
         self,

@@ -1,4 +1,4 @@
-// The cursor over single flags of a span, and how many flags in a row at its place are equal.
+//! The cursor over single flags of a span, and how many flags in a row at its place are equal.
 ghost use Rattle.std.specs.Prelude.{◌≡◌, ◌≢◌, ◌+◌, true, false, length as list_length, IfOk, IfErr};
 ghost use Rattle.masks.specs.Checks.{first_failed, span_checks};
 ghost use Rattle.masks.specs.Cursor.{step_of};
@@ -11,7 +11,7 @@ use crate::refusal::{Refusal, Refused};
 use crate::span::leading_from;
 use words::word::flag_at;
 
-// A cursor over the flags of a span; its place counts flags. The Rust's `BitmapIter`, with the bytes lent to each call.
+/// A cursor over the flags of a span; its place counts flags. The Rust's `BitmapIter`, with the bytes lent to each call.
 #[derive(Clone, Copy, PartialEq, Eq, Debug, Default)]
 pub struct BitmapIter {
     pub start: usize,
@@ -20,7 +20,7 @@ pub struct BitmapIter {
 }
 
 impl BitmapIter {
-    // Returns a cursor at the first flag of a span. For length 0 the cursor is all zeros and nothing is checked.
+    /// Returns a cursor at the first flag of a span. For length 0 the cursor is all zeros and nothing is checked.
     pub fn new(bytes: &[u8], start: usize, length: usize) -> Result<BitmapIter, Refusal>
         ensures empty { length ≡ 0 → failure_of result ≡ 0 }
         ensures refused { length ≢ 0 → failure_of result ≡ first_failed
@@ -38,7 +38,7 @@ impl BitmapIter {
         })
     }
 
-    // Returns the flag at the cursor, and the cursor past it; at the end no flag.
+    /// Returns the flag at the cursor, and the cursor past it; at the end no flag.
     pub fn next(self, bytes: &[u8]) -> Result<Step<bool, BitmapIter>, Refused<BitmapIter>>
         ensures refused { failure_back result ≡ first_failed (iter_checks self bytes.now) }
         ensures step { IfOk result (λ s. step_of s.item s.cursor ≡ flag_step bytes.now self 0) }
@@ -47,7 +47,7 @@ impl BitmapIter {
         self.nth(bytes, 0)
     }
 
-    // Skips n flags and returns the one after them, and the cursor past it; past the end no flag, and the cursor at the length.
+    /// Skips n flags and returns the one after them, and the cursor past it; past the end no flag, and the cursor at the length.
     pub fn nth(self, bytes: &[u8], n: usize) -> Result<Step<bool, BitmapIter>, Refused<BitmapIter>>
         ensures refused { failure_back result ≡ first_failed (iter_checks self bytes.now) }
         ensures step { IfOk result (λ s. step_of s.item s.cursor ≡ flag_step bytes.now self n) }
@@ -69,7 +69,7 @@ impl BitmapIter {
         })
     }
 
-    // Counts the ones in a row at the cursor, and moves past them.
+    /// Counts the ones in a row at the cursor, and moves past them.
     pub fn take_leading_ones(self, bytes: &[u8]) -> Result<(usize, BitmapIter), Refused<BitmapIter>>
         ensures refused { failure_back result ≡ first_failed (iter_checks self bytes.now) }
         ensures number { IfOk result (λ r. r.0 ≡ leading_at true self bytes.now) }
@@ -80,7 +80,7 @@ impl BitmapIter {
         self.take_leading(bytes, true)
     }
 
-    // Counts the zeros in a row at the cursor, and moves past them.
+    /// Counts the zeros in a row at the cursor, and moves past them.
     pub fn take_leading_zeros(
         self,
         bytes: &[u8],

@@ -1,8 +1,8 @@
-// Permission masks over lent bytes: the mask's record, spans of bytes, and the calls on them. A mask has one flag for each truck.
-//
-// Every call answers on every input: it makes the checks of the reference, docs/REFERENCE.md, (checks.rt) in their order and returns the
-// refusal of the first that fails, with the builder, cursor or mask that the call would have changed. Nothing is written before the last
-// check has passed.
+//! Permission masks over lent bytes: the mask's record, spans of bytes, and the calls on them. A mask has one flag for each truck.
+//!
+//! Every call answers on every input: it makes the checks of the reference, docs/REFERENCE.md, (checks.rt) in their order and returns the
+//! refusal of the first that fails, with the builder, cursor or mask that the call would have changed. Nothing is written before the last
+//! check has passed.
 #![tactic(auto)]
 
 pub mod aligned;
@@ -27,5 +27,7 @@ mod shortcuts;
 pub mod slice_iterator;
 mod span;
 pub mod superseding;
+#[cfg(test)]
+mod tests;
 pub mod true_idx;
 pub mod utils;

@@ -1,8 +1,8 @@
-// A search over two masks, the second of which may be absent, for the next flag that is set in the first and not in the second: it starts
-// at a place and goes round once.
-//
-// Its answer has the number of windows of 32 flags that it covers. The code reads words of 64 flags and passes over whole blocks; the
-// number follows from where it stops.
+//! A search over two masks, the second of which may be absent, for the next flag that is set in the first and not in the second: it starts
+//! at a place and goes round once.
+//!
+//! Its answer has the number of windows of 32 flags that it covers. The code reads words of 64 flags and passes over whole blocks; the
+//! number follows from where it stops.
 ghost use Rattle.std.specs.Prelude.{◌≡◌, false, ℕ, ◌+◌, ◌≤◌, take, IfOk};
 ghost use Rattle.words.specs.Counts.{any_set};
 ghost use Rattle.words.specs.Flags.{window, word_flags};
@@ -21,20 +21,20 @@ use words::flags::Operand;
 use words::ops::{Op, and_not_word};
 use words::word::{shr_or_zero, word_from};
 
-// A position, or none, and the number of windows of 32 flags that the search covers.
+/// A position, or none, and the number of windows of 32 flags that the search covers.
 #[derive(Clone, Copy, PartialEq, Eq, Debug)]
 pub struct Found {
     pub position: Option<usize>,
     pub windows: usize,
 }
 
-// Returns the first position at or after `from` that is set in the first mask and not in the second, else the first such position below
-// `from`, or none. An absent second mask takes nothing away. Windows begin at `from` and at every 32nd flag after it, then at 0 and at
-// every 32nd flag below `from`; the answer counts those up to the one that holds the position, or all. Refuses with 6 if `from` is above
-// the length.
-//
-// Masks of at most 64 flags are one word each, read once and searched twice, with no loop. This function and its checks are compiled into
-// its callers: with either as a function of its own 40 flags take 281 instructions in place of 247.
+/// Returns the first position at or after `from` that is set in the first mask and not in the second, else the first such position below
+/// `from`, or none. An absent second mask takes nothing away. Windows begin at `from` and at every 32nd flag after it, then at 0 and at
+/// every 32nd flag below `from`; the answer counts those up to the one that holds the position, or all. Refuses with 6 if `from` is above
+/// the length.
+///
+/// Masks of at most 64 flags are one word each, read once and searched twice, with no loop. This function and its checks are compiled into
+/// its callers, which short masks notice (PROVING, `next_and_not`).
 #[inline(always)]
 pub fn next_and_not(
     first: Bitmap,
@@ -145,8 +145,7 @@ fn check_other(n: usize, second: Option<Bitmap>, bytes: &[u8]) -> Result<(), Ref
 }
 
 // Returns whether one of the n flags starting at `at` is set in the first mask and not in the second. This and the three functions below
-// take both masks and their bytes one by one: as methods of a struct of the four a search of 40 flags, which then went by these as longer
-// ones do, took 1.04 times the instructions, `offer` with known counts 1.06 times.
+// take both masks and their bytes one by one, which is faster than methods of a struct of the four (PROVING, `any_free`).
 fn any_free(
     first: Bitmap,
     first_bytes: &[u8],
@@ -176,7 +175,7 @@ fn any_free(
 }
 
 // Returns the 64 flags starting at `at`, each set if it is set in the first mask and not in the second; those past the length have no
-// meaning. As a function of its own, with two callers, it makes a search of 40 flags take 269 instructions in place of 247.
+// meaning. It has two callers, and is compiled into both for short masks (PROVING, `free_word`).
 #[inline(always)]
 fn free_word(
     first: Bitmap,
@@ -198,9 +197,8 @@ fn free_word(
 }
 
 // Passes over blocks of 1,024 flags that have no flag set in the first mask and not in the second, and returns where it stops: at a block
-// that has one, or at the last flags before `end`. This loop and that of `zeros_ahead` are `while`: as `for` loops over a range of blocks
-// and a `step_by(64)` a search of 40 flags, which then went through them, took 496 instructions in place of 471, and one that finds nothing
-// 653 in place of 611.
+// that has one, or at the last flags before `end`. This loop and that of `zeros_ahead` are `while`, which is faster than `for` loops over a
+// range of blocks and a `step_by(64)` (PROVING, `pass_blocks`).
 fn pass_blocks(
     first: Bitmap,
     first_bytes: &[u8],

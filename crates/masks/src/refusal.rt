@@ -1,4 +1,4 @@
-// The reasons for which a call refuses, and how the checks of a call are joined.
+//! The reasons for which a call refuses, and how the checks of a call are joined.
 ghost use Rattle.std.specs.Prelude.{◌≡◌, cond, Some};
 ghost use Rattle.masks.specs.Checks.{earlier as earlier_of};
 ghost use Rattle.masks.specs.Refusal.{failure_of, number, reason, said};
@@ -6,30 +6,30 @@ ghost use Rattle.masks.specs.Refusal.{failure_of, number, reason, said};
 use std::error::Error;
 use std::fmt;
 
-// The checks that a call can fail, in their order: of several that fail the first one here is the answer. Each is a check of the reference
-// with its number (its question, answered no); 14 is one of paper 02.
+/// The checks that a call can fail, in their order: of several that fail the first one here is the answer. Each is a check of the reference
+/// with its number.
 #[derive(Clone, Copy, PartialEq, Eq, PartialOrd, Ord, Debug)]
 pub enum Refusal {
-    // 1: a start or a length, stated or resulting, is above the flag limit.
+    /// 1: a start or a length, stated or resulting, is above the flag limit.
     AboveLimit,
-    // 2: start + length is above 8 * the bytes lent.
+    /// 2: start + length is above 8 * the bytes lent.
     OutsideBytes,
-    // 3: a known zero count is not that of the flags.
+    /// 3: a known zero count is not that of the flags.
     FalseCount,
-    // 14: two masks with equal serials have different flags.
+    /// 14: two masks with equal serials have different flags.
     SerialConflict,
-    // 4: the builder's word has a bit set at or above length mod 64, its ones are above 64 * (length div 64), or its buffer has fewer than
-    // 8 * (length div 64) bytes.
+    /// 4: the builder's word has a bit set at or above length mod 64, its ones are above 64 * (length div 64), or its buffer has fewer than
+    /// 8 * (length div 64) bytes.
     ImpossibleBuilder,
-    // 5: the masks combined, or a mask and its stated length, differ in length.
+    /// 5: the masks combined, or a mask and its stated length, differ in length.
     UnequalLengths,
-    // 6: a piece, a place, an index or a pushed word does not lie inside.
+    /// 6: a piece, a place, an index or a pushed word does not lie inside.
     OutsideMask,
-    // 7: `slice` recounts and finds that the known count cannot be right.
+    /// 7: `slice` recounts and finds that the known count cannot be right.
     CountNotOfSlice,
-    // 8: the address remainder is above 7.
+    /// 8: the address remainder is above 7.
     AddressRemainder,
-    // 9: the output, or the builder's buffer, does not hold the result.
+    /// 9: the output, or the builder's buffer, does not hold the result.
     OutputTooSmall,
 }
 
@@ -99,7 +99,7 @@ impl fmt::Display for Refusal {
 
 impl Error for Refusal {}
 
-// A refusal, and the record that was passed to the call.
+/// A refusal, and the record that was passed to the call.
 #[derive(Clone, Copy, PartialEq, Eq, Debug)]
 pub struct Refused<S> {
     pub refusal: Refusal,
@@ -114,8 +114,19 @@ impl<S> fmt::Display for Refused<S> {
     }
 }
 
-// Returns the refusal of two checks that comes first in their order; none if both pass. It joins checks of which one made later may come
-// first, as check 1 of a second mask comes before check 3 of the first. If each comes after those made before it, a call uses `?`.
+// By this `?` passes the refusal on, in a caller that does not return the record.
+impl<S: Drop> From<Refused<S>> for Refusal {
+    ghost from_gives = { λ e r. r ≡ e.refusal };
+
+    fn from(refused: Refused<S>) -> Refusal {
+        refused.refusal
+    }
+}
+
+impl<S: fmt::Debug + Drop> Error for Refused<S> {}
+
+/// Returns the refusal of two checks that comes first in their order; none if both pass. It joins checks of which one made later may come
+/// first, as check 1 of a second mask comes before check 3 of the first. If each comes after those made before it, a call uses `?`.
 pub fn earlier(a: Result<(), Refusal>, b: Result<(), Refusal>) -> Result<(), Refusal>
     ensures refused { failure_of result ≡ earlier_of (failure_of a) (failure_of b) }
 {

@@ -1,4 +1,4 @@
-// A span appended with each flag repeated.
+//! A span appended with each flag repeated.
 ghost use Rattle.std.specs.Prelude.{◌≡◌, ◌*◌, length, IfOk, IfErr, OnErr};
 ghost use Rattle.words.specs.Loops.{stretch};
 ghost use Rattle.masks.specs.Refusal.{failure_of, failure_back};
@@ -15,7 +15,7 @@ use crate::span::CheckedSpan;
 use words::word::flag_at;
 
 impl BitmapBuilder {
-    // Appends each flag of a span, `repeats` times in turn; 0 repeats append nothing.
+    /// Appends each flag of a span, `repeats` times in turn; 0 repeats append nothing.
     #[tactic(auto, using(crate::proofs::checks::CheckLaws::two_pieces), unfolding(crate::specs::Appends::span_grow_checks))]
     pub fn extend_each_repeated_from_slice_unchecked(
         self,

@@ -1,5 +1,5 @@
-// What the zero counts of two masks imply about their combination: nothing, or that all its flags equal one flag. An unknown count is not
-// computed for this: the first word usually shows that a mask is not constant.
+//! What the zero counts of two masks imply about their combination: nothing, or that all its flags equal one flag. An unknown count is not
+//! computed for this: the first word usually shows that a mask is not constant.
 ghost use Rattle.std.specs.Prelude.{◌≡◌, not};
 ghost use Rattle.words.specs.declared.ops.Op.TheVariants.{Xor};
 ghost use Rattle.masks.specs.Combine.{result_count, shortcut};
@@ -28,8 +28,8 @@ fn is_all(flag: bool, mask: Bitmap, bytes: &[u8]) -> bool
 }
 
 // Returns whether all flags of a mask are `flag`, as `is_all` does, for the masks that each call tests. It is compiled into the call, with
-// the test of the first word; the rest is not, and `bytes` stays in registers. With `is_all` in its place `and` of two masks of unknown
-// counts took 1.16 times the instructions.
+// the test of the first word; the rest is not, and `bytes` stays in registers. With `is_all` in its place the combinations of masks of
+// unknown counts are slower (PROVING, `is_all_early`).
 fn is_all_early(flag: bool, mask: Bitmap, bytes: &[u8]) -> bool
     ensures { result ≡ is_all flag mask bytes.now }
 {

@@ -1,4 +1,4 @@
-// Spans that have passed their checks, words of their flags, and how many flags in a row are equal.
+//! Spans that have passed their checks, words of their flags, and how many flags in a row are equal.
 ghost use Rattle.std.specs.Prelude.{false, ◌≡◌, ◌+◌, ◌*◌, ◌≤◌, length as list_length, IfOk};
 ghost use Rattle.words.specs.Flags.{word_of};
 ghost use Rattle.words.specs.Loops.{stretch};
@@ -48,9 +48,8 @@ pub(crate) fn flags_word(bytes: &[u8], bit: usize, k: usize) -> u64
 }
 
 // Counts the flags in a row, starting at `place`, that equal `flag`. Reads the first word here, since the run is usually short. This,
-// `zeros_from` and `leading_by_words` take a span as three arguments, in registers: as methods of `CheckedSpan`, which is passed through
-// memory to a function that is not inlined, the next one of a random mask took 1.04 times the instructions and `take_leading` of 40 zeros
-// 1.07 times.
+// `zeros_from` and `leading_by_words` take a span as three arguments, in registers: a `CheckedSpan` is passed through memory to a function
+// that is not inlined (PROVING, `leading_from`).
 pub(crate) fn leading_from(
     flag: bool,
     bytes: &[u8],

@@ -1,5 +1,5 @@
-// The later revocation wins: of two masks of one operator, each over its own bytes, the one with the larger serial, and the part of the
-// lent bytes that holds it. The caller makes sure that both masks are one operator's.
+//! The later revocation wins: of two masks of one operator, each over its own bytes, the one with the larger serial, and the part of the
+//! lent bytes that holds it. The caller makes sure that both masks are one operator's.
 ghost use Rattle.std.specs.Prelude.{◌≡◌, ◌≢◌, ◌≤◌, [], IfOk};
 ghost use Rattle.masks.specs.Refusal.{failure_of};
 ghost use Rattle.masks.specs.Checks.{first_failed, limit};
@@ -10,8 +10,8 @@ use crate::checks::check_mask;
 use crate::compare::eq;
 use crate::refusal::{Refusal, check, earlier};
 
-// The winner: whether it is the second mask, the part of its slice that holds it, from byte `from` to before byte `to`, and its record over
-// that part. `second` is part of the answer (paper 02): it does not say how to read another field.
+/// The winner: whether it is the second mask, the part of its slice that holds it, from byte `from` to before byte `to`, and its record
+/// over that part. `second` is part of the answer: it does not say how to read another field.
 #[derive(Clone, Copy, PartialEq, Eq, Debug)]
 pub struct Part {
     pub second: bool,
@@ -58,8 +58,8 @@ fn part_of(second: bool, mask: Bitmap) -> Part
     }
 }
 
-// Returns the mask with the larger serial, the first if they are equal, and where its bytes are: for callers that keep the bytes
-// themselves. Refuses with 14 if the serials are equal and the lists are not.
+/// Returns the mask with the larger serial, the first if they are equal, and where its bytes are: for callers that keep the bytes
+/// themselves. Refuses with 14 if the serials are equal and the lists are not.
 pub fn superseding_part(
     first: Bitmap,
     first_bytes: &[u8],
@@ -77,7 +77,7 @@ pub fn superseding_part(
     Ok(part_of(false, first))
 }
 
-// Returns the record of the mask with the larger serial, the first if they are equal, over the part that `superseding_bytes` returns.
+/// Returns the record of the mask with the larger serial, the first if they are equal, over the part that `superseding_bytes` returns.
 pub fn superseding(
     first: Bitmap,
     first_bytes: &[u8],
@@ -92,8 +92,8 @@ pub fn superseding(
     Ok(part.mask)
 }
 
-// Returns the bytes of the mask with the larger serial, the first if they are equal: a part of one of the two slices. After a refusal it is
-// an empty part of the first.
+/// Returns the bytes of the mask with the larger serial, the first if they are equal: a part of one of the two slices. After a refusal it
+/// is an empty part of the first.
 pub fn superseding_bytes<'a>(
     first: Bitmap,
     first_bytes: &'a [u8],

@@ -1,5 +1,5 @@
-// Counts over bare spans. A span that fits one word starting at its first byte is read as one. For others each count passes the address to
-// the aligned split and works from its three parts; the answer does not depend on the address.
+//! Counts over bare spans. A span that fits one word starting at its first byte is read as one. For others each count passes the address to
+//! the aligned split and works from its three parts; the answer does not depend on the address.
 ghost use Rattle.std.specs.Prelude.{◌≡◌, ◌≢◌, true, false, ◌+◌, ◌*◌, ◌%◌, ◌≤◌, eqb, length as list_length, IfOk};
 ghost use Rattle.words.specs.Ends.{leading, trailing};
 ghost use Rattle.words.specs.Loops.{stretch};
@@ -34,7 +34,7 @@ fn long_zeros(span: &Addressed) -> usize
 
 // Counts the zeros of a span that has passed its checks. Too large to be inlined into a call; `count_zeros` reads a short span itself and
 // passes its address remainder, other calls pass 0. Takes the span as three arguments, in registers: with a struct `check_mask` became too
-// large to be inlined into the calls, and masks whose count is unknown took up to 1.4 times the instructions.
+// large to be inlined into the calls (PROVING, `zeros_at`).
 pub(crate) fn zeros_at(bytes: &[u8], start: usize, length: usize, address: usize) -> usize
     requires { (start ≤ 2 * limit) × ((length ≤ limit) × (address ≤ 7)) }
     ensures { result ≡ zeros (stretch bytes.now start length) }
@@ -77,8 +77,8 @@ pub(crate) fn other_early(flag: bool, bytes: &[u8], start: usize, length: usize)
     differs_early(flag, bytes, start, length)
 }
 
-// Counts the zeros of a span; 0, with no check, for length 0. `zeros_at` is not inlined and gets a slice of its own: so `bytes`, which
-// would otherwise be read from memory, stays in registers for the short spans.
+/// Counts the zeros of a span; 0, with no check, for length 0. `zeros_at` is not inlined and gets a slice of its own: so `bytes`, which
+/// would otherwise be read from memory, stays in registers for the short spans.
 pub fn count_zeros(
     bytes: &[u8],
     start: usize,
@@ -146,7 +146,7 @@ fn run_flags<E: End>(
     Ok(long_run::<E>(flag, &span))
 }
 
-// Counts the zeros at the start of a span. This and the three below are the Rust's names for `run_flags`.
+/// Counts the zeros at the start of a span. This and the three below are the Rust's names for `run_flags`.
 pub fn leading_zeros(
     bytes: &[u8],
     start: usize,
@@ -161,7 +161,7 @@ pub fn leading_zeros(
     run_flags::<Front>(false, bytes, start, length, address)
 }
 
-// Counts the ones at the start of a span.
+/// Counts the ones at the start of a span.
 pub fn leading_ones(
     bytes: &[u8],
     start: usize,
@@ -176,7 +176,7 @@ pub fn leading_ones(
     run_flags::<Front>(true, bytes, start, length, address)
 }
 
-// Counts the zeros at the end of a span.
+/// Counts the zeros at the end of a span.
 pub fn trailing_zeros(
     bytes: &[u8],
     start: usize,
@@ -191,7 +191,7 @@ pub fn trailing_zeros(
     run_flags::<Back>(false, bytes, start, length, address)
 }
 
-// Counts the ones at the end of a span.
+/// Counts the ones at the end of a span.
 pub fn trailing_ones(
     bytes: &[u8],
     start: usize,

@@ -1,4 +1,4 @@
-// The answer of a call.
+//! The answer of a call.
 ghost use Rattle.std.specs.Prelude.{◌≡◌, [], IfOk};
 ghost use Rattle.notation.specs.declared.answer.Token.TheVariants.{Number};
 ghost use Rattle.notation.specs.Answer.{tokens_of, number_alone, with_token};
@@ -6,12 +6,13 @@ ghost use Rattle.notation.specs.Answer.{tokens_of, number_alone, with_token};
 use std::alloc::{AllocError, Global};
 use std::fmt;
 
+/// A token of an answer.
 #[derive(Clone, Copy, Debug, PartialEq, Eq)]
 pub enum Token {
     Number(u64),
-    // A zero count that is not known: `?`.
+    /// A zero count that is not known: `?`.
     Unknown,
-    // None or missing: `-`.
+    /// None or missing: `-`.
     Missing,
 }
 
@@ -64,7 +65,7 @@ impl fmt::Display for Token {
     }
 }
 
-// The tokens of an answer: 0 or the refusing number, and after it what the call returned.
+/// The tokens of an answer: 0 or the refusing number, and after it what the call returned.
 #[derive(Drop)]
 pub struct Answer {
     pub(crate) tokens: Vec<Token>,
@@ -80,14 +81,14 @@ impl Answer {
         }
     }
 
-    // Returns an answer with the number 0 or the refusing number; what the call returned comes after it.
+    /// Returns an answer with the number 0 or the refusing number; what the call returned comes after it.
     pub fn new(alloc: Global, number: u8) -> Result<Answer, AllocError>
         ensures { IfOk result (λ a. tokens_of a ≡ number_alone number) }
     {
         Answer::none(alloc).and(Token::from(number))
     }
 
-    // Returns the answer with one more token.
+    /// Returns the answer with one more token.
     pub fn and(self, token: Token) -> Result<Answer, AllocError>
         ensures { IfOk result (λ a. tokens_of a ≡ with_token (tokens_of self) token) }
     {

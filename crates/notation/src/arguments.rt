@@ -1,5 +1,5 @@
-// The arguments of one call: numbers, how many bytes and numbers are lent, and the serials of the records among them. The conversions of
-// this file are `as`: to `usize`, which has no `From` of a u64, and to the low 32 bits.
+//! The arguments of one call: numbers, how many bytes and numbers are lent, and the serials of the records among them. The conversions of
+//! this file are `as`: to `usize`, which has no `From` of a u64, and to the low 32 bits.
 ghost use Rattle.std.specs.Prelude.{◌≡◌, ◌%◌, ◌^◌};
 ghost use Rattle.notation.specs.Arguments.{count_at, number_at, low_at, flag_at, serial_at};
 
@@ -9,7 +9,7 @@ use crate::lent::Sizes;
 // The most arguments that a call has.
 const MOST: usize = 9;
 
-// One of the records among the arguments.
+/// One of the records among the arguments.
 #[derive(Clone, Copy, Debug, PartialEq, Eq)]
 pub enum Serial {
     First,
@@ -17,6 +17,7 @@ pub enum Serial {
     Third,
 }
 
+/// The numbers of one call in their order, the serials of its records, and how much of what is lent it reads.
 #[derive(Clone, Copy, Debug)]
 pub struct Arguments {
     // None for `?`, and 0 for an absent argument.
@@ -67,42 +68,42 @@ impl Arguments {
         }
     }
 
-    // Returns argument i as a zero count, None if it is not known or absent.
+    /// Returns argument i as a zero count, None if it is not known or absent.
     pub fn count(&self, i: usize) -> Option<usize>
         ensures { result ≡ count_at self.now i }
     {
         self.numbers.get(i)?.map(|n| n as usize)
     }
 
-    // Returns argument i as a number, 0 if it is not known or absent.
+    /// Returns argument i as a number, 0 if it is not known or absent.
     pub fn word(&self, i: usize) -> u64
         ensures { result ≡ number_at self.now i }
     {
         self.numbers.get(i).copied().flatten().unwrap_or(0)
     }
 
-    // Returns argument i as a size, 0 if it is not known or absent.
+    /// Returns argument i as a size, 0 if it is not known or absent.
     pub fn size(&self, i: usize) -> usize
         ensures { result ≡ number_at self.now i }
     {
         self.word(i) as usize
     }
 
-    // Returns the low 32 bits of argument i, 0 if it is not known or absent.
+    /// Returns the low 32 bits of argument i, 0 if it is not known or absent.
     pub fn low(&self, i: usize) -> u32
         ensures { result ≡ low_at self.now i }
     {
         low(self.word(i))
     }
 
-    // Returns whether argument i is not 0; false if it is not known or absent.
+    /// Returns whether argument i is not 0; false if it is not known or absent.
     pub fn flag(&self, i: usize) -> bool
         ensures { result ≡ flag_at self.now i }
     {
         self.word(i) != 0
     }
 
-    // Returns the serial of a record, 0 if the line has none for it.
+    /// Returns the serial of a record, 0 if the line has none for it.
     pub fn serial(&self, serial: Serial) -> u32
         ensures { result ≡ serial_at self.now serial }
     {

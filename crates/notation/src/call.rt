@@ -1,5 +1,6 @@
-// The calls, in groups to which the same is lent.
+//! The calls, in groups to which the same is lent.
 
+/// A call, by its group.
 #[derive(Clone, Copy, Debug, PartialEq, Eq)]
 pub enum Call {
     Word(WordCall),
@@ -28,7 +29,7 @@ pub enum Call {
     Search(SearchCall),
 }
 
-// Calls on words only.
+/// Calls on words only.
 #[derive(Clone, Copy, Debug, PartialEq, Eq)]
 pub enum WordCall {
     MergeReversed,
@@ -41,7 +42,7 @@ pub enum WordCall {
     ConstantWord,
 }
 
-// Further calls on words only: those of flags and of how many they are, and `combine_word`.
+/// Further calls on words only: those of flags and of how many they are, and `combine_word`.
 #[derive(Clone, Copy, Debug, PartialEq, Eq)]
 pub enum FlagsCall {
     ConstantFlags,
@@ -53,7 +54,7 @@ pub enum FlagsCall {
     CombineWord,
 }
 
-// The operations on words.
+/// The operations on words.
 #[derive(Clone, Copy, Debug, PartialEq, Eq)]
 pub enum OperationCall {
     And,
@@ -65,7 +66,7 @@ pub enum OperationCall {
     Select,
 }
 
-// Calls of words that read x.
+/// Calls of words that read x.
 #[derive(Clone, Copy, Debug, PartialEq, Eq)]
 pub enum LoadCall {
     LoadPaddedLeU64,
@@ -75,7 +76,7 @@ pub enum LoadCall {
     CountOnes,
 }
 
-// Calls of words that read x, y and z.
+/// Calls of words that read x, y and z.
 #[derive(Clone, Copy, Debug, PartialEq, Eq)]
 pub enum ZipCall {
     Equal,
@@ -83,7 +84,7 @@ pub enum ZipCall {
     AnySet,
 }
 
-// Calls on a span of x.
+/// Calls on a span of x.
 #[derive(Clone, Copy, Debug, PartialEq, Eq)]
 pub enum SpanCall {
     Aligned,
@@ -93,7 +94,7 @@ pub enum SpanCall {
     NthSetBitIdxRev,
 }
 
-// Counts of a span of x.
+/// Counts of a span of x.
 #[derive(Clone, Copy, Debug, PartialEq, Eq)]
 pub enum CountCall {
     CountZeros,
@@ -103,7 +104,7 @@ pub enum CountCall {
     TrailingOnes,
 }
 
-// The chunks of x.
+/// The chunks of x.
 #[derive(Clone, Copy, Debug, PartialEq, Eq)]
 pub enum ChunksCall {
     New,
@@ -112,7 +113,7 @@ pub enum ChunksCall {
     Remainder,
 }
 
-// Calls that make a builder or a mask, and calls on one mask over x.
+/// Calls that make a builder or a mask, and calls on one mask over x.
 #[derive(Clone, Copy, Debug, PartialEq, Eq)]
 pub enum MaskCall {
     NewBuilder,
@@ -123,7 +124,7 @@ pub enum MaskCall {
     NumEdges,
 }
 
-// Calls on two masks, over x and y, that write nothing.
+/// Calls on two masks, over x and y, that write nothing.
 #[derive(Clone, Copy, Debug, PartialEq, Eq)]
 pub enum PairCall {
     Eq,
@@ -132,7 +133,7 @@ pub enum PairCall {
     MayReassign,
 }
 
-// Which of two masks supersedes the other.
+/// Which of two masks supersedes the other.
 #[derive(Clone, Copy, Debug, PartialEq, Eq)]
 pub enum SupersedingCall {
     Part,
@@ -140,7 +141,7 @@ pub enum SupersedingCall {
     Bytes,
 }
 
-// Calls of the cursors over a mask's runs and over its ones.
+/// Calls of the cursors over a mask's runs and over its ones.
 #[derive(Clone, Copy, Debug, PartialEq, Eq)]
 pub enum CursorCall {
     NewSlices,
@@ -149,7 +150,7 @@ pub enum CursorCall {
     NextTrueIdx,
 }
 
-// Calls of the cursor over flags.
+/// Calls of the cursor over flags.
 #[derive(Clone, Copy, Debug, PartialEq, Eq)]
 pub enum BitsCall {
     New,
@@ -159,7 +160,7 @@ pub enum BitsCall {
     TakeLeadingZeros,
 }
 
-// Calls of words that write o.
+/// Calls of words that write o.
 #[derive(Clone, Copy, Debug, PartialEq, Eq)]
 pub enum StoreCall {
     StoreLeU64,
@@ -171,7 +172,7 @@ pub enum StoreCall {
     FillWhole,
 }
 
-// Calls of the builder, whose buffer is o, that read nothing else.
+/// Calls of the builder, whose buffer is o, that read nothing else.
 #[derive(Clone, Copy, Debug, PartialEq, Eq)]
 pub enum BuilderCall {
     Push,
@@ -182,7 +183,7 @@ pub enum BuilderCall {
     IntoOptValidity,
 }
 
-// Appends that read x.
+/// Appends that read x.
 #[derive(Clone, Copy, Debug, PartialEq, Eq)]
 pub enum ExtendCall {
     FromSlice,
@@ -190,7 +191,7 @@ pub enum ExtendCall {
     FromBitmap,
 }
 
-// Combinations of two masks.
+/// Combinations of two masks.
 #[derive(Clone, Copy, Debug, PartialEq, Eq)]
 pub enum MergeCall {
     And,
@@ -200,7 +201,7 @@ pub enum MergeCall {
     Xor,
 }
 
-// The combinations of one mask, and those by a selector.
+/// The combinations of one mask, and those by a selector.
 #[derive(Clone, Copy, Debug, PartialEq, Eq)]
 pub enum SelectCall {
     Not,
@@ -208,21 +209,21 @@ pub enum SelectCall {
     SelectConstant,
 }
 
-// Appends that read x at the indices i.
+/// Appends that read x at the indices i.
 #[derive(Clone, Copy, Debug, PartialEq, Eq)]
 pub enum GatherCall {
     FromSlice,
     OptFromSlice,
 }
 
-// Calls that write i.
+/// Calls that write i.
 #[derive(Clone, Copy, Debug, PartialEq, Eq)]
 pub enum ListCall {
     NextChunk,
     Counts,
 }
 
-// Calls that write a window of minutes, whose arrays are o.
+/// Calls that write a window of minutes, whose arrays are o.
 #[derive(Clone, Copy, Debug, PartialEq, Eq)]
 pub enum MinutesCall {
     New,
@@ -230,7 +231,7 @@ pub enum MinutesCall {
     PushMinutes,
 }
 
-// Searches over two masks.
+/// Searches over two masks.
 #[derive(Clone, Copy, Debug, PartialEq, Eq)]
 pub enum SearchCall {
     NextAndNot,

@@ -1,4 +1,4 @@
-// The choices of a range: the arguments of each single call.
+//! The choices of a range: the arguments of each single call.
 ghost use Rattle.std.specs.Prelude.{◌≡◌, IsSome};
 
 use crate::arguments::Arguments;

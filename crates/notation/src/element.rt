@@ -1,4 +1,4 @@
-// The elements of what is lent, bytes or the numbers of i, and what is done in the same way with both.
+//! The elements of what is lent, bytes or the numbers of i, and what is done in the same way with both.
 ghost use Rattle.std.specs.Prelude.{◌≡◌, OnOk};
 
 use crate::answer::Answer;

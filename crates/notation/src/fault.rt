@@ -1,12 +1,13 @@
-// What ends a line early.
+//! What ends a line early.
 use std::alloc::{AllocError, AllocFailed};
 use std::io;
 
+/// Why the reading of a line ends early.
 #[derive(Debug, Drop)]
 pub enum Fault {
-    // The line means nothing: it is counted, and the next one is read.
+    /// The line means nothing: it is counted, and the next one is read.
     Malformed,
-    // Memory, a read or a write failed: the program ends.
+    /// Memory, a read or a write failed: the program ends.
     Failed(io::Error),
 }
 

@@ -1,4 +1,4 @@
-// One item of a line: numbers with their role, a number and how many times, `?`, `-`, `_`, or `#` and a number.
+//! One item of a line: numbers with their role, a number and how many times, `?`, `-`, `_`, or `#` and a number.
 ghost use Rattle.std.specs.Prelude.{◌≡◌};
 ghost use Rattle.notation.specs.Items.{is_plain};
 

@@ -1,4 +1,4 @@
-// The arguments and the answer of a request, and other lists of items.
+//! The arguments and the answer of a request, and other lists of items.
 ghost use Rattle.std.specs.Prelude.{◌≡◌, is_some};
 ghost use Rattle.notation.specs.Items.{is_argument, plain_of};
 

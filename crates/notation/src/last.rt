@@ -1,4 +1,4 @@
-// What the last call left: its answer, and the bytes and the numbers of the last one that has them as output.
+//! What the last call left: its answer, and the bytes and the numbers of the last one that has them as output.
 ghost use Rattle.std.specs.Prelude.{◌≡◌, [], take, OnOk};
 ghost use Rattle.notation.specs.Answer.{tokens_of};
 ghost use Rattle.notation.specs.Last.{bytes_before, numbers_before};
@@ -9,6 +9,7 @@ use crate::lent::Lent;
 use crate::names::Output;
 use std::alloc::{AllocError, Global};
 
+/// What the last call left, with which a request may go on.
 #[derive(Drop)]
 pub struct Last {
     pub answer: Answer,
@@ -17,7 +18,7 @@ pub struct Last {
 }
 
 impl Last {
-    // Returns the state before the first call.
+    /// Returns the state before the first call.
     pub fn new(alloc: Global) -> Last
         ensures answer { tokens_of result.answer ≡ [] }
         ensures bytes { result.bytes.items ≡ [] }
@@ -30,7 +31,7 @@ impl Last {
         }
     }
 
-    // Sets the output of the next call to what the lines lend.
+    /// Sets the output of the next call to what the lines lend.
     pub fn restore(&mut self, output: Output, lent: &Lent) -> Result<(), AllocError>
         ensures answer { self.new.answer ≡ self.old.answer }
         ensures bytes { OnOk result (self.new.bytes.items ≡ bytes_before output self.old.bytes.items lent.now.o.items) }
@@ -44,7 +45,7 @@ impl Last {
     }
 }
 
-// Returns the first n elements of an output, or all. What is written is the caller's: the contract states what is lent.
+/// Returns the first n elements of an output, or all. What is written is the caller's: the contract states what is lent.
 pub fn first_mut<T>(output: &mut Vec<T>, n: usize) -> &mut [T]
     ensures { result.now ≡ take n output.old.items }
 {

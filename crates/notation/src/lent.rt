@@ -1,4 +1,4 @@
-// What is lent to the calls: the bytes x, y, z and o, and the numbers i.
+//! What is lent to the calls: the bytes x, y, z and o, and the numbers i.
 ghost use Rattle.std.specs.Prelude.{◌≡◌, [], take, OnOk, OnErr, IfOk, true};
 ghost use Rattle.notation.specs.Lent.{sizes_of, KeptBut, is_again, IsLeft};
 ghost use Rattle.notation.specs.Line.{letter_of};
@@ -8,7 +8,7 @@ use crate::fault::Fault;
 use crate::last::Last;
 use std::alloc::{AllocError, Global};
 
-// The letter of what is lent.
+/// The letter of what is lent.
 #[derive(Clone, Copy, Debug, PartialEq, Eq)]
 pub enum Letter {
     X,
@@ -33,7 +33,7 @@ impl Letter {
     }
 }
 
-// One for each letter: of bytes for x, y, z and o, of numbers for i.
+/// One for each letter: of bytes for x, y, z and o, of numbers for i.
 #[derive(Clone, Copy, Debug)]
 pub struct ByLetter<B, N> {
     pub x: B,
@@ -43,7 +43,7 @@ pub struct ByLetter<B, N> {
     pub i: N,
 }
 
-// How many of each are lent.
+/// How many of each are lent.
 pub type Sizes = ByLetter<usize, usize>;
 
 impl ByLetter<usize, usize> {
@@ -64,14 +64,14 @@ impl ByLetter<usize, usize> {
     }
 }
 
-// What the lines so far lend.
+/// What the lines so far lend.
 pub type Lent = ByLetter<Vec<u8>, Vec<u32>>;
 
-// What a call reads of what is lent.
+/// What a call reads of what is lent.
 pub type Parts<'a> = ByLetter<&'a [u8], &'a [u32]>;
 
 impl ByLetter<Vec<u8>, Vec<u32>> {
-    // Returns the state before the first line: nothing is lent.
+    /// Returns the state before the first line: nothing is lent.
     pub fn new(alloc: Global) -> Lent
         ensures x { result.x.items ≡ [] }
         ensures y { result.y.items ≡ [] }
@@ -88,8 +88,8 @@ impl ByLetter<Vec<u8>, Vec<u32>> {
         }
     }
 
-    // Takes what a line lends. The contract states in full what stays and what `@` lends. It leaves open what other pieces lend and which
-    // are malformed: a definition of their text's meaning would be the parser again.
+    /// Takes what a line lends. The contract states in full what stays and what `@` lends. It leaves open what other pieces lend and which
+    /// are malformed: a definition of their text's meaning would be the parser again.
     pub fn take(
         &mut self,
         alloc: Global,
@@ -111,7 +111,7 @@ impl ByLetter<Vec<u8>, Vec<u32>> {
         Ok(())
     }
 
-    // Sets the output to the bytes that the last call left.
+    /// Sets the output to the bytes that the last call left.
     pub fn go_on(&mut self, last: &Last) -> Result<(), AllocError>
         ensures output { OnOk result (self.new.o.items ≡ last.now.bytes.items) }
         ensures inputs { self.new ≡ record self.old { o = self.new.o } }
@@ -119,7 +119,7 @@ impl ByLetter<Vec<u8>, Vec<u32>> {
         element::refill(&mut self.o, last.bytes.as_slice())
     }
 
-    // Returns how many bytes and numbers are lent.
+    /// Returns how many bytes and numbers are lent.
     pub fn sizes(&self) -> Sizes
         ensures { result ≡ sizes_of self.now }
     {
@@ -132,7 +132,7 @@ impl ByLetter<Vec<u8>, Vec<u32>> {
         }
     }
 
-    // Returns the first bytes and numbers of each letter, by `sizes`.
+    /// Returns the first bytes and numbers of each letter, by `sizes`.
     pub fn parts(&self, sizes: Sizes) -> Parts<'_>
         ensures x { result.x.now ≡ take sizes.x self.now.x.items }
         ensures y { result.y.now ≡ take sizes.y self.now.y.items }

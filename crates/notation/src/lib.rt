@@ -1,5 +1,5 @@
-// Requests as lines of text, except for the calls themselves: standard input is taken apart into lines, a line into numbers and bytes, and
-// the answer and the output of a call are compared with the line. Nothing here depends on what a call does.
+//! Requests as lines of text, except for the calls themselves: standard input is taken apart into lines, a line into numbers and bytes, and
+//! the answer and the output of a call are compared with the line. Nothing here depends on what a call does.
 #![tactic(auto)]
 
 pub mod answer;

@@ -1,4 +1,4 @@
-// A line: what it lends, a request, or nothing. docs/REQUESTS.md has its meaning.
+//! A line: what it lends, a request, or nothing. docs/REQUESTS.md has its meaning.
 ghost use Rattle.std.specs.Prelude.{◌≡◌, IfErr};
 ghost use Rattle.notation.specs.declared.fault.Fault.TheVariants.{Malformed};
 ghost use Rattle.notation.specs.Line.{meaning_of, meaning, lettered};
@@ -6,19 +6,20 @@ ghost use Rattle.notation.specs.Line.{meaning_of, meaning, lettered};
 use crate::fault::Fault;
 use crate::lent::Letter;
 
+/// A line, by what it is for.
 #[derive(Clone, Copy)]
 pub enum Line<'a> {
-    // A comment, or empty.
+    /// A comment, or empty.
     Nothing,
-    // The pieces that are lent.
+    /// The pieces that are lent.
     Lends(Letter, &'a [u8]),
     Request(&'a [u8]),
-    // A request on the output as the last call left it.
+    /// A request on the output as the last call left it.
     GoesOn(&'a [u8]),
 }
 
 impl<'a> Line<'a> {
-    // Reads a line. It is malformed if its first token is one byte that is neither `+` nor a letter of what is lent.
+    /// Reads a line. It is malformed if its first token is one byte that is neither `+` nor a letter of what is lent.
     pub fn read(text: &'a [u8]) -> Result<Line<'a>, Fault>
         ensures meaning { meaning result ≡ meaning_of text.now }
         ensures malformed { IfErr result (λ e. e ≡ Malformed) }

@@ -1,4 +1,4 @@
-// The bytes of a reader, taken apart into lines.
+//! The bytes of a reader, taken apart into lines.
 ghost use Rattle.std.specs.Prelude.{◌≡◌, ◌≢◌, ◌<◌, [], IfOk, OnOk, is_ok, length, nat_lt, vec_len, position, true, false, if◌then◌else◌};
 ghost use Rattle.std.specs.Io.Buffered.{reader_buffer};
 ghost use Rattle.notation.specs.Lines.{ends, begun, is_feed, gone_on, step_over, left_of};
@@ -16,9 +16,9 @@ const WINDOW: usize = 65536;
 // A line has fewer bytes than this.
 const LINE: usize = 16384;
 
-// The result of a step of a reader: it read on, or took the rest of what it had read; or took the end of a line; or reached the end of the
-// input, and so of the last line, which may have no line feed. The line itself is returned by `line`: a step that lent it would borrow
-// `self`, and its clauses could not name `self.new`.
+/// The result of a step of a reader: it read on, or took the rest of what it had read; or took the end of a line; or reached the end of the
+/// input, and so of the last line, which may have no line feed. The line itself is returned by `line`: a step that lent it would borrow
+/// `self`, and its clauses could not name `self.new`.
 #[derive(Clone, Copy, Debug, PartialEq, Eq)]
 pub enum Step {
     Part,
@@ -26,9 +26,9 @@ pub enum Step {
     Last,
 }
 
-// Lines are cut by hand: over `take(..).read_until(..)` the proof of `step` did not close. For a reader whose bytes are not known, such as
-// standard input, the contract of `read_until` states neither what it takes of the buffer nor that it keeps to the limit; and that of
-// `skip_until` does not state whether it met a line feed.
+/// Lines are cut by hand: over `take(..).read_until(..)` the proof of `step` did not close. For a reader whose bytes are not known, such as
+/// standard input, the contract of `read_until` states neither what it takes of the buffer nor that it keeps to the limit; and that of
+/// `skip_until` does not state whether it met a line feed.
 #[derive(Drop)]
 pub struct Lines<R: Read + Drop> {
     source: BufReader<R>,
@@ -39,7 +39,7 @@ pub struct Lines<R: Read + Drop> {
 }
 
 impl<R: Read + Drop> Lines<R> {
-    // Returns the lines of a reader, before the first step.
+    /// Returns the lines of a reader, before the first step.
     pub fn new(alloc: Global, source: R) -> io::Result<Lines<R>>
         ensures line { IfOk result (λ lines. lines.line.items ≡ []) }
         ensures ended { IfOk result (λ lines. lines.ended ≡ false) }
@@ -51,8 +51,8 @@ impl<R: Read + Drop> Lines<R> {
         })
     }
 
-    // Takes the bytes that were read, up to a line feed, or reads on if none are left. The contract states in full what becomes of bytes
-    // that were read. It leaves open which bytes come next: those are the reader's.
+    /// Takes the bytes that were read, up to a line feed, or reads on if none are left. The contract states in full what becomes of bytes
+    /// that were read. It leaves open which bytes come next: those are the reader's.
     pub fn step(&mut self) -> io::Result<Step>
         ensures ended { IfOk result (λ step. self.new.ended ≡ ends step) }
         ensures line { OnOk result (self.new.line.items ≡ gone_on (begun self.old) (reader_buffer self.old.source)) }
@@ -97,7 +97,7 @@ impl<R: Read + Drop> Lines<R> {
         }
     }
 
-    // Returns the line that the last step ended; one of LINE bytes is malformed.
+    /// Returns the line that the last step ended; one of LINE bytes is malformed.
     pub fn line(&self) -> Result<&[u8], Fault>
         ensures short { IfOk result (λ line. length line.now < 16384) }
         ensures bytes { IfOk result (λ line. line.now ≡ self.now.line.items) }

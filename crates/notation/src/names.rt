@@ -1,11 +1,11 @@
-// The calls by name, in the order in which they are printed.
+//! The calls by name, in the order in which they are printed.
 use crate::call::{
     BitsCall, BuilderCall, Call, ChunksCall, CountCall, CursorCall, ExtendCall, FlagsCall,
     GatherCall, ListCall, LoadCall, MaskCall, MergeCall, MinutesCall, OperationCall, PairCall,
     SearchCall, SelectCall, SpanCall, StoreCall, SupersedingCall, WordCall, ZipCall,
 };
 
-// What a call writes: the bytes o, the numbers i, or none of them.
+/// What a call writes: the bytes o, the numbers i, or none of them.
 #[derive(Clone, Copy, Debug, PartialEq, Eq)]
 pub enum Output {
     Nothing,
@@ -13,7 +13,7 @@ pub enum Output {
     Numbers,
 }
 
-// A call's name, how many arguments it has, and its output.
+/// A call's name, how many arguments it has, and its output.
 #[derive(Clone, Copy, Debug)]
 pub struct Named {
     pub(crate) name: &'static str,

@@ -1,4 +1,4 @@
-// The outcome of a request: the answers and outputs of its calls, compared with its line.
+//! The outcome of a request: the answers and outputs of its calls, compared with its line.
 ghost use Rattle.std.specs.Prelude.{◌≡◌, ◌≢◌, IfOk, Ok, is_some, true, false};
 ghost use Rattle.notation.specs.declared.outcome.Verdict.TheVariants.{Made};
 ghost use Rattle.notation.specs.Outcome.{none_made, taken};
@@ -14,7 +14,7 @@ use crate::reading::Reading;
 use crate::sums::Checksum;
 use std::alloc::Global;
 
-// At most this many calls are made for one range.
+/// At most this many calls are made for one range.
 pub const RANGE: u64 = 4194304;
 
 #[derive(Clone, Copy, Debug, PartialEq, Eq)]
@@ -25,7 +25,7 @@ pub(crate) enum Verdict {
     Made,
 }
 
-// The call's name and its place, and how many calls were made. The name is what is printed, the place is where the tally counts.
+/// The call's name and its place, and how many calls were made. The name is what is printed, the place is where the tally counts.
 #[derive(Clone, Copy, Debug)]
 pub struct Outcome {
     pub name: &'static str,
@@ -34,7 +34,7 @@ pub struct Outcome {
     pub(crate) verdict: Verdict,
 }
 
-// How many calls were made, and the checksum of their answers and outputs.
+/// How many calls were made, and the checksum of their answers and outputs.
 #[derive(Clone, Copy, Debug)]
 pub struct Ran {
     calls: u64,
@@ -42,7 +42,7 @@ pub struct Ran {
 }
 
 impl Ran {
-    // Returns the state before the first call.
+    /// Returns the state before the first call.
     pub fn new() -> Ran
         ensures { result ≡ none_made }
     {
@@ -52,7 +52,7 @@ impl Ran {
         }
     }
 
-    // Takes in a call: its answer and its output.
+    /// Takes in a call: its answer and its output.
     pub fn take(&mut self, output: Output, last: &Last)
         ensures { self.new ≡ taken output last.now self.old }
     {
@@ -66,8 +66,8 @@ impl Ran {
     }
 }
 
-// Compares the calls made with the line. The contract states in full what is counted and when there is nothing to compare. It leaves open
-// which answers and outputs are the same: a definition of their text's meaning would be the parser again.
+/// Compares the calls made with the line. The contract states in full what is counted and when there is nothing to compare. It leaves open
+/// which answers and outputs are the same: a definition of their text's meaning would be the parser again.
 pub fn compare(
     alloc: Global,
     reading: &Reading,

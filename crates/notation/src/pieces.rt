@@ -1,5 +1,5 @@
-// Lists of bytes and of numbers, written in pieces. A list that has more than the room is None; but `HEX*N` is malformed if no byte of HEX
-// had room.
+//! Lists of bytes and of numbers, written in pieces. A list that has more than the room is None; but `HEX*N` is malformed if no byte of HEX
+//! had room.
 use crate::arguments::low;
 use crate::fault::Fault;
 use crate::item::{Item, Role};

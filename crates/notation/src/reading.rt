@@ -1,4 +1,4 @@
-// A request's line, taken apart.
+//! A request's line, taken apart.
 ghost use Rattle.std.specs.Prelude.{◌≡◌, IfOk, IsSome, is_some, false};
 ghost use Rattle.notation.specs.Items.{plain_of};
 ghost use Rattle.notation.specs.declared.names.Output.TheVariants.{Nothing};
@@ -12,8 +12,8 @@ use crate::names::{NAMES, Named, Output};
 use crate::{names, text};
 use std::alloc::Global;
 
-// A request: the place of its call's name and the entry there, the items of its arguments and its answer, and what its output must hold.
-// `named` is the entry of the table at `place`; an entry does not hold its place, by which the tally counts.
+/// A request: the place of its call's name and the entry there, the items of its arguments and its answer, and what its output must hold.
+/// `named` is the entry of the table at `place`; an entry does not hold its place, by which the tally counts.
 #[derive(Drop)]
 pub struct Reading<'a> {
     pub(crate) place: usize,
@@ -23,8 +23,8 @@ pub struct Reading<'a> {
 }
 
 impl<'a> Reading<'a> {
-    // Reads a request's line; `last` is the last call's answer. The contract states that the call has as many arguments as its entry in the
-    // table. It leaves open what they are and which entry is taken: a definition of the text's meaning would be the parser again.
+    /// Reads a request's line; `last` is the last call's answer. The contract states that the call has as many arguments as its entry in
+    /// the table. It leaves open what they are and which entry is taken: a definition of the text's meaning would be the parser again.
     pub fn read(alloc: Global, line: &'a [u8], last: &Answer) -> Result<Reading<'a>, Fault>
         ensures { IfOk result (λ r. plain_of r.items ≡ r.named.arguments) }
     {
@@ -57,8 +57,8 @@ impl<'a> Reading<'a> {
         }
     }
 
-    // Returns the arguments of call t of the request, None after its last one. The contract states that there is a first one. It leaves
-    // open how many there are and what they are: both come from the text, and a definition of its meaning would be the parser again.
+    /// Returns the arguments of call t of the request, None after its last one. The contract states that there is a first one. It leaves
+    /// open how many there are and what they are: both come from the text, and a definition of its meaning would be the parser again.
     pub fn choice(&self, t: u64, sizes: Sizes) -> Option<Arguments>
         ensures { t ≡ 0 → IsSome result }
     {

@@ -1,22 +1,23 @@
-// Checksums of 64 bits: each step is a bijection of the sum so far, so that a change of one bit in one answer changes the sum.
+//! Checksums of 64 bits: each step is a bijection of the sum so far, so that a change of one bit in one answer changes the sum.
 ghost use Rattle.std.specs.Prelude.{◌≡◌};
 ghost use Rattle.notation.specs.Answer.{tokens_of};
 ghost use Rattle.notation.specs.Sums.{mixed, first_sum, token_mixed, answer_mixed, word_of, bytes_mixed, numbers_mixed};
 
 use crate::answer::{Answer, Token};
 
+/// A checksum of the answers and outputs so far.
 #[derive(Clone, Copy, Debug, PartialEq, Eq)]
 pub struct Checksum(u64);
 
 impl Checksum {
-    // Returns the checksum of nothing.
+    /// Returns the checksum of nothing.
     pub fn new() -> Checksum
         ensures { result ≡ first_sum }
     {
         Checksum(0xcbf29ce484222325)
     }
 
-    // Returns the checksum as a number.
+    /// Returns the checksum as a number.
     pub fn value(self) -> u64
         ensures { result ≡ self.0 }
     {
@@ -54,7 +55,7 @@ impl Checksum {
         }
     }
 
-    // Takes in bytes, eight at a time, with zeros after the last.
+    /// Takes in bytes, eight at a time, with zeros after the last.
     pub fn bytes(self, bytes: &[u8]) -> Checksum
         ensures { result ≡ bytes_mixed self bytes.now }
     {

@@ -1,4 +1,4 @@
-// How many requests of each call were made, how many calls they are, and how many requests differ; and what is printed.
+//! How many requests of each call were made, how many calls they are, and how many requests differ; and what is printed.
 ghost use Rattle.std.specs.Prelude.{◌≡◌, slice_get};
 ghost use Rattle.notation.specs.Tally.{begun, line_counted, malformed_counted, wrong_counted, shows};
 ghost use Rattle.notation.specs.Tally.{added, row_added, request_added, counted, is_printed};
@@ -48,8 +48,8 @@ pub(crate) struct Row {
     count: Count,
 }
 
-// A row for each call, in the order of the names; the requests of all; those with no answer; the lines so far, the malformed ones, and
-// those that differ or are malformed.
+/// A row for each call, in the order of the names; the requests of all; those with no answer; the lines so far, the malformed ones, and
+/// those that differ or are malformed.
 #[derive(Drop)]
 pub struct Tally {
     pub(crate) rows: [Row; CALLS],
@@ -61,7 +61,7 @@ pub struct Tally {
 }
 
 impl Tally {
-    // Returns a tally with a row for each call and nothing counted.
+    /// Returns a tally with a row for each call and nothing counted.
     pub fn new() -> Tally
         ensures { result ≡ begun result }
     {
@@ -75,7 +75,7 @@ impl Tally {
         }
     }
 
-    // Counts a line. Returns its number.
+    /// Counts a line. Returns its number.
     pub fn count_line(&mut self) -> u64
         ensures after { self.new ≡ line_counted self.old }
         ensures number { result ≡ self.new.lines }
@@ -84,7 +84,7 @@ impl Tally {
         self.lines
     }
 
-    // Counts a malformed line. Returns whether it is to be printed.
+    /// Counts a malformed line. Returns whether it is to be printed.
     pub fn count_malformed(&mut self) -> bool
         ensures after { self.new ≡ malformed_counted self.old }
         ensures printed { result ≡ shows self.old }
@@ -93,7 +93,7 @@ impl Tally {
         self.count_wrong()
     }
 
-    // Counts a request. Returns whether it is to be printed: it differs, and is among the first lines that are wrong.
+    /// Counts a request. Returns whether it is to be printed: it differs, and is among the first lines that are wrong.
     pub fn count(&mut self, outcome: Outcome) -> bool
         ensures after { self.new ≡ counted self.old outcome }
         ensures printed { result ≡ is_printed self.old outcome.verdict }

@@ -1,4 +1,4 @@
-// Calls that need memory, each made once with enough of it: no clause states that they succeed.
+//! Calls that need memory, each made once with enough of it: no clause states that they succeed.
 use crate::answer::{Answer, Token};
 use crate::last::Last;
 use crate::lent::{Lent, Letter};

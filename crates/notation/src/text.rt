@@ -1,4 +1,4 @@
-// Digits and numbers, and a text cut in two.
+//! Digits and numbers, and a text cut in two.
 ghost use Rattle.std.specs.Prelude.{◌<◌, IfSome};
 
 // The number before its last digit is below this, so that 16 times it and a digit fit.

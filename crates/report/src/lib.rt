@@ -1,4 +1,4 @@
-// The report on a mask that the program maskreport prints: its numbers, and the program itself.
+//! The report on a mask that the program maskreport prints: its numbers, and the program itself.
 #![tactic(auto)]
 
 pub mod numbers;

@@ -1,4 +1,4 @@
-// The numbers of a report on bytes that are read as eight flags each.
+//! The numbers of a report on bytes that are read as eight flags each.
 ghost use Rattle.std.specs.Prelude.{◌≡◌, length};
 ghost use Rattle.masks.specs.Checks.{first_failed};
 ghost use Rattle.masks.specs.Mask.{mask_checks, mask_flags};
@@ -10,6 +10,7 @@ use masks::compare::num_edges;
 use masks::cursor::Step;
 use masks::slice_iterator::SlicesIterator;
 
+/// The numbers of a report.
 #[derive(Clone, Copy)]
 pub struct Numbers {
     pub flags: usize,
@@ -18,7 +19,7 @@ pub struct Numbers {
     pub runs: usize,
 }
 
-// Returns the numbers of flags, zeros, edges and runs of ones; none for more than 65,536 bytes: the report's own limit, no check of masks.
+/// Returns the numbers of flags, zeros, edges and runs of ones; none for more than 65,536 bytes: the report's own limit, no check of masks.
 pub fn report(bytes: &[u8]) -> Option<Numbers>
     ensures { result ≡ report_of bytes.now }
 {

@@ -1,4 +1,4 @@
-// The program maskreport: reads its input, of which a report takes at most 65,536 bytes, and prints the report.
+//! The program maskreport: reads its input, of which a report takes at most 65,536 bytes, and prints the report.
 ghost use Rattle.std.specs.Prelude.{◌<◌, Some, length, take, IfOk, OnOk};
 ghost use Rattle.std.specs.Io.{ReadsAtMost};
 ghost use Rattle.std.specs.Io.KnownBytes.{Appends, Consumes, IsAtEnd};
@@ -9,7 +9,7 @@ use std::error::Error;
 use std::io::{Read, Write};
 use std::{fmt, io};
 
-// The reason why no report was printed: the input cannot be read, or the output cannot be written.
+/// The reason why no report was printed: the input cannot be read, or the output cannot be written.
 #[derive(Clone, Copy, PartialEq, Eq, Debug)]
 pub enum Failure {
     Input,
@@ -41,8 +41,8 @@ impl fmt::Display for Numbers {
     }
 }
 
-// Reads `source` to its end, at most one byte more than a report takes, and prints the report on it to `output`. If it cannot, prints the
-// failure to `errors` and returns it.
+/// Reads `source` to its end, at most one byte more than a report takes, and prints the report on it to `output`. If it cannot, prints the
+/// failure to `errors` and returns it.
 pub fn run<R: Read, W: Write, E: Write>(
     source: &mut R,
     output: &mut W,

@@ -1,4 +1,4 @@
-// The calls of the builder, whose buffer is the output.
+//! The calls of the builder, whose buffer is the output.
 ghost use Rattle.std.specs.Prelude.{◌≡◌, [], ◌∷◌, length, OnOk, OnErr};
 ghost use Rattle.masks.specs.Appends.{grow_checks};
 ghost use Rattle.masks.specs.Builder.{appended, filling};

@@ -1,9 +1,9 @@
-// How a call is made: each group of calls is lent what it reads and writes. Each module `.._calls` has a `match` on the call: each arm
-// names another function, mostly with other parameters and another answer, and a table of those with equal ones would hold function
-// pointers.
-//
-// The allocator and the arguments are two parameters of all these functions: `tokens` takes only the first and `values` only the second, so
-// that a struct of both would be taken apart in each body.
+//! How a call is made: each group of calls is lent what it reads and writes. Each module `.._calls` has a `match` on the call: each arm
+//! names another function, mostly with other parameters and another answer, and a table of those with equal ones would hold function
+//! pointers.
+//!
+//! The allocator and the arguments are two parameters of all these functions: `tokens` takes only the first and `values` only the second,
+//! so that a struct of both would be taken apart in each body.
 use crate::tokens::Answered;
 use crate::{builder_calls, cursor_calls, mask_calls, minute_calls, span_calls, words_calls};
 use notation::arguments::Arguments;

@@ -1,4 +1,4 @@
-// The calls of the cursors over x.
+//! The calls of the cursors over x.
 use crate::tokens::Answered;
 use crate::{tokens, values};
 use masks::iterator::BitmapIter;

@@ -1,4 +1,4 @@
-// The calls over masks: makers, slices, combinations, comparisons, searches, and those of dispatch.
+//! The calls over masks: makers, slices, combinations, comparisons, searches, and those of dispatch.
 use crate::tokens::Answered;
 use crate::{tokens, values};
 use dispatch::dispatch::may_reassign;

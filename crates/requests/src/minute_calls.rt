@@ -1,7 +1,7 @@
-// The calls of the crate activity.
-//
-// The arrays of a window lie in bytes, little-endian: its 256 words, then its 64 counts, 2,304 bytes. Its place, its fill and its width are
-// the first three arguments, and come last in an answer.
+//! The calls of the crate activity.
+//!
+//! The arrays of a window lie in bytes, little-endian: its 256 words, then its 64 counts, 2,304 bytes. Its place, its fill and its width
+//! are the first three arguments, and come last in an answer.
 use crate::tokens;
 use crate::tokens::Answered;
 use activity::window::{ActivityWindow, WindowRefusal};

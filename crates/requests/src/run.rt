@@ -1,4 +1,4 @@
-// Standard input, line by line.
+//! Standard input, line by line.
 use crate::session::Session;
 use notation::lines::{Lines, Step};
 use std::io;
@@ -7,7 +7,7 @@ use std::io::Read;
 // At most this many steps are made, each to the end of a line or of what was read at once, so that the program ends on input that does not.
 const STEPS: usize = 4194304;
 
-// Reads requests to the end of the input, makes them, and prints the outcome. Ends with an error if a read or a write fails.
+/// Reads requests to the end of the input, makes them, and prints the outcome. Ends with an error if a read or a write fails.
 pub fn run(rt: &(impl io::Input + Print + AllocGlobal)) -> io::Result<()> {
     let mut session = Session::new(rt.alloc());
     let mut lines = Lines::new(rt.alloc(), rt.reader())?;

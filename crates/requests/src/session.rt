@@ -1,4 +1,4 @@
-// What is kept from one line to the next, and what a line does.
+//! What is kept from one line to the next, and what a line does.
 use crate::calls;
 use notation::fault::Fault;
 use notation::last::Last;

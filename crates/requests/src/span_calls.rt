@@ -1,4 +1,4 @@
-// The calls over bare spans of x.
+//! The calls over bare spans of x.
 use crate::tokens;
 use crate::tokens::Answered;
 use masks::aligned::AlignedBitmapSlice;

@@ -1,4 +1,4 @@
-// The tokens of a value in an answer, in their order.
+//! The tokens of a value in an answer, in their order.
 use dispatch::offer::{Offering, RefusedOffer};
 use masks::aligned::AlignedBitmapSlice;
 use masks::bitmap::{Bitmap, Recounted};

@@ -1,4 +1,4 @@
-// Records made from arguments.
+//! Records made from arguments.
 ghost use Rattle.std.specs.Prelude.{◌≤◌};
 
 use masks::bitmap::Bitmap;

@@ -1,4 +1,4 @@
-// The calls of the crate words.
+//! The calls of the crate words.
 use crate::tokens;
 use crate::tokens::Answered;
 use notation::answer::{Answer, Token};

@@ -1,5 +1,5 @@
-// Counting and comparing. A stretch is `len` flags of the bytes, starting at any flag, with zeros past their end. The time is bounded by
-// the bytes lent, whatever `len` is.
+//! Counting and comparing. A stretch is `len` flags of the bytes, starting at any flag, with zeros past their end. The time is bounded by
+//! the bytes lent, whatever `len` is.
 ghost use Rattle.std.specs.Prelude.{◌≡◌, true, false, not, ◌&&◌, ◌*◌, ◌-◌, ◌≤◌, drop, ltb};
 ghost use Rattle.words.specs.Flags.{flags_of, count, digit, over, word_flags};
 ghost use Rattle.words.specs.Ops.{op_of};
@@ -15,9 +15,9 @@ use crate::ops::{Op, combine_word};
 use crate::rows::Countable;
 use crate::word::{byte_word, low_flags, near_word, ones_below, ones_in_word, shr_or_zero};
 
-// Counts the ones of a stretch. Whole words that start at a byte, all in range, are counted with no check for partial ones. Rare cases are
-// in functions outside this body and get a slice or record of their own, so that this slice stays in registers. `ones` of `rows` makes the
-// same choice by the number of words: if it is called from here, 1000 flags take 30 more instructions.
+/// Counts the ones of a stretch. Whole words that start at a byte, all in range, are counted with no check for partial ones. Rare cases are
+/// in functions outside this body and get a slice or record of their own, so that this slice stays in registers. `ones` of `rows` makes the
+/// same choice by the number of words; a call of it from here is slower (PROVING, `count_ones`).
 pub fn count_ones(bytes: &[u8], start: usize, len: usize) -> usize
     ensures { result ≡ count (stretch bytes.now start len) }
 {
@@ -66,7 +66,7 @@ fn count_mixed(bytes: &[u8], start: usize, len: usize) -> usize
     first + mid + last
 }
 
-// Copies a stretch to `out` as `copy` does, and counts its ones, also those that do not fit.
+/// Copies a stretch to `out` as `copy` does, and counts its ones, also those that do not fit.
 pub fn copy_count(bytes: &[u8], start: usize, len: usize, out: &mut [u8]) -> usize
     ensures ones { result ≡ count (stretch bytes.now start len) }
     ensures flags { flags_of out.new ≡ over (flags_of out.old) (whole_words (stretch bytes.now start len)) }
@@ -95,7 +95,7 @@ fn copy_then_count(bytes: &[u8], start: usize, len: usize, out: &mut [u8]) -> us
 fn words_covering(x: usize, y: usize, z: usize) -> usize
     ensures { (x ≤ 8 * result) × ((y ≤ 8 * result) × (z ≤ 8 * result)) }
 {
-    // one word too many if the last is whole: by `div_ceil` `num_edges` of 1000 flags takes 1.011 of the instructions
+    // one word too many if the last is whole, which is faster than `div_ceil` (PROVING, `words_covering`)
     x.max(y).max(z) / 8 + 1
 }
 
@@ -107,8 +107,7 @@ fn past_end(op: Op) -> bool
 }
 
 // Counts the ones among those of `len` flags that come after the first n words, all of which equal `flag`. 64 * n may be past the largest
-// number, so n is compared first: with `saturating_mul` and `usize::from(flag)` in place of the comparison 1000 flags take 1.02 of the
-// instructions.
+// number, so n is compared first, which is faster than `saturating_mul` and `usize::from(flag)` (PROVING, `ones_after`).
 fn ones_after(flag: bool, len: usize, n: usize) -> usize
     ensures { result ≡ (len - 64 * n) * digit flag }
 {
@@ -133,16 +132,16 @@ pub(crate) fn is_set(w: u64) -> bool
     w != 0
 }
 
-// Returns whether all flags of w at and above flag k are zero; true if k is 64 or more.
+/// Returns whether all flags of w at and above flag k are zero; true if k is 64 or more.
 pub fn none_from(w: u64, k: usize) -> bool
     ensures { result ≡ not (any_set (drop k (word_flags w))) }
 {
     !is_set(shr_or_zero(w, k))
 }
 
-// Counts the ones of a combination of three stretches. The operation, the operands and the length are parameters here and in `loops`: a
-// struct of the five would be built in each call and taken apart again in each clause. It begins as `any_set` does: for at most a word both
-// call `triple_word`, and a function that makes the lanes would promise in four clauses what four lines do.
+/// Counts the ones of a combination of three stretches. The operation, the operands and the length are parameters here and in `loops`: a
+/// struct of the five would be built in each call and taken apart again in each clause. It begins as `any_set` does: for at most a word
+/// both call `triple_word`, and a function that makes the lanes would promise in four clauses what four lines do.
 pub fn count_ones_of<'a>(
     op: Op,
     a: &Operand<'a>,
@@ -178,7 +177,7 @@ fn any_whole<A: Lane, B: Lane, C: Lane>(op: Op, lanes: &Lanes<A, B, C>) -> bool
 {
     let n = lanes.n;
     let mut i = 0;
-    // block by block, the last of which is shorter: with `step_by(64)` 65,536 flags take 1.04 of the instructions
+    // block by block, the last of which is shorter: faster than `step_by(64)` (PROVING, `any_whole`)
     while i < n {
         let k = (n - i).min(64);
         let block = lanes.part(i, k);
@@ -191,7 +190,7 @@ fn any_whole<A: Lane, B: Lane, C: Lane>(op: Op, lanes: &Lanes<A, B, C>) -> bool
     false
 }
 
-// Returns whether any flag of a combination of three stretches is set.
+/// Returns whether any flag of a combination of three stretches is set.
 pub fn any_set<'a>(op: Op, a: &Operand<'a>, b: &Operand<'a>, c: &Operand<'a>, len: usize) -> bool
     ensures { result ≡ any_set
         (combined op a.now.bytes.now a.now.start b.now.bytes.now b.now.start c.now.bytes.now c.now.start len) }
@@ -209,8 +208,8 @@ pub fn any_set<'a>(op: Op, a: &Operand<'a>, b: &Operand<'a>, c: &Operand<'a>, le
         || any_after(past_end(op), len, n)
 }
 
-// Returns whether two stretches have the same flags. At most 64 are two words, compared here: by `any_set`, which reads three, `eq` of 40
-// flags takes 247 instructions in place of 176, and 188 if this function is not inlined.
+/// Returns whether two stretches have the same flags. At most 64 are two words, compared here, in the caller's code: `any_set` reads three
+/// (PROVING, `equal`).
 #[inline(always)]
 pub fn equal<'a>(a: &Operand<'a>, b: &Operand<'a>, len: usize) -> bool
     ensures { result ≡ same_flags (stretch a.now.bytes.now a.now.start len) (stretch b.now.bytes.now b.now.start len) }

@@ -1,11 +1,11 @@
-// How many flags at either end of a word are equal.
+//! How many flags at either end of a word are equal.
 ghost use Rattle.std.specs.Prelude.{◌≡◌, take};
 ghost use Rattle.words.specs.Flags.{word_flags};
 ghost use Rattle.words.specs.Ends.{leading, trailing};
 
-// Counts how many of the first k flags of w equal `flag` before the first that differs; if none differs, k, at most 64. To usize, here and
-// below: there is no From; a number up to 64 fits. The choice is outermost: with `min` after it `trailing_zeros` of 100 flags takes 1.02 of
-// the instructions.
+/// Counts how many of the first k flags of w equal `flag` before the first that differs; if none differs, k, at most 64. To usize, here and
+/// below: there is no From; a number up to 64 fits. The choice is outermost, which is faster than a `min` after it (PROVING,
+/// `leading_in_word`).
 pub fn leading_in_word(flag: bool, w: u64, k: usize) -> usize
     ensures { result ≡ leading flag (take k (word_flags w)) }
 {
@@ -16,7 +16,7 @@ pub fn leading_in_word(flag: bool, w: u64, k: usize) -> usize
     }
 }
 
-// Counts how many of the first k flags of w equal `flag` after the last that differs; if none differs, k, at most 64.
+/// Counts how many of the first k flags of w equal `flag` after the last that differs; if none differs, k, at most 64.
 pub fn trailing_in_word(flag: bool, w: u64, k: usize) -> usize
     ensures { result ≡ trailing flag (take k (word_flags w)) }
 {

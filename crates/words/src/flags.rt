@@ -1,13 +1,13 @@
-// An operand of the combinations: lent bytes and the flag at which it begins. Calls with one operand (`copy`, `count_ones`, `copy_count`,
-// `all_are`, `differs_early`, `near_word`, `word_from`, `flag_at`) take the two as parameters: their callers compute with a slice and a
-// number, and would make a `Operand` for one call only.
+//! An operand of the combinations: lent bytes and the flag at which it begins. Calls with one operand (`copy`, `count_ones`, `copy_count`,
+//! `all_are`, `differs_early`, `near_word`, `word_from`, `flag_at`) take the two as parameters: their callers compute with a slice and a
+//! number, and would make a `Operand` for one call only.
 ghost use Rattle.std.specs.Prelude.{◌≡◌, ◌*◌, ◌+◌, ◌^◌, ◌<◌};
 ghost use Rattle.words.specs.Flags.{word_flags, flags_of, window};
 
 use crate::word::word_at;
 
-// The flags of `bytes` starting at flag `start`. It is passed by reference: by value each function that passes it on copies it, and 40
-// flags took 1.04 to 1.12 times the instructions. The operands of a call have one lifetime, so that one may be passed as two.
+/// The flags of `bytes` starting at flag `start`. It is passed by reference: by value each function that passes it on copies it (PROVING,
+/// `Operand`). The operands of a call have one lifetime, so that one may be passed as two.
 #[derive(Clone, Copy)]
 pub struct Operand<'a> {
     pub bytes: &'a [u8],

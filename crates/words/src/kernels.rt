@@ -1,5 +1,5 @@
-// Loops over whole words of lanes: no padding and no slow path inside, so that they are vectorised. A loop has its operation and its
-// lanes as type parameters; `each` picks the operation.
+//! Loops over whole words of lanes: no padding and no slow path inside, so that they are vectorised. A loop has its operation and its
+//! lanes as type parameters; `each` picks the operation.
 ghost use Rattle.std.specs.Prelude.{◌≡◌, ◌*◌, ◌^◌, ◌≤◌, ◌<◌, ℕ, Bool, List, length};
 ghost use Rattle.words.specs.Flags.{word_flags, bits, copies, flags_of, count, over, window};
 ghost use Rattle.words.specs.Loops.{combined};
@@ -143,7 +143,7 @@ fn constant_byte(flag: bool) -> u8
     if flag { 255 } else { 0 }
 }
 
-// Fills `out` with copies of `flag`. Not by `fill`, which writes the last byte apart: 1000 flags take 1.3 of the instructions.
+// Fills `out` with copies of `flag`. Not by `fill`, which writes the last byte apart and is slower (PROVING, `fill_bytes`).
 pub(crate) fn fill_bytes(flag: bool, out: &mut [u8])
     ensures { flags_of out.new ≡ copies (8 * length out.old) flag }
 {

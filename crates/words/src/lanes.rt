@@ -1,5 +1,5 @@
-// Lanes: words of a lent stretch, all in range, so that a loop over them has no padding and no slow path. Three lanes with the number of
-// words that they all have are what the loops of `kernels` read.
+//! Lanes: words of a lent stretch, all in range, so that a loop over them has no padding and no slow path. Three lanes with the number of
+//! words that they all have are what the loops of `kernels` read.
 ghost use Rattle.std.specs.Prelude.{◌≡◌, ◌*◌, ◌+◌, ◌-◌, ◌/◌, ◌≤◌, ◌<◌, ℕ, List, length};
 ghost use Rattle.words.specs.Flags.{word_flags, flags_of, window};
 ghost use Rattle.words.specs.Loops.{combined};
@@ -35,7 +35,7 @@ pub(crate) trait Lane: Drop {
 }
 
 // n words that begin at a byte. Not a slice of arrays of eight bytes (`as_chunks`): if n is 0 the byte may lie past the end, so that `at`
-// would have to be cut to the length of the bytes first, and counting 40 flags takes 1.02 of the instructions.
+// would have to be cut to the length of the bytes first (PROVING, `ByteLane`).
 #[derive(Clone, Copy)]
 pub(crate) struct ByteLane<'a> {
     pub(crate) bytes: &'a [u8],

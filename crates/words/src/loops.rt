@@ -1,5 +1,5 @@
-// Loops that write. A stretch is `len` flags of the bytes, starting at any flag, with zeros past their end; no stretch and no output has to
-// be large enough. The time is bounded by the bytes lent, whatever `len` is.
+//! Loops that write. A stretch is `len` flags of the bytes, starting at any flag, with zeros past their end; no stretch and no output has
+//! to be large enough. The time is bounded by the bytes lent, whatever `len` is.
 ghost use Rattle.std.specs.Prelude.{◌≡◌, ◌*◌, ◌+◌, ◌-◌, ◌/◌, ◌≤◌, min, length};
 ghost use Rattle.words.specs.Flags.{word_flags, copies, flags_of, over, window};
 ghost use Rattle.words.specs.Loops.{stretch, combined, whole_words};
@@ -43,9 +43,9 @@ pub(crate) fn triple_word<'a>(
     low_flags(combine_word(op, x, y, z), len - 64 * i)
 }
 
-// Combines three stretches and writes the result to the start of `out`, padded with zeros to whole words, as far as it fits. At most a word
-// is one store; of more, the whole words in range are written by a kernel, then the rest word by word. The test for no flags is made only
-// for a short stretch: made first, `not` of 100 flags took 1.02 of the instructions.
+/// Combines three stretches and writes the result to the start of `out`, padded with zeros to whole words, as far as it fits. At most a
+/// word is one store; of more, the whole words in range are written by a kernel, then the rest word by word. The test for no flags is made
+/// only for a short stretch, so that longer ones do not pay for it (PROVING, `combine`).
 pub fn combine<'a>(
     op: Op,
     a: &Operand<'a>,
@@ -103,8 +103,8 @@ fn combine_whole<'a>(
     lanes.n
 }
 
-// Copies a stretch to the start of `out`, padded with zeros to whole words, as far as it fits. Uses the combination `or` of the stretch
-// with itself.
+/// Copies a stretch to the start of `out`, padded with zeros to whole words, as far as it fits. Uses the combination `or` of the stretch
+/// with itself.
 pub fn copy(bytes: &[u8], start: usize, len: usize, out: &mut [u8])
     ensures { flags_of out.new ≡ over (flags_of out.old) (whole_words (stretch bytes.now start len)) }
 {
@@ -112,7 +112,7 @@ pub fn copy(bytes: &[u8], start: usize, len: usize, out: &mut [u8])
     combine(Op::Or, &all, &all, &all, len, out);
 }
 
-// Writes `len` copies of a flag to the start of `out`, padded with zeros to whole words, as far as they fit.
+/// Writes `len` copies of a flag to the start of `out`, padded with zeros to whole words, as far as they fit.
 pub fn fill(flag: bool, len: usize, out: &mut [u8])
     ensures { flags_of out.new ≡ over (flags_of out.old) (whole_words (copies len flag)) }
 {
@@ -124,7 +124,7 @@ pub fn fill(flag: bool, len: usize, out: &mut [u8])
     }
 }
 
-// Writes at most `words` whole words of a flag to the start of `out`, as many as fit.
+/// Writes at most `words` whole words of a flag to the start of `out`, as many as fit.
 pub fn fill_whole(flag: bool, words: usize, out: &mut [u8])
     ensures { flags_of out.new ≡ over (flags_of out.old) (copies (64 * min words (length out.old / 8)) flag) }
 {

@@ -1,4 +1,4 @@
-// The n-th set flag of a word.
+//! The n-th set flag of a word.
 ghost use Rattle.std.specs.Prelude.{cond, ◌≡◌, ltb, ◌<◌, ◌≤◌, ◌^◌};
 ghost use Rattle.words.specs.Flags.{bits, count};
 ghost use Rattle.words.specs.Nth.{nth_place, nth_one};
@@ -40,14 +40,14 @@ fn nth_set_bit<const WIDTH: u32>(w: u64, n: u64) -> Result<u32, u32>
     }
 }
 
-// Returns the place of set flag n of w, counted from 0 (`Ok`); or, if at most n flags are set, how many are (`Err`).
+/// Returns the place of set flag n of w, counted from 0 (`Ok`); or, if at most n flags are set, how many are (`Err`).
 pub fn nth_set_bit_u64(w: u64, n: u64) -> Result<u32, u32>
     ensures { result ≡ nth_one (bits 64 w) n }
 {
     nth_set_bit::<64>(w, n)
 }
 
-// Returns the place of set flag n of the 32 flags of w, counted from 0 (`Ok`); or, if at most n flags are set, how many are (`Err`).
+/// Returns the place of set flag n of the 32 flags of w, counted from 0 (`Ok`); or, if at most n flags are set, how many are (`Err`).
 pub fn nth_set_bit_u32(w: u32, n: u32) -> Result<u32, u32>
     ensures { result ≡ nth_one (bits 32 w) n }
 {

@@ -1,6 +1,6 @@
-// The operations as types, so that a loop has its operation as a type parameter and the compiler makes one loop of each: a loop whose
-// operation varies is not vectorised. Not closures: the clauses of the loops name the operation (`O.op`), and the trait has its law; a
-// closure's type has neither, and each loop would need both by `requires`.
+//! The operations as types, so that a loop has its operation as a type parameter and the compiler makes one loop of each: a loop whose
+//! operation varies is not vectorised. Not closures: the clauses of the loops name the operation (`O.op`), and the trait has its law; a
+//! closure's type has neither, and each loop would need both by `requires`.
 ghost use Rattle.std.specs.Prelude.{◌≡◌};
 ghost use Rattle.words.specs.Flags.{word_flags};
 ghost use Rattle.words.specs.Ops.{op_of, zip3};

@@ -1,5 +1,5 @@
-// Bit planes: plane i has digit i of 64 numbers, so that a word is added to all 64 with a few operations. `totals` takes fewer
-// than 512 words, so that nine planes hold each number.
+//! Bit planes: plane i has digit i of 64 numbers, so that a word is added to all 64 with a few operations. `totals` takes fewer
+//! than 512 words, so that nine planes hold each number.
 ghost use Rattle.std.specs.Prelude.{◌≡◌, [], ℕ, ◌+◌, ◌^◌, ◌<◌, ◌≤◌, get_or, length};
 ghost use Rattle.words.specs.Planes.{planes_at, added, Added, FourMore, Grown, Totals, Wrote};
 

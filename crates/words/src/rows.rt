@@ -1,4 +1,4 @@
-// The ones of whole words in range: few words one by one, many in seven rows side by side.
+//! The ones of whole words in range: few words one by one, many in seven rows side by side.
 ghost use Rattle.std.specs.Prelude.{◌≡◌, ◌*◌, ◌+◌, ◌^◌, ◌≤◌, ◌<◌};
 ghost use Rattle.words.specs.Flags.{word_flags, flags_of, count, window};
 

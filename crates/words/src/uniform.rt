@@ -1,5 +1,5 @@
-// Whether all flags of a stretch equal one flag. The first word with another flag ends the search, so that one load is mostly enough for a
-// stretch of mixed flags.
+//! Whether all flags of a stretch equal one flag. The first word with another flag ends the search, so that one load is mostly enough for a
+//! stretch of mixed flags.
 ghost use Rattle.std.specs.Prelude.{◌≡◌, map, ◌*◌, take};
 ghost use Rattle.std.specs.Bool.{xor};
 ghost use Rattle.words.specs.Flags.{flags_of, window, word_flags};
@@ -46,7 +46,7 @@ fn words_are(flag: bool, words: &ByteLane) -> bool
 {
     let n = words.n;
     let mut i = 0;
-    // block by block, the last of which is shorter: with `step_by(64)` 65,536 flags take 1.04 of the instructions
+    // block by block, the last of which is shorter: faster than `step_by(64)` (PROVING, `words_are`)
     while i < n {
         let k = (n - i).min(64);
         let block = words.part(i, k);
@@ -66,8 +66,8 @@ fn counted_are(flag: bool, bytes: &[u8], start: usize, len: usize) -> bool
     if flag { ones == len } else { ones == 0 }
 }
 
-// Returns whether all flags of a stretch equal `flag`; true if it has none. Compares those of the first eight bytes, whole words, and the
-// rest; if the whole words reach past the bytes, counts the ones instead.
+/// Returns whether all flags of a stretch equal `flag`; true if it has none. Compares those of the first eight bytes, whole words, and the
+/// rest; if the whole words reach past the bytes, counts the ones instead.
 pub fn all_are(flag: bool, bytes: &[u8], start: usize, len: usize) -> bool
     ensures { result ≡ all_are flag (stretch bytes.now start len) }
 {
@@ -87,8 +87,8 @@ pub fn all_are(flag: bool, bytes: &[u8], start: usize, len: usize) -> bool
         && low_are(flag, byte_word(bytes, q + 8 * n), (len - k) % 64)
 }
 
-// Returns whether a flag other than `flag` is among the stretch's flags in its first eight bytes; false if there are fewer bytes. For
-// callers that make this check in their own bodies, with one load, and call `all_are` if it returns false.
+/// Returns whether a flag other than `flag` is among the stretch's flags in its first eight bytes; false if there are fewer bytes. For
+/// callers that make this check in their own bodies, with one load, and call `all_are` if it returns false.
 pub fn differs_early(flag: bool, bytes: &[u8], start: usize, len: usize) -> bool
     ensures { result ≡ differs_early flag bytes.now start len }
 {

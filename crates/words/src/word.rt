@@ -1,9 +1,9 @@
-// A word: loads, stores, its low flags and its ones. Loads and stores that lie in range by `requires` are private to the crate.
+//! A word: loads, stores, its low flags and its ones. Loads and stores that lie in range by `requires` are private to the crate.
 ghost use Rattle.std.specs.Prelude.{false, cond, ◌≡◌, ◌++◌, ◌+◌, ◌-◌, ◌*◌, ◌%◌, ◌≤◌, ◌<◌, leb, length, take, get_or};
 ghost use Rattle.words.specs.Flags.{word_flags, copies, flags_of, count, over, over_at, window};
 
 // Joins fewer than eight bytes into a word; `full_word` loads eight. Not by `u64::from_le_bytes`: a part shorter than eight bytes is then
-// copied into an array by a call, and `get_u32` takes 1.19 of the instructions, `count_zeros` of 40 flags 1.05.
+// copied into an array by a call (PROVING, `join`).
 fn join(part: &[u8]) -> u64
     requires { length part.now ≤ 8 }
     ensures { word_flags result ≡ window (flags_of part.now) 0 64 }
@@ -24,7 +24,7 @@ fn split(out: &mut [u8], w: u64)
     out.copy_from_slice(&w.to_le_bytes()[..n]);
 }
 
-// Loads the first eight bytes as a word, padding a shorter slice with zeros.
+/// Loads the first eight bytes as a word, padding a shorter slice with zeros.
 pub fn load_padded_le_u64(part: &[u8]) -> u64
     ensures { word_flags result ≡ window (flags_of part.now) 0 64 }
 {
@@ -35,7 +35,7 @@ pub fn load_padded_le_u64(part: &[u8]) -> u64
     }
 }
 
-// Writes the eight bytes of w to the start of `out`, as far as they fit.
+/// Writes the eight bytes of w to the start of `out`, as far as they fit.
 pub fn store_le_u64(out: &mut [u8], w: u64)
     ensures { flags_of out.new ≡ over (flags_of out.old) (word_flags w) }
 {
@@ -46,7 +46,7 @@ pub fn store_le_u64(out: &mut [u8], w: u64)
     }
 }
 
-// Writes the eight bytes of w at byte `at`, as far as they fit; nothing if `at` is past the end.
+/// Writes the eight bytes of w at byte `at`, as far as they fit; nothing if `at` is past the end.
 pub fn store_at(out: &mut [u8], at: usize, w: u64)
     ensures { flags_of out.new ≡ over_at (flags_of out.old) (8 * at) (word_flags w) }
 {
@@ -55,8 +55,8 @@ pub fn store_at(out: &mut [u8], at: usize, w: u64)
     }
 }
 
-// Writes the eight bytes of w at byte `at` if all eight fit, else writes nothing. For callers that know that they fit: `store_at` would put
-// the call that writes a part of a word into their bodies too.
+/// Writes the eight bytes of w at byte `at` if all eight fit, else writes nothing. For callers that know that they fit: `store_at` would
+/// put the call that writes a part of a word into their bodies too.
 pub fn store_whole(out: &mut [u8], at: usize, w: u64)
     ensures { flags_of out.new ≡ cond (leb (at + 8) (length out.old))
         (over_at (flags_of out.old) (8 * at) (word_flags w)) (flags_of out.old) }
@@ -96,14 +96,14 @@ pub(crate) fn shifted_word(bytes: &[u8], at: usize, s: usize) -> u64
     (full_word(bytes, at) >> s) | (full_word(bytes, at + 1) << (8 - s))
 }
 
-// Shifts w right by k bits, or returns 0 if k is 64 or more.
+/// Shifts w right by k bits, or returns 0 if k is 64 or more.
 pub fn shr_or_zero(w: u64, k: usize) -> u64
     ensures { word_flags result ≡ window (word_flags w) k 64 }
 {
     if k < 64 { w >> k } else { 0 }
 }
 
-// Shifts w left by k bits, or returns 0 if k is 64 or more.
+/// Shifts w left by k bits, or returns 0 if k is 64 or more.
 pub fn shl_or_zero(w: u64, k: usize) -> u64
     ensures { word_flags result ≡ window (copies k false ++ word_flags w) 0 64 }
 {
@@ -138,7 +138,7 @@ fn last_word(bytes: &[u8], at: usize, s: usize) -> u64
     shr_or_zero(full_word(bytes, n - 8), 8 * (at + 8 - n) + s)
 }
 
-// Reads the eight bytes at `at`, with zeros past the end.
+/// Reads the eight bytes at `at`, with zeros past the end.
 pub fn byte_word(bytes: &[u8], at: usize) -> u64
     ensures { word_flags result ≡ window (flags_of bytes.now) (8 * at) 64 }
 {
@@ -152,21 +152,21 @@ pub fn byte_word(bytes: &[u8], at: usize) -> u64
     last_word(bytes, at, 0)
 }
 
-// Reads in one load the flags from flag `bit` to the end of the eight bytes that begin with its byte: at least 57, then zeros.
+/// Reads in one load the flags from flag `bit` to the end of the eight bytes that begin with its byte: at least 57, then zeros.
 pub fn near_word(bytes: &[u8], bit: usize) -> u64
     ensures { word_flags result ≡ window (window (flags_of bytes.now) bit (64 - bit % 8)) 0 64 }
 {
     shr_or_zero(byte_word(bytes, bit / 8), bit % 8)
 }
 
-// Reads the 64 flags starting at flag `bit`, with zeros past the end.
+/// Reads the 64 flags starting at flag `bit`, with zeros past the end.
 pub fn word_from(bytes: &[u8], bit: usize) -> u64
     ensures { word_flags result ≡ window (flags_of bytes.now) bit 64 }
 {
     word_at(bytes, bit / 8, bit % 8)
 }
 
-// Reads flag number `bit`, false past the end.
+/// Reads flag number `bit`, false past the end.
 pub fn flag_at(bytes: &[u8], bit: usize) -> bool
     ensures { result ≡ get_or (flags_of bytes.now) bit false }
 {
@@ -174,28 +174,28 @@ pub fn flag_at(bytes: &[u8], bit: usize) -> bool
     at < bytes.len() && (u64::from(bytes[at]) >> (bit % 8)) % 2 == 1
 }
 
-// Returns w with its k low flags kept and the others cleared; w itself if k is 64 or more.
+/// Returns w with its k low flags kept and the others cleared; w itself if k is 64 or more.
 pub fn low_flags(w: u64, k: usize) -> u64
     ensures { word_flags result ≡ window (take k (word_flags w)) 0 64 }
 {
     if k >= 64 { w } else { w % (1 << k) }
 }
 
-// Puts the flags of b after the k low flags of a, and returns the first 64 of them; a itself if k is 64 or more.
+/// Puts the flags of b after the k low flags of a, and returns the first 64 of them; a itself if k is 64 or more.
 pub fn concat_low(a: u64, k: usize, b: u64) -> u64
     ensures { word_flags result ≡ window (take k (word_flags a) ++ word_flags b) 0 64 }
 {
     if k >= 64 { a } else { a % (1 << k) | b << k }
 }
 
-// Returns a word whose flags all equal `flag`.
+/// Returns a word whose flags all equal `flag`.
 pub fn constant_word(flag: bool) -> u64
     ensures { word_flags result ≡ copies 64 flag }
 {
     if flag { !0 } else { 0 }
 }
 
-// Returns a word whose n low flags equal `flag`, at most 64, and whose other flags are zero. No branch on the flag.
+/// Returns a word whose n low flags equal `flag`, at most 64, and whose other flags are zero. No branch on the flag.
 pub fn constant_flags(flag: bool, n: usize) -> u64
     ensures { word_flags result ≡ window (copies n flag) 0 64 }
 {
@@ -206,7 +206,7 @@ pub fn constant_flags(flag: bool, n: usize) -> u64
     (one << n) - one
 }
 
-// Counts the set flags of w.
+/// Counts the set flags of w.
 pub fn ones_in_word(w: u64) -> usize
     ensures { result ≡ count (word_flags w) }
 {
@@ -214,7 +214,7 @@ pub fn ones_in_word(w: u64) -> usize
     w.count_ones() as usize
 }
 
-// Counts the set flags among the k low flags of w, or all of them if k is 64 or more.
+/// Counts the set flags among the k low flags of w, or all of them if k is 64 or more.
 pub fn ones_below(w: u64, k: usize) -> usize
     ensures { result ≡ count (take k (word_flags w)) }
 {

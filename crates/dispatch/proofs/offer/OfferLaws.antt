@@ -1,4 +1,4 @@
--- `offer` by the search `next_and_not`: its number of windows is the one in the paper's words, at most ceil(length / 32) + 1.
+-- `offer` by the search `next_and_not`: its number of windows is the one of the definition, at most ceil(length / 32) + 1.
 use Rattle.std.specs.Prelude.{IfErr, IfOk, Option, Some, None, Result, Ok, Err}
 use Rattle.std.proofs.lemmas.Bool.{cases_lt}
 use Rattle.std.proofs.lemmas.Option.{none-some, same_Some}

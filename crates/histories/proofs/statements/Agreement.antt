@@ -1,5 +1,5 @@
--- The statement of demand 3 (docs/THEOREMS.md): what a mask must have in common with a list of flags, which is all that the reference
--- compares with its plain list.
+-- The statement that a mask means the same however it was built (docs/THEOREMS.md): what a mask must have in common with a list of flags,
+-- which is all that the reference compares with its reference list.
 use Rattle.std.specs.Prelude.{ℕ, ◌≤◌, ◌<◌, ◌≡◌, Bool, true, false, cond, List, [], ltb, length, get_or, take, Option, Some, None}
 use Rattle.words.specs.Flags.{over}
 use Rattle.masks.specs.declared.bitmap.Recounted.{Recounted}

@@ -1,5 +1,4 @@
--- Histories: lists of calls, the state in which they end, and the reference list kept with them (the plain list of document 01,
--- docs/REFERENCE.md).
+-- Histories: lists of calls, the state in which they end, and the reference list kept with them.
 --
 -- A step is made of the definitions that the contracts cite. The reference list gets the arguments of the calls, except the
 -- history's own record and bytes, and which calls were refused; its words are those of `ReferenceList` and of the rows. A table

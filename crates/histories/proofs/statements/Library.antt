@@ -1,4 +1,5 @@
--- The calls of the library that make a mask from masks, as one closed table, and the statement of demand 3 for it.
+-- The calls of the library that make a mask from masks, as one closed table, and the statement for it that a mask means the same however
+-- it was built.
 use Rattle.histories.proofs.statements.Agreement.{OneMeaning}
 use Rattle.histories.specs.MaskRows.{MaskCall, mask_call}
 use Rattle.histories.specs.Rows.{RowCall}
@@ -10,5 +11,5 @@ pub data LibraryCall : Type 0 where
 abbrev pub library_call : LibraryCall → RowCall
 library_call (masks c) = mask_call c
 
-abbrev pub Demand3 : Type 0
-Demand3 = OneMeaning library_call
+abbrev pub MeansTheSame : Type 0
+MeansTheSame = OneMeaning library_call

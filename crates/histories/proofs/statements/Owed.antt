@@ -1,5 +1,5 @@
--- What must be proved of a row's call; no history, no state and no reference list is named here. The statement of demand 3 does not
--- cite this file; its proof uses these definitions and knows no call by name.
+-- What must be proved of a row's call; no history, no state and no reference list is named here. The statement on
+-- histories (`OneMeaning`) does not cite this file; its proof uses these definitions and knows no call by name.
 use Rattle.std.specs.Prelude.{ℕ, ◌≡◌, Bool, List}
 use Rattle.masks.specs.equations.Answer.{given, refused}
 use Rattle.masks.specs.Mask.{mask_flags}

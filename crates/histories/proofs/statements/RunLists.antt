@@ -1,4 +1,4 @@
--- Run lists (paper 02, request (a)): a mask's length and its runs determine its flags, and the mask can be rebuilt from them.
+-- Run lists: a mask's length and its runs determine its flags, and the mask can be rebuilt from them.
 --
 -- The runs of a list of flags are `runs_from 0`, which a new `SlicesIterator` lists. The calls are those of a history, so the theorem
 -- is about the contracts of `extend_constant` and `freeze`.

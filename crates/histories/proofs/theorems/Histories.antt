@@ -1,5 +1,5 @@
--- Demand 3, proved: whatever calls a history is made of, the mask in which it ends agrees with its reference list in all that is
--- compared. So two histories with equal lists agree, and if the lists differ, the lengths or the frozen bytes differ.
+-- A mask means the same however it was built: whatever calls a history is made of, the mask in which it ends agrees with its reference
+-- list in all that is compared. So two histories with equal lists agree, and if the lists differ, the lengths or the frozen bytes differ.
 use Rattle.std.specs.Prelude.{Option, Some, None}
 use mathlib.Core.Path.{◌≡◌, refl, sym, ap, ◌∙◌, subst}
 use mathlib.Core.Bool.{Bool}
@@ -16,7 +16,7 @@ use Rattle.masks.specs.declared.bitmap.Bitmap.{Bitmap}
 use Rattle.histories.proofs.statements.Agreement.{Agrees, Alike, ComesTo, Fits, OneMeaning, refrozen}
 use Rattle.histories.proofs.statements.History.{History, State, masked, waiting, after_try, first_list, from_mask, list_of, row_flags}
 use Rattle.histories.proofs.statements.History.{start_of}
-use Rattle.histories.proofs.statements.Library.{Demand3, LibraryCall, library_call, masks}
+use Rattle.histories.proofs.statements.Library.{LibraryCall, MeansTheSame, library_call, masks}
 use Rattle.histories.specs.MaskRows.{combination_row}
 use Rattle.histories.proofs.statements.Owed.{Lawful, Stands}
 use Rattle.histories.specs.Rows.{RowCall}
@@ -116,5 +116,5 @@ every_lawful = one-meaning lawful_call (λ x. x.1)
 pub library_lawful : (c : LibraryCall) → Lawful (library_call c)
 library_lawful (masks c) = masks_lawful c
 
-pub demand_3 : Demand3
-demand_3 = one-meaning library_call library_lawful
+pub means_the_same : MeansTheSame
+means_the_same = one-meaning library_call library_lawful

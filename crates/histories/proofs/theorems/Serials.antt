@@ -10,7 +10,7 @@ use Rattle.histories.proofs.statements.Agreement.{imported_history, OneMeaning}
 use Rattle.histories.proofs.statements.Library.{library_call}
 use Rattle.histories.specs.Rows.{RowCall}
 use Rattle.histories.proofs.statements.Serials.{SerialsApart}
-use Rattle.histories.proofs.theorems.Histories.{demand_3}
+use Rattle.histories.proofs.theorems.Histories.{means_the_same}
 
 -- no check reads a serial
 any-serial : (s : ℕ) (m : Bitmap) (bytes : List ℕ) → Accepted m bytes → Accepted (under s m) bytes
@@ -34,4 +34,4 @@ module _ {Code : Type 0} (call_of : Code → RowCall) (means : OneMeaning call_o
 
 -- the statement for the library's table
 pub library_serials : SerialsApart library_call
-library_serials = serials-apart library_call demand_3
+library_serials = serials-apart library_call means_the_same

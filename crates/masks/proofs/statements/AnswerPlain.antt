@@ -14,7 +14,7 @@ use Rattle.masks.specs.declared.refusal.Refusal.{Refusal}
 use Rattle.masks.specs.declared.refusal.Refusal.TheVariants.{AboveLimit, OutsideBytes, FalseCount, SerialConflict, ImpossibleBuilder}
 use Rattle.masks.specs.declared.refusal.Refusal.TheVariants.{UnequalLengths, OutsideMask, CountNotOfSlice, AddressRemainder, OutputTooSmall}
 
--- the numbers of the refusals: those of the reference, and 14 of paper 02
+-- the numbers of the refusals: those of the reference
 pub record NumbersPlain : Type 0 where
   pub over_limit : number AboveLimit ≡ 1
   pub past_bytes : number OutsideBytes ≡ 2

@@ -1,4 +1,4 @@
--- The serial of every record that a call returns, in the words of request (i).
+-- The serial of every record that a call returns, in the words of the reference.
 --
 -- Each line is about a call that was accepted; a refused one returns the record passed to it (`Refusals`). The statement names none of the
 -- definitions that make a serial.

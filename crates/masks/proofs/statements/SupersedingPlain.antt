@@ -1,4 +1,4 @@
--- What superseding means, in the words of request (i).
+-- What superseding means, in the words of the reference.
 use Rattle.std.specs.Prelude.{ℕ, ◌+◌, ◌-◌, ◌/◌, ◌%◌, ◌≤◌, ◌<◌, ◌≡◌, Bool, true, false, cond, List, length}
 use Rattle.masks.specs.equations.Answer.{given, refused}
 use Rattle.masks.specs.Checks.{first_failed}

@@ -1,8 +1,8 @@
 -- Both sides of each limit: the last input that passes a check and the first that does not; what a refused call leaves; and rules that show
 -- only at a start other than 0 or in a second word.
 --
--- A row has the value of the definitions at one input, and that of the papers' words there, worked out by hand. Each call goes through the
--- definition that its contract cites. `proofs/computed/EdgeRows.antt` proves that the columns are equal.
+-- A row has the value of the definitions at one input, and that of the reference's words there, worked out by hand. Each call goes
+-- through the definition that its contract cites. `proofs/computed/EdgeRows.antt` proves that the columns are equal.
 use Rattle.std.specs.Prelude.{ℕ, ◌≡◌, true, false, List, [], ◌∷◌, ◌++◌, map, replicate, Some, None}
 use Rattle.masks.specs.equations.Aligned.{aligned_of}
 use Rattle.masks.specs.equations.Answer.{Answer, given, refused}

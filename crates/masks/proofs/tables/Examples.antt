@@ -1,8 +1,8 @@
--- The twelve proved examples of the reference as one table, the paper's line above each row.
+-- The twelve proved examples of the reference as one table, its line above each row.
 --
--- A row has the example's number, the value of the definitions, and what the paper states. Each call goes through the definition that its
--- contract cites; one call after another gets what the one before returned and wrote. `proofs/computed/Examples.antt` proves that the two
--- columns are equal.
+-- A row has the example's number, the value of the definitions, and what the reference states. Each call goes through the definition that
+-- its contract cites; one call after another gets what the one before returned and wrote. `proofs/computed/Examples.antt` proves that the
+-- two columns are equal.
 use Rattle.std.specs.Prelude.{ℕ, ◌≡◌, true, List, [], ◌∷◌, ◌++◌, map, length, replicate, Option, Some, None}
 use Rattle.words.specs.Flags.{is_one}
 use Rattle.masks.specs.declared.bitmap.Recounted.{Recounted}
@@ -197,6 +197,6 @@ examples =
     ∷ example 12 (sliced_to 159 (mixed 200)) (count None)
     ∷ []
 
--- the statement: in every row the value of the definitions is what the paper states
+-- the statement: in every row the value of the definitions is what the reference states
 abbrev pub ExamplesHold : Type 0
 ExamplesHold = map (λ (e : Example). e.computed) examples ≡ map (λ (e : Example). e.stated) examples

@@ -1,8 +1,7 @@
--- Rules of the reference that the twelve examples leave open, and paper 02's on counts, as a table of rows, the paper's words above
--- each.
+-- Rules of the reference that the twelve examples leave open, and those on counts, as a table of rows, its words above each.
 --
--- A row has the value of the definitions at one input, and that of the paper's words there, worked out by hand. Each call goes through the
--- definition that its contract cites, as in `Examples`. A definition that reads the rule otherwise fails a row: laws that serve the
+-- A row has the value of the definitions at one input, and that of the reference's words there, worked out by hand. Each call goes through
+-- the definition that its contract cites, as in `Examples`. A definition that reads the rule otherwise fails a row: laws that serve the
 -- functions' proofs would be changed together with it. `proofs/computed/RuleRows.antt` proves that the two columns are equal.
 use Rattle.std.specs.Prelude.{ℕ, ◌≡◌, true, false, List, [], ◌∷◌, map, replicate, Option, Some, None}
 use Rattle.words.specs.declared.ops.Op.{Op}
@@ -79,7 +78,7 @@ rows =
     ∷ row (pair_of_told Xor 4 (Some 0) 0xFF (Some 0) 0xFF) (mask (first 0) (Some 4))
     ∷ row (pair_of_told Xor 4 (Some 4) 0 None 0) (mask (first 0) (Some 4))
     ∷ row (pair_of_told Xor 4 (Some 0) 0xFF (Some 4) 0) (mask (first 0x0F) None)
-    -- Each call that takes a mask checks a known count again and refuses it with 3 unless it is exact (paper 02). Four ones with a count of
+    -- Each call that takes a mask checks a known count again and refuses it with 3 unless it is exact. Four ones with a count of
     -- 4, four zeros with one of 0, two of four with one of 1 and of 3; in the first mask, and in the second.
     ∷ row (pair_of_told And 4 (Some 4) 0xFF None 0xFF) (refusal 3)
     ∷ row (pair_of_told Or 4 None 0 (Some 0) 0) (refusal 3)
@@ -101,6 +100,6 @@ rows =
     ∷ row (evenly 0xFF 5) (count (Some 0))
     ∷ []
 
--- the statement: in every row the value of the definitions is that of the paper's words
+-- the statement: in every row the value of the definitions is that of the reference's words
 abbrev pub RulesHold : Type 0
 RulesHold = map (λ (r : Row). r.computed) rows ≡ map (λ (r : Row). r.stated) rows

@@ -1,8 +1,8 @@
 -- Cursors, windows and searches over spans that do not begin at the first flag of their bytes, and at places past the first word or the
 -- first run.
 --
--- A row has the numbers of a call's answer, through the definition that its contract cites, and those of the papers' words there, worked
--- out by hand. `proofs/computed/StartRows.antt` proves that the columns are equal.
+-- A row has the numbers of a call's answer, through the definition that its contract cites, and those of the reference's words there,
+-- worked out by hand. `proofs/computed/StartRows.antt` proves that the columns are equal.
 use Rattle.std.specs.Prelude.{ℕ, ◌≡◌, true, false, List, [], ◌∷◌, ◌++◌, map, replicate, Option, Some, None}
 use Rattle.words.specs.Flags.{digit}
 use Rattle.masks.specs.equations.Answer.{Answer, given, refused}
@@ -129,6 +129,6 @@ start_rows =
     ∷ numbers (placed (search_back two_bytes 4 12 2 7)) []
     ∷ []
 
--- the statement: in every row the numbers of the definitions are those of the papers' words
+-- the statement: in every row the numbers of the definitions are those of the reference's words
 abbrev pub StartsHold : Type 0
 StartsHold = map (λ (r : SplitRow). r.computed) start_rows ≡ map (λ (r : SplitRow). r.stated) start_rows
