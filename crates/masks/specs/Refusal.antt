@@ -26,6 +26,7 @@ failure_of (Err r) = number r
 abbrev pub failure_back : {S A : Type 0} → Result A (Refused S) → ℕ
 failure_back (Ok a) = 0
 failure_back (Err e) = number e.refusal
+
 -- the words for a failed check
 abbrev pub reason : Refusal → List ℕ
 reason AboveLimit = codes "a start or a length is above 4,194,304"

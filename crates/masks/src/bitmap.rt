@@ -177,7 +177,10 @@ pub(crate) fn not_counted(length: usize) -> Option<usize>
 fn check_piece(mask: Bitmap, bytes: &[u8], offset: usize, length: usize) -> Result<(), Refusal>
     ensures { failure_of result ≡ first_failed (piece_checks mask bytes.now offset length) }
 {
-    let inside = check(Refusal::OutsideMask, sum_at_most(offset, length, mask.length));
+    let inside = check(
+        Refusal::OutsideMask,
+        sum_at_most(offset, length, mask.length),
+    );
     let starts = check(
         Refusal::AboveLimit,
         sum_at_most(mask.start, offset, Bitmap::LIMIT),
