@@ -1,5 +1,7 @@
 //! Histories of calls, their reference lists, and the theorem that a mask means the same however it was built (specs/ and proofs/). The
-//! code here only ties the rows of the theorem to the calls of masks.
+//! code here only ties the rows of the theorem to the calls of masks (`rows`), and states the equations of the calls of masks that have no
+//! export (`equations`).
 #![tactic(auto)]
 
+pub mod equations;
 pub mod rows;

@@ -1,5 +1,5 @@
 -- The combinations of masks: flag by flag, or by only the counts if these show that the result is constant.
-use Rattle.std.specs.Prelude.{ℕ, max, Bool, true, false, not, cond, ◌&&◌, ◌||◌, eqb, length, Option, Some, None}
+use Rattle.std.specs.Prelude.{ℕ, max, Bool, true, false, not, cond, ◌&&◌, ◌||◌, eqb, Option, Some, None}
 use mathlib.Core.List.{List, [], ◌∷◌, ◌++◌, map, zip_with}
 use Rattle.words.specs.Ops.{op_of, zip3}
 use Rattle.words.specs.declared.ops.Op.{Op}

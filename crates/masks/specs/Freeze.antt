@@ -1,5 +1,5 @@
 -- Freezing: the mask of a builder's flags, and their frozen bytes.
-use Rattle.std.specs.Prelude.{ℕ, ◌+◌, ◌-◌, cond, List, eqb, length, Option, Some, None}
+use Rattle.std.specs.Prelude.{ℕ, ◌+◌, ◌-◌, cond, List, eqb, Option, Some, None}
 use Rattle.words.specs.Flags.{count, over, word_flags}
 use Rattle.masks.specs.Builder.{filling, builder_flags, builder_checks}
 use Rattle.masks.specs.Checks.{Check}

@@ -1,5 +1,5 @@
 -- The positions of the ones of a mask; with no mask every position.
-use Rattle.std.specs.Prelude.{ℕ, suc, ◌+◌, Bool, true, false, cond, List, [], ◌∷◌, ◌++◌, leb, eqb, length, drop, Option, Some, None}
+use Rattle.std.specs.Prelude.{ℕ, suc, ◌+◌, Bool, true, false, cond, List, [], ◌∷◌, ◌++◌, leb, eqb, drop, Option, Some, None}
 use Rattle.words.specs.Flags.{copies}
 use Rattle.words.specs.Loops.{stretch}
 use Rattle.masks.specs.declared.bitmap.Bitmap.{Bitmap}

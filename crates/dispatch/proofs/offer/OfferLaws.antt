@@ -24,6 +24,7 @@ use Rattle.masks.specs.Mask.{mask_checks}
 use Rattle.masks.specs.NextAndNot.{free_flags, going_round, next_checks, next_set, other_checks, windows_of}
 use Rattle.masks.specs.Search.{nth_from}
 use Rattle.masks.specs.declared.bitmap.Bitmap.{Bitmap}
+use Rattle.masks.proofs.refusal.AnswerLaws.{given-number, given-value, refused-number, refused-state}
 use Rattle.masks.proofs.refusal.RefusalLaws.{number-ne0}
 use Rattle.masks.proofs.checks.CheckLaws.{earlier-none, failed-append, is-given, is-refused, one-check}
 use Rattle.masks.specs.Workers.{Searchable}
@@ -208,3 +209,10 @@ pub offer_answered : (r : Result Offering RefusedOffer) (m cursor : ℕ) (o : Of
 offer_answered (Ok x) m cursor o e v t = ap given v ∙ is-given 0 m cursor o e refl
 offer_answered (Err k) m cursor o e v t =
     ap (refused (number k.refusal)) t ∙ is-refused (number k.refusal) m cursor o e (number-ne0 k.refusal)
+
+-- the other way
+pub clauses-offer_answered : (r : Result Offering RefusedOffer) (m cursor : ℕ) (o : Offering) → offer_answer r ≡ decided m cursor o
+    → (offer_failure r ≡ m) × (IfOk r (λ x. x ≡ o) × IfErr r (λ x. x.cursor ≡ cursor))
+clauses-offer_answered (Ok x) m cursor o e = (given-number m cursor x o e, (given-value m cursor x o e, tt))
+clauses-offer_answered (Err k) m cursor o e =
+    (refused-number (number k.refusal) m k.cursor cursor o e, (tt, refused-state (number k.refusal) m k.cursor cursor o e))

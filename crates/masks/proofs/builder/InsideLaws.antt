@@ -20,7 +20,7 @@ use Rattle.masks.specs.Workers.{Inside, Room}
 use Rattle.masks.specs.declared.builder.BitmapBuilder.{BitmapBuilder}
 use Rattle.masks.proofs.theorems.Accepted.{builder-accepted}
 use Rattle.masks.proofs.builder.AppendLaws.{word_back}
-use Rattle.masks.proofs.checks.CheckLaws.{none-earlier, one-check, two-pieces}
+use Rattle.masks.proofs.checks.CheckLaws.{none-earlier, one-check, two_pieces}
 use Rattle.masks.proofs.extend.ExtendLaws.{stretch-front}
 use Rattle.masks.proofs.utils.PartLaws.{length-low}
 use Rattle.masks.proofs.builder.RoomLaws.{none-after}
@@ -70,5 +70,5 @@ pub constant-passed : (b : BitmapBuilder) (n size : ℕ) → Room b n size → 0
 unfolding constant_checks
 constant-passed b n size r =
     let short : b.length + n ≤ limit = r.short in
-    two-pieces 0 0 0 (builder_checks b (b.length + n) size) (within_limit n ∷ []) (sym (none-earlier 0)) (builder-accepted b n size r)
+    two_pieces 0 0 0 (builder_checks b (b.length + n) size) (within_limit n ∷ []) (sym (none-earlier 0)) (builder-accepted b n size r)
     (one-check 0 1 true (leb n limit) refl (sym (le-leb n limit (omega arith))))

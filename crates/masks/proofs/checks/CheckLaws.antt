@@ -82,13 +82,9 @@ unfolding first_failed
 failed-append [] b = sym (none-earlier (first_failed b))
 failed-append (c ∷ a) b = ap (earlier (failure c)) (failed-append a b) ∙ sym (earlier-assoc (failure c) (first_failed a) (first_failed b))
 
--- how code composes two lists of checks: it takes the earlier of their numbers
-pub two-pieces : (a b r : ℕ) (A B : List Check) → r ≡ earlier a b → a ≡ first_failed A → b ≡ first_failed B → r ≡ first_failed (A ++ B)
-two-pieces a b r A B e p q = e ∙ ap₂ earlier p q ∙ sym (failed-append A B)
-
--- the same by a name that the attribute of a function can hold
+-- how code composes two lists of checks: it takes the earlier of their numbers; an attribute holds only a name with no hyphen
 pub two_pieces : (a b r : ℕ) (A B : List Check) → r ≡ earlier a b → a ≡ first_failed A → b ≡ first_failed B → r ≡ first_failed (A ++ B)
-two_pieces = two-pieces
+two_pieces a b r A B e p q = e ∙ ap₂ earlier p q ∙ sym (failed-append A B)
 
 pub one-check : (r n : ℕ) (t u : Bool) → r ≡ cond t 0 n → t ≡ u → r ≡ first_failed (check n u ∷ [])
 unfolding first_failed
@@ -316,9 +312,3 @@ words-test n size = ⊎_elim
 
 pub output-test : (n size k : ℕ) → k ≡ n / 64 + min 1 (n % 64) → leb k (size / 8) ≡ leb (8 * ((n + 63) / 64)) size
 output-test n size k d = let e : k ≡ (n + 63) / 64 = omega arith in ap (λ (x : ℕ). leb x (size / 8)) e ∙ words-test n size
-
--- ---- the two clauses of a call that may write: its answer and its bytes
-
-module _ {S A B : Type 0} (r m : ℕ) (s : S) (old : B) (e : r ≡ m) where
-  pub given-way : (a a' : A) (out new : B) → r ≡ 0 → a ≡ a' → out ≡ new → (given a ≡ decided m s a') × (out ≡ kept m new old)
-  given-way a a' out new h p q = (ap given p ∙ is-given r m s a' e h, q ∙ is-new r m new old e h)

@@ -10,12 +10,13 @@ use Rattle.masks.specs.equations.Answer.{answer, answer_back, given, refused, de
 use Rattle.masks.specs.Builder.{Filling, filling}
 use Rattle.masks.specs.Checks.{first_failed}
 use Rattle.masks.specs.Cursor.{Step, step_of}
+use Rattle.masks.specs.equations.Appends.{change_answer}
 use Rattle.masks.specs.equations.Cursor.{answer_step}
 use Rattle.masks.specs.Mask.{mask_checks, with_count, zero_count}
 use Rattle.masks.specs.equations.Mask.{unset_bits_of}
 use Rattle.masks.specs.Refusal.{failure_back, failure_of, number}
 use Rattle.masks.specs.Superseding.{part_bytes, part_place}
-use Rattle.masks.specs.equations.Superseding.{bytes_of, place_of}
+use Rattle.masks.specs.equations.Superseding.{bytes_of, place_of, record_of}
 use Rattle.masks.specs.declared.bitmap.Bitmap.{Bitmap}
 use Rattle.masks.specs.declared.bitmap.Recounted.{Recounted}
 use Rattle.masks.specs.declared.builder.BitmapBuilder.{BitmapBuilder}
@@ -151,6 +152,48 @@ clauses-appended (Err k) m s out old f e p =
         ),
       ),
     )
+
+-- ---- the caller's own builder, n after the call and s before it, and its buffer
+
+pub answered_change : {A : Type 0} (r : Result A Refusal) (m : ℕ) (n s : BitmapBuilder) (out : List ℕ) (f : Filling) → failure_of r ≡ m
+    → OnOk r (filling n out ≡ f) → OnErr r (n ≡ s) → change_answer (failure_of r) n ≡ decided m s f.builder
+unfolding decided
+answered_change (Ok x) m n s out f e p q = ap (λ (g : Filling). given g.builder) p ∙ is-given 0 m s f.builder e refl
+answered_change (Err k) m n s out f e p q =
+    sym (is-refused (number k) (number k) n n refl (number-ne0 k)) ∙ ap (refused (number k)) q
+    ∙ is-refused (number k) m s f.builder e (number-ne0 k)
+
+pub written_change : {A : Type 0} (r : Result A Refusal) (m : ℕ) (n : BitmapBuilder) (out old : List ℕ) (f : Filling) → failure_of r ≡ m
+    → OnOk r (filling n out ≡ f) → OnErr r (out ≡ old) → out ≡ kept m f.bytes old
+written_change (Ok x) m n out old f e p q = ap (λ (g : Filling). g.bytes) p ∙ is-new 0 m f.bytes old e refl
+written_change (Err k) m n out old f e p q = q ∙ is-kept (number k) m f.bytes old e (number-ne0 k)
+
+pub clauses-changed : {A : Type 0} (r : Result A Refusal) (m : ℕ) (n s : BitmapBuilder) (out old : List ℕ) (f : Filling)
+    → change_answer (failure_of r) n ≡ decided m s f.builder → out ≡ kept m f.bytes old
+    → (failure_of r ≡ m) × (OnOk r (filling n out ≡ f) × (OnErr r (out ≡ old) × OnErr r (n ≡ s)))
+unfolding decided
+clauses-changed (Ok x) m n s out old f e p =
+    let k = given-number m s n f.builder e in
+    (k, (ap₂ filling (given-value m s n f.builder e) (p ∙ sym (is-new 0 m f.bytes old k refl)), (tt, tt)))
+clauses-changed (Err k) m n s out old f e p =
+    let d = is-refused (number k) (number k) n n refl (number-ne0 k) ∙ e in
+    let i = refused-number (number k) m n s f.builder d in
+    (i, (tt, (p ∙ sym (is-kept (number k) m f.bytes old i (number-ne0 k)), refused-state (number k) m n s f.builder d)))
+
+-- ---- the record of a part
+
+recorded : (k : ℕ) (p : Part) → decided k tt p.mask ≡ record_of (decided k tt p)
+unfolding decided
+recorded zero p = refl
+recorded (suc k) p = refl
+
+pub answered_record : (r : Result Bitmap Refusal) (k : ℕ) (p : Part) → failure_of r ≡ k → IfOk r (λ m. m ≡ p.mask)
+    → answer r ≡ record_of (decided k tt p)
+answered_record r k p e v = answered r k p.mask e v ∙ recorded k p
+
+pub clauses-answered_record : (r : Result Bitmap Refusal) (k : ℕ) (p : Part) → answer r ≡ record_of (decided k tt p)
+    → (failure_of r ≡ k) × IfOk r (λ m. m ≡ p.mask)
+clauses-answered_record r k p e = clauses-answered r k p.mask (e ∙ sym (recorded k p))
 
 -- ---- the part of a slice that a call returns, by the number k of its checks
 

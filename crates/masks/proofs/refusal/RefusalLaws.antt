@@ -1,4 +1,4 @@
--- The early exit of a `?`: the answer of the call there, and what holds after it. Also: the order of the refusals is that of their numbers.
+-- The early exit of a `?`: the number of the call there, and what holds after it. Also: the order of the refusals is that of their numbers.
 use Rattle.std.proofs.Common.{◌≡◌, refl, ℕ, zero, suc, ◌<◌, Bool, true, false, List, [], ◌∷◌, length, get_or, Result, Ok, Err}
 use Rattle.std.specs.Prelude.{◌&&◌, eqb}
 use Rattle.std.specs.Result.{IsErrAnd, is_ok}
@@ -8,8 +8,6 @@ use Rattle.std.proofs.lemmas.Bool.{and_parts}
 use mathlib.Core.Path.{sym, ap, ◌∙◌}
 use native.Mathlib.Omega.{arith}
 use borrow.Author.Tests.{eqb-true}
-use Rattle.masks.specs.equations.Answer.{Answer, answer, answer_back, decided, kept, refused}
-use Rattle.masks.proofs.checks.CheckLaws.{is-kept, is-refused}
 use Rattle.masks.specs.Checks.{earlier, rank, place_in}
 use Rattle.masks.specs.Refusal.{failure_back, failure_of, number}
 use Rattle.masks.specs.declared.refusal.Refusal.{Refusal}
@@ -108,44 +106,9 @@ passed-back (Err k) m u v w = let e : true ≡ false = sym (ap is_ok w) ∙ v in
 pub failed-back : {S : Type 0} (r : Result (Unit {0}) Refusal) (s : S) (x : Refused S) → Err x ≡ with_state r s → failure_of r ≡ 0 → ⊥
 failed-back r s x e h = number-ne0 x.refusal (sym (ap failure_of (back-err r s x e).0) ∙ h)
 
--- the answer of a call without a record, after a failed check
-pub exit-is : {A : Type 0} (result : Result A Refusal) (e : Refusal) → IsErrAnd result (λ (y : Refusal). y ≡ e)
-    → answer result ≡ refused (number e) tt
-exit-is result e h = let p = err_from_is_err_and result h in ap answer (p.1 ∙ ap (λ (y : Refusal). Err y) p.2)
-
-same-refused : {S A : Type 0} (r : Result (Unit {0}) Refusal) (s : S) (x : Refused S) → Err x ≡ with_state r s
-    → ◌≡◌ {A = Answer S A} (refused (number x.refusal) x.state) (refused (failure_of r) s)
-same-refused r s x e =
-    let p = back-err r s x e in
-    ap (refused (number x.refusal)) p.1 ∙ ap (λ (n : ℕ). refused n s) (sym (ap failure_of p.0))
-
-pub back-is : {S A : Type 0} (r : Result (Unit {0}) Refusal) (s : S) (x : Refused S) → Err x ≡ with_state r s
-    → (result : Result A (Refused S)) → IsErrAnd result (λ (y : Refused S). y ≡ x) → answer_back result ≡ refused (failure_of r) s
-back-is r s x e result h =
-    let p = err_from_is_err_and result h in
-    ap answer_back (p.1 ∙ ap (λ (y : Refused _). Err y) p.2) ∙ same-refused r s x e
-
 -- the number of a call whose refusal carries the record is that of the check
 pub back-number : {S T A : Type 0} (r : Result T Refusal) (s : S) (x : Refused S) → Err x ≡ with_state r s
     → (result : Result A (Refused S)) → IsErrAnd result (λ (y : Refused S). y ≡ x) → failure_back result ≡ failure_of r
 back-number r s x e result h =
     let p = err_from_is_err_and result h in
     ap failure_back (p.1 ∙ ap (λ (y : Refused _). Err y) p.2) ∙ sym (ap failure_of (back-err r s x e).0)
-
--- ---- the early exit of a `?` answers by the number of the checks
-
-pub exit-refused : {A : Type 0} (result : Result A Refusal) (e : Refusal) → IsErrAnd result (λ (y : Refusal). y ≡ e)
-    → (m : ℕ) → number e ≡ m → (a : A) → answer result ≡ decided m tt a
-exit-refused result e h m p a = exit-is result e h ∙ is-refused (number e) m tt a p (number-ne0 e)
-
-pub back-refused : {S A : Type 0} (r : Result (Unit {0}) Refusal) (s : S) (x : Refused S) → Err x ≡ with_state r s
-    → (result : Result A (Refused S)) → IsErrAnd result (λ (y : Refused S). y ≡ x)
-    → (m : ℕ) → failure_of r ≡ m → (a : A) → answer_back result ≡ decided m s a
-back-refused r s x e result h m p a = back-is r s x e result h ∙ is-refused (failure_of r) m s a p (failed-back r s x e)
-
--- after a failed check, the two promises of a call that may write: its answer and its bytes
-pub refused-way : {S A B : Type 0} (r : Result (Unit {0}) Refusal) (s : S) (x : Refused S) → Err x ≡ with_state r s
-    → (result : Result A (Refused S)) → IsErrAnd result (λ (y : Refused S). y ≡ x)
-    → (m : ℕ) → failure_of r ≡ m → (a : A) (new old : B) → (answer_back result ≡ decided m s a) × (old ≡ kept m new old)
-refused-way r s x e result h m p a new old =
-    (back-refused r s x e result h m p a, is-kept (failure_of r) m new old p (failed-back r s x e))

@@ -14,7 +14,7 @@ use Rattle.masks.specs.Superseding.{agree, part_of, superseding_checks, winning}
 use Rattle.masks.specs.declared.bitmap.Bitmap.{Bitmap}
 use Rattle.masks.specs.declared.superseding.Part.{Part}
 use Rattle.masks.proofs.checks.CheckLaws.{SpanAllowed, before, both_left, both_right, earlier-none, failed-append, first-number}
-use Rattle.masks.proofs.checks.CheckLaws.{one-check, passed-before, two-pieces}
+use Rattle.masks.proofs.checks.CheckLaws.{one-check, passed-before, two_pieces}
 use Rattle.masks.proofs.bitmap.MaskLaws.{mask-allowed}
 
 module _ (a : Bitmap) (a_bytes : List ℕ) (b : Bitmap) (b_bytes : List ℕ) where
@@ -36,7 +36,7 @@ module _ (a : Bitmap) (a_bytes : List ℕ) (b : Bitmap) (b_bytes : List ℕ) whe
   apart r k l n e p q =
       let t : true ≡ agree a a_bytes b b_bytes =
       sym (ap (λ (x : Bool). not x || same_flags (mask_flags a a_bytes) (mask_flags b b_bytes)) (ne_eqb a.serial b.serial n)) in
-      two-pieces k l r (mask_checks a a_bytes) (mask_checks b b_bytes) e p q
+      two_pieces k l r (mask_checks a a_bytes) (mask_checks b b_bytes) e p q
       ∙ sym (earlier-none (first_failed masks))
       ∙ ap (earlier (first_failed masks)) (one-check 0 14 true (agree a a_bytes b b_bytes) refl t)
       ∙ sym (failed-append masks (check 14 (agree a a_bytes b b_bytes) ∷ []))

@@ -25,7 +25,6 @@ use Rattle.masks.specs.equations.Mask.{try_new_of, new_zeroed_of}
 use Rattle.masks.specs.Mask.{mask_checks, slice_checks, sliced_mask, sliced_count, cut_zeros, recounts}
 use Rattle.masks.specs.equations.Mask.{unset_bits_of, slice_of}
 use Rattle.masks.specs.Mask.{recount_valid, kept_count, piece_checks}
-use Rattle.masks.specs.Utils.{zeros}
 use Rattle.masks.specs.declared.bitmap.Bitmap.{Bitmap}
 use Rattle.masks.proofs.refusal.AnswerLaws.{given-number, given-value}
 use Rattle.masks.proofs.checks.CheckLaws.{both_left}

@@ -5,7 +5,6 @@ use Rattle.words.specs.Flags.{copies, over}
 use Rattle.masks.specs.equations.Answer.{Answer, checked, kept}
 use Rattle.masks.specs.Checks.{first_failed, span_checks}
 use Rattle.masks.specs.Frozen.{frozen}
-use Rattle.masks.specs.Utils.{zeros}
 use Rattle.masks.specs.declared.bitmap.Bitmap.{Bitmap}
 use Rattle.masks.specs.declared.bitmap.Recounted.{Recounted}
 use Rattle.masks.specs.Mask.{mask_of, with_count, zero_count, uncounted, mask_checks, zeroed_checks, slice_checks, sliced_mask}

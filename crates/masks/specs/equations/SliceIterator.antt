@@ -1,5 +1,5 @@
 -- The calls of `SliceIterator` as one equation each: their answers by their checks, and what lent bytes hold after them.
-use Rattle.std.specs.Prelude.{ℕ, List, length}
+use Rattle.std.specs.Prelude.{ℕ, List}
 use Rattle.words.specs.Loops.{stretch}
 use Rattle.masks.specs.equations.Answer.{Answer, checked}
 use Rattle.masks.specs.Cursor.{Step}

@@ -1,7 +1,7 @@
--- The checks in two pieces (`two-pieces`); masks of unequal lengths differ (`lengths_differ`), else the flags are compared.
+-- The checks in two pieces (`two_pieces`); masks of unequal lengths differ (`lengths_differ`), else the flags are compared.
 use mathlib.Core.Path.{sym, ◌∙◌}
 use Rattle.words.proofs.flags.Windows.{length-window}
-use Rattle.masks.proofs.checks.CheckLaws.{two-pieces}
+use Rattle.masks.proofs.checks.CheckLaws.{two_pieces}
 use Rattle.masks.proofs.compare.CompareLaws.{lengths_differ, same-length-eq}
 use Rattle.masks.proofs.refusal.RefusalLaws.{exit-number}
 use borrow.Author.Tests.{ne_eqb}
@@ -10,11 +10,11 @@ use Rattle.masks.proofs.compare.eq.Goals as goal
 pub returns-in_err-earlier-clause-refused : goal.returns-in_err-earlier-clause-refused
 returns-in_err-earlier-clause-refused c =
     exit-number _ _ c.from_residual.ensures.1
-    ∙ two-pieces _ _ _ _ _ c.in_err-earlier.ensures.refused c.check_mask.ensures.refused c.check_mask-2.ensures.refused
+    ∙ two_pieces _ _ _ _ _ c.in_err-earlier.ensures.refused c.check_mask.ensures.refused c.check_mask-2.ensures.refused
 
 pub returns-else-n-rhs-clause-refused : goal.returns-else-n-rhs-clause-refused
 returns-else-n-rhs-clause-refused c =
-    two-pieces _ _ _ _ _ c.in_ok-earlier.ensures.refused c.check_mask.ensures.refused c.check_mask-2.ensures.refused
+    two_pieces _ _ _ _ _ c.in_ok-earlier.ensures.refused c.check_mask.ensures.refused c.check_mask-2.ensures.refused
 
 pub returns-else-n-rhs-clause-flag : goal.returns-else-n-rhs-clause-flag
 returns-else-n-rhs-clause-flag c =
@@ -22,7 +22,7 @@ returns-else-n-rhs-clause-flag c =
 
 pub returns-then-n-rhs-clause-refused : goal.returns-then-n-rhs-clause-refused
 returns-then-n-rhs-clause-refused c =
-    two-pieces _ _ _ _ _ c.in_ok-earlier.ensures.refused c.check_mask.ensures.refused c.check_mask-2.ensures.refused
+    two_pieces _ _ _ _ _ c.in_ok-earlier.ensures.refused c.check_mask.ensures.refused c.check_mask-2.ensures.refused
 
 pub returns-then-n-rhs-clause-flag : goal.returns-then-n-rhs-clause-flag
 returns-then-n-rhs-clause-flag c =
