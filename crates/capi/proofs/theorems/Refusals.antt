@@ -11,11 +11,30 @@ use Rattle.masks.specs.equations.Answer.{Answer, given, refused}
 use Rattle.masks.specs.equations.Appends.{Append, append_answer, append_bytes, push_flag, extend_constant, push_word, extend_slice}
 use Rattle.masks.specs.equations.Appends.{extend_repeated}
 use Rattle.masks.specs.equations.Appends.{extend_bitmap, extend_gather, extend_opt_gather}
+use lib.ListN.{length}
+use Prim.Native.Nat.{◌*◌}
+use Rattle.masks.specs.Bitmask.{window_at}
+use Rattle.masks.specs.equations.Aligned.{aligned_of}
+use Rattle.masks.specs.equations.AtIndex.{and_not_at_of}
+use Rattle.masks.specs.equations.Bitmask.{split_at}
+use Rattle.masks.specs.equations.Chunks.{new_chunks, next_chunk, chunks_remainder}
+use Rattle.masks.specs.equations.Combine.{each_of, each_bytes, pair_of, pair_bytes}
+use Rattle.masks.specs.equations.Compare.{eq_of, edges_of, common_of}
+use Rattle.masks.specs.equations.Iterator.{new_iter, nth_flag, take_leading}
+use Rattle.masks.specs.equations.Mask.{new_zeroed_of, new_zeroed_bytes, slice_of, try_new_of, unset_bits_of}
+use Rattle.masks.specs.equations.NextAndNot.{next_and_not_of}
+use Rattle.masks.specs.equations.Positions.{next_positions, positions_over}
+use Rattle.masks.specs.equations.Search.{search_from, search_back}
+use Rattle.masks.specs.equations.SliceIterator.{new_slices, next_slice}
+use Rattle.masks.specs.equations.Superseding.{superseding_of}
+use Rattle.masks.specs.equations.TrueIdx.{new_true, next_true}
+use Rattle.masks.specs.equations.Utils.{span_count}
+use Rattle.dispatch.specs.equations.Dispatch.{may_reassign}
+use Rattle.dispatch.specs.equations.Offer.{offer_of}
 use Rattle.masks.specs.Chunks.{chunks_at}
-use Rattle.masks.specs.Combine.{And, AndNot, Or, OrNot, Xor}
 use Rattle.masks.specs.Cursor.{Step, item, ended}
 use Rattle.masks.specs.Iterator.{iter_at}
-use Rattle.masks.proofs.statements.Refusals.{among, all_among, Refuses, RefusesUnwritten}
+use Rattle.masks.proofs.statements.Refusals.{addressed, all_among, among, may_give}
 use Rattle.masks.specs.SliceIterator.{slices_at}
 use Rattle.masks.specs.TrueIdx.{true_at}
 use Rattle.masks.specs.declared.aligned.AlignedBitmapSlice.{AlignedBitmapSlice}
@@ -37,6 +56,7 @@ use Rattle.capi.proofs.statements.Refusals.{Appends, Gives, GivesBack, GivesBoth
 use Rattle.capi.specs.Window.{as_window, unless_refused, window_in}
 use Rattle.capi.specs.declared.records.Cursor.{Cursor}
 use Rattle.capi.specs.declared.records.Mask.{Mask}
+use Rattle.capi.proofs.theorems.EquationLaws.{Refuses, RefusesUnwritten, refuses-by, refuses-nonempty, refuses-unwritten}
 use Rattle.capi.proofs.theorems.WindowLaws.{stays}
 
 -- each of ns is a number of a refusal
@@ -248,130 +268,164 @@ module _ (x : Bool) (k : ℕ) (e : k ≡ cond x 0 16) where
   array_back : (came new : List ℕ) → GivesBack (16 ∷ []) k came (unless_refused k came new)
   array_back came new = record { gives = window-gives; same = λ h. sym (stays k came new h) }
 
+-- ---- a count over a bare span
+
+counted : (bytes : List ℕ) (start n address value : ℕ) → Refuses (may_give addressed) tt (span_count bytes start n address value)
+unfolding span_count
+counted bytes start n address value = refuses-nonempty n 0 (refuses-by value ((masks.refusals).aligned start n (length bytes) address))
+
 -- ---- the exports
 
 pub refusals : Refusals
-unfolding all_among among optional_in true_in as_word as_bit as_run as_window
+unfolding
+    all_among among optional_in true_in as_word as_bit as_run as_window
+    aligned_of span_count new_chunks next_chunk chunks_remainder split_at window_at search_from search_back
+    new_zeroed_of new_zeroed_bytes try_new_of slice_of unset_bits_of pair_of pair_bytes each_of each_bytes eq_of edges_of common_of
+    and_not_at_of next_and_not_of superseding_of new_slices next_slice new_iter nth_flag take_leading new_true next_true next_positions
+    positions_over may_reassign offer_of
 refusals =
     record {
       pw_nth_set_bit_u64 = λ w n. nth-gives _;
       pw_nth_set_bit_u32 = λ w n. nth-gives _;
-      pw_aligned_new = λ bytes start n address. gives _ _ refl _ _ (of-split _) ((masks.refusals).split-aligned bytes start n address);
-      pw_count_zeros = λ bytes start n address. gives _ _ refl _ _ (of_number _) ((masks.refusals).count_of bytes start n address _);
-      pw_leading_zeros = λ bytes start n address. gives _ _ refl _ _ (of_number _) ((masks.refusals).count_of bytes start n address _);
-      pw_leading_ones = λ bytes start n address. gives _ _ refl _ _ (of_number _) ((masks.refusals).count_of bytes start n address _);
-      pw_trailing_zeros = λ bytes start n address. gives _ _ refl _ _ (of_number _) ((masks.refusals).count_of bytes start n address _);
-      pw_trailing_ones = λ bytes start n address. gives _ _ refl _ _ (of_number _) ((masks.refusals).count_of bytes start n address _);
-      pw_split_at_unchecked = λ bytes start n at. gives _ _ refl _ _ (of-spans _) ((masks.refusals).split_at bytes start n at);
-      pw_get_u32 = λ bytes start n index. gives _ _ refl _ _ (of_number _) ((masks.refusals).window-at bytes start n index);
+      pw_aligned_new = λ bytes start n address.
+          gives _ _ refl _ _ (of-split _) (refuses-nonempty _ _ (refuses-by _ ((masks.refusals).aligned start n (length bytes) address)));
+      pw_count_zeros = λ bytes start n address. gives _ _ refl _ _ (of_number _) (counted bytes start n address _);
+      pw_leading_zeros = λ bytes start n address. gives _ _ refl _ _ (of_number _) (counted bytes start n address _);
+      pw_leading_ones = λ bytes start n address. gives _ _ refl _ _ (of_number _) (counted bytes start n address _);
+      pw_trailing_zeros = λ bytes start n address. gives _ _ refl _ _ (of_number _) (counted bytes start n address _);
+      pw_trailing_ones = λ bytes start n address. gives _ _ refl _ _ (of_number _) (counted bytes start n address _);
+      pw_split_at_unchecked = λ bytes start n at.
+          gives _ _ refl _ _ (of-spans _) (refuses-by _ ((masks.refusals).split start n at (length bytes)));
+      pw_get_u32 = λ bytes start n index. gives _ _ refl _ _ (of_number _) (refuses-by _ ((masks.refusals).span start n (length bytes)));
       pw_nth_set_bit_idx = λ bytes start n k from.
-          gives _ _ refl _ _ (of-position _) ((masks.refusals).search_from bytes start n k from);
+          gives _ _ refl _ _ (of-position _) (refuses-by _ ((masks.refusals).span start n (length bytes)));
       pw_nth_set_bit_idx_rev = λ bytes start n k end.
-          gives _ _ refl _ _ (of-position _) ((masks.refusals).search_back bytes start n k end);
-      pw_chunks_new = λ bytes start n. gives _ _ refl _ _ (of-cursor chunks_out _) ((masks.refusals).chunks-new bytes start n);
-      pw_chunks_new_exact = λ bytes n. gives _ _ refl _ _ (of-cursor chunks_out _) ((masks.refusals).chunks-new bytes 0 n);
+          gives _ _ refl _ _ (of-position _) (refuses-by _ ((masks.refusals).span start n (length bytes)));
+      pw_chunks_new = λ bytes start n.
+          gives _ _ refl _ _ (of-cursor chunks_out _) (refuses-by _ ((masks.refusals).span start n (length bytes)));
+      pw_chunks_new_exact = λ bytes n.
+          gives _ _ refl _ _ (of-cursor chunks_out _) (refuses-by _ ((masks.refusals).span 0 n (length bytes)));
       pw_chunks_next = λ start n place bytes.
-          step_back _ refl _ _ chunks_place _ _ ((masks.refusals).chunks-next (chunks_at start n place) bytes);
+          step_back _ refl _ _ chunks_place _ _ (refuses-by _ ((masks.refusals).chunks (chunks_at start n place) bytes));
       pw_chunks_remainder = λ start n place bytes.
-          remainder-back _ refl place _ _ ((masks.refusals).chunks_rest (chunks_at start n place) bytes);
-      pw_push = λ n word ones buf x. appends _ refl (push_flag x) n word ones buf ((masks.refusals).append (push_flag x) _ buf);
+          remainder-back _ refl place _ _ (refuses-by _ ((masks.refusals).chunks (chunks_at start n place) bytes));
+      pw_push = λ n word ones buf x.
+          appends _ refl (push_flag x) n word ones buf (refuses-unwritten _ _ ((masks.refusals).grow _ 1 (length buf)));
       pw_extend_constant = λ n word ones buf m x.
-          appends _ refl (extend_constant m x) n word ones buf ((masks.refusals).append (extend_constant m x) _ buf);
+          appends _ refl (extend_constant m x) n word ones buf (refuses-unwritten _ _ ((masks.refusals).constant _ (length buf) m));
       pw_push_word_with_len_unchecked = λ n word ones buf w m.
-          appends _ refl (push_word w m) n word ones buf ((masks.refusals).append (push_word w m) _ buf);
+          appends _ refl (push_word w m) n word ones buf (refuses-unwritten _ _ ((masks.refusals).word _ (length buf) w m));
       pw_extend_from_slice = λ n word ones buf bytes start m.
-          appends _ refl (extend_slice bytes start m) n word ones buf ((masks.refusals).append (extend_slice bytes start m) _ buf);
+          appends _ refl (extend_slice bytes start m) n word ones buf
+          (refuses-unwritten _ _ ((masks.refusals).span_grow _ buf bytes start m m));
       pw_extend_each_repeated_from_slice_unchecked = λ n word ones buf bytes start m k.
           appends _ refl (extend_repeated bytes start m k) n word ones buf
-          ((masks.refusals).append (extend_repeated bytes start m k) _ buf);
+          (refuses-unwritten _ _ ((masks.refusals).span_grow _ buf bytes start m (m * k)));
       pw_subslice_extend_from_bitmap = λ n word ones buf mask bytes start m.
           appends _ refl (extend_bitmap (mask_in mask) bytes start m) n word ones buf
-          ((masks.refusals).append (extend_bitmap (mask_in mask) bytes start m) _ buf);
+          (refuses-unwritten _ _ ((masks.refusals).subslice _ buf (mask_in mask) bytes start m));
       pw_gather_extend_from_slice = λ n word ones buf bytes start m idxs.
           appends _ refl (extend_gather bytes start m idxs) n word ones buf
-          ((masks.refusals).append (extend_gather bytes start m idxs) _ buf);
+          (refuses-unwritten _ _ ((masks.refusals).gather _ buf bytes start m idxs));
       pw_opt_gather_extend_from_slice = λ n word ones buf bytes start m idxs.
           appends _ refl (extend_opt_gather bytes start m idxs) n word ones buf
-          ((masks.refusals).append (extend_opt_gather bytes start m idxs) _ buf);
+          (refuses-unwritten _ _ ((masks.refusals).span_grow _ buf bytes start m (length idxs)));
       pw_freeze = λ n word ones buf serial.
-          gives-unwritten _ _ refl _ _ (of_mask _) buf _ ((masks.refusals).freeze (serial_builder_in n word ones serial) buf);
+          gives-unwritten _ _ refl _ _ (of_mask _) buf _
+          (refuses-unwritten _ _ ((masks.refusals).freeze (serial_builder_in n word ones serial) (length buf)));
       pw_into_opt_validity = λ n word ones buf serial.
-          gives-unwritten _ _ refl _ _ (of-validity _) buf _ ((masks.refusals).validity (serial_builder_in n word ones serial) buf);
-      pw_new_zeroed = λ n out. gives-unwritten _ _ refl _ _ (of_mask _) out _ ((masks.refusals).zeroed n out);
-      pw_try_new = λ bytes start n. gives _ _ refl _ _ (of_mask _) ((masks.refusals).try-new bytes start n);
-      pw_slice = λ m bytes offset n. mask-back _ refl m _ _ ((masks.refusals).slice (mask_in m) bytes offset n);
-      pw_unset_bits = λ m bytes. zeros-back _ refl m _ _ ((masks.refusals).unset_bits (mask_in m) bytes);
-      pw_eq = λ a a_bytes b b_bytes. gives _ _ refl _ _ (of-flag _) ((masks.refusals).eq (mask_in a) a_bytes (mask_in b) b_bytes);
-      pw_num_edges = λ m bytes. gives _ _ refl _ _ (of_number _) ((masks.refusals).edges (mask_in m) bytes);
+          gives-unwritten _ _ refl _ _ (of-validity _) buf _
+          (refuses-unwritten _ _ ((masks.refusals).freeze (serial_builder_in n word ones serial) (length buf)));
+      pw_new_zeroed = λ n out.
+          gives-unwritten _ _ refl _ _ (of_mask _) out _ (refuses-unwritten _ _ ((masks.refusals).zeroed n (length out)));
+      pw_try_new = λ bytes start n. gives _ _ refl _ _ (of_mask _) (refuses-by _ ((masks.refusals).span start n (length bytes)));
+      pw_slice = λ m bytes offset n. mask-back _ refl m _ _ (refuses-by _ ((masks.refusals).slice (mask_in m) bytes offset n));
+      pw_unset_bits = λ m bytes. zeros-back _ refl m _ _ (refuses-by _ ((masks.refusals).mask (mask_in m) bytes));
+      pw_eq = λ a a_bytes b b_bytes.
+          gives _ _ refl _ _ (of-flag _) (refuses-by _ ((masks.refusals).eq (mask_in a) a_bytes (mask_in b) b_bytes));
+      pw_num_edges = λ m bytes. gives _ _ refl _ _ (of_number _) (refuses-by _ ((masks.refusals).mask (mask_in m) bytes));
       pw_num_intersections_with = λ a a_bytes b b_bytes.
-          gives _ _ refl _ _ (of_number _) ((masks.refusals).common (mask_in a) a_bytes (mask_in b) b_bytes);
+          gives _ _ refl _ _ (of_number _) (refuses-by _ ((masks.refusals).common (mask_in a) a_bytes (mask_in b) b_bytes));
       pw_superseding = λ a a_bytes b b_bytes.
-          gives _ _ refl _ _ (of_part _) ((masks.refusals).superseding_part (mask_in a) a_bytes (mask_in b) b_bytes);
+          gives _ _ refl _ _ (of_part _) (refuses-by _ ((masks.refusals).superseding (mask_in a) a_bytes (mask_in b) b_bytes));
       pw_and = λ a a_bytes b b_bytes out.
-          gives-unwritten _ _ refl _ _ (of_mask _) out _ ((masks.refusals).pair And (mask_in a) a_bytes (mask_in b) b_bytes out);
+          gives-unwritten _ _ refl _ _ (of_mask _) out _
+          (refuses-unwritten _ _ ((masks.refusals).pair (mask_in a) a_bytes (mask_in b) b_bytes (length out)));
       pw_and_not = λ a a_bytes b b_bytes out.
-          gives-unwritten _ _ refl _ _ (of_mask _) out _ ((masks.refusals).pair AndNot (mask_in a) a_bytes (mask_in b) b_bytes out);
+          gives-unwritten _ _ refl _ _ (of_mask _) out _
+          (refuses-unwritten _ _ ((masks.refusals).pair (mask_in a) a_bytes (mask_in b) b_bytes (length out)));
       pw_or = λ a a_bytes b b_bytes out.
-          gives-unwritten _ _ refl _ _ (of_mask _) out _ ((masks.refusals).pair Or (mask_in a) a_bytes (mask_in b) b_bytes out);
+          gives-unwritten _ _ refl _ _ (of_mask _) out _
+          (refuses-unwritten _ _ ((masks.refusals).pair (mask_in a) a_bytes (mask_in b) b_bytes (length out)));
       pw_or_not = λ a a_bytes b b_bytes out.
-          gives-unwritten _ _ refl _ _ (of_mask _) out _ ((masks.refusals).pair OrNot (mask_in a) a_bytes (mask_in b) b_bytes out);
+          gives-unwritten _ _ refl _ _ (of_mask _) out _
+          (refuses-unwritten _ _ ((masks.refusals).pair (mask_in a) a_bytes (mask_in b) b_bytes (length out)));
       pw_xor = λ a a_bytes b b_bytes out.
-          gives-unwritten _ _ refl _ _ (of_mask _) out _ ((masks.refusals).pair Xor (mask_in a) a_bytes (mask_in b) b_bytes out);
-      pw_not = λ m bytes out. gives-unwritten _ _ refl _ _ (of_mask _) out _ ((masks.refusals).not-of (mask_in m) bytes out);
+          gives-unwritten _ _ refl _ _ (of_mask _) out _
+          (refuses-unwritten _ _ ((masks.refusals).pair (mask_in a) a_bytes (mask_in b) b_bytes (length out)));
+      pw_not = λ m bytes out.
+          gives-unwritten _ _ refl _ _ (of_mask _) out _ (refuses-unwritten _ _ ((masks.refusals).invert (mask_in m) bytes (length out)));
       pw_select = λ s s_bytes t t_bytes f f_bytes out.
           gives-unwritten _ _ refl _ _ (of_mask _) out _
-          ((masks.refusals).select (mask_in s) s_bytes (mask_in t) t_bytes (mask_in f) f_bytes out);
+          (refuses-unwritten _ _ ((masks.refusals).select (mask_in s) s_bytes (mask_in t) t_bytes (mask_in f) f_bytes (length out)));
       pw_select_constant = λ s s_bytes t t_bytes x out.
-          gives-unwritten _ _ refl _ _ (of_mask _) out _ ((masks.refusals).select_constant (mask_in s) s_bytes (mask_in t) t_bytes x out);
-      pw_slices_new = λ m bytes. gives _ _ refl _ _ (of-cursor slices_out _) ((masks.refusals).slices-new (mask_in m) bytes);
+          gives-unwritten _ _ refl _ _ (of_mask _) out _
+          (refuses-unwritten _ _ ((masks.refusals).pair (mask_in s) s_bytes (mask_in t) t_bytes (length out)));
+      pw_slices_new = λ m bytes. gives _ _ refl _ _ (of-cursor slices_out _) (refuses-by _ ((masks.refusals).mask (mask_in m) bytes));
       pw_slices_next = λ start n place bytes.
-          step_back _ refl _ _ slices_place _ _ ((masks.refusals).slices-next (slices_at start n place) bytes);
-      pw_iter_new = λ bytes start n. gives _ _ refl _ _ (of-cursor iter_out _) ((masks.refusals).iter-new bytes start n);
+          step_back _ refl _ _ slices_place _ _ (refuses-by _ ((masks.refusals).runs (slices_at start n place) bytes));
+      pw_iter_new = λ bytes start n.
+          gives _ _ refl _ _ (of-cursor iter_out _) (refuses-nonempty _ _ (refuses-by _ ((masks.refusals).span start n (length bytes))));
       pw_iter_next = λ start n place bytes.
-          step_back _ refl _ _ iter_place _ _ ((masks.refusals).iter-nth (iter_at start n place) bytes 0);
+          step_back _ refl _ _ iter_place _ _ (refuses-by _ ((masks.refusals).iter (iter_at start n place) bytes));
       pw_iter_nth = λ start n place bytes k.
-          step_back _ refl _ _ iter_place _ _ ((masks.refusals).iter-nth (iter_at start n place) bytes k);
+          step_back _ refl _ _ iter_place _ _ (refuses-by _ ((masks.refusals).iter (iter_at start n place) bytes));
       pw_take_leading_ones = λ start n place bytes.
-          taken_back _ refl iter_place _ _ ((masks.refusals).iter-take true (iter_at start n place) bytes);
+          taken_back _ refl iter_place _ _ (refuses-by _ ((masks.refusals).iter (iter_at start n place) bytes));
       pw_take_leading_zeros = λ start n place bytes.
-          taken_back _ refl iter_place _ _ ((masks.refusals).iter-take false (iter_at start n place) bytes);
-      pw_true_idx_new = λ n m bytes. gives _ _ refl _ _ (of-cursor true_out _) ((masks.refusals).true-new n (mask_in m) bytes);
-      absent-true_idx_new = λ n m bytes. gives _ _ refl _ _ (of-cursor true_out _) ((masks.refusals).true-new_unmasked n bytes);
+          taken_back _ refl iter_place _ _ (refuses-by _ ((masks.refusals).iter (iter_at start n place) bytes));
+      pw_true_idx_new = λ n m bytes.
+          gives _ _ refl _ _ (of-cursor true_out _) (refuses-by _ ((masks.refusals).true-new n (mask_in m) bytes));
+      absent-true_idx_new = λ n m bytes.
+          gives _ _ refl _ _ (of-cursor true_out _) (refuses-by _ ((masks.refusals).true-new_unmasked n bytes));
       pw_true_idx_next = λ start n place masked bytes h.
-          rw (true_in_lem start n place masked h) (step_back _ refl _ _ true_place _ _ ((masks.refusals).true-next start n place bytes));
+          rw (true_in_lem start n place masked h) (step_back _ refl _ _ true_place _ _
+          (refuses-by _ ((masks.refusals).true-next start n place (length bytes))));
       absent-true_idx_next = λ start n place bytes.
-          step_back _ refl _ _ true_place _ _ ((masks.refusals).true-next_unmasked start n place bytes);
+          step_back _ refl _ _ true_place _ _ (refuses-by _ ((masks.refusals).true-next_unmasked start n place (length bytes)));
       pw_true_idx_next_chunk = λ start n place masked bytes out h.
           rw (true_in_lem start n place masked h)
-          (taken-both _ refl true_place _ _ out _ ((masks.refusals).true-chunk start n place bytes out));
+          (taken-both _ refl true_place _ _ out _ (refuses-unwritten _ _ ((masks.refusals).true-next start n place (length bytes))));
       absent-true_idx_next-chunk = λ start n place bytes out.
-          taken-both _ refl true_place _ _ out _ ((masks.refusals).true-chunk_unmasked start n place bytes out);
+          taken-both _ refl true_place _ _ out _ (refuses-unwritten _ _ ((masks.refusals).true-next_unmasked start n place (length bytes)));
       pw_and_not_at = λ p p_bytes q q_bytes i.
-          gives _ _ refl _ _ (of-flag _) ((masks.refusals).and_not_at (mask_in p) p_bytes (mask_in q) q_bytes i);
+          gives _ _ refl _ _ (of-flag _) (refuses-by _ ((masks.refusals).and_not_at (mask_in p) p_bytes (mask_in q) q_bytes i));
       no_second = λ p p_bytes q q_bytes i.
-          gives _ _ refl _ _ (of-flag _) ((masks.refusals).and-not-at-first (mask_in p) p_bytes q_bytes i);
+          gives _ _ refl _ _ (of-flag _) (refuses-by _ ((masks.refusals).and-not-at-first (mask_in p) p_bytes q_bytes i));
       no-first = λ p p_bytes q q_bytes i.
-          gives _ _ refl _ _ (of-flag _) ((masks.refusals).and-not-at-second p_bytes (mask_in q) q_bytes i);
-      no-first-no-second = λ p p_bytes q q_bytes i. gives _ _ refl _ _ (of-flag _) ((masks.refusals).and-not-at-none p_bytes q_bytes i);
+          gives _ _ refl _ _ (of-flag _) (refuses-by _ ((masks.refusals).and-not-at-second p_bytes (mask_in q) q_bytes i));
+      no-first-no-second = λ p p_bytes q q_bytes i.
+          gives _ _ refl _ _ (of-flag _) (refuses-by _ ((masks.refusals).and-not-at-none p_bytes q_bytes i));
       pw_next_and_not = λ p p_bytes q q_bytes from.
-          gives _ _ refl _ _ (of-next _) ((masks.refusals).next_and_not (mask_in p) p_bytes (mask_in q) q_bytes from);
+          gives _ _ refl _ _ (of-next _) (refuses-by _ ((masks.refusals).next_and_not (mask_in p) p_bytes (mask_in q) q_bytes from));
       next-and-not-alone = λ p p_bytes q q_bytes from.
-          gives _ _ refl _ _ (of-next _) ((masks.refusals).next-and-not-alone (mask_in p) p_bytes q_bytes from);
+          gives _ _ refl _ _ (of-next _) (refuses-by _ ((masks.refusals).next-and-not-alone (mask_in p) p_bytes q_bytes from));
       pw_may_reassign = λ p p_bytes q q_bytes truck.
-          gives _ _ refl _ _ (of-flag _) (dispatch.refusals (Some (mask_in p)) p_bytes (Some (mask_in q)) q_bytes truck);
+          gives _ _ refl _ _ (of-flag _) (refuses-by _ (dispatch.refusals (Some (mask_in p)) p_bytes (Some (mask_in q)) q_bytes truck));
       no-revocation = λ p p_bytes q q_bytes truck.
-          gives _ _ refl _ _ (of-flag _) (dispatch.refusals (Some (mask_in p)) p_bytes None q_bytes truck);
+          gives _ _ refl _ _ (of-flag _) (refuses-by _ (dispatch.refusals (Some (mask_in p)) p_bytes None q_bytes truck));
       no-permission = λ p p_bytes q q_bytes truck.
-          gives _ _ refl _ _ (of-flag _) (dispatch.refusals None p_bytes (Some (mask_in q)) q_bytes truck);
-      neither = λ p p_bytes q q_bytes truck. gives _ _ refl _ _ (of-flag _) (dispatch.refusals None p_bytes None q_bytes truck);
+          gives _ _ refl _ _ (of-flag _) (refuses-by _ (dispatch.refusals None p_bytes (Some (mask_in q)) q_bytes truck));
+      neither = λ p p_bytes q q_bytes truck.
+          gives _ _ refl _ _ (of-flag _) (refuses-by _ (dispatch.refusals None p_bytes None q_bytes truck));
       pw_offer = λ p p_bytes q q_bytes cursor.
-          offer-back _ refl cursor _ (dispatch.offer_refusals (Some (mask_in p)) p_bytes (Some (mask_in q)) q_bytes cursor);
+          offer-back _ refl cursor _ (refuses-by _ (dispatch.offer_refusals (Some (mask_in p)) p_bytes (Some (mask_in q)) q_bytes cursor));
       offer-no-revocation = λ p p_bytes q q_bytes cursor.
-          offer-back _ refl cursor _ (dispatch.offer_refusals (Some (mask_in p)) p_bytes None q_bytes cursor);
+          offer-back _ refl cursor _ (refuses-by _ (dispatch.offer_refusals (Some (mask_in p)) p_bytes None q_bytes cursor));
       offer-no-permission = λ p p_bytes q q_bytes cursor.
-          offer-back _ refl cursor _ (dispatch.offer_refusals None p_bytes (Some (mask_in q)) q_bytes cursor);
+          offer-back _ refl cursor _ (refuses-by _ (dispatch.offer_refusals None p_bytes (Some (mask_in q)) q_bytes cursor));
       offer-neither = λ p p_bytes q q_bytes cursor.
-          offer-back _ refl cursor _ (dispatch.offer_refusals None p_bytes None q_bytes cursor);
+          offer-back _ refl cursor _ (refuses-by _ (dispatch.offer_refusals None p_bytes None q_bytes cursor));
       pw_activity_new = λ width words counts.
           record {
             gives = array_back (width_fits width) _ ((activity.refusals).new-number width) words _;
