@@ -18,6 +18,13 @@ PAGES = ("docs/*.md", "README.md", "tests/*.py")
 EDITS = (
     (
         "layout.py",
+        "crates/words/src/nth.rt",
+        "//! ",
+        "// ",
+        "crates/words/src/nth.rt: the first line is no comment //!",
+    ),
+    (
+        "layout.py",
         "docs/REFERENCE.md",
         "in the project's own words.",
         "by pap" "er 02.",

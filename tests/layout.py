@@ -1,4 +1,6 @@
-"""Prints which lines are too long, which imports are not used, and which citations lead outside; the status is 1 if there are any.
+"""Prints which lines are too long, which imports are not used, which public items have no comment, and which citations lead outside.
+
+The status is 1 if there are any.
 
     python3 tests/layout.py            reads this repository
     python3 tests/layout.py FOLDER     reads another copy of it
@@ -11,7 +13,9 @@ elsewhere in the file, outside comments; an operator such as `◌+◌` if each o
 as used. A name imported by `pub use` is passed on, and is not checked.
 
 The repository stands alone: outside docs/changes nothing cites a paper, nor a request or a demand by its letter or number. A rule is
-stated where it is used, or in docs/REFERENCE.md."""
+stated where it is used, or in docs/REFERENCE.md.
+
+A .rt file begins with a documentation comment, `//!`, and each public item has one, `///`, in front of its attributes."""
 import os
 import pathlib
 import re
@@ -33,6 +37,7 @@ GAP = r"\s+(?:(?:--|//[/!]?|#|\*)\s*)?"
 CITED = re.compile(rf"(?i:\b(?:document|paper){GAP}0\d|\b(?:papers?|calls-0\d)\b|\brequests?{GAP}\([a-z]\)|\bdemands?[_ ]?\d)")
 ALSO_CITE = (".toml", ".txt", ".edit", ".svg")
 MAY_CITE = ("docs/changes/", "tests/layout.py")
+ITEM = re.compile(r" *pub (?:const fn|extern|fn|struct|enum|trait|const|type|static)\b")
 BETWEEN = re.compile(r'[\s(){}.;,@"«»⟦⟧]+')
 
 
@@ -74,11 +79,26 @@ def citations(path, text):
         yield f"line {text.count(chr(10), 0, cited.start()) + 1} cites '{' '.join(cited[0].split())}'"
 
 
+def undocumented(text):
+    lines = text.split("\n")
+    if not lines[0].startswith("//!"):
+        yield "the first line is no comment //!"
+    for number, line in enumerate(lines):
+        if ITEM.match(line):
+            before = number - 1
+            while lines[before].lstrip().startswith("#["):
+                before -= 1
+            if not lines[before].lstrip().startswith("///"):
+                yield f"line {number + 1} is a public item with no comment ///"
+
+
 def complaints_of(root, path, text):
     if path.suffix not in ALSO_CITE:
         yield from long_lines(path, text)
     if path.suffix in USE:
         yield from unused_imports(path, text)
+    if path.suffix == ".rt":
+        yield from undocumented(text)
     if not str(path.relative_to(root)).startswith(MAY_CITE):
         yield from citations(path, text)
 
@@ -92,7 +112,7 @@ def main():
         complaints += len(found)
         for complaint in found:
             print(f"{path.relative_to(root)}: {complaint}")
-    print(f"{read} files, {complaints} complaints of lines, imports and citations")
+    print(f"{read} files, {complaints} complaints of lines, imports, comments and citations")
     return 1 if complaints or not read else 0
 
 

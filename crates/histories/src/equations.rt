@@ -1,7 +1,7 @@
-// The equation of each call of masks that has no export: each function here makes one call and nothing else, and its contract is the call's
-// answer, and its bytes or its place, as one equation each, as the contracts of exports are for the other calls. Nobody calls these
-// functions; a call whose clauses say less than its equation would leave its function unproved. The checks (`check_span`, `check_mask`,
-// `check_output`, `earlier`) need none: they return only a number, and their clause `refused` is the equation of it.
+//! The equation of each call of masks that has no export: each function here makes one call and nothing else, and its contract is the
+//! call's answer, and its bytes or its place, as one equation each, as the contracts of exports are for the other calls. Nobody calls these
+//! functions; a call whose clauses say less than its equation would leave its function unproved. The checks (`check_span`, `check_mask`,
+//! `check_output`, `earlier`) need none: they return only a number, and their clause `refused` is the equation of it.
 #![tactic(auto, using(masks::proofs::refusal::ClauseLaws::answered_change, masks::proofs::refusal::ClauseLaws::written_change, masks::proofs::refusal::ClauseLaws::answered_record), unfolding(masks::specs::equations::Superseding::superseding_of))]
 
 ghost use Rattle.std.specs.Prelude.{◌≡◌};
@@ -15,7 +15,7 @@ use masks::builder::BitmapBuilder;
 use masks::refusal::Refusal;
 use masks::superseding::{superseding, superseding_bytes};
 
-// Calls `push_mut`: the number of the refusal with the caller's builder, and the buffer.
+/// Calls `push_mut`: the number of the refusal with the caller's builder, and the buffer.
 pub fn push_mut_equation(
     builder: &mut BitmapBuilder,
     buf: &mut [u8],
@@ -28,7 +28,7 @@ pub fn push_mut_equation(
     builder.push_mut(buf, flag)
 }
 
-// Calls `superseding`: the record of the winner.
+/// Calls `superseding`: the record of the winner.
 pub fn superseding_equation(
     first: Bitmap,
     first_bytes: &[u8],
@@ -41,7 +41,7 @@ pub fn superseding_equation(
     superseding(first, first_bytes, second, second_bytes)
 }
 
-// Calls `superseding_bytes`: the bytes of the winner, and where they lie.
+/// Calls `superseding_bytes`: the bytes of the winner, and where they lie.
 pub fn superseding_bytes_equation<'a>(
     first: Bitmap,
     first_bytes: &'a [u8],

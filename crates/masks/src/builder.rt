@@ -45,8 +45,8 @@ impl BitmapBuilder {
         Ok(push_flags(self, buf, constant_word(flag), 1))
     }
 
-    /// Appends one flag and changes the caller's own record; if it refuses, the record is unchanged. A named form of the reference: length,
-    /// word and ones are taken apart, pushed by value and stored back; the serial stays.
+    /// Appends one flag and changes the caller's own record; if it refuses, the record is unchanged. Length, word and ones are taken apart,
+    /// pushed by value and stored back; the serial stays.
     pub fn push_mut(&mut self, buf: &mut [u8], flag: bool) -> Result<(), Refusal>
         ensures refused { failure_of result ≡ first_failed
             (grow_checks self.old 1 (length buf.old)) }

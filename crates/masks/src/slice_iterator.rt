@@ -43,7 +43,7 @@ fn is_full_byte(byte: u8, bit: usize, left: usize) -> bool
 
 // Returns the first run of ones at or after `place`; with no ones left an empty run at the length. Reads byte by byte and, inside a byte,
 // bit by bit; at the end of the run it leaves both loops. Passes over a byte of ones at once; a zero before the run moves the start on.
-// The two loops are the walk of the reference (docs/REFERENCE.md), a named form.
+// The two loops have the form of the Rust's run walker (ARCHITECTURE, Forms of the code).
 fn run_from(span: CheckedSpan, place: usize) -> Run
     requires { place ≤ span.length }
     ensures { result ≡

@@ -8,7 +8,7 @@ use crate::refusal::{Refusal, check};
 
 impl Bitmap {
     /// Returns the serial of the revocation list that the mask was drawn up under. A new mask has serial 0, a frozen one its builder's, a
-    /// slice that of its mask, and a combination the largest of its masks'.
+    /// slice that of its mask, and a combination the largest of its masks': set the serial under which a combination is saved.
     ///
     /// ```
     /// use poruwhina::Bitmap;
@@ -33,7 +33,8 @@ impl Bitmap {
 
     /// Returns the one of two masks of one operator that has the larger serial, over its own bytes, which are not copied. If the serials
     /// and the flags are equal, returns the first. Refused with 14 if the serials are equal and the flags are not: then neither is known to
-    /// be the later one, and a person must decide. The caller ensures that both masks are one operator's.
+    /// be the later one, and a person must decide. The caller ensures that both masks are one operator's, and that neither is a piece: a
+    /// slice keeps its mask's serial, and so wins against an older mask of the whole length.
     ///
     /// ```
     /// use poruwhina::{Bitmap, Refusal};
