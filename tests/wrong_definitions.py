@@ -13,7 +13,7 @@ tests/wrong/CRATE.txt, with an empty line between two; each has these lines:
     says: TEXT            what is wrong, in plain words
     file: PATH            the file, below crates/CRATE; if left out, that of the entry before it
     old: TEXT             text that is in the file exactly once; `\\n` for a line's end
-    new: TEXT             the wrong text; more pairs of `old:` and `new:` may follow
+    new: TEXT             the wrong text; more pairs of `old:` and `new:` may follow. What it names and the file does not import is imported
     table: CRATE/FILE     crates/CRATE/proofs/FILE.antt is a computed table, of which a row is then false; or
     theorem: CRATE/FILE NAME    the proof of this theorem, which states the definition in plain words, then fails
 
@@ -41,7 +41,9 @@ the edit and once without it. The latter must be accepted, else the entry is tri
 
 The status is 1 if an entry was not refused as it must be or is open, and 2 if the unedited copy is not accepted."""
 import argparse
+import collections
 import concurrent.futures
+import functools
 import os
 import pathlib
 import re
@@ -56,6 +58,7 @@ TABLES = ("computed/*",)
 THEOREMS = ("theorems/*",)
 SLOW = ("computed/GoesOn",)  # a table that takes longer than all others
 TOGETHER = 20
+NAME = r"[^\W\d][\w'-]*"
 
 
 def place_of(text):
@@ -108,7 +111,51 @@ class Entry:
             if text.count(old) != 1:
                 return f"its text is in {file} {text.count(old)} times: {old[:90]}"
             found[module] = text.replace(old, new)
-        return found
+        return {module: with_imports(module, text, [new for _, _, new in self.pairs], texts) for module, text in found.items()}
+
+
+# ---- imports
+
+
+def names_of(text):
+    """Returns the names and operators in a text, without its comments."""
+    text = re.sub(r"(?m)(?:^|(?<=\s))--.*$", "", text)
+    return set(re.findall(NAME, text)) | {f"◌{sign}◌" for sign in re.findall(r"(?<=\s)[^\w\s(){}\[\].,;'`]+(?=\s)", text)} | \
+        ({"[]"} if "[]" in text else set())
+
+
+@functools.lru_cache(maxsize=None)
+def importable(crate, root):
+    """Returns from which modules the definitions of a crate import a name, each with how often; and what they define themselves."""
+    found = collections.defaultdict(collections.Counter)
+    home = root / "crates" / crate
+    for path in [*sorted(home.glob("specs/**/*.antt")), *sorted(home.glob("proofs/statements/*.antt"))]:
+        module = ".".join(path.relative_to(home).with_suffix("").parts)
+        text = path.read_text(encoding="utf-8")
+        for source, names in re.findall(r"(?m)^(?:unfoldable )?(?:pub )?use (Rattle\.\S+|mathlib\.\S+)\.\{([^}]*)\}$", text):
+            for name in names.split(","):
+                found[name.strip()][source] += 1
+        for name in re.findall(rf"(?m)^(?:unfoldable |abbrev )?pub (?:record |data )?({NAME}) ", text):
+            found[name][f"Rattle.{crate}.{module}"] += 1000
+    return found
+
+
+def with_imports(module, text, wrong, texts):
+    """Returns the text of an edited module with an import for each name of the wrong texts that it neither imports nor defines."""
+    crate, part, own = module
+    uses = re.findall(r"(?m)^(?:unfoldable )?(?:pub )?use \S+\.\{([^}]*)\}$", text)
+    here = {name.split(" as ")[-1].strip() for names in uses for name in names.split(",")}
+    here |= set(re.findall(rf"(?m)^(?:unfoldable |abbrev )?pub (?:record |data )?({NAME}) ", text))
+    known = importable(crate, ROOT)
+    lines = []
+    for name in sorted(names_of("\n".join(wrong)) - here):
+        sources = [source for source, _ in known.get(name, collections.Counter()).most_common() if source != f"Rattle.{crate}.{part}.{own}"]
+        if sources and len(name) > 1:
+            lines.append(f"use {sources[0]}.{{{name}}}")
+    last = list(re.finditer(r"(?m)^(?:unfoldable )?(?:pub )?use .*$", text))
+    if not lines or not last:
+        return text
+    return text[: last[-1].end()] + "\n" + "\n".join(lines) + text[last[-1].end() :]
 
 
 def entries(root, crates):
