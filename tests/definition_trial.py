@@ -170,7 +170,7 @@ class Trial:
         status, said = self.check(folder, names, self.kept)
         shutil.rmtree(folder)
         if status != 0:
-            print(said[-3000:])
+            print("\n".join(line for line in said.split("\n") if "error" in line)[:3000] or said[-3000:])
             fail("the unedited copy is not accepted, so that a refusal would show nothing")
 
     def run(self, crates, places, edit, log):

@@ -1,10 +1,13 @@
 //! The equation of each call of masks that has no export: each function here makes one call and nothing else, and its contract is the
 //! call's answer, and its bytes or its place, as one equation each, as the contracts of exports are for the other calls. Nobody calls these
 //! functions; a call whose clauses say less than its equation would leave its function unproved. The checks (`check_span`, `check_mask`,
-//! `check_output`, `earlier`) need none: they return only a number, and their clause `refused` is the equation of it.
+//! `check_output`, `earlier`) need none: they return only a number, and their clause `refused` is the equation of it. The last function is no
+//! equation: it shows that `?` makes a `Refusal` of a refusal that holds a record.
 #![tactic(auto, using(masks::proofs::refusal::ClauseLaws::answered_change, masks::proofs::refusal::ClauseLaws::written_change, masks::proofs::refusal::ClauseLaws::answered_record), unfolding(masks::specs::equations::Superseding::superseding_of))]
 
 ghost use Rattle.std.specs.Prelude.{◌≡◌};
+ghost use Rattle.masks.specs.Checks.{first_failed};
+ghost use Rattle.masks.specs.Mask.{slice_checks};
 ghost use Rattle.masks.specs.Refusal.{failure_of};
 ghost use Rattle.masks.specs.equations.Answer.{answer};
 ghost use Rattle.masks.specs.equations.Appends.{append_answer, append_bytes, change_answer, push_flag};
@@ -56,4 +59,17 @@ pub fn superseding_bytes_equation<'a>(
         first_bytes.entry.ref_ptr second_bytes.entry.ref_ptr }
 {
     superseding_bytes(first, first_bytes, second, second_bytes)
+}
+
+/// Cuts a piece, and passes a refusal on by `?`, without the mask that it holds.
+pub fn piece_or_refusal(
+    mask: Bitmap,
+    bytes: &[u8],
+    offset: usize,
+    length: usize,
+) -> Result<Bitmap, Refusal>
+    ensures { failure_of result ≡ first_failed (slice_checks mask bytes.now offset length) }
+{
+    let piece = mask.slice(bytes, offset, length)?;
+    Ok(piece)
 }

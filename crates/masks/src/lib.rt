@@ -27,7 +27,5 @@ mod shortcuts;
 pub mod slice_iterator;
 mod span;
 pub mod superseding;
-#[cfg(test)]
-mod tests;
 pub mod true_idx;
 pub mod utils;
