@@ -1,8 +1,10 @@
 -- What each answer of the code means: a value is given as exactly that value, and a refusal refuses by its number, with the record that it
 -- carries.
 --
--- A contract compares an answer through `answer`, `answer_back` or `answer_step`. If their cases were exchanged there or a number altered,
--- code with the same error would be proved, and no table would show it, since the tables are about what is given and refused.
+-- A clause names a refusal through `failure_of` or `failure_back` and a step through `step_of`; a call's equation, which is the contract of
+-- its export, compares its answer through `answer`, `answer_back`, `answer_step` or `change_answer`. If their cases were exchanged there or
+-- a number altered, code with the same error would be proved, and no table would show it, since the tables are about what is given and
+-- refused.
 use Rattle.std.specs.Prelude.{◌≡◌, Some, None, Ok, Err}
 use Rattle.masks.specs.equations.Answer.{given, refused, answer, answer_back}
 use Rattle.masks.specs.equations.Appends.{change_answer}
@@ -14,7 +16,7 @@ use Rattle.masks.specs.declared.refusal.Refusal.{Refusal}
 use Rattle.masks.specs.declared.refusal.Refusal.TheVariants.{AboveLimit, OutsideBytes, FalseCount, SerialConflict, ImpossibleBuilder}
 use Rattle.masks.specs.declared.refusal.Refusal.TheVariants.{UnequalLengths, OutsideMask, CountNotOfSlice, AddressRemainder, OutputTooSmall}
 
--- the numbers of the refusals: those of the reference
+-- the numbers of the refusals, as in the reference
 pub record NumbersPlain : Type 0 where
   pub over_limit : number AboveLimit ≡ 1
   pub past_bytes : number OutsideBytes ≡ 2

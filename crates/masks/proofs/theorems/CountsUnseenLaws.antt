@@ -1,5 +1,5 @@
 -- Laws for the theorem on counts, also of crates above: if the checks of a mask pass, they are those of the same mask with its count
--- unknown; so is the number of zeros that a call uses, and so are the lists of checks of calls that take the mask.
+-- unknown; so are the lists of checks of calls that take the mask.
 use Rattle.std.specs.Prelude.{Option, Some, None}
 use Prim.Native.Nat.{ℕ}
 use mathlib.Core.Path.{◌≡◌, refl, ap}
@@ -11,7 +11,7 @@ use Rattle.masks.specs.AtIndex.{and_not_at_checks, index_checks, index_inside, l
 use Rattle.masks.specs.Checks.{Check, check, first_failed, output_checks, span_checks}
 use Rattle.masks.specs.Combine.{not_checks, pair_checks, pair_flags, select_checks, shortcut}
 use Rattle.masks.proofs.statements.CountsUnseen.{forgot}
-use Rattle.masks.specs.Mask.{mask_checks, mask_flags, zero_count}
+use Rattle.masks.specs.Mask.{mask_checks, mask_flags}
 use Rattle.masks.specs.NextAndNot.{free_flags, next_checks, other_checks}
 use Rattle.masks.specs.declared.bitmap.Bitmap.{Bitmap}
 use Rattle.masks.proofs.bitmap.MaskLaws.{mask-truthful, true-valid}
@@ -22,10 +22,6 @@ module _ (m : Bitmap) (bytes : List ℕ) (e : first_failed (mask_checks m bytes)
   same-checks =
       ap (λ (t : Bool). span_checks m.start m.length (length bytes) ++ (check 3 t ∷ []))
       (true-valid m.unset (mask_flags m bytes) (mask-truthful m bytes e))
-
-  pub same_count : zero_count m bytes ≡ zero_count (forgot m) bytes
-  unfolding zero_count
-  same_count = refl
 
   -- ---- the checks of combinations
 
