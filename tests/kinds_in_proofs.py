@@ -54,7 +54,7 @@ def checks(call):
 
 @kind("numbers", "its numbers, and the statement on refusals", applies=may_fail)
 def numbers(call):
-    return citing(call, "statements/Refusals.antt") if call.numbers else []
+    return (citing(call, "statements/Refusals.antt") or naming(call, "statements/Refusals.antt")) if call.numbers else []
 
 
 @kind("refusals", "the theorem on refusals", applies=refusing_call)

@@ -1,8 +1,8 @@
 //! The equation of each call of masks that has no export: each function here makes one call and nothing else, and its contract is the
 //! call's answer, and its bytes or its place, as one equation each, as the contracts of exports are for the other calls. Nobody calls these
 //! functions; a call whose clauses say less than its equation would leave its function unproved. The checks (`check_span`, `check_mask`,
-//! `check_output`, `earlier`) need none: they return only a number, and their clause `refused` is the equation of it. The last function is no
-//! equation: it shows that `?` makes a `Refusal` of a refusal that holds a record.
+//! `check_output`, `earlier`) need none: they return only a number, and their clause `refused` is the equation of it. The last function is
+//! no equation: it shows that `?` makes a `Refusal` of a refusal that holds a record.
 #![tactic(auto, using(masks::proofs::refusal::ClauseLaws::answered_change, masks::proofs::refusal::ClauseLaws::written_change, masks::proofs::refusal::ClauseLaws::answered_record), unfolding(masks::specs::equations::Superseding::superseding_of))]
 
 ghost use Rattle.std.specs.Prelude.{◌≡◌};

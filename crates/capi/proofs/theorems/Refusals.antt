@@ -13,7 +13,7 @@ use Rattle.masks.specs.equations.Appends.{extend_repeated}
 use Rattle.masks.specs.equations.Appends.{extend_bitmap, extend_gather, extend_opt_gather}
 use lib.ListN.{length}
 use Prim.Native.Nat.{◌*◌}
-use Rattle.masks.specs.Bitmask.{window_at}
+use Rattle.masks.specs.equations.Bitmask.{window_at}
 use Rattle.masks.specs.equations.Aligned.{aligned_of}
 use Rattle.masks.specs.equations.AtIndex.{and_not_at_of}
 use Rattle.masks.specs.equations.Bitmask.{split_at}
