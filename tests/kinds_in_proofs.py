@@ -54,7 +54,8 @@ def checks(call):
 
 @kind("numbers", "its numbers, and the statement on refusals", applies=may_fail)
 def numbers(call):
-    return (citing(call, "statements/Refusals.antt") or naming(call, "statements/Refusals.antt")) if call.numbers else []
+    stated = citing(call, "statements/Refusals.antt") or saying(f"crates/{call.crate}/proofs/statements/Refusals.antt", rf"`{call.short}`")
+    return stated if call.numbers else []
 
 
 @kind("refusals", "the theorem on refusals", applies=refusing_call)
