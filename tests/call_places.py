@@ -34,8 +34,7 @@ NOT_NEEDED = {
 # What calls lack today, with what is to be written; an entry goes when the place is filled.
 NO_EDGE_ROWS = "rows at the limit and one above it, in `EdgeRows` of masks"
 OPEN = {
-    **{(name, "edges"): NO_EDGE_ROWS for name in ("BitChunks::new", "BitChunksExact::new", "BitmapIter::new", "num_edges")},
-    **{(name, "edges"): NO_EDGE_ROWS for name in ("next_and_not", "superseding_part", "superseding")},
+    ("BitmapIter::new", "edges"): NO_EDGE_ROWS,
     ("activity", "shape"): "an `AnswerPlain` of activity: what `answer` of `Window` makes of a value and of a refusal",
 }
 
