@@ -114,7 +114,7 @@ def cited(head):
             out.append(f"{name}: `{value[1] or value[2]}`")
         elif not (name in ("unchanged", "state") and re.match(r"(?:OnErr|IfErr) result ", text)):
             before, _, side = text.partition("≡")
-            side = text if "→" in before or "λ" in before else (side or before).strip()
+            side = text if "→" in text or "λ" in before else (side or before).strip()
             out.append((f"{name}: " if name else "") + f"`{side}`")
     return out
 
@@ -290,10 +290,28 @@ def witnessed(crate):
 
 
 def counts_unseen(crate):
-    """Returns the calls that the theorem on counts is about: those named in a comment right above one of its fields."""
-    texts = beside(crate, "statements/CountsUnseen.antt")
-    comments = [comment for text in texts for comment in re.findall(r"(?m)((?:^  --.*\n)+)^  pub ", text)]
-    return {name for comment in comments for name in re.findall(r"`([\w:]+)`", comment)}
+    """Returns what the theorem on counts states of each call: the fields below the comment that names it."""
+    found = {}
+    for text in beside(crate, "statements/CountsUnseen.antt"):
+        for comment, fields in re.findall(r"(?m)((?:^  --.*\n)+)((?:^  (?!--).*\n?)+)", text):
+            for name in re.findall(r"`([\w:]+)`", comment):
+                found[name] = found.get(name, "") + fields
+    return found
+
+
+def masks_taken(crate):
+    """Returns how many masks each public function takes, absent ones too."""
+    found = {}
+    for path in sorted(glob.glob(os.path.join(ROOT, "crates", crate, "src", "*.rt"))):
+        text, owner = source(path), ""
+        for match in re.finditer(r"(?m)^impl (\w+) \{$|^(\})|\bpub fn (\w+)", text):
+            if match[1] or match[2]:
+                owner = match[1] or ""
+            else:
+                taken = re.split(r"->|\b(?:requires|ensures)\b", head_of(text, match.start(3)))[0]
+                own = owner == "Bitmap" and re.search(r"\bself\b", taken) is not None
+                found[(owner + "::" if owner else "") + match[3]] = own + len(re.findall(r": (?:Option<)?Bitmap\b", taken))
+    return found
 
 
 # ---- the page
@@ -309,14 +327,18 @@ def facts():
     order = re.findall(r"\d+", re.search(r"(?m)^order =(.*?)^$", read("crates", "masks", "specs", "Checks.antt"), re.S)[1])
     for crate in CRATES:
         numbers, wrong, named, unseen = refusals(crate), wrong_answers(crate), witnessed(crate), counts_unseen(crate)
+        taken = masks_taken(crate)
         for name, (args, definitions, _) in functions(crate).items():
             checks = sorted(numbers.get(name, numbers.get("*", ())), key=lambda n: (order.index(n) if n in order else 0, int(n)))
             if name in rows:
                 complaints.append(f"two public functions are named {name}")
             if name in numbers and name not in named:
                 complaints.append(f"{crate}/proofs/tables/Witnesses.antt does not name {name}")
-            if "3" in checks and name not in unseen:
-                complaints.append(f"{crate}/proofs/statements/CountsUnseen.antt does not name {name}, which may refuse with 3")
+            if "3" in checks:
+                made = re.match(r"refused by `(\w+)", next(iter(definitions), ""))
+                stated = len(re.findall(rf"\b{made[1]}\b", unseen.get(name, ""))) if made else 0
+                if stated < taken[name]:
+                    complaints.append(f"{crate}/proofs/statements/CountsUnseen.antt states {stated} of {taken[name]} masks of {name}")
             rows[name] = {
                 "call": f"`{name}({', '.join(args)})`",
                 "checks": " ".join(checks) or "none",

@@ -2,19 +2,23 @@
 """Checks that the contract of each public function of the crates CRATES has the clauses that its signature asks for.
 
     python3 tests/clauses.py            prints what is missing, and fails if anything is
-    python3 tests/clauses.py --test     takes each clause out of a copy, one by one, and checks that its absence is seen
+    python3 tests/clauses.py --test     takes each clause out, one by one, or makes it wrong, and checks that this is seen
 
 A contract has named clauses, with the same names everywhere. They fix every output on every input together, so none may be missing, and
 the prover does not see that one is: without `unchanged` a call is still proved. What a signature asks for:
 
-- `Result<T, E>`: `refused`, the number of the first failed check; if T is not `()`, a clause that says the value.
+- `Result<T, E>`: `refused`, the number of the first failed check; if T is not `()`, a clause that says the value, or one for each part of
+  it. It equals something: the value itself, a part of it, or what READERS make of it.
 - An argument lent `&mut`: the value that it has if the call is accepted, under `OnOk` or `IfOk`; of a `Result` also that it is unchanged
   after a refusal, under `OnErr`.
 - An error that holds what was passed: `state`, that it is returned unchanged, under `IfErr`.
+- A part of lent bytes, `&[u8]`: which bytes and where they lie, `part` and `place`, if no check fails, and `refused_part` and
+  `refused_place` if one does.
 - Any other result: a clause about it.
 
-`refused` says the number on every input. It may have a premise only where a clause `empty` has the opposite one. A clause of a `Result`
-that is none of RULES says a value, and its name is one of VALUES."""
+`refused` says the number on every input: it has the premise that a length is not 0 only where a clause `empty` says that 0 is accepted. No
+other clause of a `Result` has a premise. A clause that is none of RULES says a value, and its name is one of VALUES; a type of NAMED has
+the name that is there. `bound` says something in addition, and is not asked for."""
 import pathlib
 import re
 import sys
@@ -25,15 +29,21 @@ ROOT = pathlib.Path(__file__).resolve().parent.parent
 CRATES = ("masks", "dispatch")
 # The clauses that say no value, each with what it may be stated by.
 RULES = {
-    "refused": r"(?:failure_of|failure_back|offer_failure) result ≡",
-    "empty": r"→ failure_of result ≡ 0",
-    "bytes": r"OnOk result",
-    "unchanged": r"OnErr result",
-    "state": r"IfErr result|OnErr result",
+    "refused": r"(?:length ≢ 0 → )?(?:failure_of|failure_back|offer_failure) result ≡ (?:first_failed|earlier_of) .+",
+    "empty": r"length ≡ 0 → failure_of result ≡ 0",
+    "bytes": r"OnOk result \(\w+\.new ≡ .+\)",
+    "unchanged": r"OnErr result \((\w+)\.new ≡ \1\.old\)",
+    "state": r"IfErr result \(λ e\. e\.(?:state|cursor) ≡ (?:self|cursor)\)|OnErr result \((\w+)\.new ≡ \1\.old\)",
 }
 # The clauses that say a value, by what it is.
-VALUES = ("appended", "bound", "cursor", "edges", "flag", "found", "mask", "may", "number", "offering", "part", "place", "position")
-VALUES += ("positions", "refused_part", "refused_place", "result", "spans", "split", "step", "word", "zeros")
+VALUES = ("appended", "bound", "cursor", "edges", "flag", "found", "mask", "may", "number", "offering", "part", "position", "positions")
+VALUES += ("spans", "split", "step", "word", "zeros")
+# What a value is read by, if a clause says neither it nor a part of it.
+READERS = ("filling", "step_of")
+# The name of the clause on a value of these types.
+NAMED = {"Bitmap": "mask", "Option<Bitmap>": "mask", "BitmapBuilder": "appended", "bool": ("flag", "may")}
+# The clauses on a part of lent bytes, by the number of the first failed check.
+PART = {"part": "≡ 0 →", "place": "≡ 0 →", "refused_part": "≢ 0 →", "refused_place": "≢ 0 →"}
 # Errors that are only a number; every other error holds what was passed.
 NUMBERS = ("Refusal",)
 
@@ -107,6 +117,13 @@ def missing(function):
     clauses = function.clauses
     result = re.fullmatch(r"Result<(.*), (\w+)(<.*>)?>", function.result)
     lent = lent_names(function)
+    if re.fullmatch(r"&(?:'\w+ )?\[u8\]", function.result):
+        for name, premise in PART.items():
+            if name not in clauses:
+                yield f"no clause {name}"
+            elif not re.match(rf"first_failed \(.*?\) {premise} result", clauses[name]):
+                yield f"{name} has not the premise {premise}"
+        return
     if not result:
         if not any(re.search(r"\bresult\b", text) for text in clauses.values()) and function.result != "()":
             yield "no clause about the result"
@@ -118,8 +135,13 @@ def missing(function):
     for name in [name for name in values if name not in VALUES]:
         yield f"a clause named {name}, which is no name of a clause"
     for name, text in clauses.items():
-        if name in RULES and not re.search(RULES[name], text):
-            yield f"{name} is stated by none of {RULES[name]}"
+        if name in RULES and not re.fullmatch(RULES[name], text):
+            yield f"{name} is not stated as it must be: {text}"
+        if name not in ("refused", "empty") and "→" in text:
+            yield f"{name} has a premise"
+    wanted = NAMED.get(result[1])
+    if wanted and not any(name in values for name in ([wanted] if isinstance(wanted, str) else wanted)):
+        yield f"no clause named {wanted} for a {result[1]}"
     if "refused" not in clauses:
         yield "no clause refused"
     elif "→" in clauses["refused"] and "empty" not in clauses:
@@ -141,7 +163,7 @@ def unsaid(kind, texts):
     """Yields what these clauses leave open of a value: all of it, or a part, if they say it by its parts."""
     shapes = [re.match(r"IfOk result \(λ (\w+)\. (.*) ≡ ", text) for text in texts]
     said = [(found[1], found[2]) for found in shapes if found]
-    whole = [name for name, left in said if left == name or not left.startswith(f"{name}.")]
+    whole = [name for name, left in said if left == name or re.match(rf"(?:{'|'.join(READERS)}) {name}\b", left)]
     parts = {left.partition(".")[2] for name, left in said if left.startswith(f"{name}.")}
     if not whole and not parts:
         yield "no clause says the value"
@@ -177,16 +199,30 @@ def complaints(texts):
     return found, results
 
 
-def without_each(text):
-    """Yields the name of each clause of a public function with a `Result`, and the source without that clause."""
+def wrong_sources(text):
+    """Yields each clause of a public function that may refuse, with what stands in its place, and the source with that."""
     for match in re.finditer(r"\bpub fn \w+", text):
         head = head_of(text, match.start())
-        if "-> Result<" not in head:
+        if not re.search(r"-> (?:Result<|&)", head):
             continue
         for clause in re.finditer(r"\bensures(?:\s+(\w+))?\s*\{", head):
             start = match.start() + clause.start()
             end = match.start() + clause.end() + len(braced(head, clause.end())) + 1
-            yield f"{match[0]} {clause[1]}", text[:start] + text[end:]
+            inside = " ".join(braced(head, clause.end()).split())
+            for wrong in ["", *wrong_texts(clause[1], inside)]:
+                new = f"ensures {clause[1] or ''} {{ {wrong} }}" if wrong else ""
+                yield f"{match[0]} {clause[1]} as `{wrong}`", text[:start] + new + text[end:]
+
+
+def wrong_texts(name, text):
+    """Yields what a clause might say in its place and must not: a premise, another number, another state, less of what is written."""
+    yield f"0 ≡ 0 → {text}"
+    if name == "refused":
+        yield re.sub(r" ≡ (?:first_failed|earlier_of) .*", " ≡ 0", text)
+    elif name == "state":
+        yield "IfErr result (λ e. e.state ≡ e.state)"
+    elif name in ("bytes", "unchanged"):
+        yield re.sub(r"\((\w+)\.new ≡ .*\)", r"(length \1.new ≡ length \1.old)", text)
 
 
 def main():
@@ -195,11 +231,11 @@ def main():
     if "--test" in sys.argv:
         tried, unseen = 0, []
         for path, text in texts:
-            for name, less in without_each(text):
+            for name, less in wrong_sources(text):
                 tried += 1
-                if not complaints([(path, less)])[0] and not name.endswith(" bound"):
-                    unseen.append(f"{path.relative_to(ROOT)}: {name}: its absence is not seen")
-        print("\n".join(unseen + [f"{tried} clauses taken out one by one, {len(unseen)} not seen"]))
+                if not complaints([(path, less)])[0] and " bound as ``" not in name:
+                    unseen.append(f"{path.relative_to(ROOT)}: {name}: this is not seen")
+        print("\n".join(unseen + [f"{tried} clauses taken out or made wrong one by one, {len(unseen)} not seen"]))
         return 1 if unseen or not tried else 0
     print("\n".join(found + [f"{results} public functions that may refuse, {len(found)} complaints on their clauses"]))
     return 1 if found else 0

@@ -8,10 +8,10 @@ By the reference dispatch uses only combinations and searches of masks. A call i
 masks::module::name;`, or among others in braces) or written with its path, a method by its name after a dot or after its type. Of the
 types of masks, only those may be named that a combination or a search takes or returns. Nothing of words may be used.
 
-A file of specs/ may import of masks/specs/
+A file of specs/, and what a source imports for clauses, may take of masks/specs/
 
     the definitions of a combination or a search, which are the files of DEFINITIONS; a clause of a call of that module must cite one
-    the answers and checks in which every contract is written: READING
+    the words in which every contract and every equation is written: READING
     the same types as the sources
 
 So no check of masks by itself, as `mask_checks`, nor the checks of another call: dispatch has those checks only that a combination or a
@@ -33,8 +33,12 @@ SEARCHES = {"bitmask": ("nth_set_bit_idx", "nth_set_bit_idx_rev"), "next_and_not
 
 # By module of masks: the file of masks/specs with the definitions of these calls.
 DEFINITIONS = {"bitmap_ops": "Combine", "at_index": "AtIndex", "bitmask": "Search", "next_and_not": "NextAndNot"}
-# By file of masks/specs: what may be imported to write answers and lists of checks.
-READING = {"Answer": ("Answer", "answer", "checked", "given", "refused"), "Checks": ("Check",), "Refusal": ("number",)}
+# By file of masks/specs: what may be imported to write contracts, equations and lists of checks.
+READING = {
+    "equations.Answer": ("Answer", "answer", "checked", "given", "refused"),
+    "Checks": ("Check", "first_failed"),
+    "Refusal": ("number", "failure_of", "said"),
+}
 
 ITEM = re.compile(r"(?m)^impl (\w+)|^(\})|^pub(?:\(crate\))? (?:struct|enum) (\w+)|\bpub fn (\w+)(.*?)\bensures\b", re.S)
 
@@ -94,8 +98,8 @@ def uncited():
 def definitions(folder, taken):
     """Returns which definitions of masks the files of a folder import, and a complaint for each that they may not."""
     used, complaints = set(), []
-    for path in sorted(folder.glob("*.antt")):
-        text = re.sub(r"--[^\n]*", "", path.read_text(encoding="utf-8"))
+    for path in [*sorted(folder.glob("specs/**/*.antt")), *sorted(folder.glob("src/*.rt"))]:
+        text = re.sub(r"--[^\n]*|//[^\n]*", "", path.read_text(encoding="utf-8"))
         for crate, file, names in re.findall(r"\buse Rattle\.(\w+)\.([\w.]+?)\.\{([^}]*)\}", text):
             for name in (name.split(" as ")[0].strip() for name in names.split(",")):
                 place = f"{crate}.{file}.{name}"
@@ -132,7 +136,7 @@ def main():
         if re.search(r"\bwords::", text):
             complaints.append(f"{path.name}: words is used")
     complaints += [f"masks::{name} is no combination and no search" for name, kind in used.items() if not kind]
-    cited, others = definitions(home / "specs", taken)
+    cited, others = definitions(home, taken)
     complaints += uncited() + others
     if not sources or not used:
         complaints.append(f"{folder}: no source, or none that uses masks")

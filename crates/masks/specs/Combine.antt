@@ -1,4 +1,4 @@
--- The combinations of masks: flag by flag, or by only the counts if these show that the result is constant.
+-- The combinations of masks: the flags of each, flag by flag, and the zero count of its result, known if the counts show that it is constant.
 use Rattle.std.specs.Prelude.{ℕ, max, Bool, true, false, not, cond, ◌&&◌, ◌||◌, eqb, Option, Some, None}
 use mathlib.Core.List.{List, [], ◌∷◌, ◌++◌, map, zip_with}
 use Rattle.words.specs.Ops.{op_of, zip3}
@@ -67,7 +67,7 @@ pair_mask op a a_bytes b b_bytes = result_mask (a ∷ b ∷ []) a.length (result
 
 -- ---- combinations with no shortcut, by their checks, their masks, how many flags these have, and the flags of the result
 
--- `not`, which inverts each flag: its checks, its flags, its answer, and what the output then holds
+-- `not`, which inverts each flag: its checks and its flags
 unfoldable pub not_checks : Bitmap → List ℕ → ℕ → List Check
 not_checks m bytes size = mask_checks m bytes ++ output_checks m.length size
 

@@ -24,17 +24,20 @@ pub struct Part {
 // equal.
 fn check_superseding(
     first: Bitmap,
-    lhs_bytes: &[u8],
+    first_bytes: &[u8],
     second: Bitmap,
-    rhs_bytes: &[u8],
+    second_bytes: &[u8],
 ) -> Result<(), Refusal>
     ensures { failure_of result ≡ first_failed
-        (superseding_checks first lhs_bytes.now second rhs_bytes.now) }
+        (superseding_checks first first_bytes.now second second_bytes.now) }
 {
     if first.serial != second.serial {
-        return earlier(check_mask(first, lhs_bytes), check_mask(second, rhs_bytes));
+        return earlier(
+            check_mask(first, first_bytes),
+            check_mask(second, second_bytes),
+        );
     }
-    let same = eq(first, lhs_bytes, second, rhs_bytes)?;
+    let same = eq(first, first_bytes, second, second_bytes)?;
     check(Refusal::SerialConflict, same)
 }
 

@@ -1,4 +1,4 @@
--- The calls of `Offer` as one equation each: their answers by their checks, and what lent bytes hold after them.
+-- The calls of `Offer` as one equation each: their answers by their checks.
 use Rattle.std.specs.Prelude.{ℕ, List, Option, Result}
 use Rattle.std.specs.Prelude.{Ok, Err}
 use Rattle.masks.specs.declared.bitmap.Bitmap.{Bitmap}

@@ -112,6 +112,24 @@ clauses-answered_parts {S} {A} {B} (Ok x) m s a b e =
 clauses-answered_parts (Err k) m s a b e =
     (refused-number (number k.refusal) m k.state s (a, b) e, (tt, (tt, refused-state (number k.refusal) m k.state s (a, b) e)))
 
+pub clauses-answered_recounted : (r : Result Recounted (Refused Bitmap)) (m : Bitmap) (bytes : List ℕ)
+    → answer_back r ≡ unset_bits_of m bytes
+    → (failure_back r ≡ first_failed (mask_checks m bytes))
+    × (IfOk r (λ x. x.zeros ≡ zero_count m bytes)
+    × (IfOk r (λ x. x.mask ≡ with_count m (Some (zero_count m bytes))) × IfErr r (λ x. x.state ≡ m)))
+unfolding unset_bits_of
+clauses-answered_recounted (Ok x) m bytes e =
+    let n : ℕ = first_failed (mask_checks m bytes) in
+    let z : ℕ = zero_count m bytes in
+    let a : Recounted = record { mask = with_count m (Some z); zeros = z } in
+    let v : x ≡ a = given-value n m x a e in
+    (given-number n m x a e, (ap (λ (y : Recounted). y.zeros) v, (ap (λ (y : Recounted). y.mask) v, tt)))
+clauses-answered_recounted (Err k) m bytes e =
+    let n : ℕ = first_failed (mask_checks m bytes) in
+    let z : ℕ = zero_count m bytes in
+    let a : Recounted = record { mask = with_count m (Some z); zeros = z } in
+    (refused-number (number k.refusal) n k.state m a e, (tt, (tt, refused-state (number k.refusal) n k.state m a e)))
+
 pub clauses-written : {A B : Type 0} (r : Result A Refusal) (m : ℕ) (x new old : B) → failure_of r ≡ m → x ≡ kept m new old
     → OnOk r (x ≡ new) × OnErr r (x ≡ old)
 clauses-written (Ok a) m x new old e p = (p ∙ sym (is-new 0 m new old e refl), tt)

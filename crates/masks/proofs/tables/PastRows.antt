@@ -34,7 +34,7 @@ use Rattle.masks.specs.declared.next_and_not.Found.{Found}
 use Rattle.masks.specs.declared.slice_iterator.Run.{Run}
 use Rattle.masks.specs.declared.superseding.Part.{Part}
 use Rattle.masks.proofs.tables.EdgeRows.{SplitRow}
-use Rattle.masks.proofs.tables.LargeRows.{Hold, wide, largest}
+use Rattle.masks.proofs.tables.LargeRows.{Hold, above, wide, largest}
 use Rattle.masks.proofs.tables.StartRows.{numbers, stepped, chunks_numbers, iter_numbers, slices_numbers, true_numbers, paired, remaining}
 use Rattle.masks.proofs.tables.StartRows.{placed, part_numbers, single}
 
@@ -99,7 +99,8 @@ past_rows =
     ∷ numbers (single (window_at ones 3 10 9)) (1 ∷ [])
     ∷ numbers (single (window_at ones 3 10 10)) (0 ∷ [])
     ∷ numbers (single (window_at ones 3 10 32)) (0 ∷ [])
-    ∷ numbers (single (window_at ones 3 10 (largest))) (0 ∷ [])
+    ∷ numbers (single (window_at ones 3 10 above)) (0 ∷ [])
+    ∷ numbers (single (window_at ones 3 10 largest)) (0 ∷ [])
     ∷ numbers (single (window_at ones 3 10 18446744073709551584)) (0 ∷ [])
     ∷ numbers (single (window_at many 1 130 120)) (0x3FF ∷ [])
     ∷ numbers (single (window_at ones 3 10 wide)) (0 ∷ [])
@@ -107,6 +108,7 @@ past_rows =
     -- a flag at the length, and one past a large sum
     ∷ numbers (stepped iter_numbers digit (nth_flag (iter_at 3 10 10) ones 0)) (3 ∷ 10 ∷ 10 ∷ [])
     ∷ numbers (stepped iter_numbers digit (nth_flag (iter_at 3 10 9) ones 0)) (1 ∷ 3 ∷ 10 ∷ 10 ∷ [])
+    ∷ numbers (stepped iter_numbers digit (nth_flag (iter_at 3 10 1) ones above)) (3 ∷ 10 ∷ 10 ∷ [])
     ∷ numbers (stepped iter_numbers digit (nth_flag (iter_at 3 10 1) ones wide)) (3 ∷ 10 ∷ 10 ∷ [])
     ∷ numbers (stepped iter_numbers digit (nth_flag (iter_at 3 10 1) ones largest)) (3 ∷ 10 ∷ 10 ∷ [])
     -- equal flags at the end
@@ -122,6 +124,7 @@ past_rows =
     ∷ numbers (stepped true_numbers (λ (p : ℕ). p) (next_true (true_at 0 10 10 false) [])) (0 ∷ 10 ∷ 10 ∷ 0 ∷ [])
     ∷ numbers (paired true_numbers (next_positions (true_at 3 10 10 true) ones 2)) (0 ∷ 3 ∷ 10 ∷ 10 ∷ 1 ∷ [])
     ∷ numbers (paired true_numbers (next_positions (true_at 3 10 8 true) ones 2)) (2 ∷ 3 ∷ 10 ∷ 10 ∷ 1 ∷ [])
+    ∷ numbers (paired true_numbers (next_positions (true_at 3 10 7 true) ones above)) (3 ∷ 3 ∷ 10 ∷ 10 ∷ 1 ∷ [])
     ∷ numbers (paired true_numbers (next_positions (true_at 3 10 7 true) ones wide)) (3 ∷ 3 ∷ 10 ∷ 10 ∷ 1 ∷ [])
     ∷ numbers (paired true_numbers (next_positions (true_at 0 10 7 false) [] largest)) (3 ∷ 0 ∷ 10 ∷ 10 ∷ 0 ∷ [])
     ∷ numbers (positions_over (true_at 3 10 10 true) ones (99 ∷ [])) (99 ∷ [])
@@ -133,16 +136,20 @@ past_rows =
     -- searches from the end on, and below 0; ends past the length, and large numbers of set flags
     ∷ numbers (placed (search_from ones 3 10 0 9)) (9 ∷ [])
     ∷ numbers (placed (search_from ones 3 10 0 10)) []
+    ∷ numbers (placed (search_from ones 3 10 0 above)) []
     ∷ numbers (placed (search_from ones 3 10 0 wide)) []
     ∷ numbers (placed (search_from ones 3 10 0 largest)) []
     ∷ numbers (placed (search_from ones 3 10 10 0)) []
+    ∷ numbers (placed (search_from ones 3 10 above 0)) []
     ∷ numbers (placed (search_from ones 3 10 wide 0)) []
     ∷ numbers (placed (search_from ones 3 10 largest 1)) []
     ∷ numbers (placed (search_back ones 3 10 0 0)) []
     ∷ numbers (placed (search_back ones 3 10 0 11)) (9 ∷ [])
+    ∷ numbers (placed (search_back ones 3 10 1 above)) (8 ∷ [])
     ∷ numbers (placed (search_back ones 3 10 1 wide)) (8 ∷ [])
     ∷ numbers (placed (search_back ones 3 10 0 largest)) (9 ∷ [])
     ∷ numbers (placed (search_back ones 3 10 10 wide)) []
+    ∷ numbers (placed (search_back ones 3 10 above 10)) []
     ∷ numbers (placed (search_back ones 3 10 wide 10)) []
     ∷ numbers (placed (search_back ones 3 10 largest 10)) []
     -- a cut at the end, and an empty piece there
@@ -158,6 +165,8 @@ past_rows =
     -- `next_and_not` at the length goes round; with no mask an index is not checked
     ∷ numbers (found_numbers (next_and_not_of (mask_of 3 10 None) ones None [] 10)) (1 ∷ 0 ∷ [])
     ∷ numbers (found_numbers (next_and_not_of (mask_of 3 10 None) ones (Some (mask_of 0 10 None)) ones 10)) (1 ∷ [])
+    ∷ numbers (flagged (and_not_at_of None [] None [] above)) (1 ∷ [])
+    ∷ numbers (flagged (and_not_at_of None [] None [] wide)) (1 ∷ [])
     ∷ numbers (flagged (and_not_at_of None [] None [] largest)) (1 ∷ [])
     ∷ []
 

@@ -1,4 +1,4 @@
--- The calls of `Aligned` as one equation each: their answers by their checks, and what lent bytes hold after them.
+-- The calls of `Aligned` as one equation each: their answers by their checks.
 use Rattle.std.specs.Prelude.{ℕ, List, length}
 use Rattle.masks.specs.equations.Answer.{Answer, given, checked, unless_empty}
 use Rattle.masks.specs.declared.aligned.AlignedBitmapSlice.{AlignedBitmapSlice}

@@ -1,4 +1,4 @@
--- The calls of `Chunks` as one equation each: their answers by their checks, and what lent bytes hold after them.
+-- The calls of `Chunks` as one equation each: their answers by their checks.
 use Rattle.std.specs.Prelude.{ℕ, ◌%◌, List, length}
 use Rattle.masks.specs.equations.Answer.{Answer, checked}
 use Rattle.masks.specs.Checks.{span_checks}

@@ -1,4 +1,4 @@
--- The calls of `Compare` as one equation each: their answers by their checks, and what lent bytes hold after them.
+-- The calls of `Compare` as one equation each: their answers by their checks.
 use Rattle.std.specs.Prelude.{ℕ, Bool}
 use mathlib.Core.List.{List, ◌++◌}
 use Rattle.words.specs.Counts.{same_flags}

@@ -1,4 +1,4 @@
--- The calls of `Cursor` as one equation each: their answers by their checks, and what lent bytes hold after them.
+-- The calls of `Cursor` as one equation each: their answers by their checks.
 use Rattle.std.specs.Prelude.{Result, Ok, Err}
 use Rattle.masks.specs.equations.Answer.{Answer, given, refused}
 use Rattle.masks.specs.Refusal.{number}

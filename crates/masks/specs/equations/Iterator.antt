@@ -1,4 +1,4 @@
--- The calls of `Iterator` as one equation each: their answers by their checks, and what lent bytes hold after them.
+-- The calls of `Iterator` as one equation each: their answers by their checks.
 use Rattle.std.specs.Prelude.{ℕ, ◌+◌, Bool, List, length}
 use Rattle.masks.specs.equations.Answer.{Answer, given, checked, unless_empty}
 use Rattle.masks.specs.Checks.{span_checks}

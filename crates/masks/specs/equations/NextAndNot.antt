@@ -1,4 +1,4 @@
--- The calls of `NextAndNot` as one equation each: their answers by their checks, and what lent bytes hold after them.
+-- The calls of `NextAndNot` as one equation each: their answers by their checks.
 use Rattle.std.specs.Prelude.{ℕ, List, Option}
 use Rattle.masks.specs.equations.Answer.{Answer, checked}
 use Rattle.masks.specs.declared.bitmap.Bitmap.{Bitmap}

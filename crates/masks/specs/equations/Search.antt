@@ -1,4 +1,4 @@
--- The calls of `Search` as one equation each: their answers by their checks, and what lent bytes hold after them.
+-- The calls of `Search` as one equation each: their answers by their checks.
 use Rattle.std.specs.Prelude.{ℕ, List, length, Option}
 use Rattle.words.specs.Loops.{stretch}
 use Rattle.masks.specs.equations.Answer.{Answer, checked}

@@ -1,4 +1,4 @@
--- The calls of `Superseding` as one equation each: their answers by their checks, and what lent bytes hold after them.
+-- The calls of `Superseding` as one equation each: the winner by the checks, its record, its part of the lent bytes and where this lies.
 use Rattle.std.specs.Prelude.{ℕ, List}
 use Rattle.masks.specs.equations.Answer.{Answer, given, refused, checked}
 use Rattle.masks.specs.declared.bitmap.Bitmap.{Bitmap}

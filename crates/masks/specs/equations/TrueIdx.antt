@@ -1,4 +1,4 @@
--- The calls of `TrueIdx` as one equation each: their answers by their checks, and what lent bytes hold after them.
+-- The calls of `TrueIdx` as one equation each: their answers by their checks.
 use Rattle.std.specs.Prelude.{ℕ, List, length, Option}
 use Rattle.masks.specs.declared.bitmap.Bitmap.{Bitmap}
 use Rattle.masks.specs.equations.Answer.{Answer, checked}
