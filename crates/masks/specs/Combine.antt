@@ -1,4 +1,4 @@
--- The combinations of masks: the flags of each, flag by flag, and the zero count of its result, known if the counts show that it is constant.
+-- The combinations of masks: their flags, flag by flag, and the zero count of the result, known if the counts show that it is constant.
 use Rattle.std.specs.Prelude.{ℕ, max, Bool, true, false, not, cond, ◌&&◌, ◌||◌, eqb, Option, Some, None}
 use mathlib.Core.List.{List, [], ◌∷◌, ◌++◌, map, zip_with}
 use Rattle.words.specs.Ops.{op_of, zip3}
