@@ -103,7 +103,7 @@ class Entry:
 
     def changed(self, texts):
         """Returns the modules that it edits with their new texts, from all texts by module; or what is wrong with the entry."""
-        found = {}
+        found, wrong = {}, collections.defaultdict(list)
         for file, old, new in self.pairs:
             part, *names = file.removesuffix(".antt").split("/")
             module = (self.crate, part, ".".join(names))
@@ -111,7 +111,8 @@ class Entry:
             if text.count(old) != 1:
                 return f"its text is in {file} {text.count(old)} times: {old[:90]}"
             found[module] = text.replace(old, new)
-        return {module: with_imports(module, text, [new for _, _, new in self.pairs], texts) for module, text in found.items()}
+            wrong[module].append(new)
+        return {module: with_imports(module, text, wrong[module]) for module, text in found.items()}
 
 
 # ---- imports
@@ -140,16 +141,26 @@ def importable(crate, root):
     return found
 
 
-def with_imports(module, text, wrong, texts):
+@functools.lru_cache(maxsize=None)
+def anywhere(root):
+    """Returns the same of the library and of the crates at the bottom, for names that a crate's own definitions do not import."""
+    found = collections.defaultdict(collections.Counter)
+    for crate in ("words", "masks"):
+        for name, sources in importable(crate, root).items():
+            found[name].update(sources)
+    return found
+
+
+def with_imports(module, text, wrong):
     """Returns the text of an edited module with an import for each name of the wrong texts that it neither imports nor defines."""
     crate, part, own = module
     uses = re.findall(r"(?m)^(?:unfoldable )?(?:pub )?use \S+\.\{([^}]*)\}$", text)
     here = {name.split(" as ")[-1].strip() for names in uses for name in names.split(",")}
     here |= set(re.findall(rf"(?m)^(?:unfoldable |abbrev )?pub (?:record |data )?({NAME}) ", text))
-    known = importable(crate, ROOT)
-    lines = []
+    known, lines = importable(crate, ROOT), []
     for name in sorted(names_of("\n".join(wrong)) - here):
-        sources = [source for source, _ in known.get(name, collections.Counter()).most_common() if source != f"Rattle.{crate}.{part}.{own}"]
+        known_here = known.get(name) or anywhere(ROOT).get(name, collections.Counter())
+        sources = [source for source, _ in known_here.most_common() if source != f"Rattle.{crate}.{part}.{own}"]
         if sources and len(name) > 1:
             lines.append(f"use {sources[0]}.{{{name}}}")
     last = list(re.finditer(r"(?m)^(?:unfoldable )?(?:pub )?use .*$", text))
