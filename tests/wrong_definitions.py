@@ -51,7 +51,7 @@ import sys
 import tempfile
 import time
 
-from definition_trial import Trial, fail, read_crates
+from definition_trial import Trial, below, fail, read_crates
 
 ROOT = pathlib.Path(__file__).resolve().parent.parent
 TABLES = ("computed/*",)
@@ -142,12 +142,13 @@ def importable(crate, root):
 
 
 @functools.lru_cache(maxsize=None)
-def anywhere(root):
-    """Returns the same of the library and of the crates at the bottom, for names that a crate's own definitions do not import."""
+def importable_below(crate, root):
+    """Returns the same of the crates below, for names that a crate's own definitions do not import."""
     found = collections.defaultdict(collections.Counter)
-    for crate in ("words", "masks"):
-        for name, sources in importable(crate, root).items():
-            found[name].update(sources)
+    for other in below(read_crates(root), [crate]):
+        if other != crate:
+            for name, sources in importable(other, root).items():
+                found[name].update(sources)
     return found
 
 
@@ -159,7 +160,7 @@ def with_imports(module, text, wrong):
     here |= set(re.findall(rf"(?m)^(?:unfoldable |abbrev )?pub (?:record |data )?({NAME}) ", text))
     known, lines = importable(crate, ROOT), []
     for name in sorted(names_of("\n".join(wrong)) - here):
-        known_here = known.get(name) or anywhere(ROOT).get(name, collections.Counter())
+        known_here = known.get(name) or importable_below(crate, ROOT).get(name, collections.Counter())
         sources = [source for source, _ in known_here.most_common() if source != f"Rattle.{crate}.{part}.{own}"]
         if sources and len(name) > 1:
             lines.append(f"use {sources[0]}.{{{name}}}")
