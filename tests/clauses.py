@@ -36,12 +36,12 @@ RULES = {
     "state": r"IfErr result \(λ e\. e\.(?:state|cursor) ≡ (?:self|cursor)\)|OnErr result \((\w+)\.new ≡ \1\.old\)",
 }
 # The clauses that say a value, by what it is.
-VALUES = ("appended", "bound", "cursor", "edges", "flag", "found", "mask", "may", "number", "offering", "part", "position", "positions")
+VALUES = ("appended", "bound", "cursor", "edges", "flag", "found", "mask", "number", "offering", "part", "position", "positions")
 VALUES += ("spans", "split", "step", "word", "zeros")
 # What a value is read by, if a clause says neither it nor a part of it.
 READERS = ("filling", "step_of")
 # The name of the clause on a value of these types.
-NAMED = {"Bitmap": "mask", "Option<Bitmap>": "mask", "BitmapBuilder": "appended", "bool": ("flag", "may")}
+NAMED = {"Bitmap": "mask", "Option<Bitmap>": "mask", "BitmapBuilder": "appended", "bool": "flag"}
 # The clauses on a part of lent bytes, by the number of the first failed check.
 PART = {"part": "≡ 0 →", "place": "≡ 0 →", "refused_part": "≢ 0 →", "refused_place": "≢ 0 →"}
 # Errors that are only a number; every other error holds what was passed.

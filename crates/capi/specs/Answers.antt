@@ -4,7 +4,7 @@
 -- a builder, a cursor's place, the cursor of an offer, a window's numbers. Every other field is then 0.
 use Rattle.std.specs.Prelude.{ℕ, Bool, true, false, Option, Some, None, Result, Ok, Err}
 use Rattle.words.specs.Flags.{digit}
-use Rattle.masks.specs.declared.next_and_not.Found.{Found}
+use Rattle.masks.specs.declared.next_and_not.NextFlag.{NextFlag}
 use Rattle.masks.specs.declared.bitmap.Recounted.{Recounted}
 use Rattle.masks.specs.equations.Answer.{Answer, given, refused}
 use Rattle.masks.specs.Cursor.{Step, item, ended}
@@ -14,7 +14,7 @@ use Rattle.masks.specs.declared.bitmask.Span.{Span}
 use Rattle.masks.specs.declared.builder.BitmapBuilder.{BitmapBuilder}
 use Rattle.masks.specs.declared.slice_iterator.Run.{Run}
 use Rattle.dispatch.specs.declared.offer.Offering.{Offering}
-use Rattle.masks.specs.declared.superseding.Part.{Part}
+use Rattle.masks.specs.declared.superseding.Winner.{Winner}
 use Rattle.capi.specs.Records.{mask_out, no_mask, builder_out, no_cursor}
 use Rattle.capi.specs.declared.answers.BuilderAnswer.{BuilderAnswer}
 use Rattle.capi.specs.declared.answers.CursorAnswer.{CursorAnswer}
@@ -74,7 +74,7 @@ abbrev pub next_at : Option ℕ → ℕ → NextAnswer
 next_at (Some p) n = next_of 0 true p n
 next_at None n = next_of 0 false 0 n
 
-unfoldable pub as_next : {S : Type 0} → Answer S Found → NextAnswer
+unfoldable pub as_next : {S : Type 0} → Answer S NextFlag → NextAnswer
 as_next (given f) = next_at f.position f.windows
 as_next (refused k s) = next_of k false 0 0
 
@@ -124,7 +124,7 @@ as_zeros came (refused k s) = zeros_of k 0 came
 abbrev pub part_answer : ℕ → Bool → ℕ → ℕ → Mask → PartAnswer
 part_answer k second from to m = record { refusal = k; second = second; from = from; to = to; mask = m }
 
-unfoldable pub as_part : {S : Type 0} → Answer S Part → PartAnswer
+unfoldable pub as_part : {S : Type 0} → Answer S Winner → PartAnswer
 as_part (given p) = part_answer 0 p.second p.from p.to (mask_out p.mask)
 as_part (refused k s) = part_answer k false 0 0 no_mask
 

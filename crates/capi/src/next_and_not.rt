@@ -9,14 +9,14 @@ ghost use Rattle.capi.specs.Records.{mask_in, optional_in};
 
 use crate::answers::NextAnswer;
 use crate::records::{Mask, optional_in};
-use masks::next_and_not::{Found, next_and_not};
+use masks::next_and_not::{NextFlag, next_and_not};
 use masks::refusal::Refusal;
 
 #[tactic(auto, unfolding(crate::specs::Answers::as_next))]
-impl From<Result<Found, Refusal>> for NextAnswer {
+impl From<Result<NextFlag, Refusal>> for NextAnswer {
     ghost from_gives = { λ r a. a ≡ as_next (answer r) };
 
-    fn from(r: Result<Found, Refusal>) -> NextAnswer {
+    fn from(r: Result<NextFlag, Refusal>) -> NextAnswer {
         match r {
             Ok(f) => NextAnswer {
                 refusal: 0,

@@ -2,13 +2,13 @@
 #![tactic(auto, using(masks::proofs::refusal::ClauseLaws::answered), unfolding(dispatch::specs::equations::Dispatch::may_reassign))]
 
 ghost use Rattle.std.specs.Prelude.{◌≡◌};
-ghost use Rattle.dispatch.specs.equations.Dispatch.{may_reassign};
+ghost use Rattle.dispatch.specs.equations.Reassign.{may_reassign};
 ghost use Rattle.capi.specs.Answers.{as_flag};
 ghost use Rattle.capi.specs.Records.{optional_in};
 
 use crate::answers::FlagAnswer;
 use crate::records::{Mask, optional_in};
-use dispatch::dispatch::may_reassign;
+use dispatch::reassign::may_reassign;
 
 /// Returns whether truck number `truck` may be reassigned: its flag is set in the permission mask and not in the revocation mask. If
 /// `permitted` is false there is no permission mask, and the answer is no for every truck; if `revoked` is false there is no revocation

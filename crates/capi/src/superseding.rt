@@ -12,12 +12,12 @@ ghost use Rattle.capi.specs.Records.{mask_in};
 use crate::answers::PartAnswer;
 use crate::records::Mask;
 use masks::refusal::Refusal;
-use masks::superseding::{Part, superseding_part};
+use masks::superseding::{Winner, superseding_part};
 
-impl From<Result<Part, Refusal>> for PartAnswer {
+impl From<Result<Winner, Refusal>> for PartAnswer {
     ghost from_gives = { λ r a. a ≡ as_part (answer r) };
 
-    fn from(r: Result<Part, Refusal>) -> PartAnswer {
+    fn from(r: Result<Winner, Refusal>) -> PartAnswer {
         match r {
             Ok(part) => PartAnswer {
                 refusal: 0,

@@ -1,4 +1,4 @@
 -- What the contracts of this crate mean.
-pub mod Dispatch
+pub mod Reassign
 pub mod Offer
 pub mod equations

@@ -1,3 +1,3 @@
 -- The calls as one equation each, as in masks.
-pub mod Dispatch
+pub mod Reassign
 pub mod Offer

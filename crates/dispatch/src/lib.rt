@@ -1,5 +1,5 @@
 //! Which trucks may be reassigned, by the permission and revocation masks of the dispatch software.
 #![tactic(auto)]
 
-pub mod dispatch;
 pub mod offer;
+pub mod reassign;

@@ -1,2 +1,2 @@
--- What the proofs of src/utils.rt and src/parts.rt use, and others that read a word's first flags.
+-- What the proofs of src/utils.rt and src/span_ends.rt use, and others that read a word's first flags.
 pub mod PartLaws

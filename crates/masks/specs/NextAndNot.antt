@@ -6,7 +6,7 @@ use Rattle.masks.specs.Combine.{AndNot, pair_flags}
 use Rattle.masks.specs.Mask.{mask_checks, mask_flags}
 use Rattle.masks.specs.Search.{nth_from}
 use Rattle.masks.specs.declared.bitmap.Bitmap.{Bitmap}
-use Rattle.masks.specs.declared.next_and_not.Found.{Found}
+use Rattle.masks.specs.declared.next_and_not.NextFlag.{NextFlag}
 
 -- the flags that are set in the first mask and not in the second: those of `and_not`; without a second mask the first's
 unfoldable pub free_flags : Bitmap → List ℕ → Option Bitmap → List ℕ → List Bool
@@ -22,13 +22,13 @@ windows_of n = (n + 31) / 32
 -- Windows begin at `from` and at every 32nd flag after it below the length n; if none of them has a set flag, at 0 and at every 32nd flag
 -- below `from`. The arguments are n, `from`, the first set position at or after `from`, if there is one, and the first of all. The window
 -- that holds the position is the last one read.
-unfoldable pub going_round : ℕ → ℕ → Option ℕ → Option ℕ → Found
+unfoldable pub going_round : ℕ → ℕ → Option ℕ → Option ℕ → NextFlag
 going_round n from (Some p) first = record { position = Some p; windows = (p - from) / 32 + 1 }
 going_round n from None (Some p) = record { position = Some p; windows = windows_of (n - from) + (p / 32 + 1) }
 going_round n from None None = record { position = None; windows = windows_of (n - from) + windows_of from }
 
 -- the first set flag of n flags at or after `from`, else the first of all, and the number of windows read
-unfoldable pub next_set : ℕ → List Bool → ℕ → Found
+unfoldable pub next_set : ℕ → List Bool → ℕ → NextFlag
 next_set n l from = going_round n from (nth_from l 0 from) (nth_from l 0 0)
 
 -- ---- the call

@@ -4,7 +4,7 @@ use Rattle.words.specs.Counts.{same_flags}
 use Rattle.masks.specs.Checks.{Check, check}
 use Rattle.masks.specs.Mask.{cut_mask, mask_checks, mask_flags}
 use Rattle.masks.specs.declared.bitmap.Bitmap.{Bitmap}
-use Rattle.masks.specs.declared.superseding.Part.{Part}
+use Rattle.masks.specs.declared.superseding.Winner.{Winner}
 
 -- ---- the checks
 
@@ -24,12 +24,12 @@ abbrev pub fitted : Bitmap → Bitmap
 fitted m = cut_mask m (m.start % 8) m.length m.unset
 
 -- the part that holds a mask, of the second slice or of the first: from byte start div 8 to before byte ceil((start + length) / 8)
-abbrev pub part_of : Bool → Bitmap → Part
-part_of second m = record { second = second; from = m.start / 8; to = (m.start + m.length + 7) / 8; mask = fitted m }
+abbrev pub winner_of : Bool → Bitmap → Winner
+winner_of second m = record { second = second; from = m.start / 8; to = (m.start + m.length + 7) / 8; mask = fitted m }
 
 -- the larger serial wins; of two that are equal the first
-abbrev pub winning : Bitmap → Bitmap → Part
-winning a b = cond (ltb a.serial b.serial) (part_of true b) (part_of false a)
+abbrev pub winning : Bitmap → Bitmap → Winner
+winning a b = cond (ltb a.serial b.serial) (winner_of true b) (winner_of false a)
 
 -- ---- the answers
 
@@ -37,9 +37,9 @@ winning a b = cond (ltb a.serial b.serial) (part_of true b) (part_of false a)
 abbrev pub within : ℕ → ℕ → List ℕ → List ℕ
 within from to bytes = take (to - from) (drop from bytes)
 
-abbrev pub part_bytes : Part → List ℕ → List ℕ → List ℕ
+abbrev pub part_bytes : Winner → List ℕ → List ℕ → List ℕ
 part_bytes p a_bytes b_bytes = within p.from p.to (cond p.second b_bytes a_bytes)
 
 -- where a part lies, by where the two slices do: in the slice that it names, from its first byte
-abbrev pub part_place : Part → ℕ × ℕ → ℕ × ℕ → ℕ × ℕ
+abbrev pub part_place : Winner → ℕ × ℕ → ℕ × ℕ → ℕ × ℕ
 part_place p a b = ((cond p.second b a).0, (cond p.second b a).1 + p.from)

@@ -50,10 +50,6 @@ pub record PieceAllowed (m : Bitmap) (size offset n : ℕ) : Type 0 where
   pub lent : m.start + m.length ≤ 8 * size
   pub inside : offset + n ≤ m.length
 
--- the zeros of a span of `whole` flags before the piece of n flags at `offset`, and after it
-abbrev pub outside : List ℕ → ℕ → ℕ → ℕ → ℕ → ℕ
-outside bytes start whole offset n = zeros (stretch bytes start offset) + zeros (stretch bytes (start + offset + n) (whole - (offset + n)))
-
 -- a recount of n flags: z less the zeros cut off, or that check 7 fails
 unfoldable pub recounted_of : ℕ → ℕ → ℕ → Result (Option ℕ) Refusal
 recounted_of z cut n = cond (leb cut z && leb (z - cut) n) (Ok (Some (z - cut))) (Err CountNotOfSlice)

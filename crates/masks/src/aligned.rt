@@ -38,7 +38,7 @@ impl AlignedBitmapSlice {
             return Ok(AlignedBitmapSlice::default());
         }
         check_aligned(start, length, bytes.len(), address)?;
-        let span = Addressed {
+        let span = AddressedSpan {
             bytes,
             start,
             length,
@@ -63,7 +63,7 @@ pub(crate) fn check_aligned(
 
 // A span whose numbers can be added up, and the address of `bytes[0]` modulo 8.
 #[derive(Clone, Copy)]
-pub(crate) struct Addressed<'a> {
+pub(crate) struct AddressedSpan<'a> {
     pub bytes: &'a [u8],
     pub start: usize,
     pub length: usize,
@@ -73,7 +73,7 @@ pub(crate) struct Addressed<'a> {
     ghost low: { address ≤ 7 },
 }
 
-impl Addressed<'_> {
+impl AddressedSpan<'_> {
     // Returns the offset in bytes from the span's first byte to its first whole word.
     fn bulk_offset(&self) -> usize
         ensures { result ≡ bulk_offset self.now.start self.now.address }

@@ -1,15 +1,16 @@
 //! The mask: its record, and the calls that make one, cut it and count it. As in the reference, a mask and its bytes are two parameters;
 //! they become a `CheckedSpan` once the mask's checks have passed.
-ghost use Rattle.std.specs.Prelude.{◌≡◌, false, ◌+◌, ◌≤◌, length as list_length, Some, IfOk, IfErr, OnOk, OnErr};
+ghost use Rattle.std.specs.Prelude.{◌≡◌, false, ◌+◌, ◌-◌, ◌≤◌, length as list_length, Some, IfOk, IfErr, OnOk, OnErr};
 ghost use Rattle.words.specs.Flags.{copies};
+ghost use Rattle.words.specs.Loops.{stretch};
 ghost use Rattle.masks.specs.Refusal.{failure_of, failure_back};
 ghost use Rattle.masks.specs.Checks.{first_failed, span_checks};
 ghost use Rattle.masks.specs.Frozen.{with_frozen};
 ghost use Rattle.masks.specs.Utils.{zeros};
-ghost use Rattle.masks.specs.Mask.{empty_mask, kept_count, piece_checks, recounts as recounts_of};
+ghost use Rattle.masks.specs.Mask.{cut_zeros, empty_mask, kept_count, piece_checks, recounts as recounts_of};
 ghost use Rattle.masks.specs.Mask.{mask_checks, slice_checks, sliced_mask, uncounted, zero_count, zeroed_checks};
 ghost use Rattle.masks.specs.Mask.{cut_mask, mask_of, mask_under, with_count};
-ghost use Rattle.masks.specs.Workers.{cut_of, outside, recounted_of, PieceAllowed};
+ghost use Rattle.masks.specs.Workers.{cut_of, recounted_of, PieceAllowed};
 
 use crate::checks::{check_limit, check_mask, check_output, check_span, sum_at_most};
 use crate::refusal::{Refusal, Refused, check, earlier};
@@ -201,9 +202,10 @@ fn recounts(old: usize, n: usize, zeros: usize) -> bool
 
 impl CheckedSpan<'_> {
     // Counts the zeros before and after the slice of n flags starting at `offset`.
-    fn zeros_cut(&self, offset: usize, n: usize) -> usize
+    fn cut_zeros(&self, offset: usize, n: usize) -> usize
         requires { offset + n ≤ self.now.length }
-        ensures { result ≡ outside self.now.bytes.now self.now.start self.now.length offset n }
+        ensures { result ≡ zeros (stretch self.now.bytes.now self.now.start offset)
+            + zeros (stretch self.now.bytes.now (self.now.start + offset + n) (self.now.length - (offset + n))) }
     {
         let end = offset + n;
         let before = self.front(offset);
@@ -220,7 +222,7 @@ impl CheckedSpan<'_> {
 fn cut_count(mask: Bitmap, bytes: &[u8], offset: usize, n: usize) -> Result<Option<usize>, Refusal>
     requires { PieceAllowed mask (list_length bytes.now) offset n }
     ensures { result ≡
-        cut_of mask.length n (outside bytes.now mask.start mask.length offset n) mask.unset }
+        cut_of mask.length n (cut_zeros mask bytes.now offset n) mask.unset }
 {
     match mask.unset {
         None => Ok(None),
@@ -231,7 +233,7 @@ fn cut_count(mask: Bitmap, bytes: &[u8], offset: usize, n: usize) -> Result<Opti
                     start: mask.start,
                     length: mask.length,
                 };
-                recount(zeros, span.zeros_cut(offset, n), n)
+                recount(zeros, span.cut_zeros(offset, n), n)
             } else {
                 Ok(kept_count(zeros, mask.length, n))
             }

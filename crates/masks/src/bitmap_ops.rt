@@ -17,13 +17,6 @@ use crate::shortcuts::{pair_shortcut, result_count};
 use words::loops::{combine, fill};
 use words::ops::Op;
 
-// Makes the record of a result of n flags, under the largest serial of its masks.
-fn result_mask(serial: u32, n: usize, unset: Option<usize>) -> Bitmap
-    ensures { result ≡ mask_under serial 0 n unset }
-{
-    mask_under(serial, 0, n, unset)
-}
-
 // Returns the largest serial of two masks, also of one that a shortcut does not read.
 fn pair_serial(lhs: Bitmap, rhs: Bitmap) -> u32
     ensures { result ≡ largest_serial (lhs ∷ rhs ∷ []) }
@@ -84,7 +77,7 @@ fn combine_two(
     }
     let unset = result_count(shortcut, n);
     let serial = pair_serial(lhs, rhs);
-    Ok(result_mask(serial, n, unset))
+    Ok(mask_under(serial, 0, n, unset))
 }
 
 /// Writes the flags that are set in both masks as frozen bytes to the start of `out`, and returns the mask of them. This and the four below
@@ -202,7 +195,7 @@ pub fn not(mask: Bitmap, bytes: &[u8], out: &mut [u8]) -> Result<Bitmap, Refusal
     let own = mask.flags(bytes);
     combine(Op::Not, &own, &own, &own, n, out);
     let unset = not_counted(n);
-    Ok(result_mask(mask.serial, n, unset))
+    Ok(mask_under(mask.serial, 0, n, unset))
 }
 
 // Makes the checks of three masks, check 5 of their lengths, and check 9 of an output of `size` bytes.
@@ -265,7 +258,7 @@ pub fn select(
     combine(Op::Select, &a, &b, &c, n, out);
     let unset = not_counted(n);
     let serial = select_serial(selector, truthy, falsy);
-    Ok(result_mask(serial, n, unset))
+    Ok(mask_under(serial, 0, n, unset))
 }
 
 /// Writes the flag of `truthy` where that of `selector` is set, and `flag` elsewhere, as frozen bytes to the start of `out`, and returns
@@ -297,5 +290,5 @@ pub fn select_constant(
     }
     let unset = not_counted(n);
     let serial = pair_serial(selector, truthy);
-    Ok(result_mask(serial, n, unset))
+    Ok(mask_under(serial, 0, n, unset))
 }

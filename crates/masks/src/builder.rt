@@ -130,7 +130,7 @@ fn builder_under(serial: u32, length: usize, word: u64, ones: usize) -> BitmapBu
 }
 
 // Returns a builder with its length, word and ones replaced. Keeps the serial.
-pub(crate) fn grown(b: BitmapBuilder, length: usize, word: u64, ones: usize) -> BitmapBuilder
+pub(crate) fn rebuilt(b: BitmapBuilder, length: usize, word: u64, ones: usize) -> BitmapBuilder
     ensures { result ≡ rebuilt b length word ones }
 {
     BitmapBuilder {
@@ -149,7 +149,7 @@ pub(crate) fn push_inside(b: BitmapBuilder, flags: u64, k: usize) -> BitmapBuild
 {
     let low = or_word(b.word, shl_or_zero(flags, b.length % 64));
     let longer = b.length + k;
-    grown(b, longer, low, b.ones)
+    rebuilt(b, longer, low, b.ones)
 }
 
 // Appends the first k flags of a word after those in progress. Writes the word in progress if it is then full.
@@ -165,7 +165,7 @@ pub(crate) fn push_flags(b: BitmapBuilder, buf: &mut [u8], word: u64, k: usize) 
     let longer = b.length + k;
     let rest = shr_or_zero(flags, 64 - fill);
     let closed = close_word(b, buf, flags);
-    grown(closed, longer, rest, closed.ones)
+    rebuilt(closed, longer, rest, closed.ones)
 }
 
 // Completes the word in progress with the first flags of a word, and writes it.
@@ -179,7 +179,7 @@ pub(crate) fn close_word(b: BitmapBuilder, buf: &mut [u8], word: u64) -> BitmapB
     let longer = b.length + (64 - fill);
     store_whole(buf, 8 * (b.length / 64), low);
     let ones = b.ones + ones_in_word(low);
-    grown(b, longer, 0, ones)
+    rebuilt(b, longer, 0, ones)
 }
 
 // Writes the word in progress, if it has flags, after the finished ones.

@@ -12,7 +12,7 @@ ghost use Rattle.masks.specs.Refusal.{failure_back};
 ghost use Rattle.masks.specs.Workers.{Room};
 
 use crate::bitmap::Bitmap;
-use crate::builder::{BitmapBuilder, close_word, grown, push_flags, push_inside};
+use crate::builder::{BitmapBuilder, close_word, push_flags, push_inside, rebuilt};
 use crate::checks::{check_builder, check_inner, check_limit, check_mask, check_span_grow};
 use crate::refusal::{Refused, earlier};
 use crate::span::CheckedSpan;
@@ -160,7 +160,7 @@ fn fill_words(b: BitmapBuilder, buf: &mut [u8], whole: usize, flag: bool) -> Bit
     let ones = b.ones + n * usize::from(flag);
     let at = 8 * (b.length / 64);
     fill_whole(flag, whole, &mut buf[at..]);
-    grown(b, longer, 0, ones)
+    rebuilt(b, longer, 0, ones)
 }
 
 // Appends flags of a span: up to a full word, whole words, and a last word, which is read on its own so that each word of the loop has a
@@ -206,5 +206,5 @@ fn copy_words(
     let longer = b.length + n;
     let at = 8 * (b.length / 64);
     let ones = b.ones + copy_count(bytes, start, n, &mut buf[at..]);
-    grown(b, longer, 0, ones)
+    rebuilt(b, longer, 0, ones)
 }

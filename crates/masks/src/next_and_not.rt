@@ -23,7 +23,7 @@ use words::word::{shr_or_zero, word_from};
 
 /// A position, or none, and the number of windows of 32 flags that the search covers.
 #[derive(Clone, Copy, PartialEq, Eq, Debug)]
-pub struct Found {
+pub struct NextFlag {
     pub position: Option<usize>,
     pub windows: usize,
 }
@@ -42,7 +42,7 @@ pub fn next_and_not(
     second: Option<Bitmap>,
     second_bytes: &[u8],
     from: usize,
-) -> Result<Found, Refusal>
+) -> Result<NextFlag, Refusal>
     ensures refused { failure_of result ≡ first_failed
         (next_checks first first_bytes.now second second_bytes.now from) }
     ensures found { IfOk result (λ f. f ≡ next_set
@@ -58,7 +58,7 @@ pub fn next_and_not(
     if ahead < length - from {
         let position = from + ahead;
         let read = ahead / 32 + 1;
-        return Ok(Found {
+        return Ok(NextFlag {
             position: Some(position),
             windows: read,
         });
@@ -67,13 +67,13 @@ pub fn next_and_not(
     let before = zeros_ahead(first, first_bytes, second, second_bytes, 0, from);
     if before < from {
         let read = passed + (before / 32 + 1);
-        return Ok(Found {
+        return Ok(NextFlag {
             position: Some(before),
             windows: read,
         });
     }
     let read = passed + windows_of(from);
-    Ok(Found {
+    Ok(NextFlag {
         position: None,
         windows: read,
     })
@@ -81,13 +81,13 @@ pub fn next_and_not(
 
 // Searches the first n flags of a word for a one, at or after `from` and then below it, and counts the windows. Its returns repeat those of
 // `next_and_not`: here each search is one number, there the second is a call, made only if the first finds none.
-fn next_in_word(word: u64, n: usize, from: usize) -> Found
+fn next_in_word(word: u64, n: usize, from: usize) -> NextFlag
     requires { (n ≤ 64) × (from ≤ n) }
     ensures { result ≡ next_set n (take n (word_flags word)) from }
 {
     let ahead = leading_in_word(false, shr_or_zero(word, from), n - from);
     if ahead < n - from {
-        return Found {
+        return NextFlag {
             position: Some(from + ahead),
             windows: ahead / 32 + 1,
         };
@@ -95,12 +95,12 @@ fn next_in_word(word: u64, n: usize, from: usize) -> Found
     let passed = windows_of(n - from);
     let before = leading_in_word(false, word, from);
     if before < from {
-        return Found {
+        return NextFlag {
             position: Some(before),
             windows: passed + (before / 32 + 1),
         };
     }
-    Found {
+    NextFlag {
         position: None,
         windows: passed + windows_of(from),
     }

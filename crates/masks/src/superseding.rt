@@ -3,7 +3,7 @@
 ghost use Rattle.std.specs.Prelude.{◌≡◌, ◌≢◌, ◌≤◌, [], IfOk};
 ghost use Rattle.masks.specs.Refusal.{failure_of};
 ghost use Rattle.masks.specs.Checks.{first_failed, limit};
-ghost use Rattle.masks.specs.Superseding.{part_bytes, part_of, part_place, superseding_checks, winning};
+ghost use Rattle.masks.specs.Superseding.{part_bytes, winner_of, part_place, superseding_checks, winning};
 
 use crate::bitmap::{Bitmap, cut_mask};
 use crate::checks::check_mask;
@@ -13,7 +13,7 @@ use crate::refusal::{Refusal, check, earlier};
 /// The winner: whether it is the second mask, the part of its slice that holds it, from byte `from` to before byte `to`, and its record
 /// over that part. `second` is part of the answer: it does not say how to read another field.
 #[derive(Clone, Copy, PartialEq, Eq, Debug)]
-pub struct Part {
+pub struct Winner {
     pub second: bool,
     pub from: usize,
     pub to: usize,
@@ -43,9 +43,9 @@ fn check_superseding(
 
 // Returns the part of its slice that holds a mask, and the mask over that part. No type says that the mask's checks have passed: a `Bitmap`
 // is the reference's record, of any numbers, and a `CheckedSpan` has neither the count nor the serial that the part keeps.
-fn part_of(second: bool, mask: Bitmap) -> Part
+fn winner_of(second: bool, mask: Bitmap) -> Winner
     requires { (mask.start ≤ limit) × (mask.length ≤ limit) }
-    ensures { result ≡ part_of second mask }
+    ensures { result ≡ winner_of second mask }
 {
     let from = mask.start / 8;
     let end = mask.start + mask.length;
@@ -53,7 +53,7 @@ fn part_of(second: bool, mask: Bitmap) -> Part
     let start = mask.start % 8;
     let unset = mask.unset;
     let fitted = cut_mask(mask, start, mask.length, unset);
-    Part {
+    Winner {
         second,
         from,
         to,
@@ -68,16 +68,16 @@ pub fn superseding_part(
     first_bytes: &[u8],
     second: Bitmap,
     second_bytes: &[u8],
-) -> Result<Part, Refusal>
+) -> Result<Winner, Refusal>
     ensures refused { failure_of result ≡ first_failed
         (superseding_checks first first_bytes.now second second_bytes.now) }
     ensures part { IfOk result (λ p. p ≡ winning first second) }
 {
     check_superseding(first, first_bytes, second, second_bytes)?;
     if first.serial < second.serial {
-        return Ok(part_of(true, second));
+        return Ok(winner_of(true, second));
     }
-    Ok(part_of(false, first))
+    Ok(winner_of(false, first))
 }
 
 /// Returns the record of the mask with the larger serial, the first if they are equal, over the part that `superseding_bytes` returns.

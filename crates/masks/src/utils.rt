@@ -9,11 +9,11 @@ ghost use Rattle.masks.specs.Refusal.{failure_of};
 ghost use Rattle.masks.specs.Utils.{zeros};
 ghost use Rattle.masks.specs.Workers.{zeros_of_all};
 
-use crate::aligned::{Addressed, check_aligned};
-use crate::parts::{Back, End, Front, Split};
+use crate::aligned::{AddressedSpan, check_aligned};
 use crate::refusal::Refusal;
 use crate::span::CheckedSpan;
-use words::uniform::{all_are, differs_early};
+use crate::span_ends::{Back, End, Front, SplitSpan};
+use words::uniform::{all_equal, differs_early};
 use words::word::{near_word, ones_below};
 
 // Counts the zeros of a span that one word load covers. Separate, so that callers can inline it. This and `short_run` take the span as
@@ -26,10 +26,10 @@ fn short_zeros(bytes: &[u8], start: usize, length: usize) -> usize
 }
 
 // Counts the zeros of any span, by the three parts of its split.
-fn long_zeros(span: &Addressed) -> usize
+fn long_zeros(span: &AddressedSpan) -> usize
     ensures { result ≡ zeros (stretch span.now.bytes.now span.now.start span.now.length) }
 {
-    span.length - Split::new(span).ones()
+    span.length - SplitSpan::new(span).ones()
 }
 
 // Counts the zeros of a span that has passed its checks. Too large to be inlined into a call; `count_zeros` reads a short span itself and
@@ -42,7 +42,7 @@ pub(crate) fn zeros_at(bytes: &[u8], start: usize, length: usize, address: usize
     if start % 8 + length <= 64 {
         return short_zeros(bytes, start, length);
     }
-    long_zeros(&Addressed {
+    long_zeros(&AddressedSpan {
         bytes,
         start,
         length,
@@ -59,13 +59,13 @@ impl CheckedSpan<'_> {
     }
 }
 
-// Returns whether all flags of a span equal `flag`: `all_are` of words under a contract by the number of zeros, which the checks cite. The
-// zeros are not counted; the first word with another flag ends the search. This and `other_early` take the span as three arguments, since
-// they require nothing of it.
+// Returns whether all flags of a span equal `flag`: `all_equal` of words under a contract by the number of zeros, which the checks cite.
+// The zeros are not counted; the first word with another flag ends the search. This and `other_early` take the span as three arguments,
+// since they require nothing of it.
 pub(crate) fn all_flags(flag: bool, bytes: &[u8], start: usize, length: usize) -> bool
     ensures { result ≡ eqb (zeros (stretch bytes.now start length)) (zeros_of_all flag length) }
 {
-    all_are(flag, bytes, start, length)
+    all_equal(flag, bytes, start, length)
 }
 
 // Returns true if the first word of a span shows a flag other than `flag`; false leaves it open. Small enough to be inlined into a call, as
@@ -109,10 +109,10 @@ fn short_run<E: End>(flag: bool, bytes: &[u8], start: usize, length: usize) -> u
 }
 
 // Counts the flags in a row that equal `flag`, at an end of any span, by the three parts of its split.
-fn long_run<E: End>(flag: bool, span: &Addressed) -> usize
+fn long_run<E: End>(flag: bool, span: &AddressedSpan) -> usize
     ensures { result ≡ E.run flag (stretch span.now.bytes.now span.now.start span.now.length) }
 {
-    Split::new(span).run::<E>(flag)
+    SplitSpan::new(span).run::<E>(flag)
 }
 
 // Makes the checks and counts the flags in a row that equal `flag`, at an end of the span; 0, with no check, for length 0. `count_zeros`
@@ -137,7 +137,7 @@ fn run_flags<E: End>(
     if start % 8 + length <= 64 {
         return Ok(short_run::<E>(flag, bytes, start, length));
     }
-    let span = Addressed {
+    let span = AddressedSpan {
         bytes,
         start,
         length,

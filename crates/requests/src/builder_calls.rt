@@ -13,7 +13,12 @@ use notation::arguments::{Arguments, Serial};
 use notation::call::{BuilderCall, ExtendCall, GatherCall};
 use std::alloc::Global;
 
-pub(crate) fn answer(alloc: Global, call: BuilderCall, a: &Arguments, buf: &mut [u8]) -> Answered {
+pub(crate) fn builder_answer(
+    alloc: Global,
+    call: BuilderCall,
+    a: &Arguments,
+    buf: &mut [u8],
+) -> Answered {
     let b = values::builder(a);
     match call {
         BuilderCall::Push => tokens::answer_back(alloc, b.push(buf, a.flag(3))),
@@ -37,7 +42,7 @@ pub(crate) fn answer(alloc: Global, call: BuilderCall, a: &Arguments, buf: &mut 
 }
 
 // Makes the appends that read x.
-pub(crate) fn extending(
+pub(crate) fn extend_answer(
     alloc: Global,
     call: ExtendCall,
     a: &Arguments,
@@ -63,7 +68,7 @@ pub(crate) fn extending(
 }
 
 // Makes the appends that read x at indices.
-pub(crate) fn gathering(
+pub(crate) fn gather_answer(
     alloc: Global,
     call: GatherCall,
     a: &Arguments,

@@ -25,35 +25,35 @@ pub(crate) fn answer(
     let out = last::first_mut(&mut last.bytes, a.sizes.o);
     let numbers = last::first_mut(&mut last.numbers, a.sizes.i);
     match call {
-        Call::Word(call) => words_calls::plain(alloc, call, a),
-        Call::Flags(call) => words_calls::counting(alloc, call, a),
-        Call::Operation(call) => words_calls::operation(alloc, call, a),
-        Call::Load(call) => words_calls::reading(alloc, call, a, x),
-        Call::Zip(call) => words_calls::comparing(alloc, call, a, x, y, z),
-        Call::Span(call) => span_calls::answer(alloc, call, a, x),
-        Call::Count(call) => span_calls::counting(alloc, call, a, x),
-        Call::Chunks(call) => span_calls::chunks(alloc, call, a, x),
-        Call::Mask(call) => mask_calls::answer(alloc, call, a, x),
-        Call::Pair(call) => mask_calls::comparing(alloc, call, a, x, y),
-        Call::Superseding(call) => mask_calls::choosing(alloc, call, a, x, y),
-        Call::Cursor(call) => cursor_calls::answer(alloc, call, a, x),
-        Call::Bits(call) => cursor_calls::flags(alloc, call, a, x),
-        Call::Search(call) => mask_calls::searching(alloc, call, a, x, y),
-        Call::Store(call) => words_calls::writing(alloc, call, a, x, out),
-        Call::Combine => words_calls::combining(alloc, a, x, y, z, out),
-        Call::Builder(call) => builder_calls::answer(alloc, call, a, out),
-        Call::NewZeroed => mask_calls::zeroed(alloc, a, out),
-        Call::Extend(call) => builder_calls::extending(alloc, call, a, x, out),
-        Call::Merge(call) => mask_calls::combining(alloc, call, a, x, y, out),
-        Call::Select(call) => mask_calls::selecting(alloc, call, a, x, y, z, out),
-        Call::Gather(call) => builder_calls::gathering(alloc, call, a, x, i, out),
-        Call::Minutes(call) => minute_calls::answer(alloc, call, a, out),
-        Call::List(call) => listing(alloc, call, a, x, numbers),
+        Call::Word(call) => words_calls::word_answer(alloc, call, a),
+        Call::Flags(call) => words_calls::flags_answer(alloc, call, a),
+        Call::Operation(call) => words_calls::operation_answer(alloc, call, a),
+        Call::Load(call) => words_calls::load_answer(alloc, call, a, x),
+        Call::Zip(call) => words_calls::zip_answer(alloc, call, a, x, y, z),
+        Call::Span(call) => span_calls::span_answer(alloc, call, a, x),
+        Call::Count(call) => span_calls::count_answer(alloc, call, a, x),
+        Call::Chunks(call) => span_calls::chunks_answer(alloc, call, a, x),
+        Call::Mask(call) => mask_calls::mask_answer(alloc, call, a, x),
+        Call::Pair(call) => mask_calls::pair_answer(alloc, call, a, x, y),
+        Call::Superseding(call) => mask_calls::superseding_answer(alloc, call, a, x, y),
+        Call::Cursor(call) => cursor_calls::cursor_answer(alloc, call, a, x),
+        Call::Bits(call) => cursor_calls::bits_answer(alloc, call, a, x),
+        Call::Search(call) => mask_calls::search_answer(alloc, call, a, x, y),
+        Call::Store(call) => words_calls::store_answer(alloc, call, a, x, out),
+        Call::Combine => words_calls::combine_answer(alloc, a, x, y, z, out),
+        Call::Builder(call) => builder_calls::builder_answer(alloc, call, a, out),
+        Call::NewZeroed => mask_calls::zeroed_answer(alloc, a, out),
+        Call::Extend(call) => builder_calls::extend_answer(alloc, call, a, x, out),
+        Call::Merge(call) => mask_calls::merge_answer(alloc, call, a, x, y, out),
+        Call::Select(call) => mask_calls::select_answer(alloc, call, a, x, y, z, out),
+        Call::Gather(call) => builder_calls::gather_answer(alloc, call, a, x, i, out),
+        Call::Minutes(call) => minute_calls::minutes_answer(alloc, call, a, out),
+        Call::List(call) => list_answer(alloc, call, a, x, numbers),
     }
 }
 
 // Makes the calls that write numbers.
-fn listing(
+fn list_answer(
     alloc: Global,
     call: ListCall,
     a: &Arguments,
@@ -61,7 +61,7 @@ fn listing(
     numbers: &mut [u32],
 ) -> Answered {
     match call {
-        ListCall::NextChunk => cursor_calls::chunk(alloc, a, x, numbers),
-        ListCall::Counts => minute_calls::counts(alloc, a, x, numbers),
+        ListCall::NextChunk => cursor_calls::chunk_answer(alloc, a, x, numbers),
+        ListCall::Counts => minute_calls::counts_answer(alloc, a, x, numbers),
     }
 }

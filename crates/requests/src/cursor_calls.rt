@@ -8,7 +8,7 @@ use notation::arguments::{Arguments, Serial};
 use notation::call::{BitsCall, CursorCall};
 use std::alloc::Global;
 
-pub(crate) fn answer(alloc: Global, call: CursorCall, a: &Arguments, x: &[u8]) -> Answered {
+pub(crate) fn cursor_answer(alloc: Global, call: CursorCall, a: &Arguments, x: &[u8]) -> Answered {
     match call {
         CursorCall::NewSlices => {
             let mask = values::mask(a, 0, Serial::First);
@@ -23,7 +23,7 @@ pub(crate) fn answer(alloc: Global, call: CursorCall, a: &Arguments, x: &[u8]) -
     }
 }
 
-pub(crate) fn flags(alloc: Global, call: BitsCall, a: &Arguments, x: &[u8]) -> Answered {
+pub(crate) fn bits_answer(alloc: Global, call: BitsCall, a: &Arguments, x: &[u8]) -> Answered {
     let c = BitmapIter {
         start: a.size(0),
         length: a.size(1),
@@ -38,7 +38,7 @@ pub(crate) fn flags(alloc: Global, call: BitsCall, a: &Arguments, x: &[u8]) -> A
     }
 }
 
-pub(crate) fn chunk(alloc: Global, a: &Arguments, x: &[u8], out: &mut [u32]) -> Answered {
+pub(crate) fn chunk_answer(alloc: Global, a: &Arguments, x: &[u8], out: &mut [u32]) -> Answered {
     tokens::answer_back(alloc, positions(a).next_chunk(x, out))
 }
 

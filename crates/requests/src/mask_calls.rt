@@ -1,8 +1,8 @@
 //! The calls over masks: makers, slices, combinations, comparisons, searches, and those of dispatch.
 use crate::tokens::Answered;
 use crate::{tokens, values};
-use dispatch::dispatch::may_reassign;
 use dispatch::offer::offer;
+use dispatch::reassign::may_reassign;
 use masks::at_index::and_not_at;
 use masks::bitmap::Bitmap;
 use masks::builder::BitmapBuilder;
@@ -13,7 +13,7 @@ use notation::call::{MaskCall, MergeCall, PairCall, SearchCall, SelectCall, Supe
 use notation::sums::Checksum;
 use std::alloc::Global;
 
-pub(crate) fn answer(alloc: Global, call: MaskCall, a: &Arguments, x: &[u8]) -> Answered {
+pub(crate) fn mask_answer(alloc: Global, call: MaskCall, a: &Arguments, x: &[u8]) -> Answered {
     let m = first(a);
     match call {
         MaskCall::NewBuilder => tokens::given(alloc, BitmapBuilder::new()),
@@ -33,11 +33,11 @@ fn second(a: &Arguments) -> Bitmap {
     values::mask(a, 3, Serial::Second)
 }
 
-pub(crate) fn zeroed(alloc: Global, a: &Arguments, out: &mut [u8]) -> Answered {
+pub(crate) fn zeroed_answer(alloc: Global, a: &Arguments, out: &mut [u8]) -> Answered {
     tokens::answer(alloc, Bitmap::new_zeroed(a.size(0), out))
 }
 
-pub(crate) fn comparing(
+pub(crate) fn pair_answer(
     alloc: Global,
     call: PairCall,
     a: &Arguments,
@@ -61,7 +61,7 @@ pub(crate) fn comparing(
 }
 
 // Makes the calls that choose one of two masks. Bytes are answered by their number and their checksum.
-pub(crate) fn choosing<'a>(
+pub(crate) fn superseding_answer<'a>(
     alloc: Global,
     call: SupersedingCall,
     a: &Arguments,
@@ -76,19 +76,19 @@ pub(crate) fn choosing<'a>(
             superseding::superseding_part(one, x, other, y),
         ),
         SupersedingCall::Mask => tokens::answer(alloc, superseding::superseding(one, x, other, y)),
-        SupersedingCall::Bytes => lent_part(
+        SupersedingCall::Bytes => part_answer(
             alloc,
             superseding::superseding_bytes(one, x, other, y),
         ),
     }
 }
 
-fn lent_part(alloc: Global, part: &[u8]) -> Answered {
+fn part_answer(alloc: Global, part: &[u8]) -> Answered {
     let sum = Checksum::new().bytes(part);
     tokens::given(alloc, (part.len(), sum.value()))
 }
 
-pub(crate) fn searching(
+pub(crate) fn search_answer(
     alloc: Global,
     call: SearchCall,
     a: &Arguments,
@@ -108,7 +108,7 @@ pub(crate) fn searching(
     }
 }
 
-pub(crate) fn combining(
+pub(crate) fn merge_answer(
     alloc: Global,
     call: MergeCall,
     a: &Arguments,
@@ -130,7 +130,7 @@ pub(crate) fn combining(
     )
 }
 
-pub(crate) fn selecting(
+pub(crate) fn select_answer(
     alloc: Global,
     call: SelectCall,
     a: &Arguments,

@@ -14,26 +14,36 @@ use words::word;
 const COUNTS: usize = 2048;
 
 // Makes the calls that write a window.
-pub(crate) fn answer(alloc: Global, call: MinutesCall, a: &Arguments, out: &mut [u8]) -> Answered {
+pub(crate) fn minutes_answer(
+    alloc: Global,
+    call: MinutesCall,
+    a: &Arguments,
+    out: &mut [u8],
+) -> Answered {
     match call {
-        MinutesCall::New => made(alloc, a.size(0), out),
-        MinutesCall::PushMinute => minutes(alloc, a, 1, out),
-        MinutesCall::PushMinutes => minutes(alloc, a, a.word(5) % 65536, out),
+        MinutesCall::New => new_answer(alloc, a.size(0), out),
+        MinutesCall::PushMinute => pushes_answer(alloc, a, 1, out),
+        MinutesCall::PushMinutes => pushes_answer(alloc, a, a.word(5) % 65536, out),
     }
 }
 
 // Writes the counts of the window whose arrays are x, as numbers, also those of a refusal.
-pub(crate) fn counts(alloc: Global, a: &Arguments, x: &[u8], numbers: &mut [u32]) -> Answered {
+pub(crate) fn counts_answer(
+    alloc: Global,
+    a: &Arguments,
+    x: &[u8],
+    numbers: &mut [u32],
+) -> Answered {
     match window_of(a, x).counts() {
-        Ok(counts) => counted(alloc, Ok(()), counts, numbers),
+        Ok(counts) => counts_or_refusal(alloc, Ok(()), counts, numbers),
         Err(refused) => {
             let state = refused.state;
-            counted(alloc, Err(refused.refusal), state, numbers)
+            counts_or_refusal(alloc, Err(refused.refusal), state, numbers)
         }
     }
 }
 
-fn counted(
+fn counts_or_refusal(
     alloc: Global,
     r: Result<(), WindowRefusal>,
     counts: [u32; 64],
@@ -46,27 +56,27 @@ fn counted(
 }
 
 // Makes a new window and writes it, also the one of a refusal.
-fn made(alloc: Global, width: usize, out: &mut [u8]) -> Answered {
+fn new_answer(alloc: Global, width: usize, out: &mut [u8]) -> Answered {
     match ActivityWindow::new(width) {
-        Ok(window) => left(alloc, Ok(()), window, out),
-        Err(refused) => left(alloc, Err(refused.refusal), refused.state, out),
+        Ok(window) => window_answer(alloc, Ok(()), window, out),
+        Err(refused) => window_answer(alloc, Err(refused.refusal), refused.state, out),
     }
 }
 
 // Pushes a run of `many` minutes; each word is greater by a step than the one before it. After a refusal no minute is pushed. The minutes
 // are a number and no list, so the loop is over a range; `try_fold` would carry the word and the window as a pair through both ends: no
 // plainer.
-fn minutes(alloc: Global, a: &Arguments, many: u64, out: &mut [u8]) -> Answered {
+fn pushes_answer(alloc: Global, a: &Arguments, many: u64, out: &mut [u8]) -> Answered {
     let mut word = a.word(3);
     let mut now = window_of(a, out);
     for _ in 0..many {
         match now.push_minute(word) {
             Ok(next) => now = next,
-            Err(refused) => return left(alloc, Err(refused.refusal), refused.state, out),
+            Err(refused) => return window_answer(alloc, Err(refused.refusal), refused.state, out),
         }
         word = word.wrapping_add(a.word(4));
     }
-    left(alloc, Ok(()), now, out)
+    window_answer(alloc, Ok(()), now, out)
 }
 
 // Returns the window whose arrays are these bytes and whose numbers are the first three arguments.
@@ -95,7 +105,7 @@ fn window(bytes: &[u8], place: usize, fill: usize, width: usize) -> ActivityWind
 }
 
 // Writes the arrays of the window that a call left, and returns the answer.
-fn left(
+fn window_answer(
     alloc: Global,
     r: Result<(), WindowRefusal>,
     window: ActivityWindow,

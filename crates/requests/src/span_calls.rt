@@ -8,7 +8,7 @@ use notation::arguments::Arguments;
 use notation::call::{ChunksCall, CountCall, SpanCall};
 use std::alloc::Global;
 
-pub(crate) fn answer(alloc: Global, call: SpanCall, a: &Arguments, x: &[u8]) -> Answered {
+pub(crate) fn span_answer(alloc: Global, call: SpanCall, a: &Arguments, x: &[u8]) -> Answered {
     let start = a.size(0);
     let length = a.size(1);
     let third = a.size(2);
@@ -37,7 +37,7 @@ pub(crate) fn answer(alloc: Global, call: SpanCall, a: &Arguments, x: &[u8]) -> 
     }
 }
 
-pub(crate) fn counting(alloc: Global, call: CountCall, a: &Arguments, x: &[u8]) -> Answered {
+pub(crate) fn count_answer(alloc: Global, call: CountCall, a: &Arguments, x: &[u8]) -> Answered {
     let start = a.size(0);
     let length = a.size(1);
     let address = a.size(2);
@@ -53,7 +53,7 @@ pub(crate) fn counting(alloc: Global, call: CountCall, a: &Arguments, x: &[u8]) 
     )
 }
 
-pub(crate) fn chunks(alloc: Global, call: ChunksCall, a: &Arguments, x: &[u8]) -> Answered {
+pub(crate) fn chunks_answer(alloc: Global, call: ChunksCall, a: &Arguments, x: &[u8]) -> Answered {
     let first = a.size(0);
     let second = a.size(1);
     let c = BitChunks {

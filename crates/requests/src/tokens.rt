@@ -7,10 +7,10 @@ use masks::builder::BitmapBuilder;
 use masks::chunks::BitChunks;
 use masks::cursor::Step;
 use masks::iterator::BitmapIter;
-use masks::next_and_not::Found;
+use masks::next_and_not::NextFlag;
 use masks::refusal::Refused;
 use masks::slice_iterator::{Run, SlicesIterator};
-use masks::superseding::Part;
+use masks::superseding::Winner;
 use masks::true_idx::TrueIdxIter;
 use notation::answer::{Answer, Token};
 use std::alloc::{AllocError, Global};
@@ -192,13 +192,13 @@ impl ToTokens for Recounted {
 }
 
 // Which of two masks, the part of its slice, and its record over that part.
-impl ToTokens for Part {
+impl ToTokens for Winner {
     fn append_to(self, answer: Answer) -> Answered {
         (self.second, (self.from, self.to), self.mask).append_to(answer)
     }
 }
 
-impl ToTokens for Found {
+impl ToTokens for NextFlag {
     fn append_to(self, answer: Answer) -> Answered {
         (self.position, self.windows).append_to(answer)
     }

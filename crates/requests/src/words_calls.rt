@@ -9,7 +9,7 @@ use words::flags::Operand;
 use words::ops::Op;
 use words::{counts, ends, loops, merge, nth, ops, word};
 
-pub(crate) fn plain(alloc: Global, call: WordCall, a: &Arguments) -> Answered {
+pub(crate) fn word_answer(alloc: Global, call: WordCall, a: &Arguments) -> Answered {
     let w = a.word(0);
     let k = a.size(1);
     match call {
@@ -27,7 +27,7 @@ pub(crate) fn plain(alloc: Global, call: WordCall, a: &Arguments) -> Answered {
     }
 }
 
-pub(crate) fn counting(alloc: Global, call: FlagsCall, a: &Arguments) -> Answered {
+pub(crate) fn flags_answer(alloc: Global, call: FlagsCall, a: &Arguments) -> Answered {
     let w = a.word(0);
     let k = a.size(1);
     let flag = a.flag(0);
@@ -80,7 +80,7 @@ fn flags(bytes: &[u8], start: usize) -> Operand<'_> {
     Operand { bytes, start }
 }
 
-pub(crate) fn operation(alloc: Global, call: OperationCall, a: &Arguments) -> Answered {
+pub(crate) fn operation_answer(alloc: Global, call: OperationCall, a: &Arguments) -> Answered {
     let p = a.word(0);
     let q = a.word(1);
     tokens::given(
@@ -97,7 +97,7 @@ pub(crate) fn operation(alloc: Global, call: OperationCall, a: &Arguments) -> An
     )
 }
 
-pub(crate) fn reading(alloc: Global, call: LoadCall, a: &Arguments, x: &[u8]) -> Answered {
+pub(crate) fn load_answer(alloc: Global, call: LoadCall, a: &Arguments, x: &[u8]) -> Answered {
     let at = a.size(0);
     match call {
         LoadCall::LoadPaddedLeU64 => tokens::given(alloc, word::load_padded_le_u64(x)),
@@ -108,7 +108,7 @@ pub(crate) fn reading(alloc: Global, call: LoadCall, a: &Arguments, x: &[u8]) ->
     }
 }
 
-pub(crate) fn comparing(
+pub(crate) fn zip_answer(
     alloc: Global,
     call: ZipCall,
     a: &Arguments,
@@ -137,7 +137,7 @@ pub(crate) fn comparing(
     }
 }
 
-pub(crate) fn writing(
+pub(crate) fn store_answer(
     alloc: Global,
     call: StoreCall,
     a: &Arguments,
@@ -161,7 +161,7 @@ pub(crate) fn writing(
     Answer::new(alloc, 0)
 }
 
-pub(crate) fn combining(
+pub(crate) fn combine_answer(
     alloc: Global,
     a: &Arguments,
     x: &[u8],

@@ -169,8 +169,8 @@ pub fn count_ones_of<'a>(
 }
 
 // Returns whether any flag of three lanes combined is set. Checks 64 words at a time and stops at the first block with a set flag.
-// `words_are` of `uniform` has the same loop: a shared one would take the check of a block as a closure and promise its answer for each
-// block, and both callers' proofs would have to join the blocks to flags again.
+// `words_all_equal` of `uniform` has the same loop: a shared one would take the check of a block as a closure and promise its answer for
+// each block, and both callers' proofs would have to join the blocks to flags again.
 fn any_whole<A: Lane, B: Lane, C: Lane>(op: Op, lanes: &Lanes<A, B, C>) -> bool
     ensures { result ≡ any_set (combined op (A.source lanes.now.a) (A.start lanes.now.a) (B.source lanes.now.b) (B.start lanes.now.b)
         (C.source lanes.now.c) (C.start lanes.now.c) (64 * lanes.now.n)) }

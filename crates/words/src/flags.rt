@@ -1,5 +1,5 @@
 //! An operand of the combinations: lent bytes and the flag at which it begins. Calls with one operand (`copy`, `count_ones`, `copy_count`,
-//! `all_are`, `differs_early`, `near_word`, `word_from`, `flag_at`) take the two as parameters: their callers compute with a slice and a
+//! `all_equal`, `differs_early`, `near_word`, `word_from`, `flag_at`) take the two as parameters: their callers compute with a slice and a
 //! number, and would make a `Operand` for one call only.
 ghost use Rattle.std.specs.Prelude.{◌≡◌, ◌*◌, ◌+◌, ◌^◌, ◌<◌};
 ghost use Rattle.words.specs.Flags.{word_flags, flags_of, window};

@@ -13,7 +13,7 @@ use Rattle.masks.specs.declared.bitmap.Bitmap.{Bitmap}
 use Rattle.masks.specs.declared.bitmap.Recounted.{Recounted}
 use Rattle.masks.specs.declared.bitmask.Span.{Span}
 use Rattle.masks.specs.declared.builder.BitmapBuilder.{BitmapBuilder}
-use Rattle.masks.specs.declared.superseding.Part.{Part}
+use Rattle.masks.specs.declared.superseding.Winner.{Winner}
 use Rattle.activity.specs.Window.{Answer as Windowed}
 use Rattle.activity.specs.declared.window.ActivityWindow.{ActivityWindow}
 use Rattle.capi.specs.Answers.{as_builder, as_flag, as_mask, as_next, as_nth, as_number, as_offer, as_part, as_position, as_same_mask}
@@ -133,11 +133,11 @@ pub record ZerosPlain (S : Type 0) : Type 0 where
 
 -- the winner of two masks, and its part of the bytes
 pub record PartPlain (S : Type 0) : Type 0 where
-  pub given-refusal : (p : Part) → (as_part {S = S} (given p)).refusal ≡ 0
-  pub given-second : (p : Part) → (as_part {S = S} (given p)).second ≡ p.second
-  pub given-from : (p : Part) → (as_part {S = S} (given p)).from ≡ p.from
-  pub given-to : (p : Part) → (as_part {S = S} (given p)).to ≡ p.to
-  pub given-mask : (p : Part) → (as_part {S = S} (given p)).mask ≡ mask_out p.mask
+  pub given-refusal : (p : Winner) → (as_part {S = S} (given p)).refusal ≡ 0
+  pub given-second : (p : Winner) → (as_part {S = S} (given p)).second ≡ p.second
+  pub given-from : (p : Winner) → (as_part {S = S} (given p)).from ≡ p.from
+  pub given-to : (p : Winner) → (as_part {S = S} (given p)).to ≡ p.to
+  pub given-mask : (p : Winner) → (as_part {S = S} (given p)).mask ≡ mask_out p.mask
   pub refused-refusal : (k : ℕ) (s : S) → (as_part {S = S} (refused k s)).refusal ≡ k
   pub refused-second : (k : ℕ) (s : S) → (as_part {S = S} (refused k s)).second ≡ false
   pub refused-from : (k : ℕ) (s : S) → (as_part {S = S} (refused k s)).from ≡ 0

@@ -35,7 +35,7 @@ use Rattle.masks.specs.equations.Superseding.{superseding_of}
 use Rattle.masks.specs.equations.TrueIdx.{new_true, next_true}
 use Rattle.masks.specs.Utils.{zeros}
 use Rattle.masks.specs.equations.Utils.{span_count}
-use Rattle.dispatch.specs.equations.Dispatch.{may_reassign}
+use Rattle.dispatch.specs.equations.Reassign.{may_reassign}
 use Rattle.dispatch.specs.equations.Offer.{offer_of}
 use Rattle.activity.specs.Window.{new_of, push_of, counts_of}
 use Rattle.capi.specs.Answers.{as_bit, as_builder, as_cursor, as_flag, as_mask, as_next, as_nth, as_number, as_offer, as_position}

@@ -5,7 +5,7 @@ use Rattle.std.specs.Prelude.{Option, Some, None}
 use Rattle.std.proofs.Common.{ℕ, ◌≡◌, refl, sym, ap, subst, ◌∙◌, Bool, true, false, not, cond, List, [], ◌∷◌}
 use borrow.Author.Tests.{ne_eqb}
 use Rattle.std.specs.Prelude.{Result, Ok, Err}
-use Rattle.masks.specs.declared.next_and_not.Found.{Found}
+use Rattle.masks.specs.declared.next_and_not.NextFlag.{NextFlag}
 use Rattle.masks.specs.declared.bitmap.Recounted.{Recounted}
 use Rattle.masks.specs.equations.Answer.{Answer, given, refused}
 use Rattle.masks.specs.equations.Appends.{Append, append_answer, append_bytes, push_flag, extend_constant, push_word, extend_slice}
@@ -29,7 +29,7 @@ use Rattle.masks.specs.equations.SliceIterator.{new_slices, next_slice}
 use Rattle.masks.specs.equations.Superseding.{superseding_of}
 use Rattle.masks.specs.equations.TrueIdx.{new_true, next_true}
 use Rattle.masks.specs.equations.Utils.{span_count}
-use Rattle.dispatch.specs.equations.Dispatch.{may_reassign}
+use Rattle.dispatch.specs.equations.Reassign.{may_reassign}
 use Rattle.dispatch.specs.equations.Offer.{offer_of}
 use Rattle.masks.specs.Chunks.{chunks_at}
 use Rattle.masks.specs.Cursor.{Step, item, ended}
@@ -41,7 +41,7 @@ use Rattle.masks.specs.declared.aligned.AlignedBitmapSlice.{AlignedBitmapSlice}
 use Rattle.masks.specs.declared.bitmap.Bitmap.{Bitmap}
 use Rattle.masks.specs.declared.bitmask.Span.{Span}
 use Rattle.masks.specs.declared.builder.BitmapBuilder.{BitmapBuilder}
-use Rattle.masks.specs.declared.superseding.Part.{Part}
+use Rattle.masks.specs.declared.superseding.Winner.{Winner}
 use Rattle.masks.proofs.theorems.Refusals as masks
 use Rattle.dispatch.specs.declared.offer.Offering.{Offering}
 use Rattle.dispatch.proofs.theorems.Refusals as dispatch
@@ -115,7 +115,7 @@ next-number : (o : Option ℕ) (n : ℕ) → (next_at o n).refusal ≡ 0
 next-number (Some p) n = refl
 next-number None n = refl
 
-of-next : {S : Type 0} (a : Answer S Found) → (as_next a).refusal ≡ number_in a
+of-next : {S : Type 0} (a : Answer S NextFlag) → (as_next a).refusal ≡ number_in a
 unfolding as_next
 of-next (given f) = next-number f.position f.windows
 of-next (refused k s) = refl
@@ -131,7 +131,7 @@ unfolding as_mask
 of_mask (given m) = refl
 of_mask (refused k s) = refl
 
-of_part : {S : Type 0} (a : Answer S Part) → (as_part a).refusal ≡ number_in a
+of_part : {S : Type 0} (a : Answer S Winner) → (as_part a).refusal ≡ number_in a
 unfolding as_part
 of_part (given p) = refl
 of_part (refused k s) = refl

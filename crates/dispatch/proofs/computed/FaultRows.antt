@@ -8,7 +8,7 @@ use Rattle.masks.specs.Checks.{earlier, first_failed, rank, place_in, span_check
 use Rattle.masks.specs.Mask.{mask_checks}
 use Rattle.masks.specs.NextAndNot.{next_checks, other_checks}
 use Rattle.masks.specs.Utils.{zeros}
-use Rattle.dispatch.specs.equations.Dispatch.{may_reassign}
+use Rattle.dispatch.specs.equations.Reassign.{may_reassign}
 use Rattle.dispatch.specs.Offer.{offer_checks}
 use Rattle.dispatch.specs.equations.Offer.{offer_of}
 use Rattle.dispatch.proofs.tables.FaultRows.{fault_rows, FaultsHold}

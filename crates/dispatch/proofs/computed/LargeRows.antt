@@ -10,8 +10,8 @@ use Rattle.masks.specs.Mask.{mask_checks, zero_count}
 use Rattle.masks.specs.NextAndNot.{free_flags, next_checks, other_checks}
 use Rattle.masks.specs.Search.{nth_from}
 use Rattle.masks.specs.Utils.{zeros}
-use Rattle.dispatch.specs.Dispatch.{reassignable}
-use Rattle.dispatch.specs.equations.Dispatch.{may_reassign}
+use Rattle.dispatch.specs.Reassign.{reassignable}
+use Rattle.dispatch.specs.equations.Reassign.{may_reassign}
 use Rattle.dispatch.specs.Offer.{beginning, in_order, next_truck, offer_checks, offered_of, offering, up_to, windows_read}
 use Rattle.dispatch.specs.equations.Offer.{offer_of}
 use Rattle.dispatch.proofs.tables.LargeRows.{truck_rows, cursor_rows, LargeHolds}

@@ -7,7 +7,7 @@ use Rattle.masks.specs.Mask.{mask_checks}
 use Rattle.masks.specs.NextAndNot.{next_checks, other_checks}
 use Rattle.masks.specs.Utils.{zeros}
 use Rattle.masks.proofs.computed.WrongAnswers.{bits, count, flags_of, window}
-use Rattle.dispatch.specs.equations.Dispatch.{may_reassign}
+use Rattle.dispatch.specs.equations.Reassign.{may_reassign}
 use Rattle.dispatch.specs.Offer.{offer_checks}
 use Rattle.dispatch.specs.equations.Offer.{offer_of}
 use Rattle.dispatch.proofs.tables.Witnesses.{OfferWitnessed, Witnessed}

@@ -6,8 +6,8 @@ use Rattle.masks.specs.AtIndex.{and_not_at_checks, and_not_flag, flag_or, index_
 use Rattle.masks.specs.Checks.{earlier, first_failed, rank, place_in, span_checks}
 use Rattle.masks.specs.Mask.{mask_checks}
 use Rattle.masks.specs.Utils.{zeros}
-use Rattle.dispatch.specs.Dispatch.{reassignable}
-use Rattle.dispatch.specs.equations.Dispatch.{may_reassign}
+use Rattle.dispatch.specs.Reassign.{reassignable}
+use Rattle.dispatch.specs.equations.Reassign.{may_reassign}
 use Rattle.dispatch.proofs.tables.WrongAnswers.{WrongAnswers}
 
 pub ruled_out : WrongAnswers

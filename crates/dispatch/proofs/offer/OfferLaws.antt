@@ -17,7 +17,7 @@ use Rattle.masks.specs.Refusal.{number}
 use Rattle.dispatch.specs.declared.offer.RefusedOffer.{RefusedOffer}
 use Rattle.dispatch.specs.Offer.{offer_failure}
 use Rattle.dispatch.specs.equations.Offer.{offer_answer}
-use Rattle.masks.specs.declared.next_and_not.Found.{Found}
+use Rattle.masks.specs.declared.next_and_not.NextFlag.{NextFlag}
 use Rattle.masks.specs.equations.Answer.{given, refused, decided}
 use Rattle.masks.specs.Checks.{check, earlier, first_failed, limit}
 use Rattle.masks.specs.Mask.{mask_checks}
@@ -76,11 +76,11 @@ abbrev pub offered : ℕ → Option ℕ → ℕ → Offering
 offered cursor t k = record { truck = t; cursor = moved_to t cursor; windows = k }
 
 -- what the search finds, as an offer
-abbrev pub as-offer : ℕ → Found → Offering
+abbrev pub as-offer : ℕ → NextFlag → Offering
 as-offer cursor F = offered cursor F.position F.windows
 
 -- what the search finds, as an offer with the next cursor as a number
-abbrev pub offer-then : ℕ → Found → Offering
+abbrev pub offer-then : ℕ → NextFlag → Offering
 offer-then next F = record { truck = F.position; cursor = next; windows = F.windows }
 
 module _ (n cursor : ℕ) (inside : cursor ≤ n) where
@@ -117,7 +117,7 @@ module _ (n cursor : ℕ) (inside : cursor ≤ n) where
     round-here None None e f = ap (offered cursor None) read_all
 
     -- what the search finds is the offer
-    pub as_offered : (F : Found) → F ≡ next_set n l cursor → as-offer cursor F ≡ offering n l cursor
+    pub as_offered : (F : NextFlag) → F ≡ next_set n l cursor → as-offer cursor F ≡ offering n l cursor
     unfolding next_set offering next_truck
     as_offered F e =
         ap (as-offer cursor) e
@@ -130,10 +130,10 @@ module _ (n cursor : ℕ) (inside : cursor ≤ n) where
     bound-here None None e f = omega arith
 
     -- the bound on the windows of the search
-    pub search-bound : (F : Found) → F ≡ next_set n l cursor → F.windows ≤ (n + 31) / 32 + 1
+    pub search-bound : (F : NextFlag) → F ≡ next_set n l cursor → F.windows ≤ (n + 31) / 32 + 1
     unfolding next_set
     search-bound F e =
-        subst (λ (G : Found). G.windows ≤ (n + 31) / 32 + 1) (sym e) (bound-here (nth_from l 0 cursor) (nth_from l 0 0) refl refl)
+        subst (λ (G : NextFlag). G.windows ≤ (n + 31) / 32 + 1) (sym e) (bound-here (nth_from l 0 cursor) (nth_from l 0 0) refl refl)
 
     inside-here : (A B : Option ℕ) (t : ℕ) → nth_from l 0 cursor ≡ A → nth_from l 0 0 ≡ B → (going_round n cursor A B).position ≡ Some t
         → t < n
@@ -143,15 +143,15 @@ module _ (n cursor : ℕ) (inside : cursor ≤ n) where
     inside-here None None t e f g = absurd (none-some t g)
 
     -- a truck that is found is one of the n
-    pub search-inside : (F : Found) (t : ℕ) → F ≡ next_set n l cursor → F.position ≡ Some t → t < n
+    pub search-inside : (F : NextFlag) (t : ℕ) → F ≡ next_set n l cursor → F.position ≡ Some t → t < n
     unfolding next_set
     search-inside F t e g =
-        inside-here (nth_from l 0 cursor) (nth_from l 0 0) t refl refl (ap (λ (G : Found). G.position) (sym e) ∙ g)
+        inside-here (nth_from l 0 cursor) (nth_from l 0 0) t refl refl (ap (λ (G : NextFlag). G.position) (sym e) ∙ g)
 
 -- ---- the ways out
 
 -- with a permission mask
-module _ (p : Bitmap) (p_bytes : List ℕ) (R : Option Bitmap) (r_bytes : List ℕ) (cursor : ℕ) (F : Found)
+module _ (p : Bitmap) (p_bytes : List ℕ) (R : Option Bitmap) (r_bytes : List ℕ) (cursor : ℕ) (F : NextFlag)
     (passed : 0 ≡ first_failed (next_checks p p_bytes R r_bytes cursor))
     (found : F ≡ next_set p.length (free_flags p p_bytes R r_bytes) cursor) where
   ok : Searchable p R cursor p.length

@@ -1,12 +1,12 @@
 -- The theorem on counts for `may_reassign` and `offer`: if a mask's checks pass, their checks and their value are those with its count
--- unknown. That they answer by these is their clauses `refused`, and `may` or `offering`.
+-- unknown. That they answer by these is their clauses `refused`, and `flag` or `offering`.
 use Rattle.std.specs.Prelude.{ℕ, ◌≡◌, List, Option, Some}
 use Rattle.masks.specs.AtIndex.{and_not_at_checks}
 use Rattle.masks.specs.Checks.{first_failed}
 use Rattle.masks.proofs.statements.CountsUnseen.{UnseenCall}
 use Rattle.masks.specs.Mask.{mask_checks}
 use Rattle.masks.specs.declared.bitmap.Bitmap.{Bitmap}
-use Rattle.dispatch.specs.Dispatch.{reassignable}
+use Rattle.dispatch.specs.Reassign.{reassignable}
 use Rattle.dispatch.specs.Offer.{offer_checks, offered_of}
 
 pub record CountsUnseen : Type 0 where

@@ -5,7 +5,7 @@ use Rattle.std.specs.Prelude.{None}
 use Rattle.masks.specs.equations.Answer.{Answer, given, refused}
 use Rattle.masks.specs.Checks.{first_failed}
 use Rattle.masks.specs.declared.bitmap.Bitmap.{Bitmap}
-use Rattle.dispatch.specs.Dispatch.{reassignable}
+use Rattle.dispatch.specs.Reassign.{reassignable}
 use Rattle.dispatch.specs.declared.offer.Offering.{Offering}
 use Rattle.dispatch.specs.Offer.{offer_checks, offered_of}
 use Rattle.dispatch.specs.equations.Offer.{offer_of}

@@ -6,7 +6,7 @@ use Rattle.masks.proofs.tables.FaultRows.{faulty, clear, full, zeros, ones, shor
 use Rattle.masks.proofs.tables.LargeRows.{Hold}
 use Rattle.masks.proofs.tables.StartRows.{numbers}
 use Rattle.masks.proofs.tables.Witnesses.{number_of, byte}
-use Rattle.dispatch.specs.equations.Dispatch.{may_reassign}
+use Rattle.dispatch.specs.equations.Reassign.{may_reassign}
 use Rattle.dispatch.specs.equations.Offer.{offer_of}
 
 unfoldable pub fault_rows : List SplitRow

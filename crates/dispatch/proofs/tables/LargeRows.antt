@@ -13,7 +13,7 @@ use Rattle.masks.proofs.tables.LargeRows.{Hold, all_give, eight, ones, largest, 
 use Rattle.masks.proofs.tables.StartRows.{numbers}
 use Rattle.masks.proofs.tables.Witnesses.{number_of}
 use Rattle.dispatch.specs.declared.offer.Offering.{Offering}
-use Rattle.dispatch.specs.equations.Dispatch.{may_reassign}
+use Rattle.dispatch.specs.equations.Reassign.{may_reassign}
 use Rattle.dispatch.specs.Offer.{most_windows, windows_in}
 use Rattle.dispatch.specs.equations.Offer.{offer_of}
 

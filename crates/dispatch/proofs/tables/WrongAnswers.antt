@@ -5,7 +5,7 @@ use Rattle.std.specs.Prelude.{true, false, [], Some, None}
 use Rattle.masks.specs.equations.Answer.{given, refused}
 use Rattle.masks.specs.Mask.{with_count}
 use Rattle.masks.proofs.tables.WrongMasks.{Tried, left, left_bytes, right, right_bytes}
-use Rattle.dispatch.specs.equations.Dispatch.{may_reassign}
+use Rattle.dispatch.specs.equations.Reassign.{may_reassign}
 
 -- the permission 1,1,0,0 and the revocation 1,0,1,0, which begins at flag 2
 pub record WrongAnswers : Type 0 where

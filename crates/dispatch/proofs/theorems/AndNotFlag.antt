@@ -16,9 +16,9 @@ use Rattle.masks.specs.Mask.{mask_flags}
 use Rattle.masks.specs.declared.bitmap.Bitmap.{Bitmap}
 use Rattle.masks.proofs.theorems.AndNotFlag.{flag-of-and-not as at-and-not, flag-of-written as at-written, no_second}
 use Rattle.masks.proofs.refusal.AnswerLaws.{given-value}
-use Rattle.dispatch.specs.Dispatch.{reassignable}
-use Rattle.dispatch.specs.equations.Dispatch.{may_reassign}
-use Rattle.dispatch.proofs.dispatch.DispatchLaws.{is-and-not-at}
+use Rattle.dispatch.specs.Reassign.{reassignable}
+use Rattle.dispatch.specs.equations.Reassign.{may_reassign}
+use Rattle.dispatch.proofs.reassign.ReassignLaws.{is-and-not-at}
 
 -- ---- no permission mask
 

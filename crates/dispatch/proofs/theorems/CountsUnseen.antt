@@ -12,7 +12,7 @@ use Rattle.masks.specs.declared.bitmap.Bitmap.{Bitmap}
 use Rattle.masks.proofs.statements.CountsUnseen.{UnseenCall, forgot}
 use Rattle.masks.proofs.theorems.CountsUnseenLaws.{at-checks-left, at-checks-right, free-left, free-right, next-checks-left}
 use Rattle.masks.proofs.theorems.CountsUnseenLaws.{next-checks-right}
-use Rattle.dispatch.specs.Dispatch.{reassignable}
+use Rattle.dispatch.specs.Reassign.{reassignable}
 use Rattle.dispatch.specs.Offer.{offer_checks, offered_of, offering}
 use Rattle.dispatch.proofs.statements.CountsUnseen.{CountsUnseen}
 

@@ -18,7 +18,7 @@ use Rattle.masks.proofs.checks.CheckLaws.{is-given}
 use Rattle.masks.specs.Workers.{Searchable}
 use Rattle.masks.proofs.next_and_not.NextAndNotLaws.{elsewhere-accepted, free-length, next-allowed}
 use Rattle.masks.proofs.theorems.NextPlain.{first-listed, free-flag, head_of, ones, ones-same}
-use Rattle.dispatch.specs.Dispatch.{reassignable}
+use Rattle.dispatch.specs.Reassign.{reassignable}
 use Rattle.dispatch.specs.declared.offer.Offering.{Offering}
 use Rattle.dispatch.specs.Offer.{moved_to, next_truck, offer_checks, offered_of, offering, or_else}
 use Rattle.dispatch.specs.equations.Offer.{offer_of}

@@ -8,7 +8,7 @@ use Rattle.masks.specs.Superseding.{part_bytes}
 use Rattle.masks.specs.equations.Superseding.{superseding_of}
 use Rattle.masks.proofs.statements.SupersedingPlain.{Accepted, under}
 use Rattle.masks.specs.declared.bitmap.Bitmap.{Bitmap}
-use Rattle.masks.specs.declared.superseding.Part.{Part}
+use Rattle.masks.specs.declared.superseding.Winner.{Winner}
 use Rattle.histories.proofs.statements.Agreement.{Alike, ComesTo, imported_history}
 use Rattle.histories.proofs.statements.History.{building, from_builder, list_of, start_of}
 use Rattle.histories.specs.Rows.{RowCall}
@@ -20,6 +20,7 @@ pub record SerialsApart {Code : Type 0} (call_of : Code → RowCall) : Type 0 wh
   pub serials : (m : Bitmap) (bytes : List ℕ) (m' : Bitmap) (bytes' : List ℕ) (s s' : ℕ) → Accepted m bytes → Accepted m' bytes'
       → mask_flags m bytes ≡ mask_flags m' bytes' → Alike (under s m) bytes (under s' m') bytes'
   -- the record that `superseding` returns begins a history over the bytes that it returns; the history's list is the winner's flags
-  pub superseded : (a : Bitmap) (a_bytes : List ℕ) (b : Bitmap) (b_bytes : List ℕ) (p : Part) → superseding_of a a_bytes b b_bytes ≡ given p
+  pub superseded : (a : Bitmap) (a_bytes : List ℕ) (b : Bitmap) (b_bytes : List ℕ) (p : Winner)
+      → superseding_of a a_bytes b b_bytes ≡ given p
       → let part = part_bytes p a_bytes b_bytes in let h = imported_history p.mask part in
       ComesTo call_of h p.mask part × (list_of call_of h ≡ cond p.second (mask_flags b b_bytes) (mask_flags a a_bytes))

@@ -22,8 +22,8 @@ use Rattle.masks.proofs.utils.PartLaws.{length-low}
 
 -- ---- a builder that a constructor returns
 
-pub grown-way : (r b : BitmapBuilder) (bytes : List ℕ) (f : Filling) → r ≡ b → filling b bytes ≡ f → filling r bytes ≡ f
-grown-way r b bytes f e h = ap (λ (x : BitmapBuilder). filling x bytes) e ∙ h
+pub rebuilt-way : (r b : BitmapBuilder) (bytes : List ℕ) (f : Filling) → r ≡ b → filling b bytes ≡ f → filling r bytes ≡ f
+rebuilt-way r b bytes f e h = ap (λ (x : BitmapBuilder). filling x bytes) e ∙ h
 
 -- ---- windows of two lists joined
 

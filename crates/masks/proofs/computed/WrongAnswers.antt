@@ -68,7 +68,7 @@ use Rattle.masks.specs.declared.chunks.BitChunks.{BitChunks}
 use Rattle.masks.specs.declared.iterator.BitmapIter.{BitmapIter}
 use Rattle.masks.specs.declared.slice_iterator.Run.{Run}
 use Rattle.masks.specs.declared.slice_iterator.SlicesIterator.{SlicesIterator}
-use Rattle.masks.specs.declared.superseding.Part.{Part}
+use Rattle.masks.specs.declared.superseding.Winner.{Winner}
 use Rattle.masks.specs.declared.true_idx.TrueIdxIter.{TrueIdxIter}
 
 -- ---- codes: an answer as a list of numbers
@@ -126,7 +126,7 @@ recounted_code r = r.zeros ∷ mask_code r.mask
 abbrev builder_code : Code BitmapBuilder
 builder_code b = b.length ∷ b.word ∷ b.ones ∷ b.serial ∷ []
 
-abbrev part_code : Code Part
+abbrev part_code : Code Winner
 part_code p = digit p.second ∷ p.from ∷ p.to ∷ mask_code p.mask
 
 abbrev split_code : Code AlignedBitmapSlice

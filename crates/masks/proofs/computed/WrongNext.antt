@@ -7,7 +7,7 @@ use Rattle.words.specs.Flags.{bits, flags_of, window}
 unfoldable pub use Rattle.words.specs.Flags.{count}
 unfoldable pub use Rattle.words.specs.Nth.{nth_place}
 unfoldable pub use Rattle.words.specs.Ops.{zip3}
-use Rattle.masks.specs.declared.next_and_not.Found.{Found}
+use Rattle.masks.specs.declared.next_and_not.NextFlag.{NextFlag}
 use Rattle.masks.specs.equations.Answer.{decided}
 use Rattle.masks.specs.Checks.{earlier, first_failed, rank, place_in, span_checks}
 use Rattle.masks.specs.Combine.{pair_flags, shortcut}
@@ -19,7 +19,7 @@ use Rattle.masks.specs.Utils.{zeros}
 use Rattle.masks.proofs.tables.WrongNext.{WrongNext}
 use Rattle.masks.proofs.computed.WrongAnswers.{both, Code, number, option, plain}
 
-abbrev found_code : Code Found
+abbrev found_code : Code NextFlag
 found_code f = both (option number) number (f.position, f.windows)
 
 pub next-ruled-out : WrongNext

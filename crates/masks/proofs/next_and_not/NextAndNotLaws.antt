@@ -29,7 +29,7 @@ use Rattle.masks.specs.NextAndNot.{free_flags, going_round, next_checks, next_se
 use Rattle.masks.specs.Workers.{Beside, PassedTo, Searchable}
 use Rattle.masks.specs.Search.{nth_from}
 use Rattle.masks.specs.declared.bitmap.Bitmap.{Bitmap}
-use Rattle.masks.specs.declared.next_and_not.Found.{Found}
+use Rattle.masks.specs.declared.next_and_not.NextFlag.{NextFlag}
 use Rattle.masks.proofs.checks.CheckLaws.{both_left, both_right, check-allowed, one-check, passed-before}
 use Rattle.masks.proofs.iterator.IteratorLaws.{at-end, every-alike, some_alike}
 use Rattle.masks.proofs.bitmap.MaskLaws.{mask-allowed}
@@ -249,7 +249,7 @@ module _ (n from w : ℕ) (few : n ≤ 64) (inside : from ≤ n) where
   word-before r e = e ∙ ap (leading false) (sym (take-take from n (bits 64 w) inside))
 
 -- the answer found in a word that holds all the flags is that of the flags
-pub found-word : (a : Bitmap) (a_bytes : List ℕ) (S : Option Bitmap) (b_bytes : List ℕ) (n from w : ℕ) (r : Found) → Beside n S
+pub found-word : (a : Bitmap) (a_bytes : List ℕ) (S : Option Bitmap) (b_bytes : List ℕ) (n from w : ℕ) (r : NextFlag) → Beside n S
     → n ≡ a.length → take n (bits 64 w) ≡ window (free_flags a a_bytes S b_bytes) 0 n → r ≡ next_set n (take n (bits 64 w)) from
     → r ≡ next_set a.length (free_flags a a_bytes S b_bytes) from
 found-word a a_bytes S b_bytes n from w r h z p e =

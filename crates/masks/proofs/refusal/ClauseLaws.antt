@@ -20,7 +20,7 @@ use Rattle.masks.specs.equations.Superseding.{bytes_of, place_of, record_of}
 use Rattle.masks.specs.declared.bitmap.Bitmap.{Bitmap}
 use Rattle.masks.specs.declared.bitmap.Recounted.{Recounted}
 use Rattle.masks.specs.declared.builder.BitmapBuilder.{BitmapBuilder}
-use Rattle.masks.specs.declared.superseding.Part.{Part}
+use Rattle.masks.specs.declared.superseding.Winner.{Winner}
 use Rattle.masks.specs.declared.cursor.Step.{Step as Stepped}
 use Rattle.masks.specs.declared.refusal.Refusal.{Refusal}
 use Rattle.masks.specs.declared.refusal.Refused.{Refused}
@@ -200,40 +200,40 @@ clauses-changed (Err k) m n s out old f e p =
 
 -- ---- the record of a part
 
-recorded : (k : ℕ) (p : Part) → decided k tt p.mask ≡ record_of (decided k tt p)
+recorded : (k : ℕ) (p : Winner) → decided k tt p.mask ≡ record_of (decided k tt p)
 unfolding decided
 recorded zero p = refl
 recorded (suc k) p = refl
 
-pub answered_record : (r : Result Bitmap Refusal) (k : ℕ) (p : Part) → failure_of r ≡ k → IfOk r (λ m. m ≡ p.mask)
+pub answered_record : (r : Result Bitmap Refusal) (k : ℕ) (p : Winner) → failure_of r ≡ k → IfOk r (λ m. m ≡ p.mask)
     → answer r ≡ record_of (decided k tt p)
 answered_record r k p e v = answered r k p.mask e v ∙ recorded k p
 
-pub clauses-answered_record : (r : Result Bitmap Refusal) (k : ℕ) (p : Part) → answer r ≡ record_of (decided k tt p)
+pub clauses-answered_record : (r : Result Bitmap Refusal) (k : ℕ) (p : Winner) → answer r ≡ record_of (decided k tt p)
     → (failure_of r ≡ k) × IfOk r (λ m. m ≡ p.mask)
 clauses-answered_record r k p e = clauses-answered r k p.mask (e ∙ sym (recorded k p))
 
 -- ---- the part of a slice that a call returns, by the number k of its checks
 
-pub part_given : (k : ℕ) (p : Part) (a b x : List ℕ) → (k ≡ 0 → x ≡ part_bytes p a b) → ((k ≡ 0 → ⊥) → x ≡ [])
+pub part_given : (k : ℕ) (p : Winner) (a b x : List ℕ) → (k ≡ 0 → x ≡ part_bytes p a b) → ((k ≡ 0 → ⊥) → x ≡ [])
     → x ≡ bytes_of (decided k tt p) a b
 unfolding decided
 part_given zero p a b x given-case refused-case = given-case refl
 part_given (suc k) p a b x given-case refused-case = refused-case (λ e. omega arith)
 
-pub place_given : (k : ℕ) (p : Part) (a b x : ℕ × ℕ) → (k ≡ 0 → x ≡ part_place p a b) → ((k ≡ 0 → ⊥) → x ≡ a)
+pub place_given : (k : ℕ) (p : Winner) (a b x : ℕ × ℕ) → (k ≡ 0 → x ≡ part_place p a b) → ((k ≡ 0 → ⊥) → x ≡ a)
     → x ≡ place_of (decided k tt p) a b
 unfolding decided
 place_given zero p a b x given-case refused-case = given-case refl
 place_given (suc k) p a b x given-case refused-case = refused-case (λ e. omega arith)
 
-pub clauses-part_given : (k : ℕ) (p : Part) (a b x : List ℕ) → x ≡ bytes_of (decided k tt p) a b
+pub clauses-part_given : (k : ℕ) (p : Winner) (a b x : List ℕ) → x ≡ bytes_of (decided k tt p) a b
     → (k ≡ 0 → x ≡ part_bytes p a b) × ((k ≡ 0 → ⊥) → x ≡ [])
 unfolding decided
 clauses-part_given zero p a b x e = (λ _. e, λ h. absurd (h refl))
 clauses-part_given (suc k) p a b x e = (λ z. absurd (omega arith), λ _. e)
 
-pub clauses-place_given : (k : ℕ) (p : Part) (a b x : ℕ × ℕ) → x ≡ place_of (decided k tt p) a b
+pub clauses-place_given : (k : ℕ) (p : Winner) (a b x : ℕ × ℕ) → x ≡ place_of (decided k tt p) a b
     → (k ≡ 0 → x ≡ part_place p a b) × ((k ≡ 0 → ⊥) → x ≡ a)
 unfolding decided
 clauses-place_given zero p a b x e = (λ _. e, λ h. absurd (h refl))

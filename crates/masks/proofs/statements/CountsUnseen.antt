@@ -20,13 +20,13 @@ use Rattle.masks.specs.Superseding.{superseding_checks, winning}
 use Rattle.masks.specs.TrueIdx.{first_true, new_true_checks}
 use Rattle.masks.specs.declared.bitmap.Bitmap.{Bitmap}
 use Rattle.masks.specs.declared.builder.BitmapBuilder.{BitmapBuilder}
-use Rattle.masks.specs.declared.superseding.Part.{Part}
+use Rattle.masks.specs.declared.superseding.Winner.{Winner}
 
 -- a mask with its count made unknown
 abbrev pub forgot : Bitmap → Bitmap
 forgot m = with_count m None
 
-abbrev pub forgot_part : Part → Part
+abbrev pub forgot_part : Winner → Winner
 forgot_part p = record { second = p.second; from = p.from; to = p.to; mask = forgot p.mask }
 
 -- the value f of a mask is the same for the mask with its count made unknown

@@ -4,10 +4,10 @@ use Rattle.masks.specs.equations.Answer.{given, refused}
 use Rattle.masks.specs.Checks.{first_failed}
 use Rattle.masks.specs.equations.Compare.{eq_of}
 use Rattle.masks.specs.Mask.{mask_checks, mask_flags, mask_under}
-use Rattle.masks.specs.Superseding.{fitted, part_bytes, part_of, part_place, within}
+use Rattle.masks.specs.Superseding.{fitted, part_bytes, winner_of, part_place, within}
 use Rattle.masks.specs.equations.Superseding.{superseding_of}
 use Rattle.masks.specs.declared.bitmap.Bitmap.{Bitmap}
-use Rattle.masks.specs.declared.superseding.Part.{Part}
+use Rattle.masks.specs.declared.superseding.Winner.{Winner}
 
 -- a mask whose checks 1, 2 and 3 pass
 abbrev pub Accepted : Bitmap → List ℕ → Type 0
@@ -22,12 +22,12 @@ under serial m = mask_under serial m.start m.length m.unset
 pub record Supersedes (a : Bitmap) (a_bytes : List ℕ) (b : Bitmap) (b_bytes : List ℕ) : Type 0 where
   -- the larger serial wins, whatever the lists are
   pub first_larger : Accepted a a_bytes → Accepted b b_bytes → b.serial < a.serial
-      → superseding_of a a_bytes b b_bytes ≡ given (part_of false a)
+      → superseding_of a a_bytes b b_bytes ≡ given (winner_of false a)
   pub second_larger : Accepted a a_bytes → Accepted b b_bytes → a.serial < b.serial
-      → superseding_of a a_bytes b b_bytes ≡ given (part_of true b)
+      → superseding_of a a_bytes b b_bytes ≡ given (winner_of true b)
   -- if serials and lists are equal, the first wins
   pub equal : Accepted a a_bytes → Accepted b b_bytes → a.serial ≡ b.serial → mask_flags a a_bytes ≡ mask_flags b b_bytes
-      → superseding_of a a_bytes b b_bytes ≡ given (part_of false a)
+      → superseding_of a a_bytes b b_bytes ≡ given (winner_of false a)
   -- if serials are equal and lists differ, the call refuses with 14
   pub different : Accepted a a_bytes → Accepted b b_bytes → a.serial ≡ b.serial → (mask_flags a a_bytes ≡ mask_flags b b_bytes → ⊥)
       → superseding_of a a_bytes b b_bytes ≡ refused 14 tt
@@ -54,7 +54,7 @@ pub record Fits (m : Bitmap) (bytes part : List ℕ) : Type 0 where
 
 -- the part that the call returns: it is the part of the mask with the larger serial, of the first if they are equal; its record has that
 -- mask's flags, over the bytes that the call returns, and its count and serial, and passes a mask's checks
-pub record Winning (a : Bitmap) (a_bytes : List ℕ) (b : Bitmap) (b_bytes : List ℕ) (p : Part) : Type 0 where
+pub record Winning (a : Bitmap) (a_bytes : List ℕ) (b : Bitmap) (b_bytes : List ℕ) (p : Winner) : Type 0 where
   pub second : p.second ≡ true → a.serial < b.serial
   pub first : p.second ≡ false → b.serial ≤ a.serial
   pub flags : mask_flags p.mask (part_bytes p a_bytes b_bytes) ≡ cond p.second (mask_flags b b_bytes) (mask_flags a a_bytes)
@@ -67,8 +67,8 @@ pub record Winning (a : Bitmap) (a_bytes : List ℕ) (b : Bitmap) (b_bytes : Lis
 
 pub record SupersedingPlainly : Type 0 where
   pub supersedes : (a : Bitmap) (a_bytes : List ℕ) (b : Bitmap) (b_bytes : List ℕ) → Supersedes a a_bytes b b_bytes
-  pub won : (a : Bitmap) (a_bytes : List ℕ) (b : Bitmap) (b_bytes : List ℕ) (p : Part) → superseding_of a a_bytes b b_bytes ≡ given p
+  pub won : (a : Bitmap) (a_bytes : List ℕ) (b : Bitmap) (b_bytes : List ℕ) (p : Winner) → superseding_of a a_bytes b b_bytes ≡ given p
       → Winning a a_bytes b b_bytes p
   -- for every mask that is accepted, a winner or not
   pub fits : (second : Bool) (m : Bitmap) (bytes : List ℕ) → Accepted m bytes
-      → let p = part_of second m in (p.mask ≡ fitted m) × Fits m bytes (within p.from p.to bytes)
+      → let p = winner_of second m in (p.mask ≡ fitted m) × Fits m bytes (within p.from p.to bytes)

@@ -10,9 +10,9 @@ use borrow.Author.Tests.{eq-eqb, ne_eqb, le-ltb, lt-ltb}
 use Rattle.words.specs.Counts.{same_flags}
 use Rattle.masks.specs.Checks.{Check, check, earlier, first_failed, rank, place_in, span_checks}
 use Rattle.masks.specs.Mask.{mask_checks, mask_flags}
-use Rattle.masks.specs.Superseding.{agree, part_of, superseding_checks, winning}
+use Rattle.masks.specs.Superseding.{agree, winner_of, superseding_checks, winning}
 use Rattle.masks.specs.declared.bitmap.Bitmap.{Bitmap}
-use Rattle.masks.specs.declared.superseding.Part.{Part}
+use Rattle.masks.specs.declared.superseding.Winner.{Winner}
 use Rattle.masks.proofs.checks.CheckLaws.{SpanAllowed, before, both_left, both_right, earlier-none, failed-append, first-number}
 use Rattle.masks.proofs.checks.CheckLaws.{one-check, passed-before, two_pieces}
 use Rattle.masks.proofs.bitmap.MaskLaws.{mask-allowed}
@@ -69,22 +69,22 @@ module _ (a : Bitmap) (a_bytes : List ℕ) (b : Bitmap) (b_bytes : List ℕ) whe
 
 -- ---- the winner
 
-pub second_wins : (a b : Bitmap) (p : Part) → a.serial < b.serial → p ≡ part_of true b → p ≡ winning a b
-second_wins a b p h made = made ∙ sym (ap (λ (t : Bool). cond t (part_of true b) (part_of false a)) (lt-ltb a.serial b.serial h))
+pub second_wins : (a b : Bitmap) (p : Winner) → a.serial < b.serial → p ≡ winner_of true b → p ≡ winning a b
+second_wins a b p h made = made ∙ sym (ap (λ (t : Bool). cond t (winner_of true b) (winner_of false a)) (lt-ltb a.serial b.serial h))
 
-pub first_wins : (a b : Bitmap) (p : Part) → b.serial ≤ a.serial → p ≡ part_of false a → p ≡ winning a b
-first_wins a b p h made = made ∙ sym (ap (λ (t : Bool). cond t (part_of true b) (part_of false a)) (le-ltb a.serial b.serial h))
+pub first_wins : (a b : Bitmap) (p : Winner) → b.serial ≤ a.serial → p ≡ winner_of false a → p ≡ winning a b
+first_wins a b p h made = made ∙ sym (ap (λ (t : Bool). cond t (winner_of true b) (winner_of false a)) (le-ltb a.serial b.serial h))
 
 -- ---- the part of the bytes
 
 -- a part lies inside the caller's slice
-pub record Inside (p : Part) (a_bytes b_bytes : List ℕ) : Type 0 where
+pub record Inside (p : Winner) (a_bytes b_bytes : List ℕ) : Type 0 where
   pub rising : p.from ≤ p.to
   pub ends : p.to ≤ length (cond p.second b_bytes a_bytes)
 
 allowed-inside : (second : Bool) (m : Bitmap) (a_bytes b_bytes : List ℕ)
     → SpanAllowed m.start m.length (length (cond second b_bytes a_bytes))
-    → Inside (part_of second m) a_bytes b_bytes
+    → Inside (winner_of second m) a_bytes b_bytes
 allowed-inside second m a_bytes b_bytes s =
     let inside : m.start + m.length ≤ 8 * length (cond second b_bytes a_bytes) = s.inside in
     record { rising = omega arith; ends = omega arith }
@@ -93,14 +93,14 @@ winning-inside : (a : Bitmap) (a_bytes : List ℕ) (b : Bitmap) (b_bytes : List 
     → Inside (winning a b) a_bytes b_bytes
 winning-inside a a_bytes b b_bytes e = go (ltb a.serial b.serial)
   where
-    go : (t : Bool) → Inside (cond t (part_of true b) (part_of false a)) a_bytes b_bytes
+    go : (t : Bool) → Inside (cond t (winner_of true b) (winner_of false a)) a_bytes b_bytes
     go true = allowed-inside true b a_bytes b_bytes (second-allowed-mask a a_bytes b b_bytes e)
     go false = allowed-inside false a a_bytes b_bytes (first-allowed-mask a a_bytes b b_bytes e)
 
-module _ (a : Bitmap) (a_bytes : List ℕ) (b : Bitmap) (b_bytes : List ℕ) (p : Part)
+module _ (a : Bitmap) (a_bytes : List ℕ) (b : Bitmap) (b_bytes : List ℕ) (p : Winner)
     (e : 0 ≡ first_failed (superseding_checks a a_bytes b b_bytes)) (won : p ≡ winning a b) where
   pub won-inside : Inside p a_bytes b_bytes
-  won-inside = subst (λ (x : Part). Inside x a_bytes b_bytes) (sym won) (winning-inside a a_bytes b b_bytes (sym e))
+  won-inside = subst (λ (x : Winner). Inside x a_bytes b_bytes) (sym won) (winning-inside a a_bytes b b_bytes (sym e))
 
   pub second-inside : p.second ≡ true → p.to ≤ length b_bytes
   second-inside s = subst (λ (t : Bool). p.to ≤ length (cond t b_bytes a_bytes)) s won-inside.ends

@@ -31,7 +31,7 @@ use Rattle.masks.specs.TrueIdx.{true_at}
 use Rattle.masks.specs.equations.TrueIdx.{new_true, next_true}
 use Rattle.masks.specs.declared.bitmap.Bitmap.{Bitmap}
 use Rattle.masks.specs.declared.slice_iterator.Run.{Run}
-use Rattle.masks.specs.declared.superseding.Part.{Part}
+use Rattle.masks.specs.declared.superseding.Winner.{Winner}
 use Rattle.masks.proofs.tables.EdgeRows.{SplitRow}
 use Rattle.masks.proofs.tables.LargeRows.{Hold}
 use Rattle.masks.proofs.tables.PastRows.{appending_to, made_mask, mask_numbers, recounted_numbers, found_numbers, flagged}
@@ -72,11 +72,11 @@ validity_count (given None) = []
 validity_count (refused k s) = k ∷ k ∷ k ∷ []
 
 -- a part's numbers; and where the bytes of a part lie, for slices at two places
-abbrev pub won_part : Answer (Unit {0}) Part → List ℕ
+abbrev pub won_part : Answer (Unit {0}) Winner → List ℕ
 won_part (given p) = digit p.second ∷ p.from ∷ p.to ∷ mask_numbers p.mask
 won_part (refused k s) = k ∷ []
 
-abbrev pub lies : Answer (Unit {0}) Part → List ℕ
+abbrev pub lies : Answer (Unit {0}) Winner → List ℕ
 lies a = (place_of a (10, 200) (30, 400)).0 ∷ (place_of a (10, 200) (30, 400)).1 ∷ []
 
 -- ---- the rows

@@ -30,9 +30,9 @@ use Rattle.masks.specs.equations.TrueIdx.{next_true}
 use Rattle.masks.specs.declared.bitmap.Bitmap.{Bitmap}
 use Rattle.masks.specs.declared.bitmap.Recounted.{Recounted}
 use Rattle.masks.specs.declared.builder.BitmapBuilder.{BitmapBuilder}
-use Rattle.masks.specs.declared.next_and_not.Found.{Found}
+use Rattle.masks.specs.declared.next_and_not.NextFlag.{NextFlag}
 use Rattle.masks.specs.declared.slice_iterator.Run.{Run}
-use Rattle.masks.specs.declared.superseding.Part.{Part}
+use Rattle.masks.specs.declared.superseding.Winner.{Winner}
 use Rattle.masks.proofs.tables.EdgeRows.{SplitRow}
 use Rattle.masks.proofs.tables.LargeRows.{Hold, above, wide, largest}
 use Rattle.masks.proofs.tables.StartRows.{numbers, stepped, chunks_numbers, iter_numbers, slices_numbers, true_numbers, paired, remaining}
@@ -58,11 +58,11 @@ abbrev pub recounted_numbers : Answer Bitmap Recounted → List ℕ
 recounted_numbers (given r) = r.zeros ∷ mask_numbers r.mask
 recounted_numbers (refused k m) = []
 
-abbrev pub found_numbers : Answer (Unit {0}) Found → List ℕ
+abbrev pub found_numbers : Answer (Unit {0}) NextFlag → List ℕ
 found_numbers (given f) = f.windows ∷ placed (given f.position)
 found_numbers (refused k s) = []
 
-abbrev pub won : Answer (Unit {0}) Part → List ℕ
+abbrev pub won : Answer (Unit {0}) Winner → List ℕ
 won (given p) = digit p.second ∷ mask_numbers p.mask
 won (refused k s) = k ∷ []
 

@@ -2,7 +2,7 @@
 --
 -- Rows as in `WrongAnswers` of words: the definition at one input, its value, and two answers of a faulty call.
 use Rattle.std.specs.Prelude.{ℕ, List, [], ◌∷◌, Some, None}
-use Rattle.masks.specs.declared.next_and_not.Found.{Found}
+use Rattle.masks.specs.declared.next_and_not.NextFlag.{NextFlag}
 use Rattle.masks.specs.equations.Answer.{given, refused}
 use Rattle.masks.specs.Mask.{mask_of}
 use Rattle.masks.specs.equations.NextAndNot.{next_and_not_of}
@@ -25,10 +25,10 @@ taken40 = mask_of 2 40 None
 abbrev pub taken40_bytes : List ℕ
 taken40_bytes = 0x20 ∷ 0 ∷ 0 ∷ 0 ∷ 0 ∷ 0x01 ∷ []
 
-abbrev pub at : ℕ → ℕ → Found
+abbrev pub at : ℕ → ℕ → NextFlag
 at p k = record { position = Some p; windows = k }
 
-abbrev pub nowhere : ℕ → Found
+abbrev pub nowhere : ℕ → NextFlag
 nowhere k = record { position = None; windows = k }
 
 pub record WrongNext : Type 0 where

@@ -17,7 +17,7 @@ use Rattle.masks.proofs.tables.WrongBuilders.{appending, freezing}
 use Rattle.masks.proofs.tables.WrongMasks.{Written, paired}
 use Rattle.masks.proofs.tables.WrongSpans.{two}
 use Rattle.masks.specs.declared.bitmap.Bitmap.{Bitmap}
-use Rattle.masks.specs.declared.superseding.Part.{Part}
+use Rattle.masks.specs.declared.superseding.Winner.{Winner}
 
 -- ---- inputs
 
@@ -39,7 +39,7 @@ low = mask_under 5 0 4 (Some 0)
 abbrev pub high : Bitmap
 high = mask_under 5 4 4 (Some 0)
 
-abbrev pub part : Bool → ℕ → ℕ → Bitmap → Part
+abbrev pub part : Bool → ℕ → ℕ → Bitmap → Winner
 part second from to m = record { second = second; from = from; to = to; mask = m }
 
 -- one of the flags 11 to 14 is a zero

@@ -14,7 +14,7 @@ use Rattle.masks.specs.Combine.{largest_serial, pair_flags, pair_mask}
 use Rattle.masks.specs.Compare.{common_checks}
 use Rattle.masks.specs.Mask.{mask_checks, piece_checks, slice_checks, zero_count}
 use Rattle.masks.specs.NextAndNot.{next_set}
-use Rattle.masks.specs.Superseding.{agree, part_of, superseding_checks}
+use Rattle.masks.specs.Superseding.{agree, winner_of, superseding_checks}
 use Rattle.masks.specs.TrueIdx.{first_true, new_true_checks}
 use Rattle.masks.specs.declared.bitmap.Bitmap.{Bitmap}
 use Rattle.masks.specs.declared.builder.BitmapBuilder.{BitmapBuilder}
@@ -24,13 +24,13 @@ use Rattle.masks.proofs.theorems.CountsUnseenLaws.{next-checks-right, not_alike,
 use Rattle.masks.proofs.theorems.CountsUnseenLaws.{select-left, select-middle, select-right}
 use Rattle.masks.proofs.theorems.SliceTruth.{slice-number}
 
-won-left : (m b : Bitmap) (t : Bool) → forgot_part (cond t (part_of true b) (part_of false m))
-    ≡ forgot_part (cond t (part_of true b) (part_of false (forgot m)))
+won-left : (m b : Bitmap) (t : Bool) → forgot_part (cond t (winner_of true b) (winner_of false m))
+    ≡ forgot_part (cond t (winner_of true b) (winner_of false (forgot m)))
 won-left m b true = refl
 won-left m b false = refl
 
-won-right : (b m : Bitmap) (t : Bool) → forgot_part (cond t (part_of true m) (part_of false b))
-    ≡ forgot_part (cond t (part_of true (forgot m)) (part_of false b))
+won-right : (b m : Bitmap) (t : Bool) → forgot_part (cond t (winner_of true m) (winner_of false b))
+    ≡ forgot_part (cond t (winner_of true (forgot m)) (winner_of false b))
 won-right b m true = refl
 won-right b m false = refl
 

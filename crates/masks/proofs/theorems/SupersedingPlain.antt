@@ -18,12 +18,12 @@ use Rattle.masks.specs.equations.Answer.{given, refused}
 use Rattle.masks.specs.Checks.{Check, check, first_failed, limit, place_in, rank, span_checks}
 use Rattle.masks.specs.equations.Compare.{eq_of}
 use Rattle.masks.specs.Mask.{count_is, count_valid, mask_checks, mask_flags}
-use Rattle.masks.specs.Superseding.{agree, fitted, part_of, superseding_checks, winning, within}
+use Rattle.masks.specs.Superseding.{agree, fitted, winner_of, superseding_checks, winning, within}
 use Rattle.masks.specs.equations.Superseding.{superseding_of}
 use Rattle.masks.proofs.statements.SupersedingPlain.{Accepted, Fits, Supersedes, SupersedingPlainly, Winning}
 use Rattle.masks.specs.Utils.{zeros}
 use Rattle.masks.specs.declared.bitmap.Bitmap.{Bitmap}
-use Rattle.masks.specs.declared.superseding.Part.{Part}
+use Rattle.masks.specs.declared.superseding.Winner.{Winner}
 use Rattle.masks.proofs.theorems.Accepted.{span-accepted}
 use Rattle.masks.proofs.refusal.AnswerLaws.{given-number, given-value, refused-number}
 use Rattle.masks.proofs.checks.CheckLaws.{SpanAllowed, before, both_left, both_right, check-allowed, earlier-none, failed-ranked}
@@ -185,7 +185,7 @@ module _ (a : Bitmap) (a_bytes : List ℕ) (b : Bitmap) (b_bytes : List ℕ) whe
         (eqb-true a.serial b.serial told.0, λ l. true≢false (sym (equal-same (mask_flags a a_bytes) (mask_flags b b_bytes) l) ∙ told.1)),
       )
 
-  given-part : (p : Part) → 0 ≡ first_failed (superseding_checks a a_bytes b b_bytes) → p ≡ winning a b
+  given-part : (p : Winner) → 0 ≡ first_failed (superseding_checks a a_bytes b b_bytes) → p ≡ winning a b
       → superseding_of a a_bytes b b_bytes ≡ given p
   unfolding superseding_of
   given-part p e won =
@@ -195,11 +195,13 @@ module _ (a : Bitmap) (a_bytes : List ℕ) (b : Bitmap) (b_bytes : List ℕ) whe
   unfolding eq_of mask_checks
   supersedes = record {
     first_larger =
-        λ p q h. given-part (part_of false a) (apart-passed p q (λ s. omega arith)) (first_wins a b (part_of false a) (omega arith) refl);
-    second_larger = λ p q h. given-part (part_of true b) (apart-passed p q (λ s. omega arith)) (second_wins a b (part_of true b) h refl);
+        λ p q h. given-part (winner_of false a) (apart-passed p q (λ s. omega arith))
+        (first_wins a b (winner_of false a) (omega arith) refl);
+    second_larger =
+        λ p q h. given-part (winner_of true b) (apart-passed p q (λ s. omega arith)) (second_wins a b (winner_of true b) h refl);
     equal = λ p q s e.
-        given-part (part_of false a) (equal-passed p q s (equal-same (mask_flags a a_bytes) (mask_flags b b_bytes) e))
-        (first_wins a b (part_of false a) (omega arith) refl);
+        given-part (winner_of false a) (equal-passed p q s (equal-same (mask_flags a a_bytes) (mask_flags b b_bytes) e))
+        (first_wins a b (winner_of false a) (omega arith) refl);
     different = λ p q s n. sym (refused-different p q s n);
     fourteen = fourteen-only;
     eq_unserialled = λ s t. refl;
@@ -213,7 +215,7 @@ module _ (a : Bitmap) (a_bytes : List ℕ) (b : Bitmap) (b_bytes : List ℕ)
   unfolding superseding_checks
   accepted-masks = both_left (mask_checks a a_bytes ++ mask_checks b b_bytes) (check 14 (agree a a_bytes b b_bytes) ∷ []) (sym e)
 
-  won-part : (t : Bool) → ltb a.serial b.serial ≡ t → Winning a a_bytes b b_bytes (cond t (part_of true b) (part_of false a))
+  won-part : (t : Bool) → ltb a.serial b.serial ≡ t → Winning a a_bytes b b_bytes (cond t (winner_of true b) (winner_of false a))
   won-part true h =
       let part = fits-part b b_bytes (both_right (mask_checks a a_bytes) (mask_checks b b_bytes) accepted-masks) in
       record {
@@ -237,7 +239,7 @@ module _ (a : Bitmap) (a_bytes : List ℕ) (b : Bitmap) (b_bytes : List ℕ)
         place = λ x y. refl;
       }
 
-given-won : (a : Bitmap) (a_bytes : List ℕ) (b : Bitmap) (b_bytes : List ℕ) (p : Part) → superseding_of a a_bytes b b_bytes ≡ given p
+given-won : (a : Bitmap) (a_bytes : List ℕ) (b : Bitmap) (b_bytes : List ℕ) (p : Winner) → superseding_of a a_bytes b b_bytes ≡ given p
     → Winning a a_bytes b b_bytes p
 unfolding superseding_of
 given-won a a_bytes b b_bytes p e =

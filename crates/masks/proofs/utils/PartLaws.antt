@@ -9,7 +9,7 @@ use lib.Dec.{eqb}
 use lib.Seq.{take_all}
 use Rattle.words.specs.Ends.{leading, trailing}
 use Rattle.words.specs.Flags.{bits, count, flags_of, window}
-use Rattle.words.specs.Uniform.{all_are}
+use Rattle.words.specs.Uniform.{all_equal}
 use Rattle.words.proofs.flags.Bits.{length-bits}
 use Rattle.words.proofs.counts.Counting.{count-append, count-padded, count-not, count-le}
 use Rattle.words.proofs.ends.EndLaws.{leading_le, leading-some, leading-all, trailing_le, trailing-some, trailing-all}
@@ -157,8 +157,8 @@ unfolding zeros
 zeros-none bytes start n e = omega (arith, count-not (window (flags_of bytes) start n), length-window (flags_of bytes) start n)
 
 -- all flags are x exactly if the number of zeros is `zeros_of_all x n`
-pub all-zeros : (x : Bool) (l : List Bool) (n : ℕ) (t : Bool) → length l ≡ n → t ≡ all_are x l → t ≡ eqb (zeros l) (zeros_of_all x n)
-unfolding zeros all_are
+pub all-zeros : (x : Bool) (l : List Bool) (n : ℕ) (t : Bool) → length l ≡ n → t ≡ all_equal x l → t ≡ eqb (zeros l) (zeros_of_all x n)
+unfolding zeros all_equal
 all-zeros true l n t e p =
     p ∙ eqb-both (count l) (length l * 1) (count (map not l)) 0 (λ h. omega (arith, count-not l)) (λ h. omega (arith, count-not l))
 all-zeros false l n t e p =

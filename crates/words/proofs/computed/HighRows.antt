@@ -9,11 +9,11 @@ use Rattle.words.specs.Loops.{whole_words}
 use Rattle.words.specs.Merge.{merged}
 use Rattle.words.specs.Nth.{nth_one, nth_place}
 use Rattle.words.specs.Ops.{zip3}
-use Rattle.words.specs.Uniform.{all_are, differs_early}
+use Rattle.words.specs.Uniform.{all_equal, differs_early}
 use Rattle.words.proofs.tables.HighRows.{column_rows, word_rows, long_rows, HighHolds}
 
 pub all_hold : HighHolds
 unfolding
     column_rows word_rows long_rows bits word_of flags_of copies window over over_at count column columns_from column_counts
-    any_set same_flags leading trailing whole_words merged nth_one nth_place zip3 all_are differs_early xor
+    any_set same_flags leading trailing whole_words merged nth_one nth_place zip3 all_equal differs_early xor
 all_hold = record { columns = refl; words = refl; longs = refl }

@@ -11,7 +11,7 @@ use Rattle.words.specs.Flags.{bits, copies, count, digit, flags_of, over, over_a
 use Rattle.words.specs.Loops.{combined, stretch, whole_words}
 use Rattle.words.specs.Merge.{merged}
 use Rattle.words.specs.Nth.{nth_one}
-use Rattle.words.specs.Uniform.{all_are, differs_early}
+use Rattle.words.specs.Uniform.{all_equal, differs_early}
 use Rattle.words.specs.declared.ops.Op.TheVariants.{And, AndNot, Or, OrNot, Xor, Select}
 
 pub record Row : Type 0 where
@@ -92,9 +92,9 @@ long_rows =
     ∷ same_flags (copies 70 true) (copies 71 true) ∷ []))
     (1 ∷ 0 ∷ 0 ∷ [])
     ∷ numbers
-    (map digit (all_are true (copies 300 true) ∷ all_are true (copies 299 true ++ (false ∷ []))
-    ∷ all_are false (copies 299 false ++ (true ∷ []))
-    ∷ all_are false (copies 256 true) ∷ all_are true (copies 256 false) ∷ []))
+    (map digit (all_equal true (copies 300 true) ∷ all_equal true (copies 299 true ++ (false ∷ []))
+    ∷ all_equal false (copies 299 false ++ (true ∷ []))
+    ∷ all_equal false (copies 256 true) ∷ all_equal true (copies 256 false) ∷ []))
     (1 ∷ 0 ∷ 0 ∷ 0 ∷ 0 ∷ [])
     -- the first flags that differ: the 64th, starting at 0 and at 7 of the first byte; not the 65th
     ∷ numbers

@@ -7,7 +7,7 @@ use Rattle.words.specs.Counts.{any_set, same_flags}
 use Rattle.words.specs.Flags.{copies, digit, over_at}
 use Rattle.words.specs.Loops.{combined, whole_words}
 use Rattle.words.specs.Merge.{merged}
-use Rattle.words.specs.Uniform.{all_are, differs_early}
+use Rattle.words.specs.Uniform.{all_equal, differs_early}
 use Rattle.words.specs.declared.ops.Op.TheVariants.{AndNot, Not, Select}
 
 pub record Row : Type 0 where
@@ -47,7 +47,7 @@ rows =
     ∷ row (any_set [] ∷ any_set (false ∷ true ∷ []) ∷ any_set (false ∷ false ∷ []) ∷ []) (0 ∷ 1 ∷ 0 ∷ [])
     -- Whether all flags equal one flag: ones equal to 1, zeros to 0, a one and a zero to 1, the same two to 0.
     ∷ row
-    (all_are true (true ∷ true ∷ []) ∷ all_are false (false ∷ false ∷ []) ∷ all_are true (true ∷ false ∷ []) ∷ all_are false
+    (all_equal true (true ∷ true ∷ []) ∷ all_equal false (false ∷ false ∷ []) ∷ all_equal true (true ∷ false ∷ []) ∷ all_equal false
     (true ∷ false ∷ []) ∷ [])
     (1 ∷ 1 ∷ 0 ∷ 0 ∷ [])
     -- Whether one of the first flags is not set: of fewer than eight bytes no; of eight ones at 4, of four ones, of three ones and a zero.

@@ -1,4 +1,4 @@
--- The plain reading of `Flags`, `Ops`, `Loops`, `Merge`, `Nth`, `Counts` and `all_are` of specs/: how long each list is, what its flag j
+-- The plain reading of `Flags`, `Ops`, `Loops`, `Merge`, `Nth`, `Counts` and `all_equal` of specs/: how long each list is, what its flag j
 -- is, what is counted and what is found. A reading that is a law of another file is named, not repeated.
 --
 -- `digit`, `bit_at`, `flag_at` and `op_of` are plain as they are. Flag j of a list l is `get_or l j false`: false past its end.
@@ -17,7 +17,7 @@ use Rattle.words.specs.Loops.{stretch, combined, whole_words}
 use Rattle.words.specs.Merge.{merged}
 use Rattle.words.specs.Nth.{nth_one, nth_place}
 use Rattle.words.specs.Ops.{op_of, zip3}
-use Rattle.words.specs.Uniform.{all_are}
+use Rattle.words.specs.Uniform.{all_equal}
 use Rattle.words.specs.declared.ops.Op.{Op}
 use Rattle.words.proofs.counts.AnyFlag.{any_some}
 use Rattle.words.proofs.flags.Bits.{length-bits, halves, eqb-is_one}
@@ -296,7 +296,7 @@ equal-same a b e = ap (same_flags a) (sym e) ∙ itself a
 -- ---- whether all flags equal one flag
 
 -- A list whose flags are all x consists of copies of x,
-pub all-copies : (x : Bool) (l : List Bool) → all_are x l ≡ true → l ≡ copies (length l) x
+pub all-copies : (x : Bool) (l : List Bool) → all_equal x l ≡ true → l ≡ copies (length l) x
 unfolding copies xor
 all-copies x [] e = refl
 all-copies true (true ∷ l) e = ap (λ (t : List Bool). true ∷ t) (all-copies true l (sym (all_cons true true l) ∙ e))
@@ -307,7 +307,7 @@ all-copies false (true ∷ l) e =
     absurd (let f : false ≡ true = sym (all_cons false true l) ∙ e in let z : ◌≡◌ {A = ℕ} 0 1 = cc f in omega arith)
 
 -- and copies of x are all x.
-pub copies-all : (x : Bool) (n : ℕ) → all_are x (copies n x) ≡ true
+pub copies-all : (x : Bool) (n : ℕ) → all_equal x (copies n x) ≡ true
 unfolding copies xor
 copies-all x zero = all_none x
 copies-all true (suc n) = all_cons true true (copies n true) ∙ copies-all true n

@@ -10,7 +10,7 @@ use Rattle.std.proofs.Common.{true≢false}
 use Rattle.std.proofs.lemmas.Bool.{cases_lt}
 use Rattle.words.specs.Flags.{bits, count, digit, flags_of, window}
 use Rattle.words.specs.Counts.{any_set}
-use Rattle.words.specs.Uniform.{all_are, differs_early}
+use Rattle.words.specs.Uniform.{all_equal, differs_early}
 use Rattle.words.proofs.counts.AnyFlag.{any-add, any-copies, any-padded}
 use Rattle.words.proofs.flags.Bits.{length-bits}
 use Rattle.words.proofs.counts.Counting.{count-le, span-word}
@@ -27,14 +27,14 @@ eqb-both a b c d f g = go (eqb c d) refl
     go true e = eq-eqb a b (g (eqb-true c d e))
     go false e = ne_eqb a b (λ h. eqb-false c d e (f h))
 
-pub all_none : (x : Bool) → all_are x [] ≡ true
-unfolding all_are count
+pub all_none : (x : Bool) → all_equal x [] ≡ true
+unfolding all_equal count
 all_none true = eq-eqb 0 (0 * 1) (omega arith)
 all_none false = eq-eqb 0 (0 * 0) (omega arith)
 
 -- a list with a first flag y is all x if y is x and the others are
-pub all_cons : (x y : Bool) (l : List Bool) → all_are x (y ∷ l) ≡ (not (xor x y) && all_are x l)
-unfolding all_are count xor
+pub all_cons : (x y : Bool) (l : List Bool) → all_equal x (y ∷ l) ≡ (not (xor x y) && all_equal x l)
+unfolding all_equal count xor
 all_cons true true l = eqb-both (1 + count l) (suc (length l) * 1) (count l) (length l * 1) (λ e. omega arith) (λ e. omega arith)
 all_cons true false l = ne_eqb (0 + count l) (suc (length l) * 1) (λ e. omega (arith, count-le l))
 all_cons false true l = ne_eqb (1 + count l) (suc (length l) * 0) (λ e. omega arith)
@@ -50,14 +50,14 @@ unfolding xor
 zero_xor true = refl
 zero_xor false = refl
 
-pub all_append : (x : Bool) (a b : List Bool) → all_are x (a ++ b) ≡ (all_are x a && all_are x b)
-all_append x [] b = sym (ap (λ (t : Bool). t && all_are x b) (all_none x))
+pub all_append : (x : Bool) (a b : List Bool) → all_equal x (a ++ b) ≡ (all_equal x a && all_equal x b)
+all_append x [] b = sym (ap (λ (t : Bool). t && all_equal x b) (all_none x))
 all_append x (y ∷ a) b =
     all_cons x y (a ++ b) ∙ ap (λ (t : Bool). not (xor x y) && t) (all_append x a b)
-    ∙ sym (and_assoc (not (xor x y)) (all_are x a) (all_are x b)) ∙ ap (λ (t : Bool). t && all_are x b) (sym (all_cons x y a))
+    ∙ sym (and_assoc (not (xor x y)) (all_equal x a) (all_equal x b)) ∙ ap (λ (t : Bool). t && all_equal x b) (sym (all_cons x y a))
 
 -- all flags equal x if and only if none differs from it
-pub all_any : (x : Bool) (l : List Bool) → not (any_set (map (xor x) l)) ≡ all_are x l
+pub all_any : (x : Bool) (l : List Bool) → not (any_set (map (xor x) l)) ≡ all_equal x l
 unfolding any_set
 all_any x [] = sym (all_none x)
 all_any x (y ∷ l) = first (xor x y) ∙ ap (λ (t : Bool). not (xor x y) && t) (all_any x l) ∙ sym (all_cons x y l)
@@ -84,7 +84,7 @@ unlike_zero x w e = each (bits 64 w) ∙ ap (λ (y : Bool). map (xor y) (bits 64
 -- the low flags of a word
 pub all-low : (x : Bool) (k w u r : ℕ) (t : Bool) → bits 64 u ≡ map (xor x) (bits 64 w) → bits 64 r ≡ window (take k (bits 64 u)) 0 64
     → t ≡ any_set (bits 64 r)
-    → not t ≡ all_are x (take k (bits 64 w))
+    → not t ≡ all_equal x (take k (bits 64 w))
 all-low x k w u r t p q e =
     ap not (e ∙ ap any_set q ∙ any-padded (take k (bits 64 u)) 64 (omega (arith, length-take k (bits 64 u), length-bits 64 u))
     ∙ ap (λ (l : List Bool). any_set (take k l)) p ∙ ap any_set (take-map (xor x) k (bits 64 w)))
@@ -99,47 +99,47 @@ window-map f l k (suc n) h =
     ap₂ (λ (x : Bool) (t : List Bool). x ∷ t) (get_or-map f l k false false (omega arith)) (window-map f l (suc k) n (omega arith))
 
 all-cut : (x : Bool) (l : List Bool) (k n a b : ℕ) → n ≡ a + b
-    → all_are x (window l k n) ≡ (all_are x (window l k a) && all_are x (window l (k + a) b))
+    → all_equal x (window l k n) ≡ (all_equal x (window l k a) && all_equal x (window l (k + a) b))
 all-cut x l k n a b e =
-    ap (λ (m : ℕ). all_are x (window l k m)) e ∙ ap (all_are x) (window-add l k a b) ∙ all_append x (window l k a) (window l (k + a) b)
+    ap (λ (m : ℕ). all_equal x (window l k m)) e ∙ ap (all_equal x) (window-add l k a b) ∙ all_append x (window l k a) (window l (k + a) b)
 
-pub all-empty : (x : Bool) (l : List Bool) (p : ℕ) → true ≡ all_are x (window l p (64 * 0))
+pub all-empty : (x : Bool) (l : List Bool) (p : ℕ) → true ≡ all_equal x (window l p (64 * 0))
 unfolding window
 all-empty x l p = sym (all_none x)
 
 -- if a part has another flag, the whole has
-pub all-exit : (x : Bool) (l : List Bool) (p n k m : ℕ) (t : Bool) → t ≡ all_are x (window l k m) → t ≡ false → p ≤ k → k + m ≤ p + n
-    → false ≡ all_are x (window l p n)
+pub all-exit : (x : Bool) (l : List Bool) (p n k m : ℕ) (t : Bool) → t ≡ all_equal x (window l k m) → t ≡ false → p ≤ k → k + m ≤ p + n
+    → false ≡ all_equal x (window l p n)
 all-exit x l p n k m t e f g h =
     let a : n ≡ (k - p) + (m + (p + n - (k + m))) = omega arith in
     let b : p + (k - p) ≡ k = omega arith in
-    let none : all_are x (window l (p + (k - p)) m) ≡ false = ap (λ (y : ℕ). all_are x (window l y m)) b ∙ sym e ∙ f in
+    let none : all_equal x (window l (p + (k - p)) m) ≡ false = ap (λ (y : ℕ). all_equal x (window l y m)) b ∙ sym e ∙ f in
     sym (all-cut x l p n (k - p) (m + (p + n - (k + m))) a
-    ∙ ap (λ (t : Bool). all_are x (window l p (k - p)) && t)
+    ∙ ap (λ (t : Bool). all_equal x (window l p (k - p)) && t)
     (all-cut x l (p + (k - p)) (m + (p + n - (k + m))) m (p + n - (k + m)) refl
-    ∙ ap (λ (t : Bool). t && all_are x (window l (p + (k - p) + m) (p + n - (k + m)))) none)
-    ∙ and-false (all_are x (window l p (k - p))))
+    ∙ ap (λ (t : Bool). t && all_equal x (window l (p + (k - p) + m) (p + n - (k + m)))) none)
+    ∙ and-false (all_equal x (window l p (k - p))))
 
 -- a part after another whose flags are all x
-pub all_more : (x : Bool) (l : List Bool) (p n k m s : ℕ) (t : Bool) → true ≡ all_are x (window l p n) → t ≡ all_are x (window l k m)
+pub all_more : (x : Bool) (l : List Bool) (p n k m s : ℕ) (t : Bool) → true ≡ all_equal x (window l p n) → t ≡ all_equal x (window l k m)
     → k ≡ p + n → s ≡ n + m
-    → t ≡ all_are x (window l p s)
+    → t ≡ all_equal x (window l p s)
 all_more x l p n k m s t inv e f g =
-    e ∙ ap (λ (y : ℕ). all_are x (window l y m)) f ∙ ap (λ (t : Bool). t && all_are x (window l (p + n) m)) inv
+    e ∙ ap (λ (y : ℕ). all_equal x (window l y m)) f ∙ ap (λ (t : Bool). t && all_equal x (window l (p + n) m)) inv
     ∙ sym (all-cut x l p s n m g)
 
 -- the low flags of a word that was read at a flag, and of one that was shifted right to it
 pub first-are : (x : Bool) (l : List Bool) (at n w : ℕ) (t : Bool) → n ≤ 64 → bits 64 w ≡ window l at 64
-    → t ≡ all_are x (take n (bits 64 w)) → t ≡ all_are x (window l at n)
+    → t ≡ all_equal x (take n (bits 64 w)) → t ≡ all_equal x (window l at n)
 first-are x l at n w t h p e =
     let z : at + 0 ≡ at = omega arith in
-    e ∙ ap (λ (m : List Bool). all_are x (take n m)) p ∙ ap (all_are x) (window-cut l at 64 0 n (omega arith))
-    ∙ ap (λ (y : ℕ). all_are x (window l y n)) z
+    e ∙ ap (λ (m : List Bool). all_equal x (take n m)) p ∙ ap (all_equal x) (window-cut l at 64 0 n (omega arith))
+    ∙ ap (λ (y : ℕ). all_equal x (window l y n)) z
 
 pub near-are : (x : Bool) (l : List Bool) (start n w : ℕ) (t : Bool) → start % 8 + n ≤ 64
     → bits 64 w ≡ window (window l start (64 - start % 8)) 0 64
-    → t ≡ all_are x (take n (bits 64 w)) → t ≡ all_are x (window l start n)
-near-are x l start n w t h p e = e ∙ ap (all_are x) (near-first l start n w h p)
+    → t ≡ all_equal x (take n (bits 64 w)) → t ≡ all_equal x (window l start n)
+near-are x l start n w t h p e = e ∙ ap (all_equal x) (near-first l start n w h p)
 
 -- the first flags of a list's window, those past its end left out: they are not set
 any-inside : (l : List Bool) (s n : ℕ) → length l ≡ 64 → s ≤ 64 → any_set (take n (window l s 64)) ≡ any_set (window l s (min n (64 - s)))
@@ -173,7 +173,7 @@ any-inside l s n e h = ⊎_elim
 pub differs : (x : Bool) (l : List Bool) (start n w u v r : ℕ) (t : Bool) → bits 64 w ≡ window l (8 * (start / 8)) 64
     → bits 64 u ≡ map (xor x) (bits 64 w)
     → bits 64 v ≡ window (bits 64 u) (start % 8) 64 → bits 64 r ≡ window (take n (bits 64 v)) 0 64 → t ≡ any_set (bits 64 r)
-    → t ≡ not (all_are x (window l start (min n (64 - start % 8))))
+    → t ≡ not (all_equal x (window l start (min n (64 - start % 8))))
 differs x l start n w u v r t pw pu pv pr pt =
     let k : ℕ = min n (64 - start % 8) in
     let at : 8 * (start / 8) + start % 8 ≡ start = omega arith in
@@ -193,23 +193,24 @@ unfolding differs_early
 too_few x bytes start n h = rw (lt-leb (start / 8 + 8) (length bytes) h)
 
 pub enough : (x : Bool) (bytes : List ℕ) (start n : ℕ) (t : Bool) → start / 8 + 8 ≤ length bytes
-    → t ≡ not (all_are x (window (flags_of bytes) start (min n (64 - start % 8))))
+    → t ≡ not (all_equal x (window (flags_of bytes) start (min n (64 - start % 8))))
     → t ≡ differs_early x bytes start n
 unfolding differs_early
 enough x bytes start n t h e = rw (le-leb (start / 8 + 8) (length bytes) h) e
 
 -- if a flag differs early, not all flags of the stretch are x
 pub early-other : (x : Bool) (bytes : List ℕ) (start n : ℕ) (t : Bool) → t ≡ differs_early x bytes start n → t ≡ true
-    → all_are x (window (flags_of bytes) start n) ≡ false
+    → all_equal x (window (flags_of bytes) start n) ≡ false
 unfolding differs_early
 early-other x bytes start n t e said = go (leb (start / 8 + 8) (length bytes)) (sym said ∙ e)
   where
     first : List Bool
     first = window (flags_of bytes) start (min n (64 - start % 8))
 
-    go : (b : Bool) → true ≡ (b && not (all_are x first)) → all_are x (window (flags_of bytes) start n) ≡ false
+    go : (b : Bool) → true ≡ (b && not (all_equal x first)) → all_equal x (window (flags_of bytes) start n) ≡ false
     go true p =
-        sym (all-exit x (flags_of bytes) start n start (min n (64 - start % 8)) (all_are x first) refl (not-true (all_are x first) (sym p))
+        sym (all-exit x (flags_of bytes) start n start (min n (64 - start % 8)) (all_equal x first) refl
+        (not-true (all_equal x first) (sym p))
         (omega arith) (omega arith))
     go false p = absurd (true≢false p)
 
@@ -227,15 +228,15 @@ map-word f l p n i x w u h e q r =
 
 -- ---- by the count, of n flags
 
-pub counted-one : (x : Bool) (l : List Bool) (p n c : ℕ) → x ≡ true → c ≡ count (window l p n) → eqb c n ≡ all_are x (window l p n)
-unfolding all_are
+pub counted-one : (x : Bool) (l : List Bool) (p n c : ℕ) → x ≡ true → c ≡ count (window l p n) → eqb c n ≡ all_equal x (window l p n)
+unfolding all_equal
 counted-one x l p n c e q =
     let one : length (window l p n) * digit x ≡ n =
     ap (λ (y : Bool). length (window l p n) * digit y) e ∙ omega (arith, length-window l p n) in
     ap₂ eqb q (sym one)
 
-pub counted-zero : (x : Bool) (l : List Bool) (p n c : ℕ) → x ≡ false → c ≡ count (window l p n) → eqb c 0 ≡ all_are x (window l p n)
-unfolding all_are
+pub counted-zero : (x : Bool) (l : List Bool) (p n c : ℕ) → x ≡ false → c ≡ count (window l p n) → eqb c 0 ≡ all_equal x (window l p n)
+unfolding all_equal
 counted-zero x l p n c e q =
     let none : length (window l p n) * digit x ≡ 0 = ap (λ (y : Bool). length (window l p n) * digit y) e ∙ omega arith in
     ap₂ eqb q (sym none)

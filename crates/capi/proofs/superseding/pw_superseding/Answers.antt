@@ -6,13 +6,13 @@ use Prim.Native.Nat.{ℕ}
 use Rattle.masks.specs.equations.Answer.{Answer, given, refused}
 use Rattle.masks.specs.Superseding.{within}
 use Rattle.masks.specs.equations.Superseding.{bytes_of, superseding_of}
-use Rattle.masks.specs.declared.superseding.Part.{Part}
+use Rattle.masks.specs.declared.superseding.Winner.{Winner}
 use Rattle.masks.proofs.refusal.ClauseLaws.{answered}
 use Rattle.capi.specs.Answers.{as_part}
 use Rattle.capi.specs.declared.answers.PartAnswer.{PartAnswer}
 use Rattle.capi.proofs.superseding.pw_superseding.Goals as goal
 
-part-held : (x : Answer (Unit {0}) Part) (r : PartAnswer) (a b : List ℕ) → r ≡ as_part x
+part-held : (x : Answer (Unit {0}) Winner) (r : PartAnswer) (a b : List ℕ) → r ≡ as_part x
     → within r.from r.to (cond r.second b a) ≡ bytes_of x a b
 unfolding as_part
 part-held (given p) r a b e = ap (λ (y : PartAnswer). within y.from y.to (cond y.second b a)) e

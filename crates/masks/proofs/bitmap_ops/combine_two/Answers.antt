@@ -15,7 +15,7 @@ returns-clause-mask c =
     let same : c.match-shortcut.shortcut ≡ c.pair_shortcut-shortcut.result =
     elim c.match-shortcut.branch [ in-Some w ↦ w.shortcut-is ∙ sym w.in-Some.is | in-None w ↦ w.shortcut-is ] in
     pair-made _ _ _ _ _ _ _ _ _ (same ∙ found) c.result_count-unset.ensures c.pair_serial-serial.ensures
-    c.result_mask.ensures
+    c.mask_under.ensures
 
 pub returns-clause-bytes : goal.returns-clause-bytes
 returns-clause-bytes c =

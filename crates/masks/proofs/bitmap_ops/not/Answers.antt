@@ -4,7 +4,7 @@ use Rattle.masks.proofs.bitmap_ops.CombineLaws.{each-made, each-written, not-eac
 use Rattle.masks.proofs.bitmap_ops.not.Goals as goal
 
 pub returns-clause-mask : goal.returns-clause-mask
-returns-clause-mask c = each-made _ _ _ _ _ c.not_counted-unset.ensures (one-serial _) c.result_mask.ensures
+returns-clause-mask c = each-made _ _ _ _ _ c.not_counted-unset.ensures (one-serial _) c.mask_under.ensures
 
 pub returns-clause-bytes : goal.returns-clause-bytes
 returns-clause-bytes c =

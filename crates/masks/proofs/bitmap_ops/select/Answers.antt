@@ -6,7 +6,7 @@ use Rattle.masks.proofs.bitmap_ops.select.Goals as goal
 
 pub returns-clause-mask : goal.returns-clause-mask
 returns-clause-mask c =
-    each-made _ _ _ _ _ c.not_counted-unset.ensures c.select_serial-serial.ensures c.result_mask.ensures
+    each-made _ _ _ _ _ c.not_counted-unset.ensures c.select_serial-serial.ensures c.mask_under.ensures
 
 pub returns-clause-bytes : goal.returns-clause-bytes
 returns-clause-bytes c =

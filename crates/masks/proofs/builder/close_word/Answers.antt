@@ -4,7 +4,7 @@ use native.Mathlib.Omega.{arith}
 use Rattle.words.proofs.flags.Bits.{length-bits}
 use Rattle.words.proofs.counts.Counting.{count-le}
 use Rattle.masks.proofs.extend.ExtendLaws.{push-closed}
-use Rattle.masks.proofs.builder.PushLaws.{grown-way, or-merged}
+use Rattle.masks.proofs.builder.PushLaws.{rebuilt-way, or-merged}
 use Rattle.masks.proofs.builder.RoomLaws.{word-stored}
 use Rattle.masks.proofs.builder.close_word.Goals as goal
 
@@ -16,7 +16,7 @@ overflow_add-ones c =
 
 pub returns : goal.returns
 returns c =
-    grown-way _ _ _ _ c.grown.ensures
+    rebuilt-way _ _ _ _ c.rebuilt.ensures
     (push-closed _ c.args.buf.now _ _ _ _ (or-merged c.args.b _ _ _ c.requires.low c.shl_or_zero.ensures c.or_word-low.ensures)
     c.ones_in_word.ensures
     (λ i. (c.slice_known-1.given i).fits) (λ i. (c.slice_known-2-1.given i).fits)

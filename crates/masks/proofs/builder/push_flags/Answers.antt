@@ -8,7 +8,7 @@ use Rattle.masks.specs.Builder.{appended}
 use Rattle.masks.proofs.builder.AppendLaws.{append-then}
 use Rattle.masks.proofs.builder.InsideLaws.{cut-whole, front-padded, inside-padded, length-rest, none-padded, rest-padded}
 use Rattle.masks.proofs.utils.PartLaws.{length-low}
-use Rattle.masks.proofs.builder.PushLaws.{grown-way, push-begun}
+use Rattle.masks.proofs.builder.PushLaws.{rebuilt-way, push-begun}
 use Rattle.masks.proofs.builder.RoomLaws.{length-then, room-less}
 use Rattle.masks.proofs.builder.push_flags.Goals as goal
 
@@ -32,7 +32,7 @@ returns c =
     let none = none-padded _ (c.args.k - (64 - b.length % 64)) _
     (length-rest _ _ _ _ _ c.requires.0 less c.low_flags-flags.ensures c.shr_or_zero-rest.ensures) (omega (arith, c.requires.0))
     (rest-padded _ _ _ _ _ c.requires.0 less c.low_flags-flags.ensures c.shr_or_zero-rest.ensures) in
-    grown-way _ _ _ _ c.grown.ensures
+    rebuilt-way _ _ _ _ c.rebuilt.ensures
     (append-then _ _ _ _ _ c.close_word-closed.ensures
     (push-begun _ _ _ _ _ (omega (arith, long)) (omega (arith, c.requires.0)) none (search rules) (omega (arith, long, less)))
     ∙ ap (appended _) (cut-whole _ _ _ _ _ c.requires.0 less c.low_flags-flags.ensures c.shr_or_zero-rest.ensures))

@@ -5,7 +5,7 @@ use native.Mathlib.Omega.{arith}
 use Rattle.words.proofs.flags.Bytes.{over-from}
 use Rattle.words.proofs.flags.Windows.{length-window}
 use Rattle.masks.proofs.extend.ExtendLaws.{append-whole}
-use Rattle.masks.proofs.builder.PushLaws.{grown-way}
+use Rattle.masks.proofs.builder.PushLaws.{rebuilt-way}
 use Rattle.masks.proofs.extend.copy_words.Goals as goal
 
 pub overflow_add-ones : goal.overflow_add-ones
@@ -16,6 +16,6 @@ overflow_add-ones c =
 
 pub returns : goal.returns
 returns c =
-    grown-way _ _ _ _ c.grown.ensures
+    rebuilt-way _ _ _ _ c.rebuilt.ensures
     (append-whole _ c.args.buf.now _ c.args.whole _ _ c.requires.0 (length-window _ _ _) c.copy_count.ensures.ones
     (λ i. (c.slice_known-1.given i).fits) (λ i. (c.slice_known-2-1.given i).fits) (over-from _ _ _ _ c.copy_count.ensures.flags))

@@ -5,12 +5,12 @@ use Rattle.words.proofs.flags.Bytes.{over-from}
 use Rattle.words.proofs.counts.Counting.{count-copies}
 use Rattle.words.proofs.flags.Windows.{length-copies}
 use Rattle.masks.proofs.extend.ExtendLaws.{append-whole, ones-of, words-filled}
-use Rattle.masks.proofs.builder.PushLaws.{grown-way}
+use Rattle.masks.proofs.builder.PushLaws.{rebuilt-way}
 use Rattle.masks.proofs.extend.fill_words.Goals as goal
 
 pub returns : goal.returns
 returns c =
-    grown-way _ _ _ _ c.grown.ensures
+    rebuilt-way _ _ _ _ c.rebuilt.ensures
     (append-whole _ c.args.buf.now _ c.args.whole _ _ c.requires.0 (length-copies _ _)
     ((ones-of _ _ _ c.from.ensures).0 ∙ sym (count-copies _ _))
     (λ i. (c.slice_known-1.given i).fits) (λ i. (c.slice_known-2-1.given i).fits)

@@ -3,18 +3,18 @@ use mathlib.Core.Path.{sym}
 use Rattle.masks.proofs.superseding.SupersedingLaws.{first-allowed-mask, first_wins, second-allowed-mask, second_wins}
 use Rattle.masks.proofs.superseding.superseding_part.Goals as goal
 
-pub part_of-requires : goal.part_of-requires
-part_of-requires c =
+pub winner_of-requires : goal.winner_of-requires
+winner_of-requires c =
     let span = second-allowed-mask _ _ _ _ (sym c.in_ok-check_superseding.ensures) in
     (span.starts, span.short)
 
 pub returns-then-first-second-clause-part : goal.returns-then-first-second-clause-part
-returns-then-first-second-clause-part c = second_wins _ _ _ c.if-first-second.true c.part_of.ensures
+returns-then-first-second-clause-part c = second_wins _ _ _ c.if-first-second.true c.winner_of.ensures
 
-pub part_of-requires-2 : goal.part_of-requires-2
-part_of-requires-2 c =
+pub winner_of-requires-2 : goal.winner_of-requires-2
+winner_of-requires-2 c =
     let span = first-allowed-mask _ _ _ _ (sym c.in_ok-check_superseding.ensures) in
     (span.starts, span.short)
 
 pub returns-clause-part : goal.returns-clause-part
-returns-clause-part c = first_wins _ _ _ c.if-first-second.false c.part_of-2.ensures
+returns-clause-part c = first_wins _ _ _ c.if-first-second.false c.winner_of-2.ensures

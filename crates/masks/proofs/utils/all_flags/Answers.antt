@@ -4,4 +4,4 @@ use Rattle.masks.proofs.utils.PartLaws.{all-zeros}
 use Rattle.masks.proofs.utils.all_flags.Goals as goal
 
 pub returns : goal.returns
-returns c = all-zeros _ _ _ _ (length-window _ _ _) c.all_are.ensures
+returns c = all-zeros _ _ _ _ (length-window _ _ _) c.all_equal.ensures

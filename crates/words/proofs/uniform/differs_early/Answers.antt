@@ -10,4 +10,5 @@ pub returns : goal.returns
 returns c =
     let a = c.args in
     enough _ _ _ _ _ (omega arith)
-    (differs _ _ _ a.len _ _ _ _ _ c.full_word.ensures c.unlike.ensures c.shr_or_zero-others.ensures c.low_flags.ensures c.is_set.ensures)
+    (differs _ _ _ a.len _ _ _ _ _ c.full_word.ensures c.differing.ensures c.shr_or_zero-others.ensures c.low_flags.ensures
+    c.is_set.ensures)

@@ -2,7 +2,6 @@
 use Rattle.std.proofs.Common.{rules, Ok, Err, ◌≡◌}
 use native.Mathlib.Omega.{arith}
 use mathlib.Core.Path.{sym, ap, ◌∙◌}
-use Rattle.masks.specs.Mask.{cut_zeros}
 use Rattle.masks.specs.Refusal.{failure_of}
 use Rattle.masks.specs.declared.refusal.Refusal.{Refusal}
 use Rattle.masks.proofs.bitmap.MaskLaws.{cut-error, piece-allowed, slice-refused, slice_wrong, slice-right}
@@ -23,7 +22,6 @@ pub cut_count-requires : goal.cut_count-requires
 cut_count-requires c = piece-allowed _ _ _ _ (sym c.check_piece.ensures ∙ passed-back _ _ _ c.map_err.ensures.variant c.in_ok-map_err.was)
 
 pub returns-in_err-unset-clause-refused : goal.returns-in_err-unset-clause-refused
-unfolding cut_zeros
 returns-in_err-unset-clause-refused c =
     let was : Err c.in_err-unset.field-0.0 ≡ with_state c.cut_count.result c.args.self = search rules in
     let is = (back-err _ _ _ was).0 in
@@ -33,14 +31,12 @@ returns-in_err-unset-clause-refused c =
     ∙ slice_wrong _ _ _ _ _ c.check_piece.ensures (passed-back _ _ _ c.map_err.ensures.variant c.in_ok-map_err.was) wrong.0
 
 pub returns-clause-refused : goal.returns-clause-refused
-unfolding cut_zeros
 returns-clause-refused c =
     let was : c.cut_count.result ≡ Ok c.in_ok-unset.unset = search rules in
     (slice-right _ _ _ _ _ c.check_piece.ensures _ (passed-back _ _ _ c.map_err.ensures.variant c.in_ok-map_err.was)
     (sym was ∙ c.cut_count.ensures)).0
 
 pub returns-clause-mask : goal.returns-clause-mask
-unfolding cut_zeros
 returns-clause-mask c =
     let was : c.cut_count.result ≡ Ok c.in_ok-unset.unset = search rules in
     c.cut_mask.ensures

@@ -1,2 +1,0 @@
--- What the proof of `may_reassign` uses, and the theorems on it.
-pub mod DispatchLaws

@@ -1,6 +1,0 @@
--- `all-low`: no flag that differs is among the k low ones.
-use Rattle.words.proofs.uniform.UniformLaws.{all-low}
-use Rattle.words.proofs.uniform.low_are.Goals as goal
-
-pub returns : goal.returns
-returns c = all-low _ c.args.k _ _ _ _ c.unlike.ensures c.low_flags.ensures c.is_set.ensures
