@@ -4,14 +4,14 @@
     python3 tests/calls_page.py --write    writes these cells anew
 
 Taken from the sources: a call's arguments and the definitions that its `ensures` cite, and what each `impl` of a trait promises
-(src/*.rt), the numbers by which it may refuse (statements/Refusals.antt), the wrong answers tried (tables/Wrong*.antt), and how many lines
-a file has: those with definitions and comments, without imports and empty lines. Of the sources an `ensures` is one line, and the records
-and enums that these definitions cite, or that a public function takes or returns, are counted from the keyword to the closing brace.
-Written by hand are the column `answer`, the order of the rows, and the table of edits. Also checked: that the first table has exactly the
-files that public contracts reach and the row of records and enums, that the files define nothing that no contract reaches, that each file
-of specs/, statements/ and tables/ is named, that tables/Witnesses.antt names each call that may refuse, that each call that may refuse
-with 3, which takes a mask with its count, is named above a field of the theorem on counts (statements/CountsUnseen.antt), and that the
-wrong answer of each edit is one of its call's row. The pages of SAID_IN contain the sum of the first table."""
+(src/**/*.rt), the numbers by which it may refuse (statements/Refusals.antt), the wrong answers tried (tables/Wrong*.antt), and how many
+lines a file has: those with definitions and comments, without imports and empty lines. Of the sources an `ensures` is one line, and the
+records and enums that these definitions cite, or that a public function takes or returns, are counted from the keyword to the closing
+brace. Written by hand are the column `answer`, the order of the rows, and the table of edits. Also checked: that the first table has
+exactly the files that public contracts reach and the row of records and enums, that the files define nothing that no contract reaches,
+that each file of specs/, statements/ and tables/ is named, that tables/Witnesses.antt names each call that may refuse, that each call that
+may refuse with 3, which takes a mask with its count, is named above a field of the theorem on counts (statements/CountsUnseen.antt), and
+that the wrong answer of each edit is one of its call's row. The pages of SAID_IN contain the sum of the first table."""
 import glob
 import os
 import re
@@ -119,6 +119,11 @@ def cited(head):
     return out
 
 
+def sources(crate):
+    """Returns the sources of a crate, those below a folder of a module too."""
+    return sorted(glob.glob(os.path.join(ROOT, "crates", crate, "src", "**", "*.rt"), recursive=True))
+
+
 def source(path):
     """Returns a source without comments; a name that is imported as another is replaced by its own name."""
     text = re.sub(r"//[^\n]*", "", read(path))
@@ -131,7 +136,7 @@ def source(path):
 def functions(crate):
     """Returns the arguments of each public function, what the page has of its clauses, and their number: methods by their type's name."""
     found = {}
-    for path in sorted(glob.glob(os.path.join(ROOT, "crates", crate, "src", "*.rt"))):
+    for path in sources(crate):
         text = source(path)
         owner = ""
         for match in re.finditer(r"(?m)^impl (\w+) \{$|^(\})|\bpub fn (\w+)", text):
@@ -148,7 +153,7 @@ def functions(crate):
 def impls(crate):
     """Returns the promise of each `impl` of a trait that the crate does not declare, by the two names; none for one with no function."""
     found = {}
-    paths = sorted(glob.glob(os.path.join(ROOT, "crates", crate, "src", "*.rt")))
+    paths = sources(crate)
     own = {name for path in paths for name in re.findall(r"\btrait (\w+)", source(path))}
     for path in paths:
         for match in re.finditer(r"(?m)^impl(?:<[^\n]*?>)? ((?:\w+::)*(\w+)[^\n]*?) for ([^\n]*?) \{\n(.*?)^\}", source(path), re.S):
@@ -172,7 +177,7 @@ def uses(text):
 def clauses():
     """Yields for each source file its text, and the names that the clauses of its public functions and of its impls have."""
     for crate in CRATES:
-        for path in glob.glob(os.path.join(ROOT, "crates", crate, "src", "*.rt")):
+        for path in sources(crate):
             text = source(path)
             heads = [head_of(text, match.start(1)) for match in re.finditer(r"\bpub fn (\w+)", text)]
             said = [clause for head in heads for clause in promised(head)]
@@ -222,7 +227,7 @@ def unreached(files):
 def types(crate):
     """Returns the public records and enums of a crate's sources by module and name, each with its text up to the closing brace."""
     found = {}
-    for path in sorted(glob.glob(os.path.join(ROOT, "crates", crate, "src", "*.rt"))):
+    for path in sources(crate):
         text = read(path)
         for match in re.finditer(r"(?m)^pub (?:struct|enum) (\w+)[^;{]*[;{]", text):
             at, depth = match.end(), text[match.end() - 1] == "{"
@@ -236,10 +241,12 @@ def types(crate):
 def records(files):
     """Returns the records and enums that these files of definitions cite, or that a public function with an `ensures` takes or returns;
     and complaints about cited ones that are not public."""
-    cited = {found for file in files for found in re.findall(r"use Rattle\.(\w+)\.specs\.declared\.(\w+)\.(\w+)", read("crates", file))}
+    cited = set()
+    for file in files:
+        cited |= set(re.findall(r"use Rattle\.(\w+)\.specs\.declared\.(?:[a-z]\w*\.)*([a-z]\w*)\.([A-Z]\w*)", read("crates", file)))
     found, complaints = {}, []
     for crate in CRATES:
-        texts = [source(path) for path in glob.glob(os.path.join(ROOT, "crates", crate, "src", "*.rt"))]
+        texts = [source(path) for path in sources(crate)]
         heads = [head_of(text, match.start(1)) for text in texts for match in re.finditer(r"\bpub fn (\w+)", text)]
         words = set(re.findall(r"\w+", " ".join(head for head in heads if "ensures" in head)))
         for (module, name), text in types(crate).items():
@@ -302,7 +309,7 @@ def counts_unseen(crate):
 def masks_taken(crate):
     """Returns how many masks each public function takes, absent ones too."""
     found = {}
-    for path in sorted(glob.glob(os.path.join(ROOT, "crates", crate, "src", "*.rt"))):
+    for path in sources(crate):
         text, owner = source(path), ""
         for match in re.finditer(r"(?m)^impl (\w+) \{$|^(\})|\bpub fn (\w+)", text):
             if match[1] or match[2]:

@@ -12,7 +12,7 @@ import sys
 import tempfile
 
 ROOT = pathlib.Path(__file__).resolve().parent.parent
-READ = ("crates/*/src/*.rt", "crates/*/specs/**/*.antt", "crates/*/proofs/statements/*.antt", "crates/*/proofs/tables/*.antt")
+READ = ("crates/*/src/**/*.rt", "crates/*/specs/**/*.antt", "crates/*/proofs/statements/*.antt", "crates/*/proofs/tables/*.antt")
 PAGES = ("docs/*.md", "README.md", "tests/*.py")
 
 EDITS = (

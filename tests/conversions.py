@@ -43,7 +43,7 @@ class Sources:
         self.exports = {e.name: (e.result, e.numbers, list(promised(e.contract))) for e in exports()}
         structs = r"(?s)^pub struct (\w+)(?:<[^>]*>)? \{(.*?)^\}"
         self.fields = {name: [field for field, _ in fields] for name, (_, fields) in records().items()}
-        for path in ROOT.glob("crates/*/src/*.rt"):
+        for path in ROOT.glob("crates/*/src/**/*.rt"):
             for name, body in re.findall(structs, path.read_text(encoding="utf-8"), re.M):
                 self.fields.setdefault(name, re.findall(r"(?m)^    pub (\w+):", body))
 

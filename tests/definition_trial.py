@@ -11,7 +11,7 @@ import tempfile
 from source_types import types_only
 
 # A module's name is the path of its file below specs/ or proofs/, with dots: `Mask`, `computed.EdgeRows`.
-NAMED = re.compile(r"\bRattle\.(\w+)\.(specs|proofs)\.((?:[a-z]\w*\.)?[A-Z]\w*)\b")
+NAMED = re.compile(r"\bRattle\.(\w+)\.(specs|proofs)\.((?:[a-z]\w*\.)*[A-Z]\w*)\b")
 CONTROLS = 100000  # variants with this number or a larger one are unedited
 
 
@@ -89,7 +89,7 @@ class Trial:
         self.kept.mkdir()
         self.texts, self.uses = {}, {}
         for part in ("specs", "proofs"):
-            for path in (*root.glob(f"crates/*/{part}/*.antt"), *root.glob(f"crates/*/{part}/*/*.antt")):
+            for path in root.glob(f"crates/*/{part}/**/*.antt"):
                 crate, _, *names = path.relative_to(root / "crates").with_suffix("").parts
                 module = (crate, part, ".".join(names))
                 self.texts[module] = path.read_text(encoding="utf-8")
@@ -132,7 +132,7 @@ class Trial:
             (folder / crate / "proofs").mkdir(parents=True)
             for name in sorted(name for other, name in files if other == crate):
                 copy = folder / crate / "proofs" / path_of(name)
-                copy.parent.mkdir(exist_ok=True)
+                copy.parent.mkdir(parents=True, exist_ok=True)
                 shutil.copy(source / "proofs" / path_of(name), copy)
                 self.list_module(folder, crate, "proofs", name)
         (folder / "top" / "src").mkdir(parents=True)
@@ -143,7 +143,7 @@ class Trial:
         the name of a module of src/."""
         above, _, last = name.rpartition(".")
         lists = folder / crate / part / path_of(above or "Lib")
-        if above and not lists.exists() and not (folder / crate / "src" / f"{above}.rt").exists():
+        if above and not lists.exists() and not (folder / crate / "src" / f"{above.replace('.', '/')}.rt").exists():
             self.list_module(folder, crate, part, above)
         with open(lists, "a", encoding="utf-8") as listed:
             listed.write(f"pub mod {last}\n")

@@ -66,7 +66,7 @@ def kinds():
 def masks():
     """Returns the public functions of masks by `module::name` with their heads, its types by `module::name`, and its public methods."""
     functions, types, methods = {}, set(), {}
-    for path in sorted((ROOT / "crates/masks/src").glob("*.rt")):
+    for path in sorted((ROOT / "crates/masks/src").rglob("*.rt")):
         text, owner = code_of(path), ""
         for match in ITEM.finditer(text):
             if match[1]:
@@ -98,7 +98,7 @@ def uncited():
 def definitions(folder, taken):
     """Returns which definitions of masks the files of a folder import, and a complaint for each that they may not."""
     used, complaints = set(), []
-    for path in [*sorted(folder.glob("specs/**/*.antt")), *sorted(folder.glob("src/*.rt"))]:
+    for path in [*sorted(folder.glob("specs/**/*.antt")), *sorted(folder.glob("src/**/*.rt"))]:
         text = re.sub(r"--[^\n]*|//[^\n]*", "", path.read_text(encoding="utf-8"))
         for crate, file, names in re.findall(r"\buse Rattle\.(\w+)\.([\w.]+?)\.\{([^}]*)\}", text):
             for name in (name.split(" as ")[0].strip() for name in names.split(",")):
@@ -120,7 +120,7 @@ def main():
     complaints = [f"masks has no public function {name}: correct the lists of this script" for name in allowed if name not in functions]
     taken = {word for name in allowed for word in re.findall(r"\w+", functions.get(name, ""))}
     used = {}
-    sources = sorted(folder.glob("*.rt"))
+    sources = sorted(folder.rglob("*.rt"))
     for path in sources:
         text = code_of(path)
         for name in re.findall(r"\bmasks::((?:\w+::)*\w+)", text):

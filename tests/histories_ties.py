@@ -77,7 +77,7 @@ def constructors():
 def functions(crate):
     """Returns by name the head and the body of each public function of a crate."""
     found = {}
-    for path in sorted((ROOT / "crates" / crate / "src").glob("*.rt")):
+    for path in sorted((ROOT / "crates" / crate / "src").rglob("*.rt")):
         text = source(path)
         for match in re.finditer(r"\bpub (?:extern \"C\" )?fn (\w+)", text):
             head = head_of(text, match.start(1))

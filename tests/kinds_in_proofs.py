@@ -23,16 +23,16 @@ def lists(call):
     if [other for other in CALLS + OTHERS if other.path == call.path] != [call]:
         return []
     spec = "".join(part.capitalize() for part in call.module.split("_"))
-    found = saying(f"crates/{call.crate}/src/lib.rt", rf"mod {call.module};")
+    found = saying(f"crates/{call.crate}/src/**/*.rt", rf"(?m)^(?:pub )?mod {call.module};")
     found += saying(f"crates/{call.crate}/specs/Lib.antt", rf"mod {spec}\b")
-    return found + files(f"crates/{call.crate}/proofs/{call.module}.antt")
+    return found + files(f"crates/{call.crate}/proofs/**/{call.module}.antt")
 
 
 @kind("proof", "the proofs of the call and of its checks, and laws", FREE)
 def proof(call):
     owner = rf"(?:{call.owner}[A-Z]?\w*/)?" if call.owner else ""
-    own = rf"crates/{call.crate}/proofs/\w+/{owner}(?:check_)?{call.short}/\w+\.antt"
-    alone = lists(call) and rf"|crates/{call.crate}/proofs/{call.module}/\w+\.antt"
+    own = rf"crates/{call.crate}/proofs/(?:\w+/)+{owner}(?:check_)?{call.short}/\w+\.antt"
+    alone = lists(call) and rf"|crates/{call.crate}/proofs/(?:\w+/)?{call.module}/\w+\.antt"
     return [path for path in files(f"crates/{call.crate}/proofs/**/*.antt") if re.fullmatch(own + (alone or ""), path)]
 
 
@@ -46,9 +46,9 @@ def checks(call):
             seen.add(name)
             waiting += IDENT.findall(known[name][1])
     made = "|".join(name for name in seen if name.endswith("_checks"))
-    if not made or not saying(f"crates/{call.crate}/src/*.rt", r"first_failed \("):
+    if not made or not saying(f"crates/{call.crate}/src/**/*.rt", r"first_failed \("):
         return [call.path]
-    found = saying(f"crates/{call.crate}/src/*.rt", rf"first_failed \([^}}]*\b(?:{made})\b")
+    found = saying(f"crates/{call.crate}/src/**/*.rt", rf"first_failed \([^}}]*\b(?:{made})\b")
     return [call.path] if call.path in found else found
 
 
@@ -152,7 +152,7 @@ def theorem_list(call):
 
 @kind("histories", "a row of histories", applies=lambda call: makes_mask(call) and call.takes(MASKED))
 def histories(call):
-    return saying("crates/histories/src/*.rt", rf"[.\s]{call.short}\(")
+    return saying("crates/histories/src/**/*.rt", rf"[.\s]{call.short}\(")
 
 
 @kind("wrong definitions", "wrong definitions", applies=lambda call: is_call(call) or call.definitions)
@@ -165,5 +165,5 @@ def wrong_definitions(call):
 def edit(call):
     named = rf"\b(?:{'|'.join(map(re.escape, [call.short, *call.definitions]))})\b"
     found = saying(f"crates/{call.crate}/must-fail/*.edit", named) + saying(f"tests/refused/{call.crate}/*.edit", named)
-    place = rf"(?m)^(?:at|file): (?:src/{call.module}\.rt|proofs/{call.module}/)"
+    place = rf"(?m)^(?:at|file): (?:src/(?:\w+/)?{call.module}\.rt|proofs/(?:\w+/)?{call.module}/)"
     return found or saying(f"crates/{call.crate}/must-fail/*.edit", place) + saying(f"tests/refused/{call.crate}/*.edit", place)

@@ -19,7 +19,7 @@ NUMBERS = exports.refusals()
 
 @kind("export", "the export", applies=is_call)
 def export(call):
-    return [path for name in exports_of(call) for path in saying(f"crates/{STATIC}/src/*.rt", rf"fn {name}\(")]
+    return [path for name in exports_of(call) for path in saying(f"crates/{STATIC}/src/**/*.rt", rf"fn {name}\(")]
 
 
 @kind("export's lists", "the list of modules, if the module of its export has no other", FREE, written=True)
@@ -123,7 +123,7 @@ def name_of_requests(call):
 @kind("arm", "the arm that makes it", applies=is_call)
 def arm(call):
     _, group, name = request_of(call)
-    return saying("crates/requests/src/*.rt", rf"\b{group}Call::{name}\b" if name else rf"\bCall::{group}\b")
+    return saying("crates/requests/src/**/*.rt", rf"\b{group}Call::{name}\b" if name else rf"\bCall::{group}\b")
 
 
 @kind("request", "its line in REQUESTS", applies=is_call)
@@ -191,7 +191,7 @@ def benchmark(call):
 
 
 @kind("dispatch", "the calls that dispatch may use",
-      applies=lambda call: saying("crates/dispatch/src/*.rt", rf"\buse {call.crate}::[\w:{{, ]*\b{call.short}\b"))
+      applies=lambda call: saying("crates/dispatch/src/**/*.rt", rf"\buse {call.crate}::[\w:{{, ]*\b{call.short}\b"))
 def dispatch(call):
     return saying("tests/dispatch_calls.py", rf'"{call.short}"')
 

@@ -1,11 +1,11 @@
-"""Compares the lists of modules with the files, and adds what they lack: src/lib.rt, specs/Lib.antt, proofs/Lib.antt and the list of each
-folder below proofs/.
+"""Compares the lists of modules with the files, and adds what they lack: src/lib.rt, a source with a folder of its name below src/,
+specs/Lib.antt, proofs/Lib.antt and the list of each folder below proofs/.
 
     python3 tests/module_lists.py            prints the files that no list names and the names without a file; fails if there is one
     python3 tests/module_lists.py --write    adds a line for each such file, in its place by the alphabet, and makes a list that is missing
 
 A module of src/ is added as `pub mod` if it has a public item, methods aside. The folder of a function, which has its proof, is in
-no list. A name without a file is taken out by hand."""
+no list, nor is the folder of a module of src/. A name without a file is taken out by hand."""
 import pathlib
 import re
 import sys
@@ -20,12 +20,16 @@ def lists(crate):
     sources = [path for path in src.glob("*.rt") if path.stem not in ("lib", "main")]
     if (src / "lib.rt").exists():
         yield src / "lib.rt", sources
+    below = [path for path in src.glob("*/*.rt")]
+    for path in sources:
+        yield path, [source for source in below if source.parent.name == path.stem]
     yield specs / "Lib.antt", [path for path in specs.glob("*.antt") if path.stem != "Lib"]
     if (specs / "equations").is_dir():
         yield specs / "equations.antt", list((specs / "equations").glob("*.antt"))
     folders = [path for path in proofs.glob("*") if path.is_dir()]
-    for folder in folders:
-        yield folder.with_suffix(".antt"), list(folder.glob("*.antt"))
+    inner = [proofs / path.relative_to(src).with_suffix("") for path in below]
+    for folder in folders + inner:
+        yield folder.with_suffix(".antt"), [path for path in folder.glob("*.antt") if path.with_suffix("") not in inner]
     modules = {path.stem for path in sources}
     yield proofs / "Lib.antt", [path for path in folders if path.name not in modules]
 
@@ -46,8 +50,12 @@ def head(path):
 def with_line(text, line):
     """Returns a list with one more line, before the first that is later in the alphabet."""
     name = LINE.search(line)[1]
-    later = next((match for match in LINE.finditer(text) if match[1].lower() > name.lower()), None)
-    at = later.start() if later else len(text)
+    listed = list(LINE.finditer(text))
+    later = next((match for match in listed if match[1].lower() > name.lower()), None)
+    used = not listed and re.search(r"(?m)^use ", text)
+    if used:
+        return text[: used.start()] + line + "\n\n" + text[used.start() :]
+    at = later.start() if later else listed[-1].end() + 1 if listed else len(text)
     return text[:at] + line + "\n" + text[at:]
 
 

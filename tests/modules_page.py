@@ -37,12 +37,16 @@ def functions(path):
 
 
 def modules(crate):
-    """Returns the modules of a crate that are files, in the order of lib.rt: the public ones with public functions first."""
-    text = (ROOT / f"crates/{crate}/src/lib.rt").read_text(encoding="utf-8")
-    found = []
-    for public, name in re.findall(r"(?m)^(pub )?mod (\w+);", text):
-        path = ROOT / f"crates/{crate}/src/{name}.rt"
-        found.append((not public, name, path, dict(functions(path))))
+    """Returns the modules of a crate that are files: the public ones with public functions first. One that stands in the folder of
+    another has the other's name before its own."""
+    src = ROOT / f"crates/{crate}/src"
+    found, waiting = [], [("", src / "lib.rt", src)]
+    while waiting:
+        above, list_of, folder = waiting.pop()
+        for public, name in re.findall(r"(?m)^(pub )?mod (\w+);", list_of.read_text(encoding="utf-8")):
+            path = folder / f"{name}.rt"
+            found.append((not public, above + name, path, dict(functions(path))))
+            waiting.append((f"{above}{name}::", path, folder / name))
     return sorted(found, key=lambda module: (not module[3], module[0], module[1]))
 
 

@@ -113,7 +113,7 @@ def holders(name):
     """Returns the types that hold a record of this name: itself, and the structs with a field of such a type."""
     found = {name}
     for crate in crates():
-        for path in files(f"crates/{crate}/src/*.rt"):
+        for path in files(f"crates/{crate}/src/**/*.rt"):
             for struct, body in re.findall(r"\bpub struct (\w+)(?:<[^>]*>)? \{(.*?)\n\}", read(path), re.S):
                 if re.search(rf":\s*(?:Option<)?{name}\b", body):
                     found.add(struct)
@@ -138,7 +138,7 @@ def functions():
     """Returns all public functions of these crates, in the order of the sources."""
     found = []
     for crate in crates():
-        for path in files(f"crates/{crate}/src/*.rt"):
+        for path in files(f"crates/{crate}/src/**/*.rt"):
             text, owner = calls_page.source(path), ""
             for match in re.finditer(r"(?m)^impl (\w+)(?![^\n]*\{\}$)|^(\})|\bpub fn (\w+)", text):
                 if match[3]:
@@ -151,7 +151,7 @@ def functions():
 def bodies():
     """Yields each export's name with its contract, its body and the sources that it may use of its crate."""
     static = uses()[1]
-    for path in files(f"crates/{static}/src/*.rt"):
+    for path in files(f"crates/{static}/src/**/*.rt"):
         text = calls_page.source(path)
         for match in re.finditer(r'extern "C" fn (\w+)(.*?)\n\}\n', text, re.S):
             yield match[1], match[2], text
@@ -160,7 +160,7 @@ def bodies():
 def returning():
     """Returns for each private function of the exports' crate the type that it returns: `builder_in` makes a BitmapBuilder."""
     static = uses()[1]
-    return {name: kind for path in files(f"crates/{static}/src/*.rt")
+    return {name: kind for path in files(f"crates/{static}/src/**/*.rt")
             for name, kind in re.findall(r"\bfn (\w+)\([^)]*\)\s*->\s*(\w+)", calls_page.source(path))}
 
 

@@ -1,5 +1,6 @@
--- What the proofs of src/builder.rt, src/extend.rt, src/gather.rt and src/repeat.rt use.
+-- What the proofs of src/builder.rt, src/builder/extend.rt, src/builder/gather.rt and src/builder/repeat.rt use.
 pub mod AppendLaws
+pub mod ExtendLaws
 pub mod FreezeLaws
 pub mod GatherLaws
 pub mod InsideLaws

@@ -1,2 +1,2 @@
--- What the proofs of src/span.rt and src/bitmask.rt use, and others that load a word.
+-- What the proofs of src/span.rt and src/span/search.rt use, and others that load a word.
 pub mod SpanLaws

@@ -1,2 +1,4 @@
--- What the proofs of several functions of src/true_idx.rt use.
+-- What the proofs of src/true_idx.rt and src/true_idx/positions.rt use.
+pub mod PositionLaws
+pub mod PositionRuns
 pub mod TrueIdxLaws

@@ -1,8 +1,7 @@
 //! The mask: its record, and the calls that make one, cut it and count it. As in the reference, a mask and its bytes are two parameters;
 //! they become a `CheckedSpan` once the mask's checks have passed.
-ghost use Rattle.std.specs.Prelude.{◌≡◌, false, ◌+◌, ◌-◌, ◌≤◌, length as list_length, Some, IfOk, IfErr, OnOk, OnErr};
+ghost use Rattle.std.specs.Prelude.{◌≡◌, false, ◌+◌, length as list_length, Some, IfOk, IfErr, OnOk, OnErr};
 ghost use Rattle.words.specs.Flags.{copies};
-ghost use Rattle.words.specs.Loops.{stretch};
 ghost use Rattle.masks.specs.Refusal.{failure_of, failure_back};
 ghost use Rattle.masks.specs.Checks.{first_failed, span_checks};
 ghost use Rattle.masks.specs.Frozen.{with_frozen};
@@ -198,24 +197,6 @@ fn recounts(old: usize, n: usize, zeros: usize) -> bool
     ensures { result ≡ recounts_of old n zeros }
 {
     zeros != 0 && zeros != old && old.saturating_sub(n) <= (old / 5).max(32)
-}
-
-impl CheckedSpan<'_> {
-    // Counts the zeros before and after the slice of n flags starting at `offset`.
-    fn cut_zeros(&self, offset: usize, n: usize) -> usize
-        requires { offset + n ≤ self.now.length }
-        ensures { result ≡ zeros (stretch self.now.bytes.now self.now.start offset)
-            + zeros (stretch self.now.bytes.now (self.now.start + offset + n) (self.now.length - (offset + n))) }
-    {
-        let end = offset + n;
-        let before = self.front(offset);
-        let after = CheckedSpan {
-            bytes: self.bytes,
-            start: self.start + offset + n,
-            length: self.length - end,
-        };
-        before.zeros() + after.zeros()
-    }
 }
 
 // Returns the zero count of the slice of n flags starting at `offset`. Makes a span of the mask only if it counts anew.

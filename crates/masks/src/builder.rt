@@ -9,6 +9,10 @@ ghost use Rattle.masks.specs.Builder.{builder_under, new_builder, rebuilt, filli
 ghost use Rattle.masks.specs.Freeze.{total_ones, frozen_mask, freeze_checks, frozen_over, validity_of};
 ghost use Rattle.masks.specs.Workers.{Inside, Room};
 
+mod extend;
+mod gather;
+mod repeat;
+
 use crate::bitmap::{Bitmap, mask_under};
 use crate::checks::{check_builder, check_word};
 use crate::refusal::{Refusal, Refused, earlier};

@@ -1,7 +1,5 @@
 //! The words of a span that starts at any bit: a cursor that returns them one by one, and the flags after the last whole word.
-ghost use Rattle.std.specs.Prelude.{◌≡◌, ◌+◌, ◌*◌, ◌%◌, ◌≤◌, length as list_length, IfOk, IfErr};
-ghost use Rattle.words.specs.Flags.{word_flags};
-ghost use Rattle.words.specs.Loops.{stretch};
+ghost use Rattle.std.specs.Prelude.{◌≡◌, ◌+◌, ◌%◌, length as list_length, IfOk, IfErr};
 ghost use Rattle.masks.specs.Checks.{first_failed, span_checks};
 ghost use Rattle.masks.specs.Chunks.{chunk_checks, chunk_step, chunks_at, remainder_word};
 ghost use Rattle.masks.specs.Cursor.{step_of};
@@ -11,8 +9,6 @@ use crate::checks::check_span;
 use crate::cursor::{Step, check_cursor};
 use crate::refusal::{Refusal, Refused};
 use crate::span::{CheckedSpan, flags_word};
-use words::merge::merge_reversed;
-use words::word::byte_word;
 
 /// A cursor over the words of a span; its place counts words. The Rust's `BitChunks`, with the bytes lent to each call.
 #[derive(Clone, Copy, PartialEq, Eq, Debug)]
@@ -92,25 +88,5 @@ impl BitChunksExact {
         ensures cursor { IfOk result (λ c. c ≡ chunks_at 0 length 0) }
     {
         BitChunks::new(bytes, 0, length)
-    }
-}
-
-impl CheckedSpan<'_> {
-    // Reads the 64 flags starting at flag 64 * k, all in range. Merges two words if the start is inside a byte. Not by `word_from`, which
-    // promises the same and is slower here (PROVING, `CheckedSpan::word`).
-    fn word(self, k: usize) -> u64
-        requires { 64 * k + 64 ≤ self.length }
-        ensures { word_flags result ≡ stretch self.entry.bytes.now (self.entry.start + 64 * k) 64 }
-    {
-        let at = self.start / 8 + 8 * k;
-        let offset = self.start % 8;
-        if offset == 0 {
-            return byte_word(self.bytes, at);
-        }
-        merge_reversed(
-            byte_word(self.bytes, at),
-            byte_word(self.bytes, at + 8),
-            offset,
-        )
     }
 }

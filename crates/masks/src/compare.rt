@@ -1,7 +1,6 @@
 //! The calls that compare or count the flags of one mask or of two: equality, edges and common ones.
 ghost use Rattle.std.specs.Prelude.{◌≡◌, ◌++◌, IfOk};
 ghost use Rattle.words.specs.Counts.{same_flags};
-ghost use Rattle.words.specs.Loops.{stretch};
 ghost use Rattle.masks.specs.Checks.{first_failed};
 ghost use Rattle.masks.specs.Compare.{common, common_checks, edges};
 ghost use Rattle.masks.specs.Mask.{mask_checks, mask_flags};
@@ -12,7 +11,6 @@ use crate::checks::check_mask;
 use crate::refusal::{Refusal, check, earlier};
 use crate::span::CheckedSpan;
 use words::counts::{count_ones_of, equal};
-use words::flags::Operand;
 use words::ops::Op;
 
 /// Returns whether two masks have the same length and flags. Compiled into its callers, which short masks notice (PROVING, `eq`).
@@ -28,26 +26,6 @@ pub fn eq(lhs: Bitmap, lhs_bytes: &[u8], rhs: Bitmap, rhs_bytes: &[u8]) -> Resul
     let a = lhs.flags(lhs_bytes);
     let b = rhs.flags(rhs_bytes);
     Ok(n == rhs.length && equal(&a, &b, n))
-}
-
-impl CheckedSpan<'_> {
-    // Counts the edges: the ones of the flags xor the flags shifted by one.
-    fn edges(&self) -> usize
-        ensures { result ≡ edges (stretch self.now.bytes.now self.now.start self.now.length) }
-    {
-        if self.length <= 1 {
-            return 0;
-        }
-        let own = Operand {
-            bytes: self.bytes,
-            start: self.start,
-        };
-        let next = Operand {
-            bytes: self.bytes,
-            start: self.start + 1,
-        };
-        count_ones_of(Op::Xor, &own, &next, &next, self.length - 1)
-    }
 }
 
 /// Counts the flags that differ from the flag after them.

@@ -1,15 +1,24 @@
-//! Spans that have passed their checks, words of their flags, and how many flags in a row are equal.
-ghost use Rattle.std.specs.Prelude.{false, ◌≡◌, ◌+◌, ◌*◌, ◌≤◌, length as list_length, IfOk};
-ghost use Rattle.words.specs.Flags.{word_of};
+//! Spans that have passed their checks: words of their flags, counts over them, and how many flags in a row are equal.
+ghost use Rattle.std.specs.Prelude.{false, ◌≡◌, ◌+◌, ◌-◌, ◌*◌, ◌≤◌, length as list_length, IfOk};
+ghost use Rattle.words.specs.Flags.{word_flags, word_of};
 ghost use Rattle.words.specs.Loops.{stretch};
 ghost use Rattle.masks.specs.Checks.{first_failed, limit, span_checks};
 ghost use Rattle.masks.specs.Iterator.{leading_from};
+ghost use Rattle.masks.specs.Compare.{edges};
 ghost use Rattle.masks.specs.Refusal.{failure_of};
+ghost use Rattle.masks.specs.Utils.{zeros};
+
+mod search;
 
 use crate::checks::check_span;
 use crate::refusal::Refusal;
+use crate::utils::zeros_at;
+use words::counts::count_ones_of;
 use words::ends::leading_in_word;
-use words::word::{low_flags, near_word, word_from};
+use words::flags::Operand;
+use words::merge::merge_reversed;
+use words::ops::Op;
+use words::word::{byte_word, low_flags, near_word, word_from};
 
 // A span of lent bytes that has passed checks 1 and 2, or a piece of such a span.
 #[derive(Clone, Copy)]
@@ -36,6 +45,65 @@ impl CheckedSpan<'_> {
             start,
             length,
         })
+    }
+
+    // Reads the 64 flags starting at flag 64 * k, all in range. Merges two words if the start is inside a byte. Not by `word_from`, which
+    // promises the same and is slower here (PROVING, `CheckedSpan::word`).
+    pub(crate) fn word(self, k: usize) -> u64
+        requires { 64 * k + 64 ≤ self.length }
+        ensures { word_flags result ≡ stretch self.entry.bytes.now (self.entry.start + 64 * k) 64 }
+    {
+        let at = self.start / 8 + 8 * k;
+        let offset = self.start % 8;
+        if offset == 0 {
+            return byte_word(self.bytes, at);
+        }
+        merge_reversed(
+            byte_word(self.bytes, at),
+            byte_word(self.bytes, at + 8),
+            offset,
+        )
+    }
+
+    // Counts the zeros of the span.
+    pub(crate) fn zeros(&self) -> usize
+        ensures { result ≡ zeros (stretch self.now.bytes.now self.now.start self.now.length) }
+    {
+        zeros_at(self.bytes, self.start, self.length, 0)
+    }
+
+    // Counts the zeros before and after the slice of n flags starting at `offset`.
+    pub(crate) fn cut_zeros(&self, offset: usize, n: usize) -> usize
+        requires { offset + n ≤ self.now.length }
+        ensures { result ≡ zeros (stretch self.now.bytes.now self.now.start offset)
+            + zeros (stretch self.now.bytes.now (self.now.start + offset + n) (self.now.length - (offset + n))) }
+    {
+        let end = offset + n;
+        let before = self.front(offset);
+        let after = CheckedSpan {
+            bytes: self.bytes,
+            start: self.start + offset + n,
+            length: self.length - end,
+        };
+        before.zeros() + after.zeros()
+    }
+
+    // Counts the edges: the ones of the flags xor the flags shifted by one.
+    pub(crate) fn edges(&self) -> usize
+        ensures { result ≡ edges (stretch self.now.bytes.now self.now.start self.now.length) }
+    {
+        if self.length <= 1 {
+            return 0;
+        }
+        let own = Operand {
+            bytes: self.bytes,
+            start: self.start,
+        };
+        let next = Operand {
+            bytes: self.bytes,
+            start: self.start + 1,
+        };
+        count_ones_of(Op::Xor, &own, &next, &next, self.length - 1)
     }
 }
 

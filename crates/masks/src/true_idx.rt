@@ -7,6 +7,8 @@ ghost use Rattle.masks.specs.Iterator.{leading_from};
 ghost use Rattle.masks.specs.TrueIdx.{true_moved, new_true_checks, first_true, true_checks, true_flags, true_step};
 ghost use Rattle.masks.specs.Search.{nth_from};
 
+mod positions;
+
 use crate::bitmap::Bitmap;
 use crate::checks::{check_limit, check_mask};
 use crate::cursor::{Step, check_cursor};

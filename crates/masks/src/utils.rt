@@ -11,7 +11,6 @@ ghost use Rattle.masks.specs.Workers.{zeros_of_all};
 
 use crate::aligned::{AddressedSpan, check_aligned};
 use crate::refusal::Refusal;
-use crate::span::CheckedSpan;
 use crate::span_ends::{Back, End, Front, SplitSpan};
 use words::uniform::{all_equal, differs_early};
 use words::word::{near_word, ones_below};
@@ -48,15 +47,6 @@ pub(crate) fn zeros_at(bytes: &[u8], start: usize, length: usize, address: usize
         length,
         address,
     })
-}
-
-impl CheckedSpan<'_> {
-    // Counts the zeros of the span.
-    pub(crate) fn zeros(&self) -> usize
-        ensures { result ≡ zeros (stretch self.now.bytes.now self.now.start self.now.length) }
-    {
-        zeros_at(self.bytes, self.start, self.length, 0)
-    }
 }
 
 // Returns whether all flags of a span equal `flag`: `all_equal` of words under a contract by the number of zeros, which the checks cite.

@@ -21,7 +21,7 @@ use Rattle.masks.specs.declared.builder.BitmapBuilder.{BitmapBuilder}
 use Rattle.masks.proofs.theorems.Accepted.{builder-accepted}
 use Rattle.masks.proofs.builder.AppendLaws.{word_back}
 use Rattle.masks.proofs.checks.CheckLaws.{none-earlier, one-check, two_pieces}
-use Rattle.masks.proofs.extend.ExtendLaws.{stretch-front}
+use Rattle.masks.proofs.builder.ExtendLaws.{stretch-front}
 use Rattle.masks.proofs.utils.PartLaws.{length-low}
 use Rattle.masks.proofs.builder.RoomLaws.{none-after}
 

@@ -39,7 +39,7 @@ use Rattle.masks.specs.declared.true_idx.TrueIdxIter.{TrueIdxIter}
 use Rattle.masks.proofs.refusal.AnswerLaws.{given-number, given-value}
 use Rattle.masks.proofs.iterator.IteratorLaws.{first-some}
 use Rattle.masks.proofs.checks.CheckLaws.{both_right, check-allowed}
-use Rattle.masks.proofs.positions.PositionLaws.{after-few, after-many, after-none}
+use Rattle.masks.proofs.true_idx.PositionLaws.{after-few, after-many, after-none}
 use Rattle.masks.proofs.theorems.RunsPlain.{leading-in}
 
 -- ---- a step that is chosen by a test

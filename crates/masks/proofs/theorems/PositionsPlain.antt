@@ -11,7 +11,7 @@ use Rattle.masks.specs.Positions.{left_of, place_after}
 use Rattle.masks.specs.TrueIdx.{true_moved}
 use Rattle.masks.specs.declared.true_idx.TrueIdxIter.{TrueIdxIter}
 use Rattle.masks.proofs.cursor.ListingLaws.{an_item, the_end, after-item, after-end}
-use Rattle.masks.proofs.positions.PositionLaws.{after-many, after-few, after-none}
+use Rattle.masks.proofs.true_idx.PositionLaws.{after-many, after-few, after-none}
 use Rattle.masks.proofs.theorems.TrueIdxPlain.{NextOne, one-next, none-next, next_one, IsAccepted, accepted-at, answer-of}
 
 no-calls : (bytes : List ℕ) (c : TrueIdxIter) → listing (answer-of bytes) 0 c ≡ []

@@ -3,7 +3,7 @@ use Rattle.words.specs.Flags.{word_flags}
 use native.Mathlib.Omega.{arith}
 use Rattle.words.proofs.flags.Bits.{length-bits}
 use Rattle.words.proofs.counts.Counting.{count-le}
-use Rattle.masks.proofs.extend.ExtendLaws.{push-closed}
+use Rattle.masks.proofs.builder.ExtendLaws.{push-closed}
 use Rattle.masks.proofs.builder.PushLaws.{rebuilt-way, or-merged}
 use Rattle.masks.proofs.builder.RoomLaws.{word-stored}
 use Rattle.masks.proofs.builder.close_word.Goals as goal

@@ -1,6 +1,6 @@
 -- A flag that differs in the first word, else word by word.
 use native.Mathlib.Omega.{arith}
-use Rattle.masks.proofs.extend.ExtendLaws.{stretch-front}
+use Rattle.masks.proofs.builder.ExtendLaws.{stretch-front}
 use Rattle.masks.proofs.iterator.IteratorLaws.{word-alike}
 use Rattle.masks.proofs.span.leading_from.Goals as goal
 

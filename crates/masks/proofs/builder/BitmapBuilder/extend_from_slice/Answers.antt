@@ -4,7 +4,7 @@ use mathlib.Core.Path.{ap, ◌∙◌}
 use native.Mathlib.Omega.{arith}
 use Rattle.words.proofs.word.Loads.{near-first}
 use Rattle.masks.specs.Builder.{appended}
-use Rattle.masks.proofs.extend.ExtendLaws.{few-inside}
+use Rattle.masks.proofs.builder.ExtendLaws.{few-inside}
 use Rattle.masks.proofs.builder.InsideLaws.{front-padded, inside-padded}
 use Rattle.masks.proofs.utils.PartLaws.{length-low}
 use Rattle.masks.proofs.builder.RoomLaws.{grow-allowed}

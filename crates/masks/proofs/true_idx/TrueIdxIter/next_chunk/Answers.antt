@@ -1,7 +1,7 @@
 -- As many positions are written as there are left and fit, and the place is the one after them (`told`).
 use mathlib.Core.Path.{sym, ap, ◌∙◌}
 use Rattle.masks.specs.TrueIdx.{true_moved}
-use Rattle.masks.proofs.positions.PositionLaws.{told, within-out}
+use Rattle.masks.proofs.true_idx.PositionLaws.{told, within-out}
 use Rattle.masks.proofs.refusal.RefusalLaws.{passed-back}
 use Rattle.masks.proofs.true_idx.TrueIdxIter.next_chunk.Goals as goal
 
