@@ -1,5 +1,7 @@
 -- The tokens of a line that are arguments.
 use Rattle.std.specs.Prelude.{ℕ, Bool, true, false, ◌-◌, Option, Some, None, length, slice_get, count_by}
+use Rattle.notation.specs.declared.answer.Token.{Token}
+use Rattle.notation.specs.declared.answer.Token.TheVariants.{Number as NumberToken, Unknown as UnknownToken, Missing as MissingToken}
 use Rattle.notation.specs.declared.item.Item.{Item}
 use Rattle.notation.specs.declared.item.Item.TheVariants.{Numbers, Times, Calls, Unknown, Missing, Any}
 use Rattle.notation.specs.declared.item.Role.{Role}
@@ -21,6 +23,12 @@ is_plain (Calls n) = true
 is_plain Unknown = true
 is_plain Missing = true
 is_plain Any = true
+
+-- a token as an item
+abbrev pub item_of : Token → Item
+item_of (NumberToken n) = Numbers Argument n 1
+item_of UnknownToken = Unknown
+item_of MissingToken = Missing
 
 abbrev pub plain_if : Option Item → Bool
 plain_if (Some item) = is_plain item

@@ -1,6 +1,8 @@
 -- What the lines lend, by letter.
 use Rattle.std.specs.Prelude.{◌≡◌, ◌==◌, ℕ, Bool, false, List, [], ◌∷◌, Vec, vec_len}
 use Rattle.std.specs.declared.alloc.Global.{Global}
+use Rattle.notation.specs.Fault.{IsOfMemory}
+use Rattle.notation.specs.declared.fault.Fault.{Fault}
 use Rattle.notation.specs.declared.lent.ByLetter.{ByLetter}
 use Rattle.notation.specs.declared.lent.Letter.{Letter}
 use Rattle.notation.specs.declared.lent.Letter.TheVariants.{X, Y, Z, O, I}
@@ -29,3 +31,11 @@ IsLeft Y l bytes = l.y.items ≡ bytes
 IsLeft Z l bytes = l.z.items ≡ bytes
 IsLeft O l bytes = l.o.items ≡ bytes
 IsLeft I l bytes = Unit {0}
+
+-- why a line that lends what the last call left ends early: memory; of i, which lends numbers, nothing is stated
+abbrev pub IsUnlent : Letter → Fault → Type 0
+IsUnlent X e = IsOfMemory e
+IsUnlent Y e = IsOfMemory e
+IsUnlent Z e = IsOfMemory e
+IsUnlent O e = IsOfMemory e
+IsUnlent I e = Unit {0}

@@ -1,6 +1,7 @@
 -- What the contracts of this crate mean, from docs/REQUESTS.md. Read `Answer` first.
 pub mod Answer
 pub mod Arguments
+pub mod Fault
 pub mod Items
 pub mod Last
 pub mod Lent

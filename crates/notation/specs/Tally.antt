@@ -1,5 +1,6 @@
 -- How requests are counted.
-use Rattle.std.specs.Prelude.{ℕ, Bool, false, ◌+◌, ◌-◌, ◌^◌, min, List, Option, Some, None, slice_get, slice_set, nat_lt}
+use Rattle.std.specs.Prelude.{ℕ, Bool, false, ◌+◌, ◌-◌, ◌^◌, min, nat_lt, List, Option, Some, None, slice_get, slice_set}
+use Rattle.std.specs.Prelude.{◌++◌, codes, decimal}
 use Rattle.notation.specs.Outcome.{one_more}
 use Rattle.notation.specs.declared.outcome.Outcome.{Outcome}
 use Rattle.notation.specs.declared.outcome.Verdict.{Verdict}
@@ -61,3 +62,8 @@ abbrev pub is_printed : Tally → Verdict → Bool
 is_printed t Same = false
 is_printed t Differs = shows t
 is_printed t Made = false
+
+-- what is printed of a count
+abbrev pub count_text : Count → List ℕ
+count_text c =
+    decimal c.requests ++ (codes " requests, " ++ (decimal c.calls ++ (codes " calls, " ++ (decimal c.differing ++ codes " differ"))))

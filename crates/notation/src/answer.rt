@@ -1,7 +1,8 @@
 //! The answer of a call.
-ghost use Rattle.std.specs.Prelude.{◌≡◌, [], IfOk};
+ghost use Rattle.std.specs.Prelude.{◌≡◌, [], Some, IfOk};
+ghost use Rattle.std.specs.Int.{from_bool};
 ghost use Rattle.notation.specs.declared.answer.Token.TheVariants.{Number};
-ghost use Rattle.notation.specs.Answer.{tokens_of, number_alone, with_token};
+ghost use Rattle.notation.specs.Answer.{tokens_of, number_alone, with_token, token_text, answer_text};
 
 use std::alloc::{AllocError, Global};
 use std::fmt;
@@ -50,12 +51,16 @@ impl From<usize> for Token {
 }
 
 impl From<bool> for Token {
+    ghost from_gives = { λ flag t. t ≡ Number (from_bool flag) };
+
     fn from(flag: bool) -> Token {
         Token::Number(u64::from(flag))
     }
 }
 
 impl fmt::Display for Token {
+    ghost output = { λ t. Some (token_text t) };
+
     fn fmt<W: fmt::Write>(&self, f: &mut fmt::Formatter<W>) -> fmt::Result {
         match self {
             Token::Number(n) => write!(f, "{n}"),
@@ -106,6 +111,8 @@ impl Answer {
 
 // Each token after a space.
 impl fmt::Display for Answer {
+    ghost output = { λ a. Some (answer_text (tokens_of a)) };
+
     fn fmt<W: fmt::Write>(&self, f: &mut fmt::Formatter<W>) -> fmt::Result {
         for token in self.as_slice() {
             write!(f, " {token}")?;

@@ -1,4 +1,8 @@
 //! What ends a line early.
+ghost use Rattle.std.specs.Prelude.{◌≡◌};
+ghost use Rattle.notation.specs.Fault.{IsOfMemory};
+ghost use Rattle.notation.specs.declared.fault.Fault.TheVariants.{Failed};
+
 use std::alloc::{AllocError, AllocFailed};
 use std::io;
 
@@ -12,18 +16,24 @@ pub enum Fault {
 }
 
 impl From<io::Error> for Fault {
+    ghost from_gives = { λ e f. f ≡ Failed e };
+
     fn from(e: io::Error) -> Fault {
         Fault::Failed(e)
     }
 }
 
 impl From<AllocError> for Fault {
+    ghost from_gives = { λ _ f. IsOfMemory f };
+
     fn from(e: AllocError) -> Fault {
         Fault::Failed(io::Error::from(e))
     }
 }
 
 impl<T: Drop> From<AllocFailed<T>> for Fault {
+    ghost from_gives = { λ _ f. IsOfMemory f };
+
     fn from(e: AllocFailed<T>) -> Fault {
         Fault::Failed(io::Error::from(AllocError::from(e)))
     }

@@ -1,6 +1,7 @@
 //! One item of a line: numbers with their role, a number and how many times, `?`, `-`, `_`, or `#` and a number.
 ghost use Rattle.std.specs.Prelude.{◌≡◌};
-ghost use Rattle.notation.specs.Items.{is_plain};
+ghost use Rattle.notation.specs.Items.{is_plain, item_of};
+ghost use Rattle.notation.specs.declared.item.Item.TheVariants.{Numbers};
 
 use crate::answer::Token;
 use crate::arguments::Serial;
@@ -43,6 +44,8 @@ pub(crate) enum Item {
 }
 
 impl From<Token> for Item {
+    ghost from_gives = { λ t item. item ≡ item_of t };
+
     fn from(token: Token) -> Item {
         match token {
             Token::Number(n) => Item::single(Role::Argument, n),
@@ -53,7 +56,9 @@ impl From<Token> for Item {
 }
 
 impl Item {
-    fn single(role: Role, first: u64) -> Item {
+    fn single(role: Role, first: u64) -> Item
+        ensures { result ≡ Numbers role first 1 }
+    {
         Item::Numbers {
             role,
             first,

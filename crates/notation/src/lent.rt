@@ -1,6 +1,7 @@
 //! What is lent to the calls: the bytes x, y, z and o, and the numbers i.
-ghost use Rattle.std.specs.Prelude.{◌≡◌, [], take, OnOk, OnErr, IfOk, true};
-ghost use Rattle.notation.specs.Lent.{sizes_of, KeptBut, is_again, IsLeft};
+ghost use Rattle.std.specs.Prelude.{◌≡◌, [], take, OnOk, OnErr, IfOk, IfErr, true};
+ghost use Rattle.notation.specs.Fault.{IsOfMemory};
+ghost use Rattle.notation.specs.Lent.{sizes_of, KeptBut, is_again, IsLeft, IsUnlent};
 ghost use Rattle.notation.specs.Line.{letter_of};
 
 use crate::element;
@@ -100,6 +101,7 @@ impl ByLetter<Vec<u8>, Vec<u32>> {
         ensures others { KeptBut letter self.old self.new }
         ensures malformed { OnErr result (self.new ≡ self.old) }
         ensures again { is_again text.now ≡ true → OnOk result (IsLeft letter self.new last.now.bytes.items) }
+        ensures failed { is_again text.now ≡ true → IfErr result (IsUnlent letter) }
     {
         match letter {
             Letter::X => self.x = bytes(alloc, text, last)?,
@@ -152,7 +154,8 @@ impl ByLetter<Vec<u8>, Vec<u32>> {
 
 // Reads pieces, or `@` for the bytes that the last call left.
 fn bytes(alloc: Global, text: &[u8], last: &Last) -> Result<Vec<u8>, Fault>
-    ensures { is_again text.now ≡ true → IfOk result (λ v. v.items ≡ last.now.bytes.items) }
+    ensures again { is_again text.now ≡ true → IfOk result (λ v. v.items ≡ last.now.bytes.items) }
+    ensures failed { is_again text.now ≡ true → IfErr result IsOfMemory }
 {
     match text {
         [b'@', ..] => Ok(Vec::from_slice(alloc, last.bytes.as_slice())?),

@@ -1,6 +1,8 @@
 //! The bytes of a reader, taken apart into lines.
-ghost use Rattle.std.specs.Prelude.{◌≡◌, ◌≢◌, ◌<◌, [], IfOk, OnOk, is_ok, length, nat_lt, vec_len, position, true, false, if◌then◌else◌};
+ghost use Rattle.std.specs.Prelude.{◌≡◌, ◌≢◌, ◌<◌, [], length, nat_lt, vec_len, position};
+ghost use Rattle.std.specs.Prelude.{IfOk, IfErr, OnOk, is_ok, true, false, if◌then◌else◌};
 ghost use Rattle.std.specs.Io.Buffered.{reader_buffer};
+ghost use Rattle.notation.specs.Fault.{IsNoMemory};
 ghost use Rattle.notation.specs.Lines.{ends, begun, is_feed, gone_on, step_over, left_of};
 ghost use Rattle.notation.specs.declared.lines.Step.TheVariants.{Line};
 
@@ -43,6 +45,7 @@ impl<R: Read + Drop> Lines<R> {
     pub fn new(alloc: Global, source: R) -> io::Result<Lines<R>>
         ensures line { IfOk result (λ lines. lines.line.items ≡ []) }
         ensures ended { IfOk result (λ lines. lines.ended ≡ false) }
+        ensures failed { IfErr result IsNoMemory }
     {
         Ok(Lines {
             source: BufReader::with_capacity(alloc, WINDOW, source)?,
@@ -51,8 +54,9 @@ impl<R: Read + Drop> Lines<R> {
         })
     }
 
-    /// Takes the bytes that were read, up to a line feed, or reads on if none are left. The contract states in full what becomes of bytes
-    /// that were read. It leaves open which bytes come next: those are the reader's.
+    /// Takes the bytes that were read, up to a line feed, or reads on if none are left. Fails if memory lacks or a read fails. The contract
+    /// states in full what becomes of bytes that were read. It leaves open which bytes come next and which reads fail: both depend on the
+    /// reader.
     pub fn step(&mut self) -> io::Result<Step>
         ensures ended { IfOk result (λ step. self.new.ended ≡ ends step) }
         ensures line { OnOk result (self.new.line.items ≡ gone_on (begun self.old) (reader_buffer self.old.source)) }
@@ -60,6 +64,7 @@ impl<R: Read + Drop> Lines<R> {
         ensures left { reader_buffer self.old.source ≢ []
             → OnOk result (reader_buffer self.new.source ≡ left_of (reader_buffer self.old.source)) }
         ensures empty { reader_buffer self.old.source ≡ [] → IfOk result (λ step. step ≢ Line) }
+        ensures failed { reader_buffer self.old.source ≢ [] → IfErr result IsNoMemory }
     {
         if self.ended {
             self.line.clear();
@@ -80,6 +85,7 @@ impl<R: Read + Drop> Lines<R> {
         ensures line { OnOk result (self.new.line.items ≡ gone_on self.old.line.items (reader_buffer self.old.source)) }
         ensures step { IfOk result (λ step. step ≡ step_over (reader_buffer self.old.source)) }
         ensures left { OnOk result (reader_buffer self.new.source ≡ left_of (reader_buffer self.old.source)) }
+        ensures failed { IfErr result IsNoMemory }
     {
         let read = self.source.buffer();
         let feed = feed_in(read);

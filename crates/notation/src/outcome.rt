@@ -1,5 +1,5 @@
 //! The outcome of a request: the answers and outputs of its calls, compared with its line.
-ghost use Rattle.std.specs.Prelude.{◌≡◌, ◌≢◌, IfOk, Ok, is_some, true, false};
+ghost use Rattle.std.specs.Prelude.{◌≡◌, ◌≢◌, IfOk, IsOkAnd, Ok, is_some, true, false};
 ghost use Rattle.notation.specs.declared.outcome.Verdict.TheVariants.{Made};
 ghost use Rattle.notation.specs.Outcome.{none_made, taken};
 
@@ -78,7 +78,7 @@ pub fn compare(
     ensures name { IfOk result (λ o. o.name ≡ reading.now.named.name) }
     ensures place { IfOk result (λ o. o.place ≡ reading.now.place) }
     ensures calls { IfOk result (λ o. o.calls ≡ ran.calls) }
-    ensures made { is_some reading.now.items.answer ≡ false → IfOk result (λ o. o.verdict ≡ Made) }
+    ensures made { is_some reading.now.items.answer ≡ false → IsOkAnd result (λ o. o.verdict ≡ Made) }
     ensures expected { is_some reading.now.items.answer ≡ true → IfOk result (λ o. o.verdict ≢ Made) }
 {
     let expected = answer_verdict(reading, ran, &last.answer)?;

@@ -1,7 +1,7 @@
 //! How many requests of each call were made, how many calls they are, and how many requests differ; and what is printed.
-ghost use Rattle.std.specs.Prelude.{◌≡◌, slice_get};
+ghost use Rattle.std.specs.Prelude.{◌≡◌, Some, slice_get};
 ghost use Rattle.notation.specs.Tally.{begun, line_counted, malformed_counted, wrong_counted, shows};
-ghost use Rattle.notation.specs.Tally.{added, row_added, request_added, counted, is_printed};
+ghost use Rattle.notation.specs.Tally.{added, row_added, request_added, counted, is_printed, count_text};
 
 use crate::names;
 use crate::names::CALLS;
@@ -31,6 +31,8 @@ impl Count {
 }
 
 impl fmt::Display for Count {
+    ghost output = { λ c. Some (count_text c) };
+
     fn fmt<W: fmt::Write>(&self, f: &mut fmt::Formatter<W>) -> fmt::Result {
         let Count {
             requests,
