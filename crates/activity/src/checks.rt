@@ -36,7 +36,8 @@ fn all_zero(words: &[u64]) -> bool
 // Returns whether two lists of 64 numbers are equal. This fold reads each pair, and is faster than `all` and than `==` of the arrays
 // (PROVING, `same_numbers`).
 fn same_numbers(a: &[u32; 64], b: &[u32; 64]) -> bool
-    ensures { result ≡ fold (λ (same : Bool) (p : ℕ × ℕ). same && (p.0 == p.1)) true (zip a.now b.now) }
+    ensures { result ≡
+        fold (λ (same : Bool) (p : ℕ × ℕ). same && (p.0 == p.1)) true (zip a.now b.now) }
 {
     a.iter().zip(b).fold(true, |same, (x, y)| same & (*x == *y))
 }

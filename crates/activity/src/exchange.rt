@@ -23,7 +23,8 @@ fn half_of(w: u64, s: usize) -> u32
 
 // Takes 32 flags of `old` off 32 counts and adds those of `new`, starting at flag s.
 fn exchange_half(counts: &mut [u32], masks: &[u32; 32], s: usize, old: u64, new: u64)
-    requires { (length counts.old ≡ 32) × ((c : ℕ) → c < 32 → get_or masks.now c 0 ≡ 2 ^ c) × (s ≤ 32) × Holds counts.old s 32 old }
+    requires { (length counts.old ≡ 32) × ((c : ℕ) → c < 32 → get_or masks.now c 0 ≡ 2 ^ c)
+        × (s ≤ 32) × Holds counts.old s 32 old }
     ensures { (length counts.new ≡ 32) × Exchanged counts.old s old new counts.new 32 }
 {
     let plus = half_of(new, s);

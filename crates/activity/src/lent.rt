@@ -20,7 +20,8 @@ pub struct Numbers {
 // so that in either case the flags of the word there are taken off.
 fn minute_in(words: &mut [u64; 256], counts: &mut [u32; 64], at: Numbers, word: u64) -> Numbers
     requires { Good (window_at words.old counts.old at) }
-    ensures { window_at words.new counts.new result ≡ minute_on (window_at words.old counts.old at) word }
+    ensures { window_at words.new counts.new result ≡
+        minute_on (window_at words.old counts.old at) word }
 {
     let oldest = words[at.place];
     words[at.place] = word;

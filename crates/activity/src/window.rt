@@ -22,7 +22,7 @@ pub struct ActivityWindow {
 /// The reason for a refusal.
 #[derive(Clone, Copy, Debug, PartialEq, Eq)]
 pub enum WindowRefusal {
-    /// 16: the width is not 1 to 256, or no run of minutes leaves the window.
+    /// 16: the width of the window of minutes is not 1 to 256, or no run of minutes at its width leaves the window.
     ImpossibleWindow,
 }
 
