@@ -10,9 +10,9 @@
  * a cursor are passed as their numbers, which are quicker to pass from call to call than a record.
  *
  * Each call checks its arguments. It returns in `refusal` 0, or one of the numbers listed for it, and has then written nothing. If
- * several checks fail, `refusal` is the number that comes first in 1, 2, 3, 14, 4, 5, 6, 7, 8, 9; the calls on a window of minutes have
- * only 16. On refusal the answer has what the call would have changed, unchanged: a mask, a builder, a cursor's place, the cursor of an
- * offer, a window's numbers. Every other field is then 0.
+ * several checks fail, `refusal` is the number that comes first in the list of refusals below. On refusal the answer has what the call
+ * would have changed, unchanged: a mask, a builder, a cursor's place, the cursor of an offer, a window's numbers. Every other field is
+ * then 0.
  *
  * Each call that takes a mask whose count is known counts its zeros again, and refuses a count that is not exact. A record that this
  * library returned may be passed without its count (`known` 0), with the bytes that it belongs to: this changes no answer except the
@@ -37,18 +37,25 @@ extern "C" {
 /* The largest start and length, in flags. */
 #define PW_FLAG_LIMIT 4194304
 
-/* The numbers of refusals, each with the check that failed. */
+/* ---- written by tests/declarations.py from include/refusals.txt and crates/capi: change it there */
 
-/* A start or a length is above the flag limit: of a span, mask, cursor or piece, a stated or a new length, a resulting start. */
+/* The numbers of refusals, each with the check that failed, in the order of the checks: of several that fail, the first one here. */
+
+/* The width of the window of minutes is not 1 to 256, or no run of minutes at its width leaves the window. */
+#define PW_REFUSED_IMPOSSIBLE_WINDOW 16
+/* A start or a length is above 4,194,304: of a span, mask, cursor, builder or inner piece, a stated length, or a resulting start or
+ * length. */
 #define PW_REFUSED_ABOVE_LIMIT 1
 /* start + length is above 8 * the bytes lent. */
 #define PW_REFUSED_OUTSIDE_BYTES 2
-/* A known zero count is not the number of zeros. Each call that takes a mask counts a known one again. */
+/* A known zero count is not the number of zeros among the flags. Each call that takes a mask counts a known one again. */
 #define PW_REFUSED_FALSE_COUNT 3
-/* The builder is not possible: its word has a bit set at or above length mod 64, its ones are above 64 * (length div 64), or its buffer
- * has fewer than 8 * (length div 64) bytes. */
+/* Two masks with equal serials have different flags or lengths. */
+#define PW_REFUSED_SERIAL_CONFLICT 14
+/* The builder is not possible: its word has a bit set at or above length mod 64, its ones are above 64 * (length div 64), or its
+ * buffer has fewer than 8 * (length div 64) bytes. */
 #define PW_REFUSED_IMPOSSIBLE_BUILDER 4
-/* Masks, or a mask and the length stated for it, differ in length. */
+/* The masks combined, or a mask and the length stated for it, differ in length. */
 #define PW_REFUSED_UNEQUAL_LENGTHS 5
 /* A slice's end, a split point or a cursor's place is above the length, an index or a truck is not below it, or a pushed word has more
  * than 64 flags or a bit set after them. */
@@ -60,12 +67,6 @@ extern "C" {
 #define PW_REFUSED_ADDRESS_REMAINDER 8
 /* The output, or the builder's buffer, has fewer than 8 * ceil(new length / 64) bytes. */
 #define PW_REFUSED_OUTPUT_TOO_SMALL 9
-/* Two masks with equal serials have different flags or lengths. This check comes after 3. */
-#define PW_REFUSED_SERIAL_CONFLICT 14
-/* The width of the window of minutes is not 1 to 256, or no run of minutes at its width leaves the window. */
-#define PW_REFUSED_IMPOSSIBLE_WINDOW 16
-
-/* ---- written by tests/declarations.py from crates/capi: change it there */
 
 /* ---- records */
 

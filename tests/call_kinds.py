@@ -19,12 +19,13 @@ KINDS = []
 
 class Kind:
     def __init__(self, key, says, level, applies, written, find):
-        self.key, self.says, self.level, self.applies, self.written, self.find = key, says, level, applies, written, find
+        self.key, self.says, self.level, self.applies, self.find = key, says, level, applies, find
+        self.written = written if callable(written) else lambda call: written
         self.shared = key in ("shape", "conversion")  # a call touches these only if it brings the first answer of its shape
 
 
 def kind(key, says, level=MUST, applies=lambda call: True, written=False):
-    """Adds a kind, whose files the decorated function returns."""
+    """Adds a kind, whose files the decorated function returns. `written` is whether a script writes them, for all calls or by the call."""
 
     def adds(find):
         KINDS.append(Kind(key, says, level, applies, written, find))

@@ -32,11 +32,7 @@ NOT_NEEDED = {
 }
 
 # What calls lack today, with what is to be written; an entry goes when the place is filled.
-NO_EDGE_ROWS = "rows at the limit and one above it, in `EdgeRows` of masks"
-OPEN = {
-    ("BitmapIter::new", "edges"): NO_EDGE_ROWS,
-    ("activity", "shape"): "an `AnswerPlain` of activity: what `answer` of `Window` makes of a value and of a refusal",
-}
+OPEN = {}
 
 
 def reason(table, call, kind):
@@ -58,14 +54,14 @@ def show(call):
             state = f"not needed: {why}"
         else:
             state = " ".join(kind.find(call)) or ("LACKING" if kind.level == MUST else "none")
-        print(f"{kind.says}{' (written)' if kind.written else ''}: {state}")
+        print(f"{kind.says}{' (written)' if kind.written(call) else ''}: {state}")
 
 
 def show_files(call):
     hand, optional, written = set(), set(), set()
     for kind in KINDS:
         if kind.applies(call) and not kind.shared:
-            (written if kind.written else hand if kind.level == MUST else optional).update(kind.find(call))
+            (written if kind.written(call) else hand if kind.level == MUST else optional).update(kind.find(call))
     hand -= written
     optional -= hand | written
     said = (("", hand), ("not of each call: ", optional), ("written: ", written))

@@ -2,8 +2,8 @@
 
     python3 tests/complaints.py
 
-An entry of EDITS has the script, a file of the repository, a text that is in it exactly once, the text in its place, and what a line of
-the script must then contain. The script must have no complaint of the copy before the edit."""
+An entry of EDITS has the script with its options, a file of the repository, a text that is in it exactly once, the text in its place, and
+what a line of the script must then contain. The script must have no complaint of the copy before the edit."""
 import os
 import pathlib
 import shutil
@@ -13,7 +13,8 @@ import tempfile
 
 ROOT = pathlib.Path(__file__).resolve().parent.parent
 READ = ("crates/*/src/**/*.rt", "crates/*/specs/**/*.antt", "crates/*/proofs/statements/*.antt", "crates/*/proofs/tables/*.antt")
-PAGES = ("docs/*.md", "README.md", "tests/*.py")
+READ += ("crates/*/proofs/computed/*.antt", "crates/*/proofs/theorems/*.antt", "crates/masks/proofs/refusal/*.antt")
+PAGES = ("docs/*.md", "README.md", "crates.txt", "tests/*.py", "tests/plants", "tests/plants.txt", "include/*", "bindings/rust/src/**/*.rs")
 
 EDITS = (
     (
@@ -73,6 +74,34 @@ EDITS = (
         "masks::checks::check_mask is no combination and no search",
     ),
     (
+        "declarations.py",
+        "include/refusals.txt",
+        "12 NotAGrid later ",
+        "12 NotAGrid ",
+        "12 NotAGrid: no definition has its check",
+    ),
+    (
+        "declarations.py",
+        "crates/masks/proofs/statements/AnswerPlain.antt",
+        "number SerialConflict ≡ 14",
+        "number SerialConflict ≡ 13",
+        "AnswerPlain.antt is not what the sources give",
+    ),
+    (
+        "proof_rows.py",
+        "crates/masks/proofs/theorems/Refusals.antt",
+        "      and_not_at = λ a a_bytes b b_bytes i.",
+        "      and_not_at = λ b a_bytes a b_bytes i.",
+        "crates/masks/proofs/theorems/Refusals.antt: not what its statement or table gives",
+    ),
+    (
+        "proof_rows.py",
+        "crates/capi/proofs/statements/StepPlain.antt",
+        "  pub refused-place : (place k : ℕ) (c : C) →",
+        "  pub refused-place : (came k : ℕ) (c : C) →",
+        "crates/capi/proofs/theorems/StepPlain.antt: not what its statement or table gives",
+    ),
+    (
         "histories_ties.py",
         "crates/histories/proofs/statements/History.antt",
         "after_freeze (freeze_bytes b buf) (freeze_of b buf)",
@@ -100,6 +129,41 @@ EDITS = (
         "    pub fn push_mut(&mut self, buf: &mut [u8], other: bool) -> Result<(), Refusal>\n        ensures",
         "push_mut: neither its contract nor that of its export states",
     ),
+    (
+        "plants --test",
+        "tests/plants",
+        "for it in (found - listed).elements()",
+        "for it in (found - found).elements()",
+        "not seen: a finding that is not listed, crate: x, place: T::f, finding: proves, plant: { Ok(0) }",
+    ),
+    (
+        "plants --test",
+        "tests/plants",
+        "for it in (listed - found).elements()",
+        "for it in (found - found).elements()",
+        "words: not seen: a finding that is gone, crate: x, place: T::g, finding: proves, plant: { None }",
+    ),
+    (
+        "plants --test",
+        "tests/plants",
+        "] * (now < least)",
+        "] * (now < 1)",
+        "not seen: a function fewer",
+    ),
+    (
+        "plants --test",
+        "tests/plants",
+        "    if not last or last.group(1) != crate:\n",
+        "    if not last:\n        return []\n    if last.group(1) != crate:\n",
+        "not seen: a run that was cut off",
+    ),
+    (
+        "plants --test",
+        "tests/plants.txt",
+        "crate: words\nfunctions: ",
+        "crate: notes\nfunctions: ",
+        "tests/plants.txt: notes is no library crate",
+    ),
 )
 
 
@@ -113,9 +177,11 @@ def copied(home):
 
 
 def printed(home, script):
-    """Runs a script of the copy; returns its status and what it printed."""
+    """Runs a script of the copy with its options; returns its status and what it printed."""
+    name, *options = script.split()
     environment = {**os.environ, "PYTHONDONTWRITEBYTECODE": "1"}
-    done = subprocess.run([sys.executable, f"tests/{script}"], cwd=home, env=environment, capture_output=True, text=True, check=False)
+    words = [sys.executable, f"tests/{name}", *options]
+    done = subprocess.run(words, cwd=home, env=environment, capture_output=True, text=True, check=False)
     return done.returncode, done.stdout + done.stderr
 
 

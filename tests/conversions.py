@@ -32,12 +32,20 @@ def joined(text):
     return re.sub(r"\n {4,}", " ", text)
 
 
+def spelled(text):
+    """Returns the statements on steps with the fields of `Steps` written out for each conversion of which the last record states it."""
+    fields = re.search(r"(?ms)^pub record Steps .*?where\n(.*?)(?=\n\n)", text)[1]
+    names = re.findall(r"Steps [^()]* \((as_\w+ [^()]*)\)", text)
+    return "\n".join([*(fields.replace("(to (", f"({name} (") + "\n" for name in names), text])
+
+
 class Sources:
     """What is read: texts by name, and for each export its result's type, the numbers by which it refuses, and its clauses."""
 
     def __init__(self):
         self.specs = "\n".join(without_comments(CAPI / f"specs/{name}.antt") for name in SPECS)
         self.plain = {name: joined(without_comments(CAPI / f"proofs/statements/{name}.antt")) for name in PLAIN}
+        self.plain["StepPlain"] = spelled(self.plain["StepPlain"])
         self.rows = without_comments(CAPI / "proofs/tables/AnswerRows.antt")
         self.wrong = (ROOT / "tests/wrong/capi.txt").read_text(encoding="utf-8")
         self.exports = {e.name: (e.result, e.numbers, list(promised(e.contract))) for e in exports()}

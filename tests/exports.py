@@ -19,13 +19,18 @@ KEPT = {
 }
 
 
+# The example in a comment.
+EXAMPLE = r"(?ms)^/// ```\n.*?^/// ```\n"
+
+
 class Export:
-    """An exported function: its module, its name, its arguments as pairs of name and type, its result, its contract and its comment."""
+    """An exported function: its module, its name, its arguments as pairs of name and type, its result, its contract, its comment, and the
+    example in Rust at the end of that."""
 
     def __init__(self, module, comment, name, arguments, result, contract):
         self.module, self.name, self.result, self.contract = module, name, result, contract
         self.arguments = pairs(arguments)
-        self.comment = said(comment)
+        self.comment, self.example = said(re.sub(EXAMPLE, "", comment)), "".join(re.findall(EXAMPLE, comment))
         encoding = re.search(r"≡\s*(as\w+)", contract)
         self.kept = KEPT.get(name) or KEPT.get(encoding[1] if encoding else "", "every other field is then 0")
         self.numbers = refusals().get(name)

@@ -1,11 +1,13 @@
-"""Makes the exports of crates/capi in C: the part of include/poruwhina.h below its mark."""
+"""Makes the exports of crates/capi in C: the part of include/poruwhina.h below its mark, which begins with the numbers of refusals."""
 import re
 import textwrap
 
+import in_refusals
 from exports import ROOT, exports, interface, lowered, modules, records, wrapped
 
 HEADER = ROOT / "include/poruwhina.h"
-MARK = "/* ---- written by tests/declarations.py from crates/capi: change it there */\n"
+MARK = "/* ---- written by tests/declarations.py from include/refusals.txt and crates/capi: change it there */\n"
+ORDER = "The numbers of refusals, each with the check that failed, in the order of the checks: of several that fail, the first one here."
 TYPES = {"usize": "size_t", "u8": "uint8_t", "u32": "uint32_t", "u64": "uint64_t", "i32": "int32_t", "bool": "bool"}
 
 
@@ -104,7 +106,7 @@ def version():
 
 def below():
     """Returns the part of the header below the mark."""
-    parts = ["/* ---- records */\n", *(record(name, *this) for name, this in records().items())]
+    parts = [comment(ORDER), in_refusals.in_header(), "/* ---- records */\n", *(record(name, *this) for name, this in records().items())]
     found = exports()
     for module, heading in modules():
         if module == "interface":
@@ -123,5 +125,5 @@ def text():
 
 def numbers():
     """Returns the named numbers of the header, each with the text of the comment above it."""
-    found = re.findall(r"((?:/\*(?:(?!\*/).)*\*/\s*)?)#define (PW_\w+) (\d+)", HEADER.read_text(), re.S)
+    found = re.findall(r"((?:/\*(?:(?!\*/).)*\*/\s*)?)#define (PW_\w+) (\d+)", text(), re.S)
     return {name: (int(number), re.sub(r"\s*\n \* ", " ", said).strip("/* \n")) for said, name, number in found}

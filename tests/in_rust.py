@@ -2,7 +2,7 @@
 their modules.
 
 If an export's first numbers are the fields of a builder or a cursor, the function takes the record; if the export returns the place of
-a cursor, the function returns the cursor. The examples of the functions are written by hand: they are taken from the existing files."""
+a cursor, the function returns the cursor. The example of a function is that of the export's comment."""
 import re
 import textwrap
 
@@ -10,17 +10,6 @@ from exports import ROOT, exports, interface, lowered, modules, records, wrapped
 
 CALLS = ROOT / "bindings/rust/src/calls"
 WIDTH = 140
-
-
-def examples():
-    """Returns the example of each function, from the existing files."""
-    found = {}
-    for path in sorted(CALLS.glob("*.rs")):
-        for said, name in re.findall(r"((?:^///[^\n]*\n)+)#\[inline\]\npub fn (\w+)", path.read_text(), re.M):
-            example = re.search(r"^/// ```.*^/// ```\n", said, re.S | re.M)
-            if example:
-                found[name] = example[0]
-    return found
 
 
 def compressed(head, arguments, tail, indent=""):
@@ -77,11 +66,11 @@ def linked(text, own):
     return re.sub(r"\bpw_(\w+)", lambda found: f"[`{found[1]}`]" + ("" if found[0] in own else f"(super::{found[1]})"), text)
 
 
-def function(export, example, own):
+def function(export, own):
     name = export.name.removeprefix("pw_")
     doc = linked(export.sentences(), own).replace("`place` is unchanged", "the cursor is unchanged")
     text = "".join(f"/// {line}\n" for line in textwrap.wrap(doc, 126, break_on_hyphens=False))
-    text += f"///\n{example}" if example else ""
+    text += f"///\n{export.example}" if export.example else ""
     arguments, given = taken(export)
     moves = export.result == "StepAnswer"
     text += "#[inline]\n" + compressed(f"pub fn {name}", arguments, f" -> {'Step' if moves else export.result} {{")
@@ -102,7 +91,7 @@ def module_list(found):
 
 def files():
     """Returns each file that is written, and the functions that have no example."""
-    found, shown, lacking = exports(), examples(), []
+    found, lacking = exports(), []
     symbol = f"pw_interface_{interface()}"
     written = {
         "exports.rs": "//! The exports of the static library. Written by tests/declarations.py from crates/capi.\n\n"
@@ -117,14 +106,13 @@ def files():
             continue
         heading = re.sub(r"\bpw_(\w+)", r"[`\1`]", heading)
         lines = "".join(f"//! {line}\n" for line in textwrap.wrap(heading, 126, break_on_hyphens=False))
-        parts = [f"{lines}//!\n//! Written by tests/declarations.py from crates/capi, except the examples, which it keeps.\n"]
+        parts = [f"{lines}//!\n//! Written by tests/declarations.py from crates/capi.\n"]
         parts += ["use super::exports;\nuse super::records::*;\n"]
         own = {export.name for export in found if export.module == module}
         for export in found:
             if export.module == module:
-                name = export.name.removeprefix("pw_")
-                lacking += [] if name in shown else [name]
-                parts.append(function(export, shown.get(name, ""), own))
+                lacking += [] if export.example else [export.name]
+                parts.append(function(export, own))
         written[f"{module}.rs"] = "\n".join(parts)
     written["mod.rs"] = module_list({"records", *(name.removesuffix(".rs") for name in written)})
     return {CALLS / name: text for name, text in written.items()}, lacking

@@ -2,6 +2,7 @@
 returns the files in which it finds the call."""
 import re
 
+import proof_rows
 from call_kinds import CALLS, FREE, MAY, OTHERS, citing, counted, forms, is_call, kind, makes_mask, may_fail, naming, proving, refusing_call
 from call_kinds import MASKED, SERIALS, reached, rows_of, saying, several_numbers, specs
 from public_calls import IDENT, files, read, uses, words_in
@@ -58,7 +59,7 @@ def numbers(call):
     return stated if call.numbers else []
 
 
-@kind("refusals", "the theorem on refusals", applies=refusing_call)
+@kind("refusals", "the theorem on refusals", applies=refusing_call, written=lambda call: call.crate == "masks")
 def refusals(call):
     return proving(call, "Refusals", "Refusals")
 
@@ -99,9 +100,11 @@ def computed(call):
     return [path for path in files(f"crates/{call.crate}/proofs/computed/*.antt") if path.split("/")[-1] in tables | {"WrongAnswers.antt"}]
 
 
-@kind("computed", "its rows of witnesses and of wrong answers, computed", applies=is_call)
+@kind("computed", "its rows of witnesses and of wrong answers, computed", applies=is_call,
+      written=lambda call: call.crate in proof_rows.crates())
 def rows(call):
-    """Each such row is an entry of a record or a clause there; other tables are computed at once."""
+    """Each such row is an entry of a record or a clause there; other tables are computed at once. Of a crate above masks the script writes
+    the rows of wrong answers, and the others there are one clause for all its calls."""
     return [path for path in computed(call) if re.search(r"/(?:Wrong\w*|Witnesses)\.antt$", path)]
 
 

@@ -2,16 +2,18 @@
 files in which it finds the call."""
 import re
 
+import export_proofs
 import exports
-import in_rust
+import proof_rows
 from call_kinds import FREE, MAY, NONE, STATIC, asked, exports_of, has_records, is_call, kind, on_page, plain_of, refusing_call, request_of
 from call_kinds import saying, several_numbers
 from public_calls import files, read, words_in
 
 RUST = "bindings/rust"
 CASES = "compare/cases/src"
-EXAMPLES = in_rust.examples()
+EXAMPLES = {export.name for export in exports.exports() if export.example}
 NUMBERS = exports.refusals()
+BY_FORM = export_proofs.entries(proof_rows.fields)[1]
 
 
 # ---- C and Rust
@@ -39,7 +41,8 @@ def export_refuses(call):
     return [path for name in exports_of(call) for path in saying(f"crates/{STATIC}/proofs/statements/Refusals.antt", f"pub {name} :")]
 
 
-@kind("export proved", "the theorem on the export's refusals", applies=refusing_call)
+@kind("export proved", "the theorem on the export's refusals", applies=refusing_call,
+      written=lambda call: BY_FORM.issuperset(exports_of(call)))
 def export_proved(call):
     return [path for name in exports_of(call) for path in saying(f"crates/{STATIC}/proofs/theorems/Refusals.antt", rf"\b{name} =")]
 
@@ -61,15 +64,16 @@ def header(call):
     return [path for name in exports_of(call) for path in saying("include/*", rf"\b{name}\b")]
 
 
-@kind("declarations", "the declarations in Rust, and the list of their modules", applies=is_call, written=True)
+@kind("declarations", "the declarations in Rust, the plain function, and the list of their modules", applies=is_call, written=True)
 def declarations(call):
     found = [path for name in exports_of(call) for path in saying(f"{RUST}/src/calls/exports.rs", rf"fn {name}\(")]
+    found += [path for name in plain_of(call) for path in saying(f"{RUST}/src/calls/*.rs", rf"pub fn {name}\(")]
     return found and [*found, f"{RUST}/src/calls/mod.rs"]
 
 
-@kind("example", "the example of the plain function", applies=is_call)
+@kind("example", "the example of the plain function, in the comment of its export", applies=is_call)
 def example(call):
-    return [path for name in plain_of(call) if name in EXAMPLES for path in saying(f"{RUST}/src/calls/*.rs", rf"pub fn {name}\(")]
+    return export(call) if EXAMPLES.issuperset(exports_of(call)) else []
 
 
 def callers(call):

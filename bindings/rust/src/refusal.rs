@@ -3,8 +3,8 @@
 use std::error::Error;
 use std::fmt;
 
-/// Why a call was refused: the first of the library's checks that failed. All calls make their checks in one order, that of the
-/// numbers, except that 14 comes after 3. A refused call has changed nothing.
+/// Why a call was refused: the first of the library's checks that failed. All calls make their checks in one order, that of this list.
+/// A refused call has changed nothing.
 ///
 /// [`Bitmap`](crate::Bitmap), [`BitmapBuilder`](crate::BitmapBuilder) and the other types of this crate refuse only with 1, 2, 5 and 6,
 /// since they keep their records true and provide the room that each call needs. There are three exceptions:
@@ -20,10 +20,13 @@ use std::fmt;
 /// assert_eq!(refused.number(), 2);
 /// assert_eq!(refused.to_string(), "refused with 2: start + length is above 8 * the bytes lent");
 /// ```
+// The list, with its texts, is written by tests/declarations.py from include/refusals.txt.
 #[non_exhaustive]
 #[repr(u8)]
 #[derive(Clone, Copy, Debug, PartialEq, Eq, Hash)]
 pub enum Refusal {
+    /// 16: the width of the window of minutes is not 1 to 256, or no run of minutes at its width leaves the window.
+    ImpossibleWindow = 16,
     /// 1: a start or a length is above 4,194,304: of a span, mask, cursor, builder or inner piece, a stated length, or a resulting
     /// start or length.
     AboveLimit = 1,
@@ -31,6 +34,8 @@ pub enum Refusal {
     OutsideBytes = 2,
     /// 3: a known zero count is not the number of zeros among the flags. Each call that takes a mask counts a known one again.
     FalseCount = 3,
+    /// 14: two masks with equal serials have different flags or lengths.
+    SerialConflict = 14,
     /// 4: the builder is not possible: its word has a bit set at or above length mod 64, its ones are above 64 * (length div 64), or
     /// its buffer has fewer than 8 * (length div 64) bytes.
     ImpossibleBuilder = 4,
@@ -39,35 +44,31 @@ pub enum Refusal {
     /// 6: a slice's end, a split point or a cursor's place is above the length, an index or a truck is not below it, or a pushed word
     /// has more than 64 flags or a bit set after them.
     OutsideMask = 6,
-    /// 7: when a slice recounts, the known count is below the zeros cut off, or the rest of it is above the new length. No call returns
-    /// this number: a known count is exact, since check 3 comes first.
+    /// 7: when a slice recounts, the known count is below the zeros cut off, or the rest of it is above the new length. No call
+    /// returns this number: a known count is exact, since check 3 comes first.
     CountNotOfSlice = 7,
     /// 8: the address remainder is above 7.
     AddressRemainder = 8,
     /// 9: the output, or the builder's buffer, has fewer than 8 * ceil(new length / 64) bytes.
     OutputTooSmall = 9,
-    /// 14: two masks with equal serials have different flags or lengths. This check comes after 3.
-    SerialConflict = 14,
-    /// 16: the width of the window of minutes is not 1 to 256, or no run of minutes at its width leaves the window.
-    ImpossibleWindow = 16,
 }
 
 const ALL: [Refusal; 11] = [
+    Refusal::ImpossibleWindow,
     Refusal::AboveLimit,
     Refusal::OutsideBytes,
     Refusal::FalseCount,
+    Refusal::SerialConflict,
     Refusal::ImpossibleBuilder,
     Refusal::UnequalLengths,
     Refusal::OutsideMask,
     Refusal::CountNotOfSlice,
     Refusal::AddressRemainder,
     Refusal::OutputTooSmall,
-    Refusal::SerialConflict,
-    Refusal::ImpossibleWindow,
 ];
 
 impl Refusal {
-    /// Returns the refusal's number: 1 to 9, 14 or 16.
+    /// Returns the refusal's number.
     ///
     /// ```
     /// assert_eq!(poruwhina::Refusal::OutputTooSmall.number(), 9);
@@ -91,17 +92,17 @@ impl Refusal {
 
     fn words(self) -> &'static str {
         match self {
+            Refusal::ImpossibleWindow => "the width is not 1 to 256, or no run of minutes leaves the window",
             Refusal::AboveLimit => "a start or a length is above 4,194,304",
             Refusal::OutsideBytes => "start + length is above 8 * the bytes lent",
             Refusal::FalseCount => "a known zero count is not the number of zeros",
+            Refusal::SerialConflict => "the masks have equal serials and different flags",
             Refusal::ImpossibleBuilder => "the builder is not possible: its word, ones or buffer do not fit its length",
             Refusal::UnequalLengths => "the masks combined, or a mask and the length stated for it, are not equal in length",
             Refusal::OutsideMask => "the inner piece does not lie in its mask",
             Refusal::CountNotOfSlice => "the known count is below the zeros cut off, or the rest above the new length",
             Refusal::AddressRemainder => "the address remainder is above 7",
             Refusal::OutputTooSmall => "the output does not hold 8 * ceil(new length / 64) bytes",
-            Refusal::SerialConflict => "the masks have equal serials and different flags",
-            Refusal::ImpossibleWindow => "the width is not 1 to 256, or no run of minutes leaves the window",
         }
     }
 }

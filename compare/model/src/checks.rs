@@ -1,8 +1,8 @@
-//! The checks 1 to 9 and 14 of the reference.
+//! The checks of the reference.
 
 use crate::{Answer, Builder, Cursor, LIMIT, Lent, Span, State, frozen_size};
 
-/// The ranks of the numbers: of the checks that fail, the one listed first refuses the call. Only 1 to 9 and 14 are made today.
+/// The ranks of the numbers: of the checks that fail, the one listed first refuses the call.
 const RANKS: [u8; 16] = [16, 10, 1, 11, 2, 13, 3, 14, 15, 4, 5, 12, 6, 7, 8, 9];
 
 /// Returns the place of a number in `RANKS`.

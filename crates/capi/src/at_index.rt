@@ -13,6 +13,16 @@ use masks::at_index::and_not_at;
 /// Returns whether the flag at `index` is set in the first mask and not in the second. If `first_present` is false there is no first
 /// mask, which means all ones; if `second_present` is false there is no second mask, which means all zeros. The record and bytes of an
 /// absent mask are not read. Refusal 5 occurs only with both masks; without any mask nothing is refused.
+///
+/// ```
+/// use poruwhina::calls::{and_not_at, try_new};
+///
+/// let mask = try_new(&[0], 0, 6).mask;
+/// assert!(and_not_at(true, mask, &[0x2D], true, mask, &[0x01], 2).value);
+/// assert!(!and_not_at(true, mask, &[0x2D], true, mask, &[0x01], 0).value);
+/// assert!(and_not_at(false, mask, &[], false, mask, &[], 9).value);
+/// assert_eq!(and_not_at(true, mask, &[0x2D], false, mask, &[], 6).refusal, 6);
+/// ```
 #[unsafe(no_mangle)]
 pub extern "C" fn pw_and_not_at(
     first_present: bool,

@@ -57,6 +57,10 @@ impl From<Result<Option<Bitmap>, Refused<BitmapBuilder>>> for ValidityAnswer {
 }
 
 /// Returns a builder with no flags.
+///
+/// ```
+/// assert_eq!(poruwhina::calls::builder_new().length, 0);
+/// ```
 #[unsafe(no_mangle)]
 pub extern "C" fn pw_builder_new() -> Builder
     ensures { result ≡ builder_out new_builder }
@@ -65,6 +69,12 @@ pub extern "C" fn pw_builder_new() -> Builder
 }
 
 /// Appends `flag`.
+///
+/// ```
+/// use poruwhina::calls::{builder_new, push};
+///
+/// assert_eq!(push(builder_new(), &mut [0; 8], true).builder.word, 1);
+/// ```
 #[unsafe(no_mangle)]
 pub extern "C" fn pw_push(
     length: usize,
@@ -80,6 +90,15 @@ pub extern "C" fn pw_push(
 }
 
 /// Appends `n` copies of `flag`.
+///
+/// ```
+/// use poruwhina::calls::{builder_new, extend_constant};
+///
+/// let mut buf = [0; 16];
+/// let sixty = extend_constant(builder_new(), &mut buf, 60, true).builder;
+/// assert_eq!(extend_constant(sixty, &mut buf, 5, true).builder.word, 1);
+/// assert_eq!(buf[..8], [0xFF; 8]);
+/// ```
 #[unsafe(no_mangle)]
 pub extern "C" fn pw_extend_constant(
     length: usize,
@@ -98,6 +117,14 @@ pub extern "C" fn pw_extend_constant(
 }
 
 /// Appends the lowest `n` bits of `flags`, bit 0 first. `n` must be at most 64, and all higher bits 0.
+///
+/// ```
+/// use poruwhina::calls::{builder_new, push_word_with_len_unchecked};
+///
+/// let mut buf = [0; 8];
+/// assert_eq!(push_word_with_len_unchecked(builder_new(), &mut buf, 0x2D, 6).builder.length, 6);
+/// assert_eq!(push_word_with_len_unchecked(builder_new(), &mut buf, 0x2D, 5).refusal, 6);
+/// ```
 #[unsafe(no_mangle)]
 pub extern "C" fn pw_push_word_with_len_unchecked(
     length: usize,
@@ -116,6 +143,12 @@ pub extern "C" fn pw_push_word_with_len_unchecked(
 }
 
 /// Appends the `n` flags of `bytes` that start at bit `start`.
+///
+/// ```
+/// use poruwhina::calls::{builder_new, extend_from_slice};
+///
+/// assert_eq!(extend_from_slice(builder_new(), &mut [0; 8], &[0x2D], 2, 4).builder.word, 0x0B);
+/// ```
 #[unsafe(no_mangle)]
 pub extern "C" fn pw_extend_from_slice(
     length: usize,
@@ -137,6 +170,13 @@ pub extern "C" fn pw_extend_from_slice(
 }
 
 /// Appends `repeats` copies of each of the `n` flags of `bytes` that start at bit `start`, one flag after the other.
+///
+/// ```
+/// use poruwhina::calls::{builder_new, extend_each_repeated_from_slice_unchecked};
+///
+/// let twice = extend_each_repeated_from_slice_unchecked(builder_new(), &mut [0; 8], &[0x2D], 2, 4, 2);
+/// assert_eq!(twice.builder.word, 0xCF);
+/// ```
 #[unsafe(no_mangle)]
 pub extern "C" fn pw_extend_each_repeated_from_slice_unchecked(
     length: usize,
@@ -159,6 +199,13 @@ pub extern "C" fn pw_extend_each_repeated_from_slice_unchecked(
 }
 
 /// Appends the `n` flags of `mask` that start at its flag `start`.
+///
+/// ```
+/// use poruwhina::calls::{builder_new, subslice_extend_from_bitmap, try_new};
+///
+/// let mask = try_new(&[0x2D], 1, 6).mask;
+/// assert_eq!(subslice_extend_from_bitmap(builder_new(), &mut [0; 8], mask, &[0x2D], 1, 4).builder.word, 0x0B);
+/// ```
 #[unsafe(no_mangle)]
 pub extern "C" fn pw_subslice_extend_from_bitmap(
     length: usize,
@@ -182,6 +229,13 @@ pub extern "C" fn pw_subslice_extend_from_bitmap(
 }
 
 /// Appends, for each index in `idxs`, that flag of the `n` flags of `bytes` that start at bit `start`. Each index must be below `n`.
+///
+/// ```
+/// use poruwhina::calls::{builder_new, gather_extend_from_slice};
+///
+/// assert_eq!(gather_extend_from_slice(builder_new(), &mut [0; 8], &[0x2D], 0, 6, &[5, 4, 0]).builder.word, 0x05);
+/// assert_eq!(gather_extend_from_slice(builder_new(), &mut [0; 8], &[0x2D], 0, 6, &[5, 6, 0]).refusal, 6);
+/// ```
 #[unsafe(no_mangle)]
 pub extern "C" fn pw_gather_extend_from_slice(
     length: usize,
@@ -205,6 +259,12 @@ pub extern "C" fn pw_gather_extend_from_slice(
 }
 
 /// Appends, for each index in `idxs`, that flag of the `n` flags of `bytes` that start at bit `start`, or 0 if the index is `n` or more.
+///
+/// ```
+/// use poruwhina::calls::{builder_new, opt_gather_extend_from_slice};
+///
+/// assert_eq!(opt_gather_extend_from_slice(builder_new(), &mut [0; 8], &[0x2D], 0, 6, &[5, 6, 0]).builder.word, 0x05);
+/// ```
 #[unsafe(no_mangle)]
 pub extern "C" fn pw_opt_gather_extend_from_slice(
     length: usize,
@@ -229,6 +289,15 @@ pub extern "C" fn pw_opt_gather_extend_from_slice(
 
 /// Writes the frozen bytes of the builder's flags at the start of `buf` and returns the mask over them, with its zero count known from
 /// `ones` and `word`, and with the builder's `serial`, which the caller kept. The builder is not returned: it does not change.
+///
+/// ```
+/// use poruwhina::calls::{builder_new, freeze, push_word_with_len_unchecked};
+///
+/// let mut buf = [0xFF; 8];
+/// let mask = freeze(push_word_with_len_unchecked(builder_new(), &mut buf, 0x2D, 6).builder, &mut buf, 0).mask;
+/// assert_eq!((mask.length, mask.zeros, mask.known), (6, 2, 1));
+/// assert_eq!(buf, [0x2D, 0, 0, 0, 0, 0, 0, 0]);
+/// ```
 #[unsafe(no_mangle)]
 pub extern "C" fn pw_freeze(
     length: usize,
@@ -248,6 +317,16 @@ pub extern "C" fn pw_freeze(
 /// Writes the frozen bytes of the builder's flags at the start of `buf` and returns the mask that pw_freeze returns, or no mask if all
 /// flags are set, also if there are no flags. As in Arrow, no mask means all ones here; in pw_may_reassign no permission mask means no
 /// truck: end the builder of a permission mask with pw_freeze.
+///
+/// ```
+/// use poruwhina::calls::{builder_new, extend_constant, into_opt_validity};
+///
+/// let mut buf = [0; 8];
+/// let ones = extend_constant(builder_new(), &mut buf, 6, true).builder;
+/// assert!(!into_opt_validity(ones, &mut buf, 0).present);
+/// let mixed = extend_constant(ones, &mut buf, 1, false).builder;
+/// assert!(into_opt_validity(mixed, &mut buf, 0).present);
+/// ```
 #[unsafe(no_mangle)]
 pub extern "C" fn pw_into_opt_validity(
     length: usize,

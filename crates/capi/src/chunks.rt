@@ -22,6 +22,11 @@ fn chunks_in(start: usize, length: usize, place: usize) -> BitChunks
 }
 
 /// Returns a cursor at the first word of a span.
+///
+/// ```
+/// let cursor = poruwhina::calls::chunks_new(&[0xFF; 9], 3, 69).cursor;
+/// assert_eq!((cursor.start, cursor.length, cursor.place), (3, 69, 0));
+/// ```
 #[unsafe(no_mangle)]
 pub extern "C" fn pw_chunks_new(bytes: &[u8], start: usize, length: usize) -> CursorAnswer
     ensures { result ≡ as_cursor chunks_out (new_chunks bytes.now start length) }
@@ -30,6 +35,12 @@ pub extern "C" fn pw_chunks_new(bytes: &[u8], start: usize, length: usize) -> Cu
 }
 
 /// Returns a cursor at the first word of the first `length` flags of `bytes`.
+///
+/// ```
+/// use poruwhina::calls::{chunks_new, chunks_new_exact};
+///
+/// assert_eq!(chunks_new_exact(&[0xFF; 9], 69), chunks_new(&[0xFF; 9], 0, 69));
+/// ```
 #[unsafe(no_mangle)]
 pub extern "C" fn pw_chunks_new_exact(bytes: &[u8], length: usize) -> CursorAnswer
     ensures { result ≡ as_cursor chunks_out (new_chunks bytes.now 0 length) }
@@ -39,6 +50,15 @@ pub extern "C" fn pw_chunks_new_exact(bytes: &[u8], length: usize) -> CursorAnsw
 
 /// Returns the next word in `value` and moves the cursor one word on. After the last whole word `found` is false and the cursor does not
 /// move.
+///
+/// ```
+/// use poruwhina::calls::{chunks_new, chunks_next};
+///
+/// let bytes = [0xFF; 9];
+/// let first = chunks_next(chunks_new(&bytes, 3, 69).cursor, &bytes);
+/// assert_eq!((first.found, first.value), (true, u64::MAX));
+/// assert!(!chunks_next(first.cursor, &bytes).found);
+/// ```
 #[unsafe(no_mangle)]
 pub extern "C" fn pw_chunks_next(
     start: usize,
@@ -53,6 +73,14 @@ pub extern "C" fn pw_chunks_next(
 
 /// Returns the last length mod 64 flags of the span as a word in `value`, zero above them, and their number in `count`. `found` is true.
 /// The result does not depend on the place, and the cursor does not move.
+///
+/// ```
+/// use poruwhina::calls::{chunks_new, chunks_remainder};
+///
+/// let bytes = [0xFF; 9];
+/// let rest = chunks_remainder(chunks_new(&bytes, 3, 69).cursor, &bytes);
+/// assert_eq!((rest.value, rest.count), (0b11111, 5));
+/// ```
 #[unsafe(no_mangle)]
 pub extern "C" fn pw_chunks_remainder(
     start: usize,

@@ -13,6 +13,16 @@ use crate::records::Mask;
 use masks::bitmap_ops::{and, and_not, not, or, or_not, select, select_constant, xor};
 
 /// Writes which flags are set in both masks, as frozen bytes at the start of `out`, and returns the mask over them.
+///
+/// ```
+/// use poruwhina::calls::{and, try_new};
+///
+/// // of 1,1,0 and 1,0,0
+/// let mask = try_new(&[0], 0, 3).mask;
+/// let mut out = [0; 8];
+/// and(mask, &[0x03], mask, &[0x01], &mut out);
+/// assert_eq!(out[0], 0x01);
+/// ```
 #[unsafe(no_mangle)]
 pub extern "C" fn pw_and(
     lhs: Mask,
@@ -31,6 +41,16 @@ pub extern "C" fn pw_and(
 
 /// Writes which flags are set in the first mask and not in the second, as frozen bytes at the start of `out`, and returns the mask over
 /// them.
+///
+/// ```
+/// use poruwhina::calls::{and_not, try_new};
+///
+/// // of 0,0,1 and 1,0,0
+/// let mask = try_new(&[0], 0, 3).mask;
+/// let mut out = [0; 8];
+/// and_not(mask, &[0x04], mask, &[0x01], &mut out);
+/// assert_eq!(out[0], 0x04);
+/// ```
 #[unsafe(no_mangle)]
 pub extern "C" fn pw_and_not(
     lhs: Mask,
@@ -48,6 +68,16 @@ pub extern "C" fn pw_and_not(
 }
 
 /// Writes which flags are set in at least one of two masks, as frozen bytes at the start of `out`, and returns the mask over them.
+///
+/// ```
+/// use poruwhina::calls::{or, try_new};
+///
+/// // of 0,0,1 and 1,0,0
+/// let mask = try_new(&[0], 0, 3).mask;
+/// let mut out = [0; 8];
+/// or(mask, &[0x04], mask, &[0x01], &mut out);
+/// assert_eq!(out[0], 0x05);
+/// ```
 #[unsafe(no_mangle)]
 pub extern "C" fn pw_or(
     lhs: Mask,
@@ -66,6 +96,16 @@ pub extern "C" fn pw_or(
 
 /// Writes which flags are set in the first mask or not set in the second, as frozen bytes at the start of `out`, and returns the mask
 /// over them.
+///
+/// ```
+/// use poruwhina::calls::{or_not, try_new};
+///
+/// // of 0,0,1 and 1,0,0
+/// let mask = try_new(&[0], 0, 3).mask;
+/// let mut out = [0; 8];
+/// or_not(mask, &[0x04], mask, &[0x01], &mut out);
+/// assert_eq!(out[0], 0x06);
+/// ```
 #[unsafe(no_mangle)]
 pub extern "C" fn pw_or_not(
     lhs: Mask,
@@ -83,6 +123,16 @@ pub extern "C" fn pw_or_not(
 }
 
 /// Writes which flags differ between two masks, as frozen bytes at the start of `out`, and returns the mask over them.
+///
+/// ```
+/// use poruwhina::calls::{xor, try_new};
+///
+/// // of 0,0,1 and 1,0,0
+/// let mask = try_new(&[0], 0, 3).mask;
+/// let mut out = [0; 8];
+/// xor(mask, &[0x04], mask, &[0x01], &mut out);
+/// assert_eq!(out[0], 0x05);
+/// ```
 #[unsafe(no_mangle)]
 pub extern "C" fn pw_xor(
     lhs: Mask,
@@ -100,6 +150,14 @@ pub extern "C" fn pw_xor(
 }
 
 /// Writes each flag of a mask inverted, as frozen bytes at the start of `out`, and returns the mask over them.
+///
+/// ```
+/// use poruwhina::calls::{not, try_new};
+///
+/// let mut out = [0; 8];
+/// not(try_new(&[0x2D], 0, 6).mask, &[0x2D], &mut out);
+/// assert_eq!(out[0], 0x12);
+/// ```
 #[unsafe(no_mangle)]
 pub extern "C" fn pw_not(mask: Mask, bytes: &[u8], out: &mut [u8]) -> MaskAnswer
     ensures answer { result ≡ as_mask (not_of (mask_in mask) bytes.now out.old) }
@@ -110,6 +168,15 @@ pub extern "C" fn pw_not(mask: Mask, bytes: &[u8], out: &mut [u8]) -> MaskAnswer
 
 /// Writes the flag of `truthy` where the selector's is set, else that of `falsy`, as frozen bytes at the start of `out`, and returns the
 /// mask over them.
+///
+/// ```
+/// use poruwhina::calls::{select, try_new};
+///
+/// let mask = try_new(&[0], 0, 4).mask;
+/// let mut out = [0; 8];
+/// select(mask, &[0x05], mask, &[0x03], mask, &[0x0E], &mut out);
+/// assert_eq!(out[0], 0x0B);
+/// ```
 #[unsafe(no_mangle)]
 pub extern "C" fn pw_select(
     selector: Mask,
@@ -141,6 +208,15 @@ pub extern "C" fn pw_select(
 
 /// Writes the flag of `truthy` where the selector's is set, else `flag`, as frozen bytes at the start of `out`, and returns the mask over
 /// them.
+///
+/// ```
+/// use poruwhina::calls::{select_constant, try_new};
+///
+/// let mask = try_new(&[0], 0, 4).mask;
+/// let mut out = [0; 8];
+/// select_constant(mask, &[0x05], mask, &[0x03], true, &mut out);
+/// assert_eq!(out[0], 0x0B);
+/// ```
 #[unsafe(no_mangle)]
 pub extern "C" fn pw_select_constant(
     selector: Mask,

@@ -20,6 +20,14 @@ use masks::true_idx::TrueIdxIter;
 // ---- runs
 
 /// Returns a cursor before the first run of ones of a mask.
+///
+/// ```
+/// use poruwhina::calls::{slices_new, try_new};
+///
+/// let mask = try_new(&[0x2D], 0, 6).mask;
+/// assert_eq!(slices_new(mask, &[0x2D]).cursor.length, 6);
+/// assert_eq!(slices_new(mask, &[]).refusal, 2);
+/// ```
 #[unsafe(no_mangle)]
 pub extern "C" fn pw_slices_new(mask: Mask, bytes: &[u8]) -> CursorAnswer
     ensures { result ≡ as_cursor slices_out (new_slices (mask_in mask) bytes.now) }
@@ -29,6 +37,16 @@ pub extern "C" fn pw_slices_new(mask: Mask, bytes: &[u8]) -> CursorAnswer
 
 /// Returns the next run of ones, its start in `value` and its length in `count`, and moves the cursor past it. If there is no further
 /// run, `found` is false and the place is the length.
+///
+/// ```
+/// use poruwhina::calls::{slices_new, slices_next, try_new};
+///
+/// let bytes = [0x2D];
+/// let first = slices_next(slices_new(try_new(&bytes, 0, 6).mask, &bytes).cursor, &bytes);
+/// let second = slices_next(first.cursor, &bytes);
+/// assert_eq!((first.value, first.count), (0, 1));
+/// assert_eq!((second.value, second.count), (2, 2));
+/// ```
 #[unsafe(no_mangle)]
 pub extern "C" fn pw_slices_next(
     start: usize,
@@ -60,6 +78,14 @@ fn iter_in(start: usize, length: usize, place: usize) -> BitmapIter
 }
 
 /// Returns a cursor before the first flag of a span. With length 0 its start, length and place are 0, without any check.
+///
+/// ```
+/// use poruwhina::calls::iter_new;
+///
+/// assert_eq!(iter_new(&[0x2D], 2, 4).cursor.start, 2);
+/// // No flags: the answer comes before any check.
+/// assert_eq!(iter_new(&[], usize::MAX, 0).cursor.start, 0);
+/// ```
 #[unsafe(no_mangle)]
 pub extern "C" fn pw_iter_new(bytes: &[u8], start: usize, length: usize) -> CursorAnswer
     ensures { result ≡ as_cursor iter_out (new_iter bytes.now start length) }
@@ -68,6 +94,13 @@ pub extern "C" fn pw_iter_new(bytes: &[u8], start: usize, length: usize) -> Curs
 }
 
 /// Returns the next flag, 0 or 1, in `value` and moves the cursor past it. At the end `found` is false and the cursor does not move.
+///
+/// ```
+/// use poruwhina::calls::{iter_new, iter_next};
+///
+/// let step = iter_next(iter_new(&[0x2D], 0, 6).cursor, &[0x2D]);
+/// assert_eq!((step.found, step.value, step.cursor.place), (true, 1, 1));
+/// ```
 #[unsafe(no_mangle)]
 pub extern "C" fn pw_iter_next(
     start: usize,
@@ -82,6 +115,14 @@ pub extern "C" fn pw_iter_next(
 
 /// Skips `n` flags, returns the following one, 0 or 1, in `value` and moves the cursor past it. If there is no such flag, `found` is
 /// false and the place is the length.
+///
+/// ```
+/// use poruwhina::calls::{iter_new, iter_nth};
+///
+/// let cursor = iter_new(&[0x2D], 0, 6).cursor;
+/// assert_eq!(iter_nth(cursor, &[0x2D], 4).value, 0);
+/// assert!(!iter_nth(cursor, &[0x2D], usize::MAX).found);
+/// ```
 #[unsafe(no_mangle)]
 pub extern "C" fn pw_iter_nth(
     start: usize,
@@ -97,6 +138,13 @@ pub extern "C" fn pw_iter_nth(
 
 /// Counts the ones from the cursor up to the next zero, or to the end, returns their number in `count` and moves the cursor past them.
 /// `found` is true, also if `count` is 0.
+///
+/// ```
+/// use poruwhina::calls::{iter_new, take_leading_ones};
+///
+/// let taken = take_leading_ones(iter_new(&[0x07], 0, 6).cursor, &[0x07]);
+/// assert_eq!((taken.count, taken.cursor.place), (3, 3));
+/// ```
 #[unsafe(no_mangle)]
 pub extern "C" fn pw_take_leading_ones(
     start: usize,
@@ -113,6 +161,13 @@ pub extern "C" fn pw_take_leading_ones(
 
 /// Counts the zeros from the cursor up to the next one, or to the end, returns their number in `count` and moves the cursor past them.
 /// `found` is true, also if `count` is 0.
+///
+/// ```
+/// use poruwhina::calls::{iter_new, take_leading_zeros};
+///
+/// let taken = take_leading_zeros(iter_new(&[0x38], 0, 6).cursor, &[0x38]);
+/// assert_eq!((taken.count, taken.cursor.place), (3, 3));
+/// ```
 #[unsafe(no_mangle)]
 pub extern "C" fn pw_take_leading_zeros(
     start: usize,
@@ -143,6 +198,13 @@ fn true_in(start: usize, length: usize, place: usize, masked: u8) -> TrueIdxIter
 /// Returns a cursor before the first position of a one in a mask of `length` flags. If `present` is false there is no mask: its record
 /// and bytes are not read, the cursor has every position below `length`, as in Arrow, and 1 is the only refusal. In pw_may_reassign no
 /// permission mask means no truck.
+///
+/// ```
+/// use poruwhina::calls::{bitmap_new, true_idx_new};
+///
+/// assert_eq!(true_idx_new(3, false, bitmap_new(), &[]).cursor.masked, 0);
+/// assert_eq!(true_idx_new(3, true, bitmap_new(), &[]).refusal, 5);
+/// ```
 #[unsafe(no_mangle)]
 pub extern "C" fn pw_true_idx_new(
     length: usize,
@@ -157,6 +219,14 @@ pub extern "C" fn pw_true_idx_new(
 
 /// Returns the next position of a one in `value` and moves the cursor past it. If there is no further one, `found` is false and the place
 /// is the length. If `masked` is 0 there is no mask: every position is returned, and refusal 2 does not occur.
+///
+/// ```
+/// use poruwhina::calls::{true_idx_new, true_idx_next, try_new};
+///
+/// let mask = try_new(&[0x2C], 0, 6).mask;
+/// let step = true_idx_next(true_idx_new(6, true, mask, &[0x2C]).cursor, &[0x2C]);
+/// assert_eq!((step.found, step.value), (true, 2));
+/// ```
 #[unsafe(no_mangle)]
 pub extern "C" fn pw_true_idx_next(
     start: usize,
@@ -174,6 +244,17 @@ pub extern "C" fn pw_true_idx_next(
 /// `count`. They are what as many calls of pw_true_idx_next return; the rest of `out` is unchanged. The cursor moves past the last of
 /// them, or to the length if `out` is not filled; if `out` is empty it does not move. `found` is true. If `masked` is 0 there is no mask:
 /// every position is written, and refusal 2 does not occur.
+///
+/// ```
+/// use poruwhina::calls::{true_idx_new, true_idx_next_chunk, try_new};
+///
+/// let cursor = true_idx_new(6, true, try_new(&[0x2D], 0, 6).mask, &[0x2D]).cursor;
+/// let mut out = [9; 3];
+/// let three = true_idx_next_chunk(cursor, &[0x2D], &mut out);
+/// assert_eq!((three.count, three.cursor.place, out), (3, 4, [0, 2, 3]));
+/// let rest = true_idx_next_chunk(three.cursor, &[0x2D], &mut out);
+/// assert_eq!((rest.count, rest.cursor.place, out), (1, 6, [5, 2, 3]));
+/// ```
 #[unsafe(no_mangle)]
 pub extern "C" fn pw_true_idx_next_chunk(
     start: usize,

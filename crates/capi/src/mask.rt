@@ -54,6 +54,10 @@ fn counting_out(came: Mask, r: Result<Recounted, Refused<Bitmap>>) -> ZerosAnswe
 }
 
 /// Returns the mask of no flags, its zero count known as 0.
+///
+/// ```
+/// assert_eq!(poruwhina::calls::bitmap_new().known, 1);
+/// ```
 #[unsafe(no_mangle)]
 pub extern "C" fn pw_bitmap_new() -> Mask
     ensures { result ≡ mask_out empty_mask }
@@ -62,6 +66,13 @@ pub extern "C" fn pw_bitmap_new() -> Mask
 }
 
 /// Writes the frozen bytes of `length` zeros at the start of `out` and returns the mask over them, its zero count known.
+///
+/// ```
+/// let mut out = [0xFF; 16];
+/// let mask = poruwhina::calls::new_zeroed(6, &mut out).mask;
+/// assert_eq!((mask.length, mask.zeros), (6, 6));
+/// assert_eq!((out[..8].to_vec(), out[8]), (vec![0; 8], 0xFF));
+/// ```
 #[unsafe(no_mangle)]
 pub extern "C" fn pw_new_zeroed(length: usize, out: &mut [u8]) -> MaskAnswer
     ensures answer { result ≡ as_mask (new_zeroed_of length out.old) }
@@ -72,6 +83,13 @@ pub extern "C" fn pw_new_zeroed(length: usize, out: &mut [u8]) -> MaskAnswer
 
 /// Returns the mask of the `length` flags of `bytes` that start at bit `start`. Its zero count is unknown, or known as 0 if `length` is
 /// 0.
+///
+/// ```
+/// use poruwhina::calls::try_new;
+///
+/// assert_eq!(try_new(&[0x2D], 2, 6).mask.known, 0);
+/// assert_eq!(try_new(&[0x2D], 2, 7).refusal, 2);
+/// ```
 #[unsafe(no_mangle)]
 pub extern "C" fn pw_try_new(bytes: &[u8], start: usize, length: usize) -> MaskAnswer
     ensures { result ≡ as_mask (try_new_of bytes.now start length) }
@@ -81,6 +99,14 @@ pub extern "C" fn pw_try_new(bytes: &[u8], start: usize, length: usize) -> MaskA
 
 /// Returns the mask of the `length` flags of `mask` that start at its flag `offset`, over the same bytes. Its zero count may be unknown
 /// although that of `mask` is known.
+///
+/// ```
+/// use poruwhina::calls::{slice, try_new};
+///
+/// let mask = try_new(&[0x2D], 0, 6).mask;
+/// assert_eq!(slice(mask, &[0x2D], 2, 4).mask.start, 2);
+/// assert_eq!(slice(mask, &[0x2D], 2, 5).refusal, 6);
+/// ```
 #[unsafe(no_mangle)]
 pub extern "C" fn pw_slice(mask: Mask, bytes: &[u8], offset: usize, length: usize) -> MaskAnswer
     ensures { result ≡ as_same_mask mask (slice_of (mask_in mask) bytes.now offset length) }
@@ -89,6 +115,12 @@ pub extern "C" fn pw_slice(mask: Mask, bytes: &[u8], offset: usize, length: usiz
 }
 
 /// Returns the number of zeros of `mask`, and the mask with that count stored.
+///
+/// ```
+/// use poruwhina::calls::{try_new, unset_bits};
+///
+/// assert_eq!(unset_bits(try_new(&[0x2D], 2, 4).mask, &[0x2D]).zeros, 1);
+/// ```
 #[unsafe(no_mangle)]
 pub extern "C" fn pw_unset_bits(mask: Mask, bytes: &[u8]) -> ZerosAnswer
     ensures { result ≡ as_zeros mask (unset_bits_of (mask_in mask) bytes.now) }
@@ -97,6 +129,13 @@ pub extern "C" fn pw_unset_bits(mask: Mask, bytes: &[u8]) -> ZerosAnswer
 }
 
 /// Returns whether two masks have equal lengths and equal flags. Unequal lengths are not refused, and serials are ignored.
+///
+/// ```
+/// use poruwhina::calls::{eq, try_new};
+///
+/// let (a, b) = (try_new(&[0x2D], 2, 4).mask, try_new(&[0x0B], 0, 4).mask);
+/// assert!(eq(a, &[0x2D], b, &[0x0B]).value);
+/// ```
 #[unsafe(no_mangle)]
 pub extern "C" fn pw_eq(lhs: Mask, lhs_bytes: &[u8], rhs: Mask, rhs_bytes: &[u8]) -> FlagAnswer
     ensures { result ≡ as_flag (eq_of (mask_in lhs) lhs_bytes.now (mask_in rhs) rhs_bytes.now) }
@@ -105,6 +144,12 @@ pub extern "C" fn pw_eq(lhs: Mask, lhs_bytes: &[u8], rhs: Mask, rhs_bytes: &[u8]
 }
 
 /// Counts the flags of a mask that differ from the next flag.
+///
+/// ```
+/// use poruwhina::calls::{num_edges, try_new};
+///
+/// assert_eq!(num_edges(try_new(&[0x2D], 0, 6).mask, &[0x2D]).value, 4);
+/// ```
 #[unsafe(no_mangle)]
 pub extern "C" fn pw_num_edges(mask: Mask, bytes: &[u8]) -> NumberAnswer
     ensures { result ≡ as_number (edges_of (mask_in mask) bytes.now) }
@@ -113,6 +158,13 @@ pub extern "C" fn pw_num_edges(mask: Mask, bytes: &[u8]) -> NumberAnswer
 }
 
 /// Counts the flags that are set in both of two masks of equal lengths.
+///
+/// ```
+/// use poruwhina::calls::{num_intersections_with, try_new};
+///
+/// let mask = try_new(&[0], 0, 6).mask;
+/// assert_eq!(num_intersections_with(mask, &[0x2D], mask, &[0x0F]).value, 3);
+/// ```
 #[unsafe(no_mangle)]
 pub extern "C" fn pw_num_intersections_with(
     lhs: Mask,

@@ -37,6 +37,17 @@ impl From<Result<NextFlag, Refusal>> for NextAnswer {
 /// and bytes are not read, and refusal 5 does not occur. `windows` counts the windows of 32 flags read: they begin at `from` and every 32
 /// flags after it, below the length, then at 0 and every 32 flags after it, below `from`; the last one read holds the position, or all
 /// are read. A `from` equal to the length is allowed; above it the call is refused with 6.
+///
+/// ```
+/// use poruwhina::calls::{next_and_not, try_new};
+///
+/// let mask = try_new(&[0; 5], 0, 40).mask;
+/// let (permitted, revoked) = ([0x08, 0, 0, 0, 0x48], [0x08, 0, 0, 0, 0x40]); // 3, 35, 38 and 3, 38
+/// let found = next_and_not(mask, &permitted, true, mask, &revoked, 36);
+/// assert_eq!((found.position, found.windows), (35, 3)); // windows at 36, 0 and 32
+/// assert_eq!(next_and_not(mask, &permitted, false, mask, &[], 36).position, 38);
+/// assert_eq!(next_and_not(mask, &permitted, false, mask, &[], 41).refusal, 6);
+/// ```
 #[unsafe(no_mangle)]
 pub extern "C" fn pw_next_and_not(
     first: Mask,

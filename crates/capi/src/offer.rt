@@ -37,6 +37,17 @@ impl From<Result<Offering, RefusedOffer>> for OfferAnswer {
 /// windows of 32 flags as pw_next_and_not does, at most ceil(length / 32) + 1. If `permitted` is false there is no permission mask: no
 /// truck is found, and `windows` is 0. If `revoked` is false there is no revocation mask, and no truck is revoked. The record and bytes
 /// of an absent mask are not read. Refusal 5 occurs only with both masks; 6 only with a permission mask, if `cursor` is above its length.
+///
+/// ```
+/// use poruwhina::calls::{offer, try_new};
+///
+/// let mask = try_new(&[0], 0, 6).mask;
+/// let first = offer(true, mask, &[0x2D], true, mask, &[0x04], 1); // 0, 2, 3, 5 permitted, 2 revoked
+/// assert_eq!((first.found, first.truck, first.cursor, first.windows), (true, 3, 4, 1));
+/// assert_eq!(offer(true, mask, &[0x2D], true, mask, &[0x04], 6).truck, 0); // round to truck 0
+/// assert!(!offer(false, mask, &[], true, mask, &[0x04], 9).found); // no permission mask
+/// assert_eq!(offer(true, mask, &[0x2D], false, mask, &[], 7).refusal, 6);
+/// ```
 #[unsafe(no_mangle)]
 pub extern "C" fn pw_offer(
     permitted: bool,

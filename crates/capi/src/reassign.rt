@@ -1,5 +1,5 @@
 //! Exported to C and Rust: dispatch.
-#![tactic(auto, using(masks::proofs::refusal::ClauseLaws::answered), unfolding(dispatch::specs::equations::Dispatch::may_reassign))]
+#![tactic(auto, using(masks::proofs::refusal::ClauseLaws::answered), unfolding(dispatch::specs::equations::Reassign::may_reassign))]
 
 ghost use Rattle.std.specs.Prelude.{◌≡◌};
 ghost use Rattle.dispatch.specs.equations.Reassign.{may_reassign};
@@ -15,6 +15,15 @@ use dispatch::reassign::may_reassign;
 /// mask, and no truck is revoked. The record and bytes of an absent mask are not read. Refusal 5 occurs only with both masks; without any
 /// mask nothing is refused. No permission mask is the opposite of no mask from pw_into_opt_validity or in pw_true_idx_new, which means
 /// all ones: end the builder of a permission mask with pw_freeze.
+///
+/// ```
+/// use poruwhina::calls::{may_reassign, try_new};
+///
+/// let mask = try_new(&[0], 0, 6).mask;
+/// assert!(may_reassign(true, mask, &[0x2D], true, mask, &[0x01], 2).value);
+/// assert!(!may_reassign(true, mask, &[0x2D], true, mask, &[0x01], 0).value);
+/// assert_eq!(may_reassign(true, mask, &[0x2D], true, mask, &[0x01], 6).refusal, 6);
+/// ```
 #[unsafe(no_mangle)]
 pub extern "C" fn pw_may_reassign(
     permitted: bool,

@@ -31,6 +31,13 @@ impl From<Result<Option<usize>, Refusal>> for PositionAnswer {
 
 /// Returns the position of the n-th set flag at or after `from`, counting from 0. `found` is false if at most `n` flags are set there.
 /// `from` may exceed the length.
+///
+/// ```
+/// use poruwhina::calls::nth_set_bit_idx;
+///
+/// assert_eq!(nth_set_bit_idx(&[0x2D], 0, 6, 2, 0).value, 3);
+/// assert!(!nth_set_bit_idx(&[0x2D], 0, 6, 4, 0).found);
+/// ```
 #[unsafe(no_mangle)]
 pub extern "C" fn pw_nth_set_bit_idx(
     bytes: &[u8],
@@ -46,6 +53,13 @@ pub extern "C" fn pw_nth_set_bit_idx(
 
 /// Returns the position of the n-th set flag before `end`, counting down from 0: number 0 is the set flag nearest to `end`. `found` is
 /// false if at most `n` flags are set there. `end` may exceed the length.
+///
+/// ```
+/// use poruwhina::calls::nth_set_bit_idx_rev;
+///
+/// assert_eq!(nth_set_bit_idx_rev(&[0x2D], 0, 6, 1, 5).value, 2);
+/// assert_eq!(nth_set_bit_idx_rev(&[0x2D], 0, 6, 3, 900).value, 0);
+/// ```
 #[unsafe(no_mangle)]
 pub extern "C" fn pw_nth_set_bit_idx_rev(
     bytes: &[u8],

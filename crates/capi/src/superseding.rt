@@ -37,6 +37,16 @@ impl From<Result<Winner, Refusal>> for PartAnswer {
 /// Returns the winner of two masks of one operator, the one with the larger serial, over the part of its bytes that holds it. With equal
 /// serials and equal flags the first wins; with equal serials and different flags the call is refused with 14. Both masks are checked,
 /// the loser too.
+///
+/// ```
+/// use poruwhina::calls::{Mask, superseding, try_new};
+///
+/// let bytes = [0x2D];
+/// let six = try_new(&bytes, 0, 6).mask;
+/// let four = Mask { serial: 1, ..try_new(&bytes, 2, 4).mask };
+/// assert!(superseding(six, &bytes, four, &bytes).second);
+/// assert_eq!(superseding(six, &bytes, Mask { serial: 0, ..four }, &bytes).refusal, 14);
+/// ```
 #[unsafe(no_mangle)]
 pub extern "C" fn pw_superseding(
     first: Mask,

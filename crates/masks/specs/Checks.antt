@@ -1,4 +1,4 @@
--- The checks 1 to 9 and 14 of the reference: each is its number, and whether it holds.
+-- The checks of the reference: each is its number, and whether it holds.
 --
 -- A call's checks are a list made of the pieces below. The number of the call is that of the first check that fails. First is the one of
 -- the least `rank`: so a list may name its checks in any order.
@@ -13,7 +13,7 @@ check n t = record { number = n; holds = t }
 
 -- ---- the order of the checks
 
--- the numbers of the checks in their order, the first one first; a later number is put between two others by a row
+-- the numbers of the checks in their order, the first one first: written from include/refusals.txt
 abbrev pub order : List ℕ
 order =
     1

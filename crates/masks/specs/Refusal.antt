@@ -1,4 +1,4 @@
--- The number and the text of each refusal, as in the reference.
+-- The number and the text of each refusal, as in the reference: written from include/refusals.txt.
 use Rattle.std.specs.Prelude.{ℕ, List, ◌++◌, Result, Ok, Err, codes, decimal}
 use Rattle.masks.specs.declared.refusal.Refusal.{Refusal}
 use Rattle.masks.specs.declared.refusal.Refused.{Refused}

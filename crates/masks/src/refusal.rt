@@ -7,29 +7,32 @@ use std::error::Error;
 use std::fmt;
 
 /// The checks that a call can fail, in their order: of several that fail the first one here is the answer. Each is a check of the reference
-/// with its number.
+/// with its number. The list, with its texts and numbers, is written from include/refusals.txt.
 #[derive(Clone, Copy, PartialEq, Eq, PartialOrd, Ord, Debug)]
 pub enum Refusal {
-    /// 1: a start or a length, stated or resulting, is above the flag limit.
+    /// 1: a start or a length is above 4,194,304: of a span, mask, cursor, builder or inner piece, a stated length, or a resulting start or
+    /// length.
     AboveLimit,
     /// 2: start + length is above 8 * the bytes lent.
     OutsideBytes,
-    /// 3: a known zero count is not that of the flags.
+    /// 3: a known zero count is not the number of zeros among the flags. Each call that takes a mask counts a known one again.
     FalseCount,
-    /// 14: two masks with equal serials have different flags.
+    /// 14: two masks with equal serials have different flags or lengths.
     SerialConflict,
-    /// 4: the builder's word has a bit set at or above length mod 64, its ones are above 64 * (length div 64), or its buffer has fewer than
-    /// 8 * (length div 64) bytes.
+    /// 4: the builder is not possible: its word has a bit set at or above length mod 64, its ones are above 64 * (length div 64), or its
+    /// buffer has fewer than 8 * (length div 64) bytes.
     ImpossibleBuilder,
-    /// 5: the masks combined, or a mask and its stated length, differ in length.
+    /// 5: the masks combined, or a mask and the length stated for it, differ in length.
     UnequalLengths,
-    /// 6: a piece, a place, an index or a pushed word does not lie inside.
+    /// 6: a slice's end, a split point or a cursor's place is above the length, an index or a truck is not below it, or a pushed word has
+    /// more than 64 flags or a bit set after them.
     OutsideMask,
-    /// 7: `slice` recounts and finds that the known count cannot be right.
+    /// 7: when a slice recounts, the known count is below the zeros cut off, or the rest of it is above the new length. No call returns
+    /// this number: a known count is exact, since check 3 comes first.
     CountNotOfSlice,
     /// 8: the address remainder is above 7.
     AddressRemainder,
-    /// 9: the output, or the builder's buffer, does not hold the result.
+    /// 9: the output, or the builder's buffer, has fewer than 8 * ceil(new length / 64) bytes.
     OutputTooSmall,
 }
 

@@ -29,7 +29,8 @@ impl<'a> SplitSpan<'a> {
     // Splits a span.
     pub(crate) fn new(span: &AddressedSpan<'a>) -> Self
         ensures bytes { result.bytes.now ≡ span.now.bytes.now }
-        ensures parts { result.parts ≡ aligned_split span.now.bytes.now span.now.start span.now.length span.now.address }
+        ensures parts { result.parts ≡
+            aligned_split span.now.bytes.now span.now.start span.now.length span.now.address }
     {
         SplitSpan {
             bytes: span.bytes,
@@ -90,11 +91,13 @@ pub(crate) trait End {
 
     // Returns a split's word at this end, and how many flags of it are the span's.
     fn near(split: &SplitSpan) -> (u64, usize)
-        ensures { (result.1 ≤ 64) × (take result.1 (word_flags result.0) ≡ near_flags split.now.parts) };
+        ensures { (result.1 ≤ 64)
+            × (take result.1 (word_flags result.0) ≡ near_flags split.now.parts) };
 
     // Returns a split's word at the other end, and how many flags of it are the span's.
     fn far(split: &SplitSpan) -> (u64, usize)
-        ensures { (result.1 ≤ 64) × (take result.1 (word_flags result.0) ≡ far_flags split.now.parts) };
+        ensures { (result.1 ≤ 64)
+            × (take result.1 (word_flags result.0) ≡ far_flags split.now.parts) };
 
     ghost in_row: { (bytes : List ℕ) (s : AlignedBitmapSlice)
         → split_flags bytes s ≡ row (near_flags s) (bulk_flags bytes s) (far_flags s) };

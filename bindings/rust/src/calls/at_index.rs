@@ -1,6 +1,6 @@
 //! The combination `and_not` at one index.
 //!
-//! Written by tests/declarations.py from crates/capi, except the examples, which it keeps.
+//! Written by tests/declarations.py from crates/capi.
 
 use super::exports;
 use super::records::*;

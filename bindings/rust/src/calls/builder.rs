@@ -1,7 +1,7 @@
 //! The builder. Each append writes finished words to `buf`, leaves its other bytes unchanged, and returns the builder after it;
 //! [`freeze`] and [`into_opt_validity`] write the frozen bytes at the start of `buf`.
 //!
-//! Written by tests/declarations.py from crates/capi, except the examples, which it keeps.
+//! Written by tests/declarations.py from crates/capi.
 
 use super::exports;
 use super::records::*;

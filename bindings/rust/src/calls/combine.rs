@@ -1,6 +1,6 @@
 //! The combinations of masks of equal lengths. The mask returned has start 0 and the largest of their serials.
 //!
-//! Written by tests/declarations.py from crates/capi, except the examples, which it keeps.
+//! Written by tests/declarations.py from crates/capi.
 
 use super::exports;
 use super::records::*;

@@ -1,6 +1,6 @@
 //! The cursors over runs, flags and positions. A step that finds nothing moves the cursor to the length.
 //!
-//! Written by tests/declarations.py from crates/capi, except the examples, which it keeps.
+//! Written by tests/declarations.py from crates/capi.
 
 use super::exports;
 use super::records::*;

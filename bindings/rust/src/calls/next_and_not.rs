@@ -1,6 +1,6 @@
 //! The search for a flag that is set in one mask and not in another.
 //!
-//! Written by tests/declarations.py from crates/capi, except the examples, which it keeps.
+//! Written by tests/declarations.py from crates/capi.
 
 use super::exports;
 use super::records::*;

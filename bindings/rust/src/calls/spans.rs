@@ -1,6 +1,6 @@
 //! The calls over spans without a mask: the aligned split, the counts, a span split in two, 32 flags as a number.
 //!
-//! Written by tests/declarations.py from crates/capi, except the examples, which it keeps.
+//! Written by tests/declarations.py from crates/capi.
 
 use super::exports;
 use super::records::*;

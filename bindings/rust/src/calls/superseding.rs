@@ -1,7 +1,7 @@
 //! Which of two masks supersedes the other. The C interface has no references: the part of the bytes is returned as the slice
 //! that it is of, its first byte and the byte past its last.
 //!
-//! Written by tests/declarations.py from crates/capi, except the examples, which it keeps.
+//! Written by tests/declarations.py from crates/capi.
 
 use super::exports;
 use super::records::*;

@@ -1,6 +1,6 @@
 //! The window of minutes: in how many of the last minutes each truck was busy.
 //!
-//! Written by tests/declarations.py from crates/capi, except the examples, which it keeps.
+//! Written by tests/declarations.py from crates/capi.
 
 use super::exports;
 use super::records::*;

@@ -1,10 +1,13 @@
 -- The statements of `proofs/statements/StepPlain.antt`, each by computation.
-use mathlib.Core.Path.{refl}
-use Rattle.std.specs.Prelude.{ℕ}
+use mathlib.Core.Path.{◌≡◌, refl, ap}
+use Rattle.std.specs.Prelude.{ℕ, Bool, true, false, cond}
+use Rattle.masks.specs.equations.Answer.{Answer, given, refused}
+use Rattle.masks.specs.Cursor.{Step, item, ended}
+use Rattle.masks.specs.declared.slice_iterator.Run.{Run}
 use Rattle.capi.specs.Answers.{as_bit, as_cursor, as_remainder, as_run, as_step, as_taken, as_word}
+use Rattle.capi.specs.declared.answers.StepAnswer.{StepAnswer}
 use Rattle.capi.specs.declared.records.Cursor.{Cursor}
-use Rattle.capi.proofs.statements.StepPlain.{AnyStepPlain, BitPlain, CursorPlain, RemainderPlain, RunPlain, StepPlain}
-use Rattle.capi.proofs.statements.StepPlain.{TakenPlain, WordPlain}
+use Rattle.capi.proofs.statements.StepPlain.{CursorPlain, RemainderPlain, StepPlain, Steps, TakenPlain}
 
 cursor : (S C : Type 0) (out : C → Cursor) → CursorPlain S C out
 unfolding as_cursor
@@ -16,94 +19,47 @@ cursor S C out =
       refused-cursor = λ k s. refl;
     }
 
-any_step : (A C : Type 0) (value count : A → ℕ) (place : C → ℕ) → AnyStepPlain A C value count place
+-- a conversion that is `as_step` with these numbers of an item
+steps : (A C : Type 0) (to : Answer C (Step C A) → StepAnswer) (value count : A → ℕ) (place : C → ℕ)
+    → ((a : Answer C (Step C A)) → to a ≡ as_step value count place a) → Steps A C to value count place
 unfolding as_step
-any_step A C value count place =
+steps A C to value count place e =
     record {
-      item-refusal = λ a c. refl;
-      item-found = λ a c. refl;
-      item-value = λ a c. refl;
-      item-count = λ a c. refl;
-      item-place = λ a c. refl;
-      ended-refusal = λ c. refl;
-      ended-found = λ c. refl;
-      ended-value = λ c. refl;
-      ended-count = λ c. refl;
-      ended-place = λ c. refl;
-      refused-refusal = λ k c. refl;
-      refused-found = λ k c. refl;
-      refused-value = λ k c. refl;
-      refused-count = λ k c. refl;
-      refused-place = λ k c. refl;
+      item-refusal = λ a c. ap (λ (r : StepAnswer). r.refusal) (e (given (item a c)));
+      item-found = λ a c. ap (λ (r : StepAnswer). r.found) (e (given (item a c)));
+      item-value = λ a c. ap (λ (r : StepAnswer). r.value) (e (given (item a c)));
+      item-count = λ a c. ap (λ (r : StepAnswer). r.count) (e (given (item a c)));
+      item-place = λ a c. ap (λ (r : StepAnswer). r.place) (e (given (item a c)));
+      ended-refusal = λ c. ap (λ (r : StepAnswer). r.refusal) (e (given (ended c)));
+      ended-found = λ c. ap (λ (r : StepAnswer). r.found) (e (given (ended c)));
+      ended-value = λ c. ap (λ (r : StepAnswer). r.value) (e (given (ended c)));
+      ended-count = λ c. ap (λ (r : StepAnswer). r.count) (e (given (ended c)));
+      ended-place = λ c. ap (λ (r : StepAnswer). r.place) (e (given (ended c)));
+      refused-refusal = λ k c. ap (λ (r : StepAnswer). r.refusal) (e (refused k c));
+      refused-found = λ k c. ap (λ (r : StepAnswer). r.found) (e (refused k c));
+      refused-value = λ k c. ap (λ (r : StepAnswer). r.value) (e (refused k c));
+      refused-count = λ k c. ap (λ (r : StepAnswer). r.count) (e (refused k c));
+      refused-place = λ k c. ap (λ (r : StepAnswer). r.place) (e (refused k c));
     }
 
-word : (C : Type 0) (place : C → ℕ) → WordPlain C place
-unfolding as_word as_step
-word C place =
-    record {
-      item-refusal = λ n c. refl;
-      item-found = λ n c. refl;
-      item-value = λ n c. refl;
-      item-count = λ n c. refl;
-      item-place = λ n c. refl;
-      ended-refusal = λ c. refl;
-      ended-found = λ c. refl;
-      ended-value = λ c. refl;
-      ended-count = λ c. refl;
-      ended-place = λ c. refl;
-      refused-refusal = λ k c. refl;
-      refused-found = λ k c. refl;
-      refused-value = λ k c. refl;
-      refused-count = λ k c. refl;
-      refused-place = λ k c. refl;
-    }
+word : (C : Type 0) (place : C → ℕ) → Steps ℕ C (as_word place) (λ n. n) (λ n. 0) place
+unfolding as_word
+word C place = steps ℕ C (as_word place) (λ n. n) (λ n. 0) place (λ a. refl)
 
-bit : (C : Type 0) (place : C → ℕ) → BitPlain C place
+bit-step : (C : Type 0) (place : C → ℕ) (a : Answer C (Step C Bool))
+    → as_bit place a ≡ as_step (λ (x : Bool). cond x 1 0) (λ (x : Bool). 0) place a
 unfolding as_bit as_step
-bit C place =
-    record {
-      one-refusal = λ c. refl;
-      one-found = λ c. refl;
-      one-value = λ c. refl;
-      one-count = λ c. refl;
-      one-place = λ c. refl;
-      zero-refusal = λ c. refl;
-      zero-found = λ c. refl;
-      zero-value = λ c. refl;
-      zero-count = λ c. refl;
-      zero-place = λ c. refl;
-      ended-refusal = λ c. refl;
-      ended-found = λ c. refl;
-      ended-value = λ c. refl;
-      ended-count = λ c. refl;
-      ended-place = λ c. refl;
-      refused-refusal = λ k c. refl;
-      refused-found = λ k c. refl;
-      refused-value = λ k c. refl;
-      refused-count = λ k c. refl;
-      refused-place = λ k c. refl;
-    }
+bit-step C place (given (item true c)) = refl
+bit-step C place (given (item false c)) = refl
+bit-step C place (given (ended c)) = refl
+bit-step C place (refused k c) = refl
 
-run : (C : Type 0) (place : C → ℕ) → RunPlain C place
-unfolding as_run as_step
-run C place =
-    record {
-      item-refusal = λ r c. refl;
-      item-found = λ r c. refl;
-      item-value = λ r c. refl;
-      item-count = λ r c. refl;
-      item-place = λ r c. refl;
-      ended-refusal = λ c. refl;
-      ended-found = λ c. refl;
-      ended-value = λ c. refl;
-      ended-count = λ c. refl;
-      ended-place = λ c. refl;
-      refused-refusal = λ k c. refl;
-      refused-found = λ k c. refl;
-      refused-value = λ k c. refl;
-      refused-count = λ k c. refl;
-      refused-place = λ k c. refl;
-    }
+bit : (C : Type 0) (place : C → ℕ) → Steps Bool C (as_bit place) (λ x. cond x 1 0) (λ x. 0) place
+bit C place = steps Bool C (as_bit place) (λ x. cond x 1 0) (λ x. 0) place (bit-step C place)
+
+run : (C : Type 0) (place : C → ℕ) → Steps Run C (as_run place) (λ r. r.start) (λ r. r.length) place
+unfolding as_run
+run C place = steps Run C (as_run place) (λ r. r.start) (λ r. r.length) place (λ a. refl)
 
 taken : (C : Type 0) (place : C → ℕ) → TakenPlain C place
 unfolding as_taken
@@ -141,7 +97,7 @@ pub step-plain : StepPlain
 step-plain =
     record {
       cursor = cursor;
-      any_step = any_step;
+      any_step = λ A C value count place. steps A C (as_step value count place) value count place (λ a. refl);
       word = word;
       bit = bit;
       run = run;

@@ -26,7 +26,7 @@ use Rattle.masks.specs.Cursor.{cursor_checks}
 use Rattle.masks.proofs.tables.EdgeRows.{EdgesHold, limit_rows, edge_rows, mask_rows, unwritten_rows, split_rows, start_rows, count_rows}
 use Rattle.masks.specs.Freeze.{frozen_over}
 use Rattle.masks.specs.Frozen.{frozen, over_from, packed}
-use Rattle.masks.specs.equations.Iterator.{nth_flag, take_leading}
+use Rattle.masks.specs.equations.Iterator.{new_iter, nth_flag, take_leading}
 use Rattle.masks.specs.Mask.{cut_zeros, kept_count, mask_checks, piece_checks, recounts, slice_checks}
 use Rattle.masks.specs.equations.Mask.{new_zeroed_bytes, new_zeroed_of}
 use Rattle.masks.specs.Mask.{zero_count, zeroed_checks}
@@ -48,6 +48,6 @@ unfolding
     piece_checks cut_zeros recounts kept_count packed frozen over_from in_progress appended builder_flags possible builder_checks
     frozen_over constant_checks word_checks span_grow_checks inner_checks subslice_checks gather_checks all_below gathered repeated
     pair_of pair_bytes pair_checks pair_flags pair_mask shortcut each_of each_bytes not_checks select_checks eq_of common_of common_checks
-    and_not_at_of and_not_at_checks index_checks length_checks nth_flag take_leading new_slices next_slice
+    and_not_at_of and_not_at_checks index_checks length_checks new_iter nth_flag take_leading new_slices next_slice
     new_true new_true_checks next_true true_checks true_flags positions_over ones_left ones_from
 all_hold = record { limits = refl; edges = refl; masks = refl; unwritten = refl; splits = refl; starts = refl; counts = refl }

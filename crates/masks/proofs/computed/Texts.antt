@@ -7,14 +7,14 @@ pub texts : Texts
 unfolding digits
 texts =
     record {
-      over_limit = refl;
-      past_bytes = refl;
-      false-count = refl;
-      unequal_lists = refl;
-      impossible-builder = refl;
+      above_limit = refl;
+      outside_bytes = refl;
+      false_count = refl;
+      serial_conflict = refl;
+      impossible_builder = refl;
       unequal_lengths = refl;
-      outside = refl;
-      wrong_recount = refl;
-      wrong_address = refl;
-      short-output = refl;
+      outside_mask = refl;
+      count_not_of_slice = refl;
+      address_remainder = refl;
+      output_too_small = refl;
     }

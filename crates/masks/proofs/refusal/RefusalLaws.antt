@@ -16,7 +16,7 @@ use Rattle.masks.specs.declared.refusal.Refusal.TheVariants.{UnequalLengths, Out
 use Rattle.masks.specs.declared.refusal.Refused.{Refused}
 use Rattle.masks.specs.contracts.refusal.RefusalOrd.TheImpl.{cmp-value}
 
--- ---- what holds of each refusal
+-- ---- what holds of each refusal: the lines for each are written from include/refusals.txt
 
 abbrev refusals : List Refusal
 refusals =

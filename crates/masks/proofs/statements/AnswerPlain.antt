@@ -16,18 +16,18 @@ use Rattle.masks.specs.declared.refusal.Refusal.{Refusal}
 use Rattle.masks.specs.declared.refusal.Refusal.TheVariants.{AboveLimit, OutsideBytes, FalseCount, SerialConflict, ImpossibleBuilder}
 use Rattle.masks.specs.declared.refusal.Refusal.TheVariants.{UnequalLengths, OutsideMask, CountNotOfSlice, AddressRemainder, OutputTooSmall}
 
--- the numbers of the refusals, as in the reference
+-- the numbers of the refusals, as in the reference: written from include/refusals.txt
 pub record NumbersPlain : Type 0 where
-  pub over_limit : number AboveLimit ≡ 1
-  pub past_bytes : number OutsideBytes ≡ 2
+  pub above_limit : number AboveLimit ≡ 1
+  pub outside_bytes : number OutsideBytes ≡ 2
   pub false_count : number FalseCount ≡ 3
   pub impossible_builder : number ImpossibleBuilder ≡ 4
   pub unequal_lengths : number UnequalLengths ≡ 5
-  pub outside : number OutsideMask ≡ 6
-  pub wrong_recount : number CountNotOfSlice ≡ 7
-  pub wrong_address : number AddressRemainder ≡ 8
-  pub short_output : number OutputTooSmall ≡ 9
-  pub unequal_lists : number SerialConflict ≡ 14
+  pub outside_mask : number OutsideMask ≡ 6
+  pub count_not_of_slice : number CountNotOfSlice ≡ 7
+  pub address_remainder : number AddressRemainder ≡ 8
+  pub output_too_small : number OutputTooSmall ≡ 9
+  pub serial_conflict : number SerialConflict ≡ 14
 
 pub record AnswersPlain : Type 1 where
   -- a call that refuses with only a number

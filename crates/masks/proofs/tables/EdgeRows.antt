@@ -22,7 +22,7 @@ use Rattle.masks.specs.equations.Compare.{eq_of, common_of}
 use Rattle.masks.proofs.tables.Examples.{Value, mask, count, bytes, accepted, refusal, sliced_value, sliced_to, mixed, frozen_in, first}
 use Rattle.masks.specs.equations.Freeze.{freeze_of, freeze_bytes, into_opt_validity_of}
 use Rattle.masks.specs.Iterator.{iter_at}
-use Rattle.masks.specs.equations.Iterator.{nth_flag, take_leading}
+use Rattle.masks.specs.equations.Iterator.{new_iter, nth_flag, take_leading}
 use Rattle.masks.specs.Mask.{mask_of}
 use Rattle.masks.specs.equations.Mask.{try_new_of, new_zeroed_of, new_zeroed_bytes, slice_of}
 use Rattle.masks.specs.equations.Positions.{positions_over}
@@ -71,6 +71,11 @@ limit_rows =
     ∷ row (said (try_new_of [] 0 4194305)) (refusal 1)
     ∷ row (said (new_zeroed_of 4194304 [])) (refusal 9)
     ∷ row (said (new_zeroed_of 4194305 [])) (refusal 1)
+    -- A cursor over single flags of none is made before any check.
+    ∷ row (said (new_iter byte 4194304 1)) (refusal 2)
+    ∷ row (said (new_iter byte 4194305 1)) (refusal 1)
+    ∷ row (said (new_iter byte 0 4194305)) (refusal 1)
+    ∷ row (said (new_iter byte 4194305 0)) accepted
     -- The start of a slice in its bytes, and of a split's second part, are starts too; so is the start of a piece.
     ∷ row (said (slice_of (mask_of 4194303 8 None) byte 1 4)) (refusal 2)
     ∷ row (said (slice_of (mask_of 4194304 8 None) byte 1 4)) (refusal 1)
@@ -92,6 +97,8 @@ edge_rows =
     -- 2: the span lies in the bytes lent.
     row (said (try_new_of byte 1 7)) accepted
     ∷ row (said (try_new_of byte 1 8)) (refusal 2)
+    ∷ row (said (new_iter byte 1 7)) accepted
+    ∷ row (said (new_iter byte 1 8)) (refusal 2)
     -- 4: no bit from length mod 64 up, only ones of finished words, a buffer that holds these words.
     ∷ row (freeze_said (builder_of 1 1 0) 8) accepted
     ∷ row (freeze_said (builder_of 1 2 0) 8) (refusal 4)

@@ -21,15 +21,15 @@ answers-plain =
       fails_back = λ A r s. refl;
       numbers =
           record {
-            over_limit = refl;
-            past_bytes = refl;
+            above_limit = refl;
+            outside_bytes = refl;
             false_count = refl;
             impossible_builder = refl;
             unequal_lengths = refl;
-            outside = refl;
-            wrong_recount = refl;
-            wrong_address = refl;
-            short_output = refl;
-            unequal_lists = refl;
+            outside_mask = refl;
+            count_not_of_slice = refl;
+            address_remainder = refl;
+            output_too_small = refl;
+            serial_conflict = refl;
           };
     }
