@@ -57,15 +57,18 @@ extern "C" {
 #define PW_REFUSED_IMPOSSIBLE_BUILDER 4
 /* The masks combined, or a mask and the length stated for it, differ in length. */
 #define PW_REFUSED_UNEQUAL_LENGTHS 5
-/* A slice's end, a split point or a cursor's place is above the length, an index or a truck is not below it, or a pushed word has more
- * than 64 flags or a bit set after them. */
+/* rows * columns, computed exactly, is not the length of the mask. */
+#define PW_REFUSED_NOT_A_GRID 12
+/* A slice's end, a split point or a cursor's place is above the length, an index or a truck is not below it, a row or a column is not
+ * below the number of rows or of columns, or a pushed word has more than 64 flags or a bit set after them. */
 #define PW_REFUSED_OUTSIDE_MASK 6
 /* When a slice recounts, the known count is below the zeros cut off, or the rest of it is above the new length. No call returns this
  * number: a known count is exact, since check 3 comes first. */
 #define PW_REFUSED_COUNT_NOT_OF_SLICE 7
 /* The address remainder is above 7. */
 #define PW_REFUSED_ADDRESS_REMAINDER 8
-/* The output, or the builder's buffer, has fewer than 8 * ceil(new length / 64) bytes. */
+/* The output, or the builder's buffer, has fewer than 8 * ceil(new length / 64) bytes, or the output of counts has fewer places than
+ * there are counts. */
 #define PW_REFUSED_OUTPUT_TOO_SMALL 9
 
 /* ---- records */
@@ -451,6 +454,40 @@ pw_mask_answer pw_select(pw_mask selector, const uint8_t *selector_bytes, size_t
  * over them. Refuses with 1, 2, 3, 5, 9; every other field is then 0. */
 pw_mask_answer pw_select_constant(pw_mask selector, const uint8_t *selector_bytes, size_t selector_bytes_len,
     pw_mask truthy, const uint8_t *truthy_bytes, size_t truthy_bytes_len, bool flag, uint8_t *out, size_t out_len);
+
+/* ---- A mask as a grid of rows and columns: flag r * columns + c is row r, column c. Neither number is a length: check 1 is not made
+ * of them. Their product is exact: no two numbers wrap to a mask's length. */
+
+/* Returns the mask of row `row`, over the same bytes: what pw_slice returns for the `columns` flags that start at flag row * columns.
+ * Refusal 12 means that rows * columns is not the length of `mask`, 6 that `row` is not below `rows`. The start of a row is put to
+ * check 1 only if there is such a row. Refuses with 1, 2, 3, 12, 6, 7; the mask is unchanged, every field of it. */
+pw_mask_answer pw_grid_row(pw_mask mask, const uint8_t *bytes, size_t bytes_len, size_t rows, size_t columns,
+    size_t row);
+
+/* Writes the frozen bytes of column `column`, of `rows` flags, at the start of `out` and returns the mask over them. Its zero count is
+ * unknown, or known as 0 if there are no rows; its serial is that of `mask`. Refusal 12 means that rows * columns is not the length of
+ * `mask`, 6 that `column` is not below `columns`. Refuses with 1, 2, 3, 12, 6, 9; every other field is then 0. */
+pw_mask_answer pw_grid_column(pw_mask mask, const uint8_t *bytes, size_t bytes_len, size_t rows, size_t columns,
+    size_t column, uint8_t *out, size_t out_len);
+
+/* Writes the frozen bytes of the grid with rows and columns exchanged at the start of `out`, with flag r * columns + c of `mask` as
+ * flag c * rows + r, and returns the mask over them. Its zero count is unknown, or known as 0 if there are no flags; its serial is
+ * that of `mask`. Refusal 12 means that rows * columns is not the length of `mask`. Refuses with 1, 2, 3, 12, 9; every other field is
+ * then 0. */
+pw_mask_answer pw_grid_transpose(pw_mask mask, const uint8_t *bytes, size_t bytes_len, size_t rows, size_t columns,
+    uint8_t *out, size_t out_len);
+
+/* Writes the number of zeros of each row at the start of `counts` and returns how many counts are written, `rows`; the rest of
+ * `counts` is unchanged. Refusal 12 means that rows * columns is not the length of `mask`, 9 that `counts` has fewer than `rows`
+ * places. Refuses with 1, 2, 3, 12, 9; every other field is then 0. */
+pw_number_answer pw_grid_row_zeros(pw_mask mask, const uint8_t *bytes, size_t bytes_len, size_t rows,
+    size_t columns, uint32_t *counts, size_t counts_len);
+
+/* Writes the number of zeros of each column at the start of `counts` and returns how many counts are written, `columns`; the rest of
+ * `counts` is unchanged. Refusal 12 means that rows * columns is not the length of `mask`, 9 that `counts` has fewer than `columns`
+ * places. Refuses with 1, 2, 3, 12, 9; every other field is then 0. */
+pw_number_answer pw_grid_column_zeros(pw_mask mask, const uint8_t *bytes, size_t bytes_len, size_t rows,
+    size_t columns, uint32_t *counts, size_t counts_len);
 
 /* ---- The cursors over runs, flags and positions. A step that finds nothing moves the cursor to the length. */
 

@@ -157,14 +157,14 @@ OTHERS = {
 
 def plainly(name, arguments, output):
     """Returns how a call is asked by the function of the model of its name: each mask is followed by its bytes, a bare span by none, since
-    its bytes come first; an output comes last."""
+    its bytes come first; an output, of bytes or of numbers, comes last."""
     ask = getattr(reference, name.split("::")[-1], None)
 
     def answer(l, *values):
         row, lent = [l.x] if arguments[:1] == ["start"] else [], iter(sides(l))
         for kind, value in zip(arguments, values):
             row += [value, next(lent)] if kind in ("M", "OM") else [value]
-        return ask(*row, *[l.o] * (output == "o"))
+        return ask(*row, *{"o": [l.o], "i": [l.i]}.get(output, []))
 
     return answer
 
@@ -182,7 +182,7 @@ LISTERS = {name for name, (_, output) in SHAPES.items() if output == "i"}
 # largest of the masks combined, each of which has one.
 
 NEW = {"BitmapBuilder::new", "Bitmap::new", "new_zeroed", "try_new"}
-OWN = {name for name, spec in SPECS.items() if spec[:1] == "B"} | {"slice", "unset_bits"}
+OWN = {name for name, spec in SPECS.items() if spec[:1] == "B"} | {"slice", "unset_bits", "grid_row", "grid_column", "grid_transpose"}
 COMBINED = {"and", "and_not", "or", "or_not", "xor", "not", "select", "select_constant"}
 
 

@@ -26,18 +26,18 @@ import sys
 from calls_page import head_of
 
 ROOT = pathlib.Path(__file__).resolve().parent.parent
-CRATES = ("masks", "dispatch")
+CRATES = ("masks", "grids", "dispatch")
 # The clauses that say no value, each with what it may be stated by.
 RULES = {
-    "refused": r"(?:length ≢ 0 → )?(?:failure_of|failure_back|offer_failure) result ≡ (?:first_failed|earlier_of) .+",
+    "refused": r"(?:length ≢ 0 → )?(?:failure_of|failure_back|offer_failure) result ≡ (?:first_failed|earlier_of|cond holds 0) .+",
     "empty": r"length ≡ 0 → failure_of result ≡ 0",
     "bytes": r"OnOk result \(\w+\.new ≡ .+\)",
     "unchanged": r"OnErr result \((\w+)\.new ≡ \1\.old\)",
-    "state": r"IfErr result \(λ e\. e\.(?:state|cursor) ≡ (?:self|cursor)\)|OnErr result \((\w+)\.new ≡ \1\.old\)",
+    "state": r"IfErr result \(λ e\. e\.(?:state|cursor) ≡ (?:self|cursor|mask)\)|OnErr result \((\w+)\.new ≡ \1\.old\)",
 }
 # The clauses that say a value, by what it is.
-VALUES = ("appended", "bound", "cursor", "edges", "flag", "found", "mask", "number", "offering", "part", "position", "positions")
-VALUES += ("spans", "split", "step", "word", "zeros")
+VALUES = ("appended", "bound", "counts", "cursor", "edges", "flag", "found", "mask", "number", "offering", "part", "position")
+VALUES += ("positions", "spans", "split", "step", "word", "zeros")
 # What a value is read by, if a clause says neither it nor a part of it.
 READERS = ("filling", "step_of")
 # The name of the clause on a value of these types.
@@ -218,7 +218,7 @@ def wrong_texts(name, text):
     """Yields what a clause might say in its place and must not: a premise, another number, another state, less of what is written."""
     yield f"0 ≡ 0 → {text}"
     if name == "refused":
-        yield re.sub(r" ≡ (?:first_failed|earlier_of) .*", " ≡ 0", text)
+        yield re.sub(r" ≡ (?:first_failed|earlier_of|cond) .*", " ≡ 0", text)
     elif name == "state":
         yield "IfErr result (λ e. e.state ≡ e.state)"
     elif name in ("bytes", "unchanged"):

@@ -76,9 +76,9 @@ EDITS = (
     (
         "declarations.py",
         "include/refusals.txt",
-        "12 NotAGrid later ",
-        "12 NotAGrid ",
-        "12 NotAGrid: no definition has its check",
+        "15 NoPlaceForSerial later ",
+        "15 NoPlaceForSerial ",
+        "15 NoPlaceForSerial: no definition has its check",
     ),
     (
         "declarations.py",

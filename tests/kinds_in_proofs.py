@@ -81,13 +81,13 @@ def edges(call):
 
 @kind("order", "each two of its numbers", applies=several_numbers)
 def order(call):
-    """6 and 7 of a call do not meet: 7 never comes out (`never_seven`)."""
+    """7 of a call meets neither 6 nor 12: it never comes out (`never_seven`), and of a row it is made only where these hold."""
     found, rows = [], set()
     for crate in [call.crate, *uses()[0][call.crate]]:
         for path in files(f"crates/{crate}/proofs/tables/OrderRows.antt"):
             rows |= {frozenset(pair) for pair in re.findall(r"both (\d+) (\d+) ", read(path))}
             found.append(path)
-    wanted = {frozenset((a, b)) for a in call.numbers for b in call.numbers if a != b} - {frozenset("67")}
+    wanted = {frozenset((a, b)) for a in call.numbers for b in call.numbers if a != b} - {frozenset("67"), frozenset(("7", "12"))}
     return [path for path in found if call.definitions & reached(path, call.crate)] or found[:1] if wanted <= rows else []
 
 

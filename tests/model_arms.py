@@ -28,6 +28,7 @@ TAKES = {
     "&[u8]": ("{}", []),
     "&mut [u8]": ("l.o", []),
     "&[u32]": ("l.i", []),
+    "&mut [u32]": ("l.i", []),
     "usize": ("a.number()", [None]),
     "u64": ("a.word()", [None]),
     "bool": ("a.flag()", [None]),

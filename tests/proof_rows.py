@@ -196,11 +196,17 @@ def with_codes(text, crate, lines):
     return text
 
 
+# the codes of masks, which a crate above it may use too
+CODES = "crates/masks/proofs/computed/WrongAnswers.antt"
+
+
 def answers(crate, path, table):
     """Returns a file of rows of a `Wrong*` table with an entry for each field."""
     text = path.read_text(encoding="utf-8")
     own = {"ℕ": "number", "Bool": "flag", "List ℕ": "(λ bytes. bytes)"}
-    own.update({bare(kind): name for name, kind in re.findall(r"(?m)^abbrev (?:pub )?(\w+_code) : Code (.*)$", text) if "(" not in kind})
+    for codes in ((ROOT / CODES).read_text(encoding="utf-8"), text):
+        named = re.findall(r"(?m)^abbrev (?:pub )?(\w+_code) : Code (.*)$", codes)
+        own.update({bare(kind): name for name, kind in named if "(" not in kind})
     short = {whole: name for name, whole in re.findall(r"(?m)^(\w+_code) = (\w+ \(.*\))$", text)}
     lines, module = [], (crate, f"proofs.tables.{table}")
     for name, kind in fields((ROOT / "crates" / crate / f"proofs/tables/{table}.antt").read_text(encoding="utf-8")):

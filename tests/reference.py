@@ -418,6 +418,57 @@ def offer(permission, p, revocation, r, cursor):
     return [truck, cursor if truck == MISSING else truck + 1, windows]
 
 
+# Grids: flag r * columns + c is row r, column c. The digits of a list are its flags as text, flag 0 first.
+
+
+def digits(mask, lent):
+    start, n, _ = mask
+    return bin(piece(lent, start, n) | 1 << n)[:2:-1]
+
+
+def grid_checks(mask, lent, rows, columns):
+    return mask_checks(mask, lent) + [(12, rows * columns == mask[1])]
+
+
+def grid_row(mask, lent, rows, columns, row):
+    start = mask[0] + row * columns
+    placed = rows * columns == mask[1] and row < rows
+    check(grid_checks(mask, lent, rows, columns) + [(6, row < rows), (1, not placed or start <= LIMIT)], mask)
+    return slice_of(mask, lent, row * columns, columns)
+
+
+def of_digits(text, out):
+    """Returns the record of the flags of a text, and the output with their frozen bytes over its front."""
+    return [0, len(text), fresh(len(text))], over(out, words_of(int(text[::-1] or "0", 2), len(text)))
+
+
+def grid_column(mask, lent, rows, columns, column, out):
+    check(grid_checks(mask, lent, rows, columns) + [(6, column < columns)] + room_checks(out, rows))
+    return of_digits(digits(mask, lent)[column::columns], out)
+
+
+def grid_transpose(mask, lent, rows, columns, out):
+    check(grid_checks(mask, lent, rows, columns) + room_checks(out, rows * columns))
+    text = digits(mask, lent)
+    return of_digits("".join(text[column::columns] for column in range(columns if rows else 0)), out)
+
+
+def counted(counts, out):
+    return [len(counts)], counts + out[len(counts) :]
+
+
+def grid_row_zeros(mask, lent, rows, columns, out):
+    check(grid_checks(mask, lent, rows, columns) + [(9, rows <= len(out))])
+    text = digits(mask, lent)
+    return counted([text.count("0", row * columns, (row + 1) * columns) for row in range(rows)], out)
+
+
+def grid_column_zeros(mask, lent, rows, columns, out):
+    check(grid_checks(mask, lent, rows, columns) + [(9, columns <= len(out))])
+    text = digits(mask, lent)
+    return counted([text[column::columns].count("0") for column in range(columns)], out)
+
+
 # Cursors: start, length, place; the one over positions also has whether there is a mask.
 
 

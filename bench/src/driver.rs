@@ -4,7 +4,7 @@ use std::time::Duration;
 
 use crate::cases::spans;
 use crate::inputs::{Input, Kind};
-use crate::timing::{Effort, Side, measure};
+use crate::timing::{Effort, Side, count, measure};
 
 /// The programs compared on one case. `plain` is a word loop by hand, if one makes sense.
 pub struct Sides<'a> {
@@ -21,17 +21,26 @@ pub struct Label<'a> {
     pub length: usize,
 }
 
+/// What is done with the sides of a case once they agree: they are timed, or called between marks.
+#[derive(Clone, Copy, PartialEq)]
+pub enum Mode {
+    Time,
+    TimeQuickly,
+    Count,
+}
+
 /// The settings of a run.
 pub struct Driver {
+    mode: Mode,
     effort: Effort,
     names: Vec<String>,
 }
 
 impl Driver {
     /// Returns a driver of the calls whose name contains one of `names`; of all calls if there are no names.
-    pub fn new(quick: bool, names: Vec<String>) -> Self {
-        let (millis, batches) = if quick { (1, 3) } else { (2, 15) };
-        Driver { effort: Effort { batch: Duration::from_millis(millis), batches }, names }
+    pub fn new(mode: Mode, names: Vec<String>) -> Self {
+        let (millis, batches) = if mode == Mode::TimeQuickly { (1, 3) } else { (2, 15) };
+        Driver { mode, effort: Effort { batch: Duration::from_millis(millis), batches }, names }
     }
 
     /// Returns whether the run has this call.
@@ -39,7 +48,8 @@ impl Driver {
         self.names.is_empty() || self.names.iter().any(|name| call.contains(name.as_str()))
     }
 
-    /// Checks that the sides of a case agree, times each and prints the line: nanoseconds per call, `-` for an absent side.
+    /// Checks that the sides of a case agree, times each and prints the line: nanoseconds per call, `-` for an absent side. To count, it
+    /// prints how many calls were made of each side, and whether the original and the plain loop are there.
     pub fn case(&self, label: Label, sides: Sides) {
         let Label { call, kind, at, length } = label;
         let mut present = vec![sides.ours];
@@ -48,6 +58,12 @@ impl Driver {
         let expected = present[0].answer();
         for other in &mut present[1..] {
             assert!(other.answer() == expected, "the sides differ: {call}, {kind}, {at}, {length} flags");
+        }
+        if self.mode == Mode::Count {
+            let calls = if length <= 1_000 { 100 } else { 1 };
+            count(&mut present, calls);
+            println!("{call}\t{kind}\t{at}\t{length}\t{calls}\t{}\t{}", at_original.is_some(), at_plain.is_some());
+            return;
         }
         let times = measure(&mut present, self.effort);
         let shown = |i: Option<usize>| i.map_or("-".to_string(), |i| format!("{:.2}", times[i]));

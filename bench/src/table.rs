@@ -2,7 +2,7 @@
 
 use std::fs;
 
-use crate::cases::SIZES;
+use crate::cases::{SIZES, STARTS};
 
 const BEGIN: &str = "<!-- the table of bench/run begins -->";
 const END: &str = "<!-- the table of bench/run ends -->";
@@ -76,9 +76,30 @@ fn table(baseline: &[Line], native: &[Line]) -> String {
     text
 }
 
-/// Returns the table of the lines in two files, and how busy the machine was.
+/// Returns the table of the calls on grids: a line for each call and grid, a cell for each start bit.
+fn grids(baseline: &[Line], native: &[Line]) -> String {
+    let starts = STARTS.map(|start| format!("start bit {start}")).join(" | ");
+    let mut text = format!("| call | rows x columns | {starts} |\n|---|---|---|---|\n");
+    let mut cases: Vec<[&str; 2]> = baseline.iter().map(|line| [line.case[0].as_str(), line.case[1].as_str()]).collect();
+    cases.sort_by_key(|case| case[0]);
+    cases.dedup();
+    for [call, kind] in cases {
+        let cells = STARTS.map(|start| {
+            let case = [call.to_string(), kind.to_string(), start.to_string()];
+            let of = |lines: &'_ [Line]| lines.iter().position(|line| line.case == case);
+            of(baseline).map_or(String::new(), |i| cell(&baseline[i], of(native).map(|i| &native[i])))
+        });
+        text += &format!("| {call} | {kind} | {} |\n", cells.join(" | "));
+    }
+    text
+}
+
+/// Returns the tables of the lines in two files, that of grids by itself, and how busy the machine was.
 pub fn make(baseline: &str, native: &str) -> String {
-    format!("{}\n{}\n", table(&lines(baseline), &lines(native)), load())
+    let parts = |file: &str| lines(file).into_iter().partition::<Vec<Line>, _>(|line| line.case[0].starts_with("grid_"));
+    let ((of_grids, others), (of_grids_native, others_native)) = (parts(baseline), parts(native));
+    let shown = if of_grids.is_empty() { String::new() } else { format!("\n{}", grids(&of_grids, &of_grids_native)) };
+    format!("{}{shown}\n{}\n", table(&others, &others_native), load())
 }
 
 fn load() -> String {

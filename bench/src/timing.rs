@@ -122,6 +122,22 @@ pub fn measure(sides: &mut [Box<dyn Side + '_>], effort: Effort) -> Vec<f64> {
     best
 }
 
+/// The place at which callgrind writes what it has counted, and begins anew (`bench/instructions`).
+#[unsafe(no_mangle)]
+#[inline(never)]
+pub extern "C" fn bench_mark() {
+    black_box(());
+}
+
+/// Makes `calls` calls of each side, with a mark before them and after.
+pub fn count(sides: &mut [Box<dyn Side + '_>], calls: u64) {
+    for side in sides {
+        bench_mark();
+        black_box(side.batch(calls));
+        bench_mark();
+    }
+}
+
 /// Returns the number of calls that fill a batch; finding it warms the side up.
 fn calls_for(side: &mut dyn Side, batch: Duration) -> u64 {
     let mut calls = 1;

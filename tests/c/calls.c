@@ -346,6 +346,49 @@ static void position_chunks(void) {
     CHECK(is_step(positions_of(outside, A, 1, 3), 0, 3, 3) && has(all, 3));
 }
 
+/* Tests a grid of 3 rows and 4 columns, grids without flags, and their refusals. */
+static void grids(void) {
+    const uint8_t grid[2] = {0x68, 0xD1}; /* from bit 3: 1,0,1,1 and 0,1,0,0 and 0,1,0,1 */
+    const pw_mask mask = {3, 12, 0, 0, 7};
+    const uint32_t by_row[3] = {1, 3, 2}, by_column[4] = {2, 1, 2, 1};
+    pw_mask_answer row = pw_grid_row(mask, grid, 2, 3, 4, 1);
+    CHECK(row.refusal == 0 && is_mask(row.mask, 7, 4, 0, 0) && row.mask.serial == 7);
+    clean();
+    pw_mask_answer column = pw_grid_column(mask, grid, 2, 3, 4, 1, out, 8);
+    CHECK(column.refusal == 0 && is_mask(column.mask, 0, 3, 0, 0) && column.mask.serial == 7);
+    CHECK(holds_word(0x06));
+    clean();
+    pw_mask_answer turned = pw_grid_transpose(mask, grid, 2, 3, 4, out, 8);
+    CHECK(turned.refusal == 0 && is_mask(turned.mask, 0, 12, 0, 0) && turned.mask.serial == 7);
+    uint8_t back[8];
+    CHECK(pw_grid_transpose(turned.mask, out, 8, 4, 3, back, 8).refusal == 0);
+    CHECK(pw_eq(mask, grid, 2, turned.mask, back, 8).value && out[8] == 0xEE);
+    for (int i = 0; i < ROOM; i++) room[i] = 99;
+    pw_number_answer counted = pw_grid_row_zeros(mask, grid, 2, 3, 4, room, ROOM);
+    CHECK(counted.refusal == 0 && counted.value == 3 && has(by_row, 3));
+    for (int i = 0; i < ROOM; i++) room[i] = 99;
+    counted = pw_grid_column_zeros(mask, grid, 2, 3, 4, room, 4);
+    CHECK(counted.refusal == 0 && counted.value == 4 && has(by_column, 4));
+
+    const pw_mask none = {0, 0, 0, 0, 0}; /* no flags: any number of rows, or of columns */
+    const size_t most = (size_t)1 << 60;
+    CHECK(pw_grid_row(none, NULL, 0, most, 0, most - 1).refusal == 0);
+    CHECK(pw_grid_row(none, NULL, 0, most, 0, most).refusal == PW_REFUSED_OUTSIDE_MASK);
+    turned = pw_grid_transpose(none, NULL, 0, 0, most, NULL, 0);
+    CHECK(turned.refusal == 0 && is_mask(turned.mask, 0, 0, 0, 1));
+    for (int i = 0; i < ROOM; i++) room[i] = 99;
+    CHECK(pw_grid_row_zeros(none, NULL, 0, most, 0, room, ROOM).refusal == PW_REFUSED_OUTPUT_TOO_SMALL && has(NULL, 0));
+    /* the product of these is 12 only modulo 2^64 */
+    CHECK(pw_grid_row(mask, grid, 2, ((size_t)1 << 63) + 6, 2, 0).refusal == PW_REFUSED_NOT_A_GRID);
+
+    clean();
+    CHECK(pw_grid_column(mask, grid, 2, 3, 4, 4, out, 8).refusal == PW_REFUSED_OUTSIDE_MASK);
+    CHECK(pw_grid_column(mask, grid, 2, 3, 4, 3, out, 7).refusal == PW_REFUSED_OUTPUT_TOO_SMALL);
+    CHECK(pw_grid_transpose(mask, grid, 2, 4, 4, out, 7).refusal == PW_REFUSED_NOT_A_GRID);
+    CHECK(pw_grid_column_zeros(mask, grid, 2, 3, 4, room, 3).refusal == PW_REFUSED_OUTPUT_TOO_SMALL && has(NULL, 0));
+    CHECK(untouched());
+}
+
 static void at_one_index(void) {
     const uint8_t other[1] = {0x04};
     CHECK(pw_and_not_at(true, MASK_A, A, 1, true, MASK_A, other, 1, 0).value);
@@ -471,6 +514,7 @@ int main(void) {
     combinations();
     cursors();
     position_chunks();
+    grids();
     at_one_index();
     dispatch();
     offering();

@@ -4,6 +4,7 @@ pub mod builders;
 pub mod combinations;
 pub mod counts;
 pub mod cursors;
+pub mod grids;
 pub mod minutes;
 pub mod searches;
 

@@ -2,10 +2,10 @@
 //! proved against its contract.
 //!
 //! A [`Bitmap`] is made from bytes, from flags or by a [`BitmapBuilder`]. It can be sliced, combined with others, counted, searched
-//! and iterated over. [`may_reassign`] answers for one truck, [`offer`] returns the next one. An [`ActivityWindow`] counts in how many
-//! of the last minutes each truck was busy. The names are those of polars-arrow's bitmap module, of which the library is a port. A call
-//! that cannot be carried out returns a [`Refusal`], which has a number and a message, and has changed nothing; operators and conversions
-//! panic instead.
+//! and iterated over. A [`Grid`] has the flags of a mask in rows and columns, as pits by trucks. [`may_reassign`] answers for one truck,
+//! [`offer`] returns the next one. An [`ActivityWindow`] counts in how many of the last minutes each truck was busy. The names are those
+//! of polars-arrow's bitmap module, of which the library is a port. A call that cannot be carried out returns a [`Refusal`], which has a
+//! number and a message, and has changed nothing; operators and conversions panic instead.
 //!
 //! ```
 //! use poruwhina::{Bitmap, BitmapBuilder, Permission, may_reassign};
@@ -40,9 +40,9 @@
 //! - **The bytes are never altered.** A `Bitmap` takes them by value, lends them only as `&[u8]` and has no method that writes
 //!   them. Clones and slices share them in a private [`Arc`](std::sync::Arc).
 //! - **A known count is exact.** It comes from the library's own answers for these bytes. A caller cannot reach the field, and a
-//!   stated count ([`Bitmap::try_from_counted_span`]) is refused unless it is exact. So every call except `slice` is passed the mask
-//!   without its count, and does not count again. Of their answers only the count in the record of `superseding` would differ; the
-//!   crate keeps the winner's own instead.
+//!   stated count ([`Bitmap::try_from_counted_span`]) is refused unless it is exact. So every call except `slice` and `grid_row` is
+//!   passed the mask without its count, and does not count again. Of their answers only the count in the record of `superseding` would
+//!   differ; the crate keeps the winner's own instead.
 //!
 //! In addition, the crate does for each call what its caller must do:
 //!
@@ -105,8 +105,9 @@
 //!
 //! The Rust of this crate is not proved. It keeps records and bytes, keeps the positions that a call returned until they are requested,
 //! allocates memory, and computes the number of bytes for a number of flags. It subtracts the zeros from the length for
-//! [`Bitmap::set_bits`] and a place from a length for the iterators' `size_hint`, ends a round of [`offers`] at its first truck, and makes
-//! `Option`, `Result` and text from answers. It never reads or writes a flag itself. The README lists what else must be believed.
+//! [`Bitmap::set_bits`] and a place from a length for the iterators' `size_hint`, multiplies a row of a [`Grid`] by the columns if the row
+//! would start above the limit, ends a round of [`offers`] at its first truck, and makes `Option`, `Result` and text from answers. It never
+//! reads or writes a flag itself. The README lists what else must be believed.
 //!
 //! # What a call costs
 //!
@@ -135,6 +136,7 @@ mod bitmap;
 mod builder;
 pub mod calls;
 mod dispatch;
+mod grid;
 mod iterator;
 mod offer;
 mod refusal;
@@ -143,6 +145,7 @@ pub use activity::ActivityWindow;
 pub use bitmap::Bitmap;
 pub use builder::BitmapBuilder;
 pub use dispatch::{Permission, may_reassign};
+pub use grid::{Grid, RowIter};
 pub use iterator::{BitChunks, BitmapIter, SlicesIterator, TrueIdxIter};
 pub use offer::{Offer, Offers, offer, offers};
 pub use refusal::Refusal;

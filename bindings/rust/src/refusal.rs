@@ -41,19 +41,22 @@ pub enum Refusal {
     ImpossibleBuilder = 4,
     /// 5: the masks combined, or a mask and the length stated for it, differ in length.
     UnequalLengths = 5,
-    /// 6: a slice's end, a split point or a cursor's place is above the length, an index or a truck is not below it, or a pushed word
-    /// has more than 64 flags or a bit set after them.
+    /// 12: rows * columns, computed exactly, is not the length of the mask.
+    NotAGrid = 12,
+    /// 6: a slice's end, a split point or a cursor's place is above the length, an index or a truck is not below it, a row or a column
+    /// is not below the number of rows or of columns, or a pushed word has more than 64 flags or a bit set after them.
     OutsideMask = 6,
     /// 7: when a slice recounts, the known count is below the zeros cut off, or the rest of it is above the new length. No call
     /// returns this number: a known count is exact, since check 3 comes first.
     CountNotOfSlice = 7,
     /// 8: the address remainder is above 7.
     AddressRemainder = 8,
-    /// 9: the output, or the builder's buffer, has fewer than 8 * ceil(new length / 64) bytes.
+    /// 9: the output, or the builder's buffer, has fewer than 8 * ceil(new length / 64) bytes, or the output of counts has fewer
+    /// places than there are counts.
     OutputTooSmall = 9,
 }
 
-const ALL: [Refusal; 11] = [
+const ALL: [Refusal; 12] = [
     Refusal::ImpossibleWindow,
     Refusal::AboveLimit,
     Refusal::OutsideBytes,
@@ -61,6 +64,7 @@ const ALL: [Refusal; 11] = [
     Refusal::SerialConflict,
     Refusal::ImpossibleBuilder,
     Refusal::UnequalLengths,
+    Refusal::NotAGrid,
     Refusal::OutsideMask,
     Refusal::CountNotOfSlice,
     Refusal::AddressRemainder,
@@ -99,10 +103,11 @@ impl Refusal {
             Refusal::SerialConflict => "the masks have equal serials and different flags",
             Refusal::ImpossibleBuilder => "the builder is not possible: its word, ones or buffer do not fit its length",
             Refusal::UnequalLengths => "the masks combined, or a mask and the length stated for it, are not equal in length",
+            Refusal::NotAGrid => "rows * columns is not the length of the mask",
             Refusal::OutsideMask => "the inner piece does not lie in its mask",
             Refusal::CountNotOfSlice => "the known count is below the zeros cut off, or the rest above the new length",
             Refusal::AddressRemainder => "the address remainder is above 7",
-            Refusal::OutputTooSmall => "the output does not hold 8 * ceil(new length / 64) bytes",
+            Refusal::OutputTooSmall => "the output does not hold 8 * ceil(new length / 64) bytes, or all counts",
         }
     }
 }

@@ -3,13 +3,14 @@
 
 use crate::arguments::Args;
 use crate::calls::{Lents, Output, Reply, plainly};
-use model::{builder, combine, dispatch, loops, mask, next, spans, superseding, words};
+use model::{builder, combine, dispatch, grids, loops, mask, next, spans, superseding, words};
 
 /// Returns the answer of the call if a function of the model has its name.
 pub fn answer(name: &str, a: &mut Args, l: &mut Lents) -> Option<Reply> {
     of_builder(name, a, l)
         .or_else(|| of_combine(name, a, l))
         .or_else(|| of_dispatch(name, a, l))
+        .or_else(|| of_grids(name, a, l))
         .or_else(|| of_loops(name, a, l))
         .or_else(|| of_mask(name, a, l))
         .or_else(|| of_next(name, a, l))
@@ -53,6 +54,17 @@ fn of_combine(name: &str, a: &mut Args, l: &mut Lents) -> Option<Reply> {
 fn of_dispatch(name: &str, a: &mut Args, l: &mut Lents) -> Option<Reply> {
     Some(match name {
         "may_reassign" => plainly(dispatch::may_reassign(a.lent_or_none(l.x), a.lent_or_none(l.y), a.number()), 0, Output::None),
+        _ => return None,
+    })
+}
+
+fn of_grids(name: &str, a: &mut Args, l: &mut Lents) -> Option<Reply> {
+    Some(match name {
+        "grid_row" => plainly(grids::grid_row(a.lent(l.x), a.number(), a.number(), a.number()), 0, Output::None),
+        "grid_column" => plainly(grids::grid_column(a.lent(l.x), a.number(), a.number(), a.number(), l.o), 0, Output::Bytes),
+        "grid_transpose" => plainly(grids::grid_transpose(a.lent(l.x), a.number(), a.number(), l.o), 0, Output::Bytes),
+        "grid_row_zeros" => plainly(grids::grid_row_zeros(a.lent(l.x), a.number(), a.number(), l.i), 0, Output::Numbers),
+        "grid_column_zeros" => plainly(grids::grid_column_zeros(a.lent(l.x), a.number(), a.number(), l.i), 0, Output::Numbers),
         _ => return None,
     })
 }

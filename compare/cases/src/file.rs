@@ -9,6 +9,9 @@ use std::fmt::Write;
 /// The longest output that is written byte by byte; a longer one is written as its checksum.
 const SHOWN: usize = 56;
 
+/// The longest text of an output of numbers; numbers with a longer one are written as their checksum.
+const COUNTED: usize = 4096;
+
 /// How many requests a call has, how many single calls these make, and how many of those are refused.
 #[derive(Clone, Copy, Default)]
 pub struct Tally {
@@ -61,11 +64,15 @@ impl File {
     /// Lends a pattern repeated up to a size as x, y, z or o.
     pub fn lend_pattern(&mut self, letter: char, pattern: &[u8], size: usize) {
         let bytes: Vec<u8> = pattern.iter().copied().cycle().take(size).collect();
-        let mut text = format!("{}*{}", hex(pattern), size / pattern.len());
-        if !size.is_multiple_of(pattern.len()) {
-            write!(text, " {}", hex(&pattern[..size % pattern.len()])).unwrap();
+        let (times, rest) = (size / pattern.len(), size % pattern.len());
+        let mut pieces = Vec::new();
+        if times > 0 {
+            pieces.push(format!("{}*{times}", hex(pattern)));
         }
-        self.lend_pieces(letter, &bytes, &text);
+        if rest > 0 {
+            pieces.push(hex(&pattern[..rest]));
+        }
+        self.lend_pieces(letter, &bytes, &pieces.join(" "));
     }
 
     fn lend_pieces(&mut self, letter: char, bytes: &[u8], text: &str) {
@@ -133,8 +140,7 @@ impl File {
         match reply.output {
             Output::None => answer,
             Output::Bytes => format!("{answer} | {}", after(&self.bytes[3], &bytes)),
-            Output::Numbers if numbers == self.numbers => format!("{answer} | same"),
-            Output::Numbers => format!("{answer} | {}", counted(&numbers)),
+            Output::Numbers => format!("{answer} | {}", numbers_after(&self.numbers, &numbers)),
         }
     }
 
@@ -221,6 +227,20 @@ fn after(before: &[u8], bytes: &[u8]) -> String {
     }
     let mut sum = Checksum::new();
     sum.take_bytes(bytes);
+    format!("#x{:x}", sum.0)
+}
+
+/// Returns the text of an output of numbers after a call: `same`, its pieces or its checksum.
+fn numbers_after(before: &[u32], numbers: &[u32]) -> String {
+    if before == numbers {
+        return "same".to_string();
+    }
+    let text = counted(numbers);
+    if text.len() <= COUNTED {
+        return text;
+    }
+    let mut sum = Checksum::new();
+    numbers.iter().for_each(|&number| sum.take(number.into()));
     format!("#x{:x}", sum.0)
 }
 

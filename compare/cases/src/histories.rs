@@ -1,6 +1,6 @@
 //! Histories: forty that end in one list, as spans of bytes, as whole words and parts of them, by every append, slice and combination,
-//! from other lists too, with refused calls in between; five that begin with an imported mask and end in the same list; and ten whose
-//! lists freeze to equal bytes and differ in length.
+//! from other lists too, with refused calls in between; five that begin with an imported mask and end in the same list; six that end in it
+//! by way of grids; and ten whose lists freeze to equal bytes and differ in length.
 //!
 //! A step is a letter and three numbers x, y and z of three digits; 999 means one past the flag limit. The bytes of `lent` serve all.
 //!
@@ -17,6 +17,7 @@
 //!     h  opt_gather_extend_from_slice: as g, with 0 for an index of 100 or more
 //!     f  freeze     v  into_opt_validity     s  slice: y flags starting at x     u  unset_bits
 //!     a and, d and_not, o or, q or_not, x xor, n not, i select, j and k select_constant with 0 and with 1
+//!     y grid_row, z grid_column: number z of a grid of x rows and y columns; ^ grid_transpose of such a grid
 //!
 //! Each digit of z is the mask of one argument of a combination: 0 the history's own; then, over the lent bytes and as long as the own
 //! one, 1 starting at x, 2 starting at x and counted, 3 starting at y, 4 starting at y and counted; and two that are refused, 5 starting
@@ -78,6 +79,15 @@ const IMPORTED: [&str; 5] = [
     "l020200000 n000000000 s017100000 K512000010 n000000000",
 ];
 
+const GRIDS: [&str; 6] = [
+    "t037100000 ^010010000 ^010010000",
+    "t037100000 ^004025000 ^999001000 ^003025000 z025004004 ^025004000 y001100000 u000000000",
+    "t037200000 y002100000 y002100001",
+    "t037200000 u000000000 ^002100000 Z100002000 z100002002 y100002100 z100002000",
+    "l037100001 y001100000 ^050002000 ^002050000",
+    "e037100000 f000000000 ^020005000 n000000000 ^005020000 n000000000",
+];
+
 const ZEROS: [&str; 6] = [
     "c001000000 f000000000",
     "c002000000 f000000000",
@@ -101,6 +111,8 @@ pub fn write(f: &mut File) {
     assert!(target.iter().all(|told| *told == target[0]), "a history that ends in another list");
     f.note("histories: five that begin with an imported mask and end in the same list");
     assert!(IMPORTED.iter().all(|steps| told(f, steps) == target[0]), "an imported history that ends in another list");
+    f.note("histories: six that end in it by way of grids");
+    assert!(GRIDS.iter().all(|steps| told(f, steps) == target[0]), "a history by way of grids that ends in another list");
     for (note, group) in [("lists of zeros", &ZEROS[..]), ("lists that end in zeros", &ZEROS_BEHIND)] {
         f.note(&format!("histories: {note}, which freeze alike and differ in length"));
         let lists: Vec<String> = group.iter().map(|steps| told(f, steps)).collect();
@@ -162,6 +174,7 @@ impl History<'_> {
                 self.f.ask(&if letter == 's' { format!("slice {mask} {x} {y}") } else { format!("unset_bits {mask}") });
                 self.took(false);
             }
+            'y' | 'z' | '^' => self.grid(letter, size, [x, y, z]),
             'f' | 'v' => {
                 self.f.ask(&format!("+ {} @3{size}", if letter == 'f' { "freeze" } else { "into_opt_validity" }));
                 self.took(true);
@@ -258,7 +271,24 @@ impl History<'_> {
         }
     }
 
-    /// Asks for the frozen bytes, the zeros, the runs, and flags and positions by their numbers; returns the frozen bytes and the length.
+    fn grid(&mut self, letter: char, size: &str, [rows, columns, number]: [u64; 3]) {
+        let (own, other) = (self.own.clone(), self.other.clone());
+        self.f.lend('x', &own);
+        self.f.lend('o', &other);
+        let grid = format!("{} {rows} {columns}", self.own_mask());
+        self.f.ask(&match letter {
+            'y' => format!("grid_row {grid} {number}"),
+            'z' => format!("grid_column {grid} {number}{size}"),
+            _ => format!("grid_transpose {grid}{size}"),
+        });
+        if self.f.last[0] == Token::Number(0) && letter != 'y' {
+            self.other = own;
+        }
+        self.took(letter != 'y');
+    }
+
+    /// Asks for the frozen bytes, the zeros, the runs, flags and positions by their numbers, and 100 flags as a grid of 4 rows; returns the
+    /// frozen bytes and the length.
     fn end(&mut self) -> String {
         let own = self.own.clone();
         self.f.lend('x', &own);
@@ -278,6 +308,14 @@ impl History<'_> {
         self.f.ask("nth @3 0..103,xffffffffffffffff");
         for name in ["nth_set_bit_idx", "nth_set_bit_idx_rev"] {
             self.f.ask(&format!("{name} {start} {length} 0..60 0,37,64,{length},xffffffffffffffff"));
+        }
+        if length == Token::Number(100) {
+            self.f.lend_numbers(&[7; 26]);
+            self.f.ask(&format!("grid_row {mask} 4 25 0..5"));
+            self.f.ask(&format!("grid_column {mask} 4 25 0..26"));
+            self.f.ask(&format!("grid_transpose {mask} 4 25"));
+            self.f.ask(&format!("grid_row_zeros {mask} 4 25"));
+            self.f.ask(&format!("grid_column_zeros {mask} 4 25"));
         }
         format!("{frozen} {length}")
     }

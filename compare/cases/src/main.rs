@@ -16,6 +16,7 @@ mod combinations;
 mod cursors;
 mod dispatch;
 mod file;
+mod grids;
 mod histories;
 mod masks;
 mod minutes;
@@ -79,6 +80,7 @@ fn requests() -> File {
     cursors::write(&mut file);
     dispatch::write(&mut file);
     offers::write(&mut file);
+    grids::write(&mut file);
     several::write(&mut file);
     serials::write(&mut file);
     histories::write(&mut file);

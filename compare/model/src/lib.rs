@@ -9,6 +9,7 @@ mod checks;
 pub mod combine;
 pub mod cursors;
 pub mod dispatch;
+pub mod grids;
 pub mod loops;
 pub mod mask;
 pub mod next;

@@ -1,4 +1,4 @@
-//! The calls of words, activity, masks and dispatch as functions that C and Rust link. Records are passed as numbers, a slice as its
+//! The calls of words, activity, masks, grids and dispatch as functions that C and Rust link. Records are passed as numbers, a slice as its
 //! pointer and its number of elements; include/poruwhina.h declares all the functions.
 //!
 //! This crate only converts: each export makes the call's records from its numbers, makes the call, and makes numbers from the answer. Each
@@ -12,6 +12,7 @@ pub mod builder;
 pub mod chunks;
 pub mod combine;
 pub mod cursors;
+pub mod grid;
 pub mod interface;
 pub mod mask;
 pub mod next_and_not;

@@ -16,10 +16,11 @@ use masks::bitmap::{Bitmap, Recounted};
 use masks::compare::{eq, num_edges, num_intersections_with};
 use masks::refusal::Refused;
 
-// Returns the answer of a slice; a refused one has `came`, the export's own record, with every number unchanged. The `Bitmap` in `Refused`
-// will not do: it has lost `zeros` if `known` is 0. Since `came` is a second argument, this function and the next are no `From`.
+// Returns the answer of a slice or of a row of a grid; a refused one has `came`, the export's own record, with every number unchanged.
+// The `Bitmap` in `Refused` will not do: it has lost `zeros` if `known` is 0. Since `came` is a second argument, this function and the
+// next are no `From`.
 #[tactic(auto, unfolding(crate::specs::Answers::as_same_mask))]
-fn sliced_out(came: Mask, r: Result<Bitmap, Refused<Bitmap>>) -> MaskAnswer
+pub(crate) fn sliced_out(came: Mask, r: Result<Bitmap, Refused<Bitmap>>) -> MaskAnswer
     ensures { result ≡ as_same_mask came (answer_back r) }
 {
     match r {

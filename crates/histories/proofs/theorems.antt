@@ -1,5 +1,6 @@
 -- The theorems, which no function needs.
 pub mod Combinations
+pub mod GridsAlike
 pub mod Histories
 pub mod HistoryTheorem
 pub mod RunLists

@@ -2,8 +2,8 @@
 --
 -- Written from the reference and Arrow's numbering: `flag_at bytes j` is bit j mod 8 of byte j div 8, `bit_at w j` is bit j of w. This file
 -- has no definition that the contract of a history's call cites; `ReferenceLaws` proves that both say the same.
-use Rattle.std.specs.Prelude.{ℕ, zero, suc, ◌+◌, Bool, false, cond, not, ◌&&◌, ◌||◌, ltb, drop, replicate, take}
-use mathlib.Core.List.{List, [], ◌∷◌, flat_map, map, zip, zip_with}
+use Rattle.std.specs.Prelude.{ℕ, zero, suc, ◌+◌, ◌*◌, Bool, false, cond, not, ◌&&◌, ◌||◌, ltb, drop, replicate, take}
+use mathlib.Core.List.{List, [], ◌∷◌, ◌++◌, flat_map, map, zip, zip_with}
 use Rattle.words.specs.Flags.{bit_at, flag_at}
 use Rattle.masks.specs.equations.Appends.{Append, push_flag, extend_constant, push_word, extend_slice}
 use Rattle.masks.specs.equations.Appends.{extend_repeated, extend_bitmap, extend_gather, extend_opt_gather}
@@ -65,3 +65,22 @@ selected s t f = zip_with (λ (x : Bool) (p : Bool × Bool). cond x p.0 p.1) s (
 -- `select_constant` takes the flag of the second list if that of the first is set, else the constant c
 abbrev pub selected_or : Bool → List Bool → List Bool → List Bool
 selected_or c s t = zip_with (λ (x y : Bool). cond x y c) s t
+
+-- ---- a list of flags as a grid, row after row
+
+-- row r: as many flags as there are columns, after those of the rows before it
+abbrev pub row_of : ℕ → ℕ → List Bool → List Bool
+row_of columns r l = piece (r * columns) columns l
+
+-- n flags: the first one, and then every step-th
+abbrev pub every_nth : ℕ → ℕ → List Bool → List Bool
+every_nth step zero l = []
+every_nth step (suc n) l = take 1 l ++ every_nth step n (drop step l)
+
+-- column c: from flag c on every columns-th, one for each row
+abbrev pub column_of : ℕ → ℕ → ℕ → List Bool → List Bool
+column_of rows columns c l = every_nth columns rows (drop c l)
+
+-- rows and columns exchanged: the columns, one after another
+abbrev pub exchanged : ℕ → ℕ → List Bool → List Bool
+exchanged rows columns l = flat_map (λ (c : ℕ). column_of rows columns c l) (up_from 0 columns)

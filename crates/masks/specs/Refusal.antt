@@ -3,7 +3,8 @@ use Rattle.std.specs.Prelude.{ℕ, List, ◌++◌, Result, Ok, Err, codes, decim
 use Rattle.masks.specs.declared.refusal.Refusal.{Refusal}
 use Rattle.masks.specs.declared.refusal.Refused.{Refused}
 use Rattle.masks.specs.declared.refusal.Refusal.TheVariants.{AboveLimit, OutsideBytes, FalseCount, SerialConflict, ImpossibleBuilder}
-use Rattle.masks.specs.declared.refusal.Refusal.TheVariants.{UnequalLengths, OutsideMask, CountNotOfSlice, AddressRemainder, OutputTooSmall}
+use Rattle.masks.specs.declared.refusal.Refusal.TheVariants.{UnequalLengths, NotAGrid, OutsideMask, CountNotOfSlice, AddressRemainder}
+use Rattle.masks.specs.declared.refusal.Refusal.TheVariants.{OutputTooSmall}
 
 abbrev pub number : Refusal → ℕ
 number AboveLimit = 1
@@ -12,6 +13,7 @@ number FalseCount = 3
 number SerialConflict = 14
 number ImpossibleBuilder = 4
 number UnequalLengths = 5
+number NotAGrid = 12
 number OutsideMask = 6
 number CountNotOfSlice = 7
 number AddressRemainder = 8
@@ -35,10 +37,11 @@ reason FalseCount = codes "a known zero count is not the number of zeros"
 reason SerialConflict = codes "the masks have equal serials and different flags"
 reason ImpossibleBuilder = codes "the builder is not possible: its word, ones or buffer do not fit its length"
 reason UnequalLengths = codes "the masks combined, or a mask and the length stated for it, are not equal in length"
+reason NotAGrid = codes "rows * columns is not the length of the mask"
 reason OutsideMask = codes "the inner piece does not lie in its mask"
 reason CountNotOfSlice = codes "the known count is below the zeros cut off, or the rest above the new length"
 reason AddressRemainder = codes "the address remainder is above 7"
-reason OutputTooSmall = codes "the output does not hold 8 * ceil(new length / 64) bytes"
+reason OutputTooSmall = codes "the output does not hold 8 * ceil(new length / 64) bytes, or all counts"
 
 -- the text of a refusal
 abbrev pub said : Refusal → List ℕ

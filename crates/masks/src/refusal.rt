@@ -24,15 +24,18 @@ pub enum Refusal {
     ImpossibleBuilder,
     /// 5: the masks combined, or a mask and the length stated for it, differ in length.
     UnequalLengths,
-    /// 6: a slice's end, a split point or a cursor's place is above the length, an index or a truck is not below it, or a pushed word has
-    /// more than 64 flags or a bit set after them.
+    /// 12: rows * columns, computed exactly, is not the length of the mask.
+    NotAGrid,
+    /// 6: a slice's end, a split point or a cursor's place is above the length, an index or a truck is not below it, a row or a column is
+    /// not below the number of rows or of columns, or a pushed word has more than 64 flags or a bit set after them.
     OutsideMask,
     /// 7: when a slice recounts, the known count is below the zeros cut off, or the rest of it is above the new length. No call returns
     /// this number: a known count is exact, since check 3 comes first.
     CountNotOfSlice,
     /// 8: the address remainder is above 7.
     AddressRemainder,
-    /// 9: the output, or the builder's buffer, has fewer than 8 * ceil(new length / 64) bytes.
+    /// 9: the output, or the builder's buffer, has fewer than 8 * ceil(new length / 64) bytes, or the output of counts has fewer places
+    /// than there are counts.
     OutputTooSmall,
 }
 
@@ -52,12 +55,15 @@ impl Refusal {
             Refusal::UnequalLengths => {
                 "the masks combined, or a mask and the length stated for it, are not equal in length"
             }
+            Refusal::NotAGrid => "rows * columns is not the length of the mask",
             Refusal::OutsideMask => "the inner piece does not lie in its mask",
             Refusal::CountNotOfSlice => {
                 "the known count is below the zeros cut off, or the rest above the new length"
             }
             Refusal::AddressRemainder => "the address remainder is above 7",
-            Refusal::OutputTooSmall => "the output does not hold 8 * ceil(new length / 64) bytes",
+            Refusal::OutputTooSmall => {
+                "the output does not hold 8 * ceil(new length / 64) bytes, or all counts"
+            }
         }
     }
 
@@ -84,6 +90,7 @@ impl From<Refusal> for u8 {
             Refusal::SerialConflict => 14,
             Refusal::ImpossibleBuilder => 4,
             Refusal::UnequalLengths => 5,
+            Refusal::NotAGrid => 12,
             Refusal::OutsideMask => 6,
             Refusal::CountNotOfSlice => 7,
             Refusal::AddressRemainder => 8,
@@ -140,9 +147,9 @@ pub fn earlier(a: Result<(), Refusal>, b: Result<(), Refusal>) -> Result<(), Ref
     }
 }
 
-// Refuses with `refusal` unless the check holds.
-pub(crate) fn check(refusal: Refusal, holds: bool) -> Result<(), Refusal>
-    ensures { failure_of result ≡ cond holds 0 (number refusal) }
+/// Refuses with `refusal` unless the check holds.
+pub fn check(refusal: Refusal, holds: bool) -> Result<(), Refusal>
+    ensures refused { failure_of result ≡ cond holds 0 (number refusal) }
 {
     if holds { Ok(()) } else { Err(refusal) }
 }

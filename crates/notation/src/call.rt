@@ -27,6 +27,7 @@ pub enum Call {
     List(ListCall),
     Minutes(MinutesCall),
     Search(SearchCall),
+    Grid(GridCall),
 }
 
 /// Calls on words only.
@@ -122,6 +123,7 @@ pub enum MaskCall {
     Slice,
     UnsetBits,
     NumEdges,
+    GridRow,
 }
 
 /// Calls on two masks, over x and y, that write nothing.
@@ -221,6 +223,8 @@ pub enum GatherCall {
 pub enum ListCall {
     NextChunk,
     Counts,
+    GridRowZeros,
+    GridColumnZeros,
 }
 
 /// Calls that write a window of minutes, whose arrays are o.
@@ -236,4 +240,11 @@ pub enum MinutesCall {
 pub enum SearchCall {
     NextAndNot,
     Offer,
+}
+
+/// Calls on a grid of one mask that write o.
+#[derive(Clone, Copy, Debug, PartialEq, Eq)]
+pub enum GridCall {
+    GridColumn,
+    GridTranspose,
 }

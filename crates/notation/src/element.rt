@@ -10,7 +10,7 @@ use crate::sums::Checksum;
 use std::alloc::{AllocError, Global};
 
 pub(crate) trait Element: Copy + PartialEq {
-    // At most this many are lent; of bytes, those of 4,194,304 flags and 64 more.
+    // At most this many are lent: of bytes, those of 4,194,304 flags and 64 more; of numbers, a count for each of 65,536 rows or columns.
     const ROOM: usize;
 
     // Reads a list of them, None if it has more than the room.
@@ -46,7 +46,7 @@ impl Element for u8 {
 }
 
 impl Element for u32 {
-    const ROOM: usize = 4096;
+    const ROOM: usize = 65536;
 
     fn read(
         alloc: Global,

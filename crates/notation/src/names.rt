@@ -1,8 +1,8 @@
 //! The calls by name, in the order in which they are printed.
 use crate::call::{
     BitsCall, BuilderCall, Call, ChunksCall, CountCall, CursorCall, ExtendCall, FlagsCall,
-    GatherCall, ListCall, LoadCall, MaskCall, MergeCall, MinutesCall, OperationCall, PairCall,
-    SearchCall, SelectCall, SpanCall, StoreCall, SupersedingCall, WordCall, ZipCall,
+    GatherCall, GridCall, ListCall, LoadCall, MaskCall, MergeCall, MinutesCall, OperationCall,
+    PairCall, SearchCall, SelectCall, SpanCall, StoreCall, SupersedingCall, WordCall, ZipCall,
 };
 
 /// What a call writes: the bytes o, the numbers i, or none of them.
@@ -25,7 +25,7 @@ pub struct Named {
 // The number of calls: the length of `NAMES`, and of the rows of a tally, which are in the same order. The two are no single array: the
 // table is constant, the rows count. A call is known by its place, so that a row is found without a search and the rows are printed in the
 // order of the table, which a map would not keep.
-pub(crate) const CALLS: usize = 101;
+pub(crate) const CALLS: usize = 106;
 
 macro_rules! names {
     ($($name:literal $arguments:literal $output:ident $call:expr;)*) => {
@@ -136,6 +136,11 @@ pub(crate) static NAMES: [Named; CALLS] = names![
     "push_minutes" 6 Bytes Call::Minutes(MinutesCall::PushMinutes);
     "next_and_not" 8 Nothing Call::Search(SearchCall::NextAndNot);
     "offer" 9 Nothing Call::Search(SearchCall::Offer);
+    "grid_row" 6 Nothing Call::Mask(MaskCall::GridRow);
+    "grid_column" 6 Bytes Call::Grid(GridCall::GridColumn);
+    "grid_transpose" 5 Bytes Call::Grid(GridCall::GridTranspose);
+    "grid_row_zeros" 5 Numbers Call::List(ListCall::GridRowZeros);
+    "grid_column_zeros" 5 Numbers Call::List(ListCall::GridColumnZeros);
 ];
 
 // Returns the name at a place, which a tally's row holds.

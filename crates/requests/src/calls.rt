@@ -5,7 +5,9 @@
 //! The allocator and the arguments are two parameters of all these functions: `tokens` takes only the first and `values` only the second,
 //! so that a struct of both would be taken apart in each body.
 use crate::tokens::Answered;
-use crate::{builder_calls, cursor_calls, mask_calls, minute_calls, span_calls, words_calls};
+use crate::{
+    builder_calls, cursor_calls, grid_calls, mask_calls, minute_calls, span_calls, words_calls,
+};
 use notation::arguments::Arguments;
 use notation::call::{Call, ListCall};
 use notation::last;
@@ -49,6 +51,7 @@ pub(crate) fn answer(
         Call::Gather(call) => builder_calls::gather_answer(alloc, call, a, x, i, out),
         Call::Minutes(call) => minute_calls::minutes_answer(alloc, call, a, out),
         Call::List(call) => list_answer(alloc, call, a, x, numbers),
+        Call::Grid(call) => grid_calls::grid_answer(alloc, call, a, x, out),
     }
 }
 
@@ -63,5 +66,7 @@ fn list_answer(
     match call {
         ListCall::NextChunk => cursor_calls::chunk_answer(alloc, a, x, numbers),
         ListCall::Counts => minute_calls::counts_answer(alloc, a, x, numbers),
+        ListCall::GridRowZeros => grid_calls::row_zeros_answer(alloc, a, x, numbers),
+        ListCall::GridColumnZeros => grid_calls::column_zeros_answer(alloc, a, x, numbers),
     }
 }

@@ -1,6 +1,6 @@
-//! The calls over masks: makers, slices, combinations, comparisons, searches, and those of dispatch.
+//! The calls over masks: makers, slices, combinations, comparisons, searches, a row of a grid, and those of dispatch.
 use crate::tokens::Answered;
-use crate::{tokens, values};
+use crate::{grid_calls, tokens, values};
 use dispatch::offer::offer;
 use dispatch::reassign::may_reassign;
 use masks::at_index::and_not_at;
@@ -22,6 +22,7 @@ pub(crate) fn mask_answer(alloc: Global, call: MaskCall, a: &Arguments, x: &[u8]
         MaskCall::Slice => tokens::answer_back(alloc, m.slice(x, a.size(3), a.size(4))),
         MaskCall::UnsetBits => tokens::answer_back(alloc, m.unset_bits(x)),
         MaskCall::NumEdges => tokens::answer(alloc, compare::num_edges(m, x)),
+        MaskCall::GridRow => tokens::answer_back(alloc, grid_calls::row_answer(m, a, x)),
     }
 }
 

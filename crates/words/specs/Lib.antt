@@ -8,5 +8,7 @@ pub mod Loops
 pub mod Merge
 pub mod Nth
 pub mod Ops
+pub mod Place
 pub mod Planes
+pub mod Transpose
 pub mod Uniform

@@ -224,7 +224,7 @@ impl Bitmap {
         }
         let answer = calls::slice(self.counted_record(), self.bytes(), offset, length);
         check(answer.refusal)?;
-        Ok(Bitmap::from_record(Arc::clone(&self.bytes), self.offset, answer.mask))
+        Ok(self.over_its_bytes(answer.mask))
     }
 
     /// Keeps only the `length` flags that start at `offset`. Refused with 1 or 6 if they are not all in the mask, which is then unchanged.
@@ -278,8 +278,13 @@ impl Bitmap {
         calls::Mask { start: self.start, length: self.length, zeros: 0, known: 0, serial: self.serial }
     }
 
+    /// Returns the mask of a record that the library returned for `bytes`.
+    pub(crate) fn over_its_bytes(&self, mask: calls::Mask) -> Bitmap {
+        Bitmap::from_record(Arc::clone(&self.bytes), self.offset, mask)
+    }
+
     /// Returns the record for the library, to be used only with `bytes`, with its count if that is known.
-    fn counted_record(&self) -> calls::Mask {
+    pub(crate) fn counted_record(&self) -> calls::Mask {
         let zeros = self.lazy_unset_bits();
         calls::Mask { zeros: zeros.unwrap_or(0), known: u8::from(zeros.is_some()), ..self.record() }
     }

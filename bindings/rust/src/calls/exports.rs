@@ -92,6 +92,19 @@ unsafe extern "C" {
         selector: Mask, selector_bytes: *const u8, selector_bytes_len: usize, truthy: Mask, truthy_bytes: *const u8,
         truthy_bytes_len: usize, flag: bool, out: *mut u8, out_len: usize,
     ) -> MaskAnswer;
+    pub fn pw_grid_row(mask: Mask, bytes: *const u8, bytes_len: usize, rows: usize, columns: usize, row: usize) -> MaskAnswer;
+    pub fn pw_grid_column(
+        mask: Mask, bytes: *const u8, bytes_len: usize, rows: usize, columns: usize, column: usize, out: *mut u8, out_len: usize,
+    ) -> MaskAnswer;
+    pub fn pw_grid_transpose(
+        mask: Mask, bytes: *const u8, bytes_len: usize, rows: usize, columns: usize, out: *mut u8, out_len: usize,
+    ) -> MaskAnswer;
+    pub fn pw_grid_row_zeros(
+        mask: Mask, bytes: *const u8, bytes_len: usize, rows: usize, columns: usize, counts: *mut u32, counts_len: usize,
+    ) -> NumberAnswer;
+    pub fn pw_grid_column_zeros(
+        mask: Mask, bytes: *const u8, bytes_len: usize, rows: usize, columns: usize, counts: *mut u32, counts_len: usize,
+    ) -> NumberAnswer;
     pub fn pw_slices_new(mask: Mask, bytes: *const u8, bytes_len: usize) -> CursorAnswer;
     pub fn pw_slices_next(start: usize, length: usize, place: usize, bytes: *const u8, bytes_len: usize) -> StepAnswer;
     pub fn pw_iter_new(bytes: *const u8, bytes_len: usize, start: usize, length: usize) -> CursorAnswer;

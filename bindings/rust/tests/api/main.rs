@@ -2,6 +2,7 @@
 
 mod appending;
 mod combining;
+mod grids;
 mod lists;
 mod minutes;
 mod offering;

@@ -1,6 +1,6 @@
 //! Each refusal, the limit of 4,194,304 flags from both sides, and the fact that nothing has changed after a refusal.
 
-use poruwhina::{Bitmap, BitmapBuilder, Permission, Refusal, TrueIdxIter, calls, may_reassign};
+use poruwhina::{Bitmap, BitmapBuilder, Grid, Permission, Refusal, TrueIdxIter, calls, may_reassign};
 
 use crate::flags_of;
 
@@ -41,6 +41,11 @@ fn from_the_types() {
     assert_eq!(mask.split_at(4), Err(Refusal::OutsideMask));
     assert_eq!(may_reassign(Permission::Mask(&mask), None, 3), Err(Refusal::OutsideMask));
     assert_eq!(may_reassign(Permission::Mask(&mask), None, usize::MAX), Err(Refusal::OutsideMask));
+
+    assert_eq!(Grid::try_new(mask.clone(), 2, 2), Err(Refusal::NotAGrid));
+    let grid = Grid::try_new(mask, 3, 1).unwrap();
+    assert_eq!((grid.row(3), grid.column(1)), (Err(Refusal::OutsideMask), Err(Refusal::OutsideMask)));
+    assert_eq!(grid.row_zeros_into(&mut [0; 2]), Err(Refusal::OutputTooSmall));
 }
 
 #[test]
@@ -84,6 +89,8 @@ fn from_the_plain_calls() {
         (calls::slice(calls::Mask { zeros: 31, ..mask }, &[0; 13], 0, 68).refusal, Refusal::FalseCount),
         (calls::count_zeros(&bytes, 0, 1, 8).refusal, Refusal::AddressRemainder),
         (calls::not(small, &bytes, &mut [0; 7]).refusal, Refusal::OutputTooSmall),
+        (calls::grid_transpose(small, &bytes, 1, 2, &mut [0; 7]).refusal, Refusal::NotAGrid),
+        (calls::grid_row_zeros(small, &bytes, 1, 1, &mut []).refusal, Refusal::OutputTooSmall),
     ];
     for (number, refusal) in numbers {
         assert_eq!(Refusal::from_number(number), Some(refusal));
@@ -97,6 +104,8 @@ fn the_record_as_it_came() {
     for came in [odd, calls::Mask { zeros: 3, known: 200, ..odd }, calls::Mask { zeros: 10, known: 255, ..odd }] {
         let cut = calls::slice(came, &[0xFF], 0, 1);
         assert_eq!((cut.refusal, cut.mask), (2, came));
+        let row = calls::grid_row(came, &[0xFF], 3, 3, 1);
+        assert_eq!((row.refusal, row.mask), (2, came));
         let counted = calls::unset_bits(came, &[0xFF]);
         assert_eq!((counted.refusal, counted.zeros, counted.mask), (2, 0, came));
     }
@@ -111,7 +120,7 @@ fn the_record_as_it_came() {
 #[test]
 fn numbers_and_words() {
     let known: Vec<u8> = (0..=255).filter(|&number| Refusal::from_number(number).is_some()).collect();
-    assert_eq!(known, [1, 2, 3, 4, 5, 6, 7, 8, 9, 14, 16]);
+    assert_eq!(known, [1, 2, 3, 4, 5, 6, 7, 8, 9, 12, 14, 16]);
     for number in known {
         let refusal = Refusal::from_number(number).unwrap();
         assert_eq!(refusal.number(), number);

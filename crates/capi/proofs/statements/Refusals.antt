@@ -35,6 +35,9 @@ use Rattle.masks.specs.equations.Superseding.{superseding_of}
 use Rattle.masks.specs.equations.TrueIdx.{new_true, next_true}
 use Rattle.masks.specs.Utils.{zeros}
 use Rattle.masks.specs.equations.Utils.{span_count}
+use Rattle.grids.specs.equations.Columns.{grid_column_bytes, grid_column_of, grid_column_zeros_of, grid_column_zeros_over}
+use Rattle.grids.specs.equations.Rows.{grid_row_of, grid_row_zeros_of, grid_row_zeros_over}
+use Rattle.grids.specs.equations.Transpose.{grid_transpose_bytes, grid_transpose_of}
 use Rattle.dispatch.specs.equations.Reassign.{may_reassign}
 use Rattle.dispatch.specs.equations.Offer.{offer_of}
 use Rattle.activity.specs.Window.{new_of, push_of, counts_of}
@@ -50,7 +53,7 @@ use Rattle.capi.specs.declared.records.Mask.{Mask}
 
 -- the numbers by which a call may refuse
 abbrev pub numbers : List ℕ
-numbers = 1 ∷ 2 ∷ 3 ∷ 4 ∷ 5 ∷ 6 ∷ 7 ∷ 8 ∷ 9 ∷ 14 ∷ 16 ∷ []
+numbers = 1 ∷ 2 ∷ 3 ∷ 4 ∷ 5 ∷ 6 ∷ 7 ∷ 8 ∷ 9 ∷ 12 ∷ 14 ∷ 16 ∷ []
 
 -- the number k that is returned is 0 or one of ns. That it is the number of the call's own answer, 0 only if that is accepted, is stated
 -- in `AnswerPlain` and `StepPlain` for each record in which an answer is returned.
@@ -168,6 +171,22 @@ pub record Refusals : Type 0 where
   pub pw_select_constant : (s : Mask) (s_bytes : List ℕ) (t : Mask) (t_bytes : List ℕ) (x : Bool) (out : List ℕ)
       → GivesBack (1 ∷ 2 ∷ 3 ∷ 5 ∷ 9 ∷ []) (as_mask (select_constant_of (mask_in s) s_bytes (mask_in t) t_bytes x out)).refusal
       out (select_constant_bytes (mask_in s) s_bytes (mask_in t) t_bytes x out)
+  -- grids
+  pub pw_grid_row : (m : Mask) (bytes : List ℕ) (rows columns row : ℕ)
+      → let r = as_same_mask m (grid_row_of (mask_in m) bytes rows columns row) in
+      GivesBack (1 ∷ 2 ∷ 3 ∷ 12 ∷ 6 ∷ 7 ∷ []) r.refusal m r.mask
+  pub pw_grid_column : (m : Mask) (bytes : List ℕ) (rows columns column : ℕ) (out : List ℕ)
+      → GivesBack (1 ∷ 2 ∷ 3 ∷ 12 ∷ 6 ∷ 9 ∷ []) (as_mask (grid_column_of (mask_in m) bytes rows columns column (length out))).refusal
+      out (grid_column_bytes (mask_in m) bytes rows columns column out)
+  pub pw_grid_transpose : (m : Mask) (bytes : List ℕ) (rows columns : ℕ) (out : List ℕ)
+      → GivesBack (1 ∷ 2 ∷ 3 ∷ 12 ∷ 9 ∷ []) (as_mask (grid_transpose_of (mask_in m) bytes rows columns (length out))).refusal
+      out (grid_transpose_bytes (mask_in m) bytes rows columns out)
+  pub pw_grid_row_zeros : (m : Mask) (bytes : List ℕ) (rows columns : ℕ) (counts : List ℕ)
+      → GivesBack (1 ∷ 2 ∷ 3 ∷ 12 ∷ 9 ∷ []) (as_number (grid_row_zeros_of (mask_in m) bytes rows columns (length counts))).refusal
+      counts (grid_row_zeros_over (mask_in m) bytes rows columns counts)
+  pub pw_grid_column_zeros : (m : Mask) (bytes : List ℕ) (rows columns : ℕ) (counts : List ℕ)
+      → GivesBack (1 ∷ 2 ∷ 3 ∷ 12 ∷ 9 ∷ []) (as_number (grid_column_zeros_of (mask_in m) bytes rows columns (length counts))).refusal
+      counts (grid_column_zeros_over (mask_in m) bytes rows columns counts)
   -- cursors
   pub pw_slices_new : (m : Mask) (bytes : List ℕ) → Gives (1 ∷ 2 ∷ 3 ∷ []) (as_cursor slices_out (new_slices (mask_in m) bytes)).refusal
   pub pw_slices_next : (start n place : ℕ) (bytes : List ℕ) → let r = as_run slices_place (next_slice (slices_at start n place) bytes) in

@@ -1,6 +1,7 @@
 -- Each export refuses only by the numbers listed for it, and then returns unchanged what was passed.
 --
--- An encoding keeps the answer's number, so the laws of masks, dispatch and activity on the answer hold of the record that is returned.
+-- An encoding keeps the answer's number, so the laws of masks, grids, dispatch and activity on the answer hold of the record that is
+-- returned.
 use Rattle.std.specs.Prelude.{Option, Some, None}
 use Rattle.std.proofs.Common.{ℕ, ◌≡◌, refl, sym, ap, subst, ◌∙◌, Bool, true, false, not, cond, List, [], ◌∷◌}
 use borrow.Author.Tests.{ne_eqb}
@@ -29,6 +30,10 @@ use Rattle.masks.specs.equations.SliceIterator.{new_slices, next_slice}
 use Rattle.masks.specs.equations.Superseding.{superseding_of}
 use Rattle.masks.specs.equations.TrueIdx.{new_true, next_true}
 use Rattle.masks.specs.equations.Utils.{span_count}
+use Rattle.grids.specs.equations.Columns.{grid_column_bytes, grid_column_of, grid_column_zeros_of, grid_column_zeros_over}
+use Rattle.grids.specs.equations.Rows.{grid_row_of, grid_row_zeros_of, grid_row_zeros_over}
+use Rattle.grids.specs.equations.Transpose.{grid_transpose_bytes, grid_transpose_of}
+use Rattle.grids.proofs.theorems.Refusals as grids
 use Rattle.dispatch.specs.equations.Reassign.{may_reassign}
 use Rattle.dispatch.specs.equations.Offer.{offer_of}
 use Rattle.masks.specs.Chunks.{chunks_at}
@@ -105,6 +110,13 @@ of_number : {S : Type 0} (a : Answer S ℕ) → (as_number a).refusal ≡ number
 unfolding as_number
 of_number (given n) = refl
 of_number (refused k s) = refl
+
+-- of a call that writes numbers and returns how many
+counts_back : {S : Type 0} (ns : List ℕ) (s : S) → Listed ns → (a : Answer S ℕ) (before after : List ℕ)
+    → RefusesUnwritten ns s a before after → GivesBack ns (as_number a).refusal before after
+unfolding as_number
+counts_back ns s l (given n) before after r = nothing-back ns before after l
+counts_back ns s l (refused k t) before after r = gives-unwritten ns s l (refused k t) k refl before after r
 
 of-flag : {S : Type 0} (a : Answer S Bool) → (as_flag a).refusal ≡ number_in a
 unfolding as_flag
@@ -282,7 +294,8 @@ unfolding
     aligned_of span_count new_chunks next_chunk chunks_remainder split_at window_at search_from search_back
     new_zeroed_of new_zeroed_bytes try_new_of slice_of unset_bits_of pair_of pair_bytes each_of each_bytes eq_of edges_of common_of
     and_not_at_of next_and_not_of superseding_of new_slices next_slice new_iter nth_flag take_leading new_true next_true next_positions
-    positions_over may_reassign offer_of
+    positions_over may_reassign offer_of grid_row_of grid_column_of grid_column_bytes grid_transpose_of grid_transpose_bytes
+    grid_row_zeros_of grid_row_zeros_over grid_column_zeros_of grid_column_zeros_over
 refusals =
     record {
       pw_nth_set_bit_u64 = λ w n. nth-gives _;
@@ -371,6 +384,20 @@ refusals =
       pw_select_constant = λ s s_bytes t t_bytes x out.
           gives-unwritten _ _ refl _ _ (of_mask _) out _
           (refuses-unwritten _ _ ((masks.refusals).pair (mask_in s) s_bytes (mask_in t) t_bytes (length out)));
+      pw_grid_row = λ m bytes rows columns row.
+          mask-back _ refl m _ _ (refuses-by _ ((grids.refusals).row (mask_in m) bytes rows columns row));
+      pw_grid_column = λ m bytes rows columns column out.
+          gives-unwritten _ _ refl _ _ (of_mask _) out _
+          (refuses-unwritten _ _ ((grids.refusals).column (mask_in m) bytes rows columns column (length out)));
+      pw_grid_transpose = λ m bytes rows columns out.
+          gives-unwritten _ _ refl _ _ (of_mask _) out _
+          (refuses-unwritten _ _ ((grids.refusals).transpose (mask_in m) bytes rows columns (length out)));
+      pw_grid_row_zeros = λ m bytes rows columns counts.
+          counts_back _ _ refl _ counts _
+          (refuses-unwritten _ _ ((grids.refusals).counts (mask_in m) bytes rows columns rows (length counts)));
+      pw_grid_column_zeros = λ m bytes rows columns counts.
+          counts_back _ _ refl _ counts _
+          (refuses-unwritten _ _ ((grids.refusals).counts (mask_in m) bytes rows columns columns (length counts)));
       pw_slices_new = λ m bytes. gives _ _ refl _ _ (of-cursor slices_out _) (refuses-by _ ((masks.refusals).mask (mask_in m) bytes));
       pw_slices_next = λ start n place bytes.
           step_back _ refl _ _ slices_place _ _ (refuses-by _ ((masks.refusals).runs (slices_at start n place) bytes));

@@ -28,6 +28,13 @@ use Rattle.masks.specs.declared.bitmap.Bitmap.{Bitmap}
 use Rattle.masks.specs.declared.builder.BitmapBuilder.{BitmapBuilder}
 use Rattle.masks.proofs.theorems.Accepted.{builder-accepted}
 use Rattle.masks.proofs.builder.FreezeLaws.{same-checks}
+use Rattle.grids.specs.Columns.{column_checks}
+use Rattle.grids.specs.Grid.{column_flags, grid_checks, concatenated, listing, transposed}
+use Rattle.grids.specs.Rows.{row_checks}
+use Rattle.grids.specs.Transpose.{transpose_checks}
+use Rattle.grids.specs.equations.Columns.{grid_column_bytes, grid_column_of}
+use Rattle.grids.specs.equations.Rows.{grid_row_of}
+use Rattle.grids.specs.equations.Transpose.{grid_transpose_bytes, grid_transpose_of}
 use Rattle.histories.proofs.tables.GoesOn.{AcceptedKinds, Comes, NeverRefused, RefusedKinds}
 use Rattle.histories.proofs.statements.History.{Fed, History, State, building, masked}
 use Rattle.histories.proofs.statements.History.{after_freeze, after_validity, end_of, first_list, list_of, start_of, trace}
@@ -53,6 +60,8 @@ unfolding
     packed frozen over_from in_progress appended builder_flags possible builder_checks
     constant_checks word_checks span_grow_checks inner_checks subslice_checks gather_checks all_below gathered repeated frozen_over
     pair_of pair_bytes pair_checks pair_flags pair_mask shortcut each_of each_bytes largest_serial not_checks select_checks
+    grid_checks grid_row_of row_checks grid_column_of grid_column_bytes column_checks column_flags
+    grid_transpose_of grid_transpose_bytes transpose_checks transposed listing concatenated
 accepted-kinds =
     record {
       push = comes refl refl refl;
@@ -77,6 +86,10 @@ accepted-kinds =
       inverts = comes refl refl refl;
       selects = comes refl refl refl;
       selects-constant = comes refl refl refl;
+      grid_rows = comes refl refl refl;
+      grid_columns = comes refl refl refl;
+      grid_transposes = comes refl refl refl;
+      grid_other = comes refl refl refl;
       own-twice = comes refl refl refl;
       under_serial = comes refl refl refl;
       imports = comes refl refl refl;
@@ -91,6 +104,8 @@ unfolding
     packed frozen over_from in_progress appended builder_flags possible builder_checks
     constant_checks word_checks span_grow_checks inner_checks subslice_checks gather_checks all_below gathered repeated frozen_over
     pair_of pair_bytes pair_checks pair_flags pair_mask shortcut each_of each_bytes largest_serial not_checks select_checks
+    grid_checks grid_row_of row_checks grid_column_of grid_column_bytes column_checks column_flags
+    grid_transpose_of grid_transpose_bytes transpose_checks transposed listing concatenated
 refused-kinds =
     record {
       push = comes refl refl refl;
@@ -115,6 +130,10 @@ refused-kinds =
       inverts = comes refl refl refl;
       selects = comes refl refl refl;
       selects-constant = comes refl refl refl;
+      grid_rows = comes refl refl refl;
+      grid_columns = comes refl refl refl;
+      grid_transposes = comes refl refl refl;
+      grid_short = comes refl refl refl;
     }
 
 -- ---- calls that a history never has refused

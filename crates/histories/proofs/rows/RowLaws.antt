@@ -12,8 +12,8 @@ use Rattle.words.specs.Flags.{flags_of, over, window}
 use Rattle.words.proofs.flags.Windows.{length_over}
 use Rattle.masks.specs.equations.Answer.{Answer, given, refused, kept, checked}
 use Rattle.masks.specs.Checks.{Check, first_failed, limit}
-use Rattle.masks.specs.Combine.{result_mask}
 use Rattle.masks.specs.Frozen.{frozen}
+use Rattle.masks.specs.Mask.{mask_under}
 use Rattle.masks.proofs.statements.TrueCounts.{TrueCount}
 use Rattle.masks.specs.declared.bitmap.Bitmap.{Bitmap}
 use Rattle.masks.proofs.refusal.AnswerLaws.{given-number, given-value}
@@ -81,11 +81,11 @@ module _ (m : Bitmap) (bytes : List ℕ) (l : List Bool) (s : Stands m bytes l) 
 
 -- ---- rows that write flags if a list of checks passes
 
--- flags frozen over the front of an output that holds them: the mask made by `result_mask` over it represents them
-pub made-stands : (from : List Bitmap) (n : ℕ) (u : Option ℕ) (F l : List Bool) (out : List ℕ) → length F ≡ n → n ≤ limit
+-- flags frozen over the front of an output that holds them: a mask over it, from flag 0 on, represents them, whatever its serial
+pub made-stands : (serial n : ℕ) (u : Option ℕ) (F l : List Bool) (out : List ℕ) → length F ≡ n → n ≤ limit
     → 8 * ((n + 63) / 64) ≤ length out → F ≡ l → TrueCount u F
-    → Stands (result_mask from n u) (over out (frozen F)) l
-made-stands from n u F l out e h r p t =
+    → Stands (mask_under serial 0 n u) (over out (frozen F)) l
+made-stands serial n u F l out e h r p t =
     let written = flags_of (over out (frozen F)) in
     let same : window written 0 n ≡ F = ap (window written 0) (sym e) ∙ frozen-front out F (omega arith) in
     record {
@@ -106,13 +106,13 @@ pub record Writable (n : ℕ) (u : Option ℕ) (F G : List Bool) (out : List ℕ
   pub same : F ≡ G
   pub counts : TrueCount u F
 
-pub written_stands : (cs : List Check) (from : List Bitmap) (n : ℕ) (u : Option ℕ) (F G : List Bool) (out : List ℕ) (g : Bitmap)
-    → checked cs (tt {0}) (result_mask from n u) ≡ given g
+pub written_stands : (cs : List Check) (serial n : ℕ) (u : Option ℕ) (F G : List Bool) (out : List ℕ) (g : Bitmap)
+    → checked cs (tt {0}) (mask_under serial 0 n u) ≡ given g
     → (first_failed cs ≡ 0 → Writable n u F G out) → Stands g (kept (first_failed cs) (over out (frozen F)) out) G
-written_stands cs from n u F G out g e known =
+written_stands cs serial n u F G out g e known =
     let k = first_failed cs in
-    let z : 0 ≡ k = given-number k tt g (result_mask from n u) (sym e) in
+    let z : 0 ≡ k = given-number k tt g (mask_under serial 0 n u) (sym e) in
     let a = known (sym z) in
-    subst (λ (x : Bitmap). Stands x (kept k (over out (frozen F)) out) G) (sym (given-value k tt g (result_mask from n u) (sym e)))
-    (subst (λ (b : List ℕ). Stands (result_mask from n u) b G) (is-new 0 k (over out (frozen F)) out z refl)
-    (made-stands from n u F G out a.long a.short a.room a.same a.counts))
+    subst (λ (x : Bitmap). Stands x (kept k (over out (frozen F)) out) G) (sym (given-value k tt g (mask_under serial 0 n u) (sym e)))
+    (subst (λ (b : List ℕ). Stands (mask_under serial 0 n u) b G) (is-new 0 k (over out (frozen F)) out z refl)
+    (made-stands serial n u F G out a.long a.short a.room a.same a.counts))

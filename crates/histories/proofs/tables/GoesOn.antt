@@ -12,7 +12,8 @@ use Rattle.histories.proofs.statements.Agreement.{ComesTo}
 use Rattle.histories.proofs.statements.History.{Call, try_new, append, freeze, into_opt_validity, make, Fed, History, from_builder}
 use Rattle.histories.proofs.statements.History.{from_span}
 use Rattle.histories.proofs.statements.History.{from_mask, building, no_mask, end_of, list_of, start_of, step, trace}
-use Rattle.histories.proofs.statements.Library.{LibraryCall, library_call, masks}
+use Rattle.histories.proofs.statements.Library.{LibraryCall, grids, library_call, masks}
+use Rattle.histories.specs.GridRows.{GridCall, grid_column, grid_row, grid_transpose}
 use Rattle.histories.specs.MaskRows.{pair, invert, select, select_constant, MaskCall, slice, unset_bits, combine}
 use Rattle.histories.specs.ReferenceList.{and, and_not, or, or_not, xor}
 use Rattle.histories.specs.Rows.{Argument, own, other, RowCall, one, two, three}
@@ -36,6 +37,10 @@ A = 0x2D ∷ []
 
 abbrev pub on_a : List MaskCall → History LibraryCall
 on_a calls = record { start = from_span; calls = try_new A 0 6 ∷ map (λ (c : MaskCall). make (masks c)) calls }
+
+-- the same with calls on A as a grid: 1,0 and 1,1 and 0,1
+abbrev pub on_grid : List GridCall → History LibraryCall
+on_grid calls = record { start = from_span; calls = try_new A 0 6 ∷ map (λ (c : GridCall). make (grids c)) calls }
 
 -- B = 0,1,1,0,0,1 starting at bit 3 of its bytes, C = 1,1,0,0,1,1, and a mask of five flags
 abbrev pub B : Argument
@@ -87,6 +92,13 @@ pub record AcceptedKinds : Type 0 where
       (0 ∷ 1 ∷ 1 ∷ 0 ∷ 1 ∷ 1 ∷ [])
   pub selects-constant : Comes (on_a (combine (select_constant true) (lent 8) (two B own) ∷ [])) (1 ∷ 1 ∷ []) (mask_of 0 6 None)
       (first 0x3D) (1 ∷ 0 ∷ 1 ∷ 1 ∷ 1 ∷ 1 ∷ [])
+  pub grid_rows : Comes (on_grid (grid_row 3 2 2 ∷ [])) (1 ∷ 1 ∷ []) (mask_of 4 2 None) A (0 ∷ 1 ∷ [])
+  pub grid_columns : Comes (on_grid (grid_column 3 2 1 (lent 8) own ∷ [])) (1 ∷ 1 ∷ []) (mask_of 0 3 None) (first 0x06) (0 ∷ 1 ∷ 1 ∷ [])
+  pub grid_transposes : Comes (on_grid (grid_transpose 3 2 (lent 8) own ∷ [])) (1 ∷ 1 ∷ []) (mask_of 0 6 None) (first 0x33)
+      (1 ∷ 1 ∷ 0 ∷ 0 ∷ 1 ∷ 1 ∷ [])
+  -- row 1 of the columns of another mask, 0,1 and 1,0 and 0,1
+  pub grid_other : Comes (on_grid (grid_transpose 3 2 (lent 8) B ∷ grid_row 2 3 1 ∷ [])) (1 ∷ 1 ∷ 1 ∷ []) (mask_of 3 3 None) (first 0x2A)
+      (1 ∷ 0 ∷ 1 ∷ [])
   -- the history's own mask in both places, and a call on the result
   pub own-twice : Comes (on_a (combine (pair xor) (lent 8) (two own own) ∷ combine invert (lent 8) (one own) ∷ [])) (1 ∷ 1 ∷ 1 ∷ [])
       (mask_of 0 6 None) (first 0x3F) (1 ∷ 1 ∷ 1 ∷ 1 ∷ 1 ∷ 1 ∷ [])
@@ -108,6 +120,9 @@ RefusedAppend a = Comes (built (push_flag true ∷ a ∷ []) freeze) (1 ∷ 0 �
 -- a call on A that is refused
 abbrev pub RefusedOnA : MaskCall → Type 0
 RefusedOnA c = Comes (on_a (c ∷ [])) (1 ∷ 0 ∷ []) (mask_of 0 6 None) A (1 ∷ 0 ∷ 1 ∷ 1 ∷ 0 ∷ 1 ∷ [])
+
+abbrev pub RefusedOnGrid : GridCall → Type 0
+RefusedOnGrid c = Comes (on_grid (c ∷ [])) (1 ∷ 0 ∷ []) (mask_of 0 6 None) A (1 ∷ 0 ∷ 1 ∷ 1 ∷ 0 ∷ 1 ∷ [])
 
 pub record RefusedKinds : Type 0 where
   -- 64 ones fill the eight bytes
@@ -146,6 +161,11 @@ pub record RefusedKinds : Type 0 where
   pub inverts : RefusedOnA (combine invert [] (one own))
   pub selects : RefusedOnA (combine select (lent 8) (three own B five))
   pub selects-constant : RefusedOnA (combine (select_constant true) [] (two B own))
+  -- a row past the last, a column past the last, no such grid, an output of no bytes
+  pub grid_rows : RefusedOnGrid (grid_row 3 2 3)
+  pub grid_columns : RefusedOnGrid (grid_column 3 2 2 (lent 8) own)
+  pub grid_transposes : RefusedOnGrid (grid_transpose 2 2 (lent 8) own)
+  pub grid_short : RefusedOnGrid (grid_transpose 3 2 [] own)
 
 -- ---- the other kinds are never refused: `freeze` and `into_opt_validity` of a builder in which a history ends; for `unset_bits` of a
 -- mask in which one ends this is `counted` of `Agreement`

@@ -13,6 +13,7 @@ texts =
       serial_conflict = refl;
       impossible_builder = refl;
       unequal_lengths = refl;
+      not_a_grid = refl;
       outside_mask = refl;
       count_not_of_slice = refl;
       address_remainder = refl;

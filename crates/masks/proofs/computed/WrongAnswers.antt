@@ -113,11 +113,11 @@ stepping cursor value = answer cursor (step cursor value)
 
 -- ---- codes of the records
 
-abbrev unset_code : Code (Option ℕ)
+abbrev pub unset_code : Code (Option ℕ)
 unset_code (Some z) = 1 ∷ z ∷ []
 unset_code None = 0 ∷ []
 
-abbrev mask_code : Code Bitmap
+abbrev pub mask_code : Code Bitmap
 mask_code m = m.start ∷ m.length ∷ m.serial ∷ unset_code m.unset
 
 abbrev recounted_code : Code Recounted
@@ -245,6 +245,7 @@ masks-ruled-out =
       num_edges = tried (plain number) refl refl refl;
       num_intersections_with = tried (plain number) refl refl refl;
       earlier-number = tried number refl refl refl;
+      check = tried number refl refl refl;
       check_span = tried number refl refl refl;
       check_mask = tried number refl refl refl;
       check_output = tried number refl refl refl;

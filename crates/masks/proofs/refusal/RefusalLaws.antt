@@ -12,7 +12,8 @@ use Rattle.masks.specs.Checks.{earlier, rank, place_in}
 use Rattle.masks.specs.Refusal.{failure_back, failure_of, number}
 use Rattle.masks.specs.declared.refusal.Refusal.{Refusal}
 use Rattle.masks.specs.declared.refusal.Refusal.TheVariants.{AboveLimit, OutsideBytes, FalseCount, SerialConflict, ImpossibleBuilder}
-use Rattle.masks.specs.declared.refusal.Refusal.TheVariants.{UnequalLengths, OutsideMask, CountNotOfSlice, AddressRemainder, OutputTooSmall}
+use Rattle.masks.specs.declared.refusal.Refusal.TheVariants.{UnequalLengths, NotAGrid, OutsideMask, CountNotOfSlice, AddressRemainder}
+use Rattle.masks.specs.declared.refusal.Refusal.TheVariants.{OutputTooSmall}
 use Rattle.masks.specs.declared.refusal.Refused.{Refused}
 use Rattle.masks.specs.contracts.refusal.RefusalOrd.TheImpl.{cmp-value}
 
@@ -26,6 +27,7 @@ refusals =
     ∷ SerialConflict
     ∷ ImpossibleBuilder
     ∷ UnequalLengths
+    ∷ NotAGrid
     ∷ OutsideMask
     ∷ CountNotOfSlice
     ∷ AddressRemainder
@@ -48,10 +50,11 @@ of-each p e FalseCount = at p refusals e 2 (omega arith)
 of-each p e SerialConflict = at p refusals e 3 (omega arith)
 of-each p e ImpossibleBuilder = at p refusals e 4 (omega arith)
 of-each p e UnequalLengths = at p refusals e 5 (omega arith)
-of-each p e OutsideMask = at p refusals e 6 (omega arith)
-of-each p e CountNotOfSlice = at p refusals e 7 (omega arith)
-of-each p e AddressRemainder = at p refusals e 8 (omega arith)
-of-each p e OutputTooSmall = at p refusals e 9 (omega arith)
+of-each p e NotAGrid = at p refusals e 6 (omega arith)
+of-each p e OutsideMask = at p refusals e 7 (omega arith)
+of-each p e CountNotOfSlice = at p refusals e 8 (omega arith)
+of-each p e AddressRemainder = at p refusals e 9 (omega arith)
+of-each p e OutputTooSmall = at p refusals e 10 (omega arith)
 
 -- refusals are declared in the order of their numbers' ranks
 pub least-number : (x y : Refusal) → number (ord_min cmp-value.it x y) ≡ earlier (number x) (number y)
@@ -68,6 +71,7 @@ number-ne0 FalseCount e = omega arith
 number-ne0 SerialConflict e = omega arith
 number-ne0 ImpossibleBuilder e = omega arith
 number-ne0 UnequalLengths e = omega arith
+number-ne0 NotAGrid e = omega arith
 number-ne0 OutsideMask e = omega arith
 number-ne0 CountNotOfSlice e = omega arith
 number-ne0 AddressRemainder e = omega arith

@@ -2,7 +2,8 @@
 use Rattle.std.specs.Prelude.{◌≡◌, codes}
 use Rattle.masks.specs.Refusal.{said}
 use Rattle.masks.specs.declared.refusal.Refusal.TheVariants.{AboveLimit, OutsideBytes, FalseCount, SerialConflict, ImpossibleBuilder}
-use Rattle.masks.specs.declared.refusal.Refusal.TheVariants.{UnequalLengths, OutsideMask, CountNotOfSlice, AddressRemainder, OutputTooSmall}
+use Rattle.masks.specs.declared.refusal.Refusal.TheVariants.{UnequalLengths, NotAGrid, OutsideMask, CountNotOfSlice, AddressRemainder}
+use Rattle.masks.specs.declared.refusal.Refusal.TheVariants.{OutputTooSmall}
 
 pub record Texts : Type 0 where
   pub above_limit : said AboveLimit ≡ codes "refused with 1: a start or a length is above 4,194,304"
@@ -13,9 +14,10 @@ pub record Texts : Type 0 where
       ≡ codes "refused with 4: the builder is not possible: its word, ones or buffer do not fit its length"
   pub unequal_lengths : said UnequalLengths
       ≡ codes "refused with 5: the masks combined, or a mask and the length stated for it, are not equal in length"
+  pub not_a_grid : said NotAGrid ≡ codes "refused with 12: rows * columns is not the length of the mask"
   pub outside_mask : said OutsideMask ≡ codes "refused with 6: the inner piece does not lie in its mask"
   pub count_not_of_slice : said CountNotOfSlice
       ≡ codes "refused with 7: the known count is below the zeros cut off, or the rest above the new length"
   pub address_remainder : said AddressRemainder ≡ codes "refused with 8: the address remainder is above 7"
   pub output_too_small : said OutputTooSmall
-      ≡ codes "refused with 9: the output does not hold 8 * ceil(new length / 64) bytes"
+      ≡ codes "refused with 9: the output does not hold 8 * ceil(new length / 64) bytes, or all counts"

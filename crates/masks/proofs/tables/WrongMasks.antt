@@ -1,7 +1,7 @@
 -- Wrong answers that the contracts of the mask's calls rule out, two for each call.
 --
 -- Rows as in `WrongAnswers` of words. An answer of a call that writes is paired with what the lent output then holds.
-use Rattle.std.specs.Prelude.{ℕ, true, false, List, [], ◌∷◌, ◌++◌, replicate, Option, Some, None}
+use Rattle.std.specs.Prelude.{ℕ, true, false, cond, List, [], ◌∷◌, ◌++◌, replicate, Option, Some, None}
 pub use Rattle.words.proofs.tables.WrongAnswers.{Tried}
 use Rattle.words.specs.declared.ops.Op.{Op}
 use Rattle.masks.specs.declared.bitmap.Recounted.{Recounted}
@@ -16,7 +16,9 @@ use Rattle.masks.proofs.tables.Examples.{first, lent}
 use Rattle.masks.specs.Mask.{mask_checks, mask_of, empty_mask}
 use Rattle.masks.specs.equations.Mask.{try_new_of, new_zeroed_of, new_zeroed_bytes, unset_bits_of, slice_of}
 use Rattle.masks.proofs.tables.WrongSpans.{two}
+use Rattle.masks.specs.Refusal.{number}
 use Rattle.masks.specs.declared.bitmap.Bitmap.{Bitmap}
+use Rattle.masks.specs.declared.refusal.Refusal.TheVariants.{NotAGrid}
 
 -- ---- inputs: masks of four flags, with ones after them
 
@@ -262,6 +264,13 @@ pub record WrongMasks : Type 0 where
       3
       -- none if both failed
       0
+  -- `check` of a check that fails, by which number 12 refuses
+  pub check : Tried (cond false 0 (number NotAGrid))
+      12
+      -- a check that fails taken for one that holds
+      0
+      -- the next number of the order
+      6
   -- `check_span` of 7 flags starting at flag 2, in one byte
   pub check_span : Tried (first_failed (span_checks 2 7 1))
       2

@@ -30,6 +30,7 @@ answers-plain =
             count_not_of_slice = refl;
             address_remainder = refl;
             output_too_small = refl;
+            not_a_grid = refl;
             serial_conflict = refl;
           };
     }

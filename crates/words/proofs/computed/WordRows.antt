@@ -1,4 +1,5 @@
 -- The rows of `proofs/tables/WordRows.antt`, all at once and by computation.
+use Rattle.words.specs.Place.{or_at, or_over}
 use Rattle.std.proofs.Common.{refl}
 use Rattle.std.proofs.Math.Bool.{xor}
 use Rattle.words.specs.Counts.{any_set, same_flags}
@@ -10,5 +11,6 @@ use Rattle.words.specs.Uniform.{all_equal, differs_early}
 use Rattle.words.proofs.tables.WordRows.{rows, RowsHold}
 
 pub all_hold : RowsHold
-unfolding rows bits flags_of copies window over over_at whole_words zip3 merged same_flags any_set all_equal differs_early count xor
+unfolding rows bits flags_of copies window over over_at whole_words zip3 merged same_flags any_set all_equal differs_early count xor or_at
+    or_over
 all_hold = refl

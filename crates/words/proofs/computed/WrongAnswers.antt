@@ -1,6 +1,8 @@
 -- The wrong answers of `proofs/tables/WrongAnswers.antt` are ruled out, by computation.
 --
 -- Two answers differ if their codes, lists of numbers, differ: whatever a code is, equal answers have equal codes.
+use Rattle.words.specs.Place.{or_at, or_over}
+use Rattle.words.specs.Columns.{column}
 use Rattle.std.specs.Prelude.{Result, Ok, Err}
 use Rattle.std.proofs.Common.{ℕ, ◌≡◌, refl, sym, ap, ◌∙◌, Bool, true, false, ◌&&◌, List, [], ◌∷◌, map, arith, eqb, eq-eqb}
 use Rattle.words.specs.Flags.{bits, count, digit, flags_of, window}
@@ -47,7 +49,7 @@ nth_code (Ok k) = 1 ∷ k ∷ []
 nth_code (Err k) = 0 ∷ k ∷ []
 
 pub ruled_out : WrongAnswers
-unfolding same_code bits count flags_of window merged nth_one nth_place
+unfolding same_code bits count flags_of window merged nth_one nth_place column or_at or_over
 ruled_out =
     record {
       load-padded = tried flags_code refl refl refl;
@@ -58,4 +60,6 @@ ruled_out =
       nth_set_bit_u64 = tried nth_code refl refl refl;
       nth-set-bit-u64-missing = tried nth_code refl refl refl;
       nth-set-bit-u64-few = tried nth_code refl refl refl;
+      or_flags = tried flags_code refl refl refl;
+      transpose_block = tried flags_code refl refl refl;
     }

@@ -11,6 +11,7 @@ use Rattle.words.specs.Flags.{bits, copies, count, digit, flags_of, over, over_a
 use Rattle.words.specs.Loops.{combined, stretch, whole_words}
 use Rattle.words.specs.Merge.{merged}
 use Rattle.words.specs.Nth.{nth_one}
+use Rattle.words.specs.Place.{or_at}
 use Rattle.words.specs.Uniform.{all_equal, differs_early}
 use Rattle.words.specs.declared.ops.Op.TheVariants.{And, AndNot, Or, OrNot, Xor, Select}
 
@@ -108,6 +109,9 @@ long_rows =
     ∷ numbers (map digit (stretch (0xFF ∷ []) 8 2 ++ stretch (0xFF ∷ []) 256 1 ++ stretch (0xFF ∷ []) 18446744073709551615 2))
     (replicate 5 0)
     ∷ numbers (map digit (window (over_at (copies 70 false) 66 (copies 9 true)) 64 6)) (0 ∷ 0 ∷ 1 ∷ 1 ∷ 1 ∷ 1 ∷ [])
+    -- flags joined past the first word
+    ∷ numbers (map digit (window (or_at (copies 66 true ++ copies 4 false) 65 (false ∷ false ∷ true ∷ copies 9 true)) 64 6))
+    (1 ∷ 1 ∷ 0 ∷ 1 ∷ 1 ∷ 1 ∷ [])
     ∷ numbers (over (1 ∷ 2 ∷ 3 ∷ []) (9 ∷ 8 ∷ 7 ∷ 6 ∷ [])) (9 ∷ 8 ∷ 7 ∷ [])
     ∷ numbers (length (whole_words (copies 65 true)) ∷ count (whole_words (copies 65 true)) ∷ length (whole_words []) ∷ [])
     (128 ∷ 65 ∷ 0 ∷ [])

@@ -7,6 +7,7 @@ use Rattle.words.specs.Counts.{any_set, same_flags}
 use Rattle.words.specs.Flags.{copies, digit, over_at}
 use Rattle.words.specs.Loops.{combined, whole_words}
 use Rattle.words.specs.Merge.{merged}
+use Rattle.words.specs.Place.{or_at}
 use Rattle.words.specs.Uniform.{all_equal, differs_early}
 use Rattle.words.specs.declared.ops.Op.TheVariants.{AndNot, Not, Select}
 
@@ -39,6 +40,11 @@ rows =
     -- Flags written over others, starting at flag 1: those before and after stay, and what does not fit is left out.
     ∷ row (over_at (copies 4 false) 1 (true ∷ true ∷ [])) (0 ∷ 1 ∷ 1 ∷ 0 ∷ [])
     ∷ row (over_at (copies 2 false) 1 (true ∷ true ∷ [])) (0 ∷ 1 ∷ [])
+    -- Flags joined to others, starting at flag 1: those that were set stay, what does not fit is left out, past the end nothing changes.
+    ∷ row (or_at (true ∷ false ∷ true ∷ true ∷ false ∷ false ∷ []) 1 (true ∷ true ∷ false ∷ true ∷ []))
+    (1 ∷ 1 ∷ 1 ∷ 1 ∷ 1 ∷ 0 ∷ [])
+    ∷ row (or_at (copies 2 false) 1 (true ∷ true ∷ [])) (0 ∷ 1 ∷ [])
+    ∷ row (or_at (copies 2 false) 2 (true ∷ [])) (0 ∷ 0 ∷ [])
     -- Two words at an offset of their length: the first.
     ∷ row (merged (true ∷ false ∷ []) (false ∷ true ∷ []) 2) (1 ∷ 0 ∷ [])
     -- Lists of different lengths are not the same, in either order.

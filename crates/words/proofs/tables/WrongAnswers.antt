@@ -3,10 +3,12 @@
 -- A contract says that an answer equals a definition at the call's arguments. So it rules out every other answer. A row has a call's
 -- definition at one input, its value there, and two answers that a faulty function would return, the fault named above each.
 -- `proofs/computed/WrongAnswers.antt` proves the rows by computing them.
-use Rattle.std.specs.Prelude.{◌≡◌, [], ◌∷◌, Ok, Err}
+use Rattle.std.specs.Prelude.{◌≡◌, true, false, [], ◌∷◌, Ok, Err}
+use Rattle.words.specs.Columns.{column}
 use Rattle.words.specs.Flags.{bits, flags_of, window, word_flags}
 use Rattle.words.specs.Merge.{merged}
 use Rattle.words.specs.Nth.{nth_one}
+use Rattle.words.specs.Place.{or_at}
 
 -- the value of a definition is the right answer and neither of the wrong ones
 pub record Tried {A : Type 0} (answer right first second : A) : Type 0 where
@@ -72,3 +74,17 @@ pub record WrongAnswers : Type 0 where
       (Err 7)
       -- the upper half not counted
       (Err 1)
+  -- `or_flags` of the word 5 at flag 6 of the bytes 0x81, 0x01
+  pub or_flags : Tried (or_at (flags_of (0x81 ∷ 0x01 ∷ [])) 6 (word_flags 5))
+      (flags_of (0xC1 ∷ 0x01 ∷ []))
+      -- written over: flag 7 is lost
+      (flags_of (0x41 ∷ 0x01 ∷ []))
+      -- a flag that both have is lost
+      (flags_of (0xC1 ∷ 0x00 ∷ []))
+  -- `transpose_block`: the first flags of row 1, of a block whose first rows are 2, 4, 6 and 0
+  pub transpose_block : Tried (column (2 ∷ 4 ∷ 6 ∷ 0 ∷ []) 1)
+      (true ∷ false ∷ true ∷ false ∷ [])
+      -- the row, not transposed
+      (false ∷ false ∷ true ∷ false ∷ [])
+      -- the rows in the other order
+      (false ∷ true ∷ false ∷ true ∷ [])

@@ -12,4 +12,4 @@ returns-in_err-check_mask c =
     exit-number _ _ c.from_residual.ensures.1 ∙ first-number _ _ 5 _ refl c.in_err-check_mask.ensures.refused (number-ne0 _)
 
 pub returns : goal.returns
-returns c = passed-before _ _ _ _ c.in_ok-check_mask.ensures.refused refl (one-check _ _ _ _ c.check.ensures refl)
+returns c = passed-before _ _ _ _ c.in_ok-check_mask.ensures.refused refl (one-check _ _ _ _ c.check.ensures.refused refl)

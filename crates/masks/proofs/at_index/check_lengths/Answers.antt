@@ -7,7 +7,7 @@ use Rattle.masks.proofs.at_index.check_lengths.Goals as goal
 
 pub returns-in-Some-Some : goal.returns-in-Some-Some
 unfolding length_checks
-returns-in-Some-Some c = rw (c.in-Some-Some.is-0, c.in-Some-Some.is-1) (one-check _ _ _ _ c.check.ensures refl)
+returns-in-Some-Some c = rw (c.in-Some-Some.is-0, c.in-Some-Some.is-1) (one-check _ _ _ _ c.check.ensures.refused refl)
 
 pub returns-in_default : goal.returns-in_default
 unfolding length_checks first_failed

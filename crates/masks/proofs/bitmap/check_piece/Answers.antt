@@ -9,5 +9,5 @@ returns c =
     two_pieces _ _ _ _ _ c.earlier-3.ensures.refused c.check_mask.ensures.refused
     (two_pieces _ _ _ _ _ c.earlier-piece.ensures.refused c.check_limit-near.ensures
     (two_pieces _ _ _ _ _ c.earlier-2.ensures.refused c.check_limit-short.ensures
-    (check-before _ _ _ _ _ _ _ c.earlier.ensures.refused c.check-starts.ensures c.sum_at_most-2.ensures
-    (one-check _ _ _ _ c.check-inside.ensures c.sum_at_most.ensures))))
+    (check-before _ _ _ _ _ _ _ c.earlier.ensures.refused c.check-starts.ensures.refused c.sum_at_most-2.ensures
+    (one-check _ _ _ _ c.check-inside.ensures.refused c.sum_at_most.ensures))))

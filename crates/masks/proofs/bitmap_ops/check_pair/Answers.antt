@@ -9,5 +9,5 @@ unfolding pair_checks
 returns c =
     two_pieces _ _ _ _ _ c.earlier-3.ensures.refused c.check_mask-first.ensures.refused
     (two_pieces _ _ _ _ _ c.earlier-2.ensures.refused c.check_mask-second.ensures.refused
-    (check-before _ _ _ _ _ _ _ c.earlier.ensures.refused c.check-equal.ensures refl
+    (check-before _ _ _ _ _ _ _ c.earlier.ensures.refused c.check-equal.ensures.refused refl
     c.check_output-room.ensures.refused))

@@ -10,6 +10,6 @@ returns c =
     two_pieces _ _ _ _ _ c.earlier-3.ensures.refused c.check_mask-2.ensures.refused
     (two_pieces _ _ _ _ _ c.earlier-2.ensures.refused c.check_mask-3.ensures.refused
     (two_pieces _ _ _ _ _ c.earlier-masks.ensures.refused c.check_mask.ensures.refused
-    (check-before _ _ _ _ _ _ _ c.earlier-lengths.ensures.refused c.check-second.ensures refl
-    (check-before _ _ _ _ _ _ _ c.earlier.ensures.refused c.check-third.ensures refl
+    (check-before _ _ _ _ _ _ _ c.earlier-lengths.ensures.refused c.check-second.ensures.refused refl
+    (check-before _ _ _ _ _ _ _ c.earlier.ensures.refused c.check-third.ensures.refused refl
     c.check_output-room.ensures.refused))))

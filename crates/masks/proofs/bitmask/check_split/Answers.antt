@@ -9,5 +9,5 @@ unfolding split_checks
 returns c =
     two_pieces _ _ _ _ _ c.earlier-2.ensures.refused c.check_span.ensures.refused
     (two_pieces _ _ _ _ _ c.earlier.ensures.refused
-    (one-check _ _ _ _ c.check.ensures c.sum_at_most.ensures)
-    (one-check _ _ _ _ c.check-2.ensures refl))
+    (one-check _ _ _ _ c.check.ensures.refused c.sum_at_most.ensures)
+    (one-check _ _ _ _ c.check-2.ensures.refused refl))

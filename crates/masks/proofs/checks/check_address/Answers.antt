@@ -6,4 +6,4 @@ use Rattle.masks.proofs.checks.check_address.Goals as goal
 
 pub returns : goal.returns
 unfolding address_checks
-returns c = one-check _ _ _ _ c.check.ensures refl
+returns c = one-check _ _ _ _ c.check.ensures.refused refl

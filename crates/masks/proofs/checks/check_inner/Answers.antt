@@ -22,4 +22,4 @@ pub returns : goal.returns
 unfolding inner_checks
 returns c =
     passed-before _ _ _ _ c.in_ok-check_limit.ensures refl
-    (passed-before _ _ _ _ c.in_ok-check_limit-2.ensures refl (one-check _ _ _ _ c.check.ensures c.sum_at_most.ensures))
+    (passed-before _ _ _ _ c.in_ok-check_limit-2.ensures refl (one-check _ _ _ _ c.check.ensures.refused c.sum_at_most.ensures))

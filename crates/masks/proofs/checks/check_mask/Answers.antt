@@ -23,5 +23,5 @@ unfolding mask_checks
 returns c = record {
   refused =
       passed-before _ _ _ _ c.in_ok-check_span.ensures.refused refl
-      (one-check _ _ _ _ c.check.ensures c.count_valid.ensures);
+      (one-check _ _ _ _ c.check.ensures.refused c.count_valid.ensures);
 }

@@ -5,4 +5,4 @@ use Rattle.masks.proofs.checks.check_output.Goals as goal
 
 pub returns : goal.returns
 unfolding output_checks
-returns c = record { refused = one-check _ _ _ _ c.check.ensures (output-test c.args.n c.args.size _ c.div_ceil.ensures) }
+returns c = record { refused = one-check _ _ _ _ c.check.ensures.refused (output-test c.args.n c.args.size _ c.div_ceil.ensures) }

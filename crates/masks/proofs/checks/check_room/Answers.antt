@@ -12,4 +12,4 @@ returns-then-b c = ones_over _ _ _ (omega (arith, c.div_ceil.ensures, c.if-size-
 pub returns : goal.returns
 returns c =
     word-decides _ _ _ (omega (arith, c.div_ceil.ensures, c.if-size-div_ceil.false))
-    c.requires.1 _ _ c.if-b.false c.check.ensures c.none_from.ensures
+    c.requires.1 _ _ c.if-b.false c.check.ensures.refused c.none_from.ensures

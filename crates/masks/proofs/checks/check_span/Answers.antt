@@ -11,15 +11,15 @@ pub returns-in_err-check : goal.returns-in_err-check
 returns-in_err-check c = record {
   refused =
       exit-number _ _ c.from_residual.ensures.1
-      ∙ span-refused _ _ _ _ _ c.in_err-check.ensures (number-ne0 _) (ap₂ ◌&&◌ c.within_limit.ensures c.within_limit-2.ensures);
+      ∙ span-refused _ _ _ _ _ c.in_err-check.ensures.refused (number-ne0 _) (ap₂ ◌&&◌ c.within_limit.ensures c.within_limit-2.ensures);
 }
 
 pub returns : goal.returns
 returns c = record {
   refused =
-      let short = and_parts _ _ (passed-one _ _ (sym c.in_ok-check.ensures)) in
+      let short = and_parts _ _ (passed-one _ _ (sym c.in_ok-check.ensures.refused)) in
       span-within _ _ _ _ _
       (leb-true _ _ (sym c.within_limit.ensures ∙ short.0))
       (leb-true _ _ (sym c.within_limit-2.ensures ∙ short.1))
-      c.check-2.ensures (search rules);
+      c.check-2.ensures.refused (search rules);
 }

@@ -16,7 +16,7 @@ returns-in_err-check_limit c =
 pub returns : goal.returns
 returns c =
     passed-before _ _ _ _ c.in_ok-check_limit.ensures refl
-    (one-check _ _ _ _ c.check.ensures
+    (one-check _ _ _ _ c.check.ensures.refused
     (elim c.if-k-le64.branch [
       | then-k-le64 w ↦ w.check-is ∙ w.none_from.ensures ∙ rw (le-leb c.args.k 64 w.if-k-le64.true)
       | else-k-le64 w ↦ w.check-is ∙ rw (lt-leb c.args.k 64 w.if-k-le64.false)

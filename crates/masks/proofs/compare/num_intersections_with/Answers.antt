@@ -11,13 +11,15 @@ unfolding common_checks
 returns-in_err-earlier-clause-refused c =
     exit-number _ _ c.from_residual.ensures.1
     ∙ two_pieces _ _ _ _ _ c.in_err-earlier.ensures.refused c.check_mask.ensures.refused
-    (two_pieces _ _ _ _ _ c.earlier.ensures.refused c.check_mask-second.ensures.refused (one-check _ _ _ _ c.check-same.ensures refl))
+    (two_pieces _ _ _ _ _ c.earlier.ensures.refused c.check_mask-second.ensures.refused
+    (one-check _ _ _ _ c.check-same.ensures.refused refl))
 
 pub returns-clause-refused : goal.returns-clause-refused
 unfolding common_checks
 returns-clause-refused c =
     two_pieces _ _ _ _ _ c.in_ok-earlier.ensures.refused c.check_mask.ensures.refused
-    (two_pieces _ _ _ _ _ c.earlier.ensures.refused c.check_mask-second.ensures.refused (one-check _ _ _ _ c.check-same.ensures refl))
+    (two_pieces _ _ _ _ _ c.earlier.ensures.refused c.check_mask-second.ensures.refused
+    (one-check _ _ _ _ c.check-same.ensures.refused refl))
 
 pub returns-clause-number : goal.returns-clause-number
 unfolding common_checks
@@ -26,5 +28,5 @@ returns-clause-number c =
     let b = c.flags-b.ensures in
     let number = two_pieces _ _ _ _ _ c.in_ok-earlier.ensures.refused c.check_mask.ensures.refused
     (two_pieces _ _ _ _ _ c.earlier.ensures.refused c.check_mask-second.ensures.refused
-    (one-check _ _ _ _ c.check-same.ensures refl)) in
+    (one-check _ _ _ _ c.check-same.ensures.refused refl)) in
     common-ones _ _ _ _ _ _ _ (common_lengths _ _ _ _ (sym number)) (rw (a.0, a.1, b.0, b.1) at c.count_ones_of.ensures)

@@ -15,4 +15,4 @@ pub returns : goal.returns
 unfolding cursor_checks
 returns c =
     passed-before _ _ _ _ c.in_ok-check_span.ensures.refused refl
-    (one-check _ _ _ _ c.check.ensures refl)
+    (one-check _ _ _ _ c.check.ensures.refused refl)

@@ -8,4 +8,4 @@ pub returns : goal.returns
 unfolding next_checks
 returns c =
     two_pieces _ _ _ _ _ c.earlier-2.ensures.refused c.check_mask.ensures.refused
-    (two_pieces _ _ _ _ _ c.earlier.ensures.refused c.check_other-other.ensures (one-check _ _ _ _ c.check-place.ensures refl))
+    (two_pieces _ _ _ _ _ c.earlier.ensures.refused c.check_other-other.ensures (one-check _ _ _ _ c.check-place.ensures.refused refl))

@@ -17,7 +17,7 @@ pub returns-in_ok-check_mask-in-Some : goal.returns-in_ok-check_mask-in-Some
 unfolding other_checks
 returns-in_ok-check_mask-in-Some c =
     rw c.in-Some.is
-    (passed-before _ _ _ _ c.in_ok-check_mask-in-Some.ensures.refused refl (one-check _ _ _ _ c.check.ensures refl))
+    (passed-before _ _ _ _ c.in_ok-check_mask-in-Some.ensures.refused refl (one-check _ _ _ _ c.check.ensures.refused refl))
 
 pub returns-in-None : goal.returns-in-None
 unfolding other_checks first_failed

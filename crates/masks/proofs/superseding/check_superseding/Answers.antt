@@ -15,4 +15,4 @@ returns-in_err-same c =
 
 pub returns : goal.returns
 returns c =
-    let e = c.in_ok-same.ensures in compared _ _ _ _ _ _ c.if-first-second.false e.refused e.flag c.check.ensures
+    let e = c.in_ok-same.ensures in compared _ _ _ _ _ _ c.if-first-second.false e.refused e.flag c.check.ensures.refused

@@ -28,4 +28,4 @@ unfolding true_checks
 returns c =
     rw c.if-cursor.false
     (passed-before _ _ _ _ c.in_ok-check_limit.ensures refl
-    (passed-before _ _ _ _ c.in_ok-check_limit-2.ensures refl (one-check _ _ _ _ c.check.ensures refl)))
+    (passed-before _ _ _ _ c.in_ok-check_limit-2.ensures refl (one-check _ _ _ _ c.check.ensures.refused refl)))

@@ -23,4 +23,4 @@ pub returns : goal.returns
 unfolding new_true_checks
 returns c =
     passed-before _ _ _ _ c.in_ok-check_limit.ensures refl
-    (passed-before _ _ _ _ c.in_ok-check_mask.ensures.refused refl (one-check _ _ _ _ c.check.ensures refl))
+    (passed-before _ _ _ _ c.in_ok-check_mask.ensures.refused refl (one-check _ _ _ _ c.check.ensures.refused refl))

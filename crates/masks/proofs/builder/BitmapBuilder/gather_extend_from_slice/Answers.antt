@@ -14,7 +14,7 @@ returns-in_err-map_err-clause-refused c =
     back-number _ c.args.self _ (search rules) _ c.from_residual.ensures.1
     ∙ two_pieces _ _ _ _ _ c.earlier-2.ensures.refused
     (two_pieces _ _ _ _ _ c.earlier.ensures.refused c.check_span.ensures.refused c.check_builder.ensures)
-    (one-check _ _ _ _ c.check.ensures c.all_below.ensures)
+    (one-check _ _ _ _ c.check.ensures.refused c.all_below.ensures)
 
 pub invariant_of-span : goal.invariant_of-span
 invariant_of-span c =
@@ -37,4 +37,4 @@ returns-clause-refused c =
     sym (passed-back _ _ _ c.map_err.ensures.variant c.in_ok-map_err.was)
     ∙ two_pieces _ _ _ _ _ c.earlier-2.ensures.refused
     (two_pieces _ _ _ _ _ c.earlier.ensures.refused c.check_span.ensures.refused c.check_builder.ensures)
-    (one-check _ _ _ _ c.check.ensures c.all_below.ensures)
+    (one-check _ _ _ _ c.check.ensures.refused c.all_below.ensures)

@@ -1,0 +1,23 @@
+-- The mask's checks and, if they pass, that of the product, which comes after them: `first-number`, `passed-before`.
+use Rattle.std.proofs.Common.{refl, ◌∙◌}
+use Rattle.masks.specs.Checks.{rank, place_in, span_checks}
+use Rattle.masks.specs.Mask.{mask_checks}
+use Rattle.masks.proofs.checks.CheckLaws.{first-number, one-check, passed-before}
+use Rattle.masks.proofs.refusal.RefusalLaws.{number-ne0, exit-number}
+use Rattle.grids.specs.Grid.{grid_checks}
+use Rattle.grids.proofs.grid.check_grid.Goals as goal
+
+pub returns-in_err-check_mask : goal.returns-in_err-check_mask
+unfolding grid_checks mask_checks span_checks rank place_in
+returns-in_err-check_mask c = record {
+  refused =
+      exit-number _ _ c.from_residual.ensures.1 ∙ first-number _ _ 11 _ refl c.in_err-check_mask.ensures.refused (number-ne0 _);
+}
+
+pub returns : goal.returns
+unfolding grid_checks
+returns c = record {
+  refused =
+      passed-before _ _ _ _ c.in_ok-check_mask.ensures.refused refl
+      (one-check _ _ _ _ c.check.ensures.refused c.is_grid.ensures);
+}
