@@ -28,11 +28,13 @@ fn written(flags: &[bool], serial: u32, out: &mut [u8]) -> Answer {
     Answer::record(State::Mask(Mask { start: 0, length: flags.len(), zeros, serial }))
 }
 
+/// Writes the flags of one column as frozen bytes, and returns their mask.
 pub fn grid_column(lent: Lent, rows: usize, columns: usize, c: usize, out: &mut [u8]) -> Answer {
     let checks = grid(lent, rows, columns).check(6, c < columns).holds(out, rows as u128);
     checks.answer(State::None, || written(&column(&lent.flags(), rows, columns, c), lent.mask.serial, out))
 }
 
+/// Writes the grid with rows and columns exchanged as frozen bytes, and returns its mask.
 pub fn grid_transpose(lent: Lent, rows: usize, columns: usize, out: &mut [u8]) -> Answer {
     let checks = grid(lent, rows, columns).holds(out, rows as u128 * columns as u128);
     checks.answer(State::None, || {
@@ -43,6 +45,7 @@ pub fn grid_transpose(lent: Lent, rows: usize, columns: usize, out: &mut [u8]) -
     })
 }
 
+/// Writes the number of zeros of each row, and returns how many rows there are.
 pub fn grid_row_zeros(lent: Lent, rows: usize, columns: usize, counts: &mut [u32]) -> Answer {
     let checks = grid(lent, rows, columns).check(9, counts.len() >= rows);
     checks.answer(State::None, || {
@@ -54,6 +57,7 @@ pub fn grid_row_zeros(lent: Lent, rows: usize, columns: usize, counts: &mut [u32
     })
 }
 
+/// Writes the number of zeros of each column, and returns how many columns there are.
 pub fn grid_column_zeros(lent: Lent, rows: usize, columns: usize, counts: &mut [u32]) -> Answer {
     let checks = grid(lent, rows, columns).check(9, counts.len() >= columns);
     checks.answer(State::None, || {
