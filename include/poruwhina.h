@@ -48,6 +48,9 @@ extern "C" {
 #define PW_REFUSED_ABOVE_LIMIT 1
 /* start + length is above 8 * the bytes lent. */
 #define PW_REFUSED_OUTSIDE_BYTES 2
+/* An end of 0 or below, one that is not above the end before it, a last end below the length, no runs for a length above 0, or a
+ * number of values that is not the number of ends. */
+#define PW_REFUSED_BROKEN_RUN_ENDS 13
 /* A known zero count is not the number of zeros among the flags. Each call that takes a mask counts a known one again. */
 #define PW_REFUSED_FALSE_COUNT 3
 /* Two masks with equal serials have different flags or lengths. */
@@ -67,8 +70,8 @@ extern "C" {
 #define PW_REFUSED_COUNT_NOT_OF_SLICE 7
 /* The address remainder is above 7. */
 #define PW_REFUSED_ADDRESS_REMAINDER 8
-/* The output, or the builder's buffer, has fewer than 8 * ceil(new length / 64) bytes, or the output of counts has fewer places than
- * there are counts. */
+/* The output, or the builder's buffer, has fewer than 8 * ceil(new length / 64) bytes, or the output of counts or of run ends has
+ * fewer places than there are counts or runs. */
 #define PW_REFUSED_OUTPUT_TOO_SMALL 9
 
 /* ---- records */
@@ -488,6 +491,27 @@ pw_number_answer pw_grid_row_zeros(pw_mask mask, const uint8_t *bytes, size_t by
  * places. Refuses with 1, 2, 3, 12, 9; every other field is then 0. */
 pw_number_answer pw_grid_column_zeros(pw_mask mask, const uint8_t *bytes, size_t bytes_len, size_t rows,
     size_t columns, uint32_t *counts, size_t counts_len);
+
+/* ---- A mask as run ends and a mask of their values, as Arrow's run-end encoded arrays have them. Ends are numbers of 32 bits with a
+ * sign, and any such number gets an answer. */
+
+/* Writes the frozen bytes of `length` flags at the start of `out` and returns the mask over them: flag p is the value of the first run
+ * whose end is above p. `values`, with its `bytes`, has the value of each run. The zero count is unknown, or known as 0 if `length` is
+ * 0; the serial is that of `values`. Refusal 13 means that an end is 0 or below or not above the one before it, that the last one is
+ * below `length`, that there are no ends for a length above 0, or that `values` has not as many flags as there are ends. Only the last
+ * end is held to the length: ends above it pass. `ends` and `bytes` may overlap; `out` must overlap neither. Refuses with 1, 2, 13, 3,
+ * 9; every other field is then 0. */
+pw_mask_answer pw_from_run_ends(const int32_t *ends, size_t ends_len, pw_mask values, const uint8_t *bytes,
+    size_t bytes_len, size_t length, uint8_t *out, size_t out_len);
+
+/* Writes the fewest runs that have the flags of `mask`: where each run ends at the start of `ends`, and the frozen bytes of the runs'
+ * flags at the start of `out`. Returns the mask of these flags, over `out`: its length is the number of runs, which is 0 for a mask of
+ * no flags, and the last end is the length of `mask`. Its zero count is unknown, or known as 0 if there are no runs; its serial is
+ * that of `mask`. Refusal 9 means that `ends` has fewer places than there are runs, or `out` fewer than 8 * ceil(runs / 64) bytes;
+ * neither is then written. `ends`, `out` and `bytes` must not overlap each other. Refuses with 1, 2, 3, 9; every other field is then
+ * 0. */
+pw_mask_answer pw_to_run_ends(pw_mask mask, const uint8_t *bytes, size_t bytes_len, int32_t *ends, size_t ends_len,
+    uint8_t *out, size_t out_len);
 
 /* ---- The cursors over runs, flags and positions. A step that finds nothing moves the cursor to the length. */
 

@@ -5,7 +5,7 @@ import re
 
 import calls_page
 import public_calls
-from public_calls import IDENT, files, read, uses, words_in
+from public_calls import IDENT, files, makes_only_a_record, read, uses, words_in
 
 STATIC = uses()[1]
 MASKED = public_calls.holders("Bitmap")
@@ -63,7 +63,7 @@ def counted(call):
 
 
 def makes_mask(call):
-    return call.gives(MASKED)
+    return call.gives(MASKED) and not makes_only_a_record(call)
 
 
 def has_records(call):

@@ -19,7 +19,7 @@ import sys
 
 ROOT = os.path.dirname(os.path.dirname(os.path.abspath(__file__)))
 PAGE = os.path.join(ROOT, "docs", "CALLS.md")
-CRATES = ("words", "activity", "masks", "grids", "dispatch", "report")
+CRATES = ("words", "activity", "masks", "grids", "run_ends", "dispatch", "report")
 TOTAL = re.compile(r"[\d,]+(?= lines of definitions\s+and\s+contracts)")
 NAME = r"[^\W\d][\w'-]*"
 SAID_IN = ("README.md", os.path.join("docs", "CALLS.md"), os.path.join("docs", "TRUST.md"))

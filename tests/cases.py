@@ -5,10 +5,10 @@
 
 The answers are those of tests/reference.py. A difference is printed with its line; the exit status is 1 if there is one.
 
-A line lends bytes (`x`, `y`, `z` to read, `o` to write) or numbers (`i`), or is a request with its answer, `NAME ARGUMENT .. = ANSWER ..`,
-and after `|` what the output holds after the call. A range has several values for some arguments, with commas or as `A..B`, and as its
-answer the number of calls and a checksum over all answers and outputs. `@K` means the last K numbers of the last answer, `@` the bytes
-that the last call left, `+` an output that continues where the last call left it."""
+A line lends bytes (`x`, `y`, `z` to read, `o` to write), numbers (`i`) or ends (`e`), or is a request with its answer, `NAME ARGUMENT .. =
+ANSWER ..`, and after `|` what each output holds after the call. A range has several values for some arguments, with commas, as `A..B` or as
+`A..B+S`, and as its answer the number of calls and a checksum over all answers and outputs. `@K` means the last K numbers of the last
+answer, `@` the bytes or the ends that the last call left, `+` an output that continues where the last call left it."""
 import struct
 import sys
 from itertools import product
@@ -17,9 +17,9 @@ sys.dont_write_bytecode = True
 import reference
 from reference import AND, AND_NOT, Lent, MISSING, NOT, OPS, OR, OR_NOT, Refused, SELECT, WORD, XOR, activity_counts, activity_new, aligned
 from reference import append, at_end, at_front, chunks_new, chunks_next, chunks_remainder, combine, count, count_of, extend_bitmap
-from reference import extend_repeated, full, gather, limited, merged, new_runs, next_chunk, next_run, next_true, nth_flag
+from reference import extend_repeated, from_run_ends, full, gather, limited, merged, new_runs, next_chunk, next_run, next_true, nth_flag
 from reference import num_intersections, over, piece, push_minutes, search, set_bit, slice_of, span_checks, split_at, superseding
-from reference import superseding_bytes, take_leading, true_new, word_checks, words_of, written, zeros
+from reference import superseding_bytes, take_leading, to_run_ends, true_new, word_checks, words_of, written, zeros
 from request_names import shapes
 
 SHOWN = 20
@@ -151,8 +151,9 @@ OTHERS = {
     "push_minute": lambda l, record, word: push_minutes(l.o, record, [word]),
     "push_minutes": lambda l, record, *a: push_minutes(l.o, record, run_of_minutes(*a)),
     "counts": lambda l, record: activity_counts(l.x.data, record),
+    "from_run_ends": lambda l, values, n: from_run_ends(l.e, values, l.x, n, l.o),
+    "to_run_ends": lambda l, mask: to_run_ends(mask, l.x, l.e, l.o),
 }
-
 
 
 def plainly(name, arguments, output):
@@ -169,13 +170,12 @@ def plainly(name, arguments, output):
     return answer
 
 
-# Of each call in the table of REQUESTS the kinds of its arguments and its output: WRITERS write bytes or numbers, LISTERS numbers.
+# Of each call in the table of REQUESTS the kinds of its arguments, and the letters of its outputs.
 SHAPES = shapes()
 KINDS = {"M": "M", "OM": "O", "B": "B", "W": "W", "C": "nnn", "T": "nnnn"}
 SPECS = {name: "".join(KINDS.get(kind, "n") for kind in arguments) for name, (arguments, _) in SHAPES.items()}
 CALLS = {name: OTHERS.get(name) or plainly(name, *shape) for name, shape in SHAPES.items()}
-WRITERS = {name for name, (_, output) in SHAPES.items() if output}
-LISTERS = {name for name, (_, output) in SHAPES.items() if output == "i"}
+OUTPUTS = {name: output.split(", ") if output else [] for name, (_, output) in SHAPES.items()}
 
 
 # The serial of the record that a call returns comes before its three numbers: 0 for a new record; that of the builder or of the mask; the
@@ -183,6 +183,7 @@ LISTERS = {name for name, (_, output) in SHAPES.items() if output == "i"}
 
 NEW = {"BitmapBuilder::new", "Bitmap::new", "new_zeroed", "try_new"}
 OWN = {name for name, spec in SPECS.items() if spec[:1] == "B"} | {"slice", "unset_bits", "grid_row", "grid_column", "grid_transpose"}
+OWN |= {"from_run_ends", "to_run_ends"}
 COMBINED = {"and", "and_not", "or", "or_not", "xor", "not", "select", "select_constant"}
 
 
@@ -209,7 +210,8 @@ def values(text):
     row = []
     for item in text.split(","):
         first, dots, end = item.partition("..")
-        row += range(number(first), number(end)) if dots else [token(item)]
+        end, _, step = end.partition("+")
+        row += range(number(first), number(end), number(step or "1")) if dots else [token(item)]
     return row
 
 
@@ -245,13 +247,13 @@ def symbols_of(answer):
 
 def output_symbols(out):
     if type(out) is list:
-        return out
+        return [number & 0xFFFFFFFF for number in out]
     padded = out + bytes(-len(out) % 8)
     return struct.unpack("<%dQ" % (len(padded) // 8), padded)
 
 
 class Lents:
-    """What is lent to one call, and the rest of the output, which is not lent."""
+    """What is lent to one call, and the rest of each output, which is not lent."""
 
 
 def arranged(spec):
@@ -267,17 +269,27 @@ def arranged(spec):
 ARRANGED = {name: arranged(spec) for name, spec in SPECS.items()}
 
 
+def held(after, before, out):
+    """Returns whether an output, which was `before`, holds what its line says."""
+    if after == "same":
+        return out == before
+    if after.startswith("#"):
+        return number(after[1:]) == taken(FIRST, output_symbols(out))
+    return out == (numbers_in if type(out) is list else bytes_in)(after.split(" "))
+
+
 class Reader:
     def __init__(self):
         self.bytes = {letter: b"" for letter in "xyzo"}
-        self.numbers, self.left, self.last, self.calls = [], b"", [], 0
+        self.lists = {letter: [] for letter in "ie"}
+        self.left, self.last, self.calls = {"o": b"", "e": []}, [], 0
         self.parts = {}
 
     def lend(self, letter, pieces):
-        if letter == "i":
-            self.numbers = numbers_in(pieces)
+        if letter in "ie":
+            self.lists[letter] = self.left[letter] if pieces == ["@"] else numbers_in(pieces)
             return
-        self.bytes[letter] = self.left if pieces == ["@"] else bytes_in(pieces)
+        self.bytes[letter] = self.left["o"] if pieces == ["@"] else bytes_in(pieces)
         self.parts = {key: lent for key, lent in self.parts.items() if key[0] != letter}
 
     def part(self, letter, size):
@@ -290,30 +302,32 @@ class Reader:
         l = Lents()
         l.x, l.y, l.z = [self.part(letter, sizes.get(letter)) for letter in "xyz"]
         l.serials = [sizes.get(letter, 0) for letter in "stu"]
-        l.i, l.o = self.numbers[: sizes.get("i")], self.bytes["o"][: sizes.get("o")]
-        l.whole = self.numbers if name in LISTERS else self.bytes["o"]
-        l.rest = l.whole[len(l.i if name in LISTERS else l.o) :]
+        l.o = self.bytes["o"][: sizes.get("o")]
+        l.i, l.e = [self.lists[letter][: sizes.get(letter)] for letter in "ie"]
+        l.whole = [self.lists.get(letter, self.bytes["o"]) for letter in OUTPUTS[name]]
+        l.rest = [whole[len(getattr(l, letter)) :] for letter, whole in zip(OUTPUTS[name], l.whole)]
         return l
 
     def call(self, name, row, l):
-        """Makes one call. Returns its answer, and what its output then holds, or None if it has no output."""
+        """Makes one call. Returns its answer, and what each of its outputs then holds."""
         self.calls += 1
-        out = None
+        letters = OUTPUTS[name]
+        outs = []
         try:
             answer = CALLS[name](l, *ARRANGED[name][1](row))
-            if type(answer) is tuple and name in WRITERS:
-                answer, out = answer
-                out = out + l.rest
+            if letters and type(answer) is tuple:
+                answer, *outs = answer
+                outs = [out + rest for out, rest in zip(outs, l.rest)]
             answer = [0, *answer]
         except Refused as refusal:
             answer = [refusal.args[0], *refusal.args[1]]
-            left = [out + l.rest for out in refusal.args[2:]]
-            out = (left or [l.whole])[0] if name in WRITERS else None
+            if letters:
+                outs = [out + rest for out, rest in zip(refusal.args[2:], l.rest)] or l.whole
         answer = with_serial(name, answer, l.serials)
         self.last = answer
-        if type(out) is bytes:
-            self.left = out
-        return answer, out
+        for letter, out in zip(letters, outs):
+            self.left[letter] = out
+        return answer, outs
 
     def request(self, text):
         """Makes a request. Returns whether its answer is right, and what it should be."""
@@ -345,24 +359,18 @@ class Reader:
 
     def single(self, name, rows, letters, told):
         ((row, l),) = self.choices(name, rows, letters)
-        answer, out = self.call(name, row, l)
-        answer_told, _, after = told.partition(" | ")
-        right = [token(word) for word in answer_told.split(" ")] == answer and (out is None) == (after == "")
-        if out is not None:
-            if after == "same":
-                right = right and out == l.whole
-            elif after.startswith("#"):
-                right = right and number(after[1:]) == taken(FIRST, output_symbols(out))
-            else:
-                right = right and out == (numbers_in if name in LISTERS else bytes_in)(after.split(" "))
-        return right, "%s | %s" % (answer, out if out is None or len(out) < 100 else "..")
+        answer, outs = self.call(name, row, l)
+        answer_told, *afters = told.split(" | ")
+        right = [token(word) for word in answer_told.split(" ")] == answer and len(outs) == len(afters)
+        right = right and all(map(held, afters, l.whole, outs))
+        return right, " | ".join([str(answer), *(str(out) if len(out) < 100 else ".." for out in outs)])
 
     def range(self, name, rows, letters, told):
         h, before = FIRST, self.calls
         for row, l in self.choices(name, rows, letters):
-            answer, out = self.call(name, row, l)
+            answer, outs = self.call(name, row, l)
             h = taken(h, symbols_of(answer))
-            if out is not None:
+            for out in outs:
                 h = taken(h, output_symbols(out))
         answer = "#%d x%x" % (self.calls - before, h)
         return told == answer, answer
@@ -375,7 +383,7 @@ def main():
             text = text[:-1]
             if text == "" or text[0] == "#":
                 continue
-            if text[0] in "xyzoi" and text[1:2] in ("", " "):
+            if text[0] in "xyzoie" and text[1:2] in ("", " "):
                 reader.lend(text[0], text.split(" ")[1:])
                 continue
             right, answer = reader.request(text)

@@ -10,7 +10,7 @@ the prover does not see that one is: without `unchanged` a call is still proved.
 - `Result<T, E>`: `refused`, the number of the first failed check; if T is not `()`, a clause that says the value, or one for each part of
   it. It equals something: the value itself, a part of it, or what READERS make of it.
 - An argument lent `&mut`: the value that it has if the call is accepted, under `OnOk` or `IfOk`; of a `Result` also that it is unchanged
-  after a refusal, under `OnErr`.
+  after a refusal, under `OnErr`; two such arguments in one clause `unchanged`.
 - An error that holds what was passed: `state`, that it is returned unchanged, under `IfErr`.
 - A part of lent bytes, `&[u8]`: which bytes and where they lie, `part` and `place`, if no check fails, and `refused_part` and
   `refused_place` if one does.
@@ -26,18 +26,18 @@ import sys
 from calls_page import head_of
 
 ROOT = pathlib.Path(__file__).resolve().parent.parent
-CRATES = ("masks", "grids", "dispatch")
+CRATES = ("masks", "grids", "run_ends", "dispatch")
 # The clauses that say no value, each with what it may be stated by.
 RULES = {
     "refused": r"(?:length ≢ 0 → )?(?:failure_of|failure_back|offer_failure) result ≡ (?:first_failed|earlier_of|cond holds 0) .+",
     "empty": r"length ≡ 0 → failure_of result ≡ 0",
     "bytes": r"OnOk result \(\w+\.new ≡ .+\)",
-    "unchanged": r"OnErr result \((\w+)\.new ≡ \1\.old\)",
+    "unchanged": r"OnErr result \((\w+)\.new ≡ \1\.old\)|OnErr result \(\((\w+)\.new ≡ \2\.old\) × \((\w+)\.new ≡ \3\.old\)\)",
     "state": r"IfErr result \(λ e\. e\.(?:state|cursor) ≡ (?:self|cursor|mask)\)|OnErr result \((\w+)\.new ≡ \1\.old\)",
 }
 # The clauses that say a value, by what it is.
-VALUES = ("appended", "bound", "counts", "cursor", "edges", "flag", "found", "mask", "number", "offering", "part", "position")
-VALUES += ("positions", "spans", "split", "step", "word", "zeros")
+VALUES = ("appended", "bound", "counts", "cursor", "edges", "ends", "flag", "found", "mask", "number", "offering", "part")
+VALUES += ("position", "positions", "spans", "split", "step", "word", "zeros")
 # What a value is read by, if a clause says neither it nor a part of it.
 READERS = ("filling", "step_of")
 # The name of the clause on a value of these types.
@@ -223,6 +223,9 @@ def wrong_texts(name, text):
         yield "IfErr result (λ e. e.state ≡ e.state)"
     elif name in ("bytes", "unchanged"):
         yield re.sub(r"\((\w+)\.new ≡ .*\)", r"(length \1.new ≡ length \1.old)", text)
+    if " × " in text:
+        yield re.sub(r"\((\(.*?\)) × \(.*?\)\)", r"\1", text)
+        yield re.sub(r"\(\(.*?\) × (\(.*?\))\)", r"\1", text)
 
 
 def main():

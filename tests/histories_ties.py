@@ -4,10 +4,10 @@
 
 The theorem on histories is about definitions: a step of histories/proofs/statements/History.antt applies one to the state (`try_new_of`,
 `append_answer` and `append_bytes`, `freeze_of`, `into_opt_validity_of`, `freeze_bytes`). It is about the code if the contract of the call
-has the same definition of the same arguments. Calls that make a mask from masks are tied to their rows by functions (rows.rt and
-grid_rows.rt of histories/src/); this script is for the others: `try_new`, `freeze`, `into_opt_validity`, and for each constructor of
-`Append` (masks/specs/equations/Appends.antt) the calls of APPENDS, whose arguments are those of the constructor in the same order. A call
-is tied by
+has the same definition of the same arguments. Calls that make a mask from masks are tied to their rows by functions (rows.rt,
+grid_rows.rt and run_end_rows.rt of histories/src/); this script is for the others: `try_new`, `freeze`, `into_opt_validity`, and for each
+constructor of `Append` (masks/specs/equations/Appends.antt) the calls of APPENDS, whose arguments are those of the constructor in the same
+order. A call is tied by
 
     itself      its `ensures` are the equations: its result read as an answer, and `buf.new`, with the definitions of the step
     its export  the `ensures` of pw_NAME in capi/src are these equations, and pw_NAME calls it; or

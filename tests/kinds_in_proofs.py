@@ -5,7 +5,7 @@ import re
 import proof_rows
 from call_kinds import CALLS, FREE, MAY, OTHERS, citing, counted, forms, is_call, kind, makes_mask, may_fail, naming, proving, refusing_call
 from call_kinds import MASKED, SERIALS, reached, rows_of, saying, several_numbers, specs
-from public_calls import IDENT, files, read, uses, words_in
+from public_calls import IDENT, files, makes_only_a_record, read, uses, words_in
 
 
 @kind("definition", "the definition, in specs/", applies=lambda call: is_call(call) or call.definitions)
@@ -128,7 +128,8 @@ def count(call):
     return citing(call, "statements/*Plain.antt", "unset")
 
 
-@kind("serial", "the serial of the record that it makes or changes", applies=lambda call: call.gives(SERIALS))
+@kind("serial", "the serial of the record that it makes or changes",
+      applies=lambda call: call.gives(SERIALS) and not makes_only_a_record(call))
 def serial(call):
     return citing(call, "statements/*Plain.antt", "serial")
 

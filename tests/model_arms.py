@@ -10,7 +10,7 @@ import pathlib
 import re
 import sys
 
-from request_names import table
+from request_names import OUTPUTS, table
 
 ROOT = pathlib.Path(__file__).resolve().parent.parent
 WRITTEN = ROOT / "compare/cases/src/asked.rs"
@@ -29,6 +29,8 @@ TAKES = {
     "&mut [u8]": ("l.o", []),
     "&[u32]": ("l.i", []),
     "&mut [u32]": ("l.i", []),
+    "&[i32]": ("l.e", []),
+    "&mut [i32]": ("l.e", []),
     "usize": ("a.number()", [None]),
     "u64": ("a.word()", [None]),
     "bool": ("a.flag()", [None]),
@@ -60,9 +62,8 @@ def arm(module, name, parameters, shape):
                 return None
             left.pop(0)
         given.append(text.format(next(lent)) if "{}" in text else text)
-    outputs = {"": "None", "o": "Bytes", "i": "Numbers"}
     call = f"{module}::{name}({', '.join(given)})"
-    return None if left else (f'"{name}"', call, f"{values(answer)}, Output::{outputs[output]}")
+    return None if left else (f'"{name}"', call, f"{values(answer)}, Output::{OUTPUTS[output] if output else None}")
 
 
 def wrapped(name, call, rest):

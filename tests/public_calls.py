@@ -126,10 +126,15 @@ def makes_only_checks(call):
     return bool(checks) and not call.writes
 
 
+def makes_only_a_record(call):
+    """Whether it only makes the record that calls of crates above return: a mask, of no bytes and with no refusal."""
+    return not call.owner and call.result == "Bitmap"
+
+
 def is_call(call):
     """Whether a public function is a call. `words` refuses nothing and has functions for the crates above it: there a call is what the
     reference names."""
-    if makes_only_checks(call):
+    if makes_only_checks(call) or makes_only_a_record(call):
         return False
     return bool(uses()[0][call.crate]) or f"`{call.short}(" in read("docs/REFERENCE.md")
 

@@ -5,7 +5,8 @@ significant bit first, so that the bytes read as one number, the first byte lowe
 the reference's: its checks by their numbers, and what each call answers, as a list; a call that has an output returns it after the list.
 Sums and products are exact. Nothing here is taken from the library or from the model that writes the case file."""
 import struct
-from functools import lru_cache
+from bisect import bisect_right
+from functools import lru_cache, partial
 
 LIMIT = 4194304
 WORD = 2**64 - 1
@@ -467,6 +468,29 @@ def grid_column_zeros(mask, lent, rows, columns, out):
     check(grid_checks(mask, lent, rows, columns) + [(9, columns <= len(out))])
     text = digits(mask, lent)
     return counted([text[column::columns].count("0") for column in range(columns)], out)
+
+
+# Run ends: a run has each position below its end that no run before it has.
+
+
+def from_run_ends(ends, values, lent, n, out):
+    """Position p takes the value of the first run whose end is above p. As ends rise, the runs before it are those with ends up to p."""
+    rising = all(low < high for low, high in zip([0, *ends], ends))
+    reached = ends[-1] >= n if ends else n == 0
+    check(mask_checks(values, lent) + limited(n) + [(13, rising and reached and len(ends) == values[1])] + room_checks(out, n))
+    text = digits(values, lent)
+    return of_digits("".join(map(text.__getitem__, map(partial(bisect_right, ends), range(n)))), out)
+
+
+def to_run_ends(mask, lent, ends, out):
+    """The fewest runs: a new one begins only where a flag differs from the one before it."""
+    check(mask_checks(mask, lent))
+    text = digits(mask, lent)
+    begins = [p for p, (before, flag) in enumerate(zip(" " + text, text)) if flag != before]
+    check([(9, len(begins) <= len(ends))] + room_checks(out, len(begins)))
+    written_ends = begins[1:] + [len(text)] * (len(begins) > 0)
+    record, out = of_digits("".join(text[p] for p in begins), out)
+    return record, written_ends + ends[len(begins) :], out
 
 
 # Cursors: start, length, place; the one over positions also has whether there is a mask.

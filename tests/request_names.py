@@ -17,7 +17,7 @@ ROOT = pathlib.Path(__file__).resolve().parent.parent
 NAMES = ROOT / "crates/notation/src/names.rt"
 GROUPS = ROOT / "crates/notation/src/call.rt"
 SIZES = {"M": 3, "B": 3, "C": 3, "W": 3, "T": 4, "OM": 4}
-OUTPUTS = {"": "Nothing", "o": "Bytes", "i": "Numbers"}
+OUTPUTS = {"": "Nothing", "o": "Bytes", "i": "Numbers", "e, o": "EndsAndBytes"}
 LINE = re.compile(r'(?m)^    "([^"]+)" (\d+) (\w+) Call::(.*);$')
 
 

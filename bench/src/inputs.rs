@@ -27,6 +27,8 @@ pub enum Kind {
     Half,
     /// Alternating runs of zeros and ones, each of 1 to 63 flags.
     Runs,
+    /// The same, each of 1 to 6,000 flags.
+    LongRuns,
     /// One flag in 64 is set.
     Sparse,
     /// One flag in 64 is not set.
@@ -41,6 +43,7 @@ impl Kind {
         match self {
             Kind::Half => "half set",
             Kind::Runs => "runs of 1 to 63",
+            Kind::LongRuns => "runs of 1 to 6,000",
             Kind::Sparse => "1 in 64 set",
             Kind::Dense => "63 in 64 set",
             Kind::Ones => "all set",
@@ -50,11 +53,12 @@ impl Kind {
 
     /// Returns `length` flags of this kind.
     fn flags(self, length: usize, words: &mut Words) -> Vec<bool> {
-        if self == Kind::Runs {
-            let mut flags = Vec::with_capacity(length + 63);
+        if matches!(self, Kind::Runs | Kind::LongRuns) {
+            let longest = if self == Kind::Runs { 63 } else { 6_000 };
+            let mut flags = Vec::with_capacity(length + longest);
             while flags.len() < length {
                 let flag = flags.last().is_some_and(|last: &bool| !last);
-                let run = 1 + words.below(63) as usize;
+                let run = 1 + words.below(longest as u64) as usize;
                 flags.resize(flags.len() + run, flag);
             }
             flags.truncate(length);

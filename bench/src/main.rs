@@ -10,6 +10,7 @@ mod driver;
 mod inputs;
 mod plain;
 mod plain_grids;
+mod plain_run_ends;
 mod table;
 mod timing;
 
@@ -34,6 +35,7 @@ fn main() {
     cases::builders::run(&driver);
     cases::minutes::run(&driver);
     cases::grids::run(&driver);
+    cases::run_ends::run(&driver);
 }
 
 fn make_table(words: &[String]) {

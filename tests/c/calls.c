@@ -389,6 +389,63 @@ static void grids(void) {
     CHECK(untouched());
 }
 
+enum { PLACES = 6 };
+static int32_t places[PLACES];
+
+/* Returns whether the places hold these ends, and are unchanged after them. */
+static bool has_ends(const int32_t *ends, size_t n) {
+    bool right = true;
+    for (size_t i = 0; i < PLACES; i++) {
+        if (places[i] != (i < n ? ends[i] : -99)) right = false;
+        places[i] = -99;
+    }
+    return right;
+}
+
+/* Tests run ends that are read and written, and refusals, after which neither output is written. */
+static void run_ends(void) {
+    const int32_t ends[3] = {2, 3, 7}, written[3] = {2, 3, 5}, furthest[2] = {3, INT32_MAX};
+    const uint8_t values[1] = {0x28}, two[1] = {0x01}; /* from bit 3: 1,0,1; 1,0 */
+    const pw_mask runs = {3, 3, 0, 0, 7}, both = {0, 2, 0, 0, 7}, none = {0, 0, 0, 0, 7};
+    has_ends(NULL, 0);
+    clean();
+    pw_mask_answer read = pw_from_run_ends(ends, 3, runs, values, 1, 5, out, 8);
+    CHECK(read.refusal == 0 && is_mask(read.mask, 0, 5, 0, 0) && read.mask.serial == 7);
+    CHECK(holds_word(0x1B)); /* 1,1,0,1,1 */
+    uint8_t again[9] = {0, 0, 0, 0, 0, 0, 0, 0, 0xEE};
+    pw_mask_answer wrote = pw_to_run_ends(read.mask, out, 8, places, PLACES, again, 9);
+    CHECK(wrote.refusal == 0 && is_mask(wrote.mask, 0, 3, 0, 0) && wrote.mask.serial == 7);
+    CHECK(again[0] == 0x05 && again[7] == 0 && again[8] == 0xEE && has_ends(written, 3));
+    CHECK(pw_to_run_ends(MASK_A, A, 1, places, 5, again, 8).mask.length == 5 && again[0] == 0x15);
+    has_ends(NULL, 0);
+
+    clean();
+    CHECK(pw_from_run_ends(furthest, 2, both, two, 1, 4, out, 8).refusal == 0 && holds_word(0x07));
+    clean();
+    read = pw_from_run_ends(ends, 2, both, two, 1, 0, NULL, 0); /* length 0: with rising ends, and with none */
+    CHECK(read.refusal == 0 && is_mask(read.mask, 0, 0, 0, 1) && read.mask.serial == 7);
+    CHECK(pw_from_run_ends(NULL, 0, none, NULL, 0, 0, NULL, 0).refusal == 0);
+    wrote = pw_to_run_ends(none, NULL, 0, NULL, 0, NULL, 0);
+    CHECK(wrote.refusal == 0 && is_mask(wrote.mask, 0, 0, 0, 1) && wrote.mask.serial == 7);
+
+    const int32_t broken[5][2] = {{0, 5}, {-1, 5}, {3, 3}, {5, 3}, {3, 4}};
+    for (int i = 0; i < 5; i++) CHECK(pw_from_run_ends(broken[i], 2, both, two, 1, 5, out, 8).refusal == PW_REFUSED_BROKEN_RUN_ENDS);
+    CHECK(pw_from_run_ends(ends, 3, both, two, 1, 5, out, 8).refusal == PW_REFUSED_BROKEN_RUN_ENDS);
+    CHECK(pw_from_run_ends(NULL, 0, none, NULL, 0, 1, out, 8).refusal == PW_REFUSED_BROKEN_RUN_ENDS);
+    /* of several checks that fail: 1, then 2, then 13, then 3, then 9 */
+    const pw_mask counted = {0, 2, 0, 1, 7};
+    CHECK(pw_from_run_ends(broken[3], 2, counted, two, 0, PW_FLAG_LIMIT + 1, out, 7).refusal == PW_REFUSED_ABOVE_LIMIT);
+    CHECK(pw_from_run_ends(broken[3], 2, counted, two, 0, 5, out, 7).refusal == PW_REFUSED_OUTSIDE_BYTES);
+    CHECK(pw_from_run_ends(broken[3], 2, counted, two, 1, 5, out, 7).refusal == PW_REFUSED_BROKEN_RUN_ENDS);
+    CHECK(pw_from_run_ends(ends, 2, counted, two, 1, 3, out, 7).refusal == PW_REFUSED_FALSE_COUNT);
+    CHECK(pw_from_run_ends(ends, 2, both, two, 1, 3, out, 7).refusal == PW_REFUSED_OUTPUT_TOO_SMALL);
+    CHECK(pw_to_run_ends(counted, two, 1, places, 1, out, 7).refusal == PW_REFUSED_FALSE_COUNT);
+    CHECK(pw_to_run_ends(both, two, 1, places, 1, out, 8).refusal == PW_REFUSED_OUTPUT_TOO_SMALL);
+    wrote = pw_to_run_ends(both, two, 1, places, 2, out, 7);
+    CHECK(wrote.refusal == PW_REFUSED_OUTPUT_TOO_SMALL && is_mask(wrote.mask, 0, 0, 0, 0) && wrote.mask.serial == 0);
+    CHECK(untouched() && has_ends(NULL, 0));
+}
+
 static void at_one_index(void) {
     const uint8_t other[1] = {0x04};
     CHECK(pw_and_not_at(true, MASK_A, A, 1, true, MASK_A, other, 1, 0).value);
@@ -515,6 +572,7 @@ int main(void) {
     cursors();
     position_chunks();
     grids();
+    run_ends();
     at_one_index();
     dispatch();
     offering();

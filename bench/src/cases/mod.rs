@@ -6,6 +6,7 @@ pub mod counts;
 pub mod cursors;
 pub mod grids;
 pub mod minutes;
+pub mod run_ends;
 pub mod searches;
 
 use crate::inputs::Input;

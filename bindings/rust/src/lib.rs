@@ -2,10 +2,11 @@
 //! proved against its contract.
 //!
 //! A [`Bitmap`] is made from bytes, from flags or by a [`BitmapBuilder`]. It can be sliced, combined with others, counted, searched
-//! and iterated over. A [`Grid`] has the flags of a mask in rows and columns, as pits by trucks. [`may_reassign`] answers for one truck,
-//! [`offer`] returns the next one. An [`ActivityWindow`] counts in how many of the last minutes each truck was busy. The names are those
-//! of polars-arrow's bitmap module, of which the library is a port. A call that cannot be carried out returns a [`Refusal`], which has a
-//! number and a message, and has changed nothing; operators and conversions panic instead.
+//! and iterated over. A [`Grid`] has the flags of a mask in rows and columns, as pits by trucks. [`Bitmap::from_run_ends`] and
+//! [`Bitmap::run_ends`] read and write a mask as Arrow's run ends. [`may_reassign`] answers for one truck, [`offer`] returns the next
+//! one. An [`ActivityWindow`] counts in how many of the last minutes each truck was busy. The names are those of polars-arrow's bitmap
+//! module, of which the library is a port. A call that cannot be carried out returns a [`Refusal`], which has a number and a message,
+//! and has changed nothing; operators and conversions panic instead.
 //!
 //! ```
 //! use poruwhina::{Bitmap, BitmapBuilder, Permission, may_reassign};
@@ -104,10 +105,10 @@
 //! # What is not proved
 //!
 //! The Rust of this crate is not proved. It keeps records and bytes, keeps the positions that a call returned until they are requested,
-//! allocates memory, and computes the number of bytes for a number of flags. It subtracts the zeros from the length for
-//! [`Bitmap::set_bits`] and a place from a length for the iterators' `size_hint`, multiplies a row of a [`Grid`] by the columns if the row
-//! would start above the limit, ends a round of [`offers`] at its first truck, and makes `Option`, `Result` and text from answers. It never
-//! reads or writes a flag itself. The README lists what else must be believed.
+//! allocates memory, and computes the number of bytes for a number of flags and, from [`Bitmap::num_edges`], of places for run ends. It
+//! subtracts the zeros from the length for [`Bitmap::set_bits`] and a place from a length for the iterators' `size_hint`, multiplies a
+//! row of a [`Grid`] by the columns if the row would start above the limit, ends a round of [`offers`] at its first truck, and makes
+//! `Option`, `Result` and text from answers. It never reads or writes a flag itself. The README lists what else must be believed.
 //!
 //! # What a call costs
 //!
@@ -140,6 +141,7 @@ mod grid;
 mod iterator;
 mod offer;
 mod refusal;
+mod run_ends;
 
 pub use activity::ActivityWindow;
 pub use bitmap::Bitmap;

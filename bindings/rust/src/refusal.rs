@@ -32,6 +32,9 @@ pub enum Refusal {
     AboveLimit = 1,
     /// 2: start + length is above 8 * the bytes lent.
     OutsideBytes = 2,
+    /// 13: an end of 0 or below, one that is not above the end before it, a last end below the length, no runs for a length above 0,
+    /// or a number of values that is not the number of ends.
+    BrokenRunEnds = 13,
     /// 3: a known zero count is not the number of zeros among the flags. Each call that takes a mask counts a known one again.
     FalseCount = 3,
     /// 14: two masks with equal serials have different flags or lengths.
@@ -51,15 +54,16 @@ pub enum Refusal {
     CountNotOfSlice = 7,
     /// 8: the address remainder is above 7.
     AddressRemainder = 8,
-    /// 9: the output, or the builder's buffer, has fewer than 8 * ceil(new length / 64) bytes, or the output of counts has fewer
-    /// places than there are counts.
+    /// 9: the output, or the builder's buffer, has fewer than 8 * ceil(new length / 64) bytes, or the output of counts or of run ends
+    /// has fewer places than there are counts or runs.
     OutputTooSmall = 9,
 }
 
-const ALL: [Refusal; 12] = [
+const ALL: [Refusal; 13] = [
     Refusal::ImpossibleWindow,
     Refusal::AboveLimit,
     Refusal::OutsideBytes,
+    Refusal::BrokenRunEnds,
     Refusal::FalseCount,
     Refusal::SerialConflict,
     Refusal::ImpossibleBuilder,
@@ -99,6 +103,7 @@ impl Refusal {
             Refusal::ImpossibleWindow => "the width is not 1 to 256, or no run of minutes leaves the window",
             Refusal::AboveLimit => "a start or a length is above 4,194,304",
             Refusal::OutsideBytes => "start + length is above 8 * the bytes lent",
+            Refusal::BrokenRunEnds => "the run ends do not rise from above 0 to the length, or are not as many as their values",
             Refusal::FalseCount => "a known zero count is not the number of zeros",
             Refusal::SerialConflict => "the masks have equal serials and different flags",
             Refusal::ImpossibleBuilder => "the builder is not possible: its word, ones or buffer do not fit its length",
@@ -107,7 +112,7 @@ impl Refusal {
             Refusal::OutsideMask => "the inner piece does not lie in its mask",
             Refusal::CountNotOfSlice => "the known count is below the zeros cut off, or the rest above the new length",
             Refusal::AddressRemainder => "the address remainder is above 7",
-            Refusal::OutputTooSmall => "the output does not hold 8 * ceil(new length / 64) bytes, or all counts",
+            Refusal::OutputTooSmall => "the output does not hold 8 * ceil(new length / 64) bytes, or all counts or ends",
         }
     }
 }

@@ -3,7 +3,7 @@
 
 use crate::arguments::Args;
 use crate::calls::{Lents, Output, Reply, plainly};
-use model::{builder, combine, dispatch, grids, loops, mask, next, spans, superseding, words};
+use model::{builder, combine, dispatch, grids, loops, mask, next, run_ends, spans, superseding, words};
 
 /// Returns the answer of the call if a function of the model has its name.
 pub fn answer(name: &str, a: &mut Args, l: &mut Lents) -> Option<Reply> {
@@ -14,6 +14,7 @@ pub fn answer(name: &str, a: &mut Args, l: &mut Lents) -> Option<Reply> {
         .or_else(|| of_loops(name, a, l))
         .or_else(|| of_mask(name, a, l))
         .or_else(|| of_next(name, a, l))
+        .or_else(|| of_run_ends(name, a, l))
         .or_else(|| of_spans(name, a, l))
         .or_else(|| of_superseding(name, a, l))
         .or_else(|| of_words(name, a, l))
@@ -94,6 +95,14 @@ fn of_next(name: &str, a: &mut Args, l: &mut Lents) -> Option<Reply> {
     Some(match name {
         "next_and_not" => plainly(next::next_and_not(a.lent(l.x), a.lent_or_none(l.y), a.number()), 2, Output::None),
         "offer" => plainly(next::offer(a.lent_or_none(l.x), a.lent_or_none(l.y), a.number()), 3, Output::None),
+        _ => return None,
+    })
+}
+
+fn of_run_ends(name: &str, a: &mut Args, l: &mut Lents) -> Option<Reply> {
+    Some(match name {
+        "from_run_ends" => plainly(run_ends::from_run_ends(l.e, a.lent(l.x), a.number(), l.o), 0, Output::Bytes),
+        "to_run_ends" => plainly(run_ends::to_run_ends(a.lent(l.x), l.e, l.o), 0, Output::EndsAndBytes),
         _ => return None,
     })
 }

@@ -10,21 +10,23 @@ use model::loops::{self, Stretch, WordOp};
 use model::spans::{self, Count};
 use model::{Answer, Builder, Cursor, Mask, Span, State, builder, cursors, mask, superseding, words};
 
-/// The bytes and numbers lent to one call.
+/// The bytes, numbers and ends lent to one call.
 pub struct Lents<'a> {
     pub x: &'a [u8],
     pub y: &'a [u8],
     pub z: &'a [u8],
     pub o: &'a mut [u8],
     pub i: &'a mut [u32],
+    pub e: &'a mut [i32],
 }
 
-/// The output that a call writes to: none, the bytes o or the numbers i.
+/// What a call writes to: nothing, the bytes o, the numbers i, or the ends e and the bytes o.
 #[derive(Clone, Copy, PartialEq, Eq)]
 pub enum Output {
     None,
     Bytes,
     Numbers,
+    EndsAndBytes,
 }
 
 /// The tokens of an answer, and the output that is compared.

@@ -4,12 +4,12 @@ use crate::arguments::Args;
 use crate::calls::{Lents, Output, Reply, answer};
 use crate::token::{Checksum, Token, values};
 use std::collections::BTreeMap;
-use std::fmt::Write;
+use std::fmt::{Display, Write};
 
 /// The longest output that is written byte by byte; a longer one is written as its checksum.
 const SHOWN: usize = 56;
 
-/// The longest text of an output of numbers; numbers with a longer one are written as their checksum.
+/// The longest text of an output of numbers or ends; what has a longer one is written as its checksum.
 const COUNTED: usize = 4096;
 
 /// How many requests a call has, how many single calls these make, and how many of those are refused.
@@ -24,12 +24,14 @@ pub struct Tally {
 #[derive(Default)]
 pub struct File {
     pub text: String,
-    /// x, y, z and o as they are lent, and in `numbers` i.
+    /// x, y, z and o as they are lent, in `numbers` i and in `ends` e.
     bytes: [Vec<u8>; 4],
     numbers: Vec<u32>,
-    /// The answer of the last call, and in `left` what it left in o.
+    ends: Vec<i32>,
+    /// The answer of the last call, in `left` what it left in o, and in `left_ends` in e.
     pub last: Vec<Token>,
     pub left: Vec<u8>,
+    left_ends: Vec<i32>,
     pub tallies: BTreeMap<String, Tally>,
 }
 
@@ -37,10 +39,17 @@ pub struct File {
 struct Choice<'a> {
     name: &'a str,
     arguments: Vec<Token>,
-    /// How many bytes of x, y, z and o and numbers of i are lent.
-    sizes: [usize; 5],
+    /// How many bytes of x, y, z and o, numbers of i and ends of e are lent.
+    sizes: [usize; 6],
     /// The serials s, t and u of the records, in their order.
     serials: [u32; 3],
+}
+
+/// What o, i and e hold after a call.
+struct Left {
+    bytes: Vec<u8>,
+    numbers: Vec<u32>,
+    ends: Vec<i32>,
 }
 
 /// An argument, a size or a serial, with its values.
@@ -98,6 +107,20 @@ impl File {
         }
     }
 
+    /// Lends the ends e.
+    pub fn lend_ends(&mut self, ends: &[i32]) {
+        if self.ends != ends {
+            self.ends = ends.to_vec();
+            self.line(format!("e {}", counted(ends)).trim_end());
+        }
+    }
+
+    /// Lends the ends that the last call left in e.
+    pub fn lend_left_ends(&mut self) {
+        self.ends = self.left_ends.clone();
+        self.line("e @");
+    }
+
     fn line(&mut self, text: &str) {
         assert!(text.len() < 16_384, "a line that is too long");
         self.text.push_str(text);
@@ -128,19 +151,21 @@ impl File {
         }
         match word.split_once(':') {
             Some((letter, serials)) if "stu".contains(letter) => vec![Part::Serial("stu".find(letter).unwrap(), values(serials))],
-            Some((letter, sizes)) => vec![Part::Size("xyzoi".find(letter).expect("a letter"), values(sizes))],
+            Some((letter, sizes)) => vec![Part::Size("xyzoie".find(letter).expect("a letter"), values(sizes))],
             None => vec![Part::Argument(values(word))],
         }
     }
 
     fn single(&mut self, name: &str, parts: &[Part]) -> String {
-        let (reply, bytes, numbers) = self.call(choice(name, parts, 0));
+        let (reply, left) = self.call(choice(name, parts, 0));
         let tokens: Vec<String> = reply.tokens.iter().map(Token::to_string).collect();
         let answer = tokens.join(" ");
+        let bytes = after(&self.bytes[3], &left.bytes);
         match reply.output {
             Output::None => answer,
-            Output::Bytes => format!("{answer} | {}", after(&self.bytes[3], &bytes)),
-            Output::Numbers => format!("{answer} | {}", numbers_after(&self.numbers, &numbers)),
+            Output::Bytes => format!("{answer} | {bytes}"),
+            Output::Numbers => format!("{answer} | {}", list_after(&self.numbers, &left.numbers, u64::from)),
+            Output::EndsAndBytes => format!("{answer} | {} | {bytes}", list_after(&self.ends, &left.ends, bits)),
         }
     }
 
@@ -149,21 +174,25 @@ impl File {
         assert!(calls <= 4_194_304, "a range of too many calls");
         let mut sum = Checksum::new();
         for number in 0..calls {
-            let (reply, bytes, numbers) = self.call(choice(name, parts, number));
+            let (reply, left) = self.call(choice(name, parts, number));
             sum.take_tokens(&reply.tokens);
             match reply.output {
                 Output::None => {}
-                Output::Bytes => sum.take_bytes(&bytes),
-                Output::Numbers => numbers.iter().for_each(|&number| sum.take(number.into())),
+                Output::Bytes => sum.take_bytes(&left.bytes),
+                Output::Numbers => left.numbers.iter().for_each(|&number| sum.take(number.into())),
+                Output::EndsAndBytes => {
+                    left.ends.iter().for_each(|&end| sum.take(bits(end)));
+                    sum.take_bytes(&left.bytes);
+                }
             }
         }
         format!("#{calls} x{:x}", sum.0)
     }
 
-    /// Makes one call and returns its answer and what o and i hold after it.
-    fn call(&mut self, choice: Choice) -> (Reply, Vec<u8>, Vec<u32>) {
-        let (mut bytes, mut numbers) = (self.bytes[3].clone(), self.numbers.clone());
-        let [x, y, z, o, i] = choice.sizes;
+    /// Makes one call and returns its answer and what its outputs hold after it.
+    fn call(&mut self, choice: Choice) -> (Reply, Left) {
+        let (mut bytes, mut numbers, mut ends) = (self.bytes[3].clone(), self.numbers.clone(), self.ends.clone());
+        let [x, y, z, o, i, e] = choice.sizes;
         let cut = |bytes: usize, most: usize| bytes.min(most);
         let lents = Lents {
             x: &self.bytes[0][..cut(x, self.bytes[0].len())],
@@ -171,16 +200,20 @@ impl File {
             z: &self.bytes[2][..cut(z, self.bytes[2].len())],
             o: &mut bytes[..cut(o, self.bytes[3].len())],
             i: &mut numbers[..cut(i, self.numbers.len())],
+            e: &mut ends[..cut(e, self.ends.len())],
         };
         let reply = answer(choice.name, Args(&choice.arguments, &choice.serials), lents);
         let tally = self.tallies.entry(choice.name.to_string()).or_default();
         tally.calls += 1;
         tally.refusals += usize::from(reply.tokens[0] != Token::Number(0));
         self.last = reply.tokens.clone();
-        if reply.output == Output::Bytes {
+        if matches!(reply.output, Output::Bytes | Output::EndsAndBytes) {
             self.left = bytes.clone();
         }
-        (reply, bytes, numbers)
+        if reply.output == Output::EndsAndBytes {
+            self.left_ends = ends.clone();
+        }
+        (reply, Left { bytes, numbers, ends })
     }
 }
 
@@ -201,7 +234,7 @@ fn choice<'a>(name: &'a str, parts: &[Part], number: usize) -> Choice<'a> {
         rest /= part.values().len();
     }
     picked.reverse();
-    let mut choice = Choice { name, arguments: Vec::new(), sizes: [usize::MAX; 5], serials: [0; 3] };
+    let mut choice = Choice { name, arguments: Vec::new(), sizes: [usize::MAX; 6], serials: [0; 3] };
     for (part, token) in parts.iter().zip(picked) {
         match (part, token) {
             (Part::Argument(_), token) => choice.arguments.push(token),
@@ -230,18 +263,23 @@ fn after(before: &[u8], bytes: &[u8]) -> String {
     format!("#x{:x}", sum.0)
 }
 
-/// Returns the text of an output of numbers after a call: `same`, its pieces or its checksum.
-fn numbers_after(before: &[u32], numbers: &[u32]) -> String {
-    if before == numbers {
+/// Returns the text of an output of numbers or ends after a call: `same`, its pieces or its checksum, which takes in `symbol` of each.
+fn list_after<T: Copy + PartialEq + Display>(before: &[T], list: &[T], symbol: impl Fn(T) -> u64) -> String {
+    if before == list {
         return "same".to_string();
     }
-    let text = counted(numbers);
+    let text = counted(list);
     if text.len() <= COUNTED {
         return text;
     }
     let mut sum = Checksum::new();
-    numbers.iter().for_each(|&number| sum.take(number.into()));
+    list.iter().for_each(|&number| sum.take(symbol(number)));
     format!("#x{:x}", sum.0)
+}
+
+/// Returns the number that the 32 bits of an end have without a sign.
+fn bits(end: i32) -> u64 {
+    end.cast_unsigned().into()
 }
 
 /// Returns bytes as pieces: a byte that comes at least four times in a row is written once, with their number.
@@ -260,8 +298,8 @@ fn pieces(bytes: &[u8]) -> String {
     texts.join(" ")
 }
 
-/// Returns numbers as pieces: one that comes several times in a row is written once, with their number.
-fn counted(numbers: &[u32]) -> String {
+/// Returns numbers or ends as pieces: one that comes several times in a row is written once, with their number.
+fn counted<T: Copy + PartialEq + Display>(numbers: &[T]) -> String {
     let runs = numbers.chunk_by(|a, b| a == b);
     let texts: Vec<String> =
         runs.map(|run| if run.len() == 1 { run[0].to_string() } else { format!("{}*{}", run[0], run.len()) }).collect();

@@ -2,11 +2,11 @@
 //! and columns of any size, counts of every kind, and several checks that fail.
 
 use crate::file::File;
+use crate::lists::every_list;
 use crate::masks::brought;
 use crate::patterns::{MAX, MOST, paint, whole};
 use crate::several::choices;
 use crate::token::{Token, list, show};
-use std::collections::HashSet;
 
 /// Calls that take a grid, and what stands after its numbers.
 const CALLS: [(&str, &str); 5] =
@@ -104,31 +104,11 @@ fn every(f: &mut File, mask: &str, rows: u64, columns: u64) {
     f.ask(&format!("grid_column_zeros {mask} {rows} {columns}"));
 }
 
-/// Returns flags in which every list of n flags stands: n zeros, then a one wherever the last n flags are then a list that is new.
-fn all_lists(n: usize) -> Vec<bool> {
-    let mut flags = vec![false; n];
-    let mut seen = HashSet::from([flags.clone()]);
-    loop {
-        let last = &flags[flags.len() + 1 - n..];
-        match [true, false].into_iter().find(|&next| seen.insert([last, &[next]].concat())) {
-            Some(next) => flags.push(next),
-            None => return flags,
-        }
-    }
-}
-
-/// Asks over bytes with several copies of these flags, each three bits further than the one before it in its byte: up to nine flags each
-/// list comes at all eight start bits, above that at two, three bits apart.
+/// Asks for every list of n flags.
 fn lists(f: &mut File, n: u64) {
-    let mut flags = all_lists(n as usize);
-    while flags.len() % 8 != 3 {
-        flags.push(false);
-    }
-    let flags = flags.repeat(if n <= 9 { 8 } else { 2 });
-    let byte = |part: &[bool]| part.iter().enumerate().map(|(j, &flag)| u8::from(flag) << j).sum();
-    f.lend('x', &flags.chunks(8).map(byte).collect::<Vec<u8>>());
-    let starts = flags.len() as u64 + 1 - n;
-    shapes(n).for_each(|(rows, columns)| every(f, &format!("0..{starts} {n} ?"), rows, columns));
+    every_list(f, n, |f, starts| {
+        shapes(n).for_each(|(rows, columns)| every(f, &format!("{starts} {n} ?"), rows, columns));
+    });
 }
 
 /// Asks at two starts, over bytes that end with the grid's last flag: the middle column and the last, the transposed grid, and both counts,

@@ -18,14 +18,17 @@ mod dispatch;
 mod file;
 mod grids;
 mod histories;
+mod lists;
 mod masks;
 mod minutes;
 mod offers;
 mod patterns;
+mod run_ends;
 mod run_lists;
 mod serials;
 mod several;
 mod spans;
+mod steps;
 mod token;
 mod words;
 
@@ -81,6 +84,7 @@ fn requests() -> File {
     dispatch::write(&mut file);
     offers::write(&mut file);
     grids::write(&mut file);
+    run_ends::write(&mut file);
     several::write(&mut file);
     serials::write(&mut file);
     histories::write(&mut file);

@@ -31,15 +31,18 @@ impl std::fmt::Display for Token {
     }
 }
 
-/// Returns the values of an argument: `7`, `?`, `0..8`, or several of these with commas.
+/// Returns the values of an argument: `7`, `?`, `0..8`, `0..8+2`, or several of these with commas.
 pub fn values(text: &str) -> Vec<Token> {
     text.split(',').flat_map(item).collect()
 }
 
 fn item(text: &str) -> Vec<Token> {
     let Some((from, to)) = text.split_once("..") else { return vec![Token::read(text)] };
+    let (to, step) = to.split_once('+').unwrap_or((to, "1"));
     match (Token::read(from), Token::read(to)) {
-        (Token::Number(from), Token::Number(to)) if from < to => (from..to).map(Token::Number).collect(),
+        (Token::Number(from), Token::Number(to)) if from < to => {
+            (from..to).step_by(step.parse().expect("a step")).map(Token::Number).collect()
+        }
         _ => panic!("no range: {text}"),
     }
 }

@@ -1,6 +1,6 @@
 //! A mask's flags as a grid: flag r × columns + c is row r, column c. A public function without a comment models the call of its name.
 
-use crate::{Answer, Checks, LIMIT, Lent, Mask, State, mask, write_frozen};
+use crate::{Answer, Checks, LIMIT, Lent, State, mask, written};
 
 /// Makes the checks of a grid: 1, 2 and 3 of the mask, and 12, rows × columns is its length.
 fn grid(lent: Lent, rows: usize, columns: usize) -> Checks {
@@ -19,13 +19,6 @@ pub fn grid_row(lent: Lent, rows: usize, columns: usize, row: usize) -> Answer {
     let start = lent.mask.start as u128 + row as u128 * columns as u128;
     let checks = grid(lent, rows, columns).check(6, row < rows).check(1, !placed || start <= LIMIT as u128);
     checks.answer(State::Mask(lent.mask), || mask::slice(lent, row * columns, columns))
-}
-
-/// Writes flags and returns the mask over them: its start is 0, its count unknown, or 0 if there are none, its serial that of the grid.
-fn written(flags: &[bool], serial: u32, out: &mut [u8]) -> Answer {
-    write_frozen(flags, out);
-    let zeros = if flags.is_empty() { Some(0) } else { None };
-    Answer::record(State::Mask(Mask { start: 0, length: flags.len(), zeros, serial }))
 }
 
 /// Writes the flags of one column as frozen bytes, and returns their mask.

@@ -13,6 +13,7 @@ pub mod grids;
 pub mod loops;
 pub mod mask;
 pub mod next;
+pub mod run_ends;
 pub mod spans;
 pub mod superseding;
 pub mod words;
@@ -164,4 +165,12 @@ pub fn frozen(flags: &[bool]) -> Vec<u8> {
 fn write_frozen(flags: &[bool], out: &mut [u8]) {
     let bytes = frozen(flags);
     out[..bytes.len()].copy_from_slice(&bytes);
+}
+
+/// Writes flags and returns the mask over them: its start is 0, its count unknown, or 0 if there are none, its serial that of the mask that
+/// they are from.
+fn written(flags: &[bool], serial: u32, out: &mut [u8]) -> Answer {
+    write_frozen(flags, out);
+    let zeros = if flags.is_empty() { Some(0) } else { None };
+    Answer::record(State::Mask(Mask { start: 0, length: flags.len(), zeros, serial }))
 }

@@ -1,5 +1,5 @@
-//! The calls of words, activity, masks, grids and dispatch as functions that C and Rust link. Records are passed as numbers, a slice as its
-//! pointer and its number of elements; include/poruwhina.h declares all the functions.
+//! The calls of words, activity, masks, grids, run_ends and dispatch as functions that C and Rust link. Records are passed as numbers, a
+//! slice as its pointer and its number of elements; include/poruwhina.h declares all the functions.
 //!
 //! This crate only converts: each export makes the call's records from its numbers, makes the call, and makes numbers from the answer. Each
 //! call has an export of its own, since C links names: so there are several exports of one shape. What belongs together, as a mask and its
@@ -19,6 +19,7 @@ pub mod next_and_not;
 pub mod offer;
 pub mod reassign;
 pub mod records;
+pub mod run_end;
 pub mod search;
 pub mod spans;
 pub mod superseding;

@@ -6,4 +6,3 @@ pub mod Grids
 pub mod Refusals
 pub mod SerialPlain
 pub mod WrittenAccepted
-pub mod WrittenLaws

@@ -1,8 +1,8 @@
 -- A list of flags as a grid of rows and columns: flag r * columns + c is the one of row r, column c. Its rows, its columns, the grid with
--- both exchanged, and their zeros; the checks that the calls share, and the record of a mask that they write.
+-- both exchanged, and their zeros; and the checks that the calls share.
 use Rattle.std.specs.Prelude.{ℕ, zero, suc, ◌+◌, ◌*◌, Bool, false, List, [], ◌∷◌, ◌++◌, get_or, eqb, leb}
 use Rattle.masks.specs.Checks.{Check, check}
-use Rattle.masks.specs.Mask.{cut_mask, mask_checks, uncounted}
+use Rattle.masks.specs.Mask.{mask_checks}
 use Rattle.masks.specs.Utils.{zeros}
 use Rattle.masks.specs.declared.bitmap.Bitmap.{Bitmap}
 
@@ -55,9 +55,3 @@ grid_checks m bytes rows columns = mask_checks m bytes ++ (check 12 (is_grid row
 -- checks 1 to 3 and 12, and 9 of n counts: there are as many places
 unfoldable pub counts_checks : Bitmap → List ℕ → ℕ → ℕ → ℕ → ℕ → List Check
 counts_checks m bytes rows columns n places = grid_checks m bytes rows columns ++ (check 9 (leb n places) ∷ [])
-
--- ---- the record
-
--- the mask of n flags that are written: it starts at 0, its zeros are not counted, its serial is that of the mask they were taken from
-abbrev pub written_mask : Bitmap → ℕ → Bitmap
-written_mask m n = cut_mask m 0 n (uncounted n)

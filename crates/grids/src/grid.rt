@@ -1,8 +1,8 @@
-//! The checks that the calls on a grid share, and the record of a mask that they write.
+//! The checks that the calls on a grid share.
 ghost use Rattle.std.specs.Prelude.{◌≡◌};
 ghost use Rattle.masks.specs.Checks.{check, first_failed};
 ghost use Rattle.masks.specs.Refusal.{failure_of};
-ghost use Rattle.grids.specs.Grid.{counts_checks, grid_checks, is_grid, written_mask};
+ghost use Rattle.grids.specs.Grid.{counts_checks, grid_checks, is_grid};
 
 use masks::bitmap::Bitmap;
 use masks::checks::check_mask;
@@ -42,17 +42,4 @@ pub(crate) fn check_counts(
 {
     check_grid(mask, bytes, rows, columns)?;
     check(Refusal::OutputTooSmall, n <= places)
-}
-
-// Makes the record of a mask of n flags written from those of `mask`: its start is 0, its count known only if there are no flags, its
-// serial that of `mask`.
-pub(crate) fn written_mask(mask: Bitmap, n: usize) -> Bitmap
-    ensures { result ≡ written_mask mask n }
-{
-    Bitmap {
-        start: 0,
-        length: n,
-        unset: if n == 0 { Some(0) } else { None },
-        ..mask
-    }
 }

@@ -5,5 +5,6 @@ pub mod GridsAlike
 pub mod History
 pub mod Library
 pub mod Owed
+pub mod RunEndsAlike
 pub mod RunLists
 pub mod Serials

@@ -3,5 +3,6 @@ pub mod Combinations
 pub mod GridsAlike
 pub mod Histories
 pub mod HistoryTheorem
+pub mod RunEndsAlike
 pub mod RunLists
 pub mod Serials

@@ -4,3 +4,4 @@ pub mod GridRows
 pub mod MaskRows
 pub mod ReferenceList
 pub mod Rows
+pub mod RunEndRows

@@ -2,7 +2,7 @@
 --
 -- Written from the reference and Arrow's numbering: `flag_at bytes j` is bit j mod 8 of byte j div 8, `bit_at w j` is bit j of w. This file
 -- has no definition that the contract of a history's call cites; `ReferenceLaws` proves that both say the same.
-use Rattle.std.specs.Prelude.{ℕ, zero, suc, ◌+◌, ◌*◌, Bool, false, cond, not, ◌&&◌, ◌||◌, ltb, drop, replicate, take}
+use Rattle.std.specs.Prelude.{ℕ, zero, suc, ◌+◌, ◌*◌, ℤ, pos, negsuc, Bool, false, cond, not, ◌&&◌, ◌||◌, ltb, drop, replicate, take}
 use mathlib.Core.List.{List, [], ◌∷◌, ◌++◌, flat_map, map, zip, zip_with}
 use Rattle.words.specs.Flags.{bit_at, flag_at}
 use Rattle.masks.specs.equations.Appends.{Append, push_flag, extend_constant, push_word, extend_slice}
@@ -84,3 +84,30 @@ column_of rows columns c l = every_nth columns rows (drop c l)
 -- rows and columns exchanged: the columns, one after another
 abbrev pub exchanged : ℕ → ℕ → List Bool → List Bool
 exchanged rows columns l = flat_map (λ (c : ℕ). column_of rows columns c l) (up_from 0 columns)
+
+-- ---- a list of flags as runs, each with its end and its flag
+
+-- whether an end is above position p, which one below 0 never is
+abbrev pub above : ℕ → ℤ → Bool
+above p (pos e) = ltb p e
+above p (negsuc e) = false
+
+-- the value of the first run whose end is above p
+abbrev pub value_at : List ℤ → List Bool → ℕ → Bool
+value_at [] values p = false
+value_at (e ∷ ends) [] p = false
+value_at (e ∷ ends) (x ∷ values) p = cond (above p e) x (value_at ends values p)
+
+-- the flags of positions 0, 1 and so on: n of them
+abbrev pub read_runs : List ℤ → ℕ → List Bool → List Bool
+read_runs ends n values = map (value_at ends values) (up_from 0 n)
+
+-- each flag that differs from the one before it; x comes before the first
+abbrev pub changes_after : Bool → List Bool → List Bool
+changes_after x [] = []
+changes_after x (y ∷ l) = cond (pair_flag xor x y) (y ∷ changes_after y l) (changes_after y l)
+
+-- the values of a list's runs: the first flag, and each that differs from the one before it
+abbrev pub run_values : List Bool → List Bool
+run_values [] = []
+run_values (x ∷ l) = x ∷ changes_after x l

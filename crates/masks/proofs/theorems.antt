@@ -23,3 +23,4 @@ pub mod SliceTruth
 pub mod SupersedingPlain
 pub mod TrueIdxPlain
 pub mod WindowPlain
+pub mod WrittenLaws

@@ -18,6 +18,7 @@ abbrev pub order : List ℕ
 order =
     1
     ∷ 2
+    ∷ 13
     ∷ 3
     ∷ 14
     ∷ 4

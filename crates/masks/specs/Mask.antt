@@ -45,6 +45,10 @@ zero_count m bytes = zeros (mask_flags m bytes)
 abbrev pub uncounted : ℕ → Option ℕ
 uncounted n = cond (eqb n 0) (Some 0) None
 
+-- the mask of n flags that are written: it starts at 0, its zeros are not counted, its serial is that of the mask they were taken from
+abbrev pub written_mask : Bitmap → ℕ → Bitmap
+written_mask m n = cut_mask m 0 n (uncounted n)
+
 -- checks 1 to 3 of a mask
 unfoldable pub mask_checks : Bitmap → List ℕ → List Check
 mask_checks m bytes = span_checks m.start m.length (length bytes) ++ (check 3 (count_valid m bytes) ∷ [])

@@ -8,7 +8,7 @@ ghost use Rattle.masks.specs.Frozen.{with_frozen};
 ghost use Rattle.masks.specs.Utils.{zeros};
 ghost use Rattle.masks.specs.Mask.{cut_zeros, empty_mask, kept_count, piece_checks, recounts as recounts_of};
 ghost use Rattle.masks.specs.Mask.{mask_checks, slice_checks, sliced_mask, uncounted, zero_count, zeroed_checks};
-ghost use Rattle.masks.specs.Mask.{cut_mask, mask_of, mask_under, with_count};
+ghost use Rattle.masks.specs.Mask.{cut_mask, mask_of, mask_under, with_count, written_mask};
 ghost use Rattle.masks.specs.Workers.{cut_of, recounted_of, PieceAllowed};
 
 use crate::checks::{check_limit, check_mask, check_output, check_span, sum_at_most};
@@ -171,6 +171,14 @@ pub(crate) fn not_counted(length: usize) -> Option<usize>
     ensures { result ≡ uncounted length }
 {
     if length == 0 { Some(0) } else { None }
+}
+
+/// Returns the mask of n flags that a call wrote as frozen bytes of its own: it starts at 0, its count is known only if there are no flags,
+/// and its serial is that of the mask they were taken from.
+pub fn written_mask(mask: Bitmap, n: usize) -> Bitmap
+    ensures mask { result ≡ written_mask mask n }
+{
+    cut_mask(mask, 0, n, not_counted(n))
 }
 
 // Makes checks 1, 2, 3 and 6 of a slice of `length` flags of a mask starting at `offset`.

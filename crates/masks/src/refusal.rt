@@ -15,6 +15,9 @@ pub enum Refusal {
     AboveLimit,
     /// 2: start + length is above 8 * the bytes lent.
     OutsideBytes,
+    /// 13: an end of 0 or below, one that is not above the end before it, a last end below the length, no runs for a length above 0, or a
+    /// number of values that is not the number of ends.
+    BrokenRunEnds,
     /// 3: a known zero count is not the number of zeros among the flags. Each call that takes a mask counts a known one again.
     FalseCount,
     /// 14: two masks with equal serials have different flags or lengths.
@@ -34,8 +37,8 @@ pub enum Refusal {
     CountNotOfSlice,
     /// 8: the address remainder is above 7.
     AddressRemainder,
-    /// 9: the output, or the builder's buffer, has fewer than 8 * ceil(new length / 64) bytes, or the output of counts has fewer places
-    /// than there are counts.
+    /// 9: the output, or the builder's buffer, has fewer than 8 * ceil(new length / 64) bytes, or the output of counts or of run ends has
+    /// fewer places than there are counts or runs.
     OutputTooSmall,
 }
 
@@ -47,6 +50,9 @@ impl Refusal {
         match self {
             Refusal::AboveLimit => "a start or a length is above 4,194,304",
             Refusal::OutsideBytes => "start + length is above 8 * the bytes lent",
+            Refusal::BrokenRunEnds => {
+                "the run ends do not rise from above 0 to the length, or are not as many as their values"
+            }
             Refusal::FalseCount => "a known zero count is not the number of zeros",
             Refusal::SerialConflict => "the masks have equal serials and different flags",
             Refusal::ImpossibleBuilder => {
@@ -62,7 +68,7 @@ impl Refusal {
             }
             Refusal::AddressRemainder => "the address remainder is above 7",
             Refusal::OutputTooSmall => {
-                "the output does not hold 8 * ceil(new length / 64) bytes, or all counts"
+                "the output does not hold 8 * ceil(new length / 64) bytes, or all counts or ends"
             }
         }
     }
@@ -86,6 +92,7 @@ impl From<Refusal> for u8 {
         match refusal {
             Refusal::AboveLimit => 1,
             Refusal::OutsideBytes => 2,
+            Refusal::BrokenRunEnds => 13,
             Refusal::FalseCount => 3,
             Refusal::SerialConflict => 14,
             Refusal::ImpossibleBuilder => 4,

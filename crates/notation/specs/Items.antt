@@ -17,7 +17,7 @@ is_role_plain (Serial s) = false
 
 -- whether an item is no size and no serial
 abbrev pub is_plain : Item → Bool
-is_plain (Numbers role first count) = is_role_plain role
+is_plain (Numbers role first count step) = is_role_plain role
 is_plain (Times number times) = true
 is_plain (Calls n) = true
 is_plain Unknown = true
@@ -26,7 +26,7 @@ is_plain Any = true
 
 -- a token as an item
 abbrev pub item_of : Token → Item
-item_of (NumberToken n) = Numbers Argument n 1
+item_of (NumberToken n) = Numbers Argument n 1 1
 item_of UnknownToken = Unknown
 item_of MissingToken = Missing
 

@@ -2,7 +2,7 @@
 use Rattle.std.specs.Prelude.{ℕ, ◌==◌, if◌then◌else◌, List, [], ◌∷◌, Option, Some, None, Result, Ok, Err}
 use Rattle.notation.specs.declared.fault.Fault.{Fault}
 use Rattle.notation.specs.declared.lent.Letter.{Letter}
-use Rattle.notation.specs.declared.lent.Letter.TheVariants.{X, Y, Z, O, I}
+use Rattle.notation.specs.declared.lent.Letter.TheVariants.{X, Y, Z, O, I, E}
 use Rattle.notation.specs.declared.line.Line.{Line}
 use Rattle.notation.specs.declared.line.Line.TheVariants.{Nothing, Lends, Request, GoesOn}
 
@@ -13,14 +13,15 @@ pub data Meaning : Type 0 where
   request : List ℕ → Meaning
   goes_on : List ℕ → Meaning
 
--- the letters x, y, z, o and i
+-- the letters x, y, z, o, i and e
 abbrev pub letter_of : ℕ → Option Letter
 letter_of b =
     if b == 120 then Some X else
     (if b == 121 then Some Y else
     (if b == 122 then Some Z else
     (if b == 111 then Some O else
-    (if b == 105 then Some I else None))))
+    (if b == 105 then Some I else
+    (if b == 101 then Some E else None)))))
 
 -- the pieces after a letter
 abbrev pub pieces_lent : Option Letter → List ℕ → Option Meaning

@@ -1,5 +1,6 @@
 -- The checksum of docs/REQUESTS.md.
-use Rattle.std.specs.Prelude.{ℕ, zero, suc, ◌+◌, ◌*◌, ◌/◌, ◌%◌, ◌^◌, bit_or, bit_xor, List, fold, length, reverse, take, drop}
+use Rattle.std.specs.Prelude.{ℕ, zero, suc, ℤ, ◌+◌, ◌*◌, ◌/◌, ◌%◌, ◌^◌, bit_or, bit_xor, List, fold, length, reverse, take, drop}
+use Rattle.std.specs.Int.{w32, cast_unsigned}
 use Rattle.notation.specs.declared.answer.Token.{Token}
 use Rattle.notation.specs.declared.answer.Token.TheVariants.{Number, Unknown, Missing}
 use Rattle.notation.specs.declared.sums.Checksum.{Checksum}
@@ -45,3 +46,11 @@ bytes_mixed h bytes = parts_mixed ((length bytes + 7) / 8) h bytes
 -- with each number taken in
 abbrev pub numbers_mixed : Checksum → List ℕ → Checksum
 numbers_mixed h numbers = fold mixed h numbers
+
+-- with an end taken in: the number that its 32 bits have without a sign
+abbrev pub end_mixed : Checksum → ℤ → Checksum
+end_mixed h end = mixed h (cast_unsigned w32 end)
+
+-- with each end taken in
+abbrev pub ends_mixed : Checksum → List ℤ → Checksum
+ends_mixed h ends = fold end_mixed h ends

@@ -28,6 +28,7 @@ pub enum Call {
     Minutes(MinutesCall),
     Search(SearchCall),
     Grid(GridCall),
+    RunEnds(RunEndsCall),
 }
 
 /// Calls on words only.
@@ -247,4 +248,11 @@ pub enum SearchCall {
 pub enum GridCall {
     GridColumn,
     GridTranspose,
+}
+
+/// Calls on run ends.
+#[derive(Clone, Copy, Debug, PartialEq, Eq)]
+pub enum RunEndsCall {
+    FromRunEnds,
+    ToRunEnds,
 }

@@ -1,4 +1,4 @@
-//! The elements of what is lent, bytes or the numbers of i, and what is done in the same way with both.
+//! The elements of what is lent, bytes, the numbers of i or the ends e, and what is done in the same way with all.
 ghost use Rattle.std.specs.Prelude.{◌≡◌, OnOk};
 
 use crate::answer::Answer;
@@ -10,7 +10,8 @@ use crate::sums::Checksum;
 use std::alloc::{AllocError, Global};
 
 pub(crate) trait Element: Copy + PartialEq {
-    // At most this many are lent: of bytes, those of 4,194,304 flags and 64 more; of numbers, a count for each of 65,536 rows or columns.
+    // At most this many are lent: of bytes, those of 4,194,304 flags and 64 more; of numbers, a count for each of 65,536 rows or columns,
+    // and as many ends.
     const ROOM: usize;
 
     // Reads a list of them, None if it has more than the room.
@@ -60,6 +61,23 @@ impl Element for u32 {
 
     fn mix(sum: Checksum, all: &[u32]) -> Checksum {
         sum.numbers(all)
+    }
+}
+
+impl Element for i32 {
+    const ROOM: usize = 65536;
+
+    fn read(
+        alloc: Global,
+        text: &[u8],
+        _answer: &Answer,
+        room: usize,
+    ) -> Result<Option<Vec<i32>>, Fault> {
+        pieces::ends(alloc, text, room)
+    }
+
+    fn mix(sum: Checksum, all: &[i32]) -> Checksum {
+        sum.ends(all)
     }
 }
 

@@ -29,10 +29,18 @@ impl Role {
 
 #[derive(Clone, Copy, Debug, PartialEq, Eq)]
 pub(crate) enum Item {
-    // `N`, or `A..B`: the first of `count` numbers that follow one another.
-    Numbers { role: Role, first: u64, count: u64 },
+    // `N`, `A..B` or `A..B+S`: the first of `count` numbers, each `step` above the one before it.
+    Numbers {
+        role: Role,
+        first: u64,
+        count: u64,
+        step: u64,
+    },
     // `N*K`.
-    Times { number: u64, times: u64 },
+    Times {
+        number: u64,
+        times: u64,
+    },
     // `#N`.
     Calls(u64),
     // `?`.
@@ -57,12 +65,13 @@ impl From<Token> for Item {
 
 impl Item {
     fn single(role: Role, first: u64) -> Item
-        ensures { result ≡ Numbers role first 1 }
+        ensures { result ≡ Numbers role first 1 1 }
     {
         Item::Numbers {
             role,
             first,
             count: 1,
+            step: 1,
         }
     }
 
@@ -78,7 +87,7 @@ impl Item {
         }
     }
 
-    // Reads `A..B`, `N*K` or one number.
+    // Reads `A..B`, `A..B+S`, `N*K` or one number.
     fn numbers(text: &[u8], role: Role) -> Option<Item> {
         if let Some((from, end)) = text::split_once(text, b'.') {
             return Item::range(role, from, end);
@@ -92,14 +101,19 @@ impl Item {
         Some(Item::single(role, text::number(text)?))
     }
 
-    // Reads `A..B` from `from` and `end`, which begins with the second dot. A range has at least one number.
-    fn range(role: Role, from: &[u8], end: &[u8]) -> Option<Item> {
+    // Reads `A..B` or `A..B+S` from `from` and `rest`, which begins with the second dot. A range has at least one number.
+    fn range(role: Role, from: &[u8], rest: &[u8]) -> Option<Item> {
+        let rest = rest.strip_prefix(b".")?;
+        let (end, step) = text::split_once(rest, b'+').unwrap_or((rest, b"1"));
         let first = text::number(from)?;
-        let end = text::number(end.strip_prefix(b".")?)?;
-        match end.checked_sub(first) {
-            None | Some(0) => None,
-            Some(count) => Some(Item::Numbers { role, first, count }),
-        }
+        let step = text::number(step)?;
+        let most = text::number(end)?.checked_sub(first)?.checked_sub(1)?;
+        Some(Item::Numbers {
+            role,
+            first,
+            count: most.checked_div(step)?.saturating_add(1),
+            step,
+        })
     }
 
     pub(crate) fn role(self) -> Role {
@@ -131,7 +145,7 @@ impl Item {
     // Returns value n of the item as an argument, None if it is not known.
     pub(crate) fn value(self, n: u64) -> Option<u64> {
         match self {
-            Item::Numbers { first, .. } => Some(first.wrapping_add(n)),
+            Item::Numbers { first, step, .. } => Some(first.wrapping_add(n.wrapping_mul(step))),
             Item::Times { number, .. } => Some(number.wrapping_add(n)),
             Item::Calls(calls) => Some(calls),
             Item::Missing | Item::Any => Some(0),

@@ -1,4 +1,4 @@
-//! What is lent to the calls: the bytes x, y, z and o, and the numbers i.
+//! What is lent to the calls: the bytes x, y, z and o, the numbers i, and the ends e.
 ghost use Rattle.std.specs.Prelude.{◌≡◌, [], take, OnOk, OnErr, IfOk, IfErr, true};
 ghost use Rattle.notation.specs.Fault.{IsOfMemory};
 ghost use Rattle.notation.specs.Lent.{sizes_of, KeptBut, is_again, IsLeft, IsUnlent};
@@ -17,6 +17,7 @@ pub enum Letter {
     Z,
     O,
     I,
+    E,
 }
 
 impl Letter {
@@ -29,25 +30,27 @@ impl Letter {
             b'z' => Some(Letter::Z),
             b'o' => Some(Letter::O),
             b'i' => Some(Letter::I),
+            b'e' => Some(Letter::E),
             _ => None,
         }
     }
 }
 
-/// One for each letter: of bytes for x, y, z and o, of numbers for i.
+/// One for each letter: of bytes for x, y, z and o, of numbers for i, of ends for e.
 #[derive(Clone, Copy, Debug)]
-pub struct ByLetter<B, N> {
+pub struct ByLetter<B, N, E> {
     pub x: B,
     pub y: B,
     pub z: B,
     pub o: B,
     pub i: N,
+    pub e: E,
 }
 
 /// How many of each are lent.
-pub type Sizes = ByLetter<usize, usize>;
+pub type Sizes = ByLetter<usize, usize, usize>;
 
-impl ByLetter<usize, usize> {
+impl ByLetter<usize, usize, usize> {
     fn get_mut(&mut self, letter: Letter) -> &mut usize {
         match letter {
             Letter::X => &mut self.x,
@@ -55,6 +58,7 @@ impl ByLetter<usize, usize> {
             Letter::Z => &mut self.z,
             Letter::O => &mut self.o,
             Letter::I => &mut self.i,
+            Letter::E => &mut self.e,
         }
     }
 
@@ -66,12 +70,12 @@ impl ByLetter<usize, usize> {
 }
 
 /// What the lines so far lend.
-pub type Lent = ByLetter<Vec<u8>, Vec<u32>>;
+pub type Lent = ByLetter<Vec<u8>, Vec<u32>, Vec<i32>>;
 
 /// What a call reads of what is lent.
-pub type Parts<'a> = ByLetter<&'a [u8], &'a [u32]>;
+pub type Parts<'a> = ByLetter<&'a [u8], &'a [u32], &'a [i32]>;
 
-impl ByLetter<Vec<u8>, Vec<u32>> {
+impl ByLetter<Vec<u8>, Vec<u32>, Vec<i32>> {
     /// Returns the state before the first line: nothing is lent.
     pub fn new(alloc: Global) -> Lent
         ensures x { result.x.items ≡ [] }
@@ -79,6 +83,7 @@ impl ByLetter<Vec<u8>, Vec<u32>> {
         ensures z { result.z.items ≡ [] }
         ensures o { result.o.items ≡ [] }
         ensures i { result.i.items ≡ [] }
+        ensures e { result.e.items ≡ [] }
     {
         Lent {
             x: Vec::new(alloc),
@@ -86,6 +91,7 @@ impl ByLetter<Vec<u8>, Vec<u32>> {
             z: Vec::new(alloc),
             o: Vec::new(alloc),
             i: Vec::new(alloc),
+            e: Vec::new(alloc),
         }
     }
 
@@ -100,7 +106,7 @@ impl ByLetter<Vec<u8>, Vec<u32>> {
     ) -> Result<(), Fault>
         ensures others { KeptBut letter self.old self.new }
         ensures malformed { OnErr result (self.new ≡ self.old) }
-        ensures again { is_again text.now ≡ true → OnOk result (IsLeft letter self.new last.now.bytes.items) }
+        ensures again { is_again text.now ≡ true → OnOk result (IsLeft letter self.new last.now) }
         ensures failed { is_again text.now ≡ true → IfErr result (IsUnlent letter) }
     {
         match letter {
@@ -109,11 +115,12 @@ impl ByLetter<Vec<u8>, Vec<u32>> {
             Letter::Z => self.z = bytes(alloc, text, last)?,
             Letter::O => self.o = bytes(alloc, text, last)?,
             Letter::I => self.i = element::lent(alloc, text, last)?,
+            Letter::E => self.e = ends(alloc, text, last)?,
         }
         Ok(())
     }
 
-    /// Sets the output to the bytes that the last call left.
+    /// Sets o to the bytes that the last call left.
     pub fn go_on(&mut self, last: &Last) -> Result<(), AllocError>
         ensures output { OnOk result (self.new.o.items ≡ last.now.bytes.items) }
         ensures inputs { self.new ≡ record self.old { o = self.new.o } }
@@ -121,7 +128,7 @@ impl ByLetter<Vec<u8>, Vec<u32>> {
         element::refill(&mut self.o, last.bytes.as_slice())
     }
 
-    /// Returns how many bytes and numbers are lent.
+    /// Returns how many bytes, numbers and ends are lent.
     pub fn sizes(&self) -> Sizes
         ensures { result ≡ sizes_of self.now }
     {
@@ -131,16 +138,18 @@ impl ByLetter<Vec<u8>, Vec<u32>> {
             z: self.z.len(),
             o: self.o.len(),
             i: self.i.len(),
+            e: self.e.len(),
         }
     }
 
-    /// Returns the first bytes and numbers of each letter, by `sizes`.
+    /// Returns the first bytes, numbers and ends of each letter, by `sizes`.
     pub fn parts(&self, sizes: Sizes) -> Parts<'_>
         ensures x { result.x.now ≡ take sizes.x self.now.x.items }
         ensures y { result.y.now ≡ take sizes.y self.now.y.items }
         ensures z { result.z.now ≡ take sizes.z self.now.z.items }
         ensures o { result.o.now ≡ take sizes.o self.now.o.items }
         ensures i { result.i.now ≡ take sizes.i self.now.i.items }
+        ensures e { result.e.now ≡ take sizes.e self.now.e.items }
     {
         Parts {
             x: first(self.x.as_slice(), sizes.x),
@@ -148,6 +157,7 @@ impl ByLetter<Vec<u8>, Vec<u32>> {
             z: first(self.z.as_slice(), sizes.z),
             o: first(self.o.as_slice(), sizes.o),
             i: first(self.i.as_slice(), sizes.i),
+            e: first(self.e.as_slice(), sizes.e),
         }
     }
 }
@@ -159,6 +169,17 @@ fn bytes(alloc: Global, text: &[u8], last: &Last) -> Result<Vec<u8>, Fault>
 {
     match text {
         [b'@', ..] => Ok(Vec::from_slice(alloc, last.bytes.as_slice())?),
+        _ => element::lent(alloc, text, last),
+    }
+}
+
+// Reads pieces, or `@` for the ends that the last call left.
+fn ends(alloc: Global, text: &[u8], last: &Last) -> Result<Vec<i32>, Fault>
+    ensures again { is_again text.now ≡ true → IfOk result (λ v. v.items ≡ last.now.ends.items) }
+    ensures failed { is_again text.now ≡ true → IfErr result IsOfMemory }
+{
+    match text {
+        [b'@', ..] => Ok(Vec::from_slice(alloc, last.ends.as_slice())?),
         _ => element::lent(alloc, text, last),
     }
 }

@@ -2,15 +2,17 @@
 use crate::call::{
     BitsCall, BuilderCall, Call, ChunksCall, CountCall, CursorCall, ExtendCall, FlagsCall,
     GatherCall, GridCall, ListCall, LoadCall, MaskCall, MergeCall, MinutesCall, OperationCall,
-    PairCall, SearchCall, SelectCall, SpanCall, StoreCall, SupersedingCall, WordCall, ZipCall,
+    PairCall, RunEndsCall, SearchCall, SelectCall, SpanCall, StoreCall, SupersedingCall, WordCall,
+    ZipCall,
 };
 
-/// What a call writes: the bytes o, the numbers i, or none of them.
+/// What a call writes: the bytes o, the numbers i, the ends e and the bytes o, or none of them.
 #[derive(Clone, Copy, Debug, PartialEq, Eq)]
 pub enum Output {
     Nothing,
     Bytes,
     Numbers,
+    EndsAndBytes,
 }
 
 /// A call's name, how many arguments it has, and its output.
@@ -25,7 +27,7 @@ pub struct Named {
 // The number of calls: the length of `NAMES`, and of the rows of a tally, which are in the same order. The two are no single array: the
 // table is constant, the rows count. A call is known by its place, so that a row is found without a search and the rows are printed in the
 // order of the table, which a map would not keep.
-pub(crate) const CALLS: usize = 106;
+pub(crate) const CALLS: usize = 108;
 
 macro_rules! names {
     ($($name:literal $arguments:literal $output:ident $call:expr;)*) => {
@@ -141,6 +143,8 @@ pub(crate) static NAMES: [Named; CALLS] = names![
     "grid_transpose" 5 Bytes Call::Grid(GridCall::GridTranspose);
     "grid_row_zeros" 5 Numbers Call::List(ListCall::GridRowZeros);
     "grid_column_zeros" 5 Numbers Call::List(ListCall::GridColumnZeros);
+    "from_run_ends" 4 Bytes Call::RunEnds(RunEndsCall::FromRunEnds);
+    "to_run_ends" 3 EndsAndBytes Call::RunEnds(RunEndsCall::ToRunEnds);
 ];
 
 // Returns the name at a place, which a tally's row holds.

@@ -52,7 +52,7 @@ impl Ran {
         }
     }
 
-    /// Takes in a call: its answer and its output.
+    /// Takes in a call: its answer and its outputs.
     pub fn take(&mut self, output: Output, last: &Last)
         ensures { self.new ≡ taken output last.now self.old }
     {
@@ -60,6 +60,7 @@ impl Ran {
         self.sum = match output {
             Output::Bytes => sum.bytes(last.bytes.as_slice()),
             Output::Numbers => sum.numbers(last.numbers.as_slice()),
+            Output::EndsAndBytes => sum.ends(last.ends.as_slice()).bytes(last.bytes.as_slice()),
             Output::Nothing => sum,
         };
         self.calls = self.calls.saturating_add(1);
@@ -98,6 +99,24 @@ pub fn compare(
             last.numbers.as_slice(),
             &last.answer,
         )?,
+        Output::EndsAndBytes => {
+            let (ends, bytes) = reading.both()?;
+            let ends = holds(
+                alloc,
+                ends,
+                lent.e.as_slice(),
+                last.ends.as_slice(),
+                &last.answer,
+            )?;
+            let bytes = holds(
+                alloc,
+                bytes,
+                lent.o.as_slice(),
+                last.bytes.as_slice(),
+                &last.answer,
+            )?;
+            ends && bytes
+        }
         Output::Nothing => true,
     };
     Ok(Outcome {

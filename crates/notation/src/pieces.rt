@@ -1,5 +1,5 @@
-//! Lists of bytes and of numbers, written in pieces. A list that has more than the room is None; but `HEX*N` is malformed if no byte of HEX
-//! had room.
+//! Lists of bytes, of numbers and of ends, written in pieces. A list that has more than the room is None; but `HEX*N` is malformed if no
+//! byte of HEX had room.
 use crate::arguments::low;
 use crate::fault::Fault;
 use crate::item::{Item, Role};
@@ -130,11 +130,33 @@ impl Bounded<u32> {
                 role: Role::Argument,
                 first,
                 count,
+                ..
             } => (first, count),
             Item::Times { number, times } => (number, times),
             _ => return Err(Fault::Malformed),
         };
         self.append(&[low(number)], (times % NUMBER_TIMES) as usize)?;
+        Ok(())
+    }
+}
+
+// Reads ends: `N` once, `N*K` K times. A text with no piece is no ends.
+pub(crate) fn ends(alloc: Global, text: &[u8], room: usize) -> Result<Option<Vec<i32>>, Fault> {
+    let mut ends = Bounded::new(alloc, room);
+    if !text.is_empty() {
+        for piece in text.split(|b| *b == b' ') {
+            ends.read_end(piece)?;
+        }
+    }
+    Ok(ends.finish())
+}
+
+impl Bounded<i32> {
+    fn read_end(&mut self, piece: &[u8]) -> Result<(), Fault> {
+        let (end, times) = text::split_once(piece, b'*').unwrap_or((piece, b"1"));
+        let end = text::signed(end).ok_or(Fault::Malformed)?;
+        let times = text::number(times).ok_or(Fault::Malformed)?;
+        self.append(&[end], (times % NUMBER_TIMES) as usize)?;
         Ok(())
     }
 }

@@ -57,6 +57,14 @@ impl<'a> Reading<'a> {
         }
     }
 
+    // Returns what the two outputs of a call must hold, the ends and the bytes: a bar is between them.
+    pub(crate) fn both(&self) -> Result<(&[u8], &[u8]), Fault> {
+        match cut(self.after) {
+            (ends, Some(bytes)) => Ok((ends, bytes)),
+            _ => Err(Fault::Malformed),
+        }
+    }
+
     /// Returns the arguments of call t of the request, None after its last one. The contract states that there is a first one. It leaves
     /// open how many there are and what they are: both come from the text, and a definition of its meaning would be the parser again.
     pub fn choice(&self, t: u64, sizes: Sizes) -> Option<Arguments>

@@ -1,7 +1,7 @@
 //! Checksums of 64 bits: each step is a bijection of the sum so far, so that a change of one bit in one answer changes the sum.
 ghost use Rattle.std.specs.Prelude.{◌≡◌};
 ghost use Rattle.notation.specs.Answer.{tokens_of};
-ghost use Rattle.notation.specs.Sums.{mixed, first_sum, token_mixed, answer_mixed, word_of, bytes_mixed, numbers_mixed};
+ghost use Rattle.notation.specs.Sums.{mixed, first_sum, token_mixed, answer_mixed, word_of, bytes_mixed, numbers_mixed, ends_mixed};
 
 use crate::answer::{Answer, Token};
 
@@ -66,6 +66,14 @@ impl Checksum {
         ensures { result ≡ numbers_mixed self numbers.now }
     {
         numbers.iter().fold(self, |sum, n| sum.mix(u64::from(*n)))
+    }
+
+    // Takes in each end as the number that its 32 bits have without a sign.
+    pub(crate) fn ends(self, ends: &[i32]) -> Checksum
+        ensures { result ≡ ends_mixed self ends.now }
+    {
+        ends.iter()
+            .fold(self, |sum, end| sum.mix(u64::from(end.cast_unsigned())))
     }
 }
 

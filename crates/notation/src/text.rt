@@ -23,6 +23,16 @@ pub(crate) fn number(text: &[u8]) -> Option<u64> {
     }
 }
 
+// Reads a number of 32 bits with a sign: `-` stands before one below 0.
+pub(crate) fn signed(text: &[u8]) -> Option<i32> {
+    let (below, digits) = match text {
+        [b'-', digits @ ..] => (true, digits),
+        _ => (false, text),
+    };
+    let n = i64::try_from(number(digits)?).ok()?;
+    i32::try_from(if below { n.wrapping_neg() } else { n }).ok()
+}
+
 fn in_base(digits: &[u8], base: u8) -> Option<u64> {
     if digits.is_empty() {
         return None;

@@ -6,7 +6,8 @@
 //! so that a struct of both would be taken apart in each body.
 use crate::tokens::Answered;
 use crate::{
-    builder_calls, cursor_calls, grid_calls, mask_calls, minute_calls, span_calls, words_calls,
+    builder_calls, cursor_calls, grid_calls, mask_calls, minute_calls, run_end_calls, span_calls,
+    words_calls,
 };
 use notation::arguments::Arguments;
 use notation::call::{Call, ListCall};
@@ -15,7 +16,7 @@ use notation::last::Last;
 use notation::lent::Parts;
 use std::alloc::Global;
 
-// Makes a call and returns its answer. Its output is the first bytes or numbers of `last`.
+// Makes a call and returns its answer. Its outputs are the first bytes, numbers or ends of `last`.
 pub(crate) fn answer(
     alloc: Global,
     call: Call,
@@ -23,9 +24,10 @@ pub(crate) fn answer(
     lent: Parts<'_>,
     last: &mut Last,
 ) -> Answered {
-    let Parts { x, y, z, i, .. } = lent;
+    let Parts { x, y, z, i, e, .. } = lent;
     let out = last::first_mut(&mut last.bytes, a.sizes.o);
     let numbers = last::first_mut(&mut last.numbers, a.sizes.i);
+    let ends = last::first_mut(&mut last.ends, a.sizes.e);
     match call {
         Call::Word(call) => words_calls::word_answer(alloc, call, a),
         Call::Flags(call) => words_calls::flags_answer(alloc, call, a),
@@ -52,6 +54,7 @@ pub(crate) fn answer(
         Call::Minutes(call) => minute_calls::minutes_answer(alloc, call, a, out),
         Call::List(call) => list_answer(alloc, call, a, x, numbers),
         Call::Grid(call) => grid_calls::grid_answer(alloc, call, a, x, out),
+        Call::RunEnds(call) => run_end_calls::run_ends_answer(alloc, call, a, x, e, ends, out),
     }
 }
 

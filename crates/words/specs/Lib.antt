@@ -1,4 +1,5 @@
 -- What the contracts of this crate mean. Read `Flags` first: the other files build on it.
+pub mod Changes
 pub mod Columns
 pub mod Counts
 pub mod Ends

@@ -6,6 +6,7 @@
 //! have them.
 #![tactic(auto)]
 
+pub mod changes;
 pub mod columns;
 pub mod counts;
 pub mod ends;

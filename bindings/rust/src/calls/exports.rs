@@ -105,6 +105,12 @@ unsafe extern "C" {
     pub fn pw_grid_column_zeros(
         mask: Mask, bytes: *const u8, bytes_len: usize, rows: usize, columns: usize, counts: *mut u32, counts_len: usize,
     ) -> NumberAnswer;
+    pub fn pw_from_run_ends(
+        ends: *const i32, ends_len: usize, values: Mask, bytes: *const u8, bytes_len: usize, length: usize, out: *mut u8, out_len: usize,
+    ) -> MaskAnswer;
+    pub fn pw_to_run_ends(
+        mask: Mask, bytes: *const u8, bytes_len: usize, ends: *mut i32, ends_len: usize, out: *mut u8, out_len: usize,
+    ) -> MaskAnswer;
     pub fn pw_slices_new(mask: Mask, bytes: *const u8, bytes_len: usize) -> CursorAnswer;
     pub fn pw_slices_next(start: usize, length: usize, place: usize, bytes: *const u8, bytes_len: usize) -> StepAnswer;
     pub fn pw_iter_new(bytes: *const u8, bytes_len: usize, start: usize, length: usize) -> CursorAnswer;

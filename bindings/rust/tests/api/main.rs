@@ -11,6 +11,7 @@ mod positions;
 mod reading;
 mod rebuilding;
 mod refusing;
+mod run_ends;
 mod superseding;
 
 use lists::{packed, patterns};

@@ -46,6 +46,12 @@ fn from_the_types() {
     let grid = Grid::try_new(mask, 3, 1).unwrap();
     assert_eq!((grid.row(3), grid.column(1)), (Err(Refusal::OutsideMask), Err(Refusal::OutsideMask)));
     assert_eq!(grid.row_zeros_into(&mut [0; 2]), Err(Refusal::OutputTooSmall));
+
+    let values = Bitmap::from([true, false]);
+    assert_eq!(Bitmap::from_run_ends(&[1, 3], &values, above), Err(Refusal::AboveLimit));
+    assert_eq!(Bitmap::from_run_ends(&[3, 1], &values, usize::MAX), Err(Refusal::AboveLimit));
+    assert_eq!(Bitmap::from_run_ends(&[1, 3], &values, 4), Err(Refusal::BrokenRunEnds));
+    assert_eq!(values.run_ends_into(&mut [0; 1]), Err(Refusal::OutputTooSmall));
 }
 
 #[test]
@@ -91,6 +97,10 @@ fn from_the_plain_calls() {
         (calls::not(small, &bytes, &mut [0; 7]).refusal, Refusal::OutputTooSmall),
         (calls::grid_transpose(small, &bytes, 1, 2, &mut [0; 7]).refusal, Refusal::NotAGrid),
         (calls::grid_row_zeros(small, &bytes, 1, 1, &mut []).refusal, Refusal::OutputTooSmall),
+        (calls::from_run_ends(&[1], calls::Mask { zeros: 1, known: 1, ..small }, &bytes, 1, &mut []).refusal, Refusal::FalseCount),
+        (calls::from_run_ends(&[0], calls::Mask { zeros: 1, known: 1, ..small }, &bytes, 1, &mut []).refusal, Refusal::BrokenRunEnds),
+        (calls::from_run_ends(&[1], small, &bytes, 1, &mut [0; 7]).refusal, Refusal::OutputTooSmall),
+        (calls::to_run_ends(small, &bytes, &mut [0], &mut [0; 7]).refusal, Refusal::OutputTooSmall),
     ];
     for (number, refusal) in numbers {
         assert_eq!(Refusal::from_number(number), Some(refusal));
@@ -120,7 +130,7 @@ fn the_record_as_it_came() {
 #[test]
 fn numbers_and_words() {
     let known: Vec<u8> = (0..=255).filter(|&number| Refusal::from_number(number).is_some()).collect();
-    assert_eq!(known, [1, 2, 3, 4, 5, 6, 7, 8, 9, 12, 14, 16]);
+    assert_eq!(known, [1, 2, 3, 4, 5, 6, 7, 8, 9, 12, 13, 14, 16]);
     for number in known {
         let refusal = Refusal::from_number(number).unwrap();
         assert_eq!(refusal.number(), number);

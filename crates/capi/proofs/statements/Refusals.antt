@@ -3,7 +3,7 @@
 -- There is a field for each export that returns a refusal's number or 0, stated with the definition that its contract cites; the numbers
 -- listed are those that the header has for it. Exports that are not here return no such number: `pw_load_padded_le_u64`,
 -- `pw_merge_reversed`, `pw_builder_new`, `pw_bitmap_new` and `pw_interface_4`.
-use Rattle.std.specs.Prelude.{ℕ, ◌≡◌, Bool, true, false, List, [], ◌∷◌, length}
+use Rattle.std.specs.Prelude.{ℕ, ℤ, ◌≡◌, Bool, true, false, List, [], ◌∷◌, length}
 use Rattle.words.specs.Ends.{leading, trailing}
 use Rattle.words.specs.Flags.{bits}
 use Rattle.words.specs.Loops.{stretch}
@@ -38,6 +38,8 @@ use Rattle.masks.specs.equations.Utils.{span_count}
 use Rattle.grids.specs.equations.Columns.{grid_column_bytes, grid_column_of, grid_column_zeros_of, grid_column_zeros_over}
 use Rattle.grids.specs.equations.Rows.{grid_row_of, grid_row_zeros_of, grid_row_zeros_over}
 use Rattle.grids.specs.equations.Transpose.{grid_transpose_bytes, grid_transpose_of}
+use Rattle.run_ends.specs.equations.Read.{from_run_ends_bytes, from_run_ends_of}
+use Rattle.run_ends.specs.equations.Write.{to_run_ends_bytes, to_run_ends_ends, to_run_ends_of}
 use Rattle.dispatch.specs.equations.Reassign.{may_reassign}
 use Rattle.dispatch.specs.equations.Offer.{offer_of}
 use Rattle.activity.specs.Window.{new_of, push_of, counts_of}
@@ -53,7 +55,7 @@ use Rattle.capi.specs.declared.records.Mask.{Mask}
 
 -- the numbers by which a call may refuse
 abbrev pub numbers : List ℕ
-numbers = 1 ∷ 2 ∷ 3 ∷ 4 ∷ 5 ∷ 6 ∷ 7 ∷ 8 ∷ 9 ∷ 12 ∷ 14 ∷ 16 ∷ []
+numbers = 1 ∷ 2 ∷ 3 ∷ 4 ∷ 5 ∷ 6 ∷ 7 ∷ 8 ∷ 9 ∷ 12 ∷ 13 ∷ 14 ∷ 16 ∷ []
 
 -- the number k that is returned is 0 or one of ns. That it is the number of the call's own answer, 0 only if that is accepted, is stated
 -- in `AnswerPlain` and `StepPlain` for each record in which an answer is returned.
@@ -66,7 +68,7 @@ pub record GivesBack {A : Type 0} (ns : List ℕ) (k : ℕ) (came back : A) : Ty
   pub gives : Gives ns k
   pub same : (k ≡ 0 → ⊥) → back ≡ came
 
--- in addition, if k is not 0, a record or a place is returned unchanged and a buffer is unchanged
+-- in addition, if k is not 0, a buffer is unchanged: beside a record or a place that is returned unchanged, or beside another buffer
 pub record GivesBoth {A : Type 0} (ns : List ℕ) (k : ℕ) (came back : A) (before after : List ℕ) : Type 0 where
   pub gives : GivesBack ns k came back
   pub unwritten : (k ≡ 0 → ⊥) → after ≡ before
@@ -187,6 +189,13 @@ pub record Refusals : Type 0 where
   pub pw_grid_column_zeros : (m : Mask) (bytes : List ℕ) (rows columns : ℕ) (counts : List ℕ)
       → GivesBack (1 ∷ 2 ∷ 3 ∷ 12 ∷ 9 ∷ []) (as_number (grid_column_zeros_of (mask_in m) bytes rows columns (length counts))).refusal
       counts (grid_column_zeros_over (mask_in m) bytes rows columns counts)
+  -- run ends
+  pub pw_from_run_ends : (ends : List ℤ) (v : Mask) (bytes : List ℕ) (n : ℕ) (out : List ℕ)
+      → GivesBack (1 ∷ 2 ∷ 13 ∷ 3 ∷ 9 ∷ []) (as_mask (from_run_ends_of ends (mask_in v) bytes n (length out))).refusal
+      out (from_run_ends_bytes ends (mask_in v) bytes n out)
+  pub pw_to_run_ends : (m : Mask) (bytes : List ℕ) (ends : List ℤ) (out : List ℕ)
+      → GivesBoth (1 ∷ 2 ∷ 3 ∷ 9 ∷ []) (as_mask (to_run_ends_of (mask_in m) bytes (length ends) (length out))).refusal
+      ends (to_run_ends_ends (mask_in m) bytes (length out) ends) out (to_run_ends_bytes (mask_in m) bytes (length ends) out)
   -- cursors
   pub pw_slices_new : (m : Mask) (bytes : List ℕ) → Gives (1 ∷ 2 ∷ 3 ∷ []) (as_cursor slices_out (new_slices (mask_in m) bytes)).refusal
   pub pw_slices_next : (start n place : ℕ) (bytes : List ℕ) → let r = as_run slices_place (next_slice (slices_at start n place) bytes) in

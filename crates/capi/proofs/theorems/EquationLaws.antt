@@ -16,7 +16,7 @@ pub record Refuses {S A : Type 0} (ns : List ℕ) (s : S) (answer : Answer S A) 
   pub state : (k : ℕ) (t : S) → answer ≡ refused k t → t ≡ s
 
 -- in addition, if it refuses, the buffer lent to it is unchanged
-pub record RefusesUnwritten {S A : Type 0} (ns : List ℕ) (s : S) (answer : Answer S A) (before after : List ℕ) : Type 0 where
+pub record RefusesUnwritten {S A B : Type 0} (ns : List ℕ) (s : S) (answer : Answer S A) (before after : B) : Type 0 where
   pub refuses : Refuses ns s answer
   pub unwritten : (k : ℕ) (t : S) → answer ≡ refused k t → after ≡ before
 
@@ -29,9 +29,9 @@ refuses-by {S} {A} {ns} {cs} {s} a f =
       state = λ k t h. refused-state k (first_failed cs) t s a (sym h);
     }
 
-pub refuses-unwritten : {S A : Type 0} {ns : List ℕ} {cs : List Check} {s : S} (a : A) {before : List ℕ} (new : List ℕ) → FailsBy ns cs
+pub refuses-unwritten : {S A B : Type 0} {ns : List ℕ} {cs : List Check} {s : S} (a : A) {before : B} (new : B) → FailsBy ns cs
     → RefusesUnwritten ns s (checked cs s a) before (kept (first_failed cs) new before)
-refuses-unwritten {S} {A} {ns} {cs} {s} a {before} new f =
+refuses-unwritten {S} {A} {B} {ns} {cs} {s} a {before} new f =
     record {
       refuses = refuses-by a f;
       unwritten = λ k t h.

@@ -1,7 +1,7 @@
 -- Each export refuses only by the numbers listed for it, and then returns unchanged what was passed.
 --
--- An encoding keeps the answer's number, so the laws of masks, grids, dispatch and activity on the answer hold of the record that is
--- returned.
+-- An encoding keeps the answer's number, so the laws of masks, grids, run_ends, dispatch and activity on the answer hold of the record that
+-- is returned.
 use Rattle.std.specs.Prelude.{Option, Some, None}
 use Rattle.std.proofs.Common.{ℕ, ◌≡◌, refl, sym, ap, subst, ◌∙◌, Bool, true, false, not, cond, List, [], ◌∷◌}
 use borrow.Author.Tests.{ne_eqb}
@@ -34,6 +34,9 @@ use Rattle.grids.specs.equations.Columns.{grid_column_bytes, grid_column_of, gri
 use Rattle.grids.specs.equations.Rows.{grid_row_of, grid_row_zeros_of, grid_row_zeros_over}
 use Rattle.grids.specs.equations.Transpose.{grid_transpose_bytes, grid_transpose_of}
 use Rattle.grids.proofs.theorems.Refusals as grids
+use Rattle.run_ends.specs.equations.Read.{from_run_ends_bytes, from_run_ends_of}
+use Rattle.run_ends.specs.equations.Write.{to_run_ends_bytes, to_run_ends_ends, to_run_ends_of}
+use Rattle.run_ends.proofs.theorems.Refusals as run_ends
 use Rattle.dispatch.specs.equations.Reassign.{may_reassign}
 use Rattle.dispatch.specs.equations.Offer.{offer_of}
 use Rattle.masks.specs.Chunks.{chunks_at}
@@ -88,7 +91,7 @@ number-in : {S A : Type 0} (ns : List ℕ) (s : S) → Listed ns → (a : Answer
 number-in ns s l (given x) r = no_number ns l
 number-in ns s l (refused k t) r = some_number ns k l (r.number k t refl)
 
-unwritten-in : {S A : Type 0} (ns : List ℕ) (s : S) (a : Answer S A) (before after : List ℕ)
+unwritten-in : {S A B : Type 0} (ns : List ℕ) (s : S) (a : Answer S A) (before after : B)
     → RefusesUnwritten ns s a before after → (number_in a ≡ 0 → ⊥) → after ≡ before
 unwritten-in ns s (given x) before after r h = absurd (h refl)
 unwritten-in ns s (refused k t) before after r h = r.unwritten k t refl
@@ -98,10 +101,10 @@ module _ {S A : Type 0} (ns : List ℕ) (s : S) (l : Listed ns) (a : Answer S A)
   gives : Refuses ns s a → Gives ns k
   gives r = subst (λ (n : ℕ). Gives ns n) (sym e) (number-in ns s l a r)
 
-  unwritten : (before after : List ℕ) → RefusesUnwritten ns s a before after → (k ≡ 0 → ⊥) → after ≡ before
+  unwritten : {B : Type 0} (before after : B) → RefusesUnwritten ns s a before after → (k ≡ 0 → ⊥) → after ≡ before
   unwritten before after r h = unwritten-in ns s a before after r (λ (z : number_in a ≡ 0). h (e ∙ z))
 
-  gives-unwritten : (before after : List ℕ) → RefusesUnwritten ns s a before after → GivesBack ns k before after
+  gives-unwritten : {B : Type 0} (before after : B) → RefusesUnwritten ns s a before after → GivesBack ns k before after
   gives-unwritten before after r = record { gives = gives r.refuses; same = unwritten before after r }
 
 -- ---- the encodings keep the number
@@ -295,7 +298,8 @@ unfolding
     new_zeroed_of new_zeroed_bytes try_new_of slice_of unset_bits_of pair_of pair_bytes each_of each_bytes eq_of edges_of common_of
     and_not_at_of next_and_not_of superseding_of new_slices next_slice new_iter nth_flag take_leading new_true next_true next_positions
     positions_over may_reassign offer_of grid_row_of grid_column_of grid_column_bytes grid_transpose_of grid_transpose_bytes
-    grid_row_zeros_of grid_row_zeros_over grid_column_zeros_of grid_column_zeros_over
+    grid_row_zeros_of grid_row_zeros_over grid_column_zeros_of grid_column_zeros_over from_run_ends_of from_run_ends_bytes
+    to_run_ends_of to_run_ends_ends to_run_ends_bytes
 refusals =
     record {
       pw_nth_set_bit_u64 = λ w n. nth-gives _;
@@ -398,6 +402,15 @@ refusals =
       pw_grid_column_zeros = λ m bytes rows columns counts.
           counts_back _ _ refl _ counts _
           (refuses-unwritten _ _ ((grids.refusals).counts (mask_in m) bytes rows columns columns (length counts)));
+      pw_from_run_ends = λ ends v bytes n out.
+          gives-unwritten _ _ refl _ _ (of_mask _) out _
+          (refuses-unwritten _ _ ((run_ends.refusals).read ends (mask_in v) bytes n (length out)));
+      pw_to_run_ends = λ m bytes ends out.
+          let r = (run_ends.refusals).write (mask_in m) bytes (length ends) (length out) in
+          record {
+            gives = gives-unwritten _ _ refl _ _ (of_mask _) ends _ (refuses-unwritten _ _ r);
+            unwritten = unwritten _ _ refl _ _ (of_mask _) out _ (refuses-unwritten _ _ r);
+          };
       pw_slices_new = λ m bytes. gives _ _ refl _ _ (of-cursor slices_out _) (refuses-by _ ((masks.refusals).mask (mask_in m) bytes));
       pw_slices_next = λ start n place bytes.
           step_back _ refl _ _ slices_place _ _ (refuses-by _ ((masks.refusals).runs (slices_at start n place) bytes));

@@ -2,11 +2,11 @@
 -- the same mask with its count unknown, except for the count in the record of a row. That they answer by these is said by their clauses.
 use Rattle.std.specs.Prelude.{ℕ, ◌*◌, ◌≡◌, List}
 use Rattle.masks.specs.Checks.{first_failed}
-use Rattle.masks.specs.Mask.{mask_checks, mask_flags, sliced_mask}
+use Rattle.masks.specs.Mask.{mask_checks, mask_flags, sliced_mask, written_mask}
 use Rattle.masks.specs.declared.bitmap.Bitmap.{Bitmap}
 use Rattle.masks.proofs.statements.CountsUnseen.{Unseen, UnseenBoth, UnseenCall, forgot}
 use Rattle.grids.specs.Columns.{column_checks}
-use Rattle.grids.specs.Grid.{column_flags, column_zeros, counts_checks, row_zeros, transposed, written_mask}
+use Rattle.grids.specs.Grid.{column_flags, column_zeros, counts_checks, row_zeros, transposed}
 use Rattle.grids.specs.Rows.{row_checks}
 use Rattle.grids.specs.Transpose.{transpose_checks}
 

@@ -1,16 +1,12 @@
 -- The statements of `proofs/statements/CountPlain.antt`: a row that is accepted is accepted as a slice; what is written is not counted.
-use Rattle.std.proofs.Common.{◌≡◌, sym, ap, ◌∙◌, ℕ, ◌*◌, Bool, cond, List}
-use Rattle.std.specs.Prelude.{Some, None}
-use borrow.Author.Tests.{eq-eqb, ne_eqb}
-use Rattle.masks.specs.Checks.{Check}
+use Rattle.std.proofs.Common.{◌≡◌, sym, ap, ◌∙◌, ℕ, ◌*◌, List}
 use Rattle.masks.specs.Mask.{sliced_mask}
 use Rattle.masks.specs.declared.bitmap.Bitmap.{Bitmap}
-use Rattle.masks.specs.equations.Answer.{checked, decided, given}
+use Rattle.masks.specs.equations.Answer.{decided, given}
 use Rattle.masks.specs.equations.Mask.{slice_of}
-use Rattle.masks.proofs.statements.CountPlain.{EachCounts}
 use Rattle.masks.proofs.theorems.CountPlain.{counts_plainly as masks-counts}
+use Rattle.masks.proofs.theorems.WrittenLaws.{accepted, uncounted-plain}
 use Rattle.grids.specs.Columns.{column_checks}
-use Rattle.grids.specs.Grid.{written_mask}
 use Rattle.grids.specs.Rows.{row_checks}
 use Rattle.grids.specs.Transpose.{transpose_checks}
 use Rattle.grids.specs.equations.Columns.{grid_column_of}
@@ -19,7 +15,6 @@ use Rattle.grids.specs.equations.Transpose.{grid_transpose_of}
 use Rattle.grids.proofs.grid.CheckLaws.{row-allowed}
 use Rattle.grids.proofs.rows.RowLaws.{same-number}
 use Rattle.grids.proofs.statements.CountPlain.{CountsPlainly}
-use Rattle.grids.proofs.theorems.WrittenLaws.{accepted}
 
 -- an accepted row is the slice
 as-sliced : (m : Bitmap) (bytes : List ℕ) (rows columns i : ℕ) (s : Bitmap) → given s ≡ grid_row_of m bytes rows columns i
@@ -29,15 +24,6 @@ as-sliced m bytes rows columns i s e =
     let ok = row-allowed m bytes rows columns i
     (accepted (row_checks m bytes rows columns i) m (sliced_mask m bytes (i * columns) columns) s e).0 in
     e ∙ ap (λ (n : ℕ). decided n m (sliced_mask m bytes (i * columns) columns)) (sym (same-number m bytes rows columns i ok.0.grid ok.1))
-
-uncounted-plain : (cs : List Check) (m : Bitmap) (n : ℕ) → EachCounts n (checked cs tt (written_mask m n))
-uncounted-plain cs m n =
-    record {
-      none = λ c e z.
-          ap (λ (x : Bitmap). x.unset) (accepted cs tt (written_mask m n) c e).1 ∙ ap (λ (t : Bool). cond t (Some 0) None) (eq-eqb n 0 z);
-      other = λ c e h.
-          ap (λ (x : Bitmap). x.unset) (accepted cs tt (written_mask m n) c e).1 ∙ ap (λ (t : Bool). cond t (Some 0) None) (ne_eqb n 0 h);
-    }
 
 pub counts_plainly : CountsPlainly
 unfolding grid_column_of grid_transpose_of

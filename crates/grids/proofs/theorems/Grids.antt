@@ -5,15 +5,16 @@ use Rattle.words.specs.Flags.{flags_of, over, window}
 use Rattle.words.proofs.flags.Windows.{length-window, length_over}
 use Rattle.words.proofs.theorems.Plain.{at-after, at-over}
 use Rattle.masks.specs.Frozen.{frozen, frozen_size, with_frozen}
-use Rattle.masks.specs.Mask.{mask_flags, sliced_mask}
+use Rattle.masks.specs.Mask.{mask_flags, sliced_mask, written_mask}
 use Rattle.masks.specs.Utils.{zeros}
 use Rattle.masks.specs.declared.bitmap.Bitmap.{Bitmap}
 use Rattle.masks.specs.equations.Answer.{decided, given}
 use Rattle.masks.specs.equations.Mask.{slice_of}
 use Rattle.masks.proofs.checks.CheckLaws.{is-given}
 use Rattle.masks.proofs.theorems.FrozenPlain.{frozen-plain}
+use Rattle.masks.proofs.theorems.WrittenLaws.{accepted, as-before, as-long, frozen-window, new-if, old-if, take-over}
 use Rattle.grids.specs.Columns.{column_checks}
-use Rattle.grids.specs.Grid.{column_flags, column_zeros, counts_checks, listing, row_flags, row_zeros, transposed, written_mask}
+use Rattle.grids.specs.Grid.{column_flags, column_zeros, counts_checks, listing, row_flags, row_zeros, transposed}
 use Rattle.grids.specs.Rows.{row_checks}
 use Rattle.grids.specs.Transpose.{transpose_checks}
 use Rattle.grids.specs.equations.Columns.{grid_column_bytes, grid_column_of, grid_column_zeros_of, grid_column_zeros_over}
@@ -27,7 +28,6 @@ use Rattle.grids.proofs.rows.RowZeros.{row-stretch}
 use Rattle.grids.proofs.statements.Grids.{GridsAgree, GridsKept, ListsAgree, flag_of}
 use Rattle.grids.proofs.theorems.GridLists.{lists_agree}
 use Rattle.grids.proofs.theorems.WrittenAccepted.{back-accepted, row-accepted}
-use Rattle.grids.proofs.theorems.WrittenLaws.{accepted, as-before, as-long, frozen-window, new-if, old-if, take-over}
 
 -- ---- what each accepted call returns and writes, as a list
 

@@ -1,16 +1,15 @@
 -- The statements of `proofs/statements/SerialPlain.antt`: an accepted call returns the record of its definition.
 use Rattle.std.proofs.Common.{ap, ◌*◌}
-use Rattle.masks.specs.Mask.{sliced_mask}
+use Rattle.masks.specs.Mask.{sliced_mask, written_mask}
 use Rattle.masks.specs.declared.bitmap.Bitmap.{Bitmap}
+use Rattle.masks.proofs.theorems.WrittenLaws.{accepted}
 use Rattle.grids.specs.Columns.{column_checks}
-use Rattle.grids.specs.Grid.{written_mask}
 use Rattle.grids.specs.Rows.{row_checks}
 use Rattle.grids.specs.Transpose.{transpose_checks}
 use Rattle.grids.specs.equations.Columns.{grid_column_of}
 use Rattle.grids.specs.equations.Rows.{grid_row_of}
 use Rattle.grids.specs.equations.Transpose.{grid_transpose_of}
 use Rattle.grids.proofs.statements.SerialPlain.{SerialsPlainly}
-use Rattle.grids.proofs.theorems.WrittenLaws.{accepted}
 
 pub serials_plainly : SerialsPlainly
 unfolding grid_row_of grid_column_of grid_transpose_of

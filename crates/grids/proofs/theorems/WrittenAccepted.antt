@@ -7,12 +7,12 @@ use Rattle.words.proofs.flags.Windows.{length-window, length_over}
 use Rattle.std.proofs.Common.{Some, None}
 use Rattle.masks.specs.Checks.{check, earlier, first_failed, limit, output_checks}
 use Rattle.masks.specs.Frozen.{frozen, frozen_size, with_frozen}
-use Rattle.masks.specs.Mask.{cut_zeros, mask_checks, mask_flags, recount_valid, recounts, uncounted}
+use Rattle.masks.specs.Mask.{cut_zeros, mask_checks, mask_flags, recount_valid, recounts, uncounted, written_mask}
 use Rattle.masks.specs.declared.bitmap.Bitmap.{Bitmap}
 use Rattle.masks.proofs.checks.CheckLaws.{passed-before}
 use Rattle.masks.proofs.theorems.Accepted.{mask-accepted}
 use Rattle.masks.proofs.theorems.SliceTruth.{none_true}
-use Rattle.grids.specs.Grid.{grid_checks, is_grid, transposed, written_mask}
+use Rattle.grids.specs.Grid.{grid_checks, is_grid, transposed}
 use Rattle.grids.specs.Rows.{row_checks}
 use Rattle.grids.specs.Transpose.{transpose_checks}
 use Rattle.grids.proofs.grid.CheckLaws.{transpose-allowed}

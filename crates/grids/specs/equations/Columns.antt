@@ -3,11 +3,11 @@ use Rattle.std.specs.Prelude.{ℕ, List, length}
 use Rattle.words.specs.Flags.{over}
 use Rattle.masks.specs.Checks.{first_failed}
 use Rattle.masks.specs.Frozen.{with_frozen}
-use Rattle.masks.specs.Mask.{mask_flags}
+use Rattle.masks.specs.Mask.{mask_flags, written_mask}
 use Rattle.masks.specs.declared.bitmap.Bitmap.{Bitmap}
 use Rattle.masks.specs.equations.Answer.{Answer, checked, kept}
 use Rattle.grids.specs.Columns.{column_checks}
-use Rattle.grids.specs.Grid.{column_flags, column_zeros, counts_checks, written_mask}
+use Rattle.grids.specs.Grid.{column_flags, column_zeros, counts_checks}
 
 -- by the size of the output
 unfoldable pub grid_column_of : Bitmap → List ℕ → ℕ → ℕ → ℕ → ℕ → Answer (Unit {0}) Bitmap

@@ -2,10 +2,10 @@
 use Rattle.std.specs.Prelude.{ℕ, List, length}
 use Rattle.masks.specs.Checks.{first_failed}
 use Rattle.masks.specs.Frozen.{with_frozen}
-use Rattle.masks.specs.Mask.{mask_flags}
+use Rattle.masks.specs.Mask.{mask_flags, written_mask}
 use Rattle.masks.specs.declared.bitmap.Bitmap.{Bitmap}
 use Rattle.masks.specs.equations.Answer.{Answer, checked, kept}
-use Rattle.grids.specs.Grid.{transposed, written_mask}
+use Rattle.grids.specs.Grid.{transposed}
 use Rattle.grids.specs.Transpose.{transpose_checks}
 
 -- by the size of the output

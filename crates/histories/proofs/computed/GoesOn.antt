@@ -35,6 +35,11 @@ use Rattle.grids.specs.Transpose.{transpose_checks}
 use Rattle.grids.specs.equations.Columns.{grid_column_bytes, grid_column_of}
 use Rattle.grids.specs.equations.Rows.{grid_row_of}
 use Rattle.grids.specs.equations.Transpose.{grid_transpose_bytes, grid_transpose_of}
+use Rattle.run_ends.specs.Read.{flags_from, read_checks}
+use Rattle.run_ends.specs.Rules.{ends_hold, rising_to}
+use Rattle.run_ends.specs.Write.{run_flags, write_checks}
+use Rattle.run_ends.specs.equations.Read.{from_run_ends_bytes, from_run_ends_of}
+use Rattle.run_ends.specs.equations.Write.{to_run_ends_bytes, to_run_ends_of}
 use Rattle.histories.proofs.tables.GoesOn.{AcceptedKinds, Comes, NeverRefused, RefusedKinds}
 use Rattle.histories.proofs.statements.History.{Fed, History, State, building, masked}
 use Rattle.histories.proofs.statements.History.{after_freeze, after_validity, end_of, first_list, list_of, start_of, trace}
@@ -62,6 +67,8 @@ unfolding
     pair_of pair_bytes pair_checks pair_flags pair_mask shortcut each_of each_bytes largest_serial not_checks select_checks
     grid_checks grid_row_of row_checks grid_column_of grid_column_bytes column_checks column_flags
     grid_transpose_of grid_transpose_bytes transpose_checks transposed listing concatenated
+    from_run_ends_of from_run_ends_bytes read_checks ends_hold rising_to flags_from
+    to_run_ends_of to_run_ends_bytes write_checks run_flags
 accepted-kinds =
     record {
       push = comes refl refl refl;
@@ -90,6 +97,10 @@ accepted-kinds =
       grid_columns = comes refl refl refl;
       grid_transposes = comes refl refl refl;
       grid_other = comes refl refl refl;
+      run_ends_read = comes refl refl refl;
+      run_ends_written = comes refl refl refl;
+      run_ends_other = comes refl refl refl;
+      run_ends_none = comes refl refl refl;
       own-twice = comes refl refl refl;
       under_serial = comes refl refl refl;
       imports = comes refl refl refl;
@@ -106,6 +117,8 @@ unfolding
     pair_of pair_bytes pair_checks pair_flags pair_mask shortcut each_of each_bytes largest_serial not_checks select_checks
     grid_checks grid_row_of row_checks grid_column_of grid_column_bytes column_checks column_flags
     grid_transpose_of grid_transpose_bytes transpose_checks transposed listing concatenated
+    from_run_ends_of from_run_ends_bytes read_checks ends_hold rising_to flags_from
+    to_run_ends_of to_run_ends_bytes write_checks run_flags
 refused-kinds =
     record {
       push = comes refl refl refl;
@@ -134,6 +147,12 @@ refused-kinds =
       grid_columns = comes refl refl refl;
       grid_transposes = comes refl refl refl;
       grid_short = comes refl refl refl;
+      end_below = comes refl refl refl;
+      ends_equal = comes refl refl refl;
+      ends_short = comes refl refl refl;
+      ends_fewer = comes refl refl refl;
+      places_short = comes refl refl refl;
+      values_short = comes refl refl refl;
     }
 
 -- ---- calls that a history never has refused

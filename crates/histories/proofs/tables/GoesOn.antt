@@ -1,6 +1,6 @@
 -- Histories exist, so the theorem is not vacuous: for each kind of call a history in which it is accepted, and for each kind that can be
 -- refused a history in which it is refused; each ends in a mask. Also the kinds that are never refused.
-use Rattle.std.specs.Prelude.{ℕ, ◌≡◌, true, false, List, [], ◌∷◌, ◌++◌, map, replicate, Some, None}
+use Rattle.std.specs.Prelude.{ℕ, ◌≡◌, ℤ, pos, negsuc, true, false, List, [], ◌∷◌, ◌++◌, map, replicate, Some, None}
 use Rattle.words.specs.Flags.{is_one}
 use Rattle.masks.specs.equations.Appends.{Append, push_flag, extend_constant, push_word, extend_slice}
 use Rattle.masks.specs.equations.Appends.{extend_repeated, extend_bitmap, extend_gather, extend_opt_gather}
@@ -12,11 +12,12 @@ use Rattle.histories.proofs.statements.Agreement.{ComesTo}
 use Rattle.histories.proofs.statements.History.{Call, try_new, append, freeze, into_opt_validity, make, Fed, History, from_builder}
 use Rattle.histories.proofs.statements.History.{from_span}
 use Rattle.histories.proofs.statements.History.{from_mask, building, no_mask, end_of, list_of, start_of, step, trace}
-use Rattle.histories.proofs.statements.Library.{LibraryCall, grids, library_call, masks}
+use Rattle.histories.proofs.statements.Library.{LibraryCall, grids, library_call, masks, run_ends}
 use Rattle.histories.specs.GridRows.{GridCall, grid_column, grid_row, grid_transpose}
 use Rattle.histories.specs.MaskRows.{pair, invert, select, select_constant, MaskCall, slice, unset_bits, combine}
 use Rattle.histories.specs.ReferenceList.{and, and_not, or, or_not, xor}
 use Rattle.histories.specs.Rows.{Argument, own, other, RowCall, one, two, three}
+use Rattle.histories.specs.RunEndRows.{RunEndCall, from_run_ends, to_run_ends}
 
 -- ---- a row: a history, which of its calls are accepted, the mask and bytes in which it ends, and its list; 1 means yes and set
 
@@ -41,6 +42,14 @@ on_a calls = record { start = from_span; calls = try_new A 0 6 ∷ map (λ (c : 
 -- the same with calls on A as a grid: 1,0 and 1,1 and 0,1
 abbrev pub on_grid : List GridCall → History LibraryCall
 on_grid calls = record { start = from_span; calls = try_new A 0 6 ∷ map (λ (c : GridCall). make (grids c)) calls }
+
+-- the same with calls that read A as the values of runs, or write it as runs: 1 and 0 and 1,1 and 0 and 1
+abbrev pub on_runs : List RunEndCall → History LibraryCall
+on_runs calls = record { start = from_span; calls = try_new A 0 6 ∷ map (λ (c : RunEndCall). make (run_ends c)) calls }
+
+-- six ends: runs of 1, 2, 1, 2, 1 and 2 flags
+abbrev pub six : List ℤ
+six = map pos (1 ∷ 3 ∷ 4 ∷ 6 ∷ 7 ∷ 9 ∷ [])
 
 -- B = 0,1,1,0,0,1 starting at bit 3 of its bytes, C = 1,1,0,0,1,1, and a mask of five flags
 abbrev pub B : Argument
@@ -99,6 +108,20 @@ pub record AcceptedKinds : Type 0 where
   -- row 1 of the columns of another mask, 0,1 and 1,0 and 0,1
   pub grid_other : Comes (on_grid (grid_transpose 3 2 (lent 8) B ∷ grid_row 2 3 1 ∷ [])) (1 ∷ 1 ∷ 1 ∷ []) (mask_of 3 3 None) (first 0x2A)
       (1 ∷ 0 ∷ 1 ∷ [])
+  -- eight flags, so that the last run has one of its two
+  pub run_ends_read : Comes (on_runs (from_run_ends six 8 (lent 8) own ∷ [])) (1 ∷ 1 ∷ []) (mask_of 0 8 None) (first 0xB9)
+      (1 ∷ 0 ∷ 0 ∷ 1 ∷ 1 ∷ 1 ∷ 0 ∷ 1 ∷ [])
+  pub run_ends_written : Comes (on_runs (to_run_ends 5 (lent 8) own ∷ [])) (1 ∷ 1 ∷ []) (mask_of 0 5 None) (first 0x15)
+      (1 ∷ 0 ∷ 1 ∷ 0 ∷ 1 ∷ [])
+  -- the runs of another mask's flags, read and written again: four of the six are left
+  pub run_ends_other : Comes (on_runs (from_run_ends six 8 (lent 8) B ∷ to_run_ends 4 (lent 8) own ∷ [])) (1 ∷ 1 ∷ 1 ∷ [])
+      (mask_of 0 4 None)
+      (first 0x0A)
+      (0 ∷ 1 ∷ 0 ∷ 1 ∷ [])
+  -- no runs and no flags
+  pub run_ends_none : Comes (on_runs (from_run_ends [] 0 [] (other (mask_of 0 0 None) []) ∷ to_run_ends 0 (lent 8) own ∷ []))
+      (1 ∷ 1 ∷ 1 ∷ [])
+      (mask_of 0 0 (Some 0)) (lent 8) []
   -- the history's own mask in both places, and a call on the result
   pub own-twice : Comes (on_a (combine (pair xor) (lent 8) (two own own) ∷ combine invert (lent 8) (one own) ∷ [])) (1 ∷ 1 ∷ 1 ∷ [])
       (mask_of 0 6 None) (first 0x3F) (1 ∷ 1 ∷ 1 ∷ 1 ∷ 1 ∷ 1 ∷ [])
@@ -123,6 +146,9 @@ RefusedOnA c = Comes (on_a (c ∷ [])) (1 ∷ 0 ∷ []) (mask_of 0 6 None) A (1 
 
 abbrev pub RefusedOnGrid : GridCall → Type 0
 RefusedOnGrid c = Comes (on_grid (c ∷ [])) (1 ∷ 0 ∷ []) (mask_of 0 6 None) A (1 ∷ 0 ∷ 1 ∷ 1 ∷ 0 ∷ 1 ∷ [])
+
+abbrev pub RefusedOnRuns : RunEndCall → Type 0
+RefusedOnRuns c = Comes (on_runs (c ∷ [])) (1 ∷ 0 ∷ []) (mask_of 0 6 None) A (1 ∷ 0 ∷ 1 ∷ 1 ∷ 0 ∷ 1 ∷ [])
 
 pub record RefusedKinds : Type 0 where
   -- 64 ones fill the eight bytes
@@ -166,6 +192,13 @@ pub record RefusedKinds : Type 0 where
   pub grid_columns : RefusedOnGrid (grid_column 3 2 2 (lent 8) own)
   pub grid_transposes : RefusedOnGrid (grid_transpose 2 2 (lent 8) own)
   pub grid_short : RefusedOnGrid (grid_transpose 3 2 [] own)
+  -- an end below 0, two equal ends, a last end below the length, a flag without an end, a place too few, an output of no bytes
+  pub end_below : RefusedOnRuns (from_run_ends (negsuc 0 ∷ map pos (3 ∷ 4 ∷ 6 ∷ 7 ∷ 9 ∷ [])) 8 (lent 8) own)
+  pub ends_equal : RefusedOnRuns (from_run_ends (map pos (1 ∷ 3 ∷ 3 ∷ 6 ∷ 7 ∷ 9 ∷ [])) 8 (lent 8) own)
+  pub ends_short : RefusedOnRuns (from_run_ends six 10 (lent 8) own)
+  pub ends_fewer : RefusedOnRuns (from_run_ends six 8 (lent 8) five)
+  pub places_short : RefusedOnRuns (to_run_ends 4 (lent 8) own)
+  pub values_short : RefusedOnRuns (to_run_ends 5 [] own)
 
 -- ---- the other kinds are never refused: `freeze` and `into_opt_validity` of a builder in which a history ends; for `unset_bits` of a
 -- mask in which one ends this is `counted` of `Agreement`

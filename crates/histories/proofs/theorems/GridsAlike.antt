@@ -8,13 +8,13 @@ use Rattle.masks.specs.Utils.{zeros}
 use Rattle.masks.specs.declared.bitmap.Bitmap.{Bitmap}
 use Rattle.masks.specs.equations.Answer.{given}
 use Rattle.masks.proofs.statements.TrueCounts.{Sound}
+use Rattle.masks.proofs.theorems.WrittenLaws.{take-over}
 use Rattle.grids.specs.Grid.{column_zeros, row_zeros}
 use Rattle.grids.specs.equations.Columns.{grid_column_bytes, grid_column_of, grid_column_zeros_of, grid_column_zeros_over}
 use Rattle.grids.specs.equations.Rows.{grid_row_of, grid_row_zeros_of, grid_row_zeros_over}
 use Rattle.grids.specs.equations.Transpose.{grid_transpose_bytes, grid_transpose_of}
 use Rattle.grids.proofs.grid.ListingLaws.{listing-ext}
 use Rattle.grids.proofs.theorems.Grids.{column-zeros-are, length-column-zeros, length-row-zeros, row-zeros-are}
-use Rattle.grids.proofs.theorems.WrittenLaws.{take-over}
 use Rattle.histories.proofs.grid_rows.GridRowLaws.{column_lawful, row_lawful, transpose_lawful}
 use Rattle.histories.proofs.grid_rows.GridWordLaws.{column-word, listed, row-word}
 use Rattle.histories.proofs.statements.Agreement.{Agrees}
@@ -25,7 +25,7 @@ use Rattle.histories.proofs.theorems.Histories.{means_the_same}
 use Rattle.histories.specs.ReferenceList.{column_of, exchanged, row_of}
 use Rattle.histories.specs.Rows.{one, with_bytes}
 
-both : {A : Type 0} {meant x y : A} → x ≡ meant → y ≡ meant → Both meant x y
+pub both : {A : Type 0} {meant x y : A} → x ≡ meant → y ≡ meant → Both meant x y
 both p q = record { equal = p ∙ sym q; first = p; second = q }
 
 -- ---- the counts of a list

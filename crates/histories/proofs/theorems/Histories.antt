@@ -16,7 +16,7 @@ use Rattle.masks.specs.declared.bitmap.Bitmap.{Bitmap}
 use Rattle.histories.proofs.statements.Agreement.{Agrees, Alike, ComesTo, Fits, OneMeaning, refrozen}
 use Rattle.histories.proofs.statements.History.{History, State, masked, waiting, after_try, first_list, from_mask, list_of, row_flags}
 use Rattle.histories.proofs.statements.History.{start_of}
-use Rattle.histories.proofs.statements.Library.{LibraryCall, MeansTheSame, grids, library_call, masks}
+use Rattle.histories.proofs.statements.Library.{LibraryCall, MeansTheSame, grids, library_call, masks, run_ends}
 use Rattle.histories.specs.MaskRows.{combination_row}
 use Rattle.histories.proofs.statements.Owed.{Lawful, Stands}
 use Rattle.histories.specs.Rows.{RowCall}
@@ -27,6 +27,7 @@ use Rattle.histories.proofs.grid_rows.GridRowLaws.{grids_lawful}
 use Rattle.histories.proofs.rows.MaskRowLaws.{masks_lawful}
 use Rattle.histories.proofs.history.ReferenceLaws.{mask-flags}
 use Rattle.histories.proofs.rows.RowLaws.{row-flags}
+use Rattle.histories.proofs.run_end_rows.RunEndRowLaws.{run_ends_lawful}
 use Rattle.histories.proofs.history.TruthfulLaws.{step-truthful}
 
 -- two masks that agree with the same list are alike
@@ -117,6 +118,7 @@ every_lawful = one-meaning lawful_call (λ x. x.1)
 pub library_lawful : (c : LibraryCall) → Lawful (library_call c)
 library_lawful (masks c) = masks_lawful c
 library_lawful (grids c) = grids_lawful c
+library_lawful (run_ends c) = run_ends_lawful c
 
 pub means_the_same : MeansTheSame
 means_the_same = one-meaning library_call library_lawful

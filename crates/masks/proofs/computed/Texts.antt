@@ -9,6 +9,7 @@ texts =
     record {
       above_limit = refl;
       outside_bytes = refl;
+      broken_run_ends = refl;
       false_count = refl;
       serial_conflict = refl;
       impossible_builder = refl;

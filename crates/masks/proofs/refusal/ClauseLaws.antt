@@ -82,6 +82,17 @@ pub written_back : {S A B : Type 0} (r : Result A (Refused S)) (m : ℕ) (x new 
 written_back (Ok a) m x new old e p q = p ∙ is-new 0 m new old e refl
 written_back (Err k) m x new old e p q = q ∙ is-kept (number k.refusal) m new old e (number-ne0 k.refusal)
 
+-- ---- two buffers, of which neither is written if the call is refused: the law for each of them
+pub written_first : {A B C : Type 0} (r : Result A Refusal) (m : ℕ) (x new old : B) (y before : C) → failure_of r ≡ m → OnOk r (x ≡ new)
+    → OnErr r ((x ≡ old) × (y ≡ before)) → x ≡ kept m new old
+written_first (Ok a) m x new old y before e p q = p ∙ is-new 0 m new old e refl
+written_first (Err k) m x new old y before e p q = q.0 ∙ is-kept (number k) m new old e (number-ne0 k)
+
+pub written_second : {A B C : Type 0} (r : Result A Refusal) (m : ℕ) (x new old : B) (y before : C) → failure_of r ≡ m → OnOk r (x ≡ new)
+    → OnErr r ((y ≡ before) × (x ≡ old)) → x ≡ kept m new old
+written_second (Ok a) m x new old y before e p q = p ∙ is-new 0 m new old e refl
+written_second (Err k) m x new old y before e p q = q.1 ∙ is-kept (number k) m new old e (number-ne0 k)
+
 -- ---- the other way: the equations make the clauses, so the two forms say the same on every input
 
 pub clauses-answered : {A : Type 0} (r : Result A Refusal) (m : ℕ) (a : A) → answer r ≡ decided m tt a
@@ -139,6 +150,15 @@ pub clauses-written_back : {S A B : Type 0} (r : Result A (Refused S)) (m : ℕ)
     → OnOk r (x ≡ new) × OnErr r (x ≡ old)
 clauses-written_back (Ok a) m x new old e p = (p ∙ sym (is-new 0 m new old e refl), tt)
 clauses-written_back (Err k) m x new old e p = (tt, p ∙ sym (is-kept (number k.refusal) m new old e (number-ne0 k.refusal)))
+
+pub clauses-written_both : {A B C : Type 0} (r : Result A Refusal) (m : ℕ) (x new old : B) (y made before : C) → failure_of r ≡ m
+    → x ≡ kept m new old → y ≡ kept m made before
+    → OnOk r (x ≡ new) × (OnOk r (y ≡ made) × OnErr r ((x ≡ old) × (y ≡ before)))
+clauses-written_both (Ok a) m x new old y made before e p q =
+    (p ∙ sym (is-new 0 m new old e refl), (q ∙ sym (is-new 0 m made before e refl), tt))
+clauses-written_both (Err k) m x new old y made before e p q =
+    let n = number-ne0 k in
+    (tt, (tt, (p ∙ sym (is-kept (number k) m new old e n), q ∙ sym (is-kept (number k) m made before e n))))
 
 -- ---- a builder and its buffer, by the one clause on both
 

@@ -11,9 +11,9 @@ use borrow.Author.Tests.{eqb-true}
 use Rattle.masks.specs.Checks.{earlier, rank, place_in}
 use Rattle.masks.specs.Refusal.{failure_back, failure_of, number}
 use Rattle.masks.specs.declared.refusal.Refusal.{Refusal}
-use Rattle.masks.specs.declared.refusal.Refusal.TheVariants.{AboveLimit, OutsideBytes, FalseCount, SerialConflict, ImpossibleBuilder}
-use Rattle.masks.specs.declared.refusal.Refusal.TheVariants.{UnequalLengths, NotAGrid, OutsideMask, CountNotOfSlice, AddressRemainder}
-use Rattle.masks.specs.declared.refusal.Refusal.TheVariants.{OutputTooSmall}
+use Rattle.masks.specs.declared.refusal.Refusal.TheVariants.{AboveLimit, OutsideBytes, BrokenRunEnds, FalseCount, SerialConflict}
+use Rattle.masks.specs.declared.refusal.Refusal.TheVariants.{ImpossibleBuilder, UnequalLengths, NotAGrid, OutsideMask, CountNotOfSlice}
+use Rattle.masks.specs.declared.refusal.Refusal.TheVariants.{AddressRemainder, OutputTooSmall}
 use Rattle.masks.specs.declared.refusal.Refused.{Refused}
 use Rattle.masks.specs.contracts.refusal.RefusalOrd.TheImpl.{cmp-value}
 
@@ -23,6 +23,7 @@ abbrev refusals : List Refusal
 refusals =
     AboveLimit
     ∷ OutsideBytes
+    ∷ BrokenRunEnds
     ∷ FalseCount
     ∷ SerialConflict
     ∷ ImpossibleBuilder
@@ -46,15 +47,16 @@ at p (x ∷ xs) e (suc k) h = at p xs (and_parts _ _ e).1 k (omega (arith, h))
 of-each : (p : Refusal → Bool) → all p refusals ≡ true → (r : Refusal) → p r ≡ true
 of-each p e AboveLimit = at p refusals e 0 (omega arith)
 of-each p e OutsideBytes = at p refusals e 1 (omega arith)
-of-each p e FalseCount = at p refusals e 2 (omega arith)
-of-each p e SerialConflict = at p refusals e 3 (omega arith)
-of-each p e ImpossibleBuilder = at p refusals e 4 (omega arith)
-of-each p e UnequalLengths = at p refusals e 5 (omega arith)
-of-each p e NotAGrid = at p refusals e 6 (omega arith)
-of-each p e OutsideMask = at p refusals e 7 (omega arith)
-of-each p e CountNotOfSlice = at p refusals e 8 (omega arith)
-of-each p e AddressRemainder = at p refusals e 9 (omega arith)
-of-each p e OutputTooSmall = at p refusals e 10 (omega arith)
+of-each p e BrokenRunEnds = at p refusals e 2 (omega arith)
+of-each p e FalseCount = at p refusals e 3 (omega arith)
+of-each p e SerialConflict = at p refusals e 4 (omega arith)
+of-each p e ImpossibleBuilder = at p refusals e 5 (omega arith)
+of-each p e UnequalLengths = at p refusals e 6 (omega arith)
+of-each p e NotAGrid = at p refusals e 7 (omega arith)
+of-each p e OutsideMask = at p refusals e 8 (omega arith)
+of-each p e CountNotOfSlice = at p refusals e 9 (omega arith)
+of-each p e AddressRemainder = at p refusals e 10 (omega arith)
+of-each p e OutputTooSmall = at p refusals e 11 (omega arith)
 
 -- refusals are declared in the order of their numbers' ranks
 pub least-number : (x y : Refusal) → number (ord_min cmp-value.it x y) ≡ earlier (number x) (number y)
@@ -67,6 +69,7 @@ least-number x y =
 pub number-ne0 : (r : Refusal) → number r ≡ 0 → ⊥
 number-ne0 AboveLimit e = omega arith
 number-ne0 OutsideBytes e = omega arith
+number-ne0 BrokenRunEnds e = omega arith
 number-ne0 FalseCount e = omega arith
 number-ne0 SerialConflict e = omega arith
 number-ne0 ImpossibleBuilder e = omega arith

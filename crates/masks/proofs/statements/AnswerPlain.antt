@@ -13,9 +13,9 @@ use Rattle.masks.specs.equations.Cursor.{answer_step}
 use Rattle.masks.specs.Refusal.{failure_back, failure_of, number}
 use Rattle.masks.specs.declared.builder.BitmapBuilder.{BitmapBuilder}
 use Rattle.masks.specs.declared.refusal.Refusal.{Refusal}
-use Rattle.masks.specs.declared.refusal.Refusal.TheVariants.{AboveLimit, OutsideBytes, FalseCount, SerialConflict, ImpossibleBuilder}
-use Rattle.masks.specs.declared.refusal.Refusal.TheVariants.{UnequalLengths, NotAGrid, OutsideMask, CountNotOfSlice, AddressRemainder}
-use Rattle.masks.specs.declared.refusal.Refusal.TheVariants.{OutputTooSmall}
+use Rattle.masks.specs.declared.refusal.Refusal.TheVariants.{AboveLimit, OutsideBytes, BrokenRunEnds, FalseCount, SerialConflict}
+use Rattle.masks.specs.declared.refusal.Refusal.TheVariants.{ImpossibleBuilder, UnequalLengths, NotAGrid, OutsideMask, CountNotOfSlice}
+use Rattle.masks.specs.declared.refusal.Refusal.TheVariants.{AddressRemainder, OutputTooSmall}
 
 -- the numbers of the refusals, as in the reference: written from include/refusals.txt
 pub record NumbersPlain : Type 0 where
@@ -29,6 +29,7 @@ pub record NumbersPlain : Type 0 where
   pub address_remainder : number AddressRemainder ≡ 8
   pub output_too_small : number OutputTooSmall ≡ 9
   pub not_a_grid : number NotAGrid ≡ 12
+  pub broken_run_ends : number BrokenRunEnds ≡ 13
   pub serial_conflict : number SerialConflict ≡ 14
 
 pub record AnswersPlain : Type 1 where

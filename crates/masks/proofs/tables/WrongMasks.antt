@@ -13,7 +13,7 @@ use Rattle.masks.specs.equations.Combine.{pair_of, pair_bytes, not_of, not_bytes
 use Rattle.masks.specs.equations.Combine.{select_constant_of, select_constant_bytes}
 use Rattle.masks.specs.equations.Compare.{eq_of, edges_of, common_of}
 use Rattle.masks.proofs.tables.Examples.{first, lent}
-use Rattle.masks.specs.Mask.{mask_checks, mask_of, empty_mask}
+use Rattle.masks.specs.Mask.{mask_checks, mask_of, mask_under, empty_mask, written_mask}
 use Rattle.masks.specs.equations.Mask.{try_new_of, new_zeroed_of, new_zeroed_bytes, unset_bits_of, slice_of}
 use Rattle.masks.proofs.tables.WrongSpans.{two}
 use Rattle.masks.specs.Refusal.{number}
@@ -257,6 +257,20 @@ pub record WrongMasks : Type 0 where
       (given 3)
       -- the right mask's start ignored
       (given 0)
+  -- `written_mask` of three flags, written by a call from a mask that starts at flag 4 and has one zero, under serial 5
+  pub written-mask : Tried (written_mask (mask_under 5 4 8 (Some 1)) 3)
+      (mask_under 5 0 3 None)
+      -- serial 0
+      (mask_of 0 3 None)
+      -- the count kept
+      (mask_under 5 0 3 (Some 1))
+  -- `written_mask` of no flags
+  pub written-mask-of-none : Tried (written_mask (mask_under 5 4 8 None) 0)
+      (mask_under 5 0 0 (Some 0))
+      -- the count unknown
+      (mask_under 5 0 0 None)
+      -- the start kept
+      (mask_under 5 4 0 (Some 0))
   -- `earlier` of the numbers 3 and 2
   pub earlier-number : Tried (earlier 3 2)
       2

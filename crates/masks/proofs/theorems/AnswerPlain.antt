@@ -31,6 +31,7 @@ answers-plain =
             address_remainder = refl;
             output_too_small = refl;
             not_a_grid = refl;
+            broken_run_ends = refl;
             serial_conflict = refl;
           };
     }

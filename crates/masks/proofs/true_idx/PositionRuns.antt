@@ -32,7 +32,7 @@ none-set k zero = refl
 none-set k (suc n) = none-set (suc k) n
 
 -- zeros after a list add no position
-padded : (m : List Bool) (k n : ℕ) → length m ≤ n → ones_from k (window m 0 n) ≡ ones_from k m
+pub padded : (m : List Bool) (k n : ℕ) → length m ≤ n → ones_from k (window m 0 n) ≡ ones_from k m
 unfolding ones_from window
 padded [] k n h = ap (ones_from k) (window-past [] 0 n (omega arith)) ∙ none-set k n
 padded (x ∷ m) k zero h = absurd (omega arith)
@@ -143,7 +143,7 @@ module _ (out₀ : List ℕ) (done : ℕ) (all out : List ℕ) (count at w zeros
 
 -- ---- a span's positions, word by word
 
-ones-append : (k : ℕ) (a b : List Bool) → ones_from k (a ++ b) ≡ ones_from k a ++ ones_from (k + length a) b
+pub ones-append : (k : ℕ) (a b : List Bool) → ones_from k (a ++ b) ≡ ones_from k a ++ ones_from (k + length a) b
 unfolding ones_from
 ones-append k [] b = let e : k ≡ k + 0 = omega arith in ap (λ (x : ℕ). ones_from x b) e
 ones-append k (true ∷ a) b =

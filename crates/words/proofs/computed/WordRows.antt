@@ -2,6 +2,7 @@
 use Rattle.words.specs.Place.{or_at, or_over}
 use Rattle.std.proofs.Common.{refl}
 use Rattle.std.proofs.Math.Bool.{xor}
+use Rattle.words.specs.Changes.{alternating, changes, without_first}
 use Rattle.words.specs.Counts.{any_set, same_flags}
 use Rattle.words.specs.Flags.{bits, copies, count, flags_of, over, over_at, window}
 use Rattle.words.specs.Loops.{whole_words}
@@ -12,5 +13,5 @@ use Rattle.words.proofs.tables.WordRows.{rows, RowsHold}
 
 pub all_hold : RowsHold
 unfolding rows bits flags_of copies window over over_at whole_words zip3 merged same_flags any_set all_equal differs_early count xor or_at
-    or_over
+    or_over alternating changes without_first
 all_hold = refl

@@ -2,10 +2,13 @@
 --
 -- Two answers differ if their codes, lists of numbers, differ: whatever a code is, equal answers have equal codes.
 use Rattle.words.specs.Place.{or_at, or_over}
+use Rattle.words.specs.Changes.{alternating, changes, without_first}
 use Rattle.words.specs.Columns.{column}
 use Rattle.std.specs.Prelude.{Result, Ok, Err}
 use Rattle.std.proofs.Common.{ℕ, ◌≡◌, refl, sym, ap, ◌∙◌, Bool, true, false, ◌&&◌, List, [], ◌∷◌, map, arith, eqb, eq-eqb}
-use Rattle.words.specs.Flags.{bits, count, digit, flags_of, window}
+use Rattle.std.proofs.Math.Bool.{xor}
+use Rattle.words.specs.Flags.{bits, count, digit, flags_of, over, window}
+use Rattle.words.specs.Loops.{whole_words}
 use Rattle.words.specs.Merge.{merged}
 use Rattle.words.specs.Nth.{nth_one, nth_place}
 use Rattle.words.proofs.tables.WrongAnswers.{Tried, WrongAnswers}
@@ -49,7 +52,8 @@ nth_code (Ok k) = 1 ∷ k ∷ []
 nth_code (Err k) = 0 ∷ k ∷ []
 
 pub ruled_out : WrongAnswers
-unfolding same_code bits count flags_of window merged nth_one nth_place column or_at or_over
+unfolding same_code bits count flags_of window merged nth_one nth_place column or_at or_over alternating changes without_first
+    over whole_words xor
 ruled_out =
     record {
       load-padded = tried flags_code refl refl refl;
@@ -61,5 +65,8 @@ ruled_out =
       nth-set-bit-u64-missing = tried nth_code refl refl refl;
       nth-set-bit-u64-few = tried nth_code refl refl refl;
       or_flags = tried flags_code refl refl refl;
+      changed_flags = tried flags_code refl refl refl;
+      without_first = tried flags_code refl refl refl;
+      fill_alternating = tried flags_code refl refl refl;
       transpose_block = tried flags_code refl refl refl;
     }

@@ -3,6 +3,7 @@
 -- A row has the value of a definition at one input, its flags as the numbers 0 and 1, and the value of its plain reading there, worked out
 -- by hand. `proofs/computed/WordRows.antt` proves that the two columns are equal.
 use Rattle.std.specs.Prelude.{ℕ, ◌≡◌, Bool, true, false, List, [], ◌∷◌, map, replicate}
+use Rattle.words.specs.Changes.{alternating, changes, without_first}
 use Rattle.words.specs.Counts.{any_set, same_flags}
 use Rattle.words.specs.Flags.{copies, digit, over_at}
 use Rattle.words.specs.Loops.{combined, whole_words}
@@ -45,6 +46,17 @@ rows =
     (1 ∷ 1 ∷ 1 ∷ 1 ∷ 1 ∷ 0 ∷ [])
     ∷ row (or_at (copies 2 false) 1 (true ∷ true ∷ [])) (0 ∷ 1 ∷ [])
     ∷ row (or_at (copies 2 false) 2 (true ∷ [])) (0 ∷ 0 ∷ [])
+    -- Flags that differ from the one before them: before the first a one, then a zero; of no flags none.
+    ∷ row (changes true (true ∷ false ∷ false ∷ true ∷ [])) (0 ∷ 1 ∷ 0 ∷ 1 ∷ [])
+    ∷ row (changes false (true ∷ true ∷ false ∷ [])) (1 ∷ 0 ∷ 1 ∷ [])
+    ∷ row (changes true []) []
+    -- Alternating flags, from a one and from a zero; none.
+    ∷ row (alternating 4 true) (1 ∷ 0 ∷ 1 ∷ 0 ∷ [])
+    ∷ row (alternating 3 false) (0 ∷ 1 ∷ 0 ∷ [])
+    ∷ row (alternating 0 true) []
+    -- The first set flag is cleared, the others stay.
+    ∷ row (without_first (false ∷ true ∷ true ∷ false ∷ true ∷ [])) (0 ∷ 0 ∷ 1 ∷ 0 ∷ 1 ∷ [])
+    ∷ row (without_first (false ∷ false ∷ [])) (0 ∷ 0 ∷ [])
     -- Two words at an offset of their length: the first.
     ∷ row (merged (true ∷ false ∷ []) (false ∷ true ∷ []) 2) (1 ∷ 0 ∷ [])
     -- Lists of different lengths are not the same, in either order.

@@ -3,9 +3,11 @@
 -- A contract says that an answer equals a definition at the call's arguments. So it rules out every other answer. A row has a call's
 -- definition at one input, its value there, and two answers that a faulty function would return, the fault named above each.
 -- `proofs/computed/WrongAnswers.antt` proves the rows by computing them.
-use Rattle.std.specs.Prelude.{◌≡◌, true, false, [], ◌∷◌, Ok, Err}
+use Rattle.std.specs.Prelude.{◌≡◌, true, false, [], ◌∷◌, ◌++◌, get_or, replicate, Ok, Err}
+use Rattle.words.specs.Changes.{alternating, changes, without_first}
 use Rattle.words.specs.Columns.{column}
-use Rattle.words.specs.Flags.{bits, flags_of, window, word_flags}
+use Rattle.words.specs.Flags.{bits, flags_of, over, window, word_flags}
+use Rattle.words.specs.Loops.{whole_words}
 use Rattle.words.specs.Merge.{merged}
 use Rattle.words.specs.Nth.{nth_one}
 use Rattle.words.specs.Place.{or_at}
@@ -81,6 +83,27 @@ pub record WrongAnswers : Type 0 where
       (flags_of (0x41 ∷ 0x01 ∷ []))
       -- a flag that both have is lost
       (flags_of (0xC1 ∷ 0x00 ∷ []))
+  -- `changed_flags` of the word 13, after a word whose last flag is set
+  pub changed_flags : Tried (changes (get_or (word_flags 0x8000000000000000) 63 false) (word_flags 13))
+      (word_flags 0x16)
+      -- the flag before the first taken as 0
+      (word_flags 0x17)
+      -- compared with the flag after it
+      (word_flags 0x0B)
+  -- `without_first` of the word 12
+  pub without_first : Tried (without_first (word_flags 12))
+      (word_flags 8)
+      -- the last set flag cleared
+      (word_flags 4)
+      -- one taken away
+      (word_flags 11)
+  -- `fill_alternating`: three flags, the first of them 0, over nine bytes
+  pub fill_alternating : Tried (over (flags_of (replicate 9 0xFF)) (whole_words (alternating 3 false)))
+      (flags_of (0x02 ∷ (replicate 7 0 ++ (0xFF ∷ []))))
+      -- the first of them 1
+      (flags_of (0x05 ∷ (replicate 7 0 ++ (0xFF ∷ []))))
+      -- not padded to a whole word
+      (flags_of (0xFA ∷ replicate 8 0xFF))
   -- `transpose_block`: the first flags of row 1, of a block whose first rows are 2, 4, 6 and 0
   pub transpose_block : Tried (column (2 ∷ 4 ∷ 6 ∷ 0 ∷ []) 1)
       (true ∷ false ∷ true ∷ false ∷ [])

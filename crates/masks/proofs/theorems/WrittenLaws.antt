@@ -1,14 +1,18 @@
--- What is read of lists that were written over the front of an output, and of an answer.
+-- What is read of lists that were written over the front of an output, and of an answer. For the calls of crates above masks.
 use Rattle.std.proofs.Common.{◌≡◌, refl, sym, ap, ◌∙◌, ℕ, zero, suc, ◌+◌, ◌<◌, ◌≤◌, Bool, false, List, [], ◌∷◌, length, take, get_or}
-use Rattle.std.proofs.Common.{arith}
+use Rattle.std.proofs.Common.{Some, None, cond, arith}
+use borrow.Author.Tests.{eq-eqb, ne_eqb}
 use Rattle.words.specs.Flags.{flags_of, over, window}
 use Rattle.words.proofs.flags.Bytes.{flags-over, length-flags}
 use Rattle.words.proofs.flags.Windows.{window-all, window-ext}
 use Rattle.words.proofs.theorems.Plain.{at-flags, at-over}
 use Rattle.masks.specs.Checks.{Check, first_failed}
 use Rattle.masks.specs.Frozen.{frozen, frozen_size, with_frozen}
+use Rattle.masks.specs.Mask.{written_mask}
+use Rattle.masks.specs.declared.bitmap.Bitmap.{Bitmap}
 use Rattle.masks.specs.equations.Answer.{checked, given, kept, refused}
 use Rattle.masks.proofs.checks.CheckLaws.{is-kept, is-new}
+use Rattle.masks.proofs.statements.CountPlain.{EachCounts}
 use Rattle.masks.proofs.refusal.AnswerLaws.{given-number, given-value, refused-failed}
 use Rattle.masks.proofs.theorems.FrozenPlain.{frozen-plain}
 
@@ -62,3 +66,13 @@ pub as-long : {A : Type 0} (number : ℕ) (new old : List A) → length new ≡ 
 unfolding kept
 as-long zero new old e = e
 as-long (suc n) new old e = refl
+
+-- a mask that is written is not counted
+pub uncounted-plain : (cs : List Check) (m : Bitmap) (n : ℕ) → EachCounts n (checked cs tt (written_mask m n))
+uncounted-plain cs m n =
+    record {
+      none = λ c e z.
+          ap (λ (x : Bitmap). x.unset) (accepted cs tt (written_mask m n) c e).1 ∙ ap (λ (t : Bool). cond t (Some 0) None) (eq-eqb n 0 z);
+      other = λ c e h.
+          ap (λ (x : Bitmap). x.unset) (accepted cs tt (written_mask m n) c e).1 ∙ ap (λ (t : Bool). cond t (Some 0) None) (ne_eqb n 0 h);
+    }

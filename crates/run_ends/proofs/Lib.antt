@@ -1,0 +1,5 @@
+-- Folders that no module of src/ names: tables, their rows computed, theorems, what they state. The laws are in the folders of modules.
+pub mod computed
+pub mod statements
+pub mod tables
+pub mod theorems

@@ -1,0 +1,2 @@
+-- Laws of the rules on ends.
+pub mod EndLaws

@@ -1,0 +1,5 @@
+-- What the proofs of several functions of src/tables.rt use.
+pub mod EdgeRows
+pub mod OrderRows
+pub mod Witnesses
+pub mod WrongRunEnds
