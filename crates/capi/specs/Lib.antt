@@ -3,3 +3,4 @@
 pub mod Answers
 pub mod Records
 pub mod Window
+pub mod Workers

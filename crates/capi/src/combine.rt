@@ -10,7 +10,9 @@ ghost use Rattle.capi.specs.Records.{mask_in};
 
 use crate::answers::MaskAnswer;
 use crate::records::Mask;
+use crate::short::{not_near, pair_near, select_constant_near, select_near};
 use masks::bitmap_ops::{and, and_not, not, or, or_not, select, select_constant, xor};
+use words::ops::Op;
 
 /// Writes which flags are set in both masks, as frozen bytes at the start of `out`, and returns the mask over them.
 ///
@@ -36,6 +38,9 @@ pub extern "C" fn pw_and(
     ensures bytes { out.new ≡
         pair_bytes And (mask_in lhs) lhs_bytes.now (mask_in rhs) rhs_bytes.now out.old }
 {
+    if let Some(answer) = pair_near(Op::And, lhs, lhs_bytes, rhs, rhs_bytes, out) {
+        return answer;
+    }
     and(lhs.into(), lhs_bytes, rhs.into(), rhs_bytes, out).into()
 }
 
@@ -64,6 +69,9 @@ pub extern "C" fn pw_and_not(
     ensures bytes { out.new ≡
         pair_bytes AndNot (mask_in lhs) lhs_bytes.now (mask_in rhs) rhs_bytes.now out.old }
 {
+    if let Some(answer) = pair_near(Op::AndNot, lhs, lhs_bytes, rhs, rhs_bytes, out) {
+        return answer;
+    }
     and_not(lhs.into(), lhs_bytes, rhs.into(), rhs_bytes, out).into()
 }
 
@@ -91,6 +99,9 @@ pub extern "C" fn pw_or(
     ensures bytes { out.new ≡
         pair_bytes Or (mask_in lhs) lhs_bytes.now (mask_in rhs) rhs_bytes.now out.old }
 {
+    if let Some(answer) = pair_near(Op::Or, lhs, lhs_bytes, rhs, rhs_bytes, out) {
+        return answer;
+    }
     or(lhs.into(), lhs_bytes, rhs.into(), rhs_bytes, out).into()
 }
 
@@ -119,6 +130,9 @@ pub extern "C" fn pw_or_not(
     ensures bytes { out.new ≡
         pair_bytes OrNot (mask_in lhs) lhs_bytes.now (mask_in rhs) rhs_bytes.now out.old }
 {
+    if let Some(answer) = pair_near(Op::OrNot, lhs, lhs_bytes, rhs, rhs_bytes, out) {
+        return answer;
+    }
     or_not(lhs.into(), lhs_bytes, rhs.into(), rhs_bytes, out).into()
 }
 
@@ -146,6 +160,9 @@ pub extern "C" fn pw_xor(
     ensures bytes { out.new ≡
         pair_bytes Xor (mask_in lhs) lhs_bytes.now (mask_in rhs) rhs_bytes.now out.old }
 {
+    if let Some(answer) = pair_near(Op::Xor, lhs, lhs_bytes, rhs, rhs_bytes, out) {
+        return answer;
+    }
     xor(lhs.into(), lhs_bytes, rhs.into(), rhs_bytes, out).into()
 }
 
@@ -163,6 +180,9 @@ pub extern "C" fn pw_not(mask: Mask, bytes: &[u8], out: &mut [u8]) -> MaskAnswer
     ensures answer { result ≡ as_mask (not_of (mask_in mask) bytes.now out.old) }
     ensures bytes { out.new ≡ not_bytes (mask_in mask) bytes.now out.old }
 {
+    if let Some(answer) = not_near(mask, bytes, out) {
+        return answer;
+    }
     not(mask.into(), bytes, out).into()
 }
 
@@ -194,6 +214,18 @@ pub extern "C" fn pw_select(
         select_bytes (mask_in selector) selector_bytes.now
         (mask_in truthy) truthy_bytes.now (mask_in falsy) falsy_bytes.now out.old }
 {
+    let near = select_near(
+        selector,
+        selector_bytes,
+        truthy,
+        truthy_bytes,
+        falsy,
+        falsy_bytes,
+        out,
+    );
+    if let Some(answer) = near {
+        return answer;
+    }
     select(
         selector.into(),
         selector_bytes,
@@ -231,6 +263,10 @@ pub extern "C" fn pw_select_constant(
     ensures bytes { out.new ≡
         select_constant_bytes (mask_in selector) selector_bytes.now (mask_in truthy) truthy_bytes.now flag out.old }
 {
+    let near = select_constant_near(selector, selector_bytes, truthy, truthy_bytes, flag, out);
+    if let Some(answer) = near {
+        return answer;
+    }
     select_constant(
         selector.into(),
         selector_bytes,

@@ -34,7 +34,7 @@ failure_back (Err e) = number e.refusal
 abbrev pub reason : Refusal → List ℕ
 reason AboveLimit = codes "a start or a length is above 4,194,304"
 reason OutsideBytes = codes "start + length is above 8 * the bytes lent"
-reason BrokenRunEnds = codes "the run ends do not rise from above 0 to the length, or are not as many as their values"
+reason BrokenRunEnds = codes "the run ends do not rise from above 0 to the length or above it, or are not as many as their values"
 reason FalseCount = codes "a known zero count is not the number of zeros"
 reason SerialConflict = codes "the masks have equal serials and different flags"
 reason ImpossibleBuilder = codes "the builder is not possible: its word, ones or buffer do not fit its length"

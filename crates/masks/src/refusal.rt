@@ -51,7 +51,7 @@ impl Refusal {
             Refusal::AboveLimit => "a start or a length is above 4,194,304",
             Refusal::OutsideBytes => "start + length is above 8 * the bytes lent",
             Refusal::BrokenRunEnds => {
-                "the run ends do not rise from above 0 to the length, or are not as many as their values"
+                "the run ends do not rise from above 0 to the length or above it, or are not as many as their values"
             }
             Refusal::FalseCount => "a known zero count is not the number of zeros",
             Refusal::SerialConflict => "the masks have equal serials and different flags",

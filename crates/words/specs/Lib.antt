@@ -11,5 +11,6 @@ pub mod Nth
 pub mod Ops
 pub mod Place
 pub mod Planes
+pub mod Short
 pub mod Transpose
 pub mod Uniform

@@ -21,6 +21,7 @@ pub mod ops;
 pub mod place;
 mod planes;
 mod rows;
+pub mod short;
 pub mod transpose;
 pub mod uniform;
 pub mod word;

@@ -20,7 +20,7 @@ fn differing(flag: bool, w: u64) -> u64
 }
 
 // Returns whether the k low flags of w all equal `flag`.
-fn low_all_equal(flag: bool, w: u64, k: usize) -> bool
+pub(crate) fn low_all_equal(flag: bool, w: u64, k: usize) -> bool
     ensures { result ≡ all_equal flag (take k (word_flags w)) }
 {
     !is_set(low_flags(differing(flag, w), k))

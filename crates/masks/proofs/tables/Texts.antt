@@ -9,7 +9,7 @@ pub record Texts : Type 0 where
   pub above_limit : said AboveLimit ≡ codes "refused with 1: a start or a length is above 4,194,304"
   pub outside_bytes : said OutsideBytes ≡ codes "refused with 2: start + length is above 8 * the bytes lent"
   pub broken_run_ends : said BrokenRunEnds
-      ≡ codes "refused with 13: the run ends do not rise from above 0 to the length, or are not as many as their values"
+      ≡ codes "refused with 13: the run ends do not rise from above 0 to the length or above it, or are not as many as their values"
   pub false_count : said FalseCount ≡ codes "refused with 3: a known zero count is not the number of zeros"
   pub serial_conflict : said SerialConflict ≡ codes "refused with 14: the masks have equal serials and different flags"
   pub impossible_builder : said ImpossibleBuilder

@@ -9,6 +9,7 @@ use Rattle.words.specs.Flags.{copies, digit, over_at}
 use Rattle.words.specs.Loops.{combined, whole_words}
 use Rattle.words.specs.Merge.{merged}
 use Rattle.words.specs.Place.{or_at}
+use Rattle.words.specs.Short.{lies_near}
 use Rattle.words.specs.Uniform.{all_equal, differs_early}
 use Rattle.words.specs.declared.ops.Op.TheVariants.{AndNot, Not, Select}
 
@@ -72,6 +73,10 @@ rows =
     ∷ row (differs_early true (0 ∷ []) 0 4 ∷ differs_early true (0xF0 ∷ replicate 7 0xFF) 4 8
     ∷ differs_early true (0x0F ∷ replicate 7 0) 0 4 ∷ differs_early true (0x07 ∷ replicate 7 0) 0 4 ∷ [])
     (0 ∷ 0 ∷ 0 ∷ 1 ∷ [])
+    -- Whether flags lie in eight bytes: 64 flags at 0, 57 at 7, not 58; not with seven bytes; one flag at 64 of 16 bytes, not of 15.
+    ∷ row
+    (lies_near 8 0 64 ∷ lies_near 8 7 57 ∷ lies_near 8 7 58 ∷ lies_near 7 0 1 ∷ lies_near 16 64 1 ∷ lies_near 15 64 1 ∷ [])
+    (1 ∷ 1 ∷ 0 ∷ 0 ∷ 1 ∷ 0 ∷ [])
     ∷ []
 
 -- the statement: in every row the value of the definition is that of its plain reading

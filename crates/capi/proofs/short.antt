@@ -1,0 +1,2 @@
+-- What the proofs of several functions of src/short.rt use.
+pub mod ShortLaws

@@ -1,0 +1,38 @@
+-- As in `pair_near`, with three masks (`select-pass`).
+use mathlib.Core.Path.{sym, ◌∙◌}
+use Rattle.std.proofs.Common.{rules}
+use Rattle.std.proofs.lemmas.Bool.{and_parts}
+use Rattle.masks.proofs.bitmap_ops.CombineLaws.{select-each, three-serials}
+use Rattle.capi.specs.Records.{mask_in}
+use Rattle.capi.proofs.short.ShortLaws.{near-mask, near-output, each-answer, each-bytes, select-pass}
+use Rattle.capi.proofs.short.select_near.Goals as goal
+
+pub returns-then-near-clause-answer : goal.returns-then-near-clause-answer
+unfolding mask_in
+returns-then-near-clause-answer c =
+    let all = and_parts _ _ c.if-near.true in
+    let rest = and_parts _ _ all.1 in
+    let last = and_parts _ _ rest.1 in
+    let room = near-output _ _ (sym c.near_output-room.ensures ∙ last.1) in
+    let a = c.args in
+    c.near_answer.ensures
+    ∙ each-answer _ _ _ _
+    (select-pass a.selector a.truthy a.falsy a.selector_bytes.now a.truthy_bytes.now a.falsy_bytes.now _
+    (near-mask _ _ _ (sym c.near_mask-first.ensures ∙ all.0)) (near-mask _ _ _ (sym c.near_mask-second.ensures ∙ rest.0))
+    (near-mask _ _ _ (sym c.near_mask-third.ensures ∙ last.0)) room)
+    room.some (three-serials (mask_in a.selector) (mask_in a.truthy) (mask_in a.falsy) _ _ c.max-rest.ensures c.max.ensures)
+
+pub returns-then-near-clause-bytes : goal.returns-then-near-clause-bytes
+unfolding mask_in
+returns-then-near-clause-bytes c =
+    let all = and_parts _ _ c.if-near.true in
+    let rest = and_parts _ _ all.1 in
+    let last = and_parts _ _ rest.1 in
+    let second = near-mask _ _ _ (sym c.near_mask-second.ensures ∙ rest.0) in
+    let third = near-mask _ _ _ (sym c.near_mask-third.ensures ∙ last.0) in
+    let a = c.args in
+    each-bytes _ _ _ _ _
+    (select-pass a.selector a.truthy a.falsy a.selector_bytes.now a.truthy_bytes.now a.falsy_bytes.now _
+    (near-mask _ _ _ (sym c.near_mask-first.ensures ∙ all.0)) second third
+    (near-output _ _ (sym c.near_output-room.ensures ∙ last.1)))
+    (search rules) (search rules) c.combine_near.ensures (select-each _ _ _ _ _ _ _ _ _ (sym second.long) (sym third.long))
