@@ -1,10 +1,10 @@
 //! A shift planner edits runs, not flags, and saves: `cargo run --example planner`.
 //!
-//! No method reads a run list. The screen takes the runs from the mask, edits them and makes the calls itself: `extend_constant` for each
-//! gap's zeros, for each run's ones and once for the zeros up to the length. It is proved that this makes the list of flags with these
-//! runs, and that there is exactly one such list.
+//! The screen takes the runs from the mask, edits them and saves them by `Bitmap::from_runs`, which makes the calls: `extend_constant` for
+//! each gap's zeros, for each run's ones and once for the zeros up to the length. It is proved that these calls make the list of flags with
+//! these runs, and that there is exactly one such list.
 
-use poruwhina::{Bitmap, BitmapBuilder, Refusal};
+use poruwhina::{Bitmap, ListError};
 
 /// The first truck of a run and its length.
 type Run = (usize, usize);
@@ -16,18 +16,7 @@ fn is_run_list(length: usize, runs: &[Run]) -> bool {
         && runs.windows(2).all(|two| two[0].0 + two[0].1 < two[1].0)
 }
 
-/// Returns the mask of `length` trucks that has these runs, which are a run list.
-fn save(length: usize, runs: &[Run]) -> Result<Bitmap, Refusal> {
-    let mut builder = BitmapBuilder::with_capacity(length);
-    for &(start, trucks) in runs {
-        builder.extend_constant(start - builder.len(), false)?;
-        builder.extend_constant(trucks, true)?;
-    }
-    builder.extend_constant(length - builder.len(), false)?;
-    Ok(builder.freeze())
-}
-
-fn main() -> Result<(), Refusal> {
+fn main() -> Result<(), ListError> {
     // The operator may reassign trucks 4 to 11 and 20 to 31, of forty.
     let trucks = 40;
     let mask: Bitmap = (0..trucks).map(|truck| (4..12).contains(&truck) || (20..32).contains(&truck)).collect();
@@ -35,19 +24,23 @@ fn main() -> Result<(), Refusal> {
     println!("runs {runs:?}");
 
     // The unedited runs, saved, make the same mask.
-    assert_eq!(save(trucks, &runs)?, mask);
+    assert_eq!(Bitmap::from_runs(trucks, runs.iter().copied())?, mask);
 
     // The second run begins three trucks earlier.
     let (start, length) = runs[1];
     runs[1] = (start - 3, length + 3);
     assert!(is_run_list(trucks, &runs));
-    let saved = save(trucks, &runs)?;
+    let saved = Bitmap::from_runs(trucks, runs.iter().copied())?;
     assert!(saved.slices().eq(runs.iter().copied()));
     println!("saved {runs:?}, {} trucks", saved.set_bits());
 
-    // A list whose second run begins where the first ends is no run list: the two would be one run.
+    // A list whose second run begins where the first ends is no run list: the two would be one run. `from_runs` takes it all the same.
     runs[1] = (12, 20);
     assert!(!is_run_list(trucks, &runs));
     println!("refused by the screen {runs:?}");
+
+    // Runs that overlap make no mask.
+    runs[1] = (11, 20);
+    assert_eq!(Bitmap::from_runs(trucks, runs.iter().copied()), Err(ListError::NotRising { index: 1 }));
     Ok(())
 }

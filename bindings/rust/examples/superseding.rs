@@ -3,24 +3,13 @@
 //! If the edit is saved under the serial of the stored mask, comparing the two is refused with 14, and neither wins unseen. Saved under a
 //! larger serial the edit wins. A mask that is rebuilt has serial 0 until its serial is set.
 
-use poruwhina::{Bitmap, BitmapBuilder, Refusal};
+use poruwhina::{Bitmap, ListError};
 
-/// Returns the mask of these runs of ones, each a start and a length.
-fn rebuilt(runs: &[(usize, usize)], trucks: usize) -> Result<Bitmap, Refusal> {
-    let mut builder = BitmapBuilder::new();
-    for &(start, length) in runs {
-        builder.extend_constant(start - builder.len(), false)?;
-        builder.extend_constant(length, true)?;
-    }
-    builder.extend_constant(trucks - builder.len(), false)?;
-    Ok(builder.freeze())
-}
-
-fn main() -> Result<(), Refusal> {
-    let stored = rebuilt(&[(4, 8), (20, 3)], 40)?.with_serial(6);
+fn main() -> Result<(), ListError> {
+    let stored = Bitmap::from_runs(40, [(4, 8), (20, 3)])?.with_serial(6);
     let mut runs: Vec<(usize, usize)> = stored.slices().collect();
     runs[0] = (5, 7);
-    let edited = rebuilt(&runs, 40)?;
+    let edited = Bitmap::from_runs(40, runs)?;
 
     for serial in [stored.serial(), stored.serial() + 1] {
         match Bitmap::superseding(&stored, &edited.clone().with_serial(serial)) {

@@ -30,7 +30,7 @@ use crate::refusal::{Refusal, check};
 /// let validity = BitmapBuilder::new().into_opt_validity();
 /// let permission: Permission = validity.as_ref().into();
 /// ```
-#[derive(Clone, Copy, Debug)]
+#[derive(Clone, Copy, Debug, PartialEq, Eq, Hash)]
 pub enum Permission<'a> {
     /// The operator may reassign the trucks whose flags are set.
     Mask(&'a Bitmap),
@@ -45,6 +45,21 @@ impl<'a> Permission<'a> {
             Permission::Mask(mask) => Some(mask),
             Permission::NoMask => None,
         }
+    }
+}
+
+/// Makes a permission of a mask that is there. An `Option` of a mask does not convert.
+///
+/// ```
+/// use poruwhina::{Bitmap, Permission, may_reassign};
+///
+/// let mask = Bitmap::from([true, false]);
+/// assert_eq!(may_reassign((&mask).into(), None, 0), Ok(true));
+/// assert_eq!(Permission::from(&mask), Permission::Mask(&mask));
+/// ```
+impl<'a> From<&'a Bitmap> for Permission<'a> {
+    fn from(mask: &'a Bitmap) -> Permission<'a> {
+        Permission::Mask(mask)
     }
 }
 

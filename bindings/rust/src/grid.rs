@@ -1,9 +1,11 @@
 //! A mask as a grid of rows and columns, as pits by trucks.
 
+mod rows;
+
 use std::collections::TryReserveError;
 use std::fmt::{self, Write};
-use std::iter::FusedIterator;
-use std::ops::Range;
+
+pub use rows::RowIter;
 
 use crate::bitmap::Bitmap;
 use crate::calls;
@@ -30,7 +32,7 @@ type CountCall = fn(calls::Mask, &[u8], usize, usize, &mut [u32]) -> calls::Numb
 /// assert_eq!(grid.transpose().to_string(), "##\n..\n#.");
 /// # Ok::<(), poruwhina::Refusal>(())
 /// ```
-#[derive(Clone, Debug, PartialEq, Eq)]
+#[derive(Clone, Debug, PartialEq, Eq, Hash)]
 pub struct Grid {
     mask: Bitmap,
     rows: usize,
@@ -63,6 +65,7 @@ impl Grid {
     /// assert_eq!(Grid::try_new(Bitmap::from([true; 6]), 2, 3)?.rows(), 2);
     /// # Ok::<(), poruwhina::Refusal>(())
     /// ```
+    #[must_use]
     pub fn rows(&self) -> usize {
         self.rows
     }
@@ -74,6 +77,7 @@ impl Grid {
     /// assert_eq!(Grid::try_new(Bitmap::from([true; 6]), 2, 3)?.columns(), 3);
     /// # Ok::<(), poruwhina::Refusal>(())
     /// ```
+    #[must_use]
     pub fn columns(&self) -> usize {
         self.columns
     }
@@ -85,6 +89,7 @@ impl Grid {
     /// assert_eq!(Grid::try_new(Bitmap::from([true; 6]), 2, 3)?.mask().len(), 6);
     /// # Ok::<(), poruwhina::Refusal>(())
     /// ```
+    #[must_use]
     pub fn mask(&self) -> &Bitmap {
         &self.mask
     }
@@ -96,6 +101,7 @@ impl Grid {
     /// assert_eq!(Grid::try_new(Bitmap::from([true; 6]), 2, 3)?.into_mask(), Bitmap::from([true; 6]));
     /// # Ok::<(), poruwhina::Refusal>(())
     /// ```
+    #[must_use]
     pub fn into_mask(self) -> Bitmap {
         self.mask
     }
@@ -146,25 +152,12 @@ impl Grid {
     /// assert_eq!(transposed.transpose(), grid);
     /// # Ok::<(), poruwhina::Refusal>(())
     /// ```
+    #[must_use]
     pub fn transpose(&self) -> Grid {
         let mask = Bitmap::written(self.mask.len(), |out| {
             calls::grid_transpose(self.mask.record(), self.mask.bytes(), self.rows, self.columns, out)
         });
         Grid { mask: mask.expect("a grid has its own length"), rows: self.columns, columns: self.rows }
-    }
-
-    /// Returns an iterator over the rows from the first, each a mask over the same bytes. The count of a row is not known before it is
-    /// counted, except that of a row with no flags.
-    ///
-    /// ```
-    /// use poruwhina::{Bitmap, Grid};
-    ///
-    /// let grid = Grid::try_new(Bitmap::from([true, false, true, true, false, false]), 2, 3)?;
-    /// assert!(grid.row_iter().map(|row| row.set_bits()).eq([2, 1]));
-    /// # Ok::<(), poruwhina::Refusal>(())
-    /// ```
-    pub fn row_iter(&self) -> RowIter<'_> {
-        RowIter { grid: self, left: 0..self.rows }
     }
 
     /// Writes the number of zeros of each row to the start of `counts`, and returns these counts; the rest of `counts` is unchanged.
@@ -276,94 +269,3 @@ impl fmt::Display for Grid {
         Ok(())
     }
 }
-
-/// Iterates over the rows, as [`Grid::row_iter`] does.
-///
-/// ```
-/// use poruwhina::{Bitmap, Grid};
-///
-/// let mut rows = 0;
-/// for row in &Grid::try_new(Bitmap::from([true; 6]), 3, 2)? {
-///     assert_eq!(row, Bitmap::from([true, true]));
-///     rows += 1;
-/// }
-/// assert_eq!(rows, 3);
-/// # Ok::<(), poruwhina::Refusal>(())
-/// ```
-impl<'a> IntoIterator for &'a Grid {
-    type Item = Bitmap;
-    type IntoIter = RowIter<'a>;
-
-    fn into_iter(self) -> RowIter<'a> {
-        self.row_iter()
-    }
-}
-
-/// An iterator over the rows of a grid, made by [`Grid::row_iter`]. Rows that `nth`, `nth_back`, `count` or `last` passes over cost
-/// nothing.
-///
-/// ```
-/// use poruwhina::{Bitmap, Grid};
-///
-/// let grid = Grid::try_new(Bitmap::from([true, false, true, true, false, false]), 3, 2)?;
-/// let mut rows = grid.row_iter();
-/// assert_eq!((rows.len(), rows.nth(1), rows.next_back()), (3, Some(grid.row(1)?), Some(grid.row(2)?)));
-/// assert_eq!(rows.next(), None);
-/// assert_eq!((grid.row_iter().count(), grid.row_iter().last(), grid.row_iter().nth_back(2)), (3, Some(grid.row(2)?), Some(grid.row(0)?)));
-/// # Ok::<(), poruwhina::Refusal>(())
-/// ```
-#[derive(Clone, Debug)]
-pub struct RowIter<'a> {
-    grid: &'a Grid,
-    left: Range<usize>,
-}
-
-impl RowIter<'_> {
-    /// Returns a row without the grid's count, so that the flags are not counted for each row.
-    fn row(&self, row: usize) -> Bitmap {
-        let Grid { mask, rows, columns } = self.grid;
-        let answer = calls::grid_row(mask.record(), mask.bytes(), *rows, *columns, row);
-        self.grid.row_of(row, answer).expect("a row inside the grid")
-    }
-}
-
-impl Iterator for RowIter<'_> {
-    type Item = Bitmap;
-
-    fn next(&mut self) -> Option<Bitmap> {
-        let row = self.left.next()?;
-        Some(self.row(row))
-    }
-
-    fn nth(&mut self, n: usize) -> Option<Bitmap> {
-        let row = self.left.nth(n)?;
-        Some(self.row(row))
-    }
-
-    fn size_hint(&self) -> (usize, Option<usize>) {
-        self.left.size_hint()
-    }
-
-    fn count(self) -> usize {
-        self.left.len()
-    }
-
-    fn last(mut self) -> Option<Bitmap> {
-        self.next_back()
-    }
-}
-
-impl DoubleEndedIterator for RowIter<'_> {
-    fn next_back(&mut self) -> Option<Bitmap> {
-        let row = self.left.next_back()?;
-        Some(self.row(row))
-    }
-
-    fn nth_back(&mut self, n: usize) -> Option<Bitmap> {
-        let row = self.left.nth_back(n)?;
-        Some(self.row(row))
-    }
-}
-
-impl ExactSizeIterator for RowIter<'_> {}
-impl FusedIterator for RowIter<'_> {}

@@ -6,7 +6,8 @@
 //! [`Bitmap::run_ends`] read and write a mask as Arrow's run ends. [`may_reassign`] answers for one truck, [`offer`] returns the next
 //! one. An [`ActivityWindow`] counts in how many of the last minutes each truck was busy. The names are those of polars-arrow's bitmap
 //! module, of which the library is a port. A call that cannot be carried out returns a [`Refusal`], which has a number and a message,
-//! and has changed nothing; operators and conversions panic instead.
+//! and has changed nothing; operators and conversions panic instead. `docs/MIGRATING.md` of the repository is for those who come from
+//! polars-arrow.
 //!
 //! ```
 //! use poruwhina::{Bitmap, BitmapBuilder, Permission, may_reassign};
@@ -57,9 +58,9 @@
 //! - **`unsafe`** is used only in the module [`calls`], whose documentation says why each use is sound.
 //!
 //! ```
-//! # use poruwhina::{Bitmap, BitmapBuilder, BitmapIter, SlicesIterator, TrueIdxIter, BitChunks};
+//! # use poruwhina::{Bitmap, BitmapBuilder, BitmapIntoIter, BitmapIter, SlicesIterator, TrueIdxIter, BitChunks};
 //! fn shared<T: Send + Sync>() {}
-//! shared::<(Bitmap, BitmapBuilder)>();
+//! shared::<(Bitmap, BitmapBuilder, BitmapIntoIter)>();
 //! shared::<(BitmapIter, SlicesIterator, TrueIdxIter, BitChunks)>();
 //! ```
 //!
@@ -106,9 +107,19 @@
 //!
 //! The Rust of this crate is not proved. It keeps records and bytes, keeps the positions that a call returned until they are requested,
 //! allocates memory, and computes the number of bytes for a number of flags and, from [`Bitmap::num_edges`], of places for run ends. It
-//! subtracts the zeros from the length for [`Bitmap::set_bits`] and a place from a length for the iterators' `size_hint`, multiplies a
-//! row of a [`Grid`] by the columns if the row would start above the limit, ends a round of [`offers`] at its first truck, and makes
-//! `Option`, `Result` and text from answers. It never reads or writes a flag itself. The README lists what else must be believed.
+//! makes `Option`, `Result` and text from answers. It never writes a flag itself, and reads none: it compares, hashes and shows those
+//! that calls returned. It computes with lengths and places:
+//!
+//! - It subtracts the zeros from the length for [`Bitmap::set_bits`], and a place from a length for the iterators' `size_hint`.
+//! - It ends an iterator's span before what was taken from the back: a flag, a position, or a run's zeros and ones.
+//! - It subtracts the builder's length from the start of each run for [`Bitmap::from_runs`], and asks whether the run ends past the length.
+//! - It passes over the words of two masks that are equal, to find which mask is less.
+//! - It puts a builder's record back after [`BitmapBuilder::try_extend`] was refused.
+//! - It multiplies a row of a [`Grid`] by the columns if the row would start above the limit, and ends a round of [`offers`] at its first
+//!   truck.
+//! - It begins the words of an [`ActivityWindow`] at the oldest minute, which is at the place of the next one.
+//!
+//! The README lists what else must be believed.
 //!
 //! # What a call costs
 //!
@@ -135,6 +146,7 @@
 mod activity;
 mod bitmap;
 mod builder;
+mod bytes;
 pub mod calls;
 mod dispatch;
 mod grid;
@@ -143,14 +155,15 @@ mod offer;
 mod refusal;
 mod run_ends;
 
-pub use activity::ActivityWindow;
-pub use bitmap::Bitmap;
+pub use activity::{ActivityWindow, WindowParts};
+pub use bitmap::{Bitmap, ListError};
 pub use builder::BitmapBuilder;
+pub use bytes::IntoBytes;
 pub use dispatch::{Permission, may_reassign};
 pub use grid::{Grid, RowIter};
-pub use iterator::{BitChunks, BitmapIter, SlicesIterator, TrueIdxIter};
+pub use iterator::{BitChunks, BitmapIntoIter, BitmapIter, SlicesIterator, TrueIdxIter};
 pub use offer::{Offer, Offers, offer, offers};
-pub use refusal::Refusal;
+pub use refusal::{Refusal, RefusedLengths, UnknownNumber};
 
 /// The example of the README, run with those of the documentation.
 #[cfg(doctest)]

@@ -83,6 +83,7 @@ pub fn offers<'a>(permission: Permission<'a>, revocation: Option<&'a Bitmap>, cu
 /// # Ok::<(), Refusal>(())
 /// ```
 #[derive(Clone, Debug)]
+#[must_use = "an iterator does nothing until it is asked"]
 pub struct Offers<'a> {
     permission: Permission<'a>,
     revocation: Option<&'a Bitmap>,
@@ -107,6 +108,7 @@ impl Offers<'_> {
     /// assert_eq!(round.cursor(), 3);
     /// # Ok::<(), Refusal>(())
     /// ```
+    #[must_use]
     pub fn cursor(&self) -> usize {
         self.cursor
     }

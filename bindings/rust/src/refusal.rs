@@ -1,7 +1,13 @@
 //! The numbers by which the library refuses, with their messages.
 
+mod convert;
+mod lengths;
+
 use std::error::Error;
 use std::fmt;
+
+pub use convert::UnknownNumber;
+pub use lengths::RefusedLengths;
 
 /// Why a call was refused: the first of the library's checks that failed. All calls make their checks in one order, that of this list.
 /// A refused call has changed nothing.
@@ -81,6 +87,7 @@ impl Refusal {
     /// ```
     /// assert_eq!(poruwhina::Refusal::OutputTooSmall.number(), 9);
     /// ```
+    #[must_use]
     pub const fn number(self) -> u8 {
         self as u8
     }
@@ -94,6 +101,7 @@ impl Refusal {
     /// assert_eq!(Refusal::from_number(calls::try_new(&[], 0, 1).refusal), Some(Refusal::OutsideBytes));
     /// assert_eq!(Refusal::from_number(calls::try_new(&[], 0, 0).refusal), None);
     /// ```
+    #[must_use]
     pub fn from_number(number: u8) -> Option<Refusal> {
         ALL.into_iter().find(|refusal| refusal.number() == number)
     }
@@ -103,7 +111,7 @@ impl Refusal {
             Refusal::ImpossibleWindow => "the width is not 1 to 256, or no run of minutes leaves the window",
             Refusal::AboveLimit => "a start or a length is above 4,194,304",
             Refusal::OutsideBytes => "start + length is above 8 * the bytes lent",
-            Refusal::BrokenRunEnds => "the run ends do not rise from above 0 to the length, or are not as many as their values",
+            Refusal::BrokenRunEnds => "the run ends do not rise from above 0 to the length or above it, or are not as many as their values",
             Refusal::FalseCount => "a known zero count is not the number of zeros",
             Refusal::SerialConflict => "the masks have equal serials and different flags",
             Refusal::ImpossibleBuilder => "the builder is not possible: its word, ones or buffer do not fit its length",

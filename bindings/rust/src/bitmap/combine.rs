@@ -1,7 +1,5 @@
 //! Masks combined flag by flag. Each result has bytes of its own, starting at bit 0.
 
-use std::ops::{BitAnd, BitOr, BitXor, Not};
-
 use super::Bitmap;
 use crate::calls;
 use crate::iterator::record_or_absent;
@@ -125,6 +123,7 @@ impl Bitmap {
     ///
     /// assert_eq!(Bitmap::from([true, false]).not(), Bitmap::from([false, true]));
     /// ```
+    #[must_use]
     pub fn not(&self) -> Bitmap {
         Bitmap::written(self.length, |out| calls::not(self.record(), self.bytes(), out)).expect("a mask has its own length")
     }
@@ -177,64 +176,5 @@ impl Bitmap {
 
     fn combined(&self, call: Combine, rhs: &Bitmap) -> Result<Bitmap, Refusal> {
         Bitmap::written(self.length, |out| call(self.record(), self.bytes(), rhs.record(), rhs.bytes(), out))
-    }
-}
-
-/// The operators of combinations. An operator cannot return a refusal, so it panics if the method refuses.
-macro_rules! operators {
-    ($($(#[$doc:meta])* $Trait:ident::$operator:ident calls $method:ident;)*) => {$(
-        $(#[$doc])*
-        impl $Trait<&Bitmap> for &Bitmap {
-            type Output = Bitmap;
-
-            #[track_caller]
-            fn $operator(self, rhs: &Bitmap) -> Bitmap {
-                self.$method(rhs).unwrap_or_else(|refusal| panic!("{refusal}"))
-            }
-        }
-    )*};
-}
-
-operators! {
-    /// Combines two masks as [`Bitmap::and`] does. Panics if the lengths differ.
-    ///
-    /// ```
-    /// use poruwhina::Bitmap;
-    ///
-    /// assert_eq!(&Bitmap::from([true, true]) & &Bitmap::from([true, false]), Bitmap::from([true, false]));
-    /// ```
-    BitAnd::bitand calls and;
-
-    /// Combines two masks as [`Bitmap::or`] does. Panics if the lengths differ.
-    ///
-    /// ```
-    /// use poruwhina::Bitmap;
-    ///
-    /// assert_eq!(&Bitmap::from([true, false]) | &Bitmap::from([false, false]), Bitmap::from([true, false]));
-    /// ```
-    BitOr::bitor calls or;
-
-    /// Combines two masks as [`Bitmap::xor`] does. Panics if the lengths differ.
-    ///
-    /// ```
-    /// use poruwhina::Bitmap;
-    ///
-    /// assert_eq!(&Bitmap::from([true, true]) ^ &Bitmap::from([true, false]), Bitmap::from([false, true]));
-    /// ```
-    BitXor::bitxor calls xor;
-}
-
-/// Inverts each flag, as [`Bitmap::not`] does.
-///
-/// ```
-/// use poruwhina::Bitmap;
-///
-/// assert_eq!(!&Bitmap::from([true, false]), Bitmap::from([false, true]));
-/// ```
-impl Not for &Bitmap {
-    type Output = Bitmap;
-
-    fn not(self) -> Bitmap {
-        Bitmap::not(self)
     }
 }

@@ -38,8 +38,22 @@ impl Bitmap {
     /// assert_eq!(mask.lazy_unset_bits(), Some(2));
     /// # Ok::<(), poruwhina::Refusal>(())
     /// ```
+    #[must_use]
     pub fn lazy_unset_bits(&self) -> Option<usize> {
         self.zeros.get().copied()
+    }
+
+    /// Returns the number of ones if it is known, else none, without counting.
+    ///
+    /// ```
+    /// use poruwhina::Bitmap;
+    ///
+    /// assert_eq!((Bitmap::try_new([0x2D], 6)?.lazy_set_bits(), Bitmap::ones(6)?.lazy_set_bits()), (None, Some(6)));
+    /// # Ok::<(), poruwhina::Refusal>(())
+    /// ```
+    #[must_use]
+    pub fn lazy_set_bits(&self) -> Option<usize> {
+        self.lazy_unset_bits().map(|zeros| self.length - zeros)
     }
 
     /// Counts the zeros before the first set flag; all flags, if none is set.
@@ -47,6 +61,7 @@ impl Bitmap {
     /// ```
     /// assert_eq!(poruwhina::Bitmap::from([false, false, true]).leading_zeros(), 2);
     /// ```
+    #[must_use]
     pub fn leading_zeros(&self) -> usize {
         self.count(calls::leading_zeros)
     }
@@ -56,6 +71,7 @@ impl Bitmap {
     /// ```
     /// assert_eq!(poruwhina::Bitmap::from([true, true, false]).leading_ones(), 2);
     /// ```
+    #[must_use]
     pub fn leading_ones(&self) -> usize {
         self.count(calls::leading_ones)
     }
@@ -65,6 +81,7 @@ impl Bitmap {
     /// ```
     /// assert_eq!(poruwhina::Bitmap::from([true, false, false]).trailing_zeros(), 2);
     /// ```
+    #[must_use]
     pub fn trailing_zeros(&self) -> usize {
         self.count(calls::trailing_zeros)
     }
@@ -74,6 +91,7 @@ impl Bitmap {
     /// ```
     /// assert_eq!(poruwhina::Bitmap::from([false, true, true]).trailing_ones(), 2);
     /// ```
+    #[must_use]
     pub fn trailing_ones(&self) -> usize {
         self.count(calls::trailing_ones)
     }
@@ -83,6 +101,7 @@ impl Bitmap {
     /// ```
     /// assert_eq!(poruwhina::Bitmap::from([true, false, true, true, false, true]).num_edges(), 4);
     /// ```
+    #[must_use]
     pub fn num_edges(&self) -> usize {
         let answer = calls::num_edges(self.record(), self.bytes());
         check_passed(answer.refusal);
@@ -96,6 +115,7 @@ impl Bitmap {
     /// let mask = poruwhina::Bitmap::from([true, false, true, true, false, true]);
     /// assert_eq!((mask.nth_set_bit_idx(2, 0), mask.nth_set_bit_idx(4, 0)), (Some(3), None));
     /// ```
+    #[must_use]
     pub fn nth_set_bit_idx(&self, n: usize, from: usize) -> Option<usize> {
         found(calls::nth_set_bit_idx(self.bytes(), self.start, self.length, n, from))
     }
@@ -107,6 +127,7 @@ impl Bitmap {
     /// let mask = poruwhina::Bitmap::from([true, false, true, true, false, true]);
     /// assert_eq!((mask.nth_set_bit_idx_rev(1, 5), mask.nth_set_bit_idx_rev(3, 900)), (Some(2), Some(0)));
     /// ```
+    #[must_use]
     pub fn nth_set_bit_idx_rev(&self, n: usize, end: usize) -> Option<usize> {
         found(calls::nth_set_bit_idx_rev(self.bytes(), self.start, self.length, n, end))
     }

@@ -2,12 +2,22 @@
 
 mod combine;
 mod counts;
+mod cut;
+mod lists;
+mod operators;
+mod order;
+mod relations;
 mod serial;
+mod single;
+mod text;
 mod traits;
+
+pub use lists::ListError;
 
 use std::sync::{Arc, OnceLock};
 
 use crate::builder::BitmapBuilder;
+use crate::bytes::IntoBytes;
 use crate::calls;
 use crate::refusal::{Refusal, check, check_passed};
 
@@ -65,6 +75,7 @@ impl Bitmap {
     /// ```
     /// assert!(poruwhina::Bitmap::new().is_empty());
     /// ```
+    #[must_use]
     pub fn new() -> Bitmap {
         Bitmap::from_record(Arc::default(), 0, calls::bitmap_new())
     }
@@ -79,10 +90,35 @@ impl Bitmap {
         Bitmap::written(length, |out| calls::new_zeroed(length, out))
     }
 
+    /// Returns a mask of `length` ones. Refused with 1 if `length` is above [`LIMIT`](Bitmap::LIMIT).
+    ///
+    /// ```
+    /// assert_eq!(poruwhina::Bitmap::ones(70)?.lazy_unset_bits(), Some(0));
+    /// # Ok::<(), poruwhina::Refusal>(())
+    /// ```
+    pub fn ones(length: usize) -> Result<Bitmap, Refusal> {
+        Bitmap::new_with_value(true, length)
+    }
+
+    /// Returns a mask of `length` flags that are all `flag`. Refused with 1 if `length` is above [`LIMIT`](Bitmap::LIMIT).
+    ///
+    /// ```
+    /// use poruwhina::Bitmap;
+    ///
+    /// assert_eq!(Bitmap::new_with_value(true, 3)?, Bitmap::from([true; 3]));
+    /// assert_eq!(Bitmap::new_with_value(false, 3)?, Bitmap::new_zeroed(3)?);
+    /// # Ok::<(), poruwhina::Refusal>(())
+    /// ```
+    pub fn new_with_value(flag: bool, length: usize) -> Result<Bitmap, Refusal> {
+        let mut builder = BitmapBuilder::with_capacity(length);
+        builder.extend_constant(length, flag)?;
+        Ok(builder.freeze())
+    }
+
     /// Returns the mask of the first `length` flags of `bytes`, least significant bit first. Refused with 1 if `length` is above
     /// [`LIMIT`](Bitmap::LIMIT), with 2 if the bytes have fewer flags.
     ///
-    /// A `Vec<u8>` is used without a copy; an array or a slice is copied.
+    /// A `Vec<u8>` is used without a copy; an array, a slice or an `Arc<[u8]>` is copied ([`IntoBytes`]).
     ///
     /// ```
     /// use poruwhina::{Bitmap, Refusal};
@@ -92,7 +128,7 @@ impl Bitmap {
     /// assert_eq!(Bitmap::try_new(vec![0x2D], 9), Err(Refusal::OutsideBytes));
     /// # Ok::<(), Refusal>(())
     /// ```
-    pub fn try_new(bytes: impl Into<Vec<u8>>, length: usize) -> Result<Bitmap, Refusal> {
+    pub fn try_new<By>(bytes: impl IntoBytes<By>, length: usize) -> Result<Bitmap, Refusal> {
         Bitmap::try_from_span(bytes, 0, length)
     }
 
@@ -108,8 +144,8 @@ impl Bitmap {
     /// assert_eq!(Bitmap::try_from_span(file, 7_999_992, 6)?, Bitmap::try_new([0x2D], 6)?);
     /// # Ok::<(), Refusal>(())
     /// ```
-    pub fn try_from_span(bytes: impl Into<Vec<u8>>, start: usize, length: usize) -> Result<Bitmap, Refusal> {
-        let bytes = bytes.into();
+    pub fn try_from_span<By>(bytes: impl IntoBytes<By>, start: usize, length: usize) -> Result<Bitmap, Refusal> {
+        let bytes = bytes.into_bytes();
         let answer = calls::try_new(bytes_from(&bytes, start / 8, length)?, start % 8, length);
         check(answer.refusal)?;
         Ok(Bitmap::from_record(Arc::new(bytes), start / 8, answer.mask))
@@ -129,8 +165,8 @@ impl Bitmap {
     /// assert_eq!(Bitmap::try_from_counted_span([0x2D], 0, 6, 3), Err(Refusal::FalseCount));
     /// # Ok::<(), Refusal>(())
     /// ```
-    pub fn try_from_counted_span(bytes: impl Into<Vec<u8>>, start: usize, length: usize, zeros: usize) -> Result<Bitmap, Refusal> {
-        let bytes = bytes.into();
+    pub fn try_from_counted_span<By>(bytes: impl IntoBytes<By>, start: usize, length: usize, zeros: usize) -> Result<Bitmap, Refusal> {
+        let bytes = bytes.into_bytes();
         let mask = calls::Mask { start: start % 8, length, zeros, known: 1, serial: 0 };
         let answer = calls::unset_bits(mask, bytes_from(&bytes, start / 8, length)?);
         check(answer.refusal)?;
@@ -142,6 +178,7 @@ impl Bitmap {
     /// ```
     /// assert_eq!(poruwhina::Bitmap::from([true, false]).len(), 2);
     /// ```
+    #[must_use]
     pub fn len(&self) -> usize {
         self.length
     }
@@ -151,6 +188,7 @@ impl Bitmap {
     /// ```
     /// assert!(!poruwhina::Bitmap::from([false]).is_empty());
     /// ```
+    #[must_use]
     pub fn is_empty(&self) -> bool {
         self.length == 0
     }
@@ -161,6 +199,7 @@ impl Bitmap {
     /// let mask = poruwhina::Bitmap::from([true, false]);
     /// assert_eq!((mask.get(0), mask.get(1), mask.get(2)), (Some(true), Some(false), None));
     /// ```
+    #[must_use]
     pub fn get(&self, i: usize) -> Option<bool> {
         self.iter().nth(i)
     }
@@ -172,6 +211,7 @@ impl Bitmap {
     /// assert_eq!((mask.get_u32(2), mask.get_u32(usize::MAX)), (0x0B, 0));
     /// # Ok::<(), poruwhina::Refusal>(())
     /// ```
+    #[must_use]
     pub fn get_u32(&self, index: usize) -> u32 {
         let answer = calls::get_u32(self.bytes(), self.start, self.length, index);
         check_passed(answer.refusal);
@@ -185,6 +225,7 @@ impl Bitmap {
     /// assert_eq!(mask.as_slice(), (&[0xFF, 0][..], 2, 4));
     /// # Ok::<(), poruwhina::Refusal>(())
     /// ```
+    #[must_use]
     pub fn as_slice(&self) -> (&[u8], usize, usize) {
         (self.bytes(), self.start, self.length)
     }
@@ -197,65 +238,11 @@ impl Bitmap {
     /// assert_eq!(mask.frozen_bytes(), [0x0B, 0, 0, 0, 0, 0, 0, 0]);
     /// # Ok::<(), poruwhina::Refusal>(())
     /// ```
+    #[must_use]
     pub fn frozen_bytes(&self) -> Vec<u8> {
         let mut builder = BitmapBuilder::new();
         builder.extend_from_bitmap(self).expect("a mask is at most as long as the limit");
         Arc::unwrap_or_clone(builder.freeze().bytes)
-    }
-
-    /// Returns the mask of the `length` flags that start at `offset`, over the same bytes. Refused with 1 or 6 if they are not all in the
-    /// mask.
-    ///
-    /// A known zero count of 0, or equal to the length, stays known. Another known count is recounted if few flags are cut off, and else
-    /// becomes unknown. A mask whose count is known is counted again by the library before it is sliced.
-    ///
-    /// ```
-    /// use poruwhina::{Bitmap, Refusal};
-    ///
-    /// let mask = Bitmap::from([true, false, true, true, false, true]);
-    /// assert_eq!(mask.sliced(2, 4)?, Bitmap::from([true, true, false, true]));
-    /// assert_eq!(mask.sliced(2, 5), Err(Refusal::OutsideMask));
-    /// # Ok::<(), Refusal>(())
-    /// ```
-    pub fn sliced(&self, offset: usize, length: usize) -> Result<Bitmap, Refusal> {
-        // The library's start is at most the limit: a slice that would start above it, by the bit in the first byte, is made in two steps.
-        if (Bitmap::LIMIT - 7..=self.length).contains(&offset) && self.start + offset > Bitmap::LIMIT {
-            return self.sliced(8, self.length - 8)?.sliced(offset - 8, length);
-        }
-        let answer = calls::slice(self.counted_record(), self.bytes(), offset, length);
-        check(answer.refusal)?;
-        Ok(self.over_its_bytes(answer.mask))
-    }
-
-    /// Keeps only the `length` flags that start at `offset`. Refused with 1 or 6 if they are not all in the mask, which is then unchanged.
-    ///
-    /// ```
-    /// let mut mask = poruwhina::Bitmap::from([true, false, true]);
-    /// assert!(mask.slice(2, 2).is_err());
-    /// assert_eq!(mask.len(), 3);
-    /// mask.slice(2, 1)?;
-    /// assert_eq!(mask.get(0), Some(true));
-    /// # Ok::<(), poruwhina::Refusal>(())
-    /// ```
-    pub fn slice(&mut self, offset: usize, length: usize) -> Result<(), Refusal> {
-        *self = self.sliced(offset, length)?;
-        Ok(())
-    }
-
-    /// Returns the mask of the first `at` flags and the mask of the flags starting at `at`. Refused with 6 if `at` is above the length,
-    /// or with 1 if it is above [`LIMIT`](Bitmap::LIMIT).
-    ///
-    /// ```
-    /// use poruwhina::Bitmap;
-    ///
-    /// let (first, second) = Bitmap::from([true, false, true]).split_at(1)?;
-    /// assert_eq!((first, second), (Bitmap::from([true]), Bitmap::from([false, true])));
-    /// # Ok::<(), poruwhina::Refusal>(())
-    /// ```
-    pub fn split_at(&self, at: usize) -> Result<(Bitmap, Bitmap), Refusal> {
-        let first = self.sliced(0, at)?;
-        let second = self.sliced(at, self.length - at)?;
-        Ok((first, second))
     }
 
     /// Returns the mask that `call` writes to new bytes with room for `length` flags.

@@ -17,6 +17,7 @@ impl Bitmap {
     /// assert_eq!((older.sliced(0, 1)?.serial(), (&older | &newer).serial(), Bitmap::new().serial()), (5, 7, 0));
     /// # Ok::<(), poruwhina::Refusal>(())
     /// ```
+    #[must_use]
     pub fn serial(&self) -> u32 {
         self.serial
     }
@@ -27,6 +28,7 @@ impl Bitmap {
     /// ```
     /// assert_eq!(poruwhina::Bitmap::new().with_serial(7).serial(), 7);
     /// ```
+    #[must_use]
     pub fn with_serial(self, serial: u32) -> Bitmap {
         Bitmap { serial, ..self }
     }

@@ -9,9 +9,9 @@ use super::records::*;
 /// Writes the frozen bytes of `length` flags at the start of `out` and returns the mask over them: flag p is the value of the
 /// first run whose end is above p. `values`, with its `bytes`, has the value of each run. The zero count is unknown, or known as
 /// 0 if `length` is 0; the serial is that of `values`. Refusal 13 means that an end is 0 or below or not above the one before it,
-/// that the last one is below `length`, that there are no ends for a length above 0, or that `values` has not as many flags as
-/// there are ends. Only the last end is held to the length: ends above it pass. `ends` and `bytes` may overlap; `out` must
-/// overlap neither. Refuses with 1, 2, 13, 3, 9; every other field is then 0.
+/// that the last one is below `length`, that there are no ends for a length above 0, or that `values` does not have as many flags
+/// as there are ends. Only the last end is held to the length: ends above it pass. Refuses with 1, 2, 13, 3, 9; every other field
+/// is then 0.
 ///
 /// ```
 /// use poruwhina::calls::{from_run_ends, try_new};
@@ -35,8 +35,7 @@ pub fn from_run_ends(ends: &[i32], values: Mask, bytes: &[u8], length: usize, ou
 /// runs' flags at the start of `out`. Returns the mask of these flags, over `out`: its length is the number of runs, which is 0
 /// for a mask of no flags, and the last end is the length of `mask`. Its zero count is unknown, or known as 0 if there are no
 /// runs; its serial is that of `mask`. Refusal 9 means that `ends` has fewer places than there are runs, or `out` fewer than 8 *
-/// ceil(runs / 64) bytes; neither is then written. `ends`, `out` and `bytes` must not overlap each other. Refuses with 1, 2, 3,
-/// 9; every other field is then 0.
+/// ceil(runs / 64) bytes; neither is then written. Refuses with 1, 2, 3, 9; every other field is then 0.
 ///
 /// ```
 /// use poruwhina::calls::{to_run_ends, try_new};

@@ -1,16 +1,21 @@
 //! Tests of the crate, which compare it with plain lists of flags.
 
 mod appending;
+mod backwards;
 mod combining;
+mod from_lists;
 mod grids;
 mod lists;
 mod minutes;
 mod offering;
+mod operators;
+mod order;
 mod plain;
 mod positions;
 mod reading;
 mod rebuilding;
 mod refusing;
+mod relating;
 mod run_ends;
 mod superseding;
 

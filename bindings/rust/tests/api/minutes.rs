@@ -1,6 +1,6 @@
 //! The window of the last minutes, compared with a plain list of all minutes.
 
-use poruwhina::{ActivityWindow, Refusal, calls};
+use poruwhina::{ActivityWindow, Refusal, WindowParts, calls};
 
 use crate::lists::Random;
 
@@ -93,5 +93,70 @@ fn windows_that_no_minutes_leave() {
         let mut off = counts;
         off[truck] = count;
         assert_eq!(refused(words, off, 2, 2, 3), 16, "truck {truck} with {count}");
+    }
+}
+
+/// A window is saved and loaded at every minute, by its parts and by its words.
+#[test]
+fn out_and_in() {
+    for width in [1, 2, 3, 64, 256] {
+        let mut random = Random(width as u64);
+        let mut window = ActivityWindow::new(width).unwrap();
+        let mut minutes = Vec::new();
+        for minute in 0..2 * width + 3 {
+            assert_eq!((window.width(), window.minutes()), (width, minute.min(width)));
+            assert!(window.words().eq(last(&minutes, width).iter().copied()));
+            assert!(window.words().rev().eq(last(&minutes, width).iter().rev().copied()));
+            let mut loaded = ActivityWindow::try_from_parts(window.parts()).expect("its own parts");
+            assert_eq!((&loaded, loaded.parts(), loaded.counts()), (&window, window.parts(), window.counts()));
+            let mut repeated = ActivityWindow::new(width).unwrap();
+            window.words().for_each(|word| repeated.push_minute(word));
+            assert_eq!(repeated, window, "whatever its place");
+            let word = random.below(1 << 30) as u64 * 5;
+            for one in [&mut window, &mut loaded, &mut repeated] {
+                one.push_minute(word);
+            }
+            minutes.push(word);
+            assert_eq!((&loaded, loaded.counts()), (&window, window.counts()));
+            assert_eq!((&repeated, repeated.counts()), (&window, window.counts()));
+        }
+    }
+}
+
+#[test]
+fn unequal_windows() {
+    let pushed = |width: usize, words: &[u64]| {
+        let mut window = ActivityWindow::new(width).unwrap();
+        words.iter().for_each(|&word| window.push_minute(word));
+        window
+    };
+    assert_eq!(pushed(2, &[9, 1, 2]), pushed(2, &[1, 2]));
+    assert_ne!(pushed(2, &[1, 2]), pushed(2, &[2, 1]), "equal counts, which will differ");
+    assert_ne!(pushed(2, &[1]), pushed(2, &[1, 0]));
+    assert_ne!(pushed(2, &[1]), pushed(3, &[1]));
+}
+
+/// Parts of which one is wrong are refused with 16.
+#[test]
+fn parts_that_no_minutes_leave() {
+    let mut window = ActivityWindow::new(3).unwrap();
+    window.push_minute(0b11);
+    window.push_minute(0b10);
+    let good = window.parts();
+    assert_eq!(ActivityWindow::try_from_parts(good.clone()), Ok(window));
+    let numbers = [(2, 2, 0), (2, 2, 257), (1, 2, 3), (2, 1, 3), (2, 4, 3), (3, 2, 3), (2, 2, 2), (0, usize::MAX, usize::MAX)];
+    for (place, fill, width) in numbers {
+        let wrong = WindowParts { place, fill, width, ..good.clone() };
+        assert_eq!(ActivityWindow::try_from_parts(wrong), Err(Refusal::ImpossibleWindow), "{place} {fill} {width}");
+    }
+    for at in [0, 1, 2, 255] {
+        let mut wrong = good.clone();
+        wrong.words[at] ^= 0b100;
+        assert_eq!(ActivityWindow::try_from_parts(wrong), Err(Refusal::ImpossibleWindow), "word {at}");
+    }
+    for truck in [0, 1, 2, 63] {
+        let mut wrong = good.clone();
+        wrong.counts[truck] += 1;
+        assert_eq!(ActivityWindow::try_from_parts(wrong), Err(Refusal::ImpossibleWindow), "truck {truck}");
     }
 }

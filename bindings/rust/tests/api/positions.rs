@@ -37,7 +37,7 @@ fn holds(iter: &TrueIdxIter, left: &[usize]) {
     assert!(iter.clone().eq(left.iter().copied()));
     assert_eq!(iter.clone().fold(Vec::new(), |seen, position| [seen, vec![position]].concat()), left);
     assert_eq!((iter.clone().count(), iter.clone().sum::<usize>()), (left.len(), left.iter().sum()));
-    assert_eq!(iter.clone().last(), left.last().copied());
+    assert_eq!(iter.clone().next_back(), left.last().copied());
 }
 
 #[test]

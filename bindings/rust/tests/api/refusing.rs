@@ -1,6 +1,6 @@
 //! Each refusal, the limit of 4,194,304 flags from both sides, and the fact that nothing has changed after a refusal.
 
-use poruwhina::{Bitmap, BitmapBuilder, Grid, Permission, Refusal, TrueIdxIter, calls, may_reassign};
+use poruwhina::{Bitmap, BitmapBuilder, Grid, Permission, Refusal, TrueIdxIter, UnknownNumber, calls, may_reassign};
 
 use crate::flags_of;
 
@@ -133,11 +133,30 @@ fn numbers_and_words() {
     assert_eq!(known, [1, 2, 3, 4, 5, 6, 7, 8, 9, 12, 13, 14, 16]);
     for number in known {
         let refusal = Refusal::from_number(number).unwrap();
-        assert_eq!(refusal.number(), number);
+        assert_eq!((refusal.number(), u8::from(refusal), Refusal::try_from(number)), (number, number, Ok(refusal)));
         assert!(refusal.to_string().starts_with(&format!("refused with {number}: ")));
     }
     let error: Box<dyn std::error::Error> = Refusal::AboveLimit.into();
     assert_eq!(error.to_string(), "refused with 1: a start or a length is above 4,194,304");
+    for number in [0, 10, 11, 15, 17, 255] {
+        assert_eq!(Refusal::try_from(number), Err(UnknownNumber(number)));
+    }
+    assert_eq!(UnknownNumber(0).to_string(), "no check has the number 0");
+}
+
+/// Refusals are in the order of their checks, which is not that of their numbers.
+#[test]
+fn the_order_of_the_checks() {
+    let mut sorted: Vec<Refusal> = (1..=16).filter_map(Refusal::from_number).collect();
+    sorted.sort();
+    let numbers: Vec<u8> = sorted.into_iter().map(u8::from).collect();
+    assert_eq!(numbers, [16, 1, 2, 13, 3, 14, 4, 5, 12, 6, 7, 8, 9]);
+    // A call in which several checks fail gives the least.
+    let mask = calls::Mask { start: 0, length: 9, zeros: 1, known: 1, serial: 0 };
+    let other = calls::Mask { length: 8, ..mask };
+    let failed = [9, 5, 3, 2].map(|number| Refusal::try_from(number).unwrap());
+    let answer = calls::and(mask, &[0xFF], other, &[0], &mut []);
+    assert_eq!(Refusal::try_from(answer.refusal).ok(), failed.into_iter().min());
 }
 
 #[test]
