@@ -59,8 +59,8 @@ fn runs_of(edges: usize, n: usize) -> usize
     if n == 0 { 0 } else { edges + 1 }
 }
 
-// Writes where the runs of n flags end, starting at flag `start` of `bytes`: before each flag that differs from the one before it, which
-// are the set flags of words, and at the last one.
+// Writes where the runs of n flags end, starting at flag `start` of `bytes`: at each flag that differs from the one before it, which are
+// the set flags of words, and the last one at n.
 fn write_ends(bytes: &[u8], start: usize, n: usize, ends: &mut [i32])
     requires { (start ≤ limit) × ((n ≤ limit)
         × (list_length (written_ends (stretch bytes.now start n)) ≤ list_length ends.old)) }

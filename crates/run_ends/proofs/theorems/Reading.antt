@@ -89,7 +89,7 @@ rules-held n (e ∷ es) h = (all-rising n 0 e es h).1
 
 -- ---- the first run whose end is above a position
 
-first-above : (ends : List ℤ) (values : List Bool) (p k : ℕ) → length values ≡ length ends → FirstAbove ends p k
+pub first-above : (ends : List ℤ) (values : List Bool) (p k : ℕ) → length values ≡ length ends → FirstAbove ends p k
     → flag_at ends values p ≡ get_or values k false
 first-above [] values p k h f = let i : k < 0 = f.inside in absurd (omega arith)
 first-above (e ∷ es) [] p k h f = absurd (omega arith)
@@ -100,7 +100,8 @@ first-above (e ∷ es) (v ∷ vs) p (suc k) h f =
     ∙ first-above es vs p k (omega arith)
     (record { inside = omega arith; above = f.above; before = λ j q. f.before (suc j) (omega arith) })
 
-found-above : (n last p : ℕ) (ends : List ℤ) → rising_to n last (ends_of ends) ≡ true → p < n → last ≤ p → (k : ℕ) × FirstAbove ends p k
+pub found-above : (n last p : ℕ) (ends : List ℤ) → rising_to n last (ends_of ends) ≡ true → p < n → last ≤ p
+    → (k : ℕ) × FirstAbove ends p k
 unfolding rising_to
 found-above n last p [] h less low = absurd (omega (arith, leb-true n last h))
 found-above n last p (e ∷ es) h less low =
