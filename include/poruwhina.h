@@ -1,24 +1,28 @@
-/* The calls of Poruwhina for C, x86-64 only: link target/staticlib/libporuwhina.a, which bindings/library makes.
+/* The calls of Poruwhina for C, x86-64 only. A release has the library in lib/; in the repository bindings/library makes it,
+ * target/staticlib/libporuwhina.a.
  *
  * Flag j of a buffer is bit j mod 8 of byte j div 8, least significant bit first; a word is 64 flags, little-endian. A span is a start
  * bit and a length in flags over a buffer. The frozen bytes of n flags are 8 * ceil(n / 64) bytes that begin with the flags; all bits
  * after these are 0.
  *
- * A buffer is a pointer and the number of its elements, which must exist; the pointer may be NULL only if that number is 0. A buffer
- * that is written must not overlap any other buffer of the call; buffers that are only read may overlap. Nothing is allocated, kept or
- * freed, and there is no state between calls: a record is passed and returned by value, and any numbers in it are allowed. A builder and
- * a cursor are passed as their numbers, which are quicker to pass from call to call than a record.
+ * A buffer is a pointer and the number of its elements, which must exist; the pointer may be NULL only if that number is 0. The library
+ * cannot check it, and AddressSanitizer does not see reads and writes inside the library, which is compiled without it; valgrind does. A
+ * buffer that is written must not overlap any other buffer of the call, so that no output may be an input's bytes; each call names those
+ * that it means. Buffers that are only read may overlap. Nothing is allocated, kept or freed, and there is no state between calls: a
+ * record is passed and returned by value, and any numbers in it are allowed. A builder and a cursor are passed as their numbers, which are
+ * quicker to pass from call to call than a record; functions that take them by pointer are below the calls.
  *
  * Each call checks its arguments. It returns in `refusal` 0, or one of the numbers listed for it, and has then written nothing. If
  * several checks fail, `refusal` is the number that comes first in the list of refusals below. On refusal the answer has what the call
  * would have changed, unchanged: a mask, a builder, a cursor's place, the cursor of an offer, a window's numbers. Every other field is
- * then 0.
+ * then 0. A program that does not test `refusal` may then go on with more trucks than it asked for: where that is so, the comment of the
+ * call ends with a warning. pw_cut and pw_cut_row cut a mask and write it only if they are accepted.
  *
  * Each call that takes a mask whose count is known counts its zeros again, and refuses a count that is not exact. A record that this
  * library returned may be passed without its count (`known` 0), with the bytes that it belongs to: this changes no answer except the
  * counts in returned records, and nothing is counted again. Pass a record from elsewhere with its count: without it a false count is not
- * found. Do not keep the count of a mask made from a builder that may be damaged: check 4 does not count the buffer's ones, so that
- * `pw_freeze` may return a false count for it, and `pw_into_opt_validity` a false count or none.
+ * found; pw_import passes it so. Do not keep the count of a mask made from a builder that may be damaged: check 4 does not count the
+ * buffer's ones, so that `pw_freeze` may return a false count for it, and `pw_into_opt_validity` a false count or none.
  *
  * An array in a prototype must have as many elements as the prototype states. */
 #ifndef PORUWHINA_H
@@ -36,6 +40,16 @@ extern "C" {
 
 /* The largest start and length, in flags. */
 #define PW_FLAG_LIMIT 4194304
+
+/* The size in bytes of the frozen bytes of n flags, for arrays and for what is allocated: n is read twice. */
+#define PW_FROZEN_BYTES(n) (((size_t)(n) / 64 + ((size_t)(n) % 64 != 0)) * 8)
+
+/* In front of a function whose result must not be ignored: the compiler warns, where it is GCC or Clang. */
+#if defined(__GNUC__)
+#define PW_MUST_USE __attribute__((warn_unused_result))
+#else
+#define PW_MUST_USE
+#endif
 
 /* ---- written by tests/declarations.py from include/refusals.txt and crates/capi: change it there */
 
@@ -73,6 +87,42 @@ extern "C" {
 /* The output, or the builder's buffer, has fewer than 8 * ceil(new length / 64) bytes, or the output of counts or of run ends has
  * fewer places than there are counts or runs. */
 #define PW_REFUSED_OUTPUT_TOO_SMALL 9
+
+/* Returns what a refusal means, in the words that the Rust crate prints; for 0, that the call was accepted. */
+static inline const char *pw_refusal_text(uint8_t refusal) {
+    switch (refusal) {
+    case 0:
+        return "accepted";
+    case PW_REFUSED_IMPOSSIBLE_WINDOW:
+        return "the width is not 1 to 256, or no run of minutes leaves the window";
+    case PW_REFUSED_ABOVE_LIMIT:
+        return "a start or a length is above 4,194,304";
+    case PW_REFUSED_OUTSIDE_BYTES:
+        return "start + length is above 8 * the bytes lent";
+    case PW_REFUSED_BROKEN_RUN_ENDS:
+        return "the run ends do not rise from above 0 to the length or above it, or are not as many as their values";
+    case PW_REFUSED_FALSE_COUNT:
+        return "a known zero count is not the number of zeros";
+    case PW_REFUSED_SERIAL_CONFLICT:
+        return "the masks have equal serials and different flags";
+    case PW_REFUSED_IMPOSSIBLE_BUILDER:
+        return "the builder is not possible: its word, ones or buffer do not fit its length";
+    case PW_REFUSED_UNEQUAL_LENGTHS:
+        return "the masks combined, or a mask and the length stated for it, are not equal in length";
+    case PW_REFUSED_NOT_A_GRID:
+        return "rows * columns is not the length of the mask";
+    case PW_REFUSED_OUTSIDE_MASK:
+        return "the inner piece does not lie in its mask";
+    case PW_REFUSED_COUNT_NOT_OF_SLICE:
+        return "the known count is below the zeros cut off, or the rest above the new length";
+    case PW_REFUSED_ADDRESS_REMAINDER:
+        return "the address remainder is above 7";
+    case PW_REFUSED_OUTPUT_TOO_SMALL:
+        return "the output does not hold 8 * ceil(new length / 64) bytes, or all counts or ends";
+    default:
+        return "no refusal has this number";
+    }
+}
 
 /* ---- records */
 
@@ -254,7 +304,8 @@ pw_nth_answer pw_nth_set_bit_u32(uint32_t w, uint32_t n);
 pw_split_answer pw_aligned_new(const uint8_t *bytes, size_t bytes_len, size_t start, size_t length, size_t address);
 
 /* Counts the zeros of a span. `address` is the address of the first byte modulo 8; the count does not depend on it. With length 0
- * returns 0 without any check. Refuses with 1, 2, 8; every other field is then 0. */
+ * returns 0 without any check. Refuses with 1, 2, 8; every other field is then 0. WARNING: a refused answer says 0 zeros, which is
+ * what a span of ones has: test `refusal` first. */
 pw_number_answer pw_count_zeros(const uint8_t *bytes, size_t bytes_len, size_t start, size_t length, size_t address);
 
 /* Counts the zeros before the first set flag of a span, or the whole length if no flag is set. `address` is the address of the first
@@ -338,27 +389,29 @@ pw_builder_answer pw_extend_constant(size_t length, uint64_t word, size_t ones, 
 pw_builder_answer pw_push_word_with_len_unchecked(size_t length, uint64_t word, size_t ones, uint8_t *buf,
     size_t buf_len, uint64_t flags, size_t n);
 
-/* Appends the `n` flags of `bytes` that start at bit `start`. Refuses with 1, 2, 4, 9; the builder is unchanged. */
+/* Appends the `n` flags of `bytes` that start at bit `start`. Refuses with 1, 2, 4, 9; the builder is unchanged. No byte of `buf` may
+ * be one of `bytes`. */
 pw_builder_answer pw_extend_from_slice(size_t length, uint64_t word, size_t ones, uint8_t *buf, size_t buf_len,
     const uint8_t *bytes, size_t bytes_len, size_t start, size_t n);
 
 /* Appends `repeats` copies of each of the `n` flags of `bytes` that start at bit `start`, one flag after the other. Refuses with 1, 2,
- * 4, 9; the builder is unchanged. */
+ * 4, 9; the builder is unchanged. No byte of `buf` may be one of `bytes`. */
 pw_builder_answer pw_extend_each_repeated_from_slice_unchecked(size_t length, uint64_t word, size_t ones,
     uint8_t *buf, size_t buf_len, const uint8_t *bytes, size_t bytes_len, size_t start, size_t n, size_t repeats);
 
-/* Appends the `n` flags of `mask` that start at its flag `start`. Refuses with 1, 2, 3, 4, 6, 9; the builder is unchanged. */
+/* Appends the `n` flags of `mask` that start at its flag `start`. Refuses with 1, 2, 3, 4, 6, 9; the builder is unchanged. No byte of
+ * `buf` may be one of `bytes`. */
 pw_builder_answer pw_subslice_extend_from_bitmap(size_t length, uint64_t word, size_t ones, uint8_t *buf,
     size_t buf_len, pw_mask mask, const uint8_t *bytes, size_t bytes_len, size_t start, size_t n);
 
 /* Appends, for each index in `idxs`, that flag of the `n` flags of `bytes` that start at bit `start`. Each index must be below `n`.
- * Refuses with 1, 2, 4, 6, 9; the builder is unchanged. */
+ * Refuses with 1, 2, 4, 6, 9; the builder is unchanged. No byte of `buf` may be one of `bytes` or `idxs`. */
 pw_builder_answer pw_gather_extend_from_slice(size_t length, uint64_t word, size_t ones, uint8_t *buf,
     size_t buf_len, const uint8_t *bytes, size_t bytes_len, size_t start, size_t n, const uint32_t *idxs,
     size_t idxs_len);
 
 /* Appends, for each index in `idxs`, that flag of the `n` flags of `bytes` that start at bit `start`, or 0 if the index is `n` or
- * more. Refuses with 1, 2, 4, 9; the builder is unchanged. */
+ * more. Refuses with 1, 2, 4, 9; the builder is unchanged. No byte of `buf` may be one of `bytes` or `idxs`. */
 pw_builder_answer pw_opt_gather_extend_from_slice(size_t length, uint64_t word, size_t ones, uint8_t *buf,
     size_t buf_len, const uint8_t *bytes, size_t bytes_len, size_t start, size_t n, const uint32_t *idxs,
     size_t idxs_len);
@@ -370,7 +423,8 @@ pw_mask_answer pw_freeze(size_t length, uint64_t word, size_t ones, uint8_t *buf
 
 /* Writes the frozen bytes of the builder's flags at the start of `buf` and returns the mask that pw_freeze returns, or no mask if all
  * flags are set, also if there are no flags. As in Arrow, no mask means all ones here; in pw_may_reassign no permission mask means no
- * truck: end the builder of a permission mask with pw_freeze. Refuses with 1, 4, 9; every other field is then 0. */
+ * truck: end the builder of a permission mask with pw_freeze. Refuses with 1, 4, 9; every other field is then 0. WARNING: a refused
+ * answer has no mask, which otherwise means all ones: test `refusal` first. */
 pw_validity_answer pw_into_opt_validity(size_t length, uint64_t word, size_t ones, uint8_t *buf, size_t buf_len,
     uint32_t serial);
 
@@ -388,11 +442,13 @@ pw_mask_answer pw_new_zeroed(size_t length, uint8_t *out, size_t out_len);
 pw_mask_answer pw_try_new(const uint8_t *bytes, size_t bytes_len, size_t start, size_t length);
 
 /* Returns the mask of the `length` flags of `mask` that start at its flag `offset`, over the same bytes. Its zero count may be unknown
- * although that of `mask` is known. Refuses with 1, 2, 3, 6, 7; the mask is unchanged, every field of it. */
+ * although that of `mask` is known. Refuses with 1, 2, 3, 6, 7; the mask is unchanged, every field of it. WARNING: a refused answer
+ * has `mask` whole, with all its flags: test `refusal` first, or call pw_cut. */
 pw_mask_answer pw_slice(pw_mask mask, const uint8_t *bytes, size_t bytes_len, size_t offset, size_t length);
 
 /* Returns the number of zeros of `mask`, and the mask with that count stored. Refuses with 1, 2, 3; the mask is unchanged, every field
- * of it, and `zeros` is 0. */
+ * of it, and `zeros` is 0. WARNING: a refused answer has `mask` unchanged, and says 0 zeros, which is what a mask of ones has: test
+ * `refusal` first. */
 pw_zeros_answer pw_unset_bits(pw_mask mask, const uint8_t *bytes, size_t bytes_len);
 
 /* Returns whether two masks have equal lengths and equal flags. Unequal lengths are not refused, and serials are ignored. Refuses with
@@ -419,42 +475,44 @@ pw_part_answer pw_superseding(pw_mask first, const uint8_t *first_bytes, size_t 
 /* ---- The combinations of masks of equal lengths. The mask returned has start 0 and the largest of their serials. */
 
 /* Writes which flags are set in both masks, as frozen bytes at the start of `out`, and returns the mask over them. Refuses with 1, 2,
- * 3, 5, 9; every other field is then 0. */
+ * 3, 5, 9; every other field is then 0. No byte of `out` may be one of `lhs_bytes` or `rhs_bytes`. */
 pw_mask_answer pw_and(pw_mask lhs, const uint8_t *lhs_bytes, size_t lhs_bytes_len, pw_mask rhs,
     const uint8_t *rhs_bytes, size_t rhs_bytes_len, uint8_t *out, size_t out_len);
 
 /* Writes which flags are set in the first mask and not in the second, as frozen bytes at the start of `out`, and returns the mask over
- * them. Refuses with 1, 2, 3, 5, 9; every other field is then 0. */
+ * them. Refuses with 1, 2, 3, 5, 9; every other field is then 0. No byte of `out` may be one of `lhs_bytes` or `rhs_bytes`. */
 pw_mask_answer pw_and_not(pw_mask lhs, const uint8_t *lhs_bytes, size_t lhs_bytes_len, pw_mask rhs,
     const uint8_t *rhs_bytes, size_t rhs_bytes_len, uint8_t *out, size_t out_len);
 
 /* Writes which flags are set in at least one of two masks, as frozen bytes at the start of `out`, and returns the mask over them.
- * Refuses with 1, 2, 3, 5, 9; every other field is then 0. */
+ * Refuses with 1, 2, 3, 5, 9; every other field is then 0. No byte of `out` may be one of `lhs_bytes` or `rhs_bytes`. */
 pw_mask_answer pw_or(pw_mask lhs, const uint8_t *lhs_bytes, size_t lhs_bytes_len, pw_mask rhs,
     const uint8_t *rhs_bytes, size_t rhs_bytes_len, uint8_t *out, size_t out_len);
 
 /* Writes which flags are set in the first mask or not set in the second, as frozen bytes at the start of `out`, and returns the mask
- * over them. Refuses with 1, 2, 3, 5, 9; every other field is then 0. */
+ * over them. Refuses with 1, 2, 3, 5, 9; every other field is then 0. No byte of `out` may be one of `lhs_bytes` or `rhs_bytes`. */
 pw_mask_answer pw_or_not(pw_mask lhs, const uint8_t *lhs_bytes, size_t lhs_bytes_len, pw_mask rhs,
     const uint8_t *rhs_bytes, size_t rhs_bytes_len, uint8_t *out, size_t out_len);
 
 /* Writes which flags differ between two masks, as frozen bytes at the start of `out`, and returns the mask over them. Refuses with 1,
- * 2, 3, 5, 9; every other field is then 0. */
+ * 2, 3, 5, 9; every other field is then 0. No byte of `out` may be one of `lhs_bytes` or `rhs_bytes`. */
 pw_mask_answer pw_xor(pw_mask lhs, const uint8_t *lhs_bytes, size_t lhs_bytes_len, pw_mask rhs,
     const uint8_t *rhs_bytes, size_t rhs_bytes_len, uint8_t *out, size_t out_len);
 
 /* Writes each flag of a mask inverted, as frozen bytes at the start of `out`, and returns the mask over them. Refuses with 1, 2, 3, 9;
- * every other field is then 0. */
+ * every other field is then 0. No byte of `out` may be one of `bytes`. */
 pw_mask_answer pw_not(pw_mask mask, const uint8_t *bytes, size_t bytes_len, uint8_t *out, size_t out_len);
 
 /* Writes the flag of `truthy` where the selector's is set, else that of `falsy`, as frozen bytes at the start of `out`, and returns
- * the mask over them. Refuses with 1, 2, 3, 5, 9; every other field is then 0. */
+ * the mask over them. Refuses with 1, 2, 3, 5, 9; every other field is then 0. No byte of `out` may be one of `selector_bytes`,
+ * `truthy_bytes` or `falsy_bytes`. */
 pw_mask_answer pw_select(pw_mask selector, const uint8_t *selector_bytes, size_t selector_bytes_len, pw_mask truthy,
     const uint8_t *truthy_bytes, size_t truthy_bytes_len, pw_mask falsy, const uint8_t *falsy_bytes,
     size_t falsy_bytes_len, uint8_t *out, size_t out_len);
 
 /* Writes the flag of `truthy` where the selector's is set, else `flag`, as frozen bytes at the start of `out`, and returns the mask
- * over them. Refuses with 1, 2, 3, 5, 9; every other field is then 0. */
+ * over them. Refuses with 1, 2, 3, 5, 9; every other field is then 0. No byte of `out` may be one of `selector_bytes` or
+ * `truthy_bytes`. */
 pw_mask_answer pw_select_constant(pw_mask selector, const uint8_t *selector_bytes, size_t selector_bytes_len,
     pw_mask truthy, const uint8_t *truthy_bytes, size_t truthy_bytes_len, bool flag, uint8_t *out, size_t out_len);
 
@@ -463,32 +521,34 @@ pw_mask_answer pw_select_constant(pw_mask selector, const uint8_t *selector_byte
 
 /* Returns the mask of row `row`, over the same bytes: what pw_slice returns for the `columns` flags that start at flag row * columns.
  * Refusal 12 means that rows * columns is not the length of `mask`, 6 that `row` is not below `rows`. The start of a row is put to
- * check 1 only if there is such a row. Refuses with 1, 2, 3, 12, 6, 7; the mask is unchanged, every field of it. */
+ * check 1 only if there is such a row. Refuses with 1, 2, 3, 12, 6, 7; the mask is unchanged, every field of it. WARNING: a refused
+ * answer has `mask` whole, with all its flags: test `refusal` first, or call pw_cut_row. */
 pw_mask_answer pw_grid_row(pw_mask mask, const uint8_t *bytes, size_t bytes_len, size_t rows, size_t columns,
     size_t row);
 
 /* Writes the frozen bytes of column `column`, of `rows` flags, at the start of `out` and returns the mask over them. Its zero count is
  * unknown, or known as 0 if there are no rows; its serial is that of `mask`. Refusal 12 means that rows * columns is not the length of
- * `mask`, 6 that `column` is not below `columns`. Refuses with 1, 2, 3, 12, 6, 9; every other field is then 0. */
+ * `mask`, 6 that `column` is not below `columns`. Refuses with 1, 2, 3, 12, 6, 9; every other field is then 0. No byte of `out` may be
+ * one of `bytes`. */
 pw_mask_answer pw_grid_column(pw_mask mask, const uint8_t *bytes, size_t bytes_len, size_t rows, size_t columns,
     size_t column, uint8_t *out, size_t out_len);
 
 /* Writes the frozen bytes of the grid with rows and columns exchanged at the start of `out`, with flag r * columns + c of `mask` as
  * flag c * rows + r, and returns the mask over them. Its zero count is unknown, or known as 0 if there are no flags; its serial is
  * that of `mask`. Refusal 12 means that rows * columns is not the length of `mask`. Refuses with 1, 2, 3, 12, 9; every other field is
- * then 0. */
+ * then 0. No byte of `out` may be one of `bytes`. */
 pw_mask_answer pw_grid_transpose(pw_mask mask, const uint8_t *bytes, size_t bytes_len, size_t rows, size_t columns,
     uint8_t *out, size_t out_len);
 
 /* Writes the number of zeros of each row at the start of `counts` and returns how many counts are written, `rows`; the rest of
  * `counts` is unchanged. Refusal 12 means that rows * columns is not the length of `mask`, 9 that `counts` has fewer than `rows`
- * places. Refuses with 1, 2, 3, 12, 9; every other field is then 0. */
+ * places. Refuses with 1, 2, 3, 12, 9; every other field is then 0. No byte of `counts` may be one of `bytes`. */
 pw_number_answer pw_grid_row_zeros(pw_mask mask, const uint8_t *bytes, size_t bytes_len, size_t rows,
     size_t columns, uint32_t *counts, size_t counts_len);
 
 /* Writes the number of zeros of each column at the start of `counts` and returns how many counts are written, `columns`; the rest of
  * `counts` is unchanged. Refusal 12 means that rows * columns is not the length of `mask`, 9 that `counts` has fewer than `columns`
- * places. Refuses with 1, 2, 3, 12, 9; every other field is then 0. */
+ * places. Refuses with 1, 2, 3, 12, 9; every other field is then 0. No byte of `counts` may be one of `bytes`. */
 pw_number_answer pw_grid_column_zeros(pw_mask mask, const uint8_t *bytes, size_t bytes_len, size_t rows,
     size_t columns, uint32_t *counts, size_t counts_len);
 
@@ -498,9 +558,9 @@ pw_number_answer pw_grid_column_zeros(pw_mask mask, const uint8_t *bytes, size_t
 /* Writes the frozen bytes of `length` flags at the start of `out` and returns the mask over them: flag p is the value of the first run
  * whose end is above p. `values`, with its `bytes`, has the value of each run. The zero count is unknown, or known as 0 if `length` is
  * 0; the serial is that of `values`. Refusal 13 means that an end is 0 or below or not above the one before it, that the last one is
- * below `length`, that there are no ends for a length above 0, or that `values` has not as many flags as there are ends. Only the last
- * end is held to the length: ends above it pass. `ends` and `bytes` may overlap; `out` must overlap neither. Refuses with 1, 2, 13, 3,
- * 9; every other field is then 0. */
+ * below `length`, that there are no ends for a length above 0, or that `values` does not have as many flags as there are ends. Only
+ * the last end is held to the length: ends above it pass. Refuses with 1, 2, 13, 3, 9; every other field is then 0. No byte of `out`
+ * may be one of `ends` or `bytes`. */
 pw_mask_answer pw_from_run_ends(const int32_t *ends, size_t ends_len, pw_mask values, const uint8_t *bytes,
     size_t bytes_len, size_t length, uint8_t *out, size_t out_len);
 
@@ -508,8 +568,8 @@ pw_mask_answer pw_from_run_ends(const int32_t *ends, size_t ends_len, pw_mask va
  * flags at the start of `out`. Returns the mask of these flags, over `out`: its length is the number of runs, which is 0 for a mask of
  * no flags, and the last end is the length of `mask`. Its zero count is unknown, or known as 0 if there are no runs; its serial is
  * that of `mask`. Refusal 9 means that `ends` has fewer places than there are runs, or `out` fewer than 8 * ceil(runs / 64) bytes;
- * neither is then written. `ends`, `out` and `bytes` must not overlap each other. Refuses with 1, 2, 3, 9; every other field is then
- * 0. */
+ * neither is then written. Refuses with 1, 2, 3, 9; every other field is then 0. No byte of `ends` may be one of `bytes` or `out`. No
+ * byte of `out` may be one of `bytes`. */
 pw_mask_answer pw_to_run_ends(pw_mask mask, const uint8_t *bytes, size_t bytes_len, int32_t *ends, size_t ends_len,
     uint8_t *out, size_t out_len);
 
@@ -560,7 +620,7 @@ pw_step_answer pw_true_idx_next(size_t start, size_t length, size_t place, uint8
  * `count`. They are what as many calls of pw_true_idx_next return; the rest of `out` is unchanged. The cursor moves past the last of
  * them, or to the length if `out` is not filled; if `out` is empty it does not move. `found` is true. If `masked` is 0 there is no
  * mask: every position is written, and refusal 2 does not occur. Refuses with 1, 2, 6; `place` is unchanged, and every other field is
- * 0. */
+ * 0. No byte of `out` may be one of `bytes`. */
 pw_step_answer pw_true_idx_next_chunk(size_t start, size_t length, size_t place, uint8_t masked,
     const uint8_t *bytes, size_t bytes_len, uint32_t *out, size_t out_len);
 
@@ -610,17 +670,20 @@ pw_offer_answer pw_offer(bool permitted, pw_mask permission, const uint8_t *perm
 /* ---- The window of minutes: in how many of the last minutes each truck was busy. */
 
 /* Writes an empty window, all words and counts 0, to both arrays and returns its numbers. It keeps the words of the last `width`
- * minutes; `width` must be 1 to 256. Refuses with 16; every other field is then 0, and both arrays stay as they are. */
+ * minutes; `width` must be 1 to 256. Refuses with 16; every other field is then 0, and both arrays stay as they are. No byte of
+ * `words` may be one of `counts`. */
 pw_window_answer pw_activity_new(uint64_t words[256], uint32_t counts[64], size_t width);
 
 /* Writes `word`, whose bit j is the flag of truck j in the next minute, into the window, updates the counts and returns the new
  * numbers. The oldest word is replaced if the window already has `width` words. `place`, `fill` and `width` are those that the call
- * before returned. Refuses with 16; the window is unchanged: place, fill, width and both arrays. */
+ * before returned. Refuses with 16; the window is unchanged: place, fill, width and both arrays. No byte of `words` may be one of
+ * `counts`. */
 pw_window_answer pw_activity_push_minute(uint64_t words[256], uint32_t counts[64], size_t place, size_t fill,
     size_t width, uint64_t word);
 
 /* Writes to `out`, for each of the 64 flags, the number of kept words that have it set. Returns 0, or the number of the refusal.
- * `place`, `fill` and `width` are those that the call before returned. Refuses with 16; `out` then stays as it is. */
+ * `place`, `fill` and `width` are those that the call before returned. Refuses with 16; `out` then stays as it is. No byte of `out`
+ * may be one of `words` or `counts`. */
 uint8_t pw_activity_counts(const uint64_t words[256], const uint32_t counts[64], size_t place, size_t fill,
     size_t width, uint32_t out[64]);
 
@@ -725,10 +788,118 @@ static inline pw_validity_answer pw_serial_into_opt_validity(const pw_serial_bui
     return pw_into_opt_validity(b->builder.length, b->builder.word, b->builder.ones, buf, buf_len, b->serial);
 }
 
+/* ---- Cursors by pointer. Each function calls the export of its name with the cursor's numbers, stores the place of the answer in the
+ * cursor, and returns the answer: after a refusal, and where nothing is `found`, a loop over `found` ends. */
+
+/* Calls pw_chunks_next and moves the cursor, which a refusal leaves where it is. */
+static inline pw_step_answer pw_cursor_chunks_next(pw_cursor *cursor, const uint8_t *bytes, size_t bytes_len) {
+    pw_step_answer a = pw_chunks_next(cursor->start, cursor->length, cursor->place, bytes, bytes_len);
+    cursor->place = a.place;
+    return a;
+}
+
+/* Calls pw_chunks_remainder and moves the cursor, which a refusal leaves where it is. */
+static inline pw_step_answer pw_cursor_chunks_remainder(pw_cursor *cursor, const uint8_t *bytes, size_t bytes_len) {
+    pw_step_answer a = pw_chunks_remainder(cursor->start, cursor->length, cursor->place, bytes, bytes_len);
+    cursor->place = a.place;
+    return a;
+}
+
+/* Calls pw_slices_next and moves the cursor, which a refusal leaves where it is. */
+static inline pw_step_answer pw_cursor_slices_next(pw_cursor *cursor, const uint8_t *bytes, size_t bytes_len) {
+    pw_step_answer a = pw_slices_next(cursor->start, cursor->length, cursor->place, bytes, bytes_len);
+    cursor->place = a.place;
+    return a;
+}
+
+/* Calls pw_iter_next and moves the cursor, which a refusal leaves where it is. */
+static inline pw_step_answer pw_cursor_iter_next(pw_cursor *cursor, const uint8_t *bytes, size_t bytes_len) {
+    pw_step_answer a = pw_iter_next(cursor->start, cursor->length, cursor->place, bytes, bytes_len);
+    cursor->place = a.place;
+    return a;
+}
+
+/* Calls pw_iter_nth and moves the cursor, which a refusal leaves where it is. */
+static inline pw_step_answer pw_cursor_iter_nth(pw_cursor *cursor, const uint8_t *bytes, size_t bytes_len, size_t n) {
+    pw_step_answer a = pw_iter_nth(cursor->start, cursor->length, cursor->place, bytes, bytes_len, n);
+    cursor->place = a.place;
+    return a;
+}
+
+/* Calls pw_take_leading_ones and moves the cursor, which a refusal leaves where it is. */
+static inline pw_step_answer pw_cursor_take_leading_ones(pw_cursor *cursor, const uint8_t *bytes, size_t bytes_len) {
+    pw_step_answer a = pw_take_leading_ones(cursor->start, cursor->length, cursor->place, bytes, bytes_len);
+    cursor->place = a.place;
+    return a;
+}
+
+/* Calls pw_take_leading_zeros and moves the cursor, which a refusal leaves where it is. */
+static inline pw_step_answer pw_cursor_take_leading_zeros(pw_cursor *cursor, const uint8_t *bytes, size_t bytes_len) {
+    pw_step_answer a = pw_take_leading_zeros(cursor->start, cursor->length, cursor->place, bytes, bytes_len);
+    cursor->place = a.place;
+    return a;
+}
+
+/* Calls pw_true_idx_next and moves the cursor, which a refusal leaves where it is. */
+static inline pw_step_answer pw_cursor_true_idx_next(pw_cursor *cursor, const uint8_t *bytes, size_t bytes_len) {
+    pw_step_answer a = pw_true_idx_next(cursor->start, cursor->length, cursor->place, cursor->masked, bytes, bytes_len);
+    cursor->place = a.place;
+    return a;
+}
+
+/* Calls pw_true_idx_next_chunk and moves the cursor, which a refusal leaves where it is. */
+static inline pw_step_answer pw_cursor_true_idx_next_chunk(pw_cursor *cursor, const uint8_t *bytes,
+    size_t bytes_len, uint32_t *out, size_t out_len) {
+    pw_step_answer a = pw_true_idx_next_chunk(cursor->start, cursor->length, cursor->place, cursor->masked, bytes,
+        bytes_len, out, out_len);
+    cursor->place = a.place;
+    return a;
+}
+
+/* ---- Masks from elsewhere, and cuts: a refusal leaves no mask with more flags than were asked for. */
+
+/* Returns the mask of the `length` flags of `bytes` that start at bit `start`, of which a record from elsewhere states `zeros` and
+ * `serial`, with the count known. The zeros are counted: a count that is not exact is refused. Refuses with 1, 2, 3; every other field
+ * is then 0. */
+static inline pw_mask_answer pw_import(const uint8_t *bytes, size_t bytes_len, size_t start, size_t length,
+    size_t zeros, uint32_t serial) {
+    pw_mask_answer made = {0, {start, length, zeros, 1, serial}};
+    pw_mask none = {0, 0, 0, 0, 0};
+    made.refusal = pw_unset_bits(made.mask, bytes, bytes_len).refusal;
+    if (made.refusal != 0) made.mask = none;
+    return made;
+}
+
+/* Writes to `out` the mask that pw_slice returns, and returns 0; or returns the number of its refusal, and writes nothing. Give `out`
+ * a mask of no flags before, pw_bitmap_new(), so that no refusal that is overlooked leaves flags in it. */
+PW_MUST_USE
+static inline uint8_t pw_cut(pw_mask mask, const uint8_t *bytes, size_t bytes_len, size_t offset, size_t length,
+    pw_mask *out) {
+    pw_mask_answer a = pw_slice(mask, bytes, bytes_len, offset, length);
+    if (a.refusal == 0) *out = a.mask;
+    return a.refusal;
+}
+
+/* Writes to `out` the mask that pw_grid_row returns, and returns 0; or returns the number of its refusal, and writes nothing. Give
+ * `out` a mask of no flags before, pw_bitmap_new(), so that no refusal that is overlooked leaves flags in it. */
+PW_MUST_USE
+static inline uint8_t pw_cut_row(pw_mask mask, const uint8_t *bytes, size_t bytes_len, size_t rows, size_t columns,
+    size_t row, pw_mask *out) {
+    pw_mask_answer a = pw_grid_row(mask, bytes, bytes_len, rows, columns, row);
+    if (a.refusal == 0) *out = a.mask;
+    return a.refusal;
+}
+
 /* ---- version */
 
-/* The version of the interface. A program that includes this file refers to it, so that a library of another version does not link,
- * where the compiler is GCC or Clang. */
+/* The version of this file and of the library that it belongs to. */
+#define PW_VERSION "0.1.0"
+
+/* The version of the interface: it is raised if a declaration changes so that a program has to change with it. */
+#define PW_INTERFACE 4
+
+/* The version of the interface that a library has. A program that includes this file refers to it, so that a library of another
+ * version does not link, where the compiler is GCC or Clang. */
 uint32_t pw_interface_4(void);
 #if defined(__GNUC__)
 #if defined(__has_attribute)

@@ -1,35 +1,23 @@
 """Makes the exports of crates/capi in C: the part of include/poruwhina.h below its mark, which begins with the numbers of refusals."""
 import re
-import textwrap
+import sys
 
+import in_c_inline
 import in_refusals
-from exports import ROOT, exports, interface, lowered, modules, records, wrapped
+from exports import KEPT, ROOT, exports, interface, lowered, modules, records, wrapped
+from in_c_types import TYPES, c_name, comment, declared
 
 HEADER = ROOT / "include/poruwhina.h"
 MARK = "/* ---- written by tests/declarations.py from include/refusals.txt and crates/capi: change it there */\n"
 ORDER = "The numbers of refusals, each with the check that failed, in the order of the checks: of several that fail, the first one here."
-TYPES = {"usize": "size_t", "u8": "uint8_t", "u32": "uint32_t", "u64": "uint64_t", "i32": "int32_t", "bool": "bool"}
-
-
-def c_name(record):
-    """Returns the name of a record in C: pw_mask_answer for MaskAnswer."""
-    return "pw" + re.sub(r"([A-Z])", lambda m: "_" + m.group(1).lower(), record)
-
-
-def declared(name, kind):
-    """Returns the declaration of an argument or a field."""
-    lent = re.fullmatch(r"\*(const|mut) (\w+)", kind)
-    array = re.fullmatch(r"(?:\*(const|mut) )?\[(\w+); (\d+)\]", kind)
-    if lent:
-        return ("const " if lent[1] == "const" else "") + f"{TYPES[lent[2]]} *{name}"
-    if array:
-        return ("const " if array[1] == "const" else "") + f"{TYPES[array[2]]} {name}[{array[3]}]"
-    return f"{TYPES.get(kind) or c_name(kind)} {name}"
-
-
-def comment(text):
-    lines = textwrap.wrap(text, 132, break_on_hyphens=False)
-    return "/* " + "\n * ".join(lines) + " */\n"
+# A warning for each call whose answer, if a program does not test `refusal`, may be taken for more flags than the mask has.
+OVERLOOKED = {
+    "pw_count_zeros": "a refused answer says 0 zeros, which is what a span of ones has: test `refusal` first.",
+    "pw_into_opt_validity": "a refused answer has no mask, which otherwise means all ones: test `refusal` first.",
+    "pw_slice": "a refused answer has `mask` whole, with all its flags: test `refusal` first, or call pw_cut.",
+    "pw_grid_row": "a refused answer has `mask` whole, with all its flags: test `refusal` first, or call pw_cut_row.",
+    "pw_unset_bits": "a refused answer has `mask` unchanged, and says 0 zeros, which is what a mask of ones has: test `refusal` first.",
+}
 
 
 def record(name, said, fields):
@@ -41,56 +29,40 @@ def prototype(export):
     arguments = [declared(*argument) for argument in lowered(export.arguments)] or ["void"]
     head = f"{TYPES.get(export.result) or c_name(export.result)} {export.name}("
     lines = wrapped([head + arguments[0], *arguments[1:]], 116)
-    return comment(export.sentences()) + "\n    ".join(lines)[:-1] + ");\n"
+    said = " ".join([export.sentences(), *apart(export), *warned(export)])
+    return comment(said) + "\n    ".join(lines)[:-1] + ");\n"
 
 
-def with_serial():
-    """Returns a builder that keeps its serial, and for each export that takes a builder's numbers a function that takes it by pointer."""
-    parts = [
-        comment("---- A builder with its serial, by pointer: so that no serial is lost between a builder and its mask."),
-        comment("A builder and the serial that its mask will have.")
-        + "typedef struct {\n    pw_builder builder;\n    uint32_t serial;\n} pw_serial_builder;\n",
-        comment("Returns a builder with no flags and this serial.")
-        + "static inline pw_serial_builder pw_serial_builder_new(uint32_t serial) {\n"
-        + "    pw_serial_builder b = {pw_builder_new(), serial};\n    return b;\n}\n",
-    ]
-    fields = records()["Builder"][1]
-    for export in exports():
-        if export.arguments[: len(fields)] == fields:
-            parts.append(by_pointer(export, list(lowered(export.arguments[len(fields) :]))))
-    return parts
+def apart(export):
+    """Yields a sentence for each buffer that an export writes: which others it must not overlap."""
+    lent = [name for name, kind in export.arguments if kind.startswith("&")]
+    written = [name for name, kind in export.arguments if kind.startswith("&mut ")]
+    for at, name in enumerate(written):
+        others = [f"`{other}`" for other in lent if other not in written[: at + 1]]
+        if others:
+            listed = " or ".join([", ".join(others[:-1]), others[-1]] if len(others) > 1 else others)
+            yield f"No byte of `{name}` may be one of {listed}."
 
 
-def by_pointer(export, rest):
-    """Returns the function by pointer of an export. An append changes the builder unless it is refused, and returns the number; a call
-    that ends a builder returns the export's answer."""
-    appends = export.result == "BuilderAnswer"
-    taken = [declared(*argument) for argument in rest if argument[0] != "serial"]
-    given = [f"b->builder.{field}" for field in ("length", "word", "ones")]
-    given += ["b->serial" if name == "serial" else name for name, _ in rest]
-    name = export.name.replace("pw_", "pw_serial_", 1)
-    result = "uint8_t" if appends else c_name(export.result)
-    head = wrapped([f"static inline {result} {name}({'' if appends else 'const '}pw_serial_builder *b", *taken], 116)
-    call = wrapped([f"{export.name}({given[0]}", *given[1:]], 100)
-    lines = "\n    ".join(head)[:-1] + ") {\n"
-    called = "\n        ".join(call)[:-1] + ");\n"
-    if appends:
-        lines += f"    {c_name(export.result)} a = {called}    b->builder = a.builder;\n    return a.refusal;\n}}\n"
-    else:
-        lines += f"    return {called}}}\n"
-    told = "returns its answer. The builder does not change."
-    if appends:
-        told = "returns 0, or the number of a refusal, after which the builder is unchanged."
-    return comment(f"Calls {export.name} with the builder and its serial, and {told}") + lines
+def warned(export):
+    """Yields the warning of a call for which OVERLOOKED has one; each that returns a mask unchanged must have one."""
+    if export.kept in (KEPT["as_same_mask"], KEPT["as_zeros"]) and export.name not in OVERLOOKED:
+        sys.exit(f"{export.name}: a refused answer has the mask that came, and OVERLOOKED of tests/in_c.py has no warning for it")
+    if export.name in OVERLOOKED:
+        yield f"WARNING: {OVERLOOKED[export.name]}"
 
 
 def version():
     """Returns the reference that makes a library of another version fail to link."""
     symbol = f"pw_interface_{interface()}"
     return (
-        comment(
-            "The version of the interface. A program that includes this file refers to it, so that a library of another version does not"
-            " link, where the compiler is GCC or Clang."
+        comment("The version of this file and of the library that it belongs to.")
+        + f"#define PW_VERSION \"{release()}\"\n\n"
+        + comment("The version of the interface: it is raised if a declaration changes so that a program has to change with it.")
+        + f"#define PW_INTERFACE {interface()}\n\n"
+        + comment(
+            "The version of the interface that a library has. A program that includes this file refers to it, so that a library of another"
+            " version does not link, where the compiler is GCC or Clang."
         )
         + f"uint32_t {symbol}(void);\n"
         + "#if defined(__GNUC__)\n"
@@ -104,13 +76,19 @@ def version():
     )
 
 
+def release():
+    """Returns the version of the release, from the manifest of the workspace."""
+    return re.search(r'^\[workspace\.package\]\nversion = "([\d.]+)"', (ROOT / "Cargo.toml").read_text(), re.M)[1]
+
+
 def below():
     """Returns the part of the header below the mark."""
-    parts = [comment(ORDER), in_refusals.in_header(), "/* ---- records */\n", *(record(name, *this) for name, this in records().items())]
+    parts = [comment(ORDER), in_refusals.in_header(), in_c_inline.texts(), "/* ---- records */\n"]
+    parts += [*(record(name, *this) for name, this in records().items())]
     found = exports()
     for module, heading in modules():
         if module == "interface":
-            parts += [*with_serial(), "/* ---- version */\n", version()]
+            parts += [*in_c_inline.builders(), *in_c_inline.cursors(), *in_c_inline.cuts(), "/* ---- version */\n", version()]
         else:
             parts += [comment("---- " + heading), *(prototype(export) for export in found if export.module == module)]
     end = "#ifdef __cplusplus\n}\n#endif\n\n#endif\n"
