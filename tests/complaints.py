@@ -14,7 +14,9 @@ import tempfile
 ROOT = pathlib.Path(__file__).resolve().parent.parent
 READ = ("crates/*/src/**/*.rt", "crates/*/specs/**/*.antt", "crates/*/proofs/statements/*.antt", "crates/*/proofs/tables/*.antt")
 READ += ("crates/*/proofs/computed/*.antt", "crates/*/proofs/theorems/*.antt", "crates/masks/proofs/refusal/*.antt")
-PAGES = ("docs/*.md", "README.md", "crates.txt", "tests/*.py", "tests/plants", "tests/plants.txt", "include/*", "bindings/rust/src/**/*.rs")
+PAGES = ("docs/*.md", "README.md", "crates.txt", "Cargo.toml", "tests/*.py", "tests/plants", "tests/plants.txt", "include/*")
+PAGES += ("bindings/rust/src/**/*.rs", "bindings/rust/Cargo.toml", "Cargo.lock")
+READ += ("crates/*/CALLING.md", "crates/*/proofs/calling/*.antt", "crates/uses/proofs/**/*.antt")
 
 EDITS = (
     (
@@ -128,6 +130,27 @@ EDITS = (
         "    pub fn push_mut(&mut self, buf: &mut [u8], flag: bool) -> Result<(), Refusal>\n        ensures",
         "    pub fn push_mut(&mut self, buf: &mut [u8], other: bool) -> Result<(), Refusal>\n        ensures",
         "push_mut: neither its contract nor that of its export states",
+    ),
+    (
+        "versions.py",
+        "docs/CHANGES.md",
+        "## 0.1.0, ",
+        "## 0.2.0, ",
+        "docs/CHANGES.md: 0.2.0",
+    ),
+    (
+        "calling_pages.py",
+        "crates/uses/proofs/pits/pit_of/Answers.antt",
+        "use Rattle.masks.proofs.calling.Accepted.{slice_accepted}",
+        "use Rattle.masks.proofs.bitmap.MaskLaws.{slice_accepted}",
+        "cites Rattle.masks.proofs.bitmap.MaskLaws, which no CALLING.md names",
+    ),
+    (
+        "calling_pages.py",
+        "crates/dispatch/src/reassign.rt",
+        "    ensures flag { IfOk result",
+        "    ensures answer { IfOk result",
+        "crates/dispatch/CALLING.md is not what the sources say",
     ),
     (
         "plants --test",

@@ -24,7 +24,10 @@ from exports import ROOT, exports, interface, lowered, records, records_of, refu
 INTERFACE = ROOT / "include/interface.txt"
 
 # Each named number that is none of a refusal, and the line of a source from which it is taken.
-NUMBERS = {"PW_FLAG_LIMIT": ("crates/masks/src/bitmap.rt", r"pub const LIMIT: usize = (\d+);")}
+NUMBERS = {
+    "PW_FLAG_LIMIT": ("crates/masks/src/bitmap.rt", r"pub const LIMIT: usize = (\d+);"),
+    "PW_INTERFACE": ("crates/capi/src/interface.rt", r"fn pw_interface_(\d+)\("),
+}
 
 
 def source_numbers():
@@ -108,7 +111,8 @@ def compared():
     """Compares what the script does not write: the numbers, the Rust crate's records, and which files its folder of calls has."""
     numbers = source_numbers()
     yield from differences("the header", {name: number for name, (number, _) in in_c.numbers().items()}, numbers)
-    yield from differences("the Rust crate", rust_limit(), {name: numbers[name] for name in NUMBERS})
+    limit = rust_limit()
+    yield from differences("the Rust crate", limit, {name: numbers[name] for name in limit})
     yield from unlisted()
     text = "\n".join(path.read_text() for path in sorted(in_rust.CALLS.glob("*.rs")))
     wanted = {name: fields for name, (_, fields) in records().items()}

@@ -7,6 +7,7 @@ Sums and products are exact. Nothing here is taken from the library or from the 
 import struct
 from bisect import bisect_right
 from functools import lru_cache, partial
+from itertools import accumulate, groupby
 
 LIMIT = 4194304
 WORD = 2**64 - 1
@@ -483,14 +484,13 @@ def from_run_ends(ends, values, lent, n, out):
 
 
 def to_run_ends(mask, lent, ends, out):
-    """The fewest runs: a new one begins only where a flag differs from the one before it."""
+    """The fewest runs: groups of equal flags, each of which ends where the sizes up to it add up to."""
     check(mask_checks(mask, lent))
     text = digits(mask, lent)
-    begins = [p for p, (before, flag) in enumerate(zip(" " + text, text)) if flag != before]
-    check([(9, len(begins) <= len(ends))] + room_checks(out, len(begins)))
-    written_ends = begins[1:] + [len(text)] * (len(begins) > 0)
-    record, out = of_digits("".join(text[p] for p in begins), out)
-    return record, written_ends + ends[len(begins) :], out
+    runs = [(flag, sum(1 for _ in same)) for flag, same in groupby(text)]
+    check([(9, len(runs) <= len(ends))] + room_checks(out, len(runs)))
+    record, out = of_digits("".join(flag for flag, _ in runs), out)
+    return record, [*accumulate(size for _, size in runs), *ends[len(runs) :]], out
 
 
 # Cursors: start, length, place; the one over positions also has whether there is a mask.
