@@ -134,7 +134,8 @@ def source(path):
 
 
 def functions(crate):
-    """Returns the arguments of each public function, what the page has of its clauses, and their number: methods by their type's name."""
+    """Returns the arguments of each public function, what the page has of its clauses, and their number: methods by their type's name, and
+    a function of a later module whose name was there before by its module's."""
     found = {}
     for path in sources(crate):
         text = source(path)
@@ -146,6 +147,8 @@ def functions(crate):
                 owner = ""
             else:
                 head = head_of(text, match.start(3))
+                if owner + match[3] in found:
+                    owner = os.path.basename(path)[:-3] + "::"
                 found[owner + match[3]] = arguments(head), cited(head), len(list(promised(head)))
     return found
 

@@ -121,8 +121,8 @@ def holders(name):
 
 
 def makes_only_checks(call):
-    """Whether it only makes checks, or compares refusals: a part of a call, for crates above, and no call of its own."""
-    checks = re.fullmatch(r"Result<\(\), \w+>", call.result)
+    """Whether it only makes checks, or compares refusals or their numbers: a part of a call, for crates above, and no call of its own."""
+    checks = re.fullmatch(r"Result<\(\), \w+>|u8", call.result)
     return bool(checks) and not call.writes
 
 

@@ -110,6 +110,7 @@ impl Bitmap {
 
     /// Returns the mask of the `length` flags starting at `offset`, under the serial of this one. Refuses with 6 if they do not all lie in
     /// this mask, with 1 if `offset`, `length` or their start in the bytes is above the flag limit.
+    #[inline(always)]
     pub fn slice(
         self,
         bytes: &[u8],

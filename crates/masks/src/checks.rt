@@ -1,6 +1,7 @@
-//! The checks that the calls share. Those that are public are for crates above masks, to make checks of their own from; so far none does.
+//! The checks that the calls share. Those that are public are for crates above masks, which make checks of their own from them.
 ghost use Rattle.std.specs.Prelude.{◌≡◌, cond, ◌&&◌, [], ◌∷◌, ◌++◌, ◌+◌, ◌≤◌, eqb, leb};
 ghost use Rattle.masks.specs.Refusal.{failure_of};
+ghost use Rattle.masks.specs.Checks.{earlier as earlier_of, rank as rank_of};
 ghost use Rattle.masks.specs.Checks.{first_failed, limit, check, within_limit, span_checks, address_checks, output_checks};
 ghost use Rattle.masks.specs.Mask.{count_valid, mask_checks};
 ghost use Rattle.masks.specs.Utils.{zeros};
@@ -10,9 +11,47 @@ ghost use Rattle.masks.specs.Builder.{possible, builder_checks, none_from};
 
 use crate::bitmap::Bitmap;
 use crate::builder::BitmapBuilder;
-use crate::refusal::{Refusal, check, earlier};
+use crate::refusal;
+use crate::refusal::{Refusal, check};
 use crate::utils::{all_flags, zeros_at};
 use words::counts::none_from;
+
+/// Returns the number of two failed checks that comes first in their order; each is 0 if nothing failed. For checks of which some are of a
+/// crate above masks: a number that is none of `Refusal` comes after all that are. `refusal::earlier` joins two of `Refusal`.
+pub fn earlier(a: u8, b: u8) -> u8
+    ensures first { result ≡ earlier_of a b }
+{
+    if a == 0 {
+        return b;
+    }
+    if b == 0 {
+        return a;
+    }
+    if rank(a) <= rank(b) { a } else { b }
+}
+
+// Returns the place of a number in the order of the checks, counted from 0; any other number comes after them all. Written from
+// include/refusals.txt.
+#[tactic(auto, unfolding(crate::specs::Checks::rank, crate::specs::Checks::place_in))]
+fn rank(number: u8) -> u8
+    ensures { result ≡ rank_of number }
+{
+    match number {
+        1 => 0,
+        2 => 1,
+        13 => 2,
+        3 => 3,
+        14 => 4,
+        4 => 5,
+        5 => 6,
+        12 => 7,
+        6 => 8,
+        7 => 9,
+        8 => 10,
+        9 => 11,
+        _ => 12,
+    }
+}
 
 // Returns whether n is at most the flag limit.
 pub(crate) fn within_limit(n: usize) -> bool
@@ -145,7 +184,7 @@ pub(crate) fn check_span_grow(
     ensures { failure_of result ≡ first_failed
         (span_checks start n bytes ++ builder_checks b (b.length + n) size) }
 {
-    earlier(check_span(start, n, bytes), check_builder(b, n, size))
+    refusal::earlier(check_span(start, n, bytes), check_builder(b, n, size))
 }
 
 // Makes checks 1 and 6 on a pushed word of k flags: k is within the limit and at most 64, and no bit from k up is set.

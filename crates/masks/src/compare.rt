@@ -29,6 +29,7 @@ pub fn eq(lhs: Bitmap, lhs_bytes: &[u8], rhs: Bitmap, rhs_bytes: &[u8]) -> Resul
 }
 
 /// Counts the flags that differ from the flag after them.
+#[inline(always)]
 pub fn num_edges(mask: Bitmap, bytes: &[u8]) -> Result<usize, Refusal>
     ensures refused { failure_of result ≡ first_failed (mask_checks mask bytes.now) }
     ensures edges { IfOk result (λ n. n ≡ edges (mask_flags mask bytes.now)) }

@@ -1,11 +1,12 @@
 //! The program maskreport: reads its input, of which a report takes at most 65,536 bytes, and prints the report.
-ghost use Rattle.std.specs.Prelude.{◌<◌, Some, length, take, IfOk, OnOk};
+ghost use Rattle.std.specs.Prelude.{◌<◌, Some, length, take, IfOk, IfSome, OnOk};
 ghost use Rattle.std.specs.Io.{ReadsAtMost};
 ghost use Rattle.std.specs.Io.KnownBytes.{Appends, Consumes, IsAtEnd};
 ghost use Rattle.report.specs.Program.{Outcome, failure_text, lines_of, text_of};
 
 use crate::numbers::{Numbers, report};
 use std::error::Error;
+use std::fmt::{InlineText, Write as _};
 use std::io::{Read, Write};
 use std::{fmt, io};
 
@@ -52,7 +53,7 @@ pub fn run<R: Read, W: Write, E: Write>(
 {
     let printed = read_and_print(source, output);
     if let Err(failure) = printed {
-        let _ = writeln!(errors, "maskreport: {failure}");
+        let _ = print_lines(errors, format_args!("maskreport: {failure}\n"));
     }
     printed
 }
@@ -85,12 +86,25 @@ fn read_to_end<R: Read>(source: &mut R, buf: &mut [u8]) -> io::Result<usize>
     Ok(size)
 }
 
-// Prints the numbers, or only `refused=1` for longer input, which has no report. Stops at the first write that fails.
+// Prints the numbers, or only `refused=1` for longer input, which has no report.
 fn print<W: Write>(output: &mut W, report: Option<Numbers>) -> io::Result<()>
     ensures { OnOk result (Appends (W.contents output.old) (W.contents output.new) (text_of report)) }
 {
     match report {
-        Some(numbers) => write!(output, "{numbers}"),
-        None => writeln!(output, "refused=1"),
+        Some(numbers) => print_lines(output, numbers),
+        None => print_lines(output, "refused=1\n"),
     }
+}
+
+// Prints the text of `value`, each line as one write: `write!` to `output` would make a write of each piece of a line. Stops at the first
+// write that fails. The longest text is that of a report: 23 bytes of keys and `=`, four numbers of at most 20 digits and four line feeds.
+fn print_lines<W: Write, D: fmt::Display + Drop>(output: &mut W, value: D) -> io::Result<()>
+    ensures { OnOk result (IfSome (D.output value) (Appends (W.contents output.old) (W.contents output.new))) }
+{
+    let mut text = InlineText::<107>::new();
+    write!(text, "{value}")?;
+    for line in text.as_str().split_inclusive('\n') {
+        output.write_all(line.as_bytes())?;
+    }
+    Ok(())
 }

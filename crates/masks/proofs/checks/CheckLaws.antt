@@ -60,6 +60,11 @@ first-least zero b p q h = absurd (p refl)
 first-least (suc a) zero p q h = absurd (q refl)
 first-least (suc a) (suc b) p q h = first_one a b h
 
+pub second-least : (a b : ℕ) → (a ≡ 0 → ⊥) → (b ≡ 0 → ⊥) → rank b < rank a → earlier a b ≡ b
+second-least zero b p q h = absurd (p refl)
+second-least (suc a) zero p q h = absurd (q refl)
+second-least (suc a) (suc b) p q h = second-one a b h
+
 -- `earlier` is associative
 pub earlier-assoc : (a b c : ℕ) → earlier (earlier a b) c ≡ earlier a (earlier b c)
 earlier-assoc zero b c = ap (λ (x : ℕ). earlier x c) (none-earlier b) ∙ sym (none-earlier (earlier b c))
