@@ -1,5 +1,5 @@
 //! The answer of a call.
-ghost use Rattle.std.specs.Prelude.{◌≡◌, [], Some, IfOk};
+ghost use Rattle.std.specs.Prelude.{◌≡◌, [], Some, IfOk, OnOk};
 ghost use Rattle.std.specs.Int.{from_bool};
 ghost use Rattle.notation.specs.declared.answer.Token.TheVariants.{Number};
 ghost use Rattle.notation.specs.Answer.{tokens_of, number_alone, with_token, token_text, answer_text};
@@ -100,6 +100,22 @@ impl Answer {
         let Answer { mut tokens } = self;
         tokens.push(token)?;
         Ok(Answer { tokens })
+    }
+
+    /// Sets the answer to the number 0 or the refusing number, in the memory that it has; what the call returned comes after it.
+    pub fn begin(&mut self, number: u8) -> Result<(), AllocError>
+        ensures { OnOk result (tokens_of self.new ≡ number_alone number) }
+    {
+        self.tokens.clear();
+        self.push(Token::from(number))
+    }
+
+    /// Appends a token.
+    pub fn push(&mut self, token: Token) -> Result<(), AllocError>
+        ensures { OnOk result (tokens_of self.new ≡ with_token (tokens_of self.old) token) }
+    {
+        self.tokens.push(token)?;
+        Ok(())
     }
 
     pub(crate) fn as_slice(&self) -> &[Token]

@@ -6,40 +6,68 @@ use crate::answer::Answer;
 use crate::fault::Fault;
 use crate::item::{Item, Role};
 use crate::text;
-use std::alloc::Global;
+use std::alloc::{AllocError, Global};
 
 // At most this many items are in a line.
 const MOST: usize = 1024;
 
-// A token of the arguments: its items, with commas between them in the line.
+// How many items of a token are tried before a search by halves, which takes as long.
+const NEAR: usize = 16;
+
+// A token of the arguments: its items, with commas between them in the line, and how many values they have. If there are several, `ends`
+// has of each how many values it and those before it have, so that a call of a range finds its value without a pass over the items.
 #[derive(Drop)]
 pub(crate) struct Choice {
     items: Vec<Item>,
+    values: u64,
+    ends: Vec<u64>,
 }
 
 impl Choice {
+    fn new(alloc: Global, items: Vec<Item>) -> Result<Choice, AllocError> {
+        let mut values = 0u64;
+        let mut end = 0u64;
+        let mut ends = Vec::new(alloc);
+        for item in items.iter() {
+            values = values.wrapping_add(item.count());
+            end = end.saturating_add(item.count());
+            if 1 < items.len() {
+                ends.push(end)?;
+            }
+        }
+        Ok(Choice {
+            items,
+            values,
+            ends,
+        })
+    }
+
     pub(crate) fn items(&self) -> &[Item] {
         self.items.as_slice()
     }
 
     // Returns how many values the token's items have.
     pub(crate) fn values(&self) -> u64 {
-        self.items
-            .iter()
-            .fold(0u64, |n, item| n.wrapping_add(item.count()))
+        self.values
     }
 
     // Returns value n of the token's items, and its role; past the last one the argument 0.
     pub(crate) fn value(&self, n: u64) -> (Role, Option<u64>) {
-        let mut left = n;
-        for item in self.items.iter() {
-            let count = item.count();
-            if left < count {
-                return (item.role(), item.value(left));
-            }
-            left -= count;
+        let i = self.place(n);
+        let before = i.checked_sub(1).and_then(|k| self.ends.get(k).copied());
+        let left = n.saturating_sub(before.unwrap_or(0));
+        match self.items.get(i) {
+            Some(item) if left < item.count() => (item.role(), item.value(left)),
+            _ => (Role::Argument, Some(0)),
         }
-        (Role::Argument, Some(0))
+    }
+
+    // Returns the place of the item that has value n. The first ones are tried one by one, since a long range mostly comes first.
+    fn place(&self, n: u64) -> usize {
+        match self.ends.iter().take(NEAR).position(|end| n < *end) {
+            Some(i) => i,
+            None => self.ends.partition_point(|end| *end <= n),
+        }
     }
 
     // Returns whether the token is an argument, not a size or a serial, by its last item.
@@ -144,7 +172,7 @@ impl Items {
             .checked_sub(many)
             .ok_or(Fault::Malformed)?;
         for token in tokens.iter().skip(from as usize) {
-            self.push(Vec::from_slice(alloc, &[Item::from(*token)])?)?;
+            self.push(alloc, Vec::from_slice(alloc, &[Item::from(*token)])?)?;
         }
         Ok(())
     }
@@ -158,16 +186,16 @@ impl Items {
             items.push(item)?;
             role = item.role();
         }
-        self.push(items)
+        self.push(alloc, items)
     }
 
     // Appends the items of a token to the arguments, or to the answer after `=`. Sizes come after the arguments, of which none is `_`.
-    fn push(&mut self, items: Vec<Item>) -> Result<(), Fault> {
+    fn push(&mut self, alloc: Global, items: Vec<Item>) -> Result<(), Fault> {
         if let Some(answer) = &mut self.answer {
             answer.extend_from_slice(items.as_slice())?;
             return Ok(());
         }
-        let choice = Choice { items };
+        let choice = Choice::new(alloc, items)?;
         let after_size = self.choices.last().is_some_and(|last| !last.is_argument());
         if choice.items().contains(&Item::Any) || (after_size && choice.is_argument()) {
             return Err(Fault::Malformed);

@@ -1,5 +1,7 @@
-//! Calls that need memory, each made once with enough of it: no clause states that they succeed.
+//! Calls that need memory, each made once with enough of it: no clause states that they succeed. And the arguments of a range, of which no
+//! clause states what they are.
 use crate::answer::{Answer, Token};
+use crate::arguments::Serial;
 use crate::last::Last;
 use crate::lent::{Lent, Letter};
 use crate::lines::{Lines, Step};
@@ -14,6 +16,34 @@ fn answers_grow(rt: HostRuntime) -> Result<(), Fail> {
     let answer = Answer::new(rt.alloc(), 14)?.and(Token::Unknown)?;
     let wanted = [Token::Number(14), Token::Unknown];
     assert_eq!(rt; answer.as_slice(), wanted.as_slice());
+    Ok(())
+}
+
+#[test]
+fn answers_begin_again(rt: HostRuntime) -> Result<(), Fail> {
+    let mut answer = Answer::new(rt.alloc(), 14)?;
+    answer.begin(0)?;
+    answer.push(Token::Missing)?;
+    let wanted = [Token::Number(0), Token::Missing];
+    assert_eq!(rt; answer.as_slice(), wanted.as_slice());
+    Ok(())
+}
+
+// Of a token whose items have several roles, nothing of one choice is left in the next.
+#[test]
+fn arguments_are_chosen(rt: HostRuntime) -> Result<(), Fail> {
+    let alloc = rt.alloc();
+    let sizes = Lent::new(alloc).sizes();
+    let reading = Reading::read(alloc, b"not_word 7,s:3..5,?", &Last::new(alloc).answer)?;
+    let mut arguments = reading.choice(0, sizes).unwrap();
+    assert_eq!(rt; arguments.word(0), 7u64);
+    assert!(rt; reading.choose(2, sizes, &mut arguments));
+    assert_eq!(rt; arguments.count(0), Some(0usize));
+    assert_eq!(rt; arguments.serial(Serial::First), 4u32);
+    assert!(rt; reading.choose(3, sizes, &mut arguments));
+    assert_eq!(rt; arguments.count(0), None);
+    assert_eq!(rt; arguments.serial(Serial::First), 0u32);
+    assert!(rt; !reading.choose(4, sizes, &mut arguments));
     Ok(())
 }
 

@@ -9,41 +9,41 @@ use crate::tokens::Answered;
 use crate::{tokens, values};
 use masks::builder::BitmapBuilder;
 use masks::refusal::Refusal;
+use notation::answer::Answer;
 use notation::arguments::{Arguments, Serial};
 use notation::call::{BuilderCall, ExtendCall, GatherCall};
-use std::alloc::Global;
 
 pub(crate) fn builder_answer(
-    alloc: Global,
+    to: &mut Answer,
     call: BuilderCall,
     a: &Arguments,
     buf: &mut [u8],
 ) -> Answered {
     let b = values::builder(a);
     match call {
-        BuilderCall::Push => tokens::answer_back(alloc, b.push(buf, a.flag(3))),
+        BuilderCall::Push => tokens::answer_back(to, b.push(buf, a.flag(3))),
         BuilderCall::PushMut => {
             let Lent { builder, answer } = push_lent(b, buf, a.flag(3));
-            tokens::left(alloc, answer, builder)
+            tokens::left(to, answer, builder)
         }
         BuilderCall::PushWord => {
             tokens::answer_back(
-                alloc,
+                to,
                 b.push_word_with_len_unchecked(buf, a.word(3), a.size(4)),
             )
         }
         BuilderCall::ExtendConstant => tokens::answer_back(
-            alloc,
+            to,
             b.extend_constant(buf, a.size(3), a.flag(4)),
         ),
-        BuilderCall::Freeze => tokens::answer_back(alloc, b.freeze(buf)),
-        BuilderCall::IntoOptValidity => tokens::answer_back(alloc, b.into_opt_validity(buf)),
+        BuilderCall::Freeze => tokens::answer_back(to, b.freeze(buf)),
+        BuilderCall::IntoOptValidity => tokens::answer_back(to, b.into_opt_validity(buf)),
     }
 }
 
 // Makes the appends that read x.
 pub(crate) fn extend_answer(
-    alloc: Global,
+    to: &mut Answer,
     call: ExtendCall,
     a: &Arguments,
     x: &[u8],
@@ -53,7 +53,7 @@ pub(crate) fn extend_answer(
     let start = a.size(3);
     let n = a.size(4);
     tokens::answer_back(
-        alloc,
+        to,
         match call {
             ExtendCall::FromSlice => b.extend_from_slice(buf, x, start, n),
             ExtendCall::EachRepeated => {
@@ -69,7 +69,7 @@ pub(crate) fn extend_answer(
 
 // Makes the appends that read x at indices.
 pub(crate) fn gather_answer(
-    alloc: Global,
+    to: &mut Answer,
     call: GatherCall,
     a: &Arguments,
     x: &[u8],
@@ -80,7 +80,7 @@ pub(crate) fn gather_answer(
     let start = a.size(3);
     let n = a.size(4);
     tokens::answer_back(
-        alloc,
+        to,
         match call {
             GatherCall::FromSlice => b.gather_extend_from_slice(buf, x, start, n, idxs),
             GatherCall::OptFromSlice => b.opt_gather_extend_from_slice(buf, x, start, n, idxs),

@@ -4,42 +4,47 @@ use crate::{tokens, values};
 use masks::iterator::BitmapIter;
 use masks::slice_iterator::SlicesIterator;
 use masks::true_idx::TrueIdxIter;
+use notation::answer::Answer;
 use notation::arguments::{Arguments, Serial};
 use notation::call::{BitsCall, CursorCall};
-use std::alloc::Global;
 
-pub(crate) fn cursor_answer(alloc: Global, call: CursorCall, a: &Arguments, x: &[u8]) -> Answered {
+pub(crate) fn cursor_answer(
+    to: &mut Answer,
+    call: CursorCall,
+    a: &Arguments,
+    x: &[u8],
+) -> Answered {
     match call {
         CursorCall::NewSlices => {
             let mask = values::mask(a, 0, Serial::First);
-            tokens::answer(alloc, SlicesIterator::new(mask, x))
+            tokens::answer(to, SlicesIterator::new(mask, x))
         }
-        CursorCall::NextSlice => tokens::answer_back(alloc, runs(a).next(x)),
+        CursorCall::NextSlice => tokens::answer_back(to, runs(a).next(x)),
         CursorCall::NewTrueIdx => {
             let mask = values::optional(a, 1, Serial::First);
-            tokens::answer(alloc, TrueIdxIter::new(a.size(0), mask, x))
+            tokens::answer(to, TrueIdxIter::new(a.size(0), mask, x))
         }
-        CursorCall::NextTrueIdx => tokens::answer_back(alloc, positions(a).next(x)),
+        CursorCall::NextTrueIdx => tokens::answer_back(to, positions(a).next(x)),
     }
 }
 
-pub(crate) fn bits_answer(alloc: Global, call: BitsCall, a: &Arguments, x: &[u8]) -> Answered {
+pub(crate) fn bits_answer(to: &mut Answer, call: BitsCall, a: &Arguments, x: &[u8]) -> Answered {
     let c = BitmapIter {
         start: a.size(0),
         length: a.size(1),
         place: a.size(2),
     };
     match call {
-        BitsCall::New => tokens::answer(alloc, BitmapIter::new(x, a.size(0), a.size(1))),
-        BitsCall::Next => tokens::answer_back(alloc, c.next(x)),
-        BitsCall::Nth => tokens::answer_back(alloc, c.nth(x, a.size(3))),
-        BitsCall::TakeLeadingOnes => tokens::answer_back(alloc, c.take_leading_ones(x)),
-        BitsCall::TakeLeadingZeros => tokens::answer_back(alloc, c.take_leading_zeros(x)),
+        BitsCall::New => tokens::answer(to, BitmapIter::new(x, a.size(0), a.size(1))),
+        BitsCall::Next => tokens::answer_back(to, c.next(x)),
+        BitsCall::Nth => tokens::answer_back(to, c.nth(x, a.size(3))),
+        BitsCall::TakeLeadingOnes => tokens::answer_back(to, c.take_leading_ones(x)),
+        BitsCall::TakeLeadingZeros => tokens::answer_back(to, c.take_leading_zeros(x)),
     }
 }
 
-pub(crate) fn chunk_answer(alloc: Global, a: &Arguments, x: &[u8], out: &mut [u32]) -> Answered {
-    tokens::answer_back(alloc, positions(a).next_chunk(x, out))
+pub(crate) fn chunk_answer(to: &mut Answer, a: &Arguments, x: &[u8], out: &mut [u32]) -> Answered {
+    tokens::answer_back(to, positions(a).next_chunk(x, out))
 }
 
 fn runs(a: &Arguments) -> SlicesIterator {

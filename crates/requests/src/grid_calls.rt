@@ -6,16 +6,16 @@ use grids::rows::{grid_row, grid_row_zeros};
 use grids::transpose::grid_transpose;
 use masks::bitmap::Bitmap;
 use masks::refusal::Refused;
+use notation::answer::Answer;
 use notation::arguments::{Arguments, Serial};
 use notation::call::GridCall;
-use std::alloc::Global;
 
 pub(crate) fn row_answer(mask: Bitmap, a: &Arguments, x: &[u8]) -> Result<Bitmap, Refused<Bitmap>> {
     grid_row(mask, x, a.size(3), a.size(4), a.size(5))
 }
 
 pub(crate) fn grid_answer(
-    alloc: Global,
+    to: &mut Answer,
     call: GridCall,
     a: &Arguments,
     x: &[u8],
@@ -25,7 +25,7 @@ pub(crate) fn grid_answer(
     let rows = a.size(3);
     let columns = a.size(4);
     tokens::answer(
-        alloc,
+        to,
         match call {
             GridCall::GridColumn => grid_column(mask, x, rows, columns, a.size(5), out),
             GridCall::GridTranspose => grid_transpose(mask, x, rows, columns, out),
@@ -34,24 +34,21 @@ pub(crate) fn grid_answer(
 }
 
 pub(crate) fn row_zeros_answer(
-    alloc: Global,
+    to: &mut Answer,
     a: &Arguments,
     x: &[u8],
     counts: &mut [u32],
 ) -> Answered {
     let mask = values::mask(a, 0, Serial::First);
-    tokens::answer(alloc, grid_row_zeros(mask, x, a.size(3), a.size(4), counts))
+    tokens::answer(to, grid_row_zeros(mask, x, a.size(3), a.size(4), counts))
 }
 
 pub(crate) fn column_zeros_answer(
-    alloc: Global,
+    to: &mut Answer,
     a: &Arguments,
     x: &[u8],
     counts: &mut [u32],
 ) -> Answered {
     let mask = values::mask(a, 0, Serial::First);
-    tokens::answer(
-        alloc,
-        grid_column_zeros(mask, x, a.size(3), a.size(4), counts),
-    )
+    tokens::answer(to, grid_column_zeros(mask, x, a.size(3), a.size(4), counts))
 }

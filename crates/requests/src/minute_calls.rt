@@ -5,9 +5,9 @@
 use crate::tokens;
 use crate::tokens::Answered;
 use activity::window::{ActivityWindow, WindowRefusal};
+use notation::answer::Answer;
 use notation::arguments::Arguments;
 use notation::call::MinutesCall;
-use std::alloc::Global;
 use words::word;
 
 // Where the counts begin.
@@ -15,36 +15,36 @@ const COUNTS: usize = 2048;
 
 // Makes the calls that write a window.
 pub(crate) fn minutes_answer(
-    alloc: Global,
+    to: &mut Answer,
     call: MinutesCall,
     a: &Arguments,
     out: &mut [u8],
 ) -> Answered {
     match call {
-        MinutesCall::New => new_answer(alloc, a.size(0), out),
-        MinutesCall::PushMinute => pushes_answer(alloc, a, 1, out),
-        MinutesCall::PushMinutes => pushes_answer(alloc, a, a.word(5) % 65536, out),
+        MinutesCall::New => new_answer(to, a.size(0), out),
+        MinutesCall::PushMinute => pushes_answer(to, a, 1, out),
+        MinutesCall::PushMinutes => pushes_answer(to, a, a.word(5) % 65536, out),
     }
 }
 
 // Writes the counts of the window whose arrays are x, as numbers, also those of a refusal.
 pub(crate) fn counts_answer(
-    alloc: Global,
+    to: &mut Answer,
     a: &Arguments,
     x: &[u8],
     numbers: &mut [u32],
 ) -> Answered {
     match window_of(a, x).counts() {
-        Ok(counts) => counts_or_refusal(alloc, Ok(()), counts, numbers),
+        Ok(counts) => counts_or_refusal(to, Ok(()), counts, numbers),
         Err(refused) => {
             let state = refused.state;
-            counts_or_refusal(alloc, Err(refused.refusal), state, numbers)
+            counts_or_refusal(to, Err(refused.refusal), state, numbers)
         }
     }
 }
 
 fn counts_or_refusal(
-    alloc: Global,
+    to: &mut Answer,
     r: Result<(), WindowRefusal>,
     counts: [u32; 64],
     numbers: &mut [u32],
@@ -52,31 +52,31 @@ fn counts_or_refusal(
     for (number, count) in numbers.iter_mut().zip(counts) {
         *number = count;
     }
-    tokens::answer(alloc, r)
+    tokens::answer(to, r)
 }
 
 // Makes a new window and writes it, also the one of a refusal.
-fn new_answer(alloc: Global, width: usize, out: &mut [u8]) -> Answered {
+fn new_answer(to: &mut Answer, width: usize, out: &mut [u8]) -> Answered {
     match ActivityWindow::new(width) {
-        Ok(window) => window_answer(alloc, Ok(()), window, out),
-        Err(refused) => window_answer(alloc, Err(refused.refusal), refused.state, out),
+        Ok(window) => window_answer(to, Ok(()), window, out),
+        Err(refused) => window_answer(to, Err(refused.refusal), refused.state, out),
     }
 }
 
 // Pushes a run of `many` minutes; each word is greater by a step than the one before it. After a refusal no minute is pushed. The minutes
 // are a number and no list, so the loop is over a range; `try_fold` would carry the word and the window as a pair through both ends: no
 // plainer.
-fn pushes_answer(alloc: Global, a: &Arguments, many: u64, out: &mut [u8]) -> Answered {
+fn pushes_answer(to: &mut Answer, a: &Arguments, many: u64, out: &mut [u8]) -> Answered {
     let mut word = a.word(3);
     let mut now = window_of(a, out);
     for _ in 0..many {
         match now.push_minute(word) {
             Ok(next) => now = next,
-            Err(refused) => return window_answer(alloc, Err(refused.refusal), refused.state, out),
+            Err(refused) => return window_answer(to, Err(refused.refusal), refused.state, out),
         }
         word = word.wrapping_add(a.word(4));
     }
-    window_answer(alloc, Ok(()), now, out)
+    window_answer(to, Ok(()), now, out)
 }
 
 // Returns the window whose arrays are these bytes and whose numbers are the first three arguments.
@@ -106,7 +106,7 @@ fn window(bytes: &[u8], place: usize, fill: usize, width: usize) -> ActivityWind
 
 // Writes the arrays of the window that a call left, and returns the answer.
 fn window_answer(
-    alloc: Global,
+    to: &mut Answer,
     r: Result<(), WindowRefusal>,
     window: ActivityWindow,
     out: &mut [u8],
@@ -119,5 +119,5 @@ fn window_answer(
     for (part, count) in rest.chunks_mut(4).zip(window.counts) {
         word::store_le_u64(part, u64::from(count));
     }
-    tokens::left(alloc, r, (window.place, window.fill, window.width))
+    tokens::left(to, r, (window.place, window.fill, window.width))
 }

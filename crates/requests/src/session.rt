@@ -87,14 +87,18 @@ impl Session {
     // Makes the calls of a request, one for each choice of a range.
     fn make(&mut self, reading: &Reading) -> Result<Ran, Fault> {
         let output = reading.named.output;
+        let call = reading.named.call;
         let sizes = self.lent.sizes();
         let mut ran = Ran::new();
-        for arguments in (0..RANGE).map_while(|t| reading.choice(t, sizes)) {
+        let mut arguments = reading.choice(0, sizes).unwrap();
+        for t in 1..=RANGE {
             self.last.restore(output, &self.lent)?;
             let parts = self.lent.parts(arguments.sizes);
-            let call = reading.named.call;
-            self.last.answer = calls::answer(self.alloc, call, &arguments, parts, &mut self.last)?;
+            calls::answer(call, &arguments, parts, &mut self.last)?;
             ran.take(output, &self.last);
+            if !reading.choose(t, sizes, &mut arguments) {
+                break;
+            }
         }
         Ok(ran)
     }
