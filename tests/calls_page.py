@@ -353,9 +353,9 @@ def facts():
                 "call": f"`{name}({', '.join(args)})`",
                 "checks": " ".join(checks) or "none",
                 "definition": "; ".join(definitions).replace("|", "\\|"),
-                "wrong answers ruled out": "; ".join(wrong.pop(name, [])),
+                "wrong answers ruled out": "; ".join(wrong.get(name) or wrong.get(name.split("::")[-1], [])),
             }
-        complaints += [f"{crate}/proofs/tables/Wrong*.antt: no public function {name}" for name in wrong]
+        complaints += [f"{crate}/proofs/tables/Wrong*.antt: no public function {name}" for name in wrong if name not in rows]
     return rows, complaints
 
 

@@ -1,5 +1,5 @@
 -- The arguments of one call as its code reads them: argument i as a count, a number, a flag, and the serials.
-use Rattle.std.specs.Prelude.{ℕ, Bool, ◌%◌, ◌^◌, ◌==◌, not, Option, unwrap_or, slice_get}
+use Rattle.std.specs.Prelude.{ℕ, Bool, false, ◌%◌, ◌^◌, ◌==◌, not, Option, None, unwrap_or, slice_get, if◌then◌else◌}
 use Rattle.std.specs.Option.{option_flatten}
 use Rattle.notation.specs.declared.arguments.Arguments.{Arguments}
 use Rattle.notation.specs.declared.arguments.Serial.{Serial}
@@ -8,6 +8,10 @@ use Rattle.notation.specs.declared.arguments.Serial.TheVariants.{First, Second, 
 -- argument i as a zero count: none for `?`, and none if there is no argument i
 abbrev pub count_at : Arguments → ℕ → Option ℕ
 count_at a i = option_flatten (slice_get a.numbers i)
+
+-- argument i as the zero count of a mask: none also where a later token of its place is `?`
+abbrev pub unset_at : Arguments → ℕ → Option ℕ
+unset_at a i = if unwrap_or (slice_get a.unknown i) false then None else count_at a i
 
 -- argument i as a number, 0 if it is not known or absent
 abbrev pub number_at : Arguments → ℕ → ℕ

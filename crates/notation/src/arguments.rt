@@ -1,13 +1,16 @@
 //! The arguments of one call: numbers, how many bytes and numbers are lent, and the serials of the records among them. The conversions of
 //! this file are `as`: to `usize`, which has no `From` of a u64, and to the low 32 bits.
 ghost use Rattle.std.specs.Prelude.{◌≡◌, ◌%◌, ◌^◌};
-ghost use Rattle.notation.specs.Arguments.{count_at, number_at, low_at, flag_at, serial_at};
+ghost use Rattle.notation.specs.Arguments.{count_at, unset_at, number_at, low_at, flag_at, serial_at};
 
 use crate::item::Role;
 use crate::lent::Sizes;
 
 // The most arguments that a call has.
 const MOST: usize = 9;
+
+// A token has the place of the one so many before it: a `?` may stand beside the sizes.
+const PLACES: usize = 11;
 
 /// One of the records among the arguments.
 #[derive(Clone, Copy, Debug, PartialEq, Eq)]
@@ -22,6 +25,8 @@ pub enum Serial {
 pub struct Arguments {
     // None for `?`, and 0 for an absent argument.
     numbers: [Option<u64>; MOST],
+    // Whether a token of the argument's place is `?`: its own, or a later one.
+    unknown: [bool; MOST],
     serials: Serials,
     pub sizes: Sizes,
 }
@@ -48,23 +53,27 @@ impl Arguments {
     pub(crate) fn new(sizes: Sizes) -> Arguments {
         Arguments {
             numbers: [Some(0); MOST],
+            unknown: [false; MOST],
             serials: Serials::default(),
             sizes,
         }
     }
 
-    // Sets argument k, or the size or serial of `role`, to a value, None if it is not known. A size is at most what is lent.
+    // Sets the argument of token k, or the size or serial of `role`, to a value, None if it is not known. A size is at most what is lent.
     pub(crate) fn put(&mut self, k: usize, role: Role, value: Option<u64>) {
         match (role, value) {
             (Role::Size(letter), Some(most)) => self.sizes.limit(letter, most),
             (Role::Serial(serial), Some(n)) => *self.serials.get_mut(serial) = low(n),
-            _ => self.put_number(k, value),
+            _ => self.put_number(k % PLACES, value),
         }
     }
 
-    fn put_number(&mut self, k: usize, n: Option<u64>) {
-        if let Some(place) = self.numbers.get_mut(k) {
+    fn put_number(&mut self, i: usize, n: Option<u64>) {
+        if let Some(place) = self.numbers.get_mut(i) {
             *place = n;
+        }
+        if let Some(unknown) = self.unknown.get_mut(i) {
+            *unknown |= n.is_none();
         }
     }
 
@@ -73,6 +82,16 @@ impl Arguments {
         ensures { result ≡ count_at self.now i }
     {
         self.numbers.get(i)?.map(|n| n as usize)
+    }
+
+    /// Returns argument i as the zero count of a mask: None also if a later token of its place is `?`.
+    pub fn unset(&self, i: usize) -> Option<usize>
+        ensures { result ≡ unset_at self.now i }
+    {
+        if self.unknown.get(i).copied().unwrap_or(false) {
+            return None;
+        }
+        self.count(i)
     }
 
     /// Returns argument i as a number, 0 if it is not known or absent.

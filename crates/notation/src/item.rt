@@ -116,6 +116,15 @@ impl Item {
         })
     }
 
+    // Returns the first value of the item, as an item of that value alone.
+    pub(crate) fn first(self) -> Item {
+        match self {
+            Item::Numbers { role, first, .. } => Item::single(role, first),
+            Item::Times { number, .. } => Item::single(Role::Argument, number),
+            _ => self,
+        }
+    }
+
     pub(crate) fn role(self) -> Role {
         match self {
             Item::Numbers { role, .. } => role,

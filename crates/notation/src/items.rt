@@ -16,7 +16,7 @@ const NEAR: usize = 16;
 
 // A token of the arguments: its items, with commas between them in the line, and how many values they have. If there are several, `ends`
 // has of each how many values it and those before it have, so that a call of a range finds its value without a pass over the items.
-#[derive(Drop)]
+#[derive(Clone, Drop)]
 pub(crate) struct Choice {
     items: Vec<Item>,
     values: u64,
@@ -25,21 +25,34 @@ pub(crate) struct Choice {
 
 impl Choice {
     fn new(alloc: Global, items: Vec<Item>) -> Result<Choice, AllocError> {
-        let mut values = 0u64;
+        let mut choice = Choice {
+            items,
+            values: 0,
+            ends: Vec::new(alloc),
+        };
+        choice.count()?;
+        Ok(choice)
+    }
+
+    // Counts the values of the items.
+    fn count(&mut self) -> Result<(), AllocError> {
         let mut end = 0u64;
-        let mut ends = Vec::new(alloc);
-        for item in items.iter() {
-            values = values.wrapping_add(item.count());
+        self.values = 0;
+        self.ends.clear();
+        for item in self.items.iter() {
+            self.values = self.values.wrapping_add(item.count());
             end = end.saturating_add(item.count());
-            if 1 < items.len() {
-                ends.push(end)?;
+            if 1 < self.items.len() {
+                self.ends.push(end)?;
             }
         }
-        Ok(Choice {
-            items,
-            values,
-            ends,
-        })
+        Ok(())
+    }
+
+    // Puts an item before the others.
+    fn put_first(&mut self, item: Item) -> Result<(), AllocError> {
+        self.items.insert(0, item)?;
+        self.count()
     }
 
     pub(crate) fn items(&self) -> &[Item] {
@@ -79,7 +92,7 @@ impl Choice {
 }
 
 // The tokens of the arguments, and the items of the answer, if there is one.
-#[derive(Drop)]
+#[derive(Clone, Drop)]
 pub(crate) struct Items {
     choices: Vec<Choice>,
     answer: Option<Vec<Item>>,
@@ -138,13 +151,27 @@ impl Items {
 
     // Returns the number of an item `#N` if it is the only one, else None.
     pub(crate) fn sum(&self) -> Option<u64> {
-        match (self.choices.as_slice(), &self.answer) {
-            ([choice], None) => match choice.items() {
+        match (self.choices.as_slice(), self.answer()) {
+            ([choice], None | Some([])) => match choice.items() {
                 [Item::Calls(sum)] => Some(*sum),
                 _ => None,
             },
             _ => None,
         }
+    }
+
+    // Gives a token that has no value, such as `N*0`, that of the next item which has one, in the arguments or the answer.
+    pub(crate) fn fill_empty(&mut self) -> Result<(), Fault> {
+        let expected = self.answer().unwrap_or(&[]);
+        let mut next = expected.iter().find(|item| 0 < item.count()).copied();
+        for choice in self.choices.iter_mut().rev() {
+            let own = choice.items().iter().find(|item| 0 < item.count()).copied();
+            match (own, next) {
+                (None, Some(item)) => choice.put_first(item.first())?,
+                (own, _) => next = own,
+            }
+        }
+        Ok(())
     }
 
     fn token(&mut self, alloc: Global, token: &[u8], last: &Answer) -> Result<(), Fault> {

@@ -3,7 +3,7 @@ ghost use Rattle.std.specs.Prelude.{◌≡◌, ◌≢◌, IfOk, IsOkAnd, Ok, is_
 ghost use Rattle.notation.specs.declared.outcome.Verdict.TheVariants.{Made};
 ghost use Rattle.notation.specs.Outcome.{none_made, taken};
 
-use crate::answer::{Answer, Token};
+use crate::answer::Answer;
 use crate::element::holds;
 use crate::fault::Fault;
 use crate::item::Item;
@@ -144,11 +144,11 @@ fn answer_verdict(reading: &Reading, ran: Ran, answer: &Answer) -> Result<Verdic
     })
 }
 
-// Returns whether the answer of a range is right: `#`, the number of calls, and the checksum.
+// Returns whether the answer of a range is right: `#`, the number of calls, and an item whose first value is the checksum.
 fn is_sum(expected: &[Item], ran: Ran) -> Result<bool, Fault> {
     match expected {
         [Item::Calls(calls), sum] => {
-            Ok(*calls == ran.calls && *sum == Item::from(Token::Number(ran.sum.value())))
+            Ok(*calls == ran.calls && sum.value(0).unwrap_or(0) == ran.sum.value())
         }
         _ => Err(Fault::Malformed),
     }

@@ -105,20 +105,20 @@ fn more_times(digits: &[u8]) -> Option<usize> {
     (times as usize).checked_sub(1)
 }
 
-// Reads numbers: that of the item `N` once, that of `N*K` K times. Only the low 32 bits of a number count.
+// Reads numbers: that of the item `N` once, that of `N*K` K times, also after a `=`. Only the low 32 bits of a number count.
 pub(crate) fn numbers(
     alloc: Global,
     items: &Items,
     room: usize,
 ) -> Result<Option<Vec<u32>>, Fault> {
-    if items.answer().is_some() {
-        return Err(Fault::Malformed);
-    }
     let mut numbers = Bounded::new(alloc, room);
     for choice in items.choices() {
         for item in choice.items() {
             numbers.read_item(*item)?;
         }
+    }
+    for item in items.answer().unwrap_or(&[]) {
+        numbers.read_item(*item)?;
     }
     Ok(numbers.finish())
 }

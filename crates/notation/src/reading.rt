@@ -14,7 +14,7 @@ use std::alloc::Global;
 
 /// A request: the place of its call's name and the entry there, the items of its arguments and its answer, and what its output must hold.
 /// `named` is the entry of the table at `place`; an entry does not hold its place, by which the tally counts.
-#[derive(Drop)]
+#[derive(Clone, Drop)]
 pub struct Reading<'a> {
     pub(crate) place: usize,
     pub named: Named,
@@ -31,10 +31,12 @@ impl<'a> Reading<'a> {
         let (head, after) = cut(line);
         let (name, rest) = text::split_once(head, b' ').unwrap_or((head, &[]));
         let place = names::place(name).ok_or(Fault::Malformed)?;
+        let mut items = Items::read(alloc, rest, last)?;
+        items.fill_empty()?;
         let reading = Reading {
             place,
             named: NAMES.get(place).copied().ok_or(Fault::Malformed)?,
-            items: Items::read(alloc, rest, last)?,
+            items,
             after: after.unwrap_or(&[]),
         };
         if reading.items.plain() != reading.named.arguments {

@@ -10,8 +10,10 @@ use notation::arguments::Arguments;
 use notation::call::MinutesCall;
 use words::word;
 
-// Where the counts begin.
+// Where the counts begin, and the bytes of both arrays.
 const COUNTS: usize = 2048;
+
+const ARRAYS: usize = 2304;
 
 // Makes the calls that write a window.
 pub(crate) fn minutes_answer(
@@ -71,12 +73,22 @@ fn pushes_answer(to: &mut Answer, a: &Arguments, many: u64, out: &mut [u8]) -> A
     let mut now = window_of(a, out);
     for _ in 0..many {
         match now.push_minute(word) {
-            Ok(next) => now = next,
+            Ok(next) => now = kept(next, out),
             Err(refused) => return window_answer(to, Err(refused.refusal), refused.state, out),
         }
         word = word.wrapping_add(a.word(4));
     }
     window_answer(to, Ok(()), now, out)
+}
+
+// Writes the window and returns it as it is read again: each minute is pushed on what the output keeps of the one before it. An output that
+// keeps all of it is written after the last minute alone.
+fn kept(now: ActivityWindow, out: &mut [u8]) -> ActivityWindow {
+    if out.len() >= ARRAYS {
+        return now;
+    }
+    put_window(&now, out);
+    window(out, now.place, now.fill, now.width)
 }
 
 // Returns the window whose arrays are these bytes and whose numbers are the first three arguments.
@@ -111,6 +123,12 @@ fn window_answer(
     window: ActivityWindow,
     out: &mut [u8],
 ) -> Answered {
+    put_window(&window, out);
+    tokens::left(to, r, (window.place, window.fill, window.width))
+}
+
+// Writes the arrays of a window, as far as the output goes.
+fn put_window(window: &ActivityWindow, out: &mut [u8]) {
     for (part, word) in out.chunks_mut(8).zip(window.words) {
         word::store_le_u64(part, word);
     }
@@ -119,5 +137,4 @@ fn window_answer(
     for (part, count) in rest.chunks_mut(4).zip(window.counts) {
         word::store_le_u64(part, u64::from(count));
     }
-    tokens::left(to, r, (window.place, window.fill, window.width))
 }

@@ -4,18 +4,21 @@ use notation::fault::Fault;
 use notation::last::Last;
 use notation::lent::Lent;
 use notation::line::Line;
+use notation::names::Output;
 use notation::outcome;
 use notation::outcome::{Outcome, RANGE, Ran};
 use notation::reading::Reading;
 use notation::tally::Tally;
 use std::alloc::Global;
-use std::io;
+use std::{io, mem};
 
 #[derive(Drop)]
 pub(crate) struct Session {
     alloc: Global,
     lent: Lent,
     last: Last,
+    // The bytes that `last` had before the last request of a call that writes bytes.
+    before: Vec<u8>,
     tally: Tally,
 }
 
@@ -25,6 +28,7 @@ impl Session {
             alloc,
             lent: Lent::new(alloc),
             last: Last::new(alloc),
+            before: Vec::new(alloc),
             tally: Tally::new(),
         }
     }
@@ -80,8 +84,24 @@ impl Session {
 
     fn request(&mut self, text: &[u8]) -> Result<Outcome, Fault> {
         let reading = Reading::read(self.alloc, text, &self.last.answer)?;
+        let output = reading.named.output;
+        if output == Output::Bytes {
+            mem::swap(&mut self.before, &mut self.last.bytes);
+        }
         let ran = self.make(&reading)?;
-        outcome::compare(self.alloc, &reading, ran, &self.lent, &self.last)
+        let outcome = outcome::compare(self.alloc, &reading, ran, &self.lent, &self.last);
+        if output == Output::Bytes && matches!(outcome, Err(Fault::Malformed)) {
+            self.leave_before();
+        }
+        outcome
+    }
+
+    // Leaves as many bytes as there were before the calls of a malformed request: over the first of them those that its last call wrote.
+    fn leave_before(&mut self) {
+        mem::swap(&mut self.before, &mut self.last.bytes);
+        for (left, written) in self.last.bytes.iter_mut().zip(self.before.as_slice()) {
+            *left = *written;
+        }
     }
 
     // Makes the calls of a request, one for each choice of a range.

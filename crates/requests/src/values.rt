@@ -12,7 +12,7 @@ pub(crate) fn mask(a: &Arguments, i: usize, serial: Serial) -> Bitmap
     Bitmap {
         start: a.size(i),
         length: a.size(i + 1),
-        unset: a.count(i + 2),
+        unset: a.unset(i + 2),
         serial: a.serial(serial),
     }
 }
