@@ -353,7 +353,7 @@ def facts():
                 "call": f"`{name}({', '.join(args)})`",
                 "checks": " ".join(checks) or "none",
                 "definition": "; ".join(definitions).replace("|", "\\|"),
-                "wrong answers ruled out": "; ".join(wrong.get(name) or wrong.get(name.split("::")[-1], [])),
+                "wrong answers ruled out": "; ".join(wrong.get(name) or wrong.get(re.sub("^[a-z_]+::", "", name), [])),
             }
         complaints += [f"{crate}/proofs/tables/Wrong*.antt: no public function {name}" for name in wrong if name not in rows]
     return rows, complaints

@@ -137,6 +137,9 @@ def in_rattle():
         proofs + "refusal/RefusalLaws.antt": laws(proofs + "refusal/RefusalLaws.antt", ones),
         proofs + "tables/Texts.antt": texts(proofs + "tables/Texts.antt", ones),
     }
+    path = MASKS + "src/checks.rt"
+    arms = [f"        {one.number} => {place},\n" for place, one in enumerate(ones)] + [f"        _ => {len(ones)},\n"]
+    found[path] = placed(path, (ROOT / path).read_text(), ((r"^    match number \{\n", r"^    \}", arms),))
     path = MASKS + "specs/Refusal.antt"
     found[path] = definition(path, with_variants((ROOT / path).read_text(), ones), ones)
     path = ACTIVITY + "specs/Window.antt"

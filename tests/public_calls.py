@@ -122,7 +122,7 @@ def holders(name):
 
 def makes_only_checks(call):
     """Whether it only makes checks, or compares refusals or their numbers: a part of a call, for crates above, and no call of its own."""
-    checks = re.fullmatch(r"Result<\(\), \w+>|u8", call.result)
+    checks = re.fullmatch(r"Result<\(\), \w+>", call.result) or call.name == "earlier"
     return bool(checks) and not call.writes
 
 

@@ -67,7 +67,8 @@ fn new_answer(to: &mut Answer, width: usize, out: &mut [u8]) -> Answered {
 
 // Pushes a run of `many` minutes; each word is greater by a step than the one before it. After a refusal no minute is pushed. The minutes
 // are a number and no list, so the loop is over a range; `try_fold` would carry the word and the window as a pair through both ends: no
-// plainer.
+// plainer. Not inlined, as `kept`: among all calls in one function the loops over its arrays take minutes to compile.
+#[inline(never)]
 fn pushes_answer(to: &mut Answer, a: &Arguments, many: u64, out: &mut [u8]) -> Answered {
     let mut word = a.word(3);
     let mut now = window_of(a, out);
@@ -83,6 +84,7 @@ fn pushes_answer(to: &mut Answer, a: &Arguments, many: u64, out: &mut [u8]) -> A
 
 // Writes the window and returns it as it is read again: each minute is pushed on what the output keeps of the one before it. An output that
 // keeps all of it is written after the last minute alone.
+#[inline(never)]
 fn kept(now: ActivityWindow, out: &mut [u8]) -> ActivityWindow {
     if out.len() >= ARRAYS {
         return now;
