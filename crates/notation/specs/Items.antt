@@ -1,5 +1,5 @@
 -- The tokens of a line that are arguments.
-use Rattle.std.specs.Prelude.{ℕ, Bool, true, false, ◌-◌, Option, Some, None, length, slice_get, count_by}
+use Rattle.std.specs.Prelude.{ℕ, Bool, true, false, ◌-◌, Option, Some, None, List, length, take, drop, slice_get, count_by}
 use Rattle.notation.specs.declared.answer.Token.{Token}
 use Rattle.notation.specs.declared.answer.Token.TheVariants.{Number as NumberToken, Unknown as UnknownToken, Missing as MissingToken}
 use Rattle.notation.specs.declared.item.Item.{Item}
@@ -34,10 +34,14 @@ abbrev pub plain_if : Option Item → Bool
 plain_if (Some item) = is_plain item
 plain_if None = true
 
+-- the items of a token
+abbrev pub items_of : Items → Choice → List Item
+items_of items c = drop c.from (take c.to items.all)
+
 -- whether the last item of a token is an argument
-abbrev pub is_argument : Choice → Bool
-is_argument c = plain_if (slice_get c.items.items (length c.items.items - 1))
+abbrev pub is_argument : Items → Choice → Bool
+is_argument items c = plain_if (slice_get (items_of items c) (length (items_of items c) - 1))
 
 -- how many tokens are arguments, sizes and serials left out
 abbrev pub plain_of : Items → ℕ
-plain_of items = count_by is_argument items.choices.items
+plain_of items = count_by (is_argument items) (take items.many items.tokens)

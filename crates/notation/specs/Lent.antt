@@ -1,6 +1,6 @@
 -- What the lines lend, by letter.
-use Rattle.std.specs.Prelude.{◌≡◌, ◌==◌, ℕ, ℤ, Bool, false, List, [], ◌∷◌, Vec, vec_len}
-use Rattle.std.specs.declared.alloc.Global.{Global}
+use Rattle.std.specs.Prelude.{◌≡◌, ◌==◌, ℕ, ℤ, Bool, false, List, [], ◌∷◌, length}
+use Rattle.notation.specs.List.{Listed}
 use Rattle.notation.specs.Fault.{IsOfMemory}
 use Rattle.notation.specs.declared.fault.Fault.{Fault}
 use Rattle.notation.specs.declared.last.Last.{Last}
@@ -10,11 +10,18 @@ use Rattle.notation.specs.declared.lent.Letter.TheVariants.{X, Y, Z, O, I, E}
 
 -- bytes, numbers and ends by their letters
 abbrev pub Lists : Type 0
-Lists = ByLetter (Vec ℕ Global) (Vec ℕ Global) (Vec ℤ Global)
+Lists = ByLetter (Listed ℕ) (Listed ℕ) (Listed ℤ)
 
 -- how many bytes, numbers and ends are lent
 abbrev pub sizes_of : Lists → ByLetter ℕ ℕ ℕ
-sizes_of l = record { x = vec_len l.x; y = vec_len l.y; z = vec_len l.z; o = vec_len l.o; i = vec_len l.i; e = vec_len l.e }
+sizes_of l = record {
+  x = length l.x.items;
+  y = length l.y.items;
+  z = length l.z.items;
+  o = length l.o.items;
+  i = length l.i.items;
+  e = length l.e.items;
+}
 
 -- except for this letter, `old` and `new` lend the same
 abbrev pub KeptBut : Letter → Lists → Lists → Type 0

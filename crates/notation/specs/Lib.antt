@@ -7,6 +7,7 @@ pub mod Last
 pub mod Lent
 pub mod Line
 pub mod Lines
+pub mod List
 pub mod Outcome
 pub mod Sums
 pub mod Tally

@@ -1,5 +1,6 @@
 -- When a line has ended, and what a step takes of the bytes that were read.
-use Rattle.std.specs.Prelude.{ℕ, ◌-◌, ◌==◌, Bool, true, false, List, [], ◌++◌, length, take, position, Option, Some, None, if◌then◌else◌}
+use Rattle.std.specs.Prelude.{ℕ, ◌-◌, ◌==◌, Bool, true, false, List, [], ◌++◌, length, take, drop, position}
+use Rattle.std.specs.Prelude.{Option, Some, None, if◌then◌else◌}
 use Rattle.std.specs.List.{before_first, after_first}
 use Rattle.notation.specs.declared.lines.Lines.{Lines}
 use Rattle.notation.specs.declared.lines.Step.{Step}
@@ -15,6 +16,11 @@ ends Last = false
 module _ {R : Type 0} where
   abbrev pub begun : Lines R → List ℕ
   begun lines = if lines.ended then [] else lines.line.items
+
+-- the bytes that were read and are not taken
+module _ {R : Type 0} where
+  abbrev pub unread : Lines R → List ℕ
+  unread lines = drop lines.taken lines.window.items
 
 -- whether a byte is a line feed
 abbrev pub is_feed : ℕ → Bool

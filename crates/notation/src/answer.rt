@@ -4,7 +4,8 @@ ghost use Rattle.std.specs.Int.{from_bool};
 ghost use Rattle.notation.specs.declared.answer.Token.TheVariants.{Number};
 ghost use Rattle.notation.specs.Answer.{tokens_of, number_alone, with_token, token_text, answer_text};
 
-use std::alloc::{AllocError, Global};
+use crate::list::List;
+use std::alloc::AllocError;
 use std::fmt;
 
 /// A token of an answer.
@@ -72,30 +73,30 @@ impl fmt::Display for Token {
 
 /// The tokens of an answer: 0 or the refusing number, and after it what the call returned.
 #[derive(Drop)]
-pub struct Answer {
-    pub(crate) tokens: Vec<Token>,
+pub struct Answer<'a> {
+    pub(crate) tokens: List<'a, Token>,
 }
 
-impl Answer {
+impl<'a> Answer<'a> {
     // Returns an answer with no token, for no call.
-    pub(crate) fn none(alloc: Global) -> Answer
+    pub(crate) fn none(room: &'a mut [Token]) -> Answer<'a>
         ensures { tokens_of result ≡ [] }
     {
         Answer {
-            tokens: Vec::new(alloc),
+            tokens: List::new(room),
         }
     }
 
     /// Returns an answer with the number 0 or the refusing number; what the call returned comes after it.
-    pub fn new(alloc: Global, number: u8) -> Result<Answer, AllocError>
+    pub fn new(room: &'a mut [Token], number: u8) -> Result<Answer<'a>, AllocError>
         ensures { IfOk result (λ a. tokens_of a ≡ number_alone number) }
     {
-        Answer::none(alloc).and(Token::from(number))
+        Answer::none(room).and(Token::from(number))
     }
 
     /// Returns the answer with one more token.
-    pub fn and(self, token: Token) -> Result<Answer, AllocError>
-        ensures { IfOk result (λ a. tokens_of a ≡ with_token (tokens_of self) token) }
+    pub fn and(self, token: Token) -> Result<Answer<'a>, AllocError>
+        ensures { IfOk result (λ a. tokens_of a ≡ with_token (tokens_of self.entry) token) }
     {
         let Answer { mut tokens } = self;
         tokens.push(token)?;
@@ -126,7 +127,7 @@ impl Answer {
 }
 
 // Each token after a space.
-impl fmt::Display for Answer {
+impl fmt::Display for Answer<'_> {
     ghost output = { λ a. Some (answer_text (tokens_of a)) };
 
     fn fmt<W: fmt::Write>(&self, f: &mut fmt::Formatter<W>) -> fmt::Result {

@@ -17,7 +17,7 @@ pub(crate) enum Role {
 }
 
 impl Role {
-    fn of_letter(letter: u8) -> Option<Role> {
+    pub(crate) fn of_letter(letter: u8) -> Option<Role> {
         match letter {
             b's' => Some(Role::Serial(Serial::First)),
             b't' => Some(Role::Serial(Serial::Second)),
@@ -64,7 +64,13 @@ impl From<Token> for Item {
 }
 
 impl Item {
-    fn single(role: Role, first: u64) -> Item
+    // An item with no value.
+    pub(crate) const EMPTY: Item = Item::Times {
+        number: 0,
+        times: 0,
+    };
+
+    pub(crate) fn single(role: Role, first: u64) -> Item
         ensures { result ≡ Numbers role first 1 1 }
     {
         Item::Numbers {

@@ -3,34 +3,39 @@ ghost use Rattle.std.specs.Prelude.{◌≡◌, [], take, OnOk};
 ghost use Rattle.notation.specs.Answer.{tokens_of};
 ghost use Rattle.notation.specs.Last.{bytes_before, numbers_before, ends_before};
 
-use crate::answer::Answer;
-use crate::element::refill;
+use crate::answer::{Answer, Token};
 use crate::lent::Lent;
+use crate::list::List;
 use crate::names::Output;
-use std::alloc::{AllocError, Global};
+use std::alloc::AllocError;
 
 /// What the last call left, with which a request may go on.
 #[derive(Drop)]
-pub struct Last {
-    pub answer: Answer,
-    pub bytes: Vec<u8>,
-    pub numbers: Vec<u32>,
-    pub ends: Vec<i32>,
+pub struct Last<'a> {
+    pub answer: Answer<'a>,
+    pub bytes: List<'a, u8>,
+    pub numbers: List<'a, u32>,
+    pub ends: List<'a, i32>,
 }
 
-impl Last {
+impl<'a> Last<'a> {
     /// Returns the state before the first call.
-    pub fn new(alloc: Global) -> Last
+    pub fn new(
+        answer: &'a mut [Token],
+        bytes: &'a mut [u8],
+        numbers: &'a mut [u32],
+        ends: &'a mut [i32],
+    ) -> Last<'a>
         ensures answer { tokens_of result.answer ≡ [] }
         ensures bytes { result.bytes.items ≡ [] }
         ensures numbers { result.numbers.items ≡ [] }
         ensures ends { result.ends.items ≡ [] }
     {
         Last {
-            answer: Answer::none(alloc),
-            bytes: Vec::new(alloc),
-            numbers: Vec::new(alloc),
-            ends: Vec::new(alloc),
+            answer: Answer::none(answer),
+            bytes: List::new(bytes),
+            numbers: List::new(numbers),
+            ends: List::new(ends),
         }
     }
 
@@ -42,11 +47,11 @@ impl Last {
         ensures ends { OnOk result (self.new.ends.items ≡ ends_before output self.old.ends.items lent.now.e.items) }
     {
         match output {
-            Output::Bytes => refill(&mut self.bytes, lent.o.as_slice()),
-            Output::Numbers => refill(&mut self.numbers, lent.i.as_slice()),
+            Output::Bytes => self.bytes.assign(lent.o.as_slice()),
+            Output::Numbers => self.numbers.assign(lent.i.as_slice()),
             Output::EndsAndBytes => {
-                refill(&mut self.ends, lent.e.as_slice())?;
-                refill(&mut self.bytes, lent.o.as_slice())
+                self.ends.assign(lent.e.as_slice())?;
+                self.bytes.assign(lent.o.as_slice())
             }
             Output::Nothing => Ok(()),
         }
@@ -54,9 +59,8 @@ impl Last {
 }
 
 /// Returns the first n elements of an output, or all. What is written is the caller's: the contract states what is lent.
-pub fn first_mut<T>(output: &mut Vec<T>, n: usize) -> &mut [T]
+pub fn first_mut<'b, T>(output: &'b mut List<'_, T>, n: usize) -> &'b mut [T]
     ensures { result.now ≡ take n output.old.items }
 {
-    let n = n.min(output.len());
-    output.slice_mut(..n)
+    output.slice_mut(n)
 }

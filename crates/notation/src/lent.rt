@@ -1,13 +1,18 @@
 //! What is lent to the calls: the bytes x, y, z and o, the numbers i, and the ends e.
-ghost use Rattle.std.specs.Prelude.{◌≡◌, [], take, OnOk, OnErr, IfOk, IfErr, true};
+ghost use Rattle.std.specs.Prelude.{◌≡◌, [], take, OnOk, OnErr, IfErr, true};
 ghost use Rattle.notation.specs.Fault.{IsOfMemory};
 ghost use Rattle.notation.specs.Lent.{sizes_of, KeptBut, is_again, IsLeft, IsUnlent};
 ghost use Rattle.notation.specs.Line.{letter_of};
 
-use crate::element;
 use crate::fault::Fault;
+use crate::items::Items;
 use crate::last::Last;
-use std::alloc::{AllocError, Global};
+use crate::list::List;
+use crate::{element, malformed};
+use std::alloc::AllocError;
+
+/// At most this many bytes of a letter are lent: those of 4,194,304 flags and 64 more.
+pub const ROOM: usize = 524352;
 
 /// The letter of what is lent.
 #[derive(Clone, Copy, Debug, PartialEq, Eq)]
@@ -70,14 +75,17 @@ impl ByLetter<usize, usize, usize> {
 }
 
 /// What the lines so far lend.
-pub type Lent = ByLetter<Vec<u8>, Vec<u32>, Vec<i32>>;
+pub type Lent<'a> = ByLetter<List<'a, u8>, List<'a, u32>, List<'a, i32>>;
+
+/// Room for what the lines lend.
+pub type Rooms<'a> = ByLetter<&'a mut [u8], &'a mut [u32], &'a mut [i32]>;
 
 /// What a call reads of what is lent.
 pub type Parts<'a> = ByLetter<&'a [u8], &'a [u32], &'a [i32]>;
 
-impl ByLetter<Vec<u8>, Vec<u32>, Vec<i32>> {
+impl<'a> ByLetter<List<'a, u8>, List<'a, u32>, List<'a, i32>> {
     /// Returns the state before the first line: nothing is lent.
-    pub fn new(alloc: Global) -> Lent
+    pub fn new(rooms: Rooms<'a>) -> Lent<'a>
         ensures x { result.x.items ≡ [] }
         ensures y { result.y.items ≡ [] }
         ensures z { result.z.items ≡ [] }
@@ -86,23 +94,24 @@ impl ByLetter<Vec<u8>, Vec<u32>, Vec<i32>> {
         ensures e { result.e.items ≡ [] }
     {
         Lent {
-            x: Vec::new(alloc),
-            y: Vec::new(alloc),
-            z: Vec::new(alloc),
-            o: Vec::new(alloc),
-            i: Vec::new(alloc),
-            e: Vec::new(alloc),
+            x: List::new(rooms.x),
+            y: List::new(rooms.y),
+            z: List::new(rooms.z),
+            o: List::new(rooms.o),
+            i: List::new(rooms.i),
+            e: List::new(rooms.e),
         }
     }
 
     /// Takes what a line lends. The contract states in full what stays and what `@` lends. It leaves open what other pieces lend and which
     /// are malformed: a definition of their text's meaning would be the parser again.
+    /// The items of numbers come over those that texts left, malformed ones too.
     pub fn take(
         &mut self,
-        alloc: Global,
         letter: Letter,
         text: &[u8],
         last: &Last,
+        left: &mut Items,
     ) -> Result<(), Fault>
         ensures others { KeptBut letter self.old self.new }
         ensures malformed { OnErr result (self.new ≡ self.old) }
@@ -110,14 +119,30 @@ impl ByLetter<Vec<u8>, Vec<u32>, Vec<i32>> {
         ensures failed { is_again text.now ≡ true → IfErr result (IsUnlent letter) }
     {
         match letter {
-            Letter::X => self.x = bytes(alloc, text, last)?,
-            Letter::Y => self.y = bytes(alloc, text, last)?,
-            Letter::Z => self.z = bytes(alloc, text, last)?,
-            Letter::O => self.o = bytes(alloc, text, last)?,
-            Letter::I => self.i = element::lent(alloc, text, last)?,
-            Letter::E => self.e = ends(alloc, text, last)?,
+            Letter::X => bytes(&mut self.x, text, last, left),
+            Letter::Y => bytes(&mut self.y, text, last, left),
+            Letter::Z => bytes(&mut self.z, text, last, left),
+            Letter::O => bytes(&mut self.o, text, last, left),
+            Letter::I => element::lent(&mut self.i, text, last, left),
+            Letter::E => ends(&mut self.e, text, last, left),
         }
-        Ok(())
+    }
+
+    /// Writes what is read of malformed pieces over the first bytes or numbers that the letter has: how many it has stays, and so do ends.
+    /// Of numbers, `left` has the items of the pieces.
+    pub fn take_part(&mut self, letter: Letter, text: &[u8], left: &Items)
+        ensures others { KeptBut letter self.old self.new }
+        ensures sizes { sizes_of self.new ≡ sizes_of self.old }
+        ensures ends { self.new.e ≡ self.old.e }
+    {
+        match letter {
+            Letter::X => malformed::bytes(text, &mut self.x),
+            Letter::Y => malformed::bytes(text, &mut self.y),
+            Letter::Z => malformed::bytes(text, &mut self.z),
+            Letter::O => malformed::bytes(text, &mut self.o),
+            Letter::I => malformed::numbers(left.as_slice(), &mut self.i),
+            Letter::E => {}
+        }
     }
 
     /// Sets o to the bytes that the last call left.
@@ -125,7 +150,7 @@ impl ByLetter<Vec<u8>, Vec<u32>, Vec<i32>> {
         ensures output { OnOk result (self.new.o.items ≡ last.now.bytes.items) }
         ensures inputs { self.new ≡ record self.old { o = self.new.o } }
     {
-        element::refill(&mut self.o, last.bytes.as_slice())
+        self.o.assign(last.bytes.as_slice())
     }
 
     /// Returns how many bytes, numbers and ends are lent.
@@ -163,24 +188,26 @@ impl ByLetter<Vec<u8>, Vec<u32>, Vec<i32>> {
 }
 
 // Reads pieces, or `@` for the bytes that the last call left.
-fn bytes(alloc: Global, text: &[u8], last: &Last) -> Result<Vec<u8>, Fault>
-    ensures again { is_again text.now ≡ true → IfOk result (λ v. v.items ≡ last.now.bytes.items) }
+fn bytes(list: &mut List<'_, u8>, text: &[u8], last: &Last, left: &mut Items) -> Result<(), Fault>
+    ensures malformed { OnErr result (list.new ≡ list.old) }
+    ensures again { is_again text.now ≡ true → OnOk result (list.new.items ≡ last.now.bytes.items) }
     ensures failed { is_again text.now ≡ true → IfErr result IsOfMemory }
 {
     match text {
-        [b'@', ..] => Ok(Vec::from_slice(alloc, last.bytes.as_slice())?),
-        _ => element::lent(alloc, text, last),
+        [b'@', ..] => Ok(list.assign(last.bytes.as_slice())?),
+        _ => element::lent(list, text, last, left),
     }
 }
 
 // Reads pieces, or `@` for the ends that the last call left.
-fn ends(alloc: Global, text: &[u8], last: &Last) -> Result<Vec<i32>, Fault>
-    ensures again { is_again text.now ≡ true → IfOk result (λ v. v.items ≡ last.now.ends.items) }
+fn ends(list: &mut List<'_, i32>, text: &[u8], last: &Last, left: &mut Items) -> Result<(), Fault>
+    ensures malformed { OnErr result (list.new ≡ list.old) }
+    ensures again { is_again text.now ≡ true → OnOk result (list.new.items ≡ last.now.ends.items) }
     ensures failed { is_again text.now ≡ true → IfErr result IsOfMemory }
 {
     match text {
-        [b'@', ..] => Ok(Vec::from_slice(alloc, last.ends.as_slice())?),
-        _ => element::lent(alloc, text, last),
+        [b'@', ..] => Ok(list.assign(last.ends.as_slice())?),
+        _ => element::lent(list, text, last, left),
     }
 }
 

@@ -1,16 +1,16 @@
 //! The bytes of a reader, taken apart into lines.
-ghost use Rattle.std.specs.Prelude.{◌≡◌, ◌≢◌, ◌<◌, [], length, nat_lt, vec_len, position};
+ghost use Rattle.std.specs.Prelude.{◌≡◌, ◌≢◌, ◌<◌, [], ◌++◌, length, take, drop, nat_lt, position};
 ghost use Rattle.std.specs.Prelude.{IfOk, IfErr, OnOk, is_ok, true, false, if◌then◌else◌};
-ghost use Rattle.std.specs.Io.Buffered.{reader_buffer};
 ghost use Rattle.notation.specs.Fault.{IsNoMemory};
-ghost use Rattle.notation.specs.Lines.{ends, begun, is_feed, gone_on, step_over, left_of};
+ghost use Rattle.notation.specs.Lines.{ends, begun, is_feed, gone_on, step_over, left_of, unread};
 ghost use Rattle.notation.specs.declared.lines.Step.TheVariants.{Line};
 
 use crate::fault::Fault;
 use crate::lent::first;
-use std::alloc::Global;
+use crate::list::List;
+use std::alloc::AllocError;
 use std::io;
-use std::io::{BufRead, BufReader, Read};
+use std::io::Read;
 
 // The number of bytes that are read at a time.
 const WINDOW: usize = 65536;
@@ -28,28 +28,34 @@ pub enum Step {
     Last,
 }
 
-/// Lines are cut by hand: over `take(..).read_until(..)` the proof of `step` did not close. For a reader whose bytes are not known, such as
-/// standard input, the contract of `read_until` states neither what it takes of the buffer nor that it keeps to the limit; and that of
-/// `skip_until` does not state whether it met a line feed.
+/// Lines are cut by hand, over a window in memory that is lent: a `BufReader` takes its memory from an allocator.
 #[derive(Drop)]
-pub struct Lines<R: Read + Drop> {
-    source: BufReader<R>,
+pub struct Lines<'a, 'b, R: Read + Drop> {
+    source: R,
+    // What was read last, of which `taken` bytes are taken.
+    window: List<'a, u8>,
+    taken: usize,
     // The line in progress, or the one that the last step ended: at most LINE bytes, so that a longer one shows.
-    line: Vec<u8>,
+    line: List<'b, u8>,
     // Whether the last step ended the line: a state of its own, since the line stays until the next step.
     ended: bool,
 }
 
-impl<R: Read + Drop> Lines<R> {
-    /// Returns the lines of a reader, before the first step.
-    pub fn new(alloc: Global, source: R) -> io::Result<Lines<R>>
+impl<'a, 'b, R: Read + Drop> Lines<'a, 'b, R> {
+    /// Returns the lines of a reader, before the first step. Fails if there is no room for what is read.
+    pub fn new(window: &'a mut [u8], line: &'b mut [u8], source: R) -> io::Result<Lines<'a, 'b, R>>
         ensures line { IfOk result (λ lines. lines.line.items ≡ []) }
         ensures ended { IfOk result (λ lines. lines.ended ≡ false) }
         ensures failed { IfErr result IsNoMemory }
     {
+        if window.is_empty() {
+            return Err(io::Error::from(AllocError));
+        }
         Ok(Lines {
-            source: BufReader::with_capacity(alloc, WINDOW, source)?,
-            line: Vec::new(alloc),
+            source,
+            window: List::new(window),
+            taken: 0,
+            line: List::new(line),
             ended: false,
         })
     }
@@ -59,41 +65,61 @@ impl<R: Read + Drop> Lines<R> {
     /// reader.
     pub fn step(&mut self) -> io::Result<Step>
         ensures ended { IfOk result (λ step. self.new.ended ≡ ends step) }
-        ensures line { OnOk result (self.new.line.items ≡ gone_on (begun self.old) (reader_buffer self.old.source)) }
-        ensures step { reader_buffer self.old.source ≢ [] → IfOk result (λ step. step ≡ step_over (reader_buffer self.old.source)) }
-        ensures left { reader_buffer self.old.source ≢ []
-            → OnOk result (reader_buffer self.new.source ≡ left_of (reader_buffer self.old.source)) }
-        ensures empty { reader_buffer self.old.source ≡ [] → IfOk result (λ step. step ≢ Line) }
-        ensures failed { reader_buffer self.old.source ≢ [] → IfErr result IsNoMemory }
+        ensures line { OnOk result (self.new.line.items ≡ gone_on (begun self.old) (unread self.old)) }
+        ensures step { unread self.old ≢ [] → IfOk result (λ step. step ≡ step_over (unread self.old)) }
+        ensures left { unread self.old ≢ [] → OnOk result (unread self.new ≡ left_of (unread self.old)) }
+        ensures empty { unread self.old ≡ [] → IfOk result (λ step. step ≢ Line) }
+        ensures failed { unread self.old ≢ [] → IfErr result IsNoMemory }
     {
         if self.ended {
             self.line.clear();
             self.ended = false;
         }
-        if !self.source.buffer().is_empty() {
+        if !self.buffer().is_empty() {
             return self.take();
         }
-        if self.source.fill_buf()?.is_empty() {
+        if self.read()? == 0 {
             return Ok(Step::Last);
         }
         Ok(Step::Part)
     }
 
+    // Returns the bytes that were read and are not taken.
+    fn buffer(&self) -> &[u8]
+        ensures { result.now ≡ unread self.now }
+    {
+        self.window.as_slice().get(self.taken..).unwrap_or(&[])
+    }
+
+    // Reads on, over what was read. Returns how many bytes were read.
+    fn read(&mut self) -> io::Result<usize>
+        ensures line { self.new.line ≡ self.old.line }
+        ensures ended { self.new.ended ≡ self.old.ended }
+    {
+        self.taken = 0;
+        self.window.clear();
+        let n = self.source.read(self.window.start(WINDOW))?;
+        self.window.truncate(n);
+        Ok(n)
+    }
+
     // Takes the bytes that were read, up to and with a line feed.
     fn take(&mut self) -> io::Result<Step>
         ensures ended { IfOk result (λ step. self.new.ended ≡ (if ends step then true else self.old.ended)) }
-        ensures line { OnOk result (self.new.line.items ≡ gone_on self.old.line.items (reader_buffer self.old.source)) }
-        ensures step { IfOk result (λ step. step ≡ step_over (reader_buffer self.old.source)) }
-        ensures left { OnOk result (reader_buffer self.new.source ≡ left_of (reader_buffer self.old.source)) }
+        ensures line { OnOk result (self.new.line.items ≡ gone_on self.old.line.items (unread self.old)) }
+        ensures step { IfOk result (λ step. step ≡ step_over (unread self.old)) }
+        ensures left { OnOk result (unread self.new ≡ left_of (unread self.old)) }
         ensures failed { IfErr result IsNoMemory }
     {
-        let read = self.source.buffer();
+        let read = self.buffer();
         let feed = feed_in(read);
         let size = feed.unwrap_or(read.len());
         let room = LINE.saturating_sub(self.line.len());
-        self.line.extend_from_slice(first(read, size.min(room)))?;
+        append(&mut self.line, &self.window, self.taken, size.min(room))?;
         // with the line feed, if there is one
-        self.source.consume(size.saturating_add(1));
+        let all = self.window.len();
+        let taken = self.taken.saturating_add(size.saturating_add(1));
+        self.taken = taken.min(all);
         match feed {
             None => Ok(Step::Part),
             Some(_) => {
@@ -107,7 +133,7 @@ impl<R: Read + Drop> Lines<R> {
     pub fn line(&self) -> Result<&[u8], Fault>
         ensures short { IfOk result (λ line. length line.now < 16384) }
         ensures bytes { IfOk result (λ line. line.now ≡ self.now.line.items) }
-        ensures given { is_ok result ≡ nat_lt (vec_len self.now.line) 16384 }
+        ensures given { is_ok result ≡ nat_lt (length self.now.line.items) 16384 }
     {
         if self.line.len() < LINE {
             Ok(self.line.as_slice())
@@ -115,6 +141,20 @@ impl<R: Read + Drop> Lines<R> {
             Err(Fault::Malformed)
         }
     }
+}
+
+// Appends n of the bytes that were read, after those that are taken. A function of its own: a slice of the window stays lent while the
+// line, which holds a reference too, is written.
+fn append(
+    line: &mut List<'_, u8>,
+    window: &List<'_, u8>,
+    taken: usize,
+    n: usize,
+) -> Result<(), AllocError>
+    ensures { OnOk result (line.new.items ≡ line.old.items ++ take n (drop taken window.now.items)) }
+{
+    let read = window.as_slice().get(taken..).unwrap_or(&[]);
+    line.extend_from_slice(first(read, n))
 }
 
 // Returns the place of the first line feed.

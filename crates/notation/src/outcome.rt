@@ -4,18 +4,19 @@ ghost use Rattle.notation.specs.declared.outcome.Verdict.TheVariants.{Made};
 ghost use Rattle.notation.specs.Outcome.{none_made, taken};
 
 use crate::answer::Answer;
+use crate::choices;
 use crate::element::holds;
 use crate::fault::Fault;
 use crate::item::Item;
+use crate::items::Items;
 use crate::last::Last;
 use crate::lent::Lent;
 use crate::names::Output;
 use crate::reading::Reading;
 use crate::sums::Checksum;
-use std::alloc::Global;
 
-/// At most this many calls are made for one range.
-pub const RANGE: u64 = 4194304;
+/// The `RANGE` of `choices`.
+pub const RANGE: u64 = choices::RANGE;
 
 #[derive(Clone, Copy, Debug, PartialEq, Eq)]
 pub(crate) enum Verdict {
@@ -70,50 +71,50 @@ impl Ran {
 /// Compares the calls made with the line. The contract states in full what is counted and when there is nothing to compare. It leaves open
 /// which answers and outputs are the same: a definition of their text's meaning would be the parser again.
 pub fn compare(
-    alloc: Global,
     reading: &Reading,
     ran: Ran,
     lent: &Lent,
     last: &Last,
+    left: &mut Items,
 ) -> Result<Outcome, Fault>
     ensures name { IfOk result (λ o. o.name ≡ reading.now.named.name) }
     ensures place { IfOk result (λ o. o.place ≡ reading.now.place) }
     ensures calls { IfOk result (λ o. o.calls ≡ ran.calls) }
-    ensures made { is_some reading.now.items.answer ≡ false → IsOkAnd result (λ o. o.verdict ≡ Made) }
-    ensures expected { is_some reading.now.items.answer ≡ true → IfOk result (λ o. o.verdict ≢ Made) }
+    ensures made { is_some reading.now.items.now.answer ≡ false → IsOkAnd result (λ o. o.verdict ≡ Made) }
+    ensures expected { is_some reading.now.items.now.answer ≡ true → IfOk result (λ o. o.verdict ≢ Made) }
 {
     let expected = answer_verdict(reading, ran, &last.answer)?;
     // The arms of bytes and numbers are calls of `holds` at two types, so that no one pattern joins them.
     let held = match reading.compared() {
         Output::Bytes => holds(
-            alloc,
             reading.after,
             lent.o.as_slice(),
             last.bytes.as_slice(),
             &last.answer,
+            left,
         )?,
         Output::Numbers => holds(
-            alloc,
             reading.after,
             lent.i.as_slice(),
             last.numbers.as_slice(),
             &last.answer,
+            left,
         )?,
         Output::EndsAndBytes => {
             let (ends, bytes) = reading.both()?;
             let ends = holds(
-                alloc,
                 ends,
                 lent.e.as_slice(),
                 last.ends.as_slice(),
                 &last.answer,
+                left,
             )?;
             let bytes = holds(
-                alloc,
                 bytes,
                 lent.o.as_slice(),
                 last.bytes.as_slice(),
                 &last.answer,
+                left,
             )?;
             ends && bytes
         }
@@ -129,8 +130,8 @@ pub fn compare(
 
 // Returns the verdict on the answer, without the output.
 fn answer_verdict(reading: &Reading, ran: Ran, answer: &Answer) -> Result<Verdict, Fault>
-    ensures made { is_some reading.now.items.answer ≡ false → result ≡ Ok Made }
-    ensures expected { is_some reading.now.items.answer ≡ true → IfOk result (λ v. v ≢ Made) }
+    ensures made { is_some reading.now.items.now.answer ≡ false → result ≡ Ok Made }
+    ensures expected { is_some reading.now.items.now.answer ≡ true → IfOk result (λ v. v ≢ Made) }
 {
     let same = match reading.items.answer() {
         None => return Ok(Verdict::Made),

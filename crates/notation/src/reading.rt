@@ -10,29 +10,33 @@ use crate::items::Items;
 use crate::lent::Sizes;
 use crate::names::{NAMES, Named, Output};
 use crate::{names, text};
-use std::alloc::Global;
 
 /// A request: the place of its call's name and the entry there, the items of its arguments and its answer, and what its output must hold.
 /// `named` is the entry of the table at `place`; an entry does not hold its place, by which the tally counts.
-#[derive(Clone, Drop)]
+#[derive(Clone, Copy)]
 pub struct Reading<'a> {
     pub(crate) place: usize,
     pub named: Named,
-    pub(crate) items: Items,
+    pub(crate) items: &'a Items,
     pub(crate) after: &'a [u8],
 }
 
 impl<'a> Reading<'a> {
-    /// Reads a request's line; `last` is the last call's answer. The contract states that the call has as many arguments as its entry in
-    /// the table. It leaves open what they are and which entry is taken: a definition of the text's meaning would be the parser again.
-    pub fn read(alloc: Global, line: &'a [u8], last: &Answer) -> Result<Reading<'a>, Fault>
-        ensures { IfOk result (λ r. plain_of r.items ≡ r.named.arguments) }
+    /// Reads a request's line; `last` is the last call's answer. Its items come into `items`, and over those that texts left. The contract
+    /// states that the call has as many arguments as its entry in the table. It leaves open what they are and which entry is taken: a
+    /// definition of the text's meaning would be the parser again.
+    pub fn read(
+        line: &'a [u8],
+        items: &'a mut Items,
+        left: &mut Items,
+        last: &Answer,
+    ) -> Result<Reading<'a>, Fault>
+        ensures { IfOk result (λ r. plain_of r.items.now ≡ r.named.arguments) }
     {
         let (head, after) = cut(line);
         let (name, rest) = text::split_once(head, b' ').unwrap_or((head, &[]));
+        items.read_request(rest, left, last)?;
         let place = names::place(name).ok_or(Fault::Malformed)?;
-        let mut items = Items::read(alloc, rest, last)?;
-        items.fill_empty()?;
         let reading = Reading {
             place,
             named: NAMES.get(place).copied().ok_or(Fault::Malformed)?,
@@ -50,7 +54,7 @@ impl<'a> Reading<'a> {
 
     // Returns the output that is compared: that of a single call with an answer. A range has its output in its checksum.
     pub(crate) fn compared(&self) -> Output
-        ensures { is_some self.now.items.answer ≡ false → result ≡ Nothing }
+        ensures { is_some self.now.items.now.answer ≡ false → result ≡ Nothing }
     {
         if self.items.answer().is_some() && !self.items.is_ranged() {
             self.named.output

@@ -5,6 +5,9 @@ ghost use Rattle.notation.specs.Sums.{mixed, first_sum, token_mixed, answer_mixe
 
 use crate::answer::{Answer, Token};
 
+/// The checksum of nothing, as a number.
+pub const FIRST: u64 = 0xcbf29ce484222325;
+
 /// A checksum of the answers and outputs so far.
 #[derive(Clone, Copy, Debug, PartialEq, Eq)]
 pub struct Checksum(u64);
@@ -14,7 +17,7 @@ impl Checksum {
     pub fn new() -> Checksum
         ensures { result ≡ first_sum }
     {
-        Checksum(0xcbf29ce484222325)
+        Checksum(FIRST)
     }
 
     /// Returns the checksum as a number.

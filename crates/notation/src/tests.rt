@@ -1,9 +1,10 @@
-//! Calls that need memory, each made once with enough of it: no clause states that they succeed. And the arguments of a range, of which no
+//! Calls that need room, each made once with enough of it: no clause states that they succeed. And the arguments of a range, of which no
 //! clause states what they are.
 use crate::answer::{Answer, Token};
 use crate::arguments::Serial;
+use crate::items::Items;
 use crate::last::Last;
-use crate::lent::{Lent, Letter};
+use crate::lent::{Lent, Letter, Rooms};
 use crate::lines::{Lines, Step};
 use crate::names::Output;
 use crate::outcome;
@@ -13,7 +14,8 @@ use std::test::Fail;
 
 #[test]
 fn answers_grow(rt: HostRuntime) -> Result<(), Fail> {
-    let answer = Answer::new(rt.alloc(), 14)?.and(Token::Unknown)?;
+    let mut room = [Token::Missing; 2];
+    let answer = Answer::new(&mut room, 14)?.and(Token::Unknown)?;
     let wanted = [Token::Number(14), Token::Unknown];
     assert_eq!(rt; answer.as_slice(), wanted.as_slice());
     Ok(())
@@ -21,7 +23,8 @@ fn answers_grow(rt: HostRuntime) -> Result<(), Fail> {
 
 #[test]
 fn answers_begin_again(rt: HostRuntime) -> Result<(), Fail> {
-    let mut answer = Answer::new(rt.alloc(), 14)?;
+    let mut room = [Token::Missing; 2];
+    let mut answer = Answer::new(&mut room, 14)?;
     answer.begin(0)?;
     answer.push(Token::Missing)?;
     let wanted = [Token::Number(0), Token::Missing];
@@ -32,9 +35,20 @@ fn answers_begin_again(rt: HostRuntime) -> Result<(), Fail> {
 // Of a token whose items have several roles, nothing of one choice is left in the next.
 #[test]
 fn arguments_are_chosen(rt: HostRuntime) -> Result<(), Fail> {
-    let alloc = rt.alloc();
-    let sizes = Lent::new(alloc).sizes();
-    let reading = Reading::read(alloc, b"not_word 7,s:3..5,?", &Last::new(alloc).answer)?;
+    let rooms: Rooms<'_> = Rooms {
+        x: &mut [],
+        y: &mut [],
+        z: &mut [],
+        o: &mut [],
+        i: &mut [],
+        e: &mut [],
+    };
+    let sizes = Lent::new(rooms).sizes();
+    let last = Last::new(&mut [], &mut [], &mut [], &mut []);
+    let mut items = Items::new();
+    let mut left = Items::new();
+    let line = b"not_word 7,s:3..5,?";
+    let reading = Reading::read(line, &mut items, &mut left, &last.answer)?;
     let mut arguments = reading.choice(0, sizes).unwrap();
     assert_eq!(rt; arguments.word(0), 7u64);
     assert!(rt; reading.choose(2, sizes, &mut arguments));
@@ -50,7 +64,9 @@ fn arguments_are_chosen(rt: HostRuntime) -> Result<(), Fail> {
 #[test]
 fn lines_are_read(rt: HostRuntime) -> Result<(), Fail> {
     let text: &[u8] = b"x 00\nfill";
-    let mut lines = Lines::new(rt.alloc(), text)?;
+    let mut window = [0; 64];
+    let mut line = [0; 64];
+    let mut lines = Lines::new(&mut window, &mut line, text)?;
     assert_eq!(rt; lines.step()?, Step::Part);
     assert_eq!(rt; lines.step()?, Step::Line);
     Ok(())
@@ -58,19 +74,31 @@ fn lines_are_read(rt: HostRuntime) -> Result<(), Fail> {
 
 #[test]
 fn requests_are_compared(rt: HostRuntime) -> Result<(), Fail> {
-    let alloc = rt.alloc();
-    let mut last = Last::new(alloc);
-    let mut lent = Lent::new(alloc);
-    lent.take(alloc, Letter::O, b"00*8", &last)?;
+    let mut token = [Token::Missing];
+    let mut bytes = [0; 8];
+    let mut last = Last::new(&mut token, &mut bytes, &mut [], &mut []);
+    let mut o = [0; 8];
+    let rooms: Rooms<'_> = Rooms {
+        x: &mut [],
+        y: &mut [],
+        z: &mut [],
+        o: &mut o,
+        i: &mut [],
+        e: &mut [],
+    };
+    let mut lent = Lent::new(rooms);
+    let mut items = Items::new();
+    let mut left = Items::new();
+    lent.take(Letter::O, b"00*8", &last, &mut left)?;
     last.restore(Output::Bytes, &lent)?;
     lent.go_on(&last)?;
     assert_eq!(rt; lent.sizes().o, 8);
     let request = b"fill 0 8 = 0 | 00*8";
-    let reading = Reading::read(alloc, request, &last.answer)?;
+    let reading = Reading::read(request, &mut items, &mut left, &last.answer)?;
     let mut ran = Ran::new();
-    last.answer = Answer::new(alloc, 0)?;
+    last.answer.begin(0)?;
     ran.take(Output::Bytes, &last);
-    let outcome = outcome::compare(alloc, &reading, ran, &lent, &last)?;
+    let outcome = outcome::compare(&reading, ran, &lent, &last, &mut left)?;
     assert_eq!(rt; outcome.verdict, Verdict::Same);
     Ok(())
 }

@@ -39,13 +39,31 @@ fn in_base(digits: &[u8], base: u8) -> Option<u64> {
     }
     let mut n: u64 = 0;
     for b in digits {
-        let d = digit(*b)?;
-        if d >= base || n >= LIMIT {
-            return None;
-        }
-        n = n.checked_mul(u64::from(base))?.checked_add(u64::from(d))?;
+        n = longer(n, *b, base)?;
     }
     Some(n)
+}
+
+// Returns the number with one more digit, None if it is no digit of the base or does not fit.
+fn longer(n: u64, b: u8, base: u8) -> Option<u64> {
+    let d = digit(b)?;
+    if d >= base || n >= LIMIT {
+        return None;
+    }
+    n.checked_mul(u64::from(base))?.checked_add(u64::from(d))
+}
+
+// Returns the number of the digits of a malformed text. What is no digit, or does not fit, is passed over.
+pub(crate) fn number_of_malformed(text: &[u8]) -> u64 {
+    let (digits, base) = match text {
+        [b'x', digits @ ..] => (digits, 16),
+        _ => (text, 10),
+    };
+    let mut n: u64 = 0;
+    for b in digits {
+        n = longer(n, *b, base).unwrap_or(n);
+    }
+    n
 }
 
 // Returns the text before the first `separator`, and the text after it; None if it does not occur.

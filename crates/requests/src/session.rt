@@ -1,34 +1,41 @@
 //! What is kept from one line to the next, and what a line does.
 use crate::calls;
+use notation::arguments::Arguments;
+use notation::call::Call;
 use notation::fault::Fault;
+use notation::items::Items;
 use notation::last::Last;
-use notation::lent::Lent;
+use notation::lent::{Lent, Letter, Rooms};
 use notation::line::Line;
 use notation::names::Output;
 use notation::outcome;
 use notation::outcome::{Outcome, RANGE, Ran};
 use notation::reading::Reading;
 use notation::tally::Tally;
-use std::alloc::Global;
-use std::{io, mem};
+use std::io;
 
 #[derive(Drop)]
-pub(crate) struct Session {
-    alloc: Global,
-    lent: Lent,
-    last: Last,
-    // The bytes that `last` had before the last request of a call that writes bytes.
-    before: Vec<u8>,
+pub(crate) struct Session<'a> {
+    lent: Lent<'a>,
+    last: Last<'a>,
+    // The items of the last request, and those that all texts left.
+    items: &'a mut Items,
+    left: &'a mut Items,
     tally: Tally,
 }
 
-impl Session {
-    pub(crate) fn new(alloc: Global) -> Session {
+impl<'a> Session<'a> {
+    pub(crate) fn new(
+        rooms: Rooms<'a>,
+        last: Last<'a>,
+        items: &'a mut Items,
+        left: &'a mut Items,
+    ) -> Session<'a> {
         Session {
-            alloc,
-            lent: Lent::new(alloc),
-            last: Last::new(alloc),
-            before: Vec::new(alloc),
+            lent: Lent::new(rooms),
+            last,
+            items,
+            left,
             tally: Tally::new(),
         }
     }
@@ -66,12 +73,17 @@ impl Session {
         println!(rt; "{tally}")
     }
 
-    // Takes what a line lends, or makes its request and returns the outcome.
+    // Takes what a line lends, or makes its request and returns the outcome. A name of one byte is that of no call; if the byte is 0, the
+    // items of the line are read all the same.
     fn take(&mut self, text: Result<&[u8], Fault>) -> Result<Option<Outcome>, Fault> {
-        match Line::read(text?)? {
+        let text = text?;
+        if let [0, b' ', ..] = text {
+            return Ok(Some(self.request(text)?));
+        }
+        match Line::read(text)? {
             Line::Nothing => Ok(None),
             Line::Lends(letter, pieces) => {
-                self.lent.take(self.alloc, letter, pieces, &self.last)?;
+                self.lend(letter, pieces)?;
                 Ok(None)
             }
             Line::Request(request) => Ok(Some(self.request(request)?)),
@@ -82,44 +94,50 @@ impl Session {
         }
     }
 
-    fn request(&mut self, text: &[u8]) -> Result<Outcome, Fault> {
-        let reading = Reading::read(self.alloc, text, &self.last.answer)?;
-        let output = reading.named.output;
-        if output == Output::Bytes {
-            mem::swap(&mut self.before, &mut self.last.bytes);
+    // Lends pieces. Of malformed ones, what is read is written over the first that the letter has.
+    fn lend(&mut self, letter: Letter, pieces: &[u8]) -> Result<(), Fault> {
+        let taken = self.lent.take(letter, pieces, &self.last, self.left);
+        if let Err(Fault::Malformed) = taken {
+            self.lent.take_part(letter, pieces, self.left);
         }
-        let ran = self.make(&reading)?;
-        let outcome = outcome::compare(self.alloc, &reading, ran, &self.lent, &self.last);
-        if output == Output::Bytes && matches!(outcome, Err(Fault::Malformed)) {
-            self.leave_before();
+        taken
+    }
+
+    // Makes a request. A malformed one leaves as many bytes as there were before: the first of them as its last call wrote them.
+    fn request(&mut self, text: &[u8]) -> Result<Outcome, Fault> {
+        let reading = Reading::read(text, self.items, self.left, &self.last.answer)?;
+        let bytes = self.last.bytes.len();
+        let ran = make(&reading, &self.lent, &mut self.last)?;
+        let outcome = outcome::compare(&reading, ran, &self.lent, &self.last, self.left);
+        if let Err(Fault::Malformed) = outcome {
+            if reading.named.output == Output::Bytes {
+                self.last.bytes.set_len(bytes);
+            }
         }
         outcome
     }
+}
 
-    // Leaves as many bytes as there were before the calls of a malformed request: over the first of them those that its last call wrote.
-    fn leave_before(&mut self) {
-        mem::swap(&mut self.before, &mut self.last.bytes);
-        for (left, written) in self.last.bytes.iter_mut().zip(self.before.as_slice()) {
-            *left = *written;
+// Makes the calls of a request, one for each choice of a range.
+fn make(reading: &Reading, lent: &Lent, last: &mut Last) -> Result<Ran, Fault> {
+    let output = reading.named.output;
+    let call = reading.named.call;
+    let sizes = lent.sizes();
+    let mut ran = Ran::new();
+    let mut arguments = reading.choice(0, sizes).unwrap();
+    for t in 1..=RANGE {
+        last.restore(output, lent)?;
+        answer(call, &arguments, lent, last)?;
+        ran.take(output, last);
+        if !reading.choose(t, sizes, &mut arguments) {
+            break;
         }
     }
+    Ok(ran)
+}
 
-    // Makes the calls of a request, one for each choice of a range.
-    fn make(&mut self, reading: &Reading) -> Result<Ran, Fault> {
-        let output = reading.named.output;
-        let call = reading.named.call;
-        let sizes = self.lent.sizes();
-        let mut ran = Ran::new();
-        let mut arguments = reading.choice(0, sizes).unwrap();
-        for t in 1..=RANGE {
-            self.last.restore(output, &self.lent)?;
-            let parts = self.lent.parts(arguments.sizes);
-            calls::answer(call, &arguments, parts, &mut self.last)?;
-            ran.take(output, &self.last);
-            if !reading.choose(t, sizes, &mut arguments) {
-                break;
-            }
-        }
-        Ok(ran)
-    }
+// Makes a call on what is lent. A function of its own: the parts stay lent while `last`, which holds references too, is written.
+fn answer(call: Call, a: &Arguments, lent: &Lent, last: &mut Last) -> Result<(), Fault> {
+    calls::answer(call, a, lent.parts(a.sizes), last)?;
+    Ok(())
 }

@@ -2,7 +2,7 @@
 use Rattle.std.proofs.Common.{◌≡◌, ℕ, ◌+◌, ◌-◌, ◌^◌, ◌<◌, ◌≤◌, min, Bool, true, false, cond, Option, Some, None, List, ◌++◌, length, take}
 use Rattle.std.proofs.Common.{drop, position, nat_lt, ltb-false, refl, sym, ◌∙◌, ap, arith, ◌⊎◌, inl, inr}
 use Rattle.std.proofs.lemmas.Bool.{cases_lt}
-use Rattle.std.proofs.lemmas.List.{take-take, take_min, length-take}
+use Rattle.std.proofs.lemmas.List.{take-take, take_min, length-take, drop-drop}
 use Rattle.std.proofs.lemmas.List.Sums.{prefix_len-le-length}
 use Rattle.std.proofs.Math.ListN.{drop_of_length-le}
 use Rattle.std.proofs.Math.Seq.{take-length}
@@ -17,6 +17,16 @@ take-all m l h = sym (take_min m l) ∙ ap (λ k. take k l) (omega arith) ∙ ta
 two-takes : {A : Type 0} (m n : ℕ) (l : List A) → (m < n) ⊎ (n ≤ m) → take m (take n l) ≡ take (min n m) l
 two-takes m n l (inl h) = take-take m n l (omega arith) ∙ ap (λ k. take k l) (omega arith)
 two-takes m n l (inr h) = take-all m (take n l) (omega (arith, length-take n l)) ∙ ap (λ k. take k l) (omega arith)
+
+-- past what was taken and n more
+pub taken-more : (w : List ℕ) (t n k : ℕ) → k ≡ min (min (t + n) (2 ^ 64 - 1)) (length w) → length w < 2 ^ 64 → drop k w ≡ drop n (drop t w)
+taken-more w t n k e h = more (cases_lt _ _)
+  where
+    more : (t + n < length w) ⊎ (length w ≤ t + n) → drop k w ≡ drop n (drop t w)
+    more (inl l) = ap (λ m. drop m w) (omega (arith, e, h, l)) ∙ sym (drop-drop n t w)
+    more (inr l) =
+        drop_of_length-le w (omega (arith, e, h, l))
+        ∙ sym (drop-drop n t w ∙ drop_of_length-le w l)
 
 by_flag : (n p : ℕ) (b : Bool) → nat_lt p n ≡ b → p ≤ n → unwrap_or (cond b (Some p) None) n ≡ p
 by_flag n p true e h = refl
