@@ -1,9 +1,9 @@
-//! The choices of a range: the arguments of each single call.
+//! The choices of a range: the arguments of each single call, and what a token takes that has no value of its own.
 ghost use Rattle.std.specs.Prelude.{◌≡◌, IsSome, true};
 
 use crate::arguments::Arguments;
 use crate::item::{Item, Role};
-use crate::items::{Choice, Items};
+use crate::items::{Choice, Items, MOST};
 use crate::lent::Sizes;
 use crate::reading::Reading;
 
@@ -36,6 +36,46 @@ impl Items {
             rest /= values;
         }
         rest == 0
+    }
+
+    // Gives a token that has no value, such as `N*0`, that of the next item which has one: of this text, or after it of those that earlier
+    // texts left.
+    pub(crate) fn fill_empty(&mut self, left: &Items) {
+        if self.choices().iter().all(|choice| choice.values != 0) {
+            return;
+        }
+        let mut next = self.expected().or(left.past(self.len));
+        for k in (0..self.many.min(MOST)).rev() {
+            next = self.fill(k, next);
+        }
+    }
+
+    // Returns the first item of the answer that has a value.
+    fn expected(&self) -> Option<Item> {
+        let items = self.answer()?;
+        with_value(items)
+    }
+
+    // Returns the first item from place `from` on that has a value, of those that texts left.
+    fn past(&self, from: usize) -> Option<Item> {
+        let all: &[Item] = &self.all;
+        let items = all.get(from..)?;
+        with_value(items)
+    }
+
+    // Gives token k the value of `next` if it has none. Returns the first item from the token on that has a value.
+    fn fill(&mut self, k: usize, next: Option<Item>) -> Option<Item> {
+        let choice = self.tokens.get(k).copied()?;
+        let own = self.of(&choice);
+        let own = with_value(own);
+        let first = own.or(next);
+        if let (0, Some(item)) = (choice.values, first) {
+            if let Some(token) = self.tokens.get_mut(k) {
+                token.filled = Some(item.first());
+                token.values = 1;
+            }
+        }
+        first
     }
 
     // Returns value n of a token, and its role; past the last one the argument 0.
@@ -80,4 +120,9 @@ fn place(ends: &[u64], n: u64) -> usize {
         Some(i) => i,
         None => ends.partition_point(|end| *end <= n),
     }
+}
+
+// Returns the first of these items that has a value.
+fn with_value(items: &[Item]) -> Option<Item> {
+    items.iter().find(|item| 0 < item.count()).copied()
 }

@@ -9,7 +9,7 @@ use crate::lent::first;
 use crate::text;
 
 // At most this many items are in a line.
-const MOST: usize = 1024;
+pub(crate) const MOST: usize = 1024;
 
 // A token of the arguments: its items, with commas between them in the line, are those of the line from `from` up to `to`; and how many
 // values they have.
@@ -17,9 +17,9 @@ const MOST: usize = 1024;
 pub(crate) struct Choice {
     from: usize,
     to: usize,
-    values: u64,
-    // The value that a token takes from another item since it has none of its own.
-    filled: Option<Item>,
+    pub(crate) values: u64,
+    // The item whose value the token takes since it has none of its own.
+    pub(crate) filled: Option<Item>,
 }
 
 impl Choice {
@@ -28,31 +28,23 @@ impl Choice {
         self.values
     }
 
-    // Gives the token the value of the first of these items that has one.
-    fn fill(&mut self, items: &[Item]) {
-        if let Some(item) = items.iter().find(|item| 0 < item.count()) {
-            self.filled = Some(item.first());
-            self.values = 1;
-        }
-    }
-
     // Returns the item whose value the token takes, if it has none of its own.
     pub(crate) fn filled(&self) -> Option<Item> {
         self.filled
     }
 }
 
-/// The items of a text, and its tokens: those of the arguments, and the items of the answer, if there is one. They lie in the value, which
-/// so needs no memory. A text is read over the one before it: what that had beyond it stays in `all`.
+/// The items of a text, and its tokens: those of the arguments, and the items of the answer, if there is one. All lies in the
+/// value, so that no allocator is needed. A text is read over the one before it: what that had beyond it stays in `all`.
 #[derive(Drop)]
 pub struct Items {
-    all: [Item; MOST],
+    pub(crate) all: [Item; MOST],
     // Of each item of a token how many values it and those before it have, so that a call of a range finds its value without a pass over
     // the items.
     ends: [u64; MOST],
-    len: usize,
-    tokens: [Choice; MOST],
-    many: usize,
+    pub(crate) len: usize,
+    pub(crate) tokens: [Choice; MOST],
+    pub(crate) many: usize,
     // Where the items of the answer begin.
     answer: Option<usize>,
 }
@@ -90,7 +82,6 @@ impl Items {
             return Err(fault);
         }
         left.put_all(first(&self.all, self.len));
-        self.fill_empty(&left.all);
         Ok(())
     }
 
@@ -205,16 +196,6 @@ impl Items {
                 _ => None,
             },
             _ => None,
-        }
-    }
-
-    // Gives a token that has no value, such as `N*0`, that of the next item which has one: `list` has the items of this line, and after
-    // them those that earlier texts left.
-    fn fill_empty(&mut self, list: &[Item]) {
-        for choice in self.tokens.iter_mut().take(self.many) {
-            if choice.values == 0 {
-                choice.fill(list.get(choice.from..).unwrap_or(&[]));
-            }
         }
     }
 

@@ -105,7 +105,7 @@ impl<'a> ByLetter<List<'a, u8>, List<'a, u32>, List<'a, i32>> {
 
     /// Takes what a line lends. The contract states in full what stays and what `@` lends. It leaves open what other pieces lend and which
     /// are malformed: a definition of their text's meaning would be the parser again.
-    /// The items of numbers come over those that texts left, malformed ones too.
+    /// The items of a line of numbers, malformed ones too, are written over the first of those that earlier texts left.
     pub fn take(
         &mut self,
         letter: Letter,

@@ -97,10 +97,13 @@ impl<'a, 'b, R: Read + Drop> Lines<'a, 'b, R> {
         ensures ended { self.new.ended ≡ self.old.ended }
     {
         self.taken = 0;
-        self.window.clear();
-        let n = self.source.read(self.window.start(WINDOW))?;
+        let read = self.source.read(self.window.start(WINDOW));
+        let n = match &read {
+            Ok(n) => *n,
+            Err(_) => 0,
+        };
         self.window.truncate(n);
-        Ok(n)
+        read
     }
 
     // Takes the bytes that were read, up to and with a line feed.

@@ -7,7 +7,7 @@ use crate::arguments::low;
 use crate::item::{Item, Role};
 use crate::items::Items;
 use crate::list::List;
-use crate::pieces::{DOUBLINGS, NUMBER_TIMES, copied};
+use crate::pieces::{NUMBER_TIMES, copied, doublings};
 use crate::text;
 use crate::text::number_of_malformed;
 
@@ -108,7 +108,7 @@ pub(crate) fn bytes(text: &[u8], to: &mut List<'_, u8>)
     }
 }
 
-// Reads the numbers of items, of which one may be malformed: of each its first value, as often as it says, if there is room.
+// Reads the numbers of items, which may be malformed: of each its first value, as often as it has values, if there is room.
 pub(crate) fn numbers(items: &[Item], to: &mut List<'_, u32>)
     ensures { length to.new.items ≡ length to.old.items }
 {
@@ -161,8 +161,8 @@ impl Part {
     {
         let size = self.len.saturating_sub(begin);
         let end = self.len.saturating_add(size.saturating_mul(times));
-        if times != 0 && to.fits(end) {
-            for _ in 0..DOUBLINGS {
+        if to.fits(end) {
+            for _ in 0..doublings(times) {
                 self.append_copy(begin, end, to);
             }
         }

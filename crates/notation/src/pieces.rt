@@ -1,5 +1,5 @@
-//! Lists of bytes, of numbers and of ends, written in pieces. A list that has more than the room is None; but `HEX*N` is malformed if no
-//! byte of HEX had room.
+//! Lists of bytes, of numbers and of ends, written in pieces. A list may have more than the room; but `HEX*N` is malformed if no byte of
+//! HEX had room.
 use crate::arguments::low;
 use crate::fault::Fault;
 use crate::item::{Item, Role};
@@ -12,8 +12,10 @@ const BYTES_TIMES: u64 = 100000000;
 // The K of `N*K` is read modulo this: its low 24 bits.
 pub(crate) const NUMBER_TIMES: u64 = 1 << 24;
 
-// So many times the elements that are repeated are copied after themselves at most: each time there are twice as many.
-pub(crate) const DOUBLINGS: u32 = 64;
+// Returns how often elements that come `times` times more are copied after themselves: each time there are twice as many.
+pub(crate) fn doublings(times: usize) -> u32 {
+    usize::BITS.saturating_sub(times.leading_zeros())
+}
 
 // Returns how many of the elements from place `begin` up to `len` are copied after them, of a list that is to have `end`.
 pub(crate) fn copied(begin: usize, len: usize, end: usize) -> usize {
@@ -80,10 +82,7 @@ impl<'b, T: Copy + PartialEq> Draft<'b, T> {
         let all = part.len() == end.saturating_sub(self.len);
         self.same = self.same && all && part.iter().zip(first).all(|(a, b)| a == b);
         if end <= self.to.len() {
-            for _ in 0..DOUBLINGS {
-                if end <= self.len {
-                    break;
-                }
+            for _ in 0..doublings(times) {
                 self.put_copy(begin, end);
             }
         }

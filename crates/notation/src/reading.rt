@@ -37,6 +37,7 @@ impl<'a> Reading<'a> {
         let (name, rest) = text::split_once(head, b' ').unwrap_or((head, &[]));
         items.read_request(rest, left, last)?;
         let place = names::place(name).ok_or(Fault::Malformed)?;
+        items.fill_empty(left);
         let reading = Reading {
             place,
             named: NAMES.get(place).copied().ok_or(Fault::Malformed)?,

@@ -33,7 +33,7 @@ pub fn run(rt: &(impl io::Input + Print)) -> io::Result<()> {
     with_output(rt, inputs)
 }
 
-// A function of its own, as `output`: of an array of this size that is lent where it is written the check runs out of stack.
+// A function of its own, as `output`: the check runs out of stack on an array of this size that is lent where it is written.
 fn inputs() -> [u8; INPUTS] {
     [0; INPUTS]
 }
