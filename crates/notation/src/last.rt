@@ -58,8 +58,17 @@ impl<'a> Last<'a> {
     }
 }
 
-/// Returns the first n elements of an output, or all. What is written is the caller's: the contract states what is lent.
-pub fn first_mut<'b, T>(output: &'b mut List<'_, T>, n: usize) -> &'b mut [T]
+/// Returns the first n elements of an output, or all. What is written is the caller's: the contract states what is lent. For an output on
+/// the heap; `list_first_mut` is for one in lent memory.
+pub fn first_mut<T>(output: &mut Vec<T>, n: usize) -> &mut [T]
+    ensures { result.now ≡ take n output.old.items }
+{
+    let n = n.min(output.len());
+    output.slice_mut(..n)
+}
+
+/// Returns the first n elements of an output in lent memory, or all, as `first_mut`.
+pub fn list_first_mut<'b, T>(output: &'b mut List<'_, T>, n: usize) -> &'b mut [T]
     ensures { result.now ≡ take n output.old.items }
 {
     output.slice_mut(n)

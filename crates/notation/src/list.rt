@@ -1,5 +1,5 @@
 //! A list in memory that is lent.
-ghost use Rattle.std.specs.Prelude.{◌≡◌, ◌+◌, ◌≤◌, ◌<◌, [], ◌∷◌, ◌++◌, length, take, OnOk, OnErr};
+ghost use Rattle.std.specs.Prelude.{◌≡◌, ◌+◌, ◌≤◌, ◌<◌, [], ◌∷◌, ◌++◌, length, take, slice_set, OnOk, OnErr, IsOk};
 
 use std::alloc::AllocError;
 use std::marker::Model;
@@ -20,34 +20,44 @@ impl<'a, T> Model for List<'a, T> {
 
     ghost coded = { listed_code T.code };
 
-    ghost view = { λ l. record { items = take l.len l.room.now } };
+    ghost view = { λ l. record { items = take l.len l.room.now; room = length l.room.now } };
 }
 
 impl<'a, T> List<'a, T> {
-    // Returns an empty list.
-    pub(crate) fn new(room: &'a mut [T]) -> List<'a, T>
-        ensures { result.items ≡ [] }
+    /// Returns an empty list. It has room for as many elements as `room` has.
+    pub fn new(room: &'a mut [T]) -> List<'a, T>
+        ensures items { result.items ≡ [] }
+        ensures room { result.room ≡ length room.old }
     {
         List { room, len: 0 }
     }
 
     /// Returns how many elements there are.
     pub fn len(&self) -> usize
-        ensures { result ≡ length self.now.items }
+        ensures len { result ≡ length self.now.items }
+        ensures fits { length self.now.items ≤ self.now.room }
     {
         self.room.len().min(self.len)
     }
 
-    // Returns the elements.
-    pub(crate) fn as_slice(&self) -> &[T]
+    /// Returns how many elements there is room for.
+    pub fn capacity(&self) -> usize
+        ensures { result ≡ self.now.room }
+    {
+        self.room.len()
+    }
+
+    /// Returns the elements.
+    pub fn as_slice(&self) -> &[T]
         ensures { result.now ≡ self.now.items }
     {
         &self.room[..self.len.min(self.room.len())]
     }
 
-    // Leaves no element.
-    pub(crate) fn clear(&mut self)
-        ensures { self.new.items ≡ [] }
+    /// Leaves no element.
+    pub fn clear(&mut self)
+        ensures items { self.new.items ≡ [] }
+        ensures room { self.new.room ≡ self.old.room }
     {
         self.len = 0;
     }
@@ -59,13 +69,14 @@ impl<'a, T> List<'a, T> {
 
     /// Makes the list `len` elements long, or as long as its memory: past its elements come those that the memory has.
     pub fn set_len(&mut self, len: usize)
-        ensures { len ≤ length self.old.items → self.new.items ≡ take len self.old.items }
+        ensures items { len ≤ length self.old.items → self.new.items ≡ take len self.old.items }
+        ensures room { self.new.room ≡ self.old.room }
     {
         self.len = len;
     }
 
-    // Returns the first n elements for writing, or all.
-    pub(crate) fn slice_mut(&mut self, n: usize) -> &mut [T]
+    /// Returns the first n elements for writing, or all. What is written is the caller's: the contract states what is lent.
+    pub fn slice_mut(&mut self, n: usize) -> &mut [T]
         ensures { result.now ≡ take n self.old.items }
     {
         let n = n.min(self.len).min(self.room.len());
@@ -73,9 +84,10 @@ impl<'a, T> List<'a, T> {
         &mut room[..n]
     }
 
-    // Leaves the first n elements, or all.
-    pub(crate) fn truncate(&mut self, n: usize)
-        ensures { self.new.items ≡ take n self.old.items }
+    /// Leaves the first n elements, or all.
+    pub fn truncate(&mut self, n: usize)
+        ensures items { self.new.items ≡ take n self.old.items }
+        ensures room { self.new.room ≡ self.old.room }
     {
         self.len = self.len.min(n);
     }
@@ -111,9 +123,21 @@ impl<'a, T: Copy> List<'a, T> {
         }
     }
 
-    // Appends an element. Fails if there is no room for it.
-    pub(crate) fn push(&mut self, item: T) -> Result<(), AllocError>
+    /// Sets element i, if there is one.
+    pub fn set(&mut self, i: usize, item: T)
+        ensures items { self.new.items ≡ slice_set self.old.items i item }
+        ensures room { self.new.room ≡ self.old.room }
+    {
+        if i < self.len && i < self.room.len() {
+            self.room[i] = item;
+        }
+    }
+
+    /// Appends an element. Fails if there is no room for it.
+    pub fn push(&mut self, item: T) -> Result<(), AllocError>
         ensures items { OnOk result (self.new.items ≡ self.old.items ++ item ∷ []) }
+        ensures succeeds { length self.old.items < self.old.room → IsOk result }
+        ensures room { self.new.room ≡ self.old.room }
         ensures unchanged { OnErr result (self.new ≡ self.old) }
     {
         if self.len < self.room.len() {
@@ -125,9 +149,11 @@ impl<'a, T: Copy> List<'a, T> {
         }
     }
 
-    // Appends elements. Fails if there is no room for all.
-    pub(crate) fn extend_from_slice(&mut self, more: &[T]) -> Result<(), AllocError>
+    /// Appends elements. Fails if there is no room for all.
+    pub fn extend_from_slice(&mut self, more: &[T]) -> Result<(), AllocError>
         ensures items { OnOk result (self.new.items ≡ self.old.items ++ more.now) }
+        ensures succeeds { length self.old.items + length more.now ≤ self.old.room → IsOk result }
+        ensures room { self.new.room ≡ self.old.room }
         ensures unchanged { OnErr result (self.new ≡ self.old) }
     {
         let at = self.len.min(self.room.len());
@@ -140,9 +166,11 @@ impl<'a, T: Copy> List<'a, T> {
         Ok(())
     }
 
-    // Sets the list to these elements. Fails if there is no room for all.
-    pub(crate) fn assign(&mut self, from: &[T]) -> Result<(), AllocError>
+    /// Sets the list to these elements. Fails if there is no room for all.
+    pub fn assign(&mut self, from: &[T]) -> Result<(), AllocError>
         ensures items { OnOk result (self.new.items ≡ from.now) }
+        ensures succeeds { length from.now ≤ self.old.room → IsOk result }
+        ensures room { self.new.room ≡ self.old.room }
         ensures unchanged { OnErr result (self.new ≡ self.old) }
     {
         let n = from.len();

@@ -6,10 +6,11 @@ use crate::items::Items;
 use crate::last::Last;
 use crate::lent::{Lent, Letter, Rooms};
 use crate::lines::{Lines, Step};
+use crate::list::List;
 use crate::names::Output;
-use crate::outcome;
 use crate::outcome::{Ran, Verdict};
 use crate::reading::Reading;
+use crate::{last, outcome};
 use std::test::Fail;
 
 #[test]
@@ -29,6 +30,52 @@ fn answers_begin_again(rt: HostRuntime) -> Result<(), Fail> {
     answer.push(Token::Missing)?;
     let wanted = [Token::Number(0), Token::Missing];
     assert_eq!(rt; answer.as_slice(), wanted.as_slice());
+    Ok(())
+}
+
+// Each function of a list that other crates call, with room for three elements.
+#[test]
+fn lists_are_filled(rt: HostRuntime) -> Result<(), Fail> {
+    let mut room = [0u8; 3];
+    let mut list = List::new(&mut room);
+    assert_eq!(rt; list.len(), 0);
+    assert_eq!(rt; list.capacity(), 3);
+    list.push(5)?;
+    list.extend_from_slice(&[6, 7])?;
+    assert!(rt; list.push(8).is_err());
+    assert!(rt; list.extend_from_slice(&[8]).is_err());
+    assert!(rt; list.assign(&[1, 2, 3, 4]).is_err());
+    assert_eq!(rt; list.as_slice(), [5u8, 6, 7].as_slice());
+    list.truncate(2);
+    assert_eq!(rt; list.as_slice(), [5u8, 6].as_slice());
+    list.truncate(3);
+    assert_eq!(rt; list.len(), 2);
+    assert_eq!(rt; list.slice_mut(1).len(), 1);
+    let all = list.slice_mut(3);
+    assert_eq!(rt; all.len(), 2);
+    all[1] = 9;
+    assert_eq!(rt; list.as_slice(), [5u8, 9].as_slice());
+    list.set(0, 8);
+    list.set(2, 7);
+    assert_eq!(rt; list.as_slice(), [8u8, 9].as_slice());
+    list.assign(&[1, 2, 3])?;
+    list.set_len(2);
+    assert_eq!(rt; list.as_slice(), [1u8, 2].as_slice());
+    list.set_len(3);
+    assert_eq!(rt; last::list_first_mut(&mut list, 2).len(), 2);
+    assert_eq!(rt; list.as_slice(), [1u8, 2, 3].as_slice());
+    list.clear();
+    assert_eq!(rt; list.len(), 0);
+    Ok(())
+}
+
+#[test]
+fn outputs_on_the_heap_are_lent(rt: HostRuntime) -> Result<(), Fail> {
+    let mut output = Vec::from_slice(rt.alloc(), &[5u32, 6, 7])?;
+    last::first_mut(&mut output, 2)[1] = 9;
+    assert_eq!(rt; last::first_mut(&mut output, 0).len(), 0);
+    assert_eq!(rt; last::first_mut(&mut output, 4).len(), 3);
+    assert_eq!(rt; output.as_slice(), [5u32, 9, 7].as_slice());
     Ok(())
 }
 

@@ -20,9 +20,9 @@ use notation::lent::Parts;
 pub(crate) fn answer(call: Call, a: &Arguments, lent: Parts<'_>, last: &mut Last) -> Answered {
     let Parts { x, y, z, i, e, .. } = lent;
     let to = &mut last.answer;
-    let out = last::first_mut(&mut last.bytes, a.sizes.o);
-    let numbers = last::first_mut(&mut last.numbers, a.sizes.i);
-    let ends = last::first_mut(&mut last.ends, a.sizes.e);
+    let out = last::list_first_mut(&mut last.bytes, a.sizes.o);
+    let numbers = last::list_first_mut(&mut last.numbers, a.sizes.i);
+    let ends = last::list_first_mut(&mut last.ends, a.sizes.e);
     match call {
         Call::Word(call) => words_calls::word_answer(to, call, a),
         Call::Flags(call) => words_calls::flags_answer(to, call, a),
